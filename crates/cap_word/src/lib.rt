@@ -1,0 +1,9 @@
+//! The 128-bit capability word of CHERI Concentrate with 64-bit addresses: its fields, its layout
+//! in memory and its text.
+//!
+//! A capability is a [`Word`] and one tag that stands outside it. Nothing here takes memory.
+#![tactic(auto)]
+
+mod word;
+
+pub use crate::word::{Cap, Word, null};
