@@ -4,6 +4,8 @@
 //! A capability is a [`Word`] and one tag that stands outside it. Nothing here takes memory.
 #![tactic(auto)]
 
+mod text;
 mod word;
 
+pub use crate::text::{read_u64, read_word, word_text};
 pub use crate::word::{Cap, Word, null};
