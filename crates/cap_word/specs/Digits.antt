@@ -1,5 +1,5 @@
 -- Numbers in hexadecimal, as fixed numbers of lower-case digits.
-use Rattle.std.specs.Prelude.{◌≡◌, ℕ, suc, zero, ◌<◌, ◌/◌, ◌%◌, ◌^◌, List, [], ◌∷◌, slice_index, codes}
+use Rattle.std.specs.Prelude.{ℕ, suc, zero, ◌/◌, ◌%◌, ◌^◌, List, [], ◌∷◌, slice_index, codes}
 
 -- the lower-case digit of a number below 16 (this profile's own: the text of words, addresses and bytes)
 abbrev pub hex_digit : ℕ → ℕ
@@ -9,7 +9,3 @@ hex_digit d = slice_index (codes "0123456789abcdef") d
 unfoldable pub hex_digits : ℕ → ℕ → List ℕ
 hex_digits zero n = []
 hex_digits (suc k) n = hex_digit (n / 16 ^ k % 16) ∷ hex_digits k n
-
--- whether a byte is one of the sixteen lower-case digits
-abbrev pub IsHexDigit : ℕ → Type 0
-IsHexDigit b = (d : ℕ) × (d < 16) × (b ≡ hex_digit d)

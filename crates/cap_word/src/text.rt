@@ -1,9 +1,12 @@
 //! Words and 64-bit numbers as text: a fixed number of lower-case hexadecimal digits.
 
-ghost use Rattle.std.specs.Prelude.{◌≡◌, ℕ, ◌<◌, ◌^◌, ◌↔◌, length, All, IsSome, IfSome, IfNone};
-ghost use Rattle.cap_word.specs.Digits.{IsHexDigit, hex_digits};
+ghost use Rattle.std.specs.Prelude.{◌≡◌, ℕ, ◌<◌, ◌^◌, IfSome, IfNone};
+ghost use Rattle.cap_word.specs.Digits.{hex_digits};
 
 use crate::word::Word;
+
+#[cfg(test)]
+mod tests;
 
 /// Reads a word from its text, the 32 lower-case hexadecimal digits of its register layout, most
 /// significant first. Anything else, an upper-case digit among them, is `None`.

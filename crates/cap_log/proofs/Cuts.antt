@@ -1,0 +1,40 @@
+-- Where some bytes are cut: at the first byte of a kind.
+use Rattle.std.proofs.Common.{◌≡◌, ◌≢◌, ℕ, true, not, eqb, List, [], ◌∷◌, ◌++◌, length, get_or, sym, ap, ◌∙◌, refl, arith}
+use Rattle.std.specs.Prelude.{All}
+use Rattle.std.specs.List.{list_all}
+use Rattle.std.proofs.lemmas.Bool.{and_parts, not-true, eqb-false}
+use Rattle.std.proofs.lemmas.List.{get_or_at, length-append}
+use Rattle.std.proofs.lemmas.List.Elements.{All-head, All-tail, All-cons, All-nil}
+use Rattle.cap_log.specs.Reading.{HasNoSpace, IsCutAt}
+
+-- no byte of the list is c
+abbrev pub Lacks : ℕ → List ℕ → Type 0
+Lacks c bytes = All (λ b. b ≢ c) bytes
+
+-- a test of a literal
+pub Lacks-by_test : (c : ℕ) (bytes : List ℕ) → list_all (λ b. not (eqb b c)) bytes ≡ true → Lacks c bytes
+Lacks-by_test c [] h = All-nil (λ b. b ≢ c)
+Lacks-by_test c (b ∷ bytes) h =
+    let both = and_parts (not (eqb b c)) (list_all (λ b. not (eqb b c)) bytes) h in
+    All-cons (λ b. b ≢ c) b bytes (eqb-false b c (not-true (eqb b c) both.0)) (Lacks-by_test c bytes both.1)
+
+-- two cuts of one list are one
+pub same_cut : (c : ℕ) (a b x y : List ℕ) → Lacks c a → Lacks c b → a ++ c ∷ x ≡ b ++ c ∷ y → (a ≡ b) × (x ≡ y)
+same_cut c [] [] x y p q e = (refl, cc)
+same_cut c [] (d ∷ b) x y p q e = let h : d ≡ c = cc in absurd (All-head (λ b. b ≢ c) d b q h)
+same_cut c (d ∷ a) [] x y p q e = let h : d ≡ c = cc in absurd (All-head (λ b. b ≢ c) d a p h)
+same_cut c (d ∷ a) (f ∷ b) x y p q e =
+    let rest : a ++ c ∷ x ≡ b ++ c ∷ y = cc in
+    let first : d ≡ f = cc in
+    let both = same_cut c a b x y (All-tail (λ b. b ≢ c) d a p) (All-tail (λ b. b ≢ c) f b q) rest in
+    (cc (both.0, first), both.1)
+
+-- a list without the byte has no cut
+pub no_cut : (c : ℕ) (bytes a x : List ℕ) → Lacks c bytes → bytes ≡ a ++ c ∷ x → ⊥
+no_cut c bytes a x lacks e =
+    let long = ap length e ∙ length-append a (c ∷ x) in
+    lacks (length a) 0 (omega arith) (ap (λ (bs : List ℕ). get_or bs (length a) 0) e ∙ get_or_at a c x 0 (length a) refl)
+
+-- a word that is cut off, and any other cut of the same bytes
+pub same_word : {bytes word rest : List ℕ} → IsCutAt bytes word rest → (word' rest' : List ℕ) → HasNoSpace word' → bytes ≡ word' ++ 32 ∷ rest' → (word ≡ word') × (rest ≡ rest')
+same_word {bytes} {word} {rest} cut word' rest' lacks e = same_cut 32 word word' rest rest' cut.one lacks (sym cut.whole ∙ e)

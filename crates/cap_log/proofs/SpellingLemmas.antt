@@ -1,0 +1,38 @@
+-- Spellings: bytes spell one line at most, and a spelling with its line feed is the line at the front of any bytes.
+use Rattle.std.proofs.Common.{◌≡◌, ◌≢◌, ℕ, ◌≤◌, List, ◌∷◌, ◌++◌, length, sym, ap, subst, ◌∙◌, refl, arith}
+use Rattle.std.proofs.lemmas.List.{length-append}
+use Rattle.std.proofs.lemmas.List.Elements.{All-append, All-cons}
+use Rattle.cap_log.specs.Front.{HasNoFeed, IsLine}
+use Rattle.cap_log.specs.Lines.{IsInRange, Spells, spelling}
+use Rattle.cap_log.specs.Reading.{head_spelling}
+use Rattle.cap_log.specs.declared.heads.Head.{Head}
+use Rattle.cap_log.specs.declared.lines.Line.{Line}
+use Rattle.cap_log.proofs.Cuts.{same_cut}
+use Rattle.cap_log.proofs.Shapes.{Fits, Operands, fits-of, head-operand, head-spaceless, head_of, made, made-of, operands_of, shape, spelled, spelling-of}
+
+-- lines with one spelling are one
+same_made : (h k : Head) → h ≡ k → (x : Operands h) (y : Operands k) → Fits h x → Fits k y → spelled h x ≡ spelled k y → made h x ≡ made k y
+same_made h k e x = subst (λ k. (y : Operands k) → Fits h x → Fits k y → spelled h x ≡ spelled k y → made h x ≡ made k y) e
+    (λ y fits fits' same. ap (made h) ((shape h).one x y fits fits' same))
+
+pub one_spelling : (bytes : List ℕ) (a b : Line) → Spells bytes a → Spells bytes b → a ≡ b
+one_spelling bytes a b spells spells' =
+    let parts = same_cut 32 (head_spelling (head_of a)) (head_spelling (head_of b)) (spelled (head_of a) (operands_of a)) (spelled (head_of b) (operands_of b))
+    (head-spaceless (head_of a) tt) (head-spaceless (head_of b) tt) (sym (spelling-of a) ∙ (sym spells.1 ∙ (spells'.1 ∙ spelling-of b))) in
+    sym (made-of a) ∙ same_made (head_of a) (head_of b) (head-operand.one (head_of a) (head_of b) tt tt parts.0) (operands_of a) (operands_of b) (fits-of a spells.0) (fits-of b spells'.0) parts.1 ∙ made-of b
+
+-- a spelling has no line feed and at most 95 bytes
+pub spelling-plain : (l : Line) → IsInRange l → HasNoFeed (spelling l)
+spelling-plain l fits = rw (spelling-of l) (All-append (λ b. b ≢ 10) (head_spelling (head_of l)) (32 ∷ spelled (head_of l) (operands_of l)) (head-operand.plain (head_of l) tt)
+    (All-cons (λ b. b ≢ 10) 32 (spelled (head_of l) (operands_of l)) (omega arith) ((shape (head_of l)).plain (operands_of l) (fits-of l fits))))
+
+pub spelling-short : (l : Line) → IsInRange l → length (spelling l) ≤ 95
+spelling-short l fits =
+    let long = ap length (spelling-of l) ∙ length-append (head_spelling (head_of l)) (32 ∷ spelled (head_of l) (operands_of l)) in
+    let first = head-operand.short (head_of l) tt in
+    let second = (shape (head_of l)).short (operands_of l) (fits-of l fits) in
+    omega arith
+
+-- so a spelling and a line feed are the line at the front of any bytes
+pub IsLine-spelling : (l : Line) → IsInRange l → (rest : List ℕ) → IsLine (spelling l ++ 10 ∷ rest) (spelling l) rest
+IsLine-spelling l fits rest = record { whole = refl; one = spelling-plain l fits; short = spelling-short l fits }

@@ -1,0 +1,28 @@
+-- The front of some bytes: a line that a line feed ends, more than a line may have, or less than a line.
+use Rattle.std.specs.Prelude.{◌≡◌, ◌≢◌, ℕ, ◌+◌, ◌<◌, ◌≤◌, List, ◌∷◌, ◌++◌, length, take, drop, All}
+use Rattle.cap_log.specs.declared.fronts.Front.{Front}
+use Rattle.cap_log.specs.declared.fronts.Front.TheVariants.{Line, TooLong, Cut}
+
+-- no byte is a line feed (this profile's own)
+abbrev pub HasNoFeed : List ℕ → Type 0
+HasNoFeed bytes = All (λ b. b ≢ 10) bytes
+
+-- the bytes are this line, its line feed and this rest; a line has at most 95 bytes (this profile's own)
+pub record IsLine (bytes line rest : List ℕ) : Type 0 where
+  pub whole : bytes ≡ line ++ 10 ∷ rest
+  pub one : HasNoFeed line
+  pub short : length line ≤ 95
+
+-- the first 96 bytes hold no line feed (this profile's own)
+abbrev pub IsTooLong : List ℕ → Type 0
+IsTooLong bytes = (96 ≤ length bytes) × HasNoFeed (take 96 bytes)
+
+-- the bytes end before a line does (this profile's own)
+abbrev pub IsCut : List ℕ → Type 0
+IsCut bytes = (length bytes ≤ 95) × HasNoFeed bytes
+
+-- which of the three a front is; a line is named by its length (this profile's own)
+abbrev pub IsFront : List ℕ → Front → Type 0
+IsFront bytes (Line n) = (n < length bytes) × IsLine bytes (take n bytes) (drop (n + 1) bytes)
+IsFront bytes TooLong = IsTooLong bytes
+IsFront bytes Cut = IsCut bytes

@@ -1,0 +1,7 @@
+mod MachineLemmas
+mod ResultLemmas
+mod LogLemmas
+mod ProgressLemmas
+mod AuthorityLemmas
+mod JudgeLemmas
+mod WordLemmas

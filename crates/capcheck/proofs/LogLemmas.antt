@@ -1,0 +1,96 @@
+-- Beginnings of a log with one line more.
+use Rattle.std.proofs.Common.{◌≡◌, ℕ, ◌+◌, Bool, true, false, ◌==◌, ◌||◌, nat_eq, List, [], ◌∷◌, ◌++◌, length, map, refl, sym, ap, ◌∙◌, append_assoc, append-nil, arith, rules}
+use Rattle.std.specs.Bool.{if◌then◌else◌}
+use Rattle.std.specs.List.{AllByRecursion, IsDistinct, list_any}
+use Rattle.std.proofs.lemmas.Bool.{false≢true, eqb-true, eqb-false}
+use Rattle.cap_word.specs.declared.word.Cap.{Cap}
+use Rattle.cap_log.specs.declared.lines.Place.{Place}
+use Rattle.cap_log.specs.declared.lines.Line.{Line}
+use Rattle.cap_log.specs.declared.lines.Line.TheVariants.{Version, Root, Step}
+use Rattle.cap_log.specs.declared.lines.Step as steps_module
+use Rattle.capcheck.specs.States.{State, DeclaredRoot, key_of, tagged, is_taken, start}
+use Rattle.capcheck.specs.Steps.{Leads}
+use Rattle.capcheck.specs.Runs.{IsRun, last_of}
+use Rattle.capcheck.specs.Logs.{body_lines}
+
+-- what holds of each element of two lists holds of each element of both together
+pub AllByRecursion-append : {X : Type 0} (P : X → Type 0) (xs ys : List X) → AllByRecursion P xs → AllByRecursion P ys → AllByRecursion P (xs ++ ys)
+AllByRecursion-append P [] ys h k = k
+AllByRecursion-append P (x ∷ xs) ys h k = (h.0, AllByRecursion-append P xs ys h.1 k)
+
+-- neither of two tests holds
+or_false : (a b : Bool) → (a || b) ≡ false → (a ≡ false) × (b ≡ false)
+or_false true b h = absurd (false≢true (sym h))
+or_false false b h = (refl, h)
+
+tag_of_choice : (b : Bool) (x y : Cap) (any : Bool) → x.tag ≡ true → y.tag ≡ any → (if b then x else y).tag ≡ (b || any)
+tag_of_choice true x y any h k = h
+tag_of_choice false x y any h k = k
+
+choices : (a b : Bool) (x y z : Cap) → (a ≡ true → b ≡ true → ⊥) → (if a then x else (if b then y else z)) ≡ (if b then y else (if a then x else z))
+choices true true x y z h = absurd (h refl refl)
+choices true false x y z h = refl
+choices false true x y z h = refl
+choices false false x y z h = refl
+
+-- one key more, which is none of those before
+pub IsDistinct-push : (xs : List ℕ) (x : ℕ) → IsDistinct nat_eq xs → list_any (λ y. nat_eq y x) xs ≡ false → IsDistinct nat_eq (xs ++ x ∷ [])
+unfolding IsDistinct
+IsDistinct-push [] x h new = (tt, tt)
+IsDistinct-push (y ∷ xs) x h new =
+    let parts = or_false (nat_eq y x) (list_any (λ z. nat_eq z x) xs) new in
+    (AllByRecursion-append (λ z. nat_eq y z ≡ false) xs (x ∷ []) h.0 (parts.0, tt), IsDistinct-push xs x h.1 parts.1)
+
+-- a place is taken exactly where the start has a tag there
+pub tag-start : (roots : List DeclaredRoot) (place : Place) → (start roots (key_of place)).tag ≡ is_taken roots place
+tag-start [] place = refl
+tag-start (root ∷ roots) place =
+    tag_of_choice (key_of root.place == key_of place) (tagged root.word) (start roots (key_of place)) _ refl (tag-start roots place)
+
+-- one root more, at a place that is none of those before
+pub start-push : (roots : List DeclaredRoot) (root : DeclaredRoot) (key : ℕ) → list_any (λ (r : DeclaredRoot). key_of r.place == key_of root.place) roots ≡ false
+    → start (roots ++ root ∷ []) key ≡ (if key_of root.place == key then tagged root.word else start roots key)
+start-push [] root key new = refl
+start-push (first ∷ roots) root key new =
+    let parts = or_false (key_of first.place == key_of root.place) (list_any (λ (r : DeclaredRoot). key_of r.place == key_of root.place) roots) new in
+    ap (λ (cap : Cap). if key_of first.place == key then tagged first.word else cap) (start-push roots root key parts.1)
+    ∙ choices (key_of first.place == key) (key_of root.place == key) _ _ _
+    (λ a b. eqb-false _ _ parts.0 (eqb-true _ _ a ∙ sym (eqb-true _ _ b)))
+
+-- one step more
+pub IsRun-push : (state : State) (steps : List steps_module.Step) (states : List State) (step : steps_module.Step) (next : State)
+    → IsRun state steps states → Leads (last_of state states) step next → IsRun state (steps ++ step ∷ []) (states ++ next ∷ [])
+IsRun-push state [] [] step next run leads = (leads, tt)
+IsRun-push state (first ∷ steps) (middle ∷ states) step next run leads = (run.0, IsRun-push middle steps states step next run.1 leads)
+IsRun-push state [] (middle ∷ states) step next run leads = absurd run
+IsRun-push state (first ∷ steps) [] step next run leads = absurd run
+
+pub last_of-push : (state : State) (states : List State) (next : State) → last_of state (states ++ next ∷ []) ≡ next
+last_of-push state [] next = refl
+last_of-push state (middle ∷ states) next = last_of-push middle states next
+
+-- a log's lines with one root more, or one step more
+pub map-push : {X Y : Type 0} (f : X → Y) (xs : List X) (x : X) → map f (xs ++ x ∷ []) ≡ map f xs ++ f x ∷ []
+map-push f [] x = refl
+map-push f (y ∷ xs) x = ap (λ ys. f y ∷ ys) (map-push f xs x)
+
+pub length-push : {X : Type 0} (xs : List X) (x : X) → length (xs ++ x ∷ []) ≡ length xs + 1
+length-push [] x = refl
+length-push (y ∷ xs) x = let more = length-push xs x in omega arith
+
+pub steps_push : (roots : List DeclaredRoot) (steps : List steps_module.Step) (step : steps_module.Step)
+    → body_lines roots (steps ++ step ∷ []) ≡ body_lines roots steps ++ Step step ∷ []
+steps_push roots steps step = rw (map-push Step steps step) (search (rules, append_assoc))
+
+pub roots_push : (roots : List DeclaredRoot) (root : DeclaredRoot)
+    → body_lines (roots ++ root ∷ []) [] ≡ body_lines roots [] ++ Root root.place root.word ∷ []
+roots_push roots root =
+    let line = λ (r : DeclaredRoot). Root r.place r.word in
+    ap (λ (lines : List Line). Version ∷ (lines ++ [])) (map-push line roots root)
+    ∙ ap (λ (lines : List Line). Version ∷ lines) (append-nil (map line roots ++ line root ∷ []))
+    ∙ sym (ap (λ (lines : List Line). Version ∷ (lines ++ line root ∷ [])) (append-nil (map line roots)))
+
+-- a test of what a function makes of the elements
+pub list_any-map : {X Y : Type 0} (f : X → Y) (p : Y → Bool) (xs : List X) → list_any p (map f xs) ≡ list_any (λ x. p (f x)) xs
+list_any-map f p [] = refl
+list_any-map f p (x ∷ xs) = ap (λ b. p (f x) || b) (list_any-map f p xs)

@@ -1,0 +1,11 @@
+pub mod Refusals
+pub mod States
+pub mod Steps
+pub mod Runs
+pub mod Logs
+pub mod Machines
+pub mod Progresses
+pub mod VerdictLines
+pub mod Verdicts
+pub mod Orders
+pub mod Statuses

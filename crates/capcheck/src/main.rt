@@ -1,0 +1,75 @@
+//! Judges logs of what a program did with CHERI capabilities.
+#![tactic(auto)]
+
+pub mod buffers;
+pub mod judging;
+pub mod laws;
+pub mod machine;
+pub mod progress;
+pub mod refusal;
+pub mod running;
+#[cfg(test)]
+mod tests;
+pub mod verdict;
+pub mod verdict_lines;
+pub mod words;
+
+use crate::running::{Fault, run};
+use crate::words::Order;
+use crate::words::reading::read_words;
+use std::alloc::AllocError;
+use std::env;
+use std::fs::File;
+use std::io::ErrorKind;
+use std::process::ExitCode;
+
+fn main(rt: HostRuntime) -> ExitCode {
+    ExitCode::from(match answer(&rt) {
+        Ok(status) => status,
+        Err(AllocError) => {
+            let _told = rt.stderr().write_all(Fault::NoMemory.text().as_bytes());
+            Fault::NoMemory.status()
+        }
+    })
+}
+
+// Collects the words, opens the input and runs the order.
+fn answer(rt: &HostRuntime) -> Result<u8, AllocError> {
+    let args = match env::args(rt) {
+        Ok(args) => args,
+        Err(error) => {
+            if error.kind() == ErrorKind::OutOfMemory {
+                return Err(AllocError);
+            }
+            return Ok(run(
+                rt.alloc(),
+                None,
+                Some(rt.stdin()),
+                &mut rt.stdout(),
+                &mut rt.stderr(),
+            ));
+        }
+    };
+    let mut texts = Vec::new(rt.alloc());
+    for arg in args.skip(1) {
+        texts.push(arg)?;
+    }
+    let mut words = Vec::new(rt.alloc());
+    for text in &texts {
+        words.push(text.as_str())?;
+    }
+    let order = read_words(words.as_slice());
+    Ok(match order {
+        Some(Order::Judge { file: Some(path) }) => {
+            let input = File::open(rt, path).ok();
+            run(rt.alloc(), order, input, &mut rt.stdout(), &mut rt.stderr())
+        }
+        _ => run(
+            rt.alloc(),
+            order,
+            Some(rt.stdin()),
+            &mut rt.stdout(),
+            &mut rt.stderr(),
+        ),
+    })
+}

@@ -1,0 +1,133 @@
+//! The statuses, and the texts on standard output and standard error.
+
+use crate::running::run;
+use crate::words::Order;
+use crate::words::reading::read_words;
+use std::io;
+use std::io::{Read, Write};
+use std::test::Fail;
+
+// A reader that always fails.
+#[derive(Drop)]
+struct Broken;
+
+impl Read for Broken {
+    fn read(&mut self, _buffer: &mut [u8]) -> io::Result<usize> {
+        Err(io::Error::from(io::ErrorKind::Other))
+    }
+}
+
+// A writer that always fails.
+#[derive(Drop)]
+struct Full;
+
+impl Write for Full {
+    fn write(&mut self, _bytes: &[u8]) -> io::Result<usize> {
+        Err(io::Error::from(io::ErrorKind::StorageFull))
+    }
+
+    fn flush(&mut self) -> io::Result<()> {
+        Err(io::Error::from(io::ErrorKind::StorageFull))
+    }
+}
+
+const YES: &[u8] = b"capcheck 1\nend 0\n";
+
+const NO: &[u8] = b"capcheck 1\nend 1\n";
+
+const JUDGE: Option<Order<'static>> = Some(Order::Judge { file: None });
+
+#[test]
+fn a_yes(rt: HostRuntime) -> Result<(), Fail> {
+    let mut out = Vec::new(rt.alloc());
+    let mut faults = Vec::new(rt.alloc());
+    let status = run(rt.alloc(), JUDGE, Some(YES), &mut out, &mut faults);
+    assert_eq!(rt; status, 0);
+    assert_eq!(rt; out.as_slice(), b"yes 0 0\n".as_slice());
+    assert_eq!(rt; faults.len(), 0);
+    Ok(())
+}
+
+#[test]
+fn a_no(rt: HostRuntime) -> Result<(), Fail> {
+    let mut out = Vec::new(rt.alloc());
+    let mut faults = Vec::new(rt.alloc());
+    let status = run(rt.alloc(), JUDGE, Some(NO), &mut out, &mut faults);
+    assert_eq!(rt; status, 1);
+    assert_eq!(rt; out.as_slice(), b"no 2 6 WrongCount\n".as_slice());
+    assert_eq!(rt; faults.len(), 0);
+    Ok(())
+}
+
+#[test]
+fn bad_words(rt: HostRuntime) -> Result<(), Fail> {
+    let mut out = Vec::new(rt.alloc());
+    let mut faults = Vec::new(rt.alloc());
+    let status = run(rt.alloc(), None, Some(YES), &mut out, &mut faults);
+    assert_eq!(rt; status, 2);
+    assert_eq!(rt; out.len(), 0);
+    assert_eq!(rt; faults.as_slice(), b"capcheck: bad words\n".as_slice());
+    Ok(())
+}
+
+#[test]
+fn no_such_file(rt: HostRuntime) -> Result<(), Fail> {
+    let order = Some(Order::Judge { file: Some("gone") });
+    let mut out = Vec::new(rt.alloc());
+    let mut faults = Vec::new(rt.alloc());
+    let status = run::<Broken, _, _>(rt.alloc(), order, None, &mut out, &mut faults);
+    assert_eq!(rt; status, 3);
+    assert_eq!(rt; out.len(), 0);
+    assert_eq!(rt; faults.as_slice(), b"capcheck: read fault\n".as_slice());
+    Ok(())
+}
+
+#[test]
+fn a_broken_reader(rt: HostRuntime) -> Result<(), Fail> {
+    let mut out = Vec::new(rt.alloc());
+    let mut faults = Vec::new(rt.alloc());
+    let status = run(rt.alloc(), JUDGE, Some(Broken), &mut out, &mut faults);
+    assert_eq!(rt; status, 3);
+    assert_eq!(rt; out.len(), 0);
+    assert_eq!(rt; faults.as_slice(), b"capcheck: read fault\n".as_slice());
+    Ok(())
+}
+
+#[test]
+fn a_full_output_at_yes(rt: HostRuntime) -> Result<(), Fail> {
+    let mut faults = Vec::new(rt.alloc());
+    let status = run(rt.alloc(), JUDGE, Some(YES), &mut Full, &mut faults);
+    assert_eq!(rt; status, 3);
+    assert_eq!(rt; faults.as_slice(), b"capcheck: write fault\n".as_slice());
+    Ok(())
+}
+
+#[test]
+fn a_full_output_at_no(rt: HostRuntime) -> Result<(), Fail> {
+    let mut faults = Vec::new(rt.alloc());
+    let status = run(rt.alloc(), JUDGE, Some(NO), &mut Full, &mut faults);
+    assert_eq!(rt; status, 3);
+    assert_eq!(rt; faults.as_slice(), b"capcheck: write fault\n".as_slice());
+    Ok(())
+}
+
+#[test]
+fn a_fault_on_standard_error_changes_nothing(rt: HostRuntime) -> Result<(), Fail> {
+    let mut out = Vec::new(rt.alloc());
+    let status = run(rt.alloc(), None, Some(YES), &mut out, &mut Full);
+    assert_eq!(rt; status, 2);
+    assert_eq!(rt; out.len(), 0);
+    Ok(())
+}
+
+#[test]
+fn words(rt: HostRuntime) {
+    assert_eq!(rt; read_words(&["judge"]), JUDGE);
+    assert!(rt; read_words(&["judge", "log"]) == Some(Order::Judge { file: Some("log") }));
+    assert!(rt; read_words(&["judge", ""]) == Some(Order::Judge { file: Some("") }));
+    assert_eq!(rt; read_words(&["judge", "-"]), None);
+    assert_eq!(rt; read_words(&["judge", "a", "b"]), None);
+    assert_eq!(rt; read_words(&["judges"]), None);
+    assert_eq!(rt; read_words(&[""]), None);
+    assert_eq!(rt; read_words(&[]), None);
+}

@@ -1,0 +1,31 @@
+//! What a judge answers.
+
+use crate::refusal::Refusal;
+
+/// The verdict on the bytes of a log.
+#[derive(Debug, Clone, Copy, PartialEq, Eq)]
+pub enum Verdict {
+    /// They are a log whose steps have a run.
+    Yes {
+        /// How many step lines it has.
+        steps: u32,
+        /// How many root lines it has.
+        roots: u32,
+    },
+    /// They are none.
+    No {
+        /// The number of the first line at fault, from 1 on.
+        line: u64,
+        /// The first test that this line fails.
+        refusal: Refusal,
+    },
+}
+
+/// Why a judge gave no verdict.
+#[derive(Debug, Clone, Copy, PartialEq, Eq)]
+pub enum JudgeFault {
+    /// The source of the bytes failed.
+    Pull,
+    /// There was no memory for a granule that the log names for the first time.
+    NoMemory,
+}
