@@ -1,11 +1,12 @@
 -- Where some bytes are cut: at the first byte of a kind.
-use Rattle.std.proofs.Common.{◌≡◌, ◌≢◌, ℕ, true, not, eqb, List, [], ◌∷◌, ◌++◌, length, get_or, sym, ap, ◌∙◌, refl, arith}
+use Rattle.std.proofs.Common.{◌≡◌, ◌≢◌, ℕ, true, not, eqb, List, [], ◌∷◌, ◌++◌, length, take, drop, get_or, sym, ap, ◌∙◌, refl, arith}
 use Rattle.std.specs.Prelude.{All}
 use Rattle.std.specs.List.{list_all}
-use Rattle.std.proofs.lemmas.Bool.{and_parts, not-true, eqb-false}
+use Rattle.std.specs.Cmp.Lexicographic.{pointwise}
+use Rattle.std.proofs.lemmas.Bool.{and_parts, not-true, eqb-false, eqb-true, false≢true}
 use Rattle.std.proofs.lemmas.List.{get_or_at, length-append}
 use Rattle.std.proofs.lemmas.List.Elements.{All-head, All-tail, All-cons, All-nil}
-use Rattle.cap_log.specs.Reading.{HasNoSpace, IsCutAt}
+use Rattle.cap_log.specs.Parts.{HasNoSpace, IsCutAt}
 
 -- no byte of the list is c
 abbrev pub Lacks : ℕ → List ℕ → Type 0
@@ -38,3 +39,11 @@ no_cut c bytes a x lacks e =
 -- a word that is cut off, and any other cut of the same bytes
 pub same_word : {bytes word rest : List ℕ} → IsCutAt bytes word rest → (word' rest' : List ℕ) → HasNoSpace word' → bytes ≡ word' ++ 32 ∷ rest' → (word ≡ word') × (rest ≡ rest')
 same_word {bytes} {word} {rest} cut word' rest' lacks e = same_cut 32 word word' rest rest' cut.one lacks (sym cut.whole ∙ e)
+
+-- what stands behind a first byte
+pub stripped : (b : ℕ) (bytes rest : List ℕ) → pointwise eqb (take 1 bytes) (b ∷ []) ≡ true → rest ≡ drop 1 bytes → bytes ≡ b ∷ rest
+stripped b [] rest h e = absurd (false≢true h)
+stripped b (x ∷ bytes) rest h e =
+    let first = eqb-true x b (and_parts (eqb x b) true h).0 in
+    let whole : x ∷ bytes ≡ b ∷ bytes = ap (λ (y : ℕ). y ∷ bytes) first in
+    whole ∙ ap (λ (bs : List ℕ). b ∷ bs) (sym e)

@@ -17,7 +17,7 @@ Lacks-hex_digits c (suc k) n lacks =
     (Lacks-hex_digits c k n lacks)
 
 -- the value of a digit
-digit_value-hex_digit : (d : ℕ) → d < 16 → digit_value (hex_digit d) ≡ d
+pub digit_value-hex_digit : (d : ℕ) → d < 16 → digit_value (hex_digit d) ≡ d
 digit_value-hex_digit zero h = refl
 digit_value-hex_digit (suc zero) h = refl
 digit_value-hex_digit (suc (suc zero)) h = refl
@@ -63,3 +63,10 @@ same_rest (suc k) m n e =
 -- two numbers of k digits with the same digits are one
 pub hex_digits-same : (k m n : ℕ) → m < 16 ^ k → n < 16 ^ k → hex_digits k m ≡ hex_digits k n → m ≡ n
 hex_digits-same k m n small small' e = sym (nat.mod-eq_of_lt small) ∙ same_rest k m n e ∙ nat.mod-eq_of_lt small'
+
+-- a power of 256 is one of 16
+pub pow_256 : (k : ℕ) → 256 ^ k ≡ 16 ^ (2 * k)
+pow_256 zero = refl
+pow_256 (suc k) =
+    let twice : 2 * suc k ≡ suc (suc (2 * k)) = omega arith in
+    rw twice (omega (arith, nat.pow-suc 256 k, pow_256 k, nat.pow-suc 16 (suc (2 * k)), nat.pow-suc 16 (2 * k)))

@@ -1,9 +1,9 @@
 -- Parts of a line: each value has one spelling of few bytes, and two parts with a space between are one.
-use Rattle.std.proofs.Common.{◌≡◌, ◌≢◌, ℕ, ◌+◌, ◌≤◌, List, ◌∷◌, length, ap, ◌∙◌, arith}
+use Rattle.std.proofs.Common.{◌≡◌, ◌≢◌, ℕ, ◌+◌, ◌≤◌, List, ◌∷◌, ◌++◌, length, sym, ap, subst, ◌∙◌, arith}
 use Rattle.std.proofs.lemmas.List.{length-append}
 use Rattle.std.proofs.lemmas.List.Elements.{All-append, All-cons}
 use Rattle.cap_log.specs.Front.{HasNoFeed}
-use Rattle.cap_log.specs.Reading.{HasNoSpace, IsCutAt, Both, spaced}
+use Rattle.cap_log.specs.Parts.{HasNoSpace, IsCutAt, FitsBoth, spaced}
 use Rattle.cap_log.proofs.Cuts.{same_cut, no_cut, same_word}
 
 -- no spelling has a space
@@ -24,36 +24,54 @@ longer Fits spelled m n operand le = record {
   short = λ a fits. let short = operand.short a fits in omega arith;
 }
 
+-- the same of a type that has one value for each
+pub mapped : {A B : Type 0} (Fits : A → Type 0) (spelled : A → List ℕ) (most : ℕ) → IsOperand Fits spelled most
+    → (un : B → A) (make : A → B) → ((b : B) → make (un b) ≡ b) → IsOperand (λ b. Fits (un b)) (λ b. spelled (un b)) most
+mapped Fits spelled most operand un make back = record {
+  one = λ a b fits fits' e. sym (back a) ∙ ap make (operand.one (un a) (un b) fits fits' e) ∙ back b;
+  plain = λ b fits. operand.plain (un b) fits;
+  short = λ b fits. operand.short (un b) fits;
+}
+
 -- two parts with a space between them
-pub Both-operand : {A B : Type 0} (P : A → Type 0) (f : A → List ℕ) (m : ℕ) (Q : B → Type 0) (g : B → List ℕ) (n : ℕ)
-    → Spaceless P f → IsOperand P f m → IsOperand Q g n → IsOperand (Both P Q) (spaced f g) (m + 1 + n)
-Both-operand P f m Q g n spaceless first second = record {
+pub FitsBoth-operand : {A B : Type 0} (P : A → Type 0) (f : A → List ℕ) (m : ℕ) (Q : B → Type 0) (g : B → List ℕ) (n : ℕ)
+    → IsOperand P f m → IsOperand Q g n → IsOperand (FitsBoth P f Q) (spaced f g) (m + 1 + n)
+FitsBoth-operand P f m Q g n first second = record {
   one = λ a b fits fits' e.
-      let parts = same_cut 32 (f a.0) (f b.0) (g a.1) (g b.1) (spaceless a.0 fits.0) (spaceless b.0 fits'.0) e in
+      let parts = same_cut 32 (f a.0) (f b.0) (g a.1) (g b.1) fits.1 fits'.1 e in
       let one = first.one a.0 b.0 fits.0 fits'.0 parts.0 in
-      let other = second.one a.1 b.1 fits.1 fits'.1 parts.1 in
+      let other = second.one a.1 b.1 fits.2 fits'.2 parts.1 in
       ap (λ x. (x, a.1)) one ∙ ap (λ y. (b.0, y)) other;
   plain = λ a fits. All-append (λ b. b ≢ 10) (f a.0) (32 ∷ g a.1) (first.plain a.0 fits.0)
-      (All-cons (λ b. b ≢ 10) 32 (g a.1) (omega arith) (second.plain a.1 fits.1));
+      (All-cons (λ b. b ≢ 10) 32 (g a.1) (omega arith) (second.plain a.1 fits.2));
   short = λ a fits.
       let long = length-append (f a.0) (32 ∷ g a.1) in
       let one = first.short a.0 fits.0 in
-      let other = second.short a.1 fits.1 in
+      let other = second.short a.1 fits.2 in
       omega arith;
 }
 
+-- what was read of both parts is both
+pub both_read : {A B : Type 0} (P : A → Type 0) (f : A → List ℕ) (Q : B → Type 0) (g : B → List ℕ)
+    → {bytes word rest : List ℕ} → IsCutAt bytes word rest → (a : A) (b : B) → P a × (word ≡ f a) → Q b × (rest ≡ g b)
+    → FitsBoth P f Q (a, b) × (bytes ≡ spaced f g (a, b))
+both_read P f Q g {bytes} {word} {rest} cut a b first second = (
+  (first.0, subst HasNoSpace first.1 cut.one, second.0),
+  cut.whole ∙ (ap (λ (w : List ℕ). w ++ 32 ∷ rest) first.1 ∙ ap (λ (r : List ℕ). f a ++ 32 ∷ r) second.1),
+)
+
 -- bytes without a space are no two parts
 pub no_parts : {A B : Type 0} (P : A → Type 0) (f : A → List ℕ) (Q : B → Type 0) (g : B → List ℕ) (bytes : List ℕ)
-    → HasNoSpace bytes → (a : A × B) → Both P Q a → bytes ≡ spaced f g a → ⊥
+    → HasNoSpace bytes → (a : A × B) → FitsBoth P f Q a → bytes ≡ spaced f g a → ⊥
 no_parts P f Q g bytes lacks a fits e = no_cut 32 bytes (f a.0) (g a.1) lacks e
 
 -- where the first word is no such part, or the rest is none
-pub no_first : {A B : Type 0} (P : A → Type 0) (f : A → List ℕ) (Q : B → Type 0) (g : B → List ℕ) → Spaceless P f
+pub no_first : {A B : Type 0} (P : A → Type 0) (f : A → List ℕ) (Q : B → Type 0) (g : B → List ℕ)
     → {bytes word rest : List ℕ} → IsCutAt bytes word rest → ((a : A) → P a → word ≡ f a → ⊥)
-    → (a : A × B) → Both P Q a → bytes ≡ spaced f g a → ⊥
-no_first P f Q g spaceless cut none a fits e = none a.0 fits.0 (same_word cut (f a.0) (g a.1) (spaceless a.0 fits.0) e).0
+    → (a : A × B) → FitsBoth P f Q a → bytes ≡ spaced f g a → ⊥
+no_first P f Q g cut none a fits e = none a.0 fits.0 (same_word cut (f a.0) (g a.1) fits.1 e).0
 
-pub no_second : {A B : Type 0} (P : A → Type 0) (f : A → List ℕ) (Q : B → Type 0) (g : B → List ℕ) → Spaceless P f
+pub no_second : {A B : Type 0} (P : A → Type 0) (f : A → List ℕ) (Q : B → Type 0) (g : B → List ℕ)
     → {bytes word rest : List ℕ} → IsCutAt bytes word rest → ((b : B) → Q b → rest ≡ g b → ⊥)
-    → (a : A × B) → Both P Q a → bytes ≡ spaced f g a → ⊥
-no_second P f Q g spaceless cut none a fits e = none a.1 fits.1 (same_word cut (f a.0) (g a.1) (spaceless a.0 fits.0) e).1
+    → (a : A × B) → FitsBoth P f Q a → bytes ≡ spaced f g a → ⊥
+no_second P f Q g cut none a fits e = none a.1 fits.2 (same_word cut (f a.0) (g a.1) fits.1 e).1

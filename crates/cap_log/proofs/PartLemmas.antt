@@ -1,19 +1,23 @@
--- The parts of a line, one by one: each value in range has one short spelling, without a space.
-use Rattle.std.proofs.Common.{◌≡◌, ◌≢◌, ℕ, ◌+◌, ◌<◌, ◌≤◌, ◌^◌, Bool, true, false, List, ◌∷◌, ◌++◌, length, get_or, drop, ap, ◌∙◌, refl, arith, decimal, codes}
-use Rattle.std.proofs.lemmas.Fmt.{decimal_injective, decimal_is_IsNumeral, length-decimal-le}
+-- The parts of a line, one by one: each value in range has one short spelling, without a line feed.
+use Rattle.std.proofs.Common.{◌≡◌, ◌≢◌, ℕ, suc, ◌+◌, ◌*◌, ◌%◌, ◌<◌, ◌≤◌, ◌^◌, ℤ, pos, negsuc, Bool, true, false, not, eqb, List, ◌∷◌, ◌++◌, length, get_or, drop, sym, ap, subst, ◌∙◌, refl, inl, inr, arith, decimal, codes}
+use Rattle.std.specs.Fmt.{signed_decimal}
+use Rattle.std.specs.List.{list_all}
+use Rattle.std.proofs.lemmas.Fmt.{decimal_injective, decimal_is_IsNumeral, length-decimal-le, signed_decimal_injective}
+use Rattle.std.proofs.lemmas.Int.{ints}
+use Rattle.std.proofs.lemmas.List.{length-append}
 use Rattle.std.proofs.lemmas.List.Elements.{All-append, All-cons, All-from_get_or}
 use Rattle.std.proofs.lemmas.Str.Parse.{digit_at}
+use lib.Signed.{mag}
 use Rattle.cap_word.specs.Digits.{hex_digits}
 use Rattle.cap_word.specs.declared.word.Cap.{Cap}
-use Rattle.cap_word.specs.declared.word.Word.{Word}
 use Rattle.cap_word.proofs.DigitLemmas.{length-hex_digits}
-use Rattle.cap_log.specs.Lines.{IsRegister, IsTarget, IsPlace, register_spelling, place_spelling, tag_spelling}
-use Rattle.cap_log.specs.Reading.{IsWord, IsResult, word_spelling, result_spelling}
+use Rattle.cap_log.specs.Lines.{IsDataSize, IsDataValue, IsNumber, IsOffset, IsPlace, IsRegister, IsTarget, IsWordNumber, place_spelling, register_spelling, tag_spelling}
+use Rattle.cap_log.specs.Parts.{HasNoSpace, IsSized, loaded_spelling, result_spelling, stored_spelling}
 use Rattle.cap_log.specs.declared.lines.Place.{Place}
-use Rattle.cap_log.specs.declared.lines.Place.TheVariants.{Register}
-use Rattle.cap_log.proofs.Cuts.{Lacks, Lacks-by_test}
-use Rattle.cap_log.proofs.HexText.{Lacks-hex_digits, hex_digits-same}
-use Rattle.cap_log.proofs.OperandLemmas.{IsOperand, Spaceless}
+use Rattle.cap_log.specs.declared.lines.Place.TheVariants.{Register, Granule}
+use Rattle.cap_log.proofs.Cuts.{Lacks, Lacks-by_test, same_cut}
+use Rattle.cap_log.proofs.HexText.{Lacks-hex_digits, hex_digits-same, pow_256}
+use Rattle.cap_log.proofs.OperandLemmas.{IsOperand}
 
 -- a byte that is no digit
 pub Lacks-decimal : (c n : ℕ) → c < 48 → n < 2 ^ 64 → Lacks c (decimal n)
@@ -22,16 +26,19 @@ Lacks-decimal c n low small =
     let digit = digit_at (decimal n) k (decimal_is_IsNumeral n small).0.1 below in
     omega (arith, digit.0))
 
--- numbers
-pub number-operand : IsOperand (λ n. n < 2 ^ 32) decimal 10
-number-operand = record {
+Lacks-hex : (c k n : ℕ) → list_all (λ b. not (eqb b c)) (codes "0123456789abcdef") ≡ true → Lacks c (hex_digits k n)
+Lacks-hex c k n other = Lacks-hex_digits c k n (Lacks-by_test c (codes "0123456789abcdef") other)
+
+-- counts
+pub count-operand : IsOperand (λ n. n < 2 ^ 32) decimal 10
+count-operand = record {
   one = λ m n small small' e. decimal_injective m n (omega arith) (omega arith) e;
   plain = λ n small. Lacks-decimal 10 n (omega arith) (omega arith);
   short = λ n small. length-decimal-le 10 n (omega arith) (omega arith) (omega arith);
 }
 
 -- registers
-pub register-spaceless : Spaceless IsRegister register_spelling
+pub register-spaceless : (n : ℕ) → IsRegister n → HasNoSpace (register_spelling n)
 register-spaceless n small = All-cons (λ b. b ≢ 32) 99 (decimal n) (omega arith) (Lacks-decimal 32 n (omega arith) (omega arith))
 
 pub register-operand : IsOperand IsRegister register_spelling 3
@@ -41,10 +48,6 @@ register-operand = record {
   short = λ n small. let short = length-decimal-le 2 n (omega arith) (omega arith) (omega arith) in omega arith;
 }
 
--- targets
-pub target-spaceless : Spaceless IsTarget register_spelling
-target-spaceless n fits = register-spaceless n fits.1
-
 pub target-operand : IsOperand IsTarget register_spelling 3
 target-operand = record {
   one = λ m n fits fits' e. register-operand.one m n fits.1 fits'.1 e;
@@ -52,32 +55,48 @@ target-operand = record {
   short = λ n fits. register-operand.short n fits.1;
 }
 
+-- numbers of 64 bits
+pub number-spaceless : (n : ℕ) → HasNoSpace (hex_digits 16 n)
+number-spaceless n = Lacks-hex 32 16 n refl
+
+pub number-operand : IsOperand IsNumber (hex_digits 16) 16
+number-operand = record {
+  one = λ m n small small' e. hex_digits-same 16 m n small small' e;
+  plain = λ n small. Lacks-hex 10 16 n refl;
+  short = λ n small. omega (arith, length-hex_digits 16 n);
+}
+
 -- places
-pub place-spaceless : Spaceless IsPlace place_spelling
-place-spaceless (Register n) fits = target-spaceless n fits
+pub place-spaceless : (a : Place) → IsPlace a → HasNoSpace (place_spelling a)
+place-spaceless (Register n) fits = register-spaceless n fits.1
+place-spaceless (Granule n) fits = All-cons (λ b. b ≢ 32) 64 (hex_digits 16 (16 * n)) (omega arith) (number-spaceless (16 * n))
 
 place-one : (a b : Place) → IsPlace a → IsPlace b → place_spelling a ≡ place_spelling b → a ≡ b
 place-one (Register m) (Register n) fits fits' e = ap Register (target-operand.one m n fits fits' e)
+place-one (Register m) (Granule n) fits fits' e = let h : ◌≡◌ {A = ℕ} 99 64 = ap (λ (bs : List ℕ). get_or bs 0 0) e in absurd (omega arith)
+place-one (Granule m) (Register n) fits fits' e = let h : ◌≡◌ {A = ℕ} 64 99 = ap (λ (bs : List ℕ). get_or bs 0 0) e in absurd (omega arith)
+place-one (Granule m) (Granule n) fits fits' e =
+    let address = number-operand.one (16 * m) (16 * n) (omega arith) (omega arith) (ap (λ (bs : List ℕ). drop 1 bs) e) in
+    let same : m ≡ n = omega arith in
+    ap Granule same
 
 place-plain : (a : Place) → IsPlace a → Lacks 10 (place_spelling a)
 place-plain (Register n) fits = target-operand.plain n fits
+place-plain (Granule n) fits = All-cons (λ b. b ≢ 10) 64 (hex_digits 16 (16 * n)) (omega arith) (Lacks-hex 10 16 (16 * n) refl)
 
 place-short : (a : Place) → IsPlace a → length (place_spelling a) ≤ 17
 place-short (Register n) fits = let short = target-operand.short n fits in omega arith
+place-short (Granule n) fits = omega (arith, length-hex_digits 16 (16 * n))
 
 pub place-operand : IsOperand IsPlace place_spelling 17
 place-operand = record { one = place-one; plain = place-plain; short = place-short }
 
 -- words
-word_of : ℕ → Word
-word_of n = record { 0 = n }
-
-pub word-operand : IsOperand IsWord word_spelling 32
-unfolding word_of
+pub word-operand : IsOperand IsWordNumber (hex_digits 32) 32
 word-operand = record {
-  one = λ a b small small' e. ap word_of (hex_digits-same 32 a.0 b.0 small small' e);
-  plain = λ a small. Lacks-hex_digits 10 32 a.0 (Lacks-by_test 10 (codes "0123456789abcdef") refl);
-  short = λ a small. omega (arith, length-hex_digits 32 a.0);
+  one = λ m n small small' e. hex_digits-same 32 m n small small' e;
+  plain = λ n small. Lacks-hex 10 32 n refl;
+  short = λ n small. omega (arith, length-hex_digits 32 n);
 }
 
 -- results
@@ -98,7 +117,7 @@ result-long false x = omega arith
 result_of : Bool → ℕ → Cap
 result_of tag n = record { tag = tag; word = record { 0 = n } }
 
-pub result-operand : IsOperand IsResult result_spelling 36
+pub result-operand : IsOperand (λ r. IsWordNumber r.word.0) result_spelling 36
 unfolding result_of
 result-operand = record {
   one = λ a b small small' e.
@@ -106,6 +125,94 @@ result-operand = record {
       let parts = result_parts a.tag b.tag (hex_digits 32 a.word.0) (hex_digits 32 b.word.0) rest in
       let number = hex_digits-same 32 a.word.0 b.word.0 small small' parts.1 in
       ap (λ t. result_of t a.word.0) parts.0 ∙ ap (result_of b.tag) number;
-  plain = λ a small. result-plain a.tag (hex_digits 32 a.word.0) (Lacks-hex_digits 10 32 a.word.0 (Lacks-by_test 10 (codes "0123456789abcdef") refl));
+  plain = λ a small. result-plain a.tag (hex_digits 32 a.word.0) (Lacks-hex 10 32 a.word.0 refl);
   short = λ a small. omega (arith, result-long a.tag (hex_digits 32 a.word.0), length-hex_digits 32 a.word.0);
 }
+
+-- offsets
+offset-mag : (z : ℤ) → IsOffset z → mag z ≤ 2047
+offset-mag (pos n) fits = omega (arith, ints)
+offset-mag (negsuc n) fits = omega (arith, ints)
+
+Lacks-signed : (c : ℕ) (z : ℤ) → c < 45 → IsOffset z → Lacks c (signed_decimal z)
+Lacks-signed c (pos n) low fits = let small = offset-mag (pos n) fits in Lacks-decimal c n (omega arith) (omega arith)
+Lacks-signed c (negsuc n) low fits =
+    let small = offset-mag (negsuc n) fits in
+    All-cons (λ b. b ≢ c) 45 (decimal (suc n)) (omega arith) (Lacks-decimal c (suc n) (omega arith) (omega arith))
+
+pub offset-spaceless : (z : ℤ) → IsOffset z → HasNoSpace (signed_decimal z)
+offset-spaceless z fits = Lacks-signed 32 z (omega arith) fits
+
+offset-short : (z : ℤ) → IsOffset z → length (signed_decimal z) ≤ 5
+offset-short (pos n) fits = let small = offset-mag (pos n) fits in let short = length-decimal-le 4 n (omega arith) (omega arith) (omega arith) in omega arith
+offset-short (negsuc n) fits = let small = offset-mag (negsuc n) fits in let short = length-decimal-le 4 (suc n) (omega arith) (omega arith) (omega arith) in omega arith
+
+pub offset-operand : IsOperand IsOffset signed_decimal 5
+offset-operand = record {
+  one = λ y z fits fits' e. signed_decimal_injective y z (omega (arith, offset-mag y fits)) (omega (arith, offset-mag z fits')) e;
+  plain = λ z fits. Lacks-signed 10 z (omega arith) fits;
+  short = offset-short;
+}
+
+-- sizes
+pub size-small : (n : ℕ) → IsDataSize n → (1 ≤ n) × (n ≤ 8)
+size-small n (inl e) = (omega arith, omega arith)
+size-small n (inr (inl e)) = (omega arith, omega arith)
+size-small n (inr (inr (inl e))) = (omega arith, omega arith)
+size-small n (inr (inr (inr e))) = (omega arith, omega arith)
+
+pub size-spaceless : (n : ℕ) → IsDataSize n → HasNoSpace (decimal n)
+size-spaceless n fits = let small = size-small n fits in Lacks-decimal 32 n (omega arith) (omega arith)
+
+-- values of a size
+pub value-same : (size m n : ℕ) → IsDataValue size m → IsDataValue size n → hex_digits (2 * size) m ≡ hex_digits (2 * size) n → m ≡ n
+value-same size m n small small' e = hex_digits-same (2 * size) m n (subst (λ (p : ℕ). m < p) (pow_256 size) small) (subst (λ (p : ℕ). n < p) (pow_256 size) small') e
+
+sized_parts : (s t m n : ℕ) → IsSized s m → IsSized t n → decimal s ≡ decimal t → hex_digits (2 * s) m ≡ hex_digits (2 * t) n → (s ≡ t) × (m ≡ n)
+sized_parts s t m n fits fits' size digits =
+    let small = size-small s fits.0 in
+    let small' = size-small t fits'.0 in
+    let same = decimal_injective s t (omega arith) (omega arith) size in
+    let value = subst (λ (k : ℕ). IsDataValue k n → hex_digits (2 * s) m ≡ hex_digits (2 * k) n → m ≡ n) same (value-same s m n fits.1) in
+    (same, value fits'.1 digits)
+
+-- the ends of loads and stores
+pub loaded-operand : IsOperand (λ (x : ℕ × ℕ). IsSized x.0 x.1) (λ x. loaded_spelling x.0 x.1) 20
+loaded-operand = record {
+  one = λ a b fits fits' e.
+      let cut = same_cut 32 (decimal a.0) (decimal b.0) (61 ∷ 32 ∷ hex_digits (2 * a.0) a.1) (61 ∷ 32 ∷ hex_digits (2 * b.0) b.1) (size-spaceless a.0 fits.0) (size-spaceless b.0 fits'.0) e in
+      let parts = sized_parts a.0 b.0 a.1 b.1 fits fits' cut.0 (ap (λ (bs : List ℕ). drop 2 bs) cut.1) in
+      ap (λ x. (x, a.1)) parts.0 ∙ ap (λ y. (b.0, y)) parts.1;
+  plain = λ a fits.
+      let small = size-small a.0 fits.0 in
+      All-append (λ b. b ≢ 10) (decimal a.0) (32 ∷ 61 ∷ 32 ∷ hex_digits (2 * a.0) a.1) (Lacks-decimal 10 a.0 (omega arith) (omega arith))
+      (All-append (λ b. b ≢ 10) (codes " = ") (hex_digits (2 * a.0) a.1) (Lacks-by_test 10 (codes " = ") refl) (Lacks-hex 10 (2 * a.0) a.1 refl));
+  short = λ a fits.
+      let small = size-small a.0 fits.0 in
+      let size = length-decimal-le 1 a.0 (omega arith) (omega arith) (omega arith) in
+      omega (arith, length-append (decimal a.0) (32 ∷ 61 ∷ 32 ∷ hex_digits (2 * a.0) a.1), length-hex_digits (2 * a.0) a.1);
+}
+
+pub stored-operand : IsOperand (λ (x : ℕ × ℕ). IsSized x.0 x.1) (λ x. stored_spelling x.0 x.1) 18
+stored-operand = record {
+  one = λ a b fits fits' e.
+      let cut = same_cut 32 (decimal a.0) (decimal b.0) (hex_digits (2 * a.0) a.1) (hex_digits (2 * b.0) b.1) (size-spaceless a.0 fits.0) (size-spaceless b.0 fits'.0) e in
+      let parts = sized_parts a.0 b.0 a.1 b.1 fits fits' cut.0 cut.1 in
+      ap (λ x. (x, a.1)) parts.0 ∙ ap (λ y. (b.0, y)) parts.1;
+  plain = λ a fits.
+      let small = size-small a.0 fits.0 in
+      All-append (λ b. b ≢ 10) (decimal a.0) (32 ∷ hex_digits (2 * a.0) a.1) (Lacks-decimal 10 a.0 (omega arith) (omega arith))
+      (All-cons (λ b. b ≢ 10) 32 (hex_digits (2 * a.0) a.1) (omega arith) (Lacks-hex 10 (2 * a.0) a.1 refl));
+  short = λ a fits.
+      let small = size-small a.0 fits.0 in
+      let size = length-decimal-le 1 a.0 (omega arith) (omega arith) (omega arith) in
+      omega (arith, length-append (decimal a.0) (32 ∷ hex_digits (2 * a.0) a.1), length-hex_digits (2 * a.0) a.1);
+}
+
+-- behind an @ stands the address of a granule
+pub no_granule : (address : ℕ) (digits : List ℕ) → address < 2 ^ 64 → digits ≡ hex_digits 16 address → (address % 16 ≡ 0 → ⊥)
+    → (a : Place) → IsPlace a → 64 ∷ digits ≡ place_spelling a → ⊥
+no_granule address digits small read other (Register n) fits e = let h : ◌≡◌ {A = ℕ} 64 99 = ap (λ (bs : List ℕ). get_or bs 0 0) e in absurd (omega arith)
+no_granule address digits small read other (Granule n) fits e =
+    let same = number-operand.one address (16 * n) small (omega arith) (sym read ∙ ap (λ (bs : List ℕ). drop 1 bs) e) in
+    other (omega arith)

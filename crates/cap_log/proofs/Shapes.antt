@@ -1,78 +1,217 @@
 -- Lines by their heads: what stands behind the head, and the line that head and operands make.
-use Rattle.std.proofs.Common.{◌≡◌, ℕ, ◌<◌, ◌≤◌, ◌^◌, List, ◌∷◌, ◌++◌, length, sym, ap, subst, ◌∙◌, refl, decimal, codes, lit≤, if◌then◌else◌}
+use Rattle.std.proofs.Common.{◌≡◌, ℕ, ◌<◌, ◌≤◌, ◌^◌, List, ◌∷◌, ◌++◌, length, sym, ap, subst, ◌∙◌, refl, decimal, codes, lit≤, if◌then◌else◌, Option, Some, None, IfSome, IfNone}
+use Rattle.std.specs.Fmt.{signed_decimal}
 use Rattle.std.specs.Str.{bytes_eq}
-use Rattle.cap_word.specs.declared.word.Cap.{Cap}
+use Rattle.cap_word.specs.Digits.{hex_digits}
 use Rattle.cap_word.specs.declared.word.Word.{Word}
 use Rattle.cap_log.specs.Front.{HasNoFeed}
-use Rattle.cap_log.specs.Lines.{IsInRange, IsPlace, IsRegister, IsTarget, Spells, place_spelling, register_spelling, spelling}
-use Rattle.cap_log.specs.Reading.{Both, IsCutAt, IsHead, IsResult, IsWord, HasNoSpace, head_spelling, result_spelling, spaced, word_spelling}
+use Rattle.cap_log.specs.Heads.{IsHead, head_spelling}
+use Rattle.cap_log.specs.Lines.{IsInRange, IsNumber, IsOffset, IsPlace, IsRegister, IsTarget, IsWordNumber, Spells, place_spelling, register_spelling, spelling}
+use Rattle.cap_log.specs.Parts.{FitsBoth, Reads, HasNoSpace, IsCutAt, IsSized, loaded_spelling, result_spelling, spaced, stored_spelling}
 use Rattle.cap_log.specs.declared.heads.Head.{Head}
 use Rattle.cap_log.specs.declared.heads.Head.TheVariants as head
+use Rattle.cap_log.specs.declared.heads.RegisterStep.TheVariants as registers
+use Rattle.cap_log.specs.declared.heads.NumberStep.TheVariants as number
+use Rattle.cap_log.specs.declared.heads.AccessStep.TheVariants as access
 use Rattle.cap_log.specs.declared.lines.Place.{Place}
 use Rattle.cap_log.specs.declared.lines.Step.TheVariants as step
 use Rattle.cap_log.specs.declared.lines.Line.{Line}
 use Rattle.cap_log.specs.declared.lines.Line.TheVariants as line
-use Rattle.cap_log.proofs.Cuts.{Lacks-by_test, no_cut, same_word}
-use Rattle.cap_log.proofs.OperandLemmas.{IsOperand, Spaceless, Both-operand, longer}
-use Rattle.cap_log.proofs.PartLemmas.{number-operand, place-operand, place-spaceless, register-operand, register-spaceless, result-operand, target-operand, target-spaceless, word-operand}
+use Rattle.cap_log.specs.declared.parts.decimals.Count.{Count}
+use Rattle.cap_log.specs.declared.parts.hexadecimals.Number.{Number}
+use Rattle.cap_log.specs.declared.parts.offsets.Offset.{Offset}
+use Rattle.cap_log.specs.declared.parts.registers.Register.{Register}
+use Rattle.cap_log.specs.declared.parts.registers.Target.{Target}
+use Rattle.cap_log.specs.declared.parts.results.Recorded.{Recorded}
+use Rattle.cap_log.specs.declared.parts.sized.Loaded.{Loaded}
+use Rattle.cap_log.specs.declared.parts.sized.Stored.{Stored}
+use Rattle.cap_log.proofs.Cuts.{Lacks-by_test, no_cut, same_cut, same_word}
+use Rattle.cap_log.proofs.OperandLemmas.{FitsBoth-operand, IsOperand, longer, mapped}
+use Rattle.cap_log.proofs.PartLemmas.{count-operand, loaded-operand, number-operand, number-spaceless, offset-operand, offset-spaceless, place-operand, place-spaceless, register-operand, register-spaceless, result-operand, stored-operand, target-operand, word-operand}
+
+-- the parts, as the code has them
+abbrev pub FitsRegister : Register → Type 0
+FitsRegister = λ (a : Register). IsRegister a.0
+
+abbrev pub register_text : Register → List ℕ
+register_text = λ (a : Register). register_spelling a.0
+
+abbrev pub FitsTarget : Target → Type 0
+FitsTarget = λ (a : Target). IsTarget a.0
+
+abbrev pub target_text : Target → List ℕ
+target_text = λ (a : Target). register_spelling a.0
+
+abbrev pub FitsNumber : Number → Type 0
+FitsNumber = λ (a : Number). IsNumber a.0
+
+abbrev pub number_text : Number → List ℕ
+number_text = λ (a : Number). hex_digits 16 a.0
+
+abbrev pub FitsOffset : Offset → Type 0
+FitsOffset = λ (a : Offset). IsOffset a.0
+
+abbrev pub offset_text : Offset → List ℕ
+offset_text = λ (a : Offset). signed_decimal a.0
+
+abbrev pub FitsRecorded : Recorded → Type 0
+FitsRecorded = λ (a : Recorded). IsWordNumber a.0.word.0
+
+abbrev pub recorded_text : Recorded → List ℕ
+recorded_text = λ (a : Recorded). result_spelling a.0
+
+abbrev pub FitsLoaded : Loaded → Type 0
+FitsLoaded = λ (a : Loaded). IsSized a.size a.value
+
+abbrev pub loaded_text : Loaded → List ℕ
+loaded_text = λ (a : Loaded). loaded_spelling a.size a.value
+
+abbrev pub FitsStored : Stored → Type 0
+FitsStored = λ (a : Stored). IsSized a.size a.value
+
+abbrev pub stored_text : Stored → List ℕ
+stored_text = λ (a : Stored). stored_spelling a.size a.value
+
+abbrev pub FitsCount : Count → Type 0
+FitsCount = λ (a : Count). a.0 < 2 ^ 32
+
+abbrev pub count_text : Count → List ℕ
+count_text = λ (a : Count). decimal a.0
+
+abbrev pub FitsWord : Word → Type 0
+FitsWord = λ (a : Word). IsWordNumber a.0
+
+abbrev pub word_text : Word → List ℕ
+word_text = λ (a : Word). hex_digits 32 a.0
 
 -- what stands behind a head
 abbrev pub Operands : Head → Type 0
 Operands head.Version = Unit {0}
 Operands head.Root = Place × Word
-Operands head.Move = ℕ × (ℕ × Cap)
-Operands head.ClearTag = ℕ × (ℕ × Cap)
-Operands head.End = ℕ
+Operands (head.Registers registers.Move) = Target × (Register × Recorded)
+Operands (head.Registers registers.ClearTag) = Target × (Register × Recorded)
+Operands (head.Registers registers.Seal) = Target × (Register × (Register × Recorded))
+Operands (head.Registers registers.Unseal) = Target × (Register × (Register × Recorded))
+Operands (head.Number kind) = Target × (Register × (Number × Recorded))
+Operands (head.Access access.LoadCap) = Target × (Register × (Offset × Recorded))
+Operands (head.Access access.StoreCap) = Register × (Register × Offset)
+Operands (head.Access access.Load) = Register × (Offset × Loaded)
+Operands (head.Access access.Store) = Register × (Offset × Stored)
+Operands head.End = Count
 
 abbrev pub Fits : (h : Head) → Operands h → Type 0
 Fits head.Version = λ _. Unit {0}
-Fits head.Root = Both IsPlace IsWord
-Fits head.Move = Both IsTarget (Both IsRegister IsResult)
-Fits head.ClearTag = Both IsTarget (Both IsRegister IsResult)
-Fits head.End = λ n. n < 2 ^ 32
+Fits head.Root = FitsBoth IsPlace place_spelling FitsWord
+Fits (head.Registers registers.Move) = FitsBoth FitsTarget target_text (FitsBoth FitsRegister register_text FitsRecorded)
+Fits (head.Registers registers.ClearTag) = FitsBoth FitsTarget target_text (FitsBoth FitsRegister register_text FitsRecorded)
+Fits (head.Registers registers.Seal) = FitsBoth FitsTarget target_text (FitsBoth FitsRegister register_text (FitsBoth FitsRegister register_text FitsRecorded))
+Fits (head.Registers registers.Unseal) = FitsBoth FitsTarget target_text (FitsBoth FitsRegister register_text (FitsBoth FitsRegister register_text FitsRecorded))
+Fits (head.Number kind) = FitsBoth FitsTarget target_text (FitsBoth FitsRegister register_text (FitsBoth FitsNumber number_text FitsRecorded))
+Fits (head.Access access.LoadCap) = FitsBoth FitsTarget target_text (FitsBoth FitsRegister register_text (FitsBoth FitsOffset offset_text FitsRecorded))
+Fits (head.Access access.StoreCap) = FitsBoth FitsRegister register_text (FitsBoth FitsRegister register_text FitsOffset)
+Fits (head.Access access.Load) = FitsBoth FitsRegister register_text (FitsBoth FitsOffset offset_text FitsLoaded)
+Fits (head.Access access.Store) = FitsBoth FitsRegister register_text (FitsBoth FitsOffset offset_text FitsStored)
+Fits head.End = FitsCount
 
 abbrev pub spelled : (h : Head) → Operands h → List ℕ
 spelled head.Version = λ _. codes "1"
-spelled head.Root = spaced place_spelling word_spelling
-spelled head.Move = spaced register_spelling (spaced register_spelling result_spelling)
-spelled head.ClearTag = spaced register_spelling (spaced register_spelling result_spelling)
-spelled head.End = decimal
+spelled head.Root = spaced place_spelling word_text
+spelled (head.Registers registers.Move) = spaced target_text (spaced register_text recorded_text)
+spelled (head.Registers registers.ClearTag) = spaced target_text (spaced register_text recorded_text)
+spelled (head.Registers registers.Seal) = spaced target_text (spaced register_text (spaced register_text recorded_text))
+spelled (head.Registers registers.Unseal) = spaced target_text (spaced register_text (spaced register_text recorded_text))
+spelled (head.Number kind) = spaced target_text (spaced register_text (spaced number_text recorded_text))
+spelled (head.Access access.LoadCap) = spaced target_text (spaced register_text (spaced offset_text recorded_text))
+spelled (head.Access access.StoreCap) = spaced register_text (spaced register_text offset_text)
+spelled (head.Access access.Load) = spaced register_text (spaced offset_text loaded_text)
+spelled (head.Access access.Store) = spaced register_text (spaced offset_text stored_text)
+spelled head.End = count_text
 
 -- the line that they make
 abbrev pub made : (h : Head) → Operands h → Line
 made head.Version _ = line.Version
 made head.Root x = line.Root x.0 x.1
-made head.Move x = line.Step (step.Move x.0 x.1.0 x.1.1)
-made head.ClearTag x = line.Step (step.ClearTag x.0 x.1.0 x.1.1)
-made head.End n = line.End n
+made (head.Registers registers.Move) x = line.Step (step.Move x.0.0 x.1.0.0 x.1.1.0)
+made (head.Registers registers.ClearTag) x = line.Step (step.ClearTag x.0.0 x.1.0.0 x.1.1.0)
+made (head.Registers registers.Seal) x = line.Step (step.Seal x.0.0 x.1.0.0 x.1.1.0.0 x.1.1.1.0)
+made (head.Registers registers.Unseal) x = line.Step (step.Unseal x.0.0 x.1.0.0 x.1.1.0.0 x.1.1.1.0)
+made (head.Number number.SetBounds) x = line.Step (step.SetBounds x.0.0 x.1.0.0 x.1.1.0.0 x.1.1.1.0)
+made (head.Number number.SetBoundsExact) x = line.Step (step.SetBoundsExact x.0.0 x.1.0.0 x.1.1.0.0 x.1.1.1.0)
+made (head.Number number.SetAddr) x = line.Step (step.SetAddr x.0.0 x.1.0.0 x.1.1.0.0 x.1.1.1.0)
+made (head.Number number.AndPerm) x = line.Step (step.AndPerm x.0.0 x.1.0.0 x.1.1.0.0 x.1.1.1.0)
+made (head.Access access.LoadCap) x = line.Step (step.LoadCap x.0.0 x.1.0.0 x.1.1.0.0 x.1.1.1.0)
+made (head.Access access.StoreCap) x = line.Step (step.StoreCap x.0.0 x.1.0.0 x.1.1.0)
+made (head.Access access.Load) x = line.Step (step.Load x.0.0 x.1.0.0 x.1.1.size x.1.1.value)
+made (head.Access access.Store) x = line.Step (step.Store x.0.0 x.1.0.0 x.1.1.size x.1.1.value)
+made head.End x = line.End x.0
 
 -- the head and the operands of a line
 abbrev pub head_of : Line → Head
 head_of line.Version = head.Version
 head_of (line.Root place word) = head.Root
-head_of (line.Step (step.Move target source result)) = head.Move
-head_of (line.Step (step.ClearTag target source result)) = head.ClearTag
+head_of (line.Step (step.Move target source result)) = head.Registers registers.Move
+head_of (line.Step (step.ClearTag target source result)) = head.Registers registers.ClearTag
+head_of (line.Step (step.Seal target source authority result)) = head.Registers registers.Seal
+head_of (line.Step (step.Unseal target source authority result)) = head.Registers registers.Unseal
+head_of (line.Step (step.SetBounds target source n result)) = head.Number number.SetBounds
+head_of (line.Step (step.SetBoundsExact target source n result)) = head.Number number.SetBoundsExact
+head_of (line.Step (step.SetAddr target source n result)) = head.Number number.SetAddr
+head_of (line.Step (step.AndPerm target source n result)) = head.Number number.AndPerm
+head_of (line.Step (step.LoadCap target authority offset result)) = head.Access access.LoadCap
+head_of (line.Step (step.StoreCap source authority offset)) = head.Access access.StoreCap
+head_of (line.Step (step.Load authority offset size value)) = head.Access access.Load
+head_of (line.Step (step.Store authority offset size value)) = head.Access access.Store
 head_of (line.End steps) = head.End
 
 abbrev pub operands_of : (l : Line) → Operands (head_of l)
 operands_of line.Version = tt
 operands_of (line.Root place word) = (place, word)
-operands_of (line.Step (step.Move target source result)) = (target, (source, result))
-operands_of (line.Step (step.ClearTag target source result)) = (target, (source, result))
-operands_of (line.End steps) = steps
+operands_of (line.Step (step.Move target source result)) = (record { 0 = target }, (record { 0 = source }, record { 0 = result }))
+operands_of (line.Step (step.ClearTag target source result)) = (record { 0 = target }, (record { 0 = source }, record { 0 = result }))
+operands_of (line.Step (step.Seal target source authority result)) = (record { 0 = target }, (record { 0 = source }, (record { 0 = authority }, record { 0 = result })))
+operands_of (line.Step (step.Unseal target source authority result)) = (record { 0 = target }, (record { 0 = source }, (record { 0 = authority }, record { 0 = result })))
+operands_of (line.Step (step.SetBounds target source n result)) = (record { 0 = target }, (record { 0 = source }, (record { 0 = n }, record { 0 = result })))
+operands_of (line.Step (step.SetBoundsExact target source n result)) = (record { 0 = target }, (record { 0 = source }, (record { 0 = n }, record { 0 = result })))
+operands_of (line.Step (step.SetAddr target source n result)) = (record { 0 = target }, (record { 0 = source }, (record { 0 = n }, record { 0 = result })))
+operands_of (line.Step (step.AndPerm target source n result)) = (record { 0 = target }, (record { 0 = source }, (record { 0 = n }, record { 0 = result })))
+operands_of (line.Step (step.LoadCap target authority offset result)) = (record { 0 = target }, (record { 0 = authority }, (record { 0 = offset }, record { 0 = result })))
+operands_of (line.Step (step.StoreCap source authority offset)) = (record { 0 = source }, (record { 0 = authority }, record { 0 = offset }))
+operands_of (line.Step (step.Load authority offset size value)) = (record { 0 = authority }, (record { 0 = offset }, record { size = size; value = value }))
+operands_of (line.Step (step.Store authority offset size value)) = (record { 0 = authority }, (record { 0 = offset }, record { size = size; value = value }))
+operands_of (line.End steps) = record { 0 = steps }
 
 pub made-of : (l : Line) → made (head_of l) (operands_of l) ≡ l
 made-of line.Version = refl
 made-of (line.Root place word) = refl
 made-of (line.Step (step.Move target source result)) = refl
 made-of (line.Step (step.ClearTag target source result)) = refl
+made-of (line.Step (step.Seal target source authority result)) = refl
+made-of (line.Step (step.Unseal target source authority result)) = refl
+made-of (line.Step (step.SetBounds target source n result)) = refl
+made-of (line.Step (step.SetBoundsExact target source n result)) = refl
+made-of (line.Step (step.SetAddr target source n result)) = refl
+made-of (line.Step (step.AndPerm target source n result)) = refl
+made-of (line.Step (step.LoadCap target authority offset result)) = refl
+made-of (line.Step (step.StoreCap source authority offset)) = refl
+made-of (line.Step (step.Load authority offset size value)) = refl
+made-of (line.Step (step.Store authority offset size value)) = refl
 made-of (line.End steps) = refl
 
 pub fits-of : (l : Line) → IsInRange l → Fits (head_of l) (operands_of l)
 fits-of line.Version fits = tt
-fits-of (line.Root place word) fits = fits
-fits-of (line.Step (step.Move target source result)) fits = (fits.0, (fits.1, fits.2))
-fits-of (line.Step (step.ClearTag target source result)) fits = (fits.0, (fits.1, fits.2))
+fits-of (line.Root place word) fits = (fits.0, place-spaceless place fits.0, fits.1)
+fits-of (line.Step (step.Move target source result)) fits = (fits.0, register-spaceless target fits.0.1, (fits.1, register-spaceless source fits.1, fits.2))
+fits-of (line.Step (step.ClearTag target source result)) fits = (fits.0, register-spaceless target fits.0.1, (fits.1, register-spaceless source fits.1, fits.2))
+fits-of (line.Step (step.Seal target source authority result)) fits = (fits.0, register-spaceless target fits.0.1, (fits.1, register-spaceless source fits.1, (fits.2, register-spaceless authority fits.2, fits.3)))
+fits-of (line.Step (step.Unseal target source authority result)) fits = (fits.0, register-spaceless target fits.0.1, (fits.1, register-spaceless source fits.1, (fits.2, register-spaceless authority fits.2, fits.3)))
+fits-of (line.Step (step.SetBounds target source n result)) fits = (fits.0, register-spaceless target fits.0.1, (fits.1, register-spaceless source fits.1, (fits.2, number-spaceless n, fits.3)))
+fits-of (line.Step (step.SetBoundsExact target source n result)) fits = (fits.0, register-spaceless target fits.0.1, (fits.1, register-spaceless source fits.1, (fits.2, number-spaceless n, fits.3)))
+fits-of (line.Step (step.SetAddr target source n result)) fits = (fits.0, register-spaceless target fits.0.1, (fits.1, register-spaceless source fits.1, (fits.2, number-spaceless n, fits.3)))
+fits-of (line.Step (step.AndPerm target source n result)) fits = (fits.0, register-spaceless target fits.0.1, (fits.1, register-spaceless source fits.1, (fits.2, number-spaceless n, fits.3)))
+fits-of (line.Step (step.LoadCap target authority offset result)) fits = (fits.0, register-spaceless target fits.0.1, (fits.1, register-spaceless authority fits.1, (fits.2, offset-spaceless offset fits.2, fits.3)))
+fits-of (line.Step (step.StoreCap source authority offset)) fits = (fits.0, register-spaceless source fits.0, (fits.1, register-spaceless authority fits.1, fits.2))
+fits-of (line.Step (step.Load authority offset size value)) fits = (fits.0, register-spaceless authority fits.0, (fits.1, offset-spaceless offset fits.1, (fits.2, fits.3)))
+fits-of (line.Step (step.Store authority offset size value)) fits = (fits.0, register-spaceless authority fits.0, (fits.1, offset-spaceless offset fits.1, (fits.2, fits.3)))
 fits-of (line.End steps) fits = fits
 
 pub spelling-of : (l : Line) → spelling l ≡ head_spelling (head_of l) ++ 32 ∷ spelled (head_of l) (operands_of l)
@@ -81,58 +220,140 @@ spelling-of line.Version = refl
 spelling-of (line.Root place word) = refl
 spelling-of (line.Step (step.Move target source result)) = refl
 spelling-of (line.Step (step.ClearTag target source result)) = refl
+spelling-of (line.Step (step.Seal target source authority result)) = refl
+spelling-of (line.Step (step.Unseal target source authority result)) = refl
+spelling-of (line.Step (step.SetBounds target source n result)) = refl
+spelling-of (line.Step (step.SetBoundsExact target source n result)) = refl
+spelling-of (line.Step (step.SetAddr target source n result)) = refl
+spelling-of (line.Step (step.AndPerm target source n result)) = refl
+spelling-of (line.Step (step.LoadCap target authority offset result)) = refl
+spelling-of (line.Step (step.StoreCap source authority offset)) = refl
+spelling-of (line.Step (step.Load authority offset size value)) = refl
+spelling-of (line.Step (step.Store authority offset size value)) = refl
 spelling-of (line.End steps) = refl
 
 in_range-made : (h : Head) (x : Operands h) → Fits h x → IsInRange (made h x)
 in_range-made head.Version x fits = tt
-in_range-made head.Root x fits = fits
-in_range-made head.Move x fits = (fits.0, fits.1.0, fits.1.1)
-in_range-made head.ClearTag x fits = (fits.0, fits.1.0, fits.1.1)
+in_range-made head.Root x fits = (fits.0, fits.2)
+in_range-made (head.Registers registers.Move) x fits = (fits.0, fits.2.0, fits.2.2)
+in_range-made (head.Registers registers.ClearTag) x fits = (fits.0, fits.2.0, fits.2.2)
+in_range-made (head.Registers registers.Seal) x fits = (fits.0, fits.2.0, fits.2.2.0, fits.2.2.2)
+in_range-made (head.Registers registers.Unseal) x fits = (fits.0, fits.2.0, fits.2.2.0, fits.2.2.2)
+in_range-made (head.Number number.SetBounds) x fits = (fits.0, fits.2.0, fits.2.2.0, fits.2.2.2)
+in_range-made (head.Number number.SetBoundsExact) x fits = (fits.0, fits.2.0, fits.2.2.0, fits.2.2.2)
+in_range-made (head.Number number.SetAddr) x fits = (fits.0, fits.2.0, fits.2.2.0, fits.2.2.2)
+in_range-made (head.Number number.AndPerm) x fits = (fits.0, fits.2.0, fits.2.2.0, fits.2.2.2)
+in_range-made (head.Access access.LoadCap) x fits = (fits.0, fits.2.0, fits.2.2.0, fits.2.2.2)
+in_range-made (head.Access access.StoreCap) x fits = (fits.0, fits.2.0, fits.2.2)
+in_range-made (head.Access access.Load) x fits = (fits.0, fits.2.0, fits.2.2.0, fits.2.2.1)
+in_range-made (head.Access access.Store) x fits = (fits.0, fits.2.0, fits.2.2.0, fits.2.2.1)
 in_range-made head.End x fits = fits
 
 spelling-made : (h : Head) (x : Operands h) → spelling (made h x) ≡ head_spelling h ++ 32 ∷ spelled h x
 unfolding spelling
 spelling-made head.Version x = refl
 spelling-made head.Root x = refl
-spelling-made head.Move x = refl
-spelling-made head.ClearTag x = refl
+spelling-made (head.Registers registers.Move) x = refl
+spelling-made (head.Registers registers.ClearTag) x = refl
+spelling-made (head.Registers registers.Seal) x = refl
+spelling-made (head.Registers registers.Unseal) x = refl
+spelling-made (head.Number number.SetBounds) x = refl
+spelling-made (head.Number number.SetBoundsExact) x = refl
+spelling-made (head.Number number.SetAddr) x = refl
+spelling-made (head.Number number.AndPerm) x = refl
+spelling-made (head.Access access.LoadCap) x = refl
+spelling-made (head.Access access.StoreCap) x = refl
+spelling-made (head.Access access.Load) x = refl
+spelling-made (head.Access access.Store) x = refl
 spelling-made head.End x = refl
 
 -- heads
-pub head-spaceless : Spaceless IsHead head_spelling
-head-spaceless head.Version fits = Lacks-by_test 32 (codes "capcheck") refl
-head-spaceless head.Root fits = Lacks-by_test 32 (codes "root") refl
-head-spaceless head.Move fits = Lacks-by_test 32 (codes "move") refl
-head-spaceless head.ClearTag fits = Lacks-by_test 32 (codes "cleartag") refl
-head-spaceless head.End fits = Lacks-by_test 32 (codes "end") refl
+pub head-spaceless : (h : Head) → HasNoSpace (head_spelling h)
+head-spaceless head.Version = Lacks-by_test 32 (codes "capcheck") refl
+head-spaceless head.Root = Lacks-by_test 32 (codes "root") refl
+head-spaceless (head.Registers registers.Move) = Lacks-by_test 32 (codes "move") refl
+head-spaceless (head.Registers registers.ClearTag) = Lacks-by_test 32 (codes "cleartag") refl
+head-spaceless (head.Registers registers.Seal) = Lacks-by_test 32 (codes "seal") refl
+head-spaceless (head.Registers registers.Unseal) = Lacks-by_test 32 (codes "unseal") refl
+head-spaceless (head.Number number.SetBounds) = Lacks-by_test 32 (codes "setbounds") refl
+head-spaceless (head.Number number.SetBoundsExact) = Lacks-by_test 32 (codes "setboundsexact") refl
+head-spaceless (head.Number number.SetAddr) = Lacks-by_test 32 (codes "setaddr") refl
+head-spaceless (head.Number number.AndPerm) = Lacks-by_test 32 (codes "andperm") refl
+head-spaceless (head.Access access.LoadCap) = Lacks-by_test 32 (codes "lc") refl
+head-spaceless (head.Access access.StoreCap) = Lacks-by_test 32 (codes "sc") refl
+head-spaceless (head.Access access.Load) = Lacks-by_test 32 (codes "load") refl
+head-spaceless (head.Access access.Store) = Lacks-by_test 32 (codes "store") refl
+head-spaceless head.End = Lacks-by_test 32 (codes "end") refl
 
 head-plain : (h : Head) → IsHead h → HasNoFeed (head_spelling h)
 head-plain head.Version fits = Lacks-by_test 10 (codes "capcheck") refl
 head-plain head.Root fits = Lacks-by_test 10 (codes "root") refl
-head-plain head.Move fits = Lacks-by_test 10 (codes "move") refl
-head-plain head.ClearTag fits = Lacks-by_test 10 (codes "cleartag") refl
+head-plain (head.Registers registers.Move) fits = Lacks-by_test 10 (codes "move") refl
+head-plain (head.Registers registers.ClearTag) fits = Lacks-by_test 10 (codes "cleartag") refl
+head-plain (head.Registers registers.Seal) fits = Lacks-by_test 10 (codes "seal") refl
+head-plain (head.Registers registers.Unseal) fits = Lacks-by_test 10 (codes "unseal") refl
+head-plain (head.Number number.SetBounds) fits = Lacks-by_test 10 (codes "setbounds") refl
+head-plain (head.Number number.SetBoundsExact) fits = Lacks-by_test 10 (codes "setboundsexact") refl
+head-plain (head.Number number.SetAddr) fits = Lacks-by_test 10 (codes "setaddr") refl
+head-plain (head.Number number.AndPerm) fits = Lacks-by_test 10 (codes "andperm") refl
+head-plain (head.Access access.LoadCap) fits = Lacks-by_test 10 (codes "lc") refl
+head-plain (head.Access access.StoreCap) fits = Lacks-by_test 10 (codes "sc") refl
+head-plain (head.Access access.Load) fits = Lacks-by_test 10 (codes "load") refl
+head-plain (head.Access access.Store) fits = Lacks-by_test 10 (codes "store") refl
 head-plain head.End fits = Lacks-by_test 10 (codes "end") refl
 
 head-short : (h : Head) → IsHead h → length (head_spelling h) ≤ 14
 head-short head.Version fits = lit≤ tt
 head-short head.Root fits = lit≤ tt
-head-short head.Move fits = lit≤ tt
-head-short head.ClearTag fits = lit≤ tt
+head-short (head.Registers registers.Move) fits = lit≤ tt
+head-short (head.Registers registers.ClearTag) fits = lit≤ tt
+head-short (head.Registers registers.Seal) fits = lit≤ tt
+head-short (head.Registers registers.Unseal) fits = lit≤ tt
+head-short (head.Number number.SetBounds) fits = lit≤ tt
+head-short (head.Number number.SetBoundsExact) fits = lit≤ tt
+head-short (head.Number number.SetAddr) fits = lit≤ tt
+head-short (head.Number number.AndPerm) fits = lit≤ tt
+head-short (head.Access access.LoadCap) fits = lit≤ tt
+head-short (head.Access access.StoreCap) fits = lit≤ tt
+head-short (head.Access access.Load) fits = lit≤ tt
+head-short (head.Access access.Store) fits = lit≤ tt
 head-short head.End fits = lit≤ tt
 
 -- the head that a word names
 named : List ℕ → Head
-named word = if bytes_eq word (codes "capcheck") then head.Version else
-    (if bytes_eq word (codes "root") then head.Root else
-    (if bytes_eq word (codes "move") then head.Move else
-    (if bytes_eq word (codes "cleartag") then head.ClearTag else head.End)))
+named word =
+    if bytes_eq word (codes "capcheck") then head.Version else (
+    if bytes_eq word (codes "root") then head.Root else (
+    if bytes_eq word (codes "move") then head.Registers registers.Move else (
+    if bytes_eq word (codes "cleartag") then head.Registers registers.ClearTag else (
+    if bytes_eq word (codes "seal") then head.Registers registers.Seal else (
+    if bytes_eq word (codes "unseal") then head.Registers registers.Unseal else (
+    if bytes_eq word (codes "setbounds") then head.Number number.SetBounds else (
+    if bytes_eq word (codes "setboundsexact") then head.Number number.SetBoundsExact else (
+    if bytes_eq word (codes "setaddr") then head.Number number.SetAddr else (
+    if bytes_eq word (codes "andperm") then head.Number number.AndPerm else (
+    if bytes_eq word (codes "lc") then head.Access access.LoadCap else (
+    if bytes_eq word (codes "sc") then head.Access access.StoreCap else (
+    if bytes_eq word (codes "load") then head.Access access.Load else (
+    if bytes_eq word (codes "store") then head.Access access.Store else (
+    head.End))))))))))))))
 
 named-spelling : (h : Head) → named (head_spelling h) ≡ h
 unfolding named
 named-spelling head.Version = refl
 named-spelling head.Root = refl
-named-spelling head.Move = refl
-named-spelling head.ClearTag = refl
+named-spelling (head.Registers registers.Move) = refl
+named-spelling (head.Registers registers.ClearTag) = refl
+named-spelling (head.Registers registers.Seal) = refl
+named-spelling (head.Registers registers.Unseal) = refl
+named-spelling (head.Number number.SetBounds) = refl
+named-spelling (head.Number number.SetBoundsExact) = refl
+named-spelling (head.Number number.SetAddr) = refl
+named-spelling (head.Number number.AndPerm) = refl
+named-spelling (head.Access access.LoadCap) = refl
+named-spelling (head.Access access.StoreCap) = refl
+named-spelling (head.Access access.Load) = refl
+named-spelling (head.Access access.Store) = refl
 named-spelling head.End = refl
 
 pub head-operand : IsOperand IsHead head_spelling 14
@@ -142,38 +363,77 @@ head-operand = record {
   short = head-short;
 }
 
+-- the parts have one spelling each
+register_part : IsOperand FitsRegister register_text 3
+register_part = mapped IsRegister register_spelling 3 register-operand (λ (a : Register). a.0) (λ x. record { 0 = x }) (λ _. refl)
+
+target_part : IsOperand FitsTarget target_text 3
+target_part = mapped IsTarget register_spelling 3 target-operand (λ (a : Target). a.0) (λ x. record { 0 = x }) (λ _. refl)
+
+number_part : IsOperand FitsNumber number_text 16
+number_part = mapped IsNumber (hex_digits 16) 16 number-operand (λ (a : Number). a.0) (λ x. record { 0 = x }) (λ _. refl)
+
+offset_part : IsOperand FitsOffset offset_text 5
+offset_part = mapped IsOffset signed_decimal 5 offset-operand (λ (a : Offset). a.0) (λ x. record { 0 = x }) (λ _. refl)
+
+recorded_part : IsOperand FitsRecorded recorded_text 36
+recorded_part = mapped (λ r. IsWordNumber r.word.0) result_spelling 36 result-operand (λ (a : Recorded). a.0) (λ x. record { 0 = x }) (λ _. refl)
+
+loaded_part : IsOperand FitsLoaded loaded_text 20
+loaded_part = mapped (λ (x : ℕ × ℕ). IsSized x.0 x.1) (λ x. loaded_spelling x.0 x.1) 20 loaded-operand (λ (a : Loaded). (a.size, a.value)) (λ x. record { size = x.0; value = x.1 }) (λ _. refl)
+
+stored_part : IsOperand FitsStored stored_text 18
+stored_part = mapped (λ (x : ℕ × ℕ). IsSized x.0 x.1) (λ x. stored_spelling x.0 x.1) 18 stored-operand (λ (a : Stored). (a.size, a.value)) (λ x. record { size = x.0; value = x.1 }) (λ _. refl)
+
+count_part : IsOperand FitsCount count_text 10
+count_part = mapped (λ n. n < 2 ^ 32) decimal 10 count-operand (λ (a : Count). a.0) (λ x. record { 0 = x }) (λ _. refl)
+
+word_part : IsOperand FitsWord word_text 32
+word_part = mapped IsWordNumber (hex_digits 32) 32 word-operand (λ (a : Word). a.0) (λ x. record { 0 = x }) (λ _. refl)
+
 version-operand : IsOperand (Fits head.Version) (spelled head.Version) 1
 version-operand = record { one = λ a b fits fits' e. refl; plain = λ a fits. Lacks-by_test 10 (codes "1") refl; short = λ a fits. lit≤ tt }
 
-copy-operand : IsOperand (Both IsTarget (Both IsRegister IsResult)) (spaced register_spelling (spaced register_spelling result_spelling)) 44
-copy-operand =
-    Both-operand IsTarget register_spelling 3 (Both IsRegister IsResult) (spaced register_spelling result_spelling) 40 target-spaceless target-operand
-    (Both-operand IsRegister register_spelling 3 IsResult result_spelling 36 register-spaceless register-operand result-operand)
-
 pub shape : (h : Head) → IsOperand (Fits h) (spelled h) 80
 shape head.Version = longer (Fits head.Version) (spelled head.Version) 1 80 version-operand (lit≤ tt)
-shape head.Root = longer (Fits head.Root) (spelled head.Root) 50 80 (Both-operand IsPlace place_spelling 17 IsWord word_spelling 32 place-spaceless place-operand word-operand) (lit≤ tt)
-shape head.Move = longer (Fits head.Move) (spelled head.Move) 44 80 copy-operand (lit≤ tt)
-shape head.ClearTag = longer (Fits head.ClearTag) (spelled head.ClearTag) 44 80 copy-operand (lit≤ tt)
-shape head.End = longer (Fits head.End) (spelled head.End) 10 80 number-operand (lit≤ tt)
+shape head.Root = longer (FitsBoth IsPlace place_spelling FitsWord) (spaced place_spelling word_text) 50 80 (FitsBoth-operand IsPlace place_spelling 17 FitsWord word_text 32 place-operand word_part) (lit≤ tt)
+shape (head.Registers registers.Move) = longer (FitsBoth FitsTarget target_text (FitsBoth FitsRegister register_text FitsRecorded)) (spaced target_text (spaced register_text recorded_text)) 44 80 (FitsBoth-operand FitsTarget target_text 3 (FitsBoth FitsRegister register_text FitsRecorded) (spaced register_text recorded_text) 40 target_part (FitsBoth-operand FitsRegister register_text 3 FitsRecorded recorded_text 36 register_part recorded_part)) (lit≤ tt)
+shape (head.Registers registers.ClearTag) = longer (FitsBoth FitsTarget target_text (FitsBoth FitsRegister register_text FitsRecorded)) (spaced target_text (spaced register_text recorded_text)) 44 80 (FitsBoth-operand FitsTarget target_text 3 (FitsBoth FitsRegister register_text FitsRecorded) (spaced register_text recorded_text) 40 target_part (FitsBoth-operand FitsRegister register_text 3 FitsRecorded recorded_text 36 register_part recorded_part)) (lit≤ tt)
+shape (head.Registers registers.Seal) = longer (FitsBoth FitsTarget target_text (FitsBoth FitsRegister register_text (FitsBoth FitsRegister register_text FitsRecorded))) (spaced target_text (spaced register_text (spaced register_text recorded_text))) 48 80 (FitsBoth-operand FitsTarget target_text 3 (FitsBoth FitsRegister register_text (FitsBoth FitsRegister register_text FitsRecorded)) (spaced register_text (spaced register_text recorded_text)) 44 target_part (FitsBoth-operand FitsRegister register_text 3 (FitsBoth FitsRegister register_text FitsRecorded) (spaced register_text recorded_text) 40 register_part (FitsBoth-operand FitsRegister register_text 3 FitsRecorded recorded_text 36 register_part recorded_part))) (lit≤ tt)
+shape (head.Registers registers.Unseal) = longer (FitsBoth FitsTarget target_text (FitsBoth FitsRegister register_text (FitsBoth FitsRegister register_text FitsRecorded))) (spaced target_text (spaced register_text (spaced register_text recorded_text))) 48 80 (FitsBoth-operand FitsTarget target_text 3 (FitsBoth FitsRegister register_text (FitsBoth FitsRegister register_text FitsRecorded)) (spaced register_text (spaced register_text recorded_text)) 44 target_part (FitsBoth-operand FitsRegister register_text 3 (FitsBoth FitsRegister register_text FitsRecorded) (spaced register_text recorded_text) 40 register_part (FitsBoth-operand FitsRegister register_text 3 FitsRecorded recorded_text 36 register_part recorded_part))) (lit≤ tt)
+shape (head.Number kind) = longer (FitsBoth FitsTarget target_text (FitsBoth FitsRegister register_text (FitsBoth FitsNumber number_text FitsRecorded))) (spaced target_text (spaced register_text (spaced number_text recorded_text))) 61 80 (FitsBoth-operand FitsTarget target_text 3 (FitsBoth FitsRegister register_text (FitsBoth FitsNumber number_text FitsRecorded)) (spaced register_text (spaced number_text recorded_text)) 57 target_part (FitsBoth-operand FitsRegister register_text 3 (FitsBoth FitsNumber number_text FitsRecorded) (spaced number_text recorded_text) 53 register_part (FitsBoth-operand FitsNumber number_text 16 FitsRecorded recorded_text 36 number_part recorded_part))) (lit≤ tt)
+shape (head.Access access.LoadCap) = longer (FitsBoth FitsTarget target_text (FitsBoth FitsRegister register_text (FitsBoth FitsOffset offset_text FitsRecorded))) (spaced target_text (spaced register_text (spaced offset_text recorded_text))) 50 80 (FitsBoth-operand FitsTarget target_text 3 (FitsBoth FitsRegister register_text (FitsBoth FitsOffset offset_text FitsRecorded)) (spaced register_text (spaced offset_text recorded_text)) 46 target_part (FitsBoth-operand FitsRegister register_text 3 (FitsBoth FitsOffset offset_text FitsRecorded) (spaced offset_text recorded_text) 42 register_part (FitsBoth-operand FitsOffset offset_text 5 FitsRecorded recorded_text 36 offset_part recorded_part))) (lit≤ tt)
+shape (head.Access access.StoreCap) = longer (FitsBoth FitsRegister register_text (FitsBoth FitsRegister register_text FitsOffset)) (spaced register_text (spaced register_text offset_text)) 13 80 (FitsBoth-operand FitsRegister register_text 3 (FitsBoth FitsRegister register_text FitsOffset) (spaced register_text offset_text) 9 register_part (FitsBoth-operand FitsRegister register_text 3 FitsOffset offset_text 5 register_part offset_part)) (lit≤ tt)
+shape (head.Access access.Load) = longer (FitsBoth FitsRegister register_text (FitsBoth FitsOffset offset_text FitsLoaded)) (spaced register_text (spaced offset_text loaded_text)) 30 80 (FitsBoth-operand FitsRegister register_text 3 (FitsBoth FitsOffset offset_text FitsLoaded) (spaced offset_text loaded_text) 26 register_part (FitsBoth-operand FitsOffset offset_text 5 FitsLoaded loaded_text 20 offset_part loaded_part)) (lit≤ tt)
+shape (head.Access access.Store) = longer (FitsBoth FitsRegister register_text (FitsBoth FitsOffset offset_text FitsStored)) (spaced register_text (spaced offset_text stored_text)) 28 80 (FitsBoth-operand FitsRegister register_text 3 (FitsBoth FitsOffset offset_text FitsStored) (spaced offset_text stored_text) 24 register_part (FitsBoth-operand FitsOffset offset_text 5 FitsStored stored_text 18 offset_part stored_part)) (lit≤ tt)
+shape head.End = longer FitsCount count_text 10 80 count_part (lit≤ tt)
 
--- what spells a head and operands spells their line
-pub spells-made : (h : Head) (x : Operands h) → Fits h x → (bytes word rest : List ℕ) → IsCutAt bytes word rest → word ≡ head_spelling h → rest ≡ spelled h x → Spells bytes (made h x)
-spells-made h x fits bytes word rest cut first second =
-    (in_range-made h x fits, cut.whole ∙ (ap (λ (w : List ℕ). w ++ 32 ∷ rest) first ∙ ap (λ (r : List ℕ). head_spelling h ++ 32 ∷ r) second) ∙ sym (spelling-made h x))
+-- what a head and operands spell
+pub reads-made : (h : Head) (x : Operands h) (rest : List ℕ) → Fits h x × (rest ≡ spelled h x) → IsInRange (made h x) × (head_spelling h ++ 32 ∷ rest ≡ spelling (made h x))
+reads-made h x rest read =
+    (in_range-made h x read.0, ap (λ (r : List ℕ). head_spelling h ++ 32 ∷ r) read.1 ∙ sym (spelling-made h x))
 
 -- bytes that have no cut spell no line
 pub no_words : (bytes : List ℕ) → HasNoSpace bytes → (l : Line) → Spells bytes l → ⊥
 no_words bytes lacks l spells = no_cut 32 bytes (head_spelling (head_of l)) (spelled (head_of l) (operands_of l)) lacks (spells.1 ∙ spelling-of l)
 
 -- nor do bytes whose first word is no head
-pub no_head : (bytes word rest : List ℕ) → IsCutAt bytes word rest → ((h : Head) → IsHead h → word ≡ head_spelling h → ⊥) → (l : Line) → Spells bytes l → ⊥
-no_head bytes word rest cut none l spells =
-    none (head_of l) tt (same_word cut (head_spelling (head_of l)) (spelled (head_of l) (operands_of l)) (head-spaceless (head_of l) tt) (spells.1 ∙ spelling-of l)).0
+pub no_head : {bytes word rest : List ℕ} → IsCutAt bytes word rest → ((h : Head) → IsHead h → word ≡ head_spelling h → ⊥) → (l : Line) → Spells bytes l → ⊥
+no_head cut none l spells =
+    none (head_of l) tt (same_word cut (head_spelling (head_of l)) (spelled (head_of l) (operands_of l)) (head-spaceless (head_of l)) (spells.1 ∙ spelling-of l)).0
 
--- nor do bytes with a head and no operands for it
-pub no_operands : (h : Head) (bytes word rest : List ℕ) → IsCutAt bytes word rest → word ≡ head_spelling h → ((x : Operands h) → Fits h x → rest ≡ spelled h x → ⊥) → (l : Line) → Spells bytes l → ⊥
-no_operands h bytes word rest cut first none l spells =
-    let parts = same_word cut (head_spelling (head_of l)) (spelled (head_of l) (operands_of l)) (head-spaceless (head_of l) tt) (spells.1 ∙ spelling-of l) in
-    let same : h ≡ head_of l = head-operand.one h (head_of l) tt tt (sym first ∙ parts.0) in
-    subst (λ k. (x : Operands k) → Fits k x → rest ≡ spelled k x → ⊥) same none (operands_of l) (fits-of l spells.0) parts.1
+-- nor do a head and no operands for it
+pub no_operands : (h : Head) (rest : List ℕ) → ((x : Operands h) → Fits h x → rest ≡ spelled h x → ⊥) → (l : Line) → IsInRange l → head_spelling h ++ 32 ∷ rest ≡ spelling l → ⊥
+no_operands h rest none l fits e =
+    let parts = same_cut 32 (head_spelling h) (head_spelling (head_of l)) rest (spelled (head_of l) (operands_of l)) (head-spaceless h) (head-spaceless (head_of l)) (e ∙ spelling-of l) in
+    let same : h ≡ head_of l = head-operand.one h (head_of l) tt tt parts.0 in
+    subst (λ k. (x : Operands k) → Fits k x → rest ≡ spelled k x → ⊥) same none (operands_of l) (fits-of l fits) parts.1
+
+-- what was read behind a head, as a line of all the bytes
+pub line_some : (bytes text : List ℕ) (r : Option Line) → bytes ≡ text → Reads IsInRange spelling text r → IfSome r (Spells bytes)
+line_some bytes text None e read = tt
+line_some bytes text (Some l) e read = (read.0, e ∙ read.1)
+
+pub line_none : (bytes text : List ℕ) (r : Option Line) → bytes ≡ text → Reads IsInRange spelling text r → IfNone r ((l : Line) → Spells bytes l → ⊥)
+line_none bytes text None e read = λ l spells. read l spells.0 (sym e ∙ spells.1)
+line_none bytes text (Some l) e read = tt

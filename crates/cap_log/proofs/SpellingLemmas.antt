@@ -1,10 +1,11 @@
 -- Spellings: bytes spell one line at most, and a spelling with its line feed is the line at the front of any bytes.
-use Rattle.std.proofs.Common.{◌≡◌, ◌≢◌, ℕ, ◌≤◌, List, ◌∷◌, ◌++◌, length, sym, ap, subst, ◌∙◌, refl, arith}
+use Rattle.std.proofs.Common.{◌≡◌, ◌≢◌, ℕ, ◌+◌, ◌≤◌, List, ◌∷◌, ◌++◌, length, sym, ap, subst, ◌∙◌, refl, arith}
 use Rattle.std.proofs.lemmas.List.{length-append}
 use Rattle.std.proofs.lemmas.List.Elements.{All-append, All-cons}
 use Rattle.cap_log.specs.Front.{HasNoFeed, IsLine}
 use Rattle.cap_log.specs.Lines.{IsInRange, Spells, spelling}
-use Rattle.cap_log.specs.Reading.{head_spelling}
+use Rattle.cap_log.specs.Heads.{IsHead, head_spelling}
+use Rattle.cap_log.specs.Parts.{FitsBoth, Writes}
 use Rattle.cap_log.specs.declared.heads.Head.{Head}
 use Rattle.cap_log.specs.declared.lines.Line.{Line}
 use Rattle.cap_log.proofs.Cuts.{same_cut}
@@ -18,7 +19,7 @@ same_made h k e x = subst (λ k. (y : Operands k) → Fits h x → Fits k y → 
 pub one_spelling : (bytes : List ℕ) (a b : Line) → Spells bytes a → Spells bytes b → a ≡ b
 one_spelling bytes a b spells spells' =
     let parts = same_cut 32 (head_spelling (head_of a)) (head_spelling (head_of b)) (spelled (head_of a) (operands_of a)) (spelled (head_of b) (operands_of b))
-    (head-spaceless (head_of a) tt) (head-spaceless (head_of b) tt) (sym (spelling-of a) ∙ (sym spells.1 ∙ (spells'.1 ∙ spelling-of b))) in
+    (head-spaceless (head_of a)) (head-spaceless (head_of b)) (sym (spelling-of a) ∙ (sym spells.1 ∙ (spells'.1 ∙ spelling-of b))) in
     sym (made-of a) ∙ same_made (head_of a) (head_of b) (head-operand.one (head_of a) (head_of b) tt tt parts.0) (operands_of a) (operands_of b) (fits-of a spells.0) (fits-of b spells'.0) parts.1 ∙ made-of b
 
 -- a spelling has no line feed and at most 95 bytes
@@ -36,3 +37,16 @@ spelling-short l fits =
 -- so a spelling and a line feed are the line at the front of any bytes
 pub IsLine-spelling : (l : Line) → IsInRange l → (rest : List ℕ) → IsLine (spelling l ++ 10 ∷ rest) (spelling l) rest
 IsLine-spelling l fits rest = record { whole = refl; one = spelling-plain l fits; short = spelling-short l fits }
+
+-- a line as its head and its operands
+pub line_fits : (l : Line) → IsInRange l → FitsBoth IsHead head_spelling (Fits (head_of l)) (head_of l, operands_of l)
+line_fits l fits = (tt, head-spaceless (head_of l), fits-of l fits)
+
+pub line_room : (l : Line) → IsInRange l → (n : ℕ) → 95 ≤ n → 0 + length (head_spelling (head_of l) ++ 32 ∷ spelled (head_of l) (operands_of l)) ≤ n
+line_room l fits n room =
+    let short = spelling-short l fits in
+    let same = ap length (spelling-of l) in
+    omega arith
+
+pub line_written : (l : Line) (old new : List ℕ) (end : ℕ) → Writes 0 (head_spelling (head_of l) ++ 32 ∷ spelled (head_of l) (operands_of l)) old new end → Writes 0 (spelling l) old new end
+line_written l old new end written = subst (λ (text : List ℕ). Writes 0 text old new end) (sym (spelling-of l)) written

@@ -1,3 +1,4 @@
 pub mod Front
+pub mod Heads
 pub mod Lines
-pub mod Reading
+pub mod Parts

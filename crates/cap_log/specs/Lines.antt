@@ -1,36 +1,57 @@
--- The grammar of a log's lines: what each line is spelled as, and which lines have a spelling.
-use Rattle.std.specs.Prelude.{◌≡◌, ℕ, ◌^◌, ◌<◌, ◌≤◌, Bool, true, false, List, [], ◌∷◌, ◌++◌, codes, decimal}
+-- The grammar of a log's lines: what each line is spelled as, and which lines have a spelling. All of it is this profile's own.
+use Rattle.std.specs.Prelude.{◌≡◌, ℕ, ◌*◌, ◌^◌, ◌<◌, ◌≤◌, ℤ, pos, negsuc, ◌≤ℤ◌, Bool, true, false, ◌⊎◌, List, [], ◌∷◌, ◌++◌, codes, decimal}
+use Rattle.std.specs.Fmt.{signed_decimal}
 use Rattle.std.specs.List.{join_with_byte}
 use Rattle.cap_word.specs.Digits.{hex_digits}
 use Rattle.cap_word.specs.declared.word.Cap.{Cap}
 use Rattle.cap_log.specs.declared.lines.Place.{Place}
-use Rattle.cap_log.specs.declared.lines.Place.TheVariants.{Register}
+use Rattle.cap_log.specs.declared.lines.Place.TheVariants.{Register, Granule}
 use Rattle.cap_log.specs.declared.lines.Step.{Step}
-use Rattle.cap_log.specs.declared.lines.Step.TheVariants.{Move, ClearTag}
+use Rattle.cap_log.specs.declared.lines.Step.TheVariants.{Move, ClearTag, SetBounds, SetBoundsExact, SetAddr, AndPerm, Seal, Unseal, LoadCap, StoreCap, Load, Store}
 use Rattle.cap_log.specs.declared.lines.Line.{Line}
 use Rattle.cap_log.specs.declared.lines.Line.TheVariants.{Version, Root, Step as Stepping, End}
 
--- a register that is read: c and its number in decimal (this profile's own, as are all below)
+-- a register that is read
 abbrev pub IsRegister : ℕ → Type 0
 IsRegister n = n ≤ 31
 
-abbrev pub register_spelling : ℕ → List ℕ
-register_spelling n = codes "c" ++ decimal n
-
--- a register that is written: c0 always holds the same
+-- a register that is written: c0 is not
 abbrev pub IsTarget : ℕ → Type 0
 IsTarget n = (1 ≤ n) × (n ≤ 31)
 
--- a place that holds a root
+-- a register: c and its number in decimal
+abbrev pub register_spelling : ℕ → List ℕ
+register_spelling n = codes "c" ++ decimal n
+
+-- a place that can hold a root: a register that is written, or a granule of a memory of 2^64 bytes
 abbrev pub IsPlace : Place → Type 0
 IsPlace (Register n) = IsTarget n
+IsPlace (Granule n) = n < 2 ^ 60
 
+-- a granule is spelled by the address of its first byte
 abbrev pub place_spelling : Place → List ℕ
 place_spelling (Register n) = register_spelling n
+place_spelling (Granule n) = codes "@" ++ hex_digits 16 (16 * n)
 
--- a word of 128 bits: its 32 digits
+-- the number of a word
 abbrev pub IsWordNumber : ℕ → Type 0
 IsWordNumber n = n < 2 ^ 128
+
+-- a length, an address or a mask
+abbrev pub IsNumber : ℕ → Type 0
+IsNumber n = n < 2 ^ 64
+
+-- the offset of an access
+abbrev pub IsOffset : ℤ → Type 0
+IsOffset z = (negsuc 2047 ≤ℤ z) × (z ≤ℤ pos 2047)
+
+-- how many bytes a load or a store of data takes
+abbrev pub IsDataSize : ℕ → Type 0
+IsDataSize size = (size ≡ 1) ⊎ ((size ≡ 2) ⊎ ((size ≡ 4) ⊎ (size ≡ 8)))
+
+-- the number of so many bytes
+abbrev pub IsDataValue : ℕ → ℕ → Type 0
+IsDataValue size value = value < 256 ^ size
 
 -- a tag: one digit
 abbrev pub tag_spelling : Bool → List ℕ
@@ -45,6 +66,16 @@ result_words result = codes "=" ∷ tag_spelling result.tag ∷ hex_digits 32 re
 abbrev pub step_words : Step → List (List ℕ)
 step_words (Move target source result) = codes "move" ∷ register_spelling target ∷ register_spelling source ∷ result_words result
 step_words (ClearTag target source result) = codes "cleartag" ∷ register_spelling target ∷ register_spelling source ∷ result_words result
+step_words (SetBounds target source length result) = codes "setbounds" ∷ register_spelling target ∷ register_spelling source ∷ hex_digits 16 length ∷ result_words result
+step_words (SetBoundsExact target source length result) = codes "setboundsexact" ∷ register_spelling target ∷ register_spelling source ∷ hex_digits 16 length ∷ result_words result
+step_words (SetAddr target source address result) = codes "setaddr" ∷ register_spelling target ∷ register_spelling source ∷ hex_digits 16 address ∷ result_words result
+step_words (AndPerm target source mask result) = codes "andperm" ∷ register_spelling target ∷ register_spelling source ∷ hex_digits 16 mask ∷ result_words result
+step_words (Seal target source authority result) = codes "seal" ∷ register_spelling target ∷ register_spelling source ∷ register_spelling authority ∷ result_words result
+step_words (Unseal target source authority result) = codes "unseal" ∷ register_spelling target ∷ register_spelling source ∷ register_spelling authority ∷ result_words result
+step_words (LoadCap target authority offset result) = codes "lc" ∷ register_spelling target ∷ register_spelling authority ∷ signed_decimal offset ∷ result_words result
+step_words (StoreCap source authority offset) = codes "sc" ∷ register_spelling source ∷ register_spelling authority ∷ signed_decimal offset ∷ []
+step_words (Load authority offset size value) = codes "load" ∷ register_spelling authority ∷ signed_decimal offset ∷ decimal size ∷ codes "=" ∷ hex_digits (2 * size) value ∷ []
+step_words (Store authority offset size value) = codes "store" ∷ register_spelling authority ∷ signed_decimal offset ∷ decimal size ∷ hex_digits (2 * size) value ∷ []
 
 -- the words of a line
 abbrev pub line_words : Line → List (List ℕ)
@@ -61,6 +92,16 @@ spelling line = join_with_byte 32 (line_words line)
 abbrev pub IsStepInRange : Step → Type 0
 IsStepInRange (Move target source result) = IsTarget target × IsRegister source × IsWordNumber result.word.0
 IsStepInRange (ClearTag target source result) = IsTarget target × IsRegister source × IsWordNumber result.word.0
+IsStepInRange (SetBounds target source length result) = IsTarget target × IsRegister source × IsNumber length × IsWordNumber result.word.0
+IsStepInRange (SetBoundsExact target source length result) = IsTarget target × IsRegister source × IsNumber length × IsWordNumber result.word.0
+IsStepInRange (SetAddr target source address result) = IsTarget target × IsRegister source × IsNumber address × IsWordNumber result.word.0
+IsStepInRange (AndPerm target source mask result) = IsTarget target × IsRegister source × IsNumber mask × IsWordNumber result.word.0
+IsStepInRange (Seal target source authority result) = IsTarget target × IsRegister source × IsRegister authority × IsWordNumber result.word.0
+IsStepInRange (Unseal target source authority result) = IsTarget target × IsRegister source × IsRegister authority × IsWordNumber result.word.0
+IsStepInRange (LoadCap target authority offset result) = IsTarget target × IsRegister authority × IsOffset offset × IsWordNumber result.word.0
+IsStepInRange (StoreCap source authority offset) = IsRegister source × IsRegister authority × IsOffset offset
+IsStepInRange (Load authority offset size value) = IsRegister authority × IsOffset offset × IsDataSize size × IsDataValue size value
+IsStepInRange (Store authority offset size value) = IsRegister authority × IsOffset offset × IsDataSize size × IsDataValue size value
 
 -- the numbers of a line are such as a line has
 abbrev pub IsInRange : Line → Type 0

@@ -1,6 +1,9 @@
-//! The lines of a log of capability operations: their grammar, and where a line ends.
+//! The lines of a log of capability operations: their grammar, read and written, and where a line
+//! ends.
 //!
-//! Nothing here takes memory.
+//! A line is its words with a single space between each two. [`read_line`] answers the line that
+//! some bytes spell, [`write_line`] writes a line's one spelling, and [`front`] finds the line that
+//! some bytes begin with. Nothing here takes memory.
 #![tactic(auto)]
 
 mod fronts;
@@ -9,8 +12,10 @@ mod lines;
 mod operands;
 mod parts;
 mod reading;
+mod writing;
 
 pub use crate::fronts::Front;
 pub use crate::fronts::finding::front;
 pub use crate::lines::{Line, Place, Step};
 pub use crate::reading::{one_line, read_line};
+pub use crate::writing::{write_line, write_place};

@@ -5,10 +5,10 @@ ghost use Rattle.cap_log.specs.Lines.{Spells};
 ghost use Rattle.cap_log.specs.declared.lines.Line.{Line};
 
 use crate::heads::Head;
-use crate::heads::finding::read_head;
-use crate::lines::{Line, Step};
-use crate::operands::{read_copy, read_root};
-use crate::parts::{read_decimal, split_word};
+use crate::lines::Line;
+use crate::operands::read_operands;
+use crate::parts::Part;
+use crate::parts::cutting::split_word;
 
 /// Reads a line from its bytes, without its line feed: the line that they spell, or `None` where
 /// they spell none.
@@ -17,39 +17,8 @@ pub fn read_line(bytes: &[u8]) -> Option<Line>
     ensures none { IfNone result ((line : Line) → Spells bytes.now line → ⊥) }
 {
     let (word, rest) = split_word(bytes)?;
-    match read_head(word)? {
-        Head::Version => {
-            if rest == b"1".as_slice() {
-                Some(Line::Version)
-            } else {
-                None
-            }
-        }
-        Head::Root => {
-            let (place, word) = read_root(rest)?;
-            Some(Line::Root(place, word))
-        }
-        Head::Move => {
-            let (target, (source, result)) = read_copy(rest)?;
-            Some(Line::Step(Step::Move {
-                target,
-                source,
-                result,
-            }))
-        }
-        Head::ClearTag => {
-            let (target, (source, result)) = read_copy(rest)?;
-            Some(Line::Step(Step::ClearTag {
-                target,
-                source,
-                result,
-            }))
-        }
-        Head::End => {
-            let steps = read_decimal(rest)?;
-            Some(Line::End(steps))
-        }
-    }
+    let head = Head::read(word)?;
+    read_operands(head, rest)
 }
 
 /// No two lines share a spelling: bytes spell one line at most.

@@ -1,2 +1,4 @@
+pub mod Fields
+pub mod Memory
 pub mod Word
 pub mod Digits

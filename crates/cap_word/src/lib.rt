@@ -4,8 +4,14 @@
 //! A capability is a [`Word`] and one tag that stands outside it. Nothing here takes memory.
 #![tactic(auto)]
 
+mod fields;
+mod layout;
+mod memory;
 mod text;
 mod word;
 
+pub use crate::fields::Fields;
+pub use crate::layout::{join, split};
+pub use crate::memory::{from_memory, to_memory};
 pub use crate::text::{read_u64, read_word, word_text};
 pub use crate::word::{Cap, Word, null};

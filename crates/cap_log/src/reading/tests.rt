@@ -1,4 +1,4 @@
-//! Lines that are read, and texts that are no line.
+//! Lines that are read, each form at the ends of its ranges, and texts that are no line.
 
 use super::read_line;
 use crate::lines::{Line, Place, Step};
@@ -7,8 +7,22 @@ use std::process::Abort;
 
 const ALL: Word = Word(0xffff_1fff_fc01_8004_0000_0000_0000_0000);
 
+const RESULT: Cap = Cap {
+    tag: true,
+    word: ALL,
+};
+
+const NOTHING: Cap = Cap {
+    tag: false,
+    word: Word(0),
+};
+
 fn reads(rt: &impl Abort, bytes: &[u8], line: Line) {
     assert_eq!(rt; read_line(bytes), Some(line));
+}
+
+fn reads_step(rt: &impl Abort, bytes: &[u8], step: Step) {
+    reads(rt, bytes, Line::Step(step));
 }
 
 fn refuses(rt: &impl Abort, bytes: &[u8]) {
@@ -28,39 +42,166 @@ fn reads_versions_roots_and_ends(rt: HostRuntime) {
         b"root c31 ffffffffffffffffffffffffffffffff",
         Line::Root(Place::Register(31), Word(u128::MAX)),
     );
+    reads(
+        &rt,
+        b"root @0000000000000000 00000000000000000000000000000000",
+        Line::Root(Place::Granule(0), Word(0)),
+    );
+    reads(
+        &rt,
+        b"root @fffffffffffffff0 ffff1ffffc0180040000000000000000",
+        Line::Root(Place::Granule(0x0fff_ffff_ffff_ffff), ALL),
+    );
     reads(&rt, b"end 0", Line::End(0));
     reads(&rt, b"end 4294967295", Line::End(u32::MAX));
 }
 
 #[test]
-fn reads_moves(rt: HostRuntime) {
-    let result = Cap {
-        tag: true,
-        word: ALL,
-    };
-    let moved = Step::Move {
-        target: 2,
-        source: 31,
-        result,
-    };
-    reads(
+fn reads_register_steps(rt: HostRuntime) {
+    reads_step(
         &rt,
         b"move c2 c31 = 1 ffff1ffffc0180040000000000000000",
-        Line::Step(moved),
+        Step::Move {
+            target: 2,
+            source: 31,
+            result: RESULT,
+        },
     );
-    let result = Cap {
-        tag: false,
-        word: Word(0),
-    };
-    let cleared = Step::ClearTag {
-        target: 10,
-        source: 0,
-        result,
-    };
-    reads(
+    reads_step(
         &rt,
         b"cleartag c10 c0 = 0 00000000000000000000000000000000",
-        Line::Step(cleared),
+        Step::ClearTag {
+            target: 10,
+            source: 0,
+            result: NOTHING,
+        },
+    );
+    reads_step(
+        &rt,
+        b"seal c1 c0 c31 = 1 ffff1ffffc0180040000000000000000",
+        Step::Seal {
+            target: 1,
+            source: 0,
+            authority: 31,
+            result: RESULT,
+        },
+    );
+    reads_step(
+        &rt,
+        b"unseal c31 c31 c0 = 0 00000000000000000000000000000000",
+        Step::Unseal {
+            target: 31,
+            source: 31,
+            authority: 0,
+            result: NOTHING,
+        },
+    );
+}
+
+#[test]
+fn reads_number_steps(rt: HostRuntime) {
+    reads_step(
+        &rt,
+        b"setbounds c3 c2 0000000000000000 = 1 ffff1ffffc0180040000000000000000",
+        Step::SetBounds {
+            target: 3,
+            source: 2,
+            length: 0,
+            result: RESULT,
+        },
+    );
+    reads_step(
+        &rt,
+        b"setboundsexact c31 c31 ffffffffffffffff = 1 ffff1ffffc0180040000000000000000",
+        Step::SetBoundsExact {
+            target: 31,
+            source: 31,
+            length: u64::MAX,
+            result: RESULT,
+        },
+    );
+    reads_step(
+        &rt,
+        b"setaddr c2 c1 000000000003fffb = 0 00000000000000000000000000000000",
+        Step::SetAddr {
+            target: 2,
+            source: 1,
+            address: 0x3fffb,
+            result: NOTHING,
+        },
+    );
+    reads_step(
+        &rt,
+        b"andperm c4 c2 000000000007fffe = 1 ffff1ffffc0180040000000000000000",
+        Step::AndPerm {
+            target: 4,
+            source: 2,
+            mask: 0x7fffe,
+            result: RESULT,
+        },
+    );
+}
+
+#[test]
+fn reads_accesses(rt: HostRuntime) {
+    reads_step(
+        &rt,
+        b"lc c3 c1 0 = 1 ffff1ffffc0180040000000000000000",
+        Step::LoadCap {
+            target: 3,
+            authority: 1,
+            offset: 0,
+            result: RESULT,
+        },
+    );
+    reads_step(
+        &rt,
+        b"sc c0 c31 -2048",
+        Step::StoreCap {
+            source: 0,
+            authority: 31,
+            offset: -2048,
+        },
+    );
+    reads_step(
+        &rt,
+        b"load c1 -8 8 = ffffffffffffffff",
+        Step::Load {
+            authority: 1,
+            offset: -8,
+            size: 8,
+            value: u64::MAX,
+        },
+    );
+    reads_step(
+        &rt,
+        b"load c1 10 2 = 1234",
+        Step::Load {
+            authority: 1,
+            offset: 10,
+            size: 2,
+            value: 0x1234,
+        },
+    );
+    reads_step(
+        &rt,
+        b"store c1 2047 1 ff",
+        Step::Store {
+            authority: 1,
+            offset: 2047,
+            size: 1,
+            value: 0xff,
+        },
+    );
+    reads_step(
+        &rt,
+        b"store c1 8 4 12345678",
+        Step::Store {
+            authority: 1,
+            offset: 8,
+            size: 4,
+            value: 0x1234_5678,
+        },
     );
 }
 
@@ -74,6 +215,10 @@ fn refuses_other_numbers(rt: HostRuntime) {
     refuses(&rt, b"end");
     refuses(&rt, b"capcheck 2");
     refuses(&rt, b"root c0 ffff1ffffc0180040000000000000000");
+    refuses(
+        &rt,
+        b"root @0000000000000008 ffff1ffffc0180040000000000000000",
+    );
 }
 
 #[test]
@@ -86,4 +231,17 @@ fn refuses_other_moves(rt: HostRuntime) {
     refuses(&rt, b"move c1 c2 = 2 ffff1ffffc0180040000000000000000");
     refuses(&rt, b"move c1 c2 = 1 ffff1ffffc0180040000000000000000 ");
     refuses(&rt, b"Move c1 c2 = 1 ffff1ffffc0180040000000000000000");
+}
+
+#[test]
+fn refuses_other_accesses(rt: HostRuntime) {
+    refuses(&rt, b"load c1 -0 1 = 00");
+    refuses(&rt, b"sc c1 c1 2048");
+    refuses(&rt, b"sc c1 c1 -2049");
+    refuses(&rt, b"sc c1 c1 +1");
+    refuses(&rt, b"sc c1  c1 0");
+    refuses(&rt, b"load c1 0 3 = 000000");
+    refuses(&rt, b"load c1 0 2 = 00");
+    refuses(&rt, b"store c1 0 1 FF");
+    refuses(&rt, b"store c1 0 1 = 00");
 }

@@ -1,0 +1,14 @@
+pub mod Residues
+pub mod Windows
+pub mod Powers
+pub mod Mantissas
+pub mod Decoded
+pub mod Units
+pub mod LeastExponents
+pub mod Roundings
+pub mod BoundedWords
+pub mod RoundedWords
+pub mod SameFields
+pub mod Keeping
+pub mod LeastRounding
+pub mod ExactLengths

@@ -1,0 +1,8 @@
+use Rattle.cap_bounds.proofs.Decoded.{AreBounds-exists, AreBounds-unique}
+use Rattle.cap_bounds.proofs.decoding.bounds_are_unique.Goals as goal
+
+pub returns-clause-exists : goal.returns-clause-exists
+returns-clause-exists c = AreBounds-exists c.args.word.0
+
+pub returns-clause-unique : goal.returns-clause-unique
+returns-clause-unique c = AreBounds-unique c.args.word.0

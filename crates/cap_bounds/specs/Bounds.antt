@@ -1,0 +1,98 @@
+-- How the bounds of a word are decoded (UCAM-CL-TR-987, the section on CHERI Concentrate bounds; Sail
+-- CHERI-RISC-V: `getCapBoundsBits`). Words are numbers below 2 ^ 128, and so are defined here by number.
+--
+-- A window may begin below 0, and so may what lies in it. All of these are given 2 ^ 66 higher, where
+-- they are natural numbers: 2 ^ 66 is a multiple of every window's size, of 2 ^ 65 and of 2 ^ 64.
+use Rattle.std.specs.Prelude.{◌≡◌, ℕ, ◌+◌, ◌-◌, ◌*◌, ◌/◌, ◌%◌, ◌^◌, ◌<◌, ◌≤◌, min, Bool, nat_le, if◌then◌else◌}
+use Rattle.cap_word.specs.Fields.{bit_of, ie_of, e_of, b_of, t_of, address_of}
+
+-- x is the number of low .. low + size - 1 that is congruent to value modulo size (this profile's own)
+pub record IsResidue (low size value x : ℕ) : Type 0 where
+  pub from : low ≤ x
+  pub below : x < low + size
+  pub congruent : x % size ≡ value % size
+
+-- how far T lies above B, modulo 2 ^ 14: the length in units (this profile's own)
+abbrev pub span_of : ℕ → ℕ → ℕ
+span_of b t = (t + 2 ^ 14 - b) % 2 ^ 14
+
+-- t is the mantissa T: 14 bits, of which the word has the low twelve, and its span is below 4096
+-- without IE, and in 4096 .. 8191 with it (the two bits that Sail's `capBitsToCapability` rebuilds)
+pub record IsMantissa (b low : ℕ) (ie : Bool) (t : ℕ) : Type 0 where
+  pub fits : t < 2 ^ 14
+  pub low_bits : t % 2 ^ 12 ≡ low
+  pub span_from : 2 ^ 12 * bit_of ie ≤ span_of b t
+  pub span_below : span_of b t < 2 ^ 12 * bit_of ie + 2 ^ 12
+
+-- the span, from B, the low twelve bits of T and IE, in closed form
+abbrev pub span_at : ℕ → ℕ → Bool → ℕ
+span_at b low ie = 2 ^ 12 * bit_of ie + (low + 2 ^ 14 - b) % 2 ^ 12
+
+-- the mantissa T, from B, its low twelve bits and IE, in closed form
+unfoldable pub mantissa_of : ℕ → ℕ → Bool → ℕ
+mantissa_of b low ie = (b + span_at b low ie) % 2 ^ 14
+
+-- the exponent E of a word, cut at 52 (Sail CHERI-RISC-V: `cap_max_E`)
+abbrev pub exponent_of : ℕ → ℕ
+exponent_of w = min (e_of w) 52
+
+-- the unit of B and T: 2 ^ E
+abbrev pub unit_of : ℕ → ℕ
+unit_of w = 2 ^ exponent_of w
+
+-- the size of a word's window: 2 ^ (E + 14)
+abbrev pub window_size : ℕ → ℕ
+window_size w = 2 ^ (exponent_of w + 14)
+
+-- start begins the window of a word: the window holds the word's address, and begins at a number
+-- congruent to 2 ^ 11 units for each step of B's three high bits less one (UCAM-CL-TR-987, the
+-- representable region of CHERI Concentrate)
+pub record IsWindow (w start : ℕ) : Type 0 where
+  pub begins : start ≤ address_of w + 2 ^ 66
+  pub ends : address_of w + 2 ^ 66 < start + window_size w
+  pub aligned : start % window_size w ≡ (b_of w / 2 ^ 11 + 7) % 8 * 2 ^ 11 * unit_of w
+
+-- base and top are the bounds of a word. The raw bounds are the numbers of the window congruent to B
+-- and to T units. The base is cut to 64 bits; the top follows it within 2 ^ 64 or, from exponent 51
+-- on, is cut to 65 bits (the last two cuts are this profile's own)
+pub record AreBounds (w base top : ℕ) : Type 0 where
+  pub mantissa : ℕ
+  pub start : ℕ
+  pub raw_base : ℕ
+  pub raw_top : ℕ
+  pub mantissa_is : IsMantissa (b_of w) (t_of w) (ie_of w) mantissa
+  pub window : IsWindow w start
+  pub raw_base_is : IsResidue start (window_size w) (b_of w * unit_of w) raw_base
+  pub raw_top_is : IsResidue start (window_size w) (mantissa * unit_of w) raw_top
+  pub base_is : base ≡ raw_base % 2 ^ 64
+  pub near_top : exponent_of w ≤ 50 → IsResidue base (2 ^ 64) raw_top top
+  pub far_top : 51 ≤ exponent_of w → top ≡ raw_top % 2 ^ 65
+
+-- the raw base, from the exponent, B and the address, in closed form
+unfoldable pub raw_base_at : ℕ → ℕ → ℕ → ℕ
+raw_base_at e b address = (2 ^ 14 * (((address + 2 ^ 66) / 2 ^ (e + 11) + 1 - b / 2 ^ 11) / 8) + b) * 2 ^ e
+
+-- the top, from the exponent, the raw base and the length, in closed form
+unfoldable pub top_at : ℕ → ℕ → ℕ → ℕ
+top_at e raw_base length = if nat_le e 50 then raw_base % 2 ^ 64 + length else (raw_base + length) % 2 ^ 65
+
+-- the length of a word: the span of its mantissas in units (this profile's own)
+unfoldable pub length_of : ℕ → ℕ
+length_of w = span_of (b_of w) (mantissa_of (b_of w) (t_of w) (ie_of w)) * unit_of w
+
+-- the base of a word
+unfoldable pub base_of : ℕ → ℕ
+base_of w = raw_base_at (exponent_of w) (b_of w) (address_of w) % 2 ^ 64
+
+-- the top of a word
+unfoldable pub top_of : ℕ → ℕ
+top_of w = top_at (exponent_of w) (raw_base_at (exponent_of w) (b_of w) (address_of w)) (length_of w)
+
+-- a word is sound: its top is its base plus its length, and lies in the address space (this
+-- profile's own)
+abbrev pub IsSound : ℕ → Type 0
+IsSound w = (base_of w + length_of w ≡ top_of w) × (top_of w ≤ 2 ^ 64)
+
+-- the bounds of the first pair lie inside those of the second
+abbrev pub IsInside : ℕ → ℕ → ℕ → ℕ → Type 0
+IsInside base top outer_base outer_top = (outer_base ≤ base) × (top ≤ outer_top)

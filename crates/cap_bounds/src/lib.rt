@@ -1,0 +1,15 @@
+//! The bounds of a capability word: how they are decoded, which are sound, how a request is rounded to
+//! bounds that a word can have, and which addresses keep a word's bounds. Nothing here takes memory.
+#![tactic(auto)]
+
+mod decoding;
+mod lengths;
+#[cfg(test)]
+mod plain;
+mod range;
+mod rounding;
+
+pub use crate::decoding::{Interval, bounds, bounds_are_unique, mantissa, sound};
+pub use crate::lengths::{align_mask, least_law, round_length};
+pub use crate::range::{keeps_bounds, reach};
+pub use crate::rounding::{Rounded, round, with_bounds};

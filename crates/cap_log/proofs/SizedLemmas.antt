@@ -1,0 +1,149 @@
+-- Sizes and values behind them: what the readers' answers mean.
+use Rattle.std.proofs.Common.{◌≡◌, ℕ, zero, suc, ◌+◌, ◌*◌, ◌-◌, ◌/◌, ◌%◌, ◌<◌, ◌≤◌, ◌^◌, List, [], ◌∷◌, ◌++◌, length, take, drop, replicate, sym, ap, subst, ◌∙◌, inl, inr, arith, decimal}
+use Rattle.std.proofs.Math.Nat as nat
+use Rattle.std.specs.Char.{digit_value}
+use borrow.Rule.Slice.PartMut.{put_mid}
+use Rattle.std.proofs.lemmas.List.{append-nil, drop_all, drop_at, length-append, length-drop, length-replicate, take-replicate, take_all}
+use Rattle.std.proofs.lemmas.Fmt.{decimal_injective}
+use Rattle.cap_word.specs.Digits.{hex_digit, hex_digits}
+use Rattle.cap_word.proofs.DigitLemmas.{length-hex_digits}
+use Rattle.cap_log.specs.Lines.{IsDataSize, IsDataValue}
+use Rattle.cap_log.specs.Parts.{HasNoSpace, IsCutAt, IsSized, Writes, loaded_spelling, stored_spelling}
+use Rattle.cap_log.proofs.Cuts.{no_cut, same_word}
+use Rattle.cap_log.proofs.HexText.{digit_value-hex_digit, pow_256}
+use Rattle.cap_log.proofs.WriteLemmas.{length-Writes}
+use Rattle.cap_log.proofs.PartLemmas.{size-small, size-spaceless}
+
+-- a number of another size
+pub no_size : (m n : ℕ) → m < 2 ^ 32 → (m ≡ 1 → ⊥) → (m ≡ 2 → ⊥) → (m ≡ 4 → ⊥) → (m ≡ 8 → ⊥) → IsDataSize n → decimal m ≡ decimal n → ⊥
+no_size m n small one two four eight fits e =
+    let same = decimal_injective m n (omega arith) (omega (arith, size-small n fits)) e in
+    sizes m n same one two four eight fits
+  where
+    sizes : (m n : ℕ) → m ≡ n → (m ≡ 1 → ⊥) → (m ≡ 2 → ⊥) → (m ≡ 4 → ⊥) → (m ≡ 8 → ⊥) → IsDataSize n → ⊥
+    sizes m n same one two four eight (inl e) = one (same ∙ e)
+    sizes m n same one two four eight (inr (inl e)) = two (same ∙ e)
+    sizes m n same one two four eight (inr (inr (inl e))) = four (same ∙ e)
+    sizes m n same one two four eight (inr (inr (inr e))) = eight (same ∙ e)
+
+-- bytes without a space are no size and value
+pub no_stored : (bytes : List ℕ) → HasNoSpace bytes → (size value : ℕ) → bytes ≡ stored_spelling size value → ⊥
+no_stored bytes lacks size value e = no_cut 32 bytes (decimal size) (hex_digits (2 * size) value) lacks e
+
+pub no_loaded : (bytes : List ℕ) → HasNoSpace bytes → (size value : ℕ) → bytes ≡ loaded_spelling size value → ⊥
+no_loaded bytes lacks size value e = no_cut 32 bytes (decimal size) (61 ∷ 32 ∷ hex_digits (2 * size) value) lacks e
+
+-- what stands before and behind the space
+pub stored_parts : {bytes word rest : List ℕ} → IsCutAt bytes word rest → (size value : ℕ) → IsSized size value → bytes ≡ stored_spelling size value → (word ≡ decimal size) × (rest ≡ hex_digits (2 * size) value)
+stored_parts cut size value fits e = same_word cut (decimal size) (hex_digits (2 * size) value) (size-spaceless size fits.0) e
+
+pub loaded_parts : {bytes word rest : List ℕ} → IsCutAt bytes word rest → (size value : ℕ) → IsSized size value → bytes ≡ loaded_spelling size value → (word ≡ decimal size) × (rest ≡ 61 ∷ 32 ∷ hex_digits (2 * size) value)
+loaded_parts cut size value fits e = same_word cut (decimal size) (61 ∷ 32 ∷ hex_digits (2 * size) value) (size-spaceless size fits.0) e
+
+-- no value of the size that was read
+pub no_value : (m : ℕ) (word digits : List ℕ) → IsDataSize m × (word ≡ decimal m) → ((v : ℕ) → IsDataValue m v → digits ≡ hex_digits (2 * m) v → ⊥)
+    → (size value : ℕ) → IsSized size value → word ≡ decimal size → digits ≡ hex_digits (2 * size) value → ⊥
+no_value m word digits read none size value fits first second =
+    let small = size-small m read.0 in
+    let small' = size-small size fits.0 in
+    let same = decimal_injective m size (omega arith) (omega arith) (sym read.1 ∙ first) in
+    subst (λ (k : ℕ). (v : ℕ) → IsDataValue k v → digits ≡ hex_digits (2 * k) v → ⊥) same none value fits.1 second
+
+-- digits in front of others
+pub drop-hex_digits : (j k n : ℕ) → drop j (hex_digits (j + k) n) ≡ hex_digits k n
+unfolding hex_digits
+drop-hex_digits zero k n = ap (λ (i : ℕ). hex_digits i n) (omega arith)
+drop-hex_digits (suc j) k n =
+    let more : suc j + k ≡ suc (j + k) = omega arith in
+    rw more (drop-hex_digits j k n)
+
+-- a small number has zeros in front
+pub hex_digits-zeros : (j k n : ℕ) → n < 16 ^ k → hex_digits (j + k) n ≡ replicate j 48 ++ hex_digits k n
+unfolding hex_digits
+hex_digits-zeros zero k n small = ap (λ (i : ℕ). hex_digits i n) (omega arith)
+hex_digits-zeros (suc j) k n small =
+    let more : suc j + k ≡ suc (j + k) = omega arith in
+    let power : 16 ^ k ≤ 16 ^ (j + k) = nat.pow-le-pow_right (omega arith) (omega arith) in
+    let none : n / 16 ^ (j + k) ≡ 0 = nat.div-eq_of_lt (omega arith) in
+    let rest = hex_digits-zeros j k n small in
+    ap (λ (i : ℕ). hex_digits i n) more ∙ (ap (λ (q : ℕ). hex_digit (q % 16) ∷ hex_digits (j + k) n) none ∙ ap (λ (ds : List ℕ). 48 ∷ ds) rest)
+
+-- zeros in front are a small number's
+pub zeros_small : (j k n : ℕ) (digits : List ℕ) → n < 16 ^ (j + k) → replicate j 48 ++ digits ≡ hex_digits (j + k) n → n < 16 ^ k
+unfolding hex_digits
+zeros_small zero k n digits small e = let same : 0 + k ≡ k = omega arith in subst (λ (i : ℕ). n < 16 ^ i) same small
+zeros_small (suc j) k n digits small e =
+    let more : suc j + k ≡ suc (j + k) = omega arith in
+    let whole : 48 ∷ (replicate j 48 ++ digits) ≡ hex_digit (n / 16 ^ (j + k) % 16) ∷ hex_digits (j + k) n = e ∙ ap (λ (i : ℕ). hex_digits i n) more in
+    let first : 48 ≡ hex_digit (n / 16 ^ (j + k) % 16) = cc in
+    let rest : replicate j 48 ++ digits ≡ hex_digits (j + k) n = cc in
+    let digit = sym (digit_value-hex_digit (n / 16 ^ (j + k) % 16) (omega arith)) ∙ sym (ap digit_value first) in
+    let bound : n < 16 * 16 ^ (j + k) = subst (λ (i : ℕ). n < i) (ap (λ (i : ℕ). 16 ^ i) more ∙ nat.pow-succ' 16 (j + k)) small in
+    let power : 0 < 16 ^ (j + k) = nat.one-le-pow (j + k) 16 (omega arith) in
+    let quotient = (nat.div-lt_iff_lt-mul power).1 bound in
+    let none : n / 16 ^ (j + k) ≡ 0 = omega (arith, quotient, digit) in
+    let within : n < 0 * 16 ^ (j + k) + 16 ^ (j + k) = subst (λ (q : ℕ). n < q * 16 ^ (j + k) + 16 ^ (j + k)) none (nat.lt-div-mul-add power) in
+    let low : n < 16 ^ (j + k) = omega arith in
+    zeros_small j k n digits low rest
+
+-- sixteen zeros overwritten from the end
+pub zeros_and : (n : ℕ) (text written : List ℕ) → n ≤ 16 → length text ≡ n → written ≡ text → put_mid (16 - n) (16 - (16 - n)) (replicate 16 48) written ≡ replicate (16 - n) 48 ++ text
+zeros_and n text written small long same =
+    let front : take (16 - n) (replicate 16 48) ≡ replicate (16 - n) 48 = take-replicate (16 - n) 16 48 (omega arith) in
+    let back : drop (16 - (16 - n)) (drop (16 - n) (replicate 16 48)) ≡ [] =
+    drop_all (16 - (16 - n)) (drop (16 - n) (replicate 16 48)) (omega (arith, length-drop {A = ℕ} (16 - n) (replicate 16 48), length-replicate {A = ℕ} 16 48)) in
+    ap (λ (xs : List ℕ). xs ++ (written ++ drop (16 - (16 - n)) (drop (16 - n) (replicate 16 48)))) front
+    ∙ ap (λ (xs : List ℕ). replicate (16 - n) 48 ++ (written ++ xs)) back
+    ∙ ap (λ (xs : List ℕ). replicate (16 - n) 48 ++ xs) (append-nil written ∙ same)
+
+places : (size : ℕ) → IsDataSize size → (16 - 2 * size) + 2 * size ≡ 16
+places size fits = omega (arith, size-small size fits)
+
+-- the number of digits behind zeros is a value of their size
+pub value_read : (size : ℕ) → IsDataSize size → (digits text : List ℕ) (n : ℕ) → length digits ≡ 2 * size → text ≡ replicate (16 - length digits) 48 ++ digits
+    → n < 2 ^ 64 → text ≡ hex_digits 16 n → IsDataValue size n × (digits ≡ hex_digits (2 * size) n)
+value_read size fits digits text n long zeros small read =
+    let k = 2 * size in
+    let all = places size fits in
+    let whole : replicate (16 - 2 * size) 48 ++ digits ≡ hex_digits ((16 - 2 * size) + 2 * size) n =
+    ap (λ (i : ℕ). replicate (16 - i) 48 ++ digits) (sym long) ∙ (sym zeros ∙ read) ∙ ap (λ (i : ℕ). hex_digits i n) (sym all) in
+    let bound : n < 16 ^ ((16 - 2 * size) + 2 * size) = subst (λ (i : ℕ). n < 16 ^ i) (sym all) small in
+    let value = zeros_small (16 - 2 * size) (2 * size) n digits bound whole in
+    let behind = ap (λ (bs : List ℕ). drop (16 - 2 * size) bs) whole in (
+      subst (λ (p : ℕ). n < p) (sym (pow_256 size)) value,
+      sym (drop_at (replicate (16 - 2 * size) 48) digits (16 - 2 * size) (length-replicate (16 - 2 * size) 48)) ∙ behind ∙ drop-hex_digits (16 - 2 * size) (2 * size) n,
+    )
+
+-- where they are no number's, they are no value's
+pub no_value_read : (size : ℕ) → IsDataSize size → (digits text : List ℕ) → length digits ≡ 2 * size → text ≡ replicate (16 - length digits) 48 ++ digits
+    → ((n : ℕ) → n < 2 ^ 64 → text ≡ hex_digits 16 n → ⊥) → (v : ℕ) → IsDataValue size v → digits ≡ hex_digits (2 * size) v → ⊥
+no_value_read size fits digits text long zeros none v small e =
+    let all = places size fits in
+    let value : v < 16 ^ (2 * size) = subst (λ (p : ℕ). v < p) (pow_256 size) small in
+    let bound : 2 * size ≤ 16 = omega (arith, size-small size fits) in
+    let power : 16 ^ (2 * size) ≤ 16 ^ 16 = nat.pow-le-pow_right (omega arith) bound in
+    let whole = hex_digits-zeros (16 - 2 * size) (2 * size) v value in
+    none v (omega arith)
+    (zeros ∙ (ap (λ (i : ℕ). replicate (16 - i) 48 ++ digits) long ∙ ap (λ (bs : List ℕ). replicate (16 - 2 * size) 48 ++ bs) e) ∙ sym whole ∙ ap (λ (i : ℕ). hex_digits i v) all)
+
+-- the last digits of a number's 32
+pub last_digits : (count n : ℕ) (text : List ℕ) → count ≤ 32 → text ≡ hex_digits 32 n → take (32 - (32 - count)) (drop (32 - count) text) ≡ hex_digits count n
+last_digits count n text few e =
+    let all : (32 - count) + count ≡ 32 = omega arith in
+    let digits : drop (32 - count) text ≡ hex_digits count n =
+    ap (λ (bs : List ℕ). drop (32 - count) bs) (e ∙ ap (λ (i : ℕ). hex_digits i n) (sym all)) ∙ drop-hex_digits (32 - count) count n in
+    let long : length (drop (32 - count) text) ≤ 32 - (32 - count) = omega (arith, ap length digits, length-hex_digits count n) in
+    take_all (32 - (32 - count)) (drop (32 - count) text) long ∙ digits
+
+-- room for the digits behind a size
+pub sized_room : (at i j size value : ℕ) (gap old first second : List ℕ) → Writes at (decimal size) old first i → Writes i gap first second j
+    → at + length (decimal size ++ (gap ++ hex_digits (2 * size) value)) ≤ length old → j + 2 * size ≤ length second
+sized_room at i j size value gap old first second one two room =
+    let ends = one.ends in
+    let ends' = two.ends in
+    let long = length-append (decimal size) (gap ++ hex_digits (2 * size) value) in
+    let long' = length-append gap (hex_digits (2 * size) value) in
+    let digits = length-hex_digits (2 * size) value in
+    let same = length-Writes at i (decimal size) old first one (omega arith) in
+    let same' = length-Writes i j gap first second two (omega arith) in
+    omega arith

@@ -1,0 +1,10 @@
+use Rattle.std.proofs.Common.{List, ℕ, ap, subst, ◌∙◌}
+use Rattle.cap_word.specs.Digits.{hex_digits}
+use Rattle.cap_log.specs.Parts.{Writes}
+use Rattle.cap_log.proofs.SizedLemmas.{last_digits}
+use Rattle.cap_log.proofs.parts.hexadecimals.write_digits.Goals as goal
+
+pub returns : goal.returns
+returns c =
+    let text = c.word_text-text.ensures ∙ ap (λ (n : ℕ). hex_digits 32 n) c.from.ensures in
+    subst (λ (bs : List ℕ). Writes c.args.at bs c.args.buffer.now c.put.new.buffer c.put.result) (last_digits c.args.count c.args.number _ c.requires.few text) c.put.ensures

@@ -1,0 +1,49 @@
+-- What a reader of a part of a line answers and a writer writes, and the parts themselves. All of it is this profile's own.
+use Rattle.std.specs.Prelude.{◌≡◌, ◌≢◌, ℕ, ◌+◌, ◌*◌, List, [], ◌∷◌, ◌++◌, length, take, drop, Option, Some, None, All, codes, decimal}
+use Rattle.std.specs.List.{join_with_byte}
+use Rattle.cap_word.specs.Digits.{hex_digits}
+use Rattle.cap_word.specs.declared.word.Cap.{Cap}
+use Rattle.cap_log.specs.Lines.{IsDataSize, IsDataValue, result_words}
+
+-- the value in range whose spelling the bytes are, or none where they are no such value's
+abbrev pub Reads : {A : Type 0} → (A → Type 0) → (A → List ℕ) → List ℕ → Option A → Type 0
+Reads {A} Fits spelled bytes None = (a : A) → Fits a → bytes ≡ spelled a → ⊥
+Reads {A} Fits spelled bytes (Some a) = Fits a × (bytes ≡ spelled a)
+
+-- no byte is a space
+abbrev pub HasNoSpace : List ℕ → Type 0
+HasNoSpace bytes = All (λ b. b ≢ 32) bytes
+
+-- two parts, of which the first is one word, with a space between them
+abbrev pub FitsBoth : {A B : Type 0} → (A → Type 0) → (A → List ℕ) → (B → Type 0) → A × B → Type 0
+FitsBoth P first Q pair = P pair.0 × HasNoSpace (first pair.0) × Q pair.1
+
+-- their spelling: the first, a space, the second
+abbrev pub spaced : {A B : Type 0} → (A → List ℕ) → (B → List ℕ) → A × B → List ℕ
+spaced first second pair = first pair.0 ++ 32 ∷ second pair.1
+
+-- the bytes are a word, a space and a rest
+pub record IsCutAt (bytes word rest : List ℕ) : Type 0 where
+  pub whole : bytes ≡ word ++ 32 ∷ rest
+  pub one : HasNoSpace word
+
+-- the result at the end of a step
+abbrev pub result_spelling : Cap → List ℕ
+result_spelling result = join_with_byte 32 (result_words result)
+
+-- a size and a value of so many bytes
+abbrev pub IsSized : ℕ → ℕ → Type 0
+IsSized size value = IsDataSize size × IsDataValue size value
+
+-- the end of a load: its size, an equals sign and its value
+abbrev pub loaded_spelling : ℕ → ℕ → List ℕ
+loaded_spelling size value = join_with_byte 32 (decimal size ∷ codes "=" ∷ hex_digits (2 * size) value ∷ [])
+
+-- the end of a store: its size and its value
+abbrev pub stored_spelling : ℕ → ℕ → List ℕ
+stored_spelling size value = join_with_byte 32 (decimal size ∷ hex_digits (2 * size) value ∷ [])
+
+-- new is old with the text written from a place on, up to an end
+pub record Writes (at : ℕ) (text old new : List ℕ) (end : ℕ) : Type 0 where
+  pub ends : end ≡ at + length text
+  pub whole : new ≡ take at old ++ (text ++ drop end old)

@@ -1,0 +1,48 @@
+//! Offsets of accesses, from -2048 to 2047.
+
+ghost use Rattle.std.specs.Fmt.{signed_decimal};
+ghost use Rattle.cap_log.specs.Lines.{IsOffset};
+
+use crate::parts::Part;
+use crate::parts::cutting::put;
+use crate::parts::decimals::read_decimal;
+use itoa::Buffer;
+
+/// The least number behind a minus sign.
+const LEAST_NEGATIVE: u32 = 1;
+
+/// The greatest number behind a minus sign.
+const GREATEST_NEGATIVE: u32 = 2048;
+
+/// The greatest number without one.
+const GREATEST: u32 = 2047;
+
+/// An offset: a decimal number, with a minus sign where it is below 0.
+#[derive(Clone, Copy)]
+pub struct Offset(pub i16);
+
+impl Part for Offset {
+    ghost fits = { λ offset. IsOffset offset.0 };
+
+    ghost spelled = { λ offset. signed_decimal offset.0 };
+
+    fn read(bytes: &[u8]) -> Option<Offset> {
+        if let Some(digits) = bytes.strip_prefix(b"-") {
+            let number = read_decimal(digits)?;
+            if number < LEAST_NEGATIVE || number > GREATEST_NEGATIVE {
+                return None;
+            }
+            return Some(Offset(-(number as i16)));
+        }
+        let number = read_decimal(bytes)?;
+        if number > GREATEST {
+            return None;
+        }
+        Some(Offset(number as i16))
+    }
+
+    fn write(&self, buffer: &mut [u8], at: usize) -> usize {
+        let mut digits = Buffer::new();
+        put(buffer, at, digits.format(self.0).as_bytes())
+    }
+}

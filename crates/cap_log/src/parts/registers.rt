@@ -1,0 +1,107 @@
+//! Registers, and the places of roots.
+
+ghost use Rattle.std.specs.Prelude.{◌+◌, ◌≤◌, length};
+ghost use Rattle.cap_log.specs.Lines.{IsPlace, IsRegister, IsTarget, place_spelling, register_spelling};
+ghost use Rattle.cap_log.specs.Parts.{Reads, Writes};
+
+use crate::lines::Place;
+use crate::parts::Part;
+use crate::parts::cutting::put;
+use crate::parts::decimals::{read_decimal, write_decimal};
+use crate::parts::hexadecimals::write_number;
+use cap_word::read_u64;
+
+/// A register that a step reads, `c0` to `c31`.
+#[derive(Clone, Copy)]
+pub struct Register(pub u8);
+
+impl Part for Register {
+    ghost fits = { λ register. IsRegister register.0 };
+
+    ghost spelled = { λ register. register_spelling register.0 };
+
+    fn read(bytes: &[u8]) -> Option<Register> {
+        let number = read_register(bytes)?;
+        Some(Register(number))
+    }
+
+    fn write(&self, buffer: &mut [u8], at: usize) -> usize {
+        write_register(buffer, at, self.0)
+    }
+}
+
+/// A register that a step writes, `c1` to `c31`.
+#[derive(Clone, Copy)]
+pub struct Target(pub u8);
+
+impl Part for Target {
+    ghost fits = { λ target. IsTarget target.0 };
+
+    ghost spelled = { λ target. register_spelling target.0 };
+
+    fn read(bytes: &[u8]) -> Option<Target> {
+        let number = read_target(bytes)?;
+        Some(Target(number))
+    }
+
+    fn write(&self, buffer: &mut [u8], at: usize) -> usize {
+        write_register(buffer, at, self.0)
+    }
+}
+
+impl Part for Place {
+    ghost fits = { IsPlace };
+
+    ghost spelled = { place_spelling };
+
+    fn read(bytes: &[u8]) -> Option<Place> {
+        if let Some(digits) = bytes.strip_prefix(b"@") {
+            let address = read_u64(digits)?;
+            if address % 16 == 0 {
+                return Some(Place::Granule(address / 16));
+            }
+            return None;
+        }
+        let number = read_target(bytes)?;
+        Some(Place::Register(number))
+    }
+
+    fn write(&self, buffer: &mut [u8], at: usize) -> usize {
+        match *self {
+            Place::Register(number) => write_register(buffer, at, number),
+            Place::Granule(number) => {
+                let next = put(buffer, at, b"@");
+                write_number(buffer, next, 16 * number)
+            }
+        }
+    }
+}
+
+// Reads a register, `c0` to `c31`.
+fn read_register(word: &[u8]) -> Option<u8>
+    ensures { Reads IsRegister register_spelling word.now result }
+{
+    let number = read_decimal(word.strip_prefix(b"c")?)?;
+    if number <= 31 {
+        Some(number as u8)
+    } else {
+        None
+    }
+}
+
+// Reads a register that a step writes, `c1` to `c31`.
+fn read_target(word: &[u8]) -> Option<u8>
+    ensures { Reads IsTarget register_spelling word.now result }
+{
+    let register = read_register(word)?;
+    if register == 0 { None } else { Some(register) }
+}
+
+// Writes a register's name.
+fn write_register(buffer: &mut [u8], at: usize, register: u8) -> usize
+    requires { at + length (register_spelling register) ≤ length buffer.old }
+    ensures { Writes at (register_spelling register) buffer.old buffer.new result }
+{
+    let next = put(buffer, at, b"c");
+    write_decimal(buffer, next, u32::from(register))
+}

@@ -1,0 +1,52 @@
+//! Words, and the results that steps record.
+
+ghost use Rattle.cap_word.specs.Digits.{hex_digits};
+ghost use Rattle.cap_log.specs.Lines.{IsWordNumber};
+ghost use Rattle.cap_log.specs.Parts.{result_spelling};
+
+use crate::parts::Part;
+use crate::parts::cutting::put;
+use cap_word::{Cap, Word, read_word, word_text};
+
+impl Part for Word {
+    ghost fits = { λ word. IsWordNumber word.0 };
+
+    ghost spelled = { λ word. hex_digits 32 word.0 };
+
+    fn read(bytes: &[u8]) -> Option<Word> {
+        read_word(bytes)
+    }
+
+    fn write(&self, buffer: &mut [u8], at: usize) -> usize {
+        put(buffer, at, &word_text(*self))
+    }
+}
+
+/// The result that a step records, at its end: `= `, a tag and a word.
+#[derive(Clone, Copy)]
+pub struct Recorded(pub Cap);
+
+impl Part for Recorded {
+    ghost fits = { λ recorded. IsWordNumber recorded.0.word.0 };
+
+    ghost spelled = { λ recorded. result_spelling recorded.0 };
+
+    fn read(bytes: &[u8]) -> Option<Recorded> {
+        if let Some(digits) = bytes.strip_prefix(b"= 1 ") {
+            let word = read_word(digits)?;
+            return Some(Recorded(Cap { tag: true, word }));
+        }
+        let word = read_word(bytes.strip_prefix(b"= 0 ")?)?;
+        Some(Recorded(Cap { tag: false, word }))
+    }
+
+    fn write(&self, buffer: &mut [u8], at: usize) -> usize {
+        if self.0.tag {
+            let digits = put(buffer, at, b"= 1 ");
+            put(buffer, digits, &word_text(self.0.word))
+        } else {
+            let digits = put(buffer, at, b"= 0 ");
+            put(buffer, digits, &word_text(self.0.word))
+        }
+    }
+}

@@ -1,0 +1,139 @@
+-- Each tagged capability of a run descends from one root, and lies within it; so does each access.
+use Rattle.std.proofs.Common.{◌≡◌, ◌≢◌, ℕ, ℤ, zero, suc, ◌+◌, ◌<◌, ◌≤◌, inl, inr, Bool, true, false, not, ◌&&◌, ◌==◌, ◌∷◌, [], List, length, take, refl, sym, ap, subst, ◌∙◌, arith, Option, Some, None, Contains, IsTrue, slice_get}
+use Rattle.std.specs.Bool.{if◌then◌else◌}
+use Rattle.std.specs.List.{AllByRecursion}
+use Rattle.std.proofs.lemmas.Bool.{false≢true}
+use Rattle.std.proofs.lemmas.Bool.Decides.{eqb_tells}
+use Rattle.std.proofs.lemmas.Option.{same_Some, none-some}
+use Rattle.cap_word.specs.declared.word.Word.{Word}
+use Rattle.cap_word.specs.declared.word.Cap.{Cap}
+use Rattle.cap_bounds.specs.Bounds.{base_of, top_of, IsSound}
+use Rattle.cap_log.specs.declared.lines.Step.{Step}
+use Rattle.cap_log.specs.declared.lines.Step.TheVariants.{Move, ClearTag, SetBounds, SetBoundsExact, SetAddr, AndPerm, Seal, Unseal, LoadCap, StoreCap, Load, Store}
+use Rattle.cap_log.specs.Lines.{IsStepInRange}
+use Rattle.cap_ops.specs.Tests.{first_of}
+use Rattle.cap_ops.specs.Authority.{IsWithin, StaysWithin}
+use Rattle.cap_ops.proofs.WithinLemmas.{IsWithin-refl, IsWithin-trans}
+use Rattle.cap_machine.specs.States.{State, DeclaredRoot, key_of, tagged, put, start}
+use Rattle.cap_machine.specs.Steps.{Leads, operation_tests, written, parent_place, state_with}
+use Rattle.cap_machine.specs.Runs.{IsRun, state_at, parent_in, parent_of, Descends, DescendsFrom, AuthorityNeverGrows, AreSound}
+use Rattle.cap_machine.proofs.StepLemmas.{WritesWithin, writes_within}
+
+-- each tagged capability of a state is sound
+abbrev pub IsSoundState : State → Type 0
+IsSoundState state = (key : ℕ) → (state key).tag ≡ true → IsSound (state key).word.0
+
+-- what a tagged place holds after a write lies within what the place before the write held that it comes from
+pub record ComesFrom (old new : State) (write : Option (ℕ × Cap)) (parent key from : ℕ) : Type 0 where
+  pub by : parent_in write parent key ≡ Some from
+  pub tag : (old from).tag ≡ true
+  pub within : IsWithin (new key).word.0 (old from).word.0
+  pub sound : IsSound (new key).word.0
+
+came : (old : State) (write : Option (ℕ × Cap)) (parent key : ℕ) → IsSoundState old → WritesWithin old parent write
+    → (state_with old write key).tag ≡ true → (from : ℕ) × ComesFrom old (state_with old write) write parent key from
+came old None parent key sound within held = (key, record { by = refl; tag = held; within = IsWithin-refl (old key).word.0; sound = sound key held })
+came old (Some target) parent key sound within held =
+    let there = λ (hit : Bool). if hit then target.1 else old key in
+    let from = λ (hit : Bool). if hit then (if target.1.tag then Some parent else None) else Some key in
+    elim (eqb_tells target.0 key) [
+      | inl same ↦
+          let held_there = ap (λ (cap : Cap). cap.tag) (sym (ap there same.0)) ∙ held in
+          let tagged_from = within.from_tagged held_there in
+          let sound_from = sound parent tagged_from in (
+            parent,
+            record {
+              by = ap from same.0 ∙ ap (λ (b : Bool). if b then Some parent else None) held_there;
+              tag = tagged_from;
+              within = subst (λ (cap : Cap). IsWithin cap.word.0 (old parent).word.0) (sym (ap there same.0)) (within.within held_there sound_from);
+              sound = subst (λ (cap : Cap). IsSound cap.word.0) (sym (ap there same.0)) (within.sound held_there sound_from);
+            },
+          )
+      | inr unlike ↦
+          let held_here = ap (λ (cap : Cap). cap.tag) (sym (ap there unlike.0)) ∙ held in (
+            key,
+            record {
+              by = ap from unlike.0;
+              tag = held_here;
+              within = subst (λ (cap : Cap). IsWithin cap.word.0 (old key).word.0) (sym (ap there unlike.0)) (IsWithin-refl (old key).word.0);
+              sound = subst (λ (cap : Cap). IsSound cap.word.0) (sym (ap there unlike.0)) (sound key held_here);
+            },
+          )
+    ]
+
+pub one_back : (old : State) (step : Step) (new : State) (key : ℕ) → IsStepInRange step → IsSoundState old → Leads old step new → (new key).tag ≡ true
+    → (from : ℕ) × ComesFrom old new (written old step) (parent_place old step) key from
+one_back old step new key range sound leads held =
+    subst (λ (s : State). (from : ℕ) × ComesFrom old s (written old step) (parent_place old step) key from) (sym leads.after)
+    (came old (written old step) (parent_place old step) key sound (writes_within old step range leads.allowed)
+    (ap (λ (s : State). (s key).tag) (sym leads.after) ∙ held))
+
+-- a step keeps each tagged capability sound
+pub sound_after : (old : State) (step : Step) (new : State) → IsStepInRange step → IsSoundState old → Leads old step new → IsSoundState new
+sound_after old step new range sound leads key held = let from = one_back old step new key range sound leads held in from.1.sound
+
+-- the chain of parents of a tagged place leads back to a tagged place that it lies within
+pub record ChainsTo (state : State) (steps : List Step) (states : List State) (cap : Cap) (key from : ℕ) : Type 0 where
+  pub descends : Descends state steps states key from
+  pub tag : (state from).tag ≡ true
+  pub within : IsWithin cap.word.0 (state from).word.0
+
+pub back : (state : State) (steps : List Step) (states : List State) (moment key : ℕ) → AllByRecursion IsStepInRange steps → IsSoundState state
+    → IsRun state steps states → moment ≤ length steps → (state_at state states moment key).tag ≡ true
+    → (from : ℕ) × ChainsTo state (take moment steps) (take moment states) (state_at state states moment key) key from
+back state steps states zero key ranges sound run within held = (key, record { descends = refl; tag = held; within = IsWithin-refl (state key).word.0 })
+back state [] states (suc moment) key ranges sound run within held = absurd (omega arith)
+back state (step ∷ steps) [] (suc moment) key ranges sound run within held = absurd run
+back state (step ∷ steps) (next ∷ states) (suc moment) key ranges sound run within held =
+    let later = back next steps states moment key ranges.1 (sound_after state step next ranges.0 sound run.0) run.1 (omega arith) held in
+    let earlier = one_back state step next later.0 ranges.0 sound run.0 later.1.tag in (
+      earlier.0,
+      record {
+        descends = (later.0, later.1.descends, earlier.1.by);
+        tag = earlier.1.tag;
+        within = IsWithin-trans _ _ _ later.1.within earlier.1.within;
+      },
+    )
+
+-- there is one chain
+pub one_chain : (state : State) (steps : List Step) (states : List State) (key a b : ℕ) → Descends state steps states key a → Descends state steps states key b → a ≡ b
+one_chain state [] states key a b h k = sym h ∙ k
+one_chain state (step ∷ steps) [] key a b h k = absurd h
+one_chain state (step ∷ steps) (next ∷ states) key a b h k =
+    let same = one_chain next steps states key h.0 k.0 h.1 k.1 in
+    same_Some a b (sym h.2 ∙ ap (parent_of state step) same ∙ k.2)
+
+-- what the start has a tag at is a root
+pub rooted_at : (roots : List DeclaredRoot) (key : ℕ) → (start roots key).tag ≡ true
+    → (root : DeclaredRoot) × Contains roots root × (key_of root.place ≡ key) × (start roots key ≡ tagged root.word)
+rooted_at [] key held = absurd (false≢true held)
+rooted_at (root ∷ roots) key held =
+    let there = λ (hit : Bool). if hit then tagged root.word else start roots key in
+    elim (eqb_tells (key_of root.place) key) [
+      | inl same ↦ (root, (0, omega arith, refl), same.1, ap there same.0)
+      | inr unlike ↦
+          let rest = rooted_at roots key (ap (λ (cap : Cap). cap.tag) (sym (ap there unlike.0)) ∙ held) in
+          let place = rest.1 in
+          (rest.0, (suc place.0, omega (arith, place.1), place.2), rest.2, ap there unlike.0 ∙ rest.3)
+    ]
+
+pub start_sound : (roots : List DeclaredRoot) → AreSound roots → IsSoundState (start roots)
+start_sound roots sound key held =
+    let root = rooted_at roots key held in
+    subst (λ (cap : Cap). IsSound cap.word.0) (sym root.3) (sound root.0 root.1)
+
+-- a tagged place at a moment of a run descends from one root, and lies within it
+pub one_root : (roots : List DeclaredRoot) (steps : List Step) (states : List State) → AreSound roots → AllByRecursion IsStepInRange steps → IsRun (start roots) steps states
+    → AuthorityNeverGrows roots steps states
+one_root roots steps states sound ranges run moment within key held =
+    let chain = back (start roots) steps states moment key ranges (start_sound roots sound) run within held in
+    let root = rooted_at roots chain.0 chain.1.tag in
+    let leads_there = subst (λ (from : ℕ). Descends (start roots) (take moment steps) (take moment states) key from) (sym root.2) chain.1.descends in (
+      root.0,
+      record {
+        declared = root.1;
+        descends = leads_there;
+        only = λ from other. one_chain (start roots) (take moment steps) (take moment states) key from (key_of root.0.place) other leads_there;
+      },
+      subst (λ (cap : Cap). IsWithin (state_at (start roots) states moment key).word.0 cap.word.0) root.3 chain.1.within,
+    )

@@ -1,0 +1,80 @@
+-- Granules as capabilities and as numbers.
+use Rattle.std.proofs.Common.{◌≡◌, ℕ, zero, suc, ◌+◌, ◌*◌, ◌/◌, ◌%◌, ◌^◌, ◌<◌, ◌≤◌, ◌⊎◌, inl, inr, Bool, true, false, List, [], ◌∷◌, length, drop, take, get_or, refl, sym, ap, ◌∙◌, arith, Option, Some, None, lit<, lit≤}
+use Rattle.std.proofs.Math.Nat.{div-div-eq-div-mul, pow-suc, pow-zero, pow-succ', div-one, zero-div}
+use Rattle.std.proofs.lemmas.List.{at_drop_more, at_drop_all}
+use Rattle.std.proofs.lemmas.Nat.{pow-add}
+use Rattle.std.specs.Prelude.{unwrap_or, replicate}
+use Rattle.std.specs.FinMap as map
+use Rattle.std.specs.Int.{byte_at, bytes_low_first, to_le_bytes, w64}
+use Rattle.cap_word.specs.Word.{null_word}
+use Rattle.cap_word.specs.Memory.{number_of, stored_word, low_bytes}
+use Rattle.cap_word.specs.declared.word.Cap.{Cap}
+use Rattle.cap_log.specs.Lines.{IsDataSize}
+use Rattle.tagmem.specs.Granules.{Granules, Entry, blank}
+use Rattle.cap_machine.specs.States.{untagged_null}
+use Rattle.cap_machine.specs.Helds.{granule_cap}
+use Rattle.cap_machine.specs.Values.{number_at}
+
+byte_at_is : (i n : ℕ) → byte_at i n ≡ n / 256 ^ i % 256
+byte_at_is zero n = ap (λ (x : ℕ). x % 256) (sym (ap (λ (x : ℕ). n / x) (pow-zero 256) ∙ div-one n))
+byte_at_is (suc i) n = refl
+
+zero_word : stored_word (replicate 16 0) ≡ null_word
+unfolding number_of
+zero_word = refl
+
+cap_of : Entry → Cap
+cap_of entry = record { tag = entry.0; word = record { 0 = stored_word entry.1 } }
+
+-- a granule that was never put holds NULL without a tag
+pub granule_cap-absent : (memory : Granules) (granule : ℕ) → map.get memory granule ≡ None → granule_cap memory granule ≡ untagged_null
+unfolding cap_of
+granule_cap-absent memory granule absent =
+    ap (λ (o : Option Entry). cap_of (unwrap_or o blank)) absent ∙ ap (λ (n : ℕ). let cap : Cap = record { tag = false; word = record { 0 = n } } in cap) zero_word
+
+-- the number of the bytes from a place on
+pub number_of-drop : (bytes : List ℕ) (place : ℕ) → ((i : ℕ) → get_or bytes i 0 < 256) → number_of bytes / 2 ^ (8 * place) ≡ number_of (drop place bytes)
+unfolding number_of
+number_of-drop bytes zero small = div-one (number_of bytes)
+number_of-drop [] (suc place) small = zero-div (2 ^ (8 * suc place))
+number_of-drop (x ∷ xs) (suc place) small =
+    let first : x < 256 = small 0 in
+    let power : 2 ^ (8 * suc place) ≡ 256 * 2 ^ (8 * place) = ap (λ (n : ℕ). 2 ^ n) (let f : 8 * suc place ≡ 8 + 8 * place = omega arith in f) ∙ pow-add 2 8 (8 * place) in
+    let rest : (x + 256 * number_of xs) / 256 ≡ number_of xs = omega arith in
+    ap (λ (n : ℕ). (x + 256 * number_of xs) / n) power
+    ∙ sym (div-div-eq-div-mul (x + 256 * number_of xs) 256 (2 ^ (8 * place)))
+    ∙ ap (λ (n : ℕ). n / 2 ^ (8 * place)) rest
+    ∙ number_of-drop xs place (λ i. small (suc i))
+
+next_byte : (bytes : List ℕ) (i : ℕ) → i < length bytes → number_of (drop i bytes) ≡ get_or bytes i 0 + 256 * number_of (drop (i + 1) bytes)
+unfolding number_of
+next_byte bytes i h = at_drop_more number_of bytes i 0 h
+
+pub number_at-low_1 : (bytes : List ℕ) (place : ℕ) → length bytes ≡ 16 → ((i : ℕ) → get_or bytes i 0 < 256) → place + 1 ≤ 16
+    → number_of (drop place bytes) % 256 ≡ number_at bytes place 1
+number_at-low_1 bytes place sixteen small inside = omega (arith, next_byte bytes (place) (omega arith), small (place))
+
+pub number_at-low_2 : (bytes : List ℕ) (place : ℕ) → length bytes ≡ 16 → ((i : ℕ) → get_or bytes i 0 < 256) → place + 2 ≤ 16
+    → number_of (drop place bytes) % 65536 ≡ number_at bytes place 2
+number_at-low_2 bytes place sixteen small inside = omega (arith, next_byte bytes (place) (omega arith), small (place), next_byte bytes (place + 1) (omega arith), small (place + 1))
+
+pub number_at-low_4 : (bytes : List ℕ) (place : ℕ) → length bytes ≡ 16 → ((i : ℕ) → get_or bytes i 0 < 256) → place + 4 ≤ 16
+    → number_of (drop place bytes) % 4294967296 ≡ number_at bytes place 4
+number_at-low_4 bytes place sixteen small inside = omega (arith, next_byte bytes (place) (omega arith), small (place), next_byte bytes (place + 1) (omega arith), small (place + 1), next_byte bytes (place + 1 + 1) (omega arith), small (place + 1 + 1), next_byte bytes (place + 1 + 1 + 1) (omega arith), small (place + 1 + 1 + 1))
+
+pub number_at-low_8 : (bytes : List ℕ) (place : ℕ) → length bytes ≡ 16 → ((i : ℕ) → get_or bytes i 0 < 256) → place + 8 ≤ 16
+    → number_of (drop place bytes) % 18446744073709551616 ≡ number_at bytes place 8
+number_at-low_8 bytes place sixteen small inside = omega (arith, next_byte bytes (place) (omega arith), small (place), next_byte bytes (place + 1) (omega arith), small (place + 1), next_byte bytes (place + 1 + 1) (omega arith), small (place + 1 + 1), next_byte bytes (place + 1 + 1 + 1) (omega arith), small (place + 1 + 1 + 1), next_byte bytes (place + 1 + 1 + 1 + 1) (omega arith), small (place + 1 + 1 + 1 + 1), next_byte bytes (place + 1 + 1 + 1 + 1 + 1) (omega arith), small (place + 1 + 1 + 1 + 1 + 1), next_byte bytes (place + 1 + 1 + 1 + 1 + 1 + 1) (omega arith), small (place + 1 + 1 + 1 + 1 + 1 + 1), next_byte bytes (place + 1 + 1 + 1 + 1 + 1 + 1 + 1) (omega arith), small (place + 1 + 1 + 1 + 1 + 1 + 1 + 1))
+
+-- the bytes that std's conversion gives, as many as are taken
+pub taken_bytes : (k n i v : ℕ) → k ≤ n → take k (bytes_low_first i n v) ≡ low_bytes k (v / 256 ^ i)
+unfolding low_bytes
+taken_bytes zero n i v below = refl
+taken_bytes (suc k) zero i v below = absurd (omega arith)
+taken_bytes (suc k) (suc n) i v below =
+    let next : v / 256 ^ i / 256 ≡ v / 256 ^ suc i = div-div-eq-div-mul v (256 ^ i) 256 ∙ ap (λ (x : ℕ). v / x) (sym (pow-suc 256 i)) in
+    ap (λ x. x ∷ take k (bytes_low_first (suc i) n v)) (byte_at_is i v)
+    ∙ ap (λ x. v / 256 ^ i % 256 ∷ x) (taken_bytes k n (suc i) v (omega arith) ∙ ap (low_bytes k) (sym next))
+
+pub low_taken : (k v : ℕ) → k ≤ 8 → take k (to_le_bytes w64 v) ≡ low_bytes k v
+low_taken k v below = taken_bytes k 8 0 v below ∙ ap (low_bytes k) (ap (λ (x : ℕ). v / x) (pow-zero 256) ∙ div-one v)

@@ -1,0 +1,7 @@
+mod StepLemmas
+mod AuthorityLemmas
+mod AccessLemmas
+mod GranuleLemmas
+mod StateLemmas
+mod RootLemmas
+mod MadeLemmas

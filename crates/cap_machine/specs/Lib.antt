@@ -1,0 +1,7 @@
+pub mod States
+pub mod Steps
+pub mod Runs
+pub mod Refusals
+pub mod Tallies
+pub mod Values
+pub mod Helds

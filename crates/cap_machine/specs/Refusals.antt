@@ -1,0 +1,77 @@
+-- The refusals: their numbers and their names.
+use Rattle.std.specs.Prelude.{ℕ, List, codes}
+use Rattle.cap_ops.specs.declared.faults.OpFault.{OpFault}
+use Rattle.cap_ops.specs.declared.faults.OpFault.TheVariants as faults
+use Rattle.cap_machine.specs.declared.refusal.Refusal.{Refusal}
+use Rattle.cap_machine.specs.declared.refusal.Refusal.TheVariants.{BadHeader, LineTooLong, BadLine, Misplaced, Truncated, WrongCount, PlaceTaken, UnsoundRoot, SourceUntagged, SourceSealed, BoundsEscape, NotExact, NotRepresentable, AuthorityUntagged, AuthoritySealed, AuthorityPermission, AuthorityBounds, TypeOutOfRange, TypeMismatch, Misaligned, StoreCapPermission, StoreLocalPermission, WrongResult, LimitPassed}
+
+-- a refusal's number (this profile's own)
+abbrev pub number_of : Refusal → ℕ
+number_of BadHeader = 1
+number_of LineTooLong = 2
+number_of BadLine = 3
+number_of Misplaced = 4
+number_of Truncated = 5
+number_of WrongCount = 6
+number_of PlaceTaken = 7
+number_of UnsoundRoot = 8
+number_of SourceUntagged = 9
+number_of SourceSealed = 10
+number_of BoundsEscape = 11
+number_of NotExact = 12
+number_of NotRepresentable = 13
+number_of AuthorityUntagged = 14
+number_of AuthoritySealed = 15
+number_of AuthorityPermission = 16
+number_of AuthorityBounds = 17
+number_of TypeOutOfRange = 18
+number_of TypeMismatch = 19
+number_of Misaligned = 20
+number_of StoreCapPermission = 21
+number_of StoreLocalPermission = 22
+number_of WrongResult = 23
+number_of LimitPassed = 24
+
+-- a refusal's name (this profile's own)
+abbrev pub name_of : Refusal → List ℕ
+name_of BadHeader = codes "BadHeader"
+name_of LineTooLong = codes "LineTooLong"
+name_of BadLine = codes "BadLine"
+name_of Misplaced = codes "Misplaced"
+name_of Truncated = codes "Truncated"
+name_of WrongCount = codes "WrongCount"
+name_of PlaceTaken = codes "PlaceTaken"
+name_of UnsoundRoot = codes "UnsoundRoot"
+name_of SourceUntagged = codes "SourceUntagged"
+name_of SourceSealed = codes "SourceSealed"
+name_of BoundsEscape = codes "BoundsEscape"
+name_of NotExact = codes "NotExact"
+name_of NotRepresentable = codes "NotRepresentable"
+name_of AuthorityUntagged = codes "AuthorityUntagged"
+name_of AuthoritySealed = codes "AuthoritySealed"
+name_of AuthorityPermission = codes "AuthorityPermission"
+name_of AuthorityBounds = codes "AuthorityBounds"
+name_of TypeOutOfRange = codes "TypeOutOfRange"
+name_of TypeMismatch = codes "TypeMismatch"
+name_of Misaligned = codes "Misaligned"
+name_of StoreCapPermission = codes "StoreCapPermission"
+name_of StoreLocalPermission = codes "StoreLocalPermission"
+name_of WrongResult = codes "WrongResult"
+name_of LimitPassed = codes "LimitPassed"
+
+-- the refusal that a fault of an operation or an access is, of the same name
+abbrev pub refusal_of : OpFault → Refusal
+refusal_of faults.SourceUntagged = SourceUntagged
+refusal_of faults.SourceSealed = SourceSealed
+refusal_of faults.BoundsEscape = BoundsEscape
+refusal_of faults.NotExact = NotExact
+refusal_of faults.NotRepresentable = NotRepresentable
+refusal_of faults.AuthorityUntagged = AuthorityUntagged
+refusal_of faults.AuthoritySealed = AuthoritySealed
+refusal_of faults.AuthorityPermission = AuthorityPermission
+refusal_of faults.AuthorityBounds = AuthorityBounds
+refusal_of faults.TypeOutOfRange = TypeOutOfRange
+refusal_of faults.TypeMismatch = TypeMismatch
+refusal_of faults.Misaligned = Misaligned
+refusal_of faults.StoreCapPermission = StoreCapPermission
+refusal_of faults.StoreLocalPermission = StoreLocalPermission

@@ -1,0 +1,61 @@
+-- States of the machine: what each place holds.
+use Rattle.std.specs.Prelude.{ℕ, ◌+◌, ◌*◌, ◌/◌, ◌%◌, zero, suc, Bool, true, false, ◌==◌, if◌then◌else◌, List, [], ◌∷◌, slice_index}
+use Rattle.std.specs.List.{list_any}
+use Rattle.cap_word.specs.declared.word.Word.{Word}
+use Rattle.cap_word.specs.declared.word.Cap.{Cap}
+use Rattle.cap_word.specs.Word.{null_word}
+use Rattle.cap_word.specs.Memory.{memory_of}
+use Rattle.cap_log.specs.declared.lines.Place.{Place}
+use Rattle.cap_log.specs.declared.lines.Place.TheVariants.{Register, Granule}
+
+-- NULL without a tag (Sail CHERI-RISC-V: null_cap)
+abbrev pub untagged_null : Cap
+untagged_null = record { tag = false; word = record { 0 = null_word } }
+
+-- a word with its tag
+abbrev pub tagged : Word → Cap
+tagged word = record { tag = true; word = word }
+
+-- the number of a granule's place (this profile's own)
+abbrev pub granule_key : ℕ → ℕ
+granule_key granule = granule + 32
+
+-- the number of a place: a register's own, and for memory its granule's and 32 more (this profile's own)
+abbrev pub key_of : Place → ℕ
+key_of (Register n) = n
+key_of (Granule g) = granule_key g
+
+-- what each place holds, by the place's number. Number 0 is c0, which is no place: it reads as NULL, and nothing writes it
+abbrev pub State : Type 0
+State = ℕ → Cap
+
+-- NULL without a tag everywhere: memory is zero then
+abbrev pub blank : State
+blank key = untagged_null
+
+-- the state with another capability at one place
+abbrev pub put : State → ℕ → Cap → State
+put state place cap = λ key. if place == key then cap else state key
+
+-- a root of a log: a tagged capability that a place holds from the start
+pub record DeclaredRoot : Type 0 where
+  pub place : Place
+  pub word : Word
+
+-- whether one of the roots has this place
+abbrev pub is_taken : List DeclaredRoot → Place → Bool
+is_taken roots place = list_any (λ root. key_of root.place == key_of place) roots
+
+-- the state after the roots were declared: each root's word, tagged, at its place, and NULL without a tag elsewhere
+abbrev pub start : List DeclaredRoot → State
+start [] = blank
+start (root ∷ roots) = put (start roots) (key_of root.place) (tagged root.word)
+
+-- the byte of memory at an address
+abbrev pub byte_at : State → ℕ → ℕ
+byte_at state address = slice_index (memory_of (state (granule_key (address / 16))).word.0) (address % 16)
+
+-- the number that so many bytes of memory from an address on spell, the least significant first
+abbrev pub value_at : State → ℕ → ℕ → ℕ
+value_at state address zero = 0
+value_at state address (suc size) = byte_at state address + 256 * value_at state (address + 1) size

@@ -1,0 +1,112 @@
+//! Declaring roots.
+
+ghost use Rattle.std.specs.Prelude.{◌≡◌, ◌<◌, ◌^◌, ◌||◌, not, is_some, nat_le, MatchResult, OnOk, OnErr, None, true, false, IsTrue};
+ghost use Rattle.std.specs.FinMap as map;
+ghost use Rattle.cap_ops.specs.Tests.{first_of};
+ghost use Rattle.cap_log.specs.Lines.{IsPlace};
+ghost use Rattle.cap_machine.specs.States.{key_of, tagged};
+ghost use Rattle.cap_machine.specs.Tallies.{
+  granule_of,
+  is_new,
+  most_roots,
+  passes_granules,
+  root_tests,
+};
+ghost use Rattle.cap_machine.specs.Helds.{EndsRoot, Placed, Takes, held_of, state_of, tally_of};
+
+use crate::ends::StepEnd;
+use crate::granules::put_capability;
+use crate::machine::{MOST_GRANULES, MOST_ROOTS, Machine};
+use crate::refusal::Refusal;
+use cap_bounds::sound;
+use cap_log::Place;
+use cap_word::{Cap, Word};
+use tagmem::{NoMemory, TaggedStore};
+
+impl<M: TaggedStore> Machine<M> {
+    /// Puts a root, tagged, at its place, and counts it. It is refused for the first of these that holds:
+    /// its place has a capability with a tag already (`PlaceTaken`), its word is not sound
+    /// (`UnsoundRoot`), there are 4,096 roots, or it names a granule beyond 65,536 (`LimitPassed`).
+    /// `NoMemory` comes only at a granule named for the first time. After an error nothing has changed.
+    pub fn declare(&mut self, place: Place, word: Word) -> Result<(), StepEnd>
+        requires { IsPlace place }
+        ensures { MatchResult result
+            (λ _. Takes (held_of M.contents self.old) place word (held_of M.contents self.new))
+            (λ end. EndsRoot (held_of M.contents self.old) place word end (held_of M.contents self.new)) }
+    {
+        if let Some(refusal) = self.root_fault(place, word) {
+            return Err(StepEnd::Refused(refusal));
+        }
+        match self.place_root(place, Cap { tag: true, word }) {
+            Ok(()) => {
+                self.roots += 1;
+                Ok(())
+            }
+            Err(NoMemory) => Err(StepEnd::NoMemory),
+        }
+    }
+
+    // What a place holds.
+    fn at(&self, place: Place) -> Cap
+        requires { IsPlace place }
+        ensures { result ≡ state_of (held_of M.contents self.now) (key_of place) }
+    {
+        match place {
+            Place::Register(number) => self.register(number),
+            Place::Granule(granule) => self.granule(granule),
+        }
+    }
+
+    // The first test that refuses a root.
+    fn root_fault(&self, place: Place, word: Word) -> Option<Refusal>
+        requires { IsPlace place }
+        ensures { result ≡ first_of (root_tests (tally_of (held_of M.contents self.now))
+            (let cap = state_of (held_of M.contents self.now) (key_of place) in cap.tag) place word) }
+    {
+        if self.at(place).tag {
+            Some(Refusal::PlaceTaken)
+        } else if !sound(word) {
+            Some(Refusal::UnsoundRoot)
+        } else if self.roots >= MOST_ROOTS || self.root_passes_granules(place) {
+            Some(Refusal::LimitPassed)
+        } else {
+            None
+        }
+    }
+
+    // Whether a root's place names a granule beyond the limit.
+    fn root_passes_granules(&self, place: Place) -> bool
+        requires { IsPlace place }
+        ensures { result ≡ passes_granules (tally_of (held_of M.contents self.now)) (granule_of place) }
+    {
+        match place {
+            Place::Register(_) => false,
+            Place::Granule(granule) => self.granule_passes(granule),
+        }
+    }
+
+    // Whether naming a granule passes the limit on granules.
+    pub(crate) fn granule_passes(&self, granule: u64) -> bool
+        requires { granule < 2 ^ 60 }
+        ensures { result ≡ passes_granules (tally_of (held_of M.contents self.now)) (Some granule) }
+    {
+        self.memory.count() >= MOST_GRANULES && self.memory.get(granule).is_none()
+    }
+
+    // Puts a capability into a place, and counts nothing. A refused put changes nothing.
+    fn place_root(&mut self, place: Place, cap: Cap) -> Result<(), NoMemory>
+        requires in_range { IsPlace place }
+        requires room { passes_granules (tally_of (held_of M.contents self.old)) (granule_of place) ≡ false }
+        ensures ok { OnOk result (Placed (held_of M.contents self.old) place cap (held_of M.contents self.new)) }
+        ensures err { OnErr result (held_of M.contents self.new ≡ held_of M.contents self.old) }
+        ensures only_new { OnErr result (IsTrue (is_new (tally_of (held_of M.contents self.old)) (granule_of place))) }
+    {
+        match place {
+            Place::Register(number) => {
+                self.registers[number as usize] = cap;
+                Ok(())
+            }
+            Place::Granule(granule) => put_capability(&mut self.memory, granule, cap),
+        }
+    }
+}

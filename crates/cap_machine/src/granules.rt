@@ -1,0 +1,96 @@
+//! Granules of a store as capabilities and as data.
+
+ghost use Rattle.std.specs.Prelude.{◌≡◌, ◌+◌, ◌*◌, ◌/◌, ◌%◌, ◌^◌, ◌<◌, ◌≤◌, length, None, OnOk, OnErr};
+ghost use Rattle.std.specs.FinMap as map;
+ghost use Rattle.tagmem.specs.Granules.{HasRoom, bytes_at, with_bytes, with_cap};
+ghost use Rattle.cap_word.specs.Memory.{low_bytes, memory_of};
+ghost use Rattle.cap_machine.specs.Helds.{granule_cap};
+ghost use Rattle.cap_machine.specs.Values.{number_at};
+ghost use Rattle.cap_log.specs.Lines.{IsDataSize};
+
+use cap_word::{Cap, from_memory, null, to_memory};
+use tagmem::{NoMemory, TaggedStore};
+
+/// The capability that a granule holds: NULL without a tag where it was never put.
+pub fn capability_at<M: TaggedStore>(memory: &M, granule: u64) -> Cap
+    requires { granule < 2 ^ 60 }
+    ensures { result ≡ granule_cap (M.contents memory.now) granule }
+{
+    match memory.get(granule) {
+        Some(entry) => Cap {
+            tag: entry.0,
+            word: from_memory(&entry.1),
+        },
+        None => Cap {
+            tag: false,
+            word: null(),
+        },
+    }
+}
+
+/// Puts a capability into a granule. A refused put changes nothing.
+pub fn put_capability<M: TaggedStore>(
+    memory: &mut M,
+    granule: u64,
+    cap: Cap,
+) -> Result<(), NoMemory>
+    requires in_memory { granule < 2 ^ 60 }
+    requires room { HasRoom (M.contents memory.old) granule }
+    ensures ok { OnOk result (M.contents memory.new ≡ with_cap (M.contents memory.old) granule cap.tag (memory_of cap.word.0)) }
+    ensures err { OnErr result (M.contents memory.new ≡ M.contents memory.old) }
+    ensures only_new { OnErr result (map.get (M.contents memory.old) granule ≡ None) }
+{
+    memory.put_cap(granule, cap.tag, to_memory(cap.word))
+}
+
+/// The number that `size` bytes of a granule spell from byte `at` on, the least significant first.
+pub fn number_in<M: TaggedStore>(memory: &M, granule: u64, at: u8, size: u8) -> u64
+    requires in_memory { granule < 2 ^ 60 }
+    requires inside { at + size ≤ 16 }
+    requires sized { IsDataSize size }
+    ensures { result ≡ number_at (bytes_at (M.contents memory.now) granule) at size }
+{
+    match memory.get(granule) {
+        Some(entry) => number_from(&entry.1, at, size),
+        None => 0,
+    }
+}
+
+/// Writes the `size` low bytes of a value into a granule, the least significant first, from byte `at`
+/// on, and clears its tag. A refused put changes nothing.
+pub fn put_number<M: TaggedStore>(
+    memory: &mut M,
+    granule: u64,
+    at: u8,
+    size: u8,
+    value: u64,
+) -> Result<(), NoMemory>
+    requires in_memory { granule < 2 ^ 60 }
+    requires inside { at + size ≤ 16 }
+    requires sized { IsDataSize size }
+    requires room { HasRoom (M.contents memory.old) granule }
+    ensures ok { OnOk result (M.contents memory.new ≡ with_bytes (M.contents memory.old) granule at (low_bytes size value)) }
+    ensures err { OnErr result (M.contents memory.new ≡ M.contents memory.old) }
+    ensures only_new { OnErr result (map.get (M.contents memory.old) granule ≡ None) }
+{
+    let bytes = value.to_le_bytes();
+    memory.put_bytes(granule, at, &bytes[..size as usize])
+}
+
+// The number that `size` of sixteen bytes spell from byte `at` on.
+fn number_from(bytes: &[u8; 16], at: u8, size: u8) -> u64
+    requires inside { at + size ≤ 16 }
+    requires sized { IsDataSize size }
+    ensures { result ≡ number_at bytes.now at size }
+{
+    let rest = u128::from_le_bytes(*bytes) >> (8 * u32::from(at));
+    if size == 1 {
+        (rest & 0xff) as u64
+    } else if size == 2 {
+        (rest & 0xffff) as u64
+    } else if size == 4 {
+        (rest & 0xffff_ffff) as u64
+    } else {
+        (rest & 0xffff_ffff_ffff_ffff) as u64
+    }
+}

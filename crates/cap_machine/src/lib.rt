@@ -1,0 +1,14 @@
+//! The machine that a log is judged by: registers, tagged memory, and the steps on them.
+#![tactic(auto)]
+
+mod accessing;
+mod declaring;
+mod ends;
+mod granules;
+mod machine;
+mod refusal;
+mod stepping;
+
+pub use crate::ends::StepEnd;
+pub use crate::machine::{MOST_GRANULES, MOST_ROOTS, MOST_STEPS, Machine};
+pub use crate::refusal::Refusal;

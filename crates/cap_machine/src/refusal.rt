@@ -1,0 +1,128 @@
+//! The 24 reasons for which a line is refused.
+
+ghost use Rattle.std.specs.Prelude.{◌≡◌, ◌≤◌, length};
+
+use cap_ops::OpFault;
+
+/// Why a log is refused: the first test that a line fails. The numbers and names are this profile's own.
+#[derive(Debug, Clone, Copy, PartialEq, Eq)]
+pub enum Refusal {
+    /// 1: The first line is not `capcheck 1`.
+    BadHeader = 1,
+    /// 2: 96 bytes come without a line feed.
+    LineTooLong = 2,
+    /// 3: The line has none of the forms.
+    BadLine = 3,
+    /// 4: A root after a step, a second version line, or anything after the end line.
+    Misplaced = 4,
+    /// 5: The bytes end before a line feed, or before the end line.
+    Truncated = 5,
+    /// 6: The end line's number is not the number of steps.
+    WrongCount = 6,
+    /// 7: The root's place has a root already.
+    PlaceTaken = 7,
+    /// 8: The root's word is not sound.
+    UnsoundRoot = 8,
+    /// 9: The source has no tag, where the step needs one.
+    SourceUntagged = 9,
+    /// 10: The source is sealed, where the step needs an unsealed one.
+    SourceSealed = 10,
+    /// 11: The rounded bounds do not lie inside the source's bounds.
+    BoundsEscape = 11,
+    /// 12: The requested bounds cannot be had exactly.
+    NotExact = 12,
+    /// 13: The new address does not keep the bounds.
+    NotRepresentable = 13,
+    /// 14: The authority has no tag.
+    AuthorityUntagged = 14,
+    /// 15: The authority is sealed.
+    AuthoritySealed = 15,
+    /// 16: The authority lacks the permission that the step needs.
+    AuthorityPermission = 16,
+    /// 17: The address or the access does not lie inside the authority's bounds.
+    AuthorityBounds = 17,
+    /// 18: The authority's address is above the greatest ordinary object type.
+    TypeOutOfRange = 18,
+    /// 19: The source's object type is not the authority's address, or is no ordinary type.
+    TypeMismatch = 19,
+    /// 20: The address of the access is no multiple of its size.
+    Misaligned = 20,
+    /// 21: A tagged capability is stored without Store Capability.
+    StoreCapPermission = 21,
+    /// 22: A tagged capability that is not Global is stored without Store Local Capability.
+    StoreLocalPermission = 22,
+    /// 23: The recorded result or value is not the one that the machine has.
+    WrongResult = 23,
+    /// 24: A limit on roots, granules or steps is passed.
+    LimitPassed = 24,
+}
+
+impl Refusal {
+    ghost use Rattle.cap_machine.specs.Refusals.{name_of, number_of};
+
+    /// The number that a verdict line shows, 1 to 24.
+    pub fn number(&self) -> u8
+        ensures number { result ≡ number_of self.now }
+        ensures range { (1 ≤ result) × (result ≤ 24) }
+    {
+        *self as u8
+    }
+
+    /// The name that a verdict line shows, as the variant is spelled.
+    pub fn name(&self) -> &'static str
+        ensures name { result.now ≡ name_of self.now }
+        ensures short { length result.now ≤ 20 }
+    {
+        match self {
+            Refusal::BadHeader => "BadHeader",
+            Refusal::LineTooLong => "LineTooLong",
+            Refusal::BadLine => "BadLine",
+            Refusal::Misplaced => "Misplaced",
+            Refusal::Truncated => "Truncated",
+            Refusal::WrongCount => "WrongCount",
+            Refusal::PlaceTaken => "PlaceTaken",
+            Refusal::UnsoundRoot => "UnsoundRoot",
+            Refusal::SourceUntagged => "SourceUntagged",
+            Refusal::SourceSealed => "SourceSealed",
+            Refusal::BoundsEscape => "BoundsEscape",
+            Refusal::NotExact => "NotExact",
+            Refusal::NotRepresentable => "NotRepresentable",
+            Refusal::AuthorityUntagged => "AuthorityUntagged",
+            Refusal::AuthoritySealed => "AuthoritySealed",
+            Refusal::AuthorityPermission => "AuthorityPermission",
+            Refusal::AuthorityBounds => "AuthorityBounds",
+            Refusal::TypeOutOfRange => "TypeOutOfRange",
+            Refusal::TypeMismatch => "TypeMismatch",
+            Refusal::Misaligned => "Misaligned",
+            Refusal::StoreCapPermission => "StoreCapPermission",
+            Refusal::StoreLocalPermission => "StoreLocalPermission",
+            Refusal::WrongResult => "WrongResult",
+            Refusal::LimitPassed => "LimitPassed",
+        }
+    }
+}
+
+impl From<OpFault> for Refusal {
+    ghost use Rattle.cap_machine.specs.Refusals.{refusal_of};
+
+    ghost from_gives = { λ fault refusal. refusal ≡ refusal_of fault };
+
+    fn from(fault: OpFault) -> Refusal {
+        match fault {
+            OpFault::SourceUntagged => Refusal::SourceUntagged,
+            OpFault::SourceSealed => Refusal::SourceSealed,
+            OpFault::BoundsEscape => Refusal::BoundsEscape,
+            OpFault::NotExact => Refusal::NotExact,
+            OpFault::NotRepresentable => Refusal::NotRepresentable,
+            OpFault::AuthorityUntagged => Refusal::AuthorityUntagged,
+            OpFault::AuthoritySealed => Refusal::AuthoritySealed,
+            OpFault::AuthorityPermission => Refusal::AuthorityPermission,
+            OpFault::AuthorityBounds => Refusal::AuthorityBounds,
+            OpFault::TypeOutOfRange => Refusal::TypeOutOfRange,
+            OpFault::TypeMismatch => Refusal::TypeMismatch,
+            OpFault::Misaligned => Refusal::Misaligned,
+            OpFault::StoreCapPermission => Refusal::StoreCapPermission,
+            OpFault::StoreLocalPermission => Refusal::StoreLocalPermission,
+        }
+    }
+}

@@ -1,0 +1,71 @@
+-- What follows where no test of a list holds, and from single tests.
+use Rattle.std.proofs.Common.{◌++◌, ◌≡◌, ℕ, Bool, true, false, List, [], ◌∷◌, Some, None, Result, MatchResult, if◌then◌else◌, refl, ap, ◌∙◌, sym}
+use Rattle.std.proofs.lemmas.Bool.{and_parts, and_from, leb-true, le-leb}
+use Rattle.cap_word.specs.declared.word.Cap.{Cap}
+use Rattle.cap_bounds.specs.Bounds.{base_of, top_of, IsInside}
+use Rattle.cap_ops.specs.declared.faults.OpFault.{OpFault}
+use Rattle.cap_ops.specs.Operations.{covers, on_tagged}
+use Rattle.cap_ops.specs.Tests.{answered_by, first_of}
+
+-- no test of a list holds
+abbrev pub NoneHold : {F : Type 0} → List (Bool × F) → Type 0
+NoneHold [] = Unit {0}
+NoneHold (test ∷ tests) = (test.0 ≡ false) × NoneHold tests
+
+head_fails : {F : Type 0} (test : Bool) (fault : F) (tests : List (Bool × F)) → first_of ((test, fault) ∷ tests) ≡ None → (test ≡ false) × (first_of tests ≡ None)
+head_fails true fault tests h = cc
+head_fails false fault tests h = (refl, h)
+
+pub none_hold : {F : Type 0} (tests : List (Bool × F)) → first_of tests ≡ None → NoneHold tests
+none_hold [] h = tt
+none_hold (test ∷ tests) h = let p = head_fails test.0 test.1 tests h in (p.0, none_hold tests p.1)
+
+if_tagged : {F : Type 0} (tagged : Bool) (tests : List (Bool × F)) → first_of (if tagged then tests else []) ≡ (if tagged then first_of tests else None)
+if_tagged true tests = refl
+if_tagged false tests = refl
+
+-- a tagged source meets the tests for one, and an untagged one none
+pub first_of-on_tagged : (source : Cap) (tests : List (Bool × OpFault)) → first_of (on_tagged source tests) ≡ (if source.tag then first_of tests else None)
+first_of-on_tagged source tests = if_tagged source.tag tests
+
+pub on_tagged-true : (source : Cap) (tests : List (Bool × OpFault)) → source.tag ≡ true → first_of (on_tagged source tests) ≡ first_of tests
+on_tagged-true source tests h = first_of-on_tagged source tests ∙ ap (λ (b : Bool). if b then first_of tests else None) h
+
+pub none_hold-tagged : (source : Cap) (tests : List (Bool × OpFault)) → source.tag ≡ true → first_of (on_tagged source tests) ≡ None → NoneHold tests
+none_hold-tagged source tests t h = none_hold tests (sym (on_tagged-true source tests t) ∙ h)
+
+-- a word covers what lies inside its bounds
+pub IsInside-covers : (w base top : ℕ) → covers w base top ≡ true → IsInside base top (base_of w) (top_of w)
+unfolding covers
+IsInside-covers w base top h = let p = and_parts _ _ h in (leb-true _ _ p.0, leb-true _ _ p.1)
+
+pub covers-inside : (w base top : ℕ) → IsInside base top (base_of w) (top_of w) → covers w base top ≡ true
+unfolding covers
+covers-inside w base top h = and_from _ _ (le-leb _ _ h.0) (le-leb _ _ h.1)
+
+-- how a call ends that answers the first test that holds, or a capability where none does
+abbrev pub EndsWith : Result Cap OpFault → List (Bool × OpFault) → Cap → Type 0
+EndsWith result tests cap = MatchResult result (λ made. (first_of tests ≡ None) × (made ≡ cap)) (λ fault. first_of tests ≡ Some fault)
+
+-- where no test of a first list holds, the first of both is the second's
+pub first_of-append_none : {F : Type 0} (xs ys : List (Bool × F)) → first_of xs ≡ None → first_of (xs ++ ys) ≡ first_of ys
+first_of-append_none [] ys h = refl
+first_of-append_none ((true, fault) ∷ xs) ys h = cc
+first_of-append_none ((false, fault) ∷ xs) ys h = first_of-append_none xs ys h
+
+-- and where one does, it is the first of both
+pub first_of-append_some : {F : Type 0} (xs ys : List (Bool × F)) (fault : F) → first_of xs ≡ Some fault → first_of (xs ++ ys) ≡ Some fault
+first_of-append_some [] ys fault h = cc
+first_of-append_some ((true, other) ∷ xs) ys fault h = h
+first_of-append_some ((false, other) ∷ xs) ys fault h = first_of-append_some xs ys fault h
+
+-- other answers beside the tests change nothing else
+pub first_of-answered_none : {F G : Type 0} (f : F → G) (tests : List (Bool × F)) → first_of tests ≡ None → first_of (answered_by f tests) ≡ None
+first_of-answered_none f [] h = refl
+first_of-answered_none f ((true, fault) ∷ tests) h = cc
+first_of-answered_none f ((false, fault) ∷ tests) h = first_of-answered_none f tests h
+
+pub first_of-answered_some : {F G : Type 0} (f : F → G) (tests : List (Bool × F)) (fault : F) → first_of tests ≡ Some fault → first_of (answered_by f tests) ≡ Some (f fault)
+first_of-answered_some f [] fault h = cc
+first_of-answered_some f ((true, other) ∷ tests) fault h = let e : other ≡ fault = cc in ap (λ x. Some (f x)) e
+first_of-answered_some f ((false, other) ∷ tests) fault h = first_of-answered_some f tests fault h

@@ -1,0 +1,12 @@
+use Rattle.std.proofs.Common.{ap, ◌∙◌}
+use Rattle.cap_word.specs.declared.word.Cap.{Cap}
+use Rattle.cap_ops.specs.Permissions.{perm_view_of}
+use Rattle.cap_ops.proofs.Derivations.{StaysWithin-and_perm, view-and_perm_result}
+use Rattle.cap_ops.proofs.WithinLemmas.{StaysWithin-same}
+use Rattle.cap_ops.proofs.permissions.and_perm.Goals as goal
+
+pub returns-in-None-clause-view : goal.returns-in-None-clause-view
+returns-in-None-clause-view c = ap (λ (cap : Cap). perm_view_of cap.word.0) c.masked.ensures ∙ view-and_perm_result c.args.source c.args.mask
+
+pub returns-in-None-clause-lawful : goal.returns-in-None-clause-lawful
+returns-in-None-clause-lawful c = StaysWithin-same c.masked.result _ c.args.source c.masked.ensures (StaysWithin-and_perm c.args.source c.args.mask)

@@ -1,0 +1,7 @@
+pub mod Accesses
+pub mod Authority
+pub mod Faults
+pub mod Operations
+pub mod Permissions
+pub mod Sizes
+pub mod Tests

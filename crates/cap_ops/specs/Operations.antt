@@ -1,0 +1,123 @@
+-- The operations on capabilities: for each the tests that refuse it, in their order, and its result
+-- (UCAM-CL-TR-987, the descriptions of CSetBounds, CSetBoundsExact, CSetAddr, CAndPerm, CSeal, CUnseal and
+-- CClearTag for CHERI-RISC-V). The order of the tests, and that an untagged source meets none where no
+-- authority is needed, are this profile's own.
+use Rattle.std.specs.Prelude.{ℕ, ◌+◌, ◌*◌, ◌/◌, ◌%◌, ◌^◌, Bool, false, not, ◌&&◌, ◌==◌, nat_lt, nat_le, List, [], ◌∷◌, ◌++◌, if◌then◌else◌, bit_and}
+use Rattle.cap_word.specs.declared.word.Cap.{Cap}
+use Rattle.cap_word.specs.Fields.{address_of, bit_of, otype_of, perms_of}
+use Rattle.cap_bounds.specs.Bounds.{base_of, top_of}
+use Rattle.cap_bounds.specs.Range.{with_address}
+use Rattle.cap_bounds.specs.Rounding.{rounded_base, rounded_top, rounded_word}
+use Rattle.cap_ops.specs.declared.faults.OpFault.{OpFault}
+use Rattle.cap_ops.specs.declared.faults.OpFault.TheVariants.{SourceUntagged, SourceSealed, BoundsEscape, NotExact, NotRepresentable, AuthorityUntagged, AuthoritySealed, AuthorityPermission, AuthorityBounds, TypeOutOfRange, TypeMismatch}
+use Rattle.cap_ops.specs.Permissions.{has_permission, perm_view_of, perms_from_view, is_sealed, with_perms, with_type, unsealed_type, greatest_type, global, permit_seal, permit_unseal}
+
+-- a capability with another word
+abbrev pub with_word : Cap → ℕ → Cap
+with_word cap w = record cap { word = record { 0 = w } }
+
+-- a capability without its tag
+abbrev pub cleared : Cap → Cap
+cleared cap = record cap { tag = false }
+
+-- the interval from base to top lies inside the bounds of a word
+unfoldable pub covers : ℕ → ℕ → ℕ → Bool
+covers w base top = nat_le (base_of w) base && nat_le top (top_of w)
+
+-- an address lies in the bounds of a word
+unfoldable pub holds_address : ℕ → ℕ → Bool
+holds_address w address = nat_le (base_of w) address && nat_lt address (top_of w)
+
+-- a request needs no rounding
+unfoldable pub is_exact : ℕ → ℕ → Bool
+is_exact base length = rounded_base base length == base && rounded_top base length == base + length
+
+-- an address keeps a word's bounds
+unfoldable pub is_kept_at : ℕ → ℕ → Bool
+is_kept_at w address = base_of (with_address w address) == base_of w && top_of (with_address w address) == top_of w
+
+-- a word is sealed with an object type: it has that one, and it is none of the reserved ones
+unfoldable pub is_sealed_with : ℕ → ℕ → Bool
+is_sealed_with w otype = otype_of w == otype && nat_le (otype_of w) greatest_type
+
+-- the tests of a source that an untagged one does not meet
+abbrev pub on_tagged : Cap → List (Bool × OpFault) → List (Bool × OpFault)
+on_tagged source tests = if source.tag then tests else []
+
+-- setting bounds: the length from the source's address on, rounded, is to lie inside the source's
+-- bounds; and where it is to be exact, not to be rounded at all
+unfoldable pub set_bounds_tests : Cap → ℕ → Bool → List (Bool × OpFault)
+set_bounds_tests source length exact =
+    let w = source.word.0 in
+    let base = address_of w in
+    on_tagged source (
+    (is_sealed w, SourceSealed)
+    ∷ (not (covers w (rounded_base base length) (rounded_top base length)), BoundsEscape)
+    ∷ (exact && not (is_exact base length), NotExact)
+    ∷ [])
+
+-- the source with the rounded bounds of the length from its address on
+unfoldable pub set_bounds_result : Cap → ℕ → Cap
+set_bounds_result source length = with_word source (rounded_word source.word.0 (address_of source.word.0) length)
+
+-- a new address is to keep the bounds
+unfoldable pub set_addr_tests : Cap → ℕ → List (Bool × OpFault)
+set_addr_tests source address =
+    on_tagged source (
+    (is_sealed source.word.0, SourceSealed)
+    ∷ (not (is_kept_at source.word.0 address), NotRepresentable)
+    ∷ [])
+
+-- the source with another address
+unfoldable pub set_addr_result : Cap → ℕ → Cap
+set_addr_result source address = with_word source (with_address source.word.0 address)
+
+-- permissions are only taken from a source that is not sealed
+unfoldable pub and_perm_tests : Cap → List (Bool × OpFault)
+and_perm_tests source = on_tagged source ((is_sealed source.word.0, SourceSealed) ∷ [])
+
+-- the source with those of its permissions that the mask has too, both in the view
+unfoldable pub and_perm_result : Cap → ℕ → Cap
+and_perm_result source mask =
+    with_word source (with_perms source.word.0 (perms_from_view (bit_and (perm_view_of source.word.0) mask)))
+
+-- an authority for object types is to be tagged and unsealed, to have the permission, and to hold its
+-- own address, which is the type
+abbrev pub type_authority_tests : Cap → ℕ → List (Bool × OpFault)
+type_authority_tests authority permission =
+    let w = authority.word.0 in
+    (not authority.tag, AuthorityUntagged)
+    ∷ (is_sealed w, AuthoritySealed)
+    ∷ (not (has_permission w permission), AuthorityPermission)
+    ∷ (not (holds_address w (address_of w)), AuthorityBounds)
+    ∷ []
+
+-- sealing: the authority first, then the type that it gives, then the source
+unfoldable pub seal_tests : Cap → Cap → List (Bool × OpFault)
+seal_tests source authority =
+    type_authority_tests authority permit_seal
+    ++ (nat_lt greatest_type (address_of authority.word.0), TypeOutOfRange)
+    ∷ (not source.tag, SourceUntagged)
+    ∷ (is_sealed source.word.0, SourceSealed)
+    ∷ []
+
+-- the source with the authority's address as its object type, cut to 18 bits: the tests let no other pass
+unfoldable pub seal_result : Cap → Cap → Cap
+seal_result source authority = with_word source (with_type source.word.0 (address_of authority.word.0 % 2 ^ 18))
+
+-- unsealing: the authority first, then the source, which is to be sealed with the authority's address
+unfoldable pub unseal_tests : Cap → Cap → List (Bool × OpFault)
+unseal_tests source authority =
+    type_authority_tests authority permit_unseal
+    ++ (not source.tag, SourceUntagged)
+    ∷ (not (is_sealed_with source.word.0 (address_of authority.word.0)), TypeMismatch)
+    ∷ []
+
+-- the permissions of a word, Global only where another word has it too
+abbrev pub perms_with_common_global : ℕ → ℕ → ℕ
+perms_with_common_global w other = perms_of w / 2 * 2 + bit_of (has_permission w global && has_permission other global)
+
+-- the source unsealed, and global only where the authority is
+unfoldable pub unseal_result : Cap → Cap → Cap
+unseal_result source authority =
+    with_word source (with_type (with_perms source.word.0 (perms_with_common_global source.word.0 authority.word.0)) unsealed_type)

@@ -1,0 +1,137 @@
+//! Accesses to memory through an authority.
+
+ghost use Rattle.std.specs.Prelude.{◌≡◌, ◌<◌, ◌≤◌, ◌%◌, ◌+◌, ◌↔◌, None, Some, MatchResult, IfOk, IsTrue};
+ghost use Rattle.cap_ops.specs.Accesses.{
+  IsAllowed,
+  access_address,
+  access_tests,
+  loaded_result,
+  permission_for,
+  stored_tests,
+};
+ghost use Rattle.cap_ops.specs.Authority.{StaysWithin};
+ghost use Rattle.cap_ops.specs.Operations.{covers};
+ghost use Rattle.cap_ops.specs.Sizes.{size_fits};
+ghost use Rattle.cap_ops.specs.Tests.{first_of};
+
+use crate::bits::{
+    GLOBAL, PERMIT_LOAD, PERMIT_LOAD_CAPABILITY, PERMIT_STORE, PERMIT_STORE_CAPABILITY,
+    PERMIT_STORE_LOCAL_CAPABILITY, address, permits,
+};
+use crate::faults::OpFault;
+use crate::kinds::Kind;
+use crate::requests::Access;
+use crate::sealing::sealed;
+use cap_bounds::bounds;
+use cap_word::{Cap, Word};
+
+/// The number of the permission that a kind of access needs.
+fn needed(kind: Kind) -> u32
+    ensures value { result ≡ permission_for kind }
+    ensures small { result < 12 }
+{
+    match kind {
+        Kind::LoadData | Kind::LoadCap => PERMIT_LOAD,
+        Kind::StoreData | Kind::StoreCap(_) => PERMIT_STORE,
+    }
+}
+
+/// Whether `size` bytes from an address on lie in a word's bounds.
+#[tactic(auto, unfolding(crate::specs::Operations::covers))]
+fn holds_bytes(word: Word, address: u64, size: u8) -> bool
+    ensures { result ≡ covers word.0 address (address + size) }
+{
+    let interval = bounds(word);
+    interval.base <= address && u128::from(address) + u128::from(size) <= interval.top
+}
+
+/// Whether an address is a multiple of the size of an access, which is a power of two.
+fn is_aligned(address: u64, access: Access) -> bool
+    ensures { IsTrue result ↔ (address % access.size ≡ 0) }
+{
+    address & u64::from(access.size - 1) == 0
+}
+
+/// The first test that refuses to store a capability.
+fn stored_fault(authority: Word, kind: Kind) -> Option<OpFault>
+    ensures { result ≡ first_of (stored_tests authority.0 kind) }
+{
+    let Kind::StoreCap(stored) = kind else {
+        return None;
+    };
+    if !stored.tag {
+        None
+    } else if !permits(authority, PERMIT_STORE_CAPABILITY) {
+        Some(OpFault::StoreCapPermission)
+    } else if !permits(stored.word, GLOBAL) && !permits(authority, PERMIT_STORE_LOCAL_CAPABILITY) {
+        Some(OpFault::StoreLocalPermission)
+    } else {
+        None
+    }
+}
+
+/// The address at an offset from an authority's, modulo 2^64.
+#[tactic(auto, unfolding(crate::specs::Accesses::access_address))]
+fn target_of(authority: Word, offset: i16) -> u64
+    ensures { result ≡ access_address authority.0 offset }
+{
+    address(authority).wrapping_add_signed(i64::from(offset))
+}
+
+/// The first test that refuses an access at an address.
+#[tactic(auto, unfolding(crate::specs::Accesses::access_tests))]
+fn access_fault(authority: Cap, access: Access, address: u64) -> Option<OpFault>
+    requires { address ≡ access_address authority.word.0 access.offset }
+    ensures { result ≡ first_of (access_tests authority access.kind access.offset access.size) }
+{
+    let word = authority.word;
+    if !authority.tag {
+        Some(OpFault::AuthorityUntagged)
+    } else if sealed(word) {
+        Some(OpFault::AuthoritySealed)
+    } else if !permits(word, needed(access.kind)) {
+        Some(OpFault::AuthorityPermission)
+    } else if !holds_bytes(word, address, access.size) {
+        Some(OpFault::AuthorityBounds)
+    } else if !is_aligned(address, access) {
+        Some(OpFault::Misaligned)
+    } else {
+        stored_fault(word, access.kind)
+    }
+}
+
+/// Whether an authority allows an access: where it does, the address, which is the authority's plus the
+/// offset, modulo 2^64.
+///
+/// The tests come in this order: the authority is tagged, unsealed, has Load or Store, and holds all bytes
+/// in its bounds; the address is a multiple of the size; and where a tagged capability is stored, the
+/// authority has Store Capability, and Store Local Capability if the capability is not global.
+pub fn may_access(authority: Cap, access: Access) -> Result<u64, OpFault>
+    ensures outcome { MatchResult result
+        (λ address. (first_of (access_tests authority access.kind access.offset access.size) ≡ None)
+        × (address ≡ access_address authority.word.0 access.offset))
+        (λ fault. first_of (access_tests authority access.kind access.offset access.size) ≡ Some fault) }
+    ensures allowed { IfOk result (λ address. IsAllowed authority.word.0 address access.size (permission_for access.kind)) }
+    ensures in_one_granule { IfOk result (λ address. address % 16 + access.size ≤ 16) }
+{
+    let target = target_of(authority.word, access.offset);
+    match access_fault(authority, access, target) {
+        Some(fault) => Err(fault),
+        None => Ok(target),
+    }
+}
+
+/// What a load of a stored capability gives: its tag goes where the authority lacks Load Capability.
+#[tactic(auto, unfolding(crate::specs::Accesses::loaded_result))]
+pub fn loaded(authority: Cap, stored: Cap) -> Cap
+    ensures result_is { result ≡ loaded_result authority stored }
+    ensures lawful { StaysWithin result stored }
+{
+    Cap {
+        tag: stored.tag && permits(authority.word, PERMIT_LOAD_CAPABILITY),
+        word: stored.word,
+    }
+}
+
+#[cfg(test)]
+mod tests;

@@ -1,0 +1,70 @@
+//! Single fields and permissions of a word, by shifts and masks of its 128 bits.
+
+ghost use Rattle.std.specs.Prelude.{◌≡◌, ◌<◌, ◌^◌};
+ghost use Rattle.cap_word.specs.Fields.{address_of, otype_of, perms_of};
+ghost use Rattle.cap_ops.specs.Permissions.{has_permission, with_perms, with_type};
+
+use cap_word::Word;
+
+/// The numbers of the permissions that operations test, in the architectural view and in the field.
+pub(crate) const GLOBAL: u32 = 0;
+
+pub(crate) const PERMIT_LOAD: u32 = 2;
+
+pub(crate) const PERMIT_STORE: u32 = 3;
+
+pub(crate) const PERMIT_LOAD_CAPABILITY: u32 = 4;
+
+pub(crate) const PERMIT_STORE_CAPABILITY: u32 = 5;
+
+pub(crate) const PERMIT_STORE_LOCAL_CAPABILITY: u32 = 6;
+
+pub(crate) const PERMIT_SEAL: u32 = 7;
+
+pub(crate) const PERMIT_UNSEAL: u32 = 9;
+
+/// The address.
+pub(crate) fn address(word: Word) -> u64
+    ensures { result ≡ address_of word.0 }
+{
+    (word.0 & 0xffff_ffff_ffff_ffff) as u64
+}
+
+/// The object type.
+pub(crate) fn object_type(word: Word) -> u32
+    ensures { result ≡ otype_of word.0 }
+{
+    ((word.0 >> 91) & 0x3_ffff) as u32
+}
+
+/// The field of permissions.
+pub(crate) fn permissions(word: Word) -> u16
+    ensures { result ≡ perms_of word.0 }
+{
+    (word.0 >> 112) as u16
+}
+
+/// Whether a word has an architectural permission.
+pub(crate) fn permits(word: Word, permission: u32) -> bool
+    requires { permission < 12 }
+    ensures { result ≡ has_permission word.0 permission }
+{
+    (word.0 >> (112 + permission)) & 1 == 1
+}
+
+/// The word with another field of permissions.
+pub(crate) fn replace_permissions(word: Word, permissions: u16) -> Word
+    ensures { result.0 ≡ with_perms word.0 permissions }
+{
+    Word((u128::from(permissions) << 112) + (word.0 & 0xffff_ffff_ffff_ffff_ffff_ffff_ffff))
+}
+
+/// The word with another object type, of 18 bits.
+pub(crate) fn replace_type(word: Word, object_type: u32) -> Word
+    requires { object_type < 2 ^ 18 }
+    ensures { result.0 ≡ with_type word.0 object_type }
+{
+    let high = (word.0 >> 109) << 109;
+    let low = word.0 & 0x7ff_ffff_ffff_ffff_ffff_ffff;
+    Word(high + (u128::from(object_type) << 91) + low)
+}

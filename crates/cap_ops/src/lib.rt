@@ -1,0 +1,25 @@
+//! The operations on capabilities: each makes a capability from others, or refuses with the first test
+//! that holds. A tagged result of a sound source is sound, has bounds inside its source's, and has no
+//! permission that its source lacks. Nothing here takes memory.
+#![tactic(auto)]
+
+mod accesses;
+mod addresses;
+mod bits;
+mod faults;
+mod kinds;
+mod narrowing;
+mod permissions;
+mod requests;
+#[cfg(test)]
+mod samples;
+mod sealing;
+
+pub use crate::accesses::{loaded, may_access};
+pub use crate::addresses::set_addr;
+pub use crate::faults::OpFault;
+pub use crate::kinds::Kind;
+pub use crate::narrowing::set_bounds;
+pub use crate::permissions::{and_perm, clear_tag, perm_view};
+pub use crate::requests::Access;
+pub use crate::sealing::{seal, sealed, unseal};

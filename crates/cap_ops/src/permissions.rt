@@ -1,0 +1,82 @@
+//! Permissions, and the tag.
+
+ghost use Rattle.std.specs.Prelude.{◌≡◌, None, Some, MatchResult, IfOk, bit_and};
+ghost use Rattle.cap_ops.specs.Authority.{StaysWithin};
+ghost use Rattle.cap_ops.specs.Operations.{and_perm_result, and_perm_tests, cleared};
+ghost use Rattle.cap_ops.specs.Permissions.{perm_view_of, perms_from_view};
+ghost use Rattle.cap_ops.specs.Tests.{first_of};
+
+use crate::bits::{permissions, replace_permissions};
+use crate::faults::OpFault;
+use crate::sealing::sealed;
+use cap_word::{Cap, Word};
+
+/// The permissions in the architectural view: bits 0 to 11 as in the word's field, and the four for users
+/// at bits 15 to 18 (Sail CHERI-RISC-V: `getCapPerms`).
+pub fn perm_view(word: Word) -> u32
+    ensures { result ≡ perm_view_of word.0 }
+{
+    let field = u32::from(permissions(word));
+    (field & 0xfff) + ((field >> 12) << 15)
+}
+
+/// The field of permissions for those of a view.
+fn field_of(view: u64) -> u16
+    ensures { result ≡ perms_from_view view }
+{
+    (view & 0xfff) as u16 + ((((view >> 15) & 0xf) as u16) << 12)
+}
+
+/// The capability without its tag (CClearTag).
+pub fn clear_tag(source: Cap) -> Cap
+    ensures result_is { result ≡ cleared source }
+    ensures lawful { StaysWithin result source }
+{
+    Cap {
+        tag: false,
+        word: source.word,
+    }
+}
+
+/// The first test that refuses to take permissions from a source.
+#[tactic(auto, unfolding(crate::specs::Operations::and_perm_tests))]
+fn and_perm_fault(source: Cap) -> Option<OpFault>
+    ensures { result ≡ first_of (and_perm_tests source) }
+{
+    if source.tag && sealed(source.word) {
+        Some(OpFault::SourceSealed)
+    } else {
+        None
+    }
+}
+
+/// The source with those of its permissions that a mask has too.
+fn masked(source: Cap, mask: u64) -> Cap
+    ensures { result ≡ and_perm_result source mask }
+{
+    let kept = permissions(source.word) & field_of(mask);
+    Cap {
+        tag: source.tag,
+        word: replace_permissions(source.word, kept),
+    }
+}
+
+/// Takes permissions away: those of the view that the mask lacks (CAndPerm). Bits of the mask that stand
+/// for no permission have no effect.
+///
+/// A tagged source that is sealed is refused, as `SourceSealed`.
+pub fn and_perm(source: Cap, mask: u64) -> Result<Cap, OpFault>
+    ensures outcome { MatchResult result
+        (λ cap. (first_of (and_perm_tests source) ≡ None) × (cap ≡ and_perm_result source mask))
+        (λ fault. first_of (and_perm_tests source) ≡ Some fault) }
+    ensures view { IfOk result (λ cap. perm_view_of cap.word.0 ≡ bit_and (perm_view_of source.word.0) mask) }
+    ensures lawful { IfOk result (λ cap. StaysWithin cap source) }
+{
+    match and_perm_fault(source) {
+        Some(fault) => Err(fault),
+        None => Ok(masked(source, mask)),
+    }
+}
+
+#[cfg(test)]
+mod tests;

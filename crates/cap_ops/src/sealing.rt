@@ -1,0 +1,181 @@
+//! Object types: sealing and unsealing.
+
+ghost use Rattle.std.specs.Prelude.{◌≡◌, ◌<◌, None, Some, MatchResult, IfOk};
+ghost use Rattle.cap_word.specs.Fields.{address_of};
+ghost use Rattle.cap_ops.specs.Authority.{StaysWithin};
+ghost use Rattle.cap_ops.specs.Operations.{
+  holds_address,
+  is_sealed_with,
+  perms_with_common_global,
+  seal_result,
+  seal_tests,
+  type_authority_tests,
+  unseal_result,
+  unseal_tests,
+};
+ghost use Rattle.cap_ops.specs.Permissions.{is_sealed};
+ghost use Rattle.cap_ops.specs.Tests.{first_of};
+
+use crate::bits::{
+    GLOBAL, PERMIT_SEAL, PERMIT_UNSEAL, address, object_type, permissions, permits,
+    replace_permissions, replace_type,
+};
+use crate::faults::OpFault;
+use cap_bounds::bounds;
+use cap_word::{Cap, Word};
+
+/// The object type of a word that is not sealed.
+const UNSEALED_TYPE: u32 = 0x3_ffff;
+
+/// The greatest object type for sealing. Those above it are reserved.
+const GREATEST_TYPE: u32 = 0x3_fffb;
+
+/// Whether a word is sealed: its object type is not `0x3ffff` (Sail CHERI-RISC-V: `isCapSealed`).
+#[tactic(auto, unfolding(crate::specs::Permissions::is_sealed))]
+pub fn sealed(word: Word) -> bool
+    ensures { result ≡ is_sealed word.0 }
+{
+    object_type(word) != UNSEALED_TYPE
+}
+
+/// Whether an address lies in a word's bounds.
+#[tactic(auto, unfolding(crate::specs::Operations::holds_address))]
+fn holds(word: Word, address: u64) -> bool
+    ensures { result ≡ holds_address word.0 address }
+{
+    let interval = bounds(word);
+    interval.base <= address && u128::from(address) < interval.top
+}
+
+/// The first test that refuses an authority for object types.
+fn authority_fault(authority: Cap, permission: u32) -> Option<OpFault>
+    requires { permission < 12 }
+    ensures { result ≡ first_of (type_authority_tests authority permission) }
+{
+    let word = authority.word;
+    if !authority.tag {
+        Some(OpFault::AuthorityUntagged)
+    } else if sealed(word) {
+        Some(OpFault::AuthoritySealed)
+    } else if !permits(word, permission) {
+        Some(OpFault::AuthorityPermission)
+    } else if !holds(word, address(word)) {
+        Some(OpFault::AuthorityBounds)
+    } else {
+        None
+    }
+}
+
+/// The first test that refuses a sealing.
+#[tactic(auto, unfolding(crate::specs::Operations::seal_tests))]
+fn seal_fault(source: Cap, authority: Cap) -> Option<OpFault>
+    ensures { result ≡ first_of (seal_tests source authority) }
+{
+    if let Some(fault) = authority_fault(authority, PERMIT_SEAL) {
+        return Some(fault);
+    }
+    if address(authority.word) > u64::from(GREATEST_TYPE) {
+        Some(OpFault::TypeOutOfRange)
+    } else if !source.tag {
+        Some(OpFault::SourceUntagged)
+    } else if sealed(source.word) {
+        Some(OpFault::SourceSealed)
+    } else {
+        None
+    }
+}
+
+/// The source with the low 18 bits of the authority's address as its object type.
+#[tactic(auto, unfolding(crate::specs::Operations::seal_result))]
+fn with_authority_type(source: Cap, authority: Cap) -> Cap
+    ensures { result ≡ seal_result source authority }
+{
+    let object_type = (address(authority.word) & 0x3_ffff) as u32;
+    Cap {
+        tag: source.tag,
+        word: replace_type(source.word, object_type),
+    }
+}
+
+/// Seals the source with the authority's address as its object type (CSeal).
+///
+/// The tests come in this order: the authority is tagged, unsealed, has Seal, holds its own address in its
+/// bounds, and that address is at most `0x3fffb`; the source is tagged and unsealed.
+pub fn seal(source: Cap, authority: Cap) -> Result<Cap, OpFault>
+    ensures outcome { MatchResult result
+        (λ cap. (first_of (seal_tests source authority) ≡ None) × (cap ≡ seal_result source authority))
+        (λ fault. first_of (seal_tests source authority) ≡ Some fault) }
+    ensures lawful { IfOk result (λ cap. StaysWithin cap source) }
+{
+    match seal_fault(source, authority) {
+        Some(fault) => Err(fault),
+        None => Ok(with_authority_type(source, authority)),
+    }
+}
+
+/// Whether a word is sealed with an object type that is not reserved.
+#[tactic(auto, unfolding(crate::specs::Operations::is_sealed_with))]
+fn sealed_with(word: Word, address: u64) -> bool
+    ensures { result ≡ is_sealed_with word.0 address }
+{
+    let object_type = object_type(word);
+    u64::from(object_type) == address && object_type <= GREATEST_TYPE
+}
+
+/// The first test that refuses an unsealing.
+#[tactic(auto, unfolding(crate::specs::Operations::unseal_tests))]
+fn unseal_fault(source: Cap, authority: Cap) -> Option<OpFault>
+    ensures { result ≡ first_of (unseal_tests source authority) }
+{
+    if let Some(fault) = authority_fault(authority, PERMIT_UNSEAL) {
+        return Some(fault);
+    }
+    if !source.tag {
+        Some(OpFault::SourceUntagged)
+    } else if !sealed_with(source.word, address(authority.word)) {
+        Some(OpFault::TypeMismatch)
+    } else {
+        None
+    }
+}
+
+/// The permissions of a word, Global only where another word has it too.
+fn with_common_global(word: Word, other: Word) -> u16
+    ensures { result ≡ perms_with_common_global word.0 other.0 }
+{
+    let global = permits(word, GLOBAL) && permits(other, GLOBAL);
+    (permissions(word) & 0xfffe) + u16::from(global)
+}
+
+/// The source unsealed, and global only where the authority is.
+#[tactic(auto, unfolding(crate::specs::Operations::unseal_result))]
+fn without_type(source: Cap, authority: Cap) -> Cap
+    ensures { result ≡ unseal_result source authority }
+{
+    let permissions = with_common_global(source.word, authority.word);
+    let word = replace_permissions(source.word, permissions);
+    Cap {
+        tag: source.tag,
+        word: replace_type(word, UNSEALED_TYPE),
+    }
+}
+
+/// Unseals the source, which is sealed with the authority's address (CUnseal). The result is global only
+/// where both are.
+///
+/// The tests come in this order: the authority is tagged, unsealed, has Unseal, and holds its own address
+/// in its bounds; the source is tagged, and its object type is that address and not reserved.
+pub fn unseal(source: Cap, authority: Cap) -> Result<Cap, OpFault>
+    ensures outcome { MatchResult result
+        (λ cap. (first_of (unseal_tests source authority) ≡ None) × (cap ≡ unseal_result source authority))
+        (λ fault. first_of (unseal_tests source authority) ≡ Some fault) }
+    ensures lawful { IfOk result (λ cap. StaysWithin cap source) }
+{
+    match unseal_fault(source, authority) {
+        Some(fault) => Err(fault),
+        None => Ok(without_type(source, authority)),
+    }
+}
+
+#[cfg(test)]
+mod tests;

@@ -1,0 +1,44 @@
+//! The layout of a word in memory.
+
+ghost use Rattle.std.specs.Prelude.{◌≡◌, ◌<◌, ℕ, slice_index};
+ghost use Rattle.cap_word.specs.Memory.{memory_byte, memory_of, stored_word};
+
+use crate::word::{Word, null};
+
+/// The sixteen bytes of a word in memory, lowest first: its layout XOR that of NULL, so that NULL is
+/// sixteen zero bytes.
+pub fn to_memory(word: Word) -> [u8; 16]
+    ensures bytes { result ≡ memory_of word.0 }
+    ensures by_index { (i : ℕ) → i < 16 → slice_index result i ≡ memory_byte word.0 i }
+    ensures reads_back { stored_word result ≡ word.0 }
+{
+    (word.0 ^ null().0).to_le_bytes()
+}
+
+/// The word that sixteen bytes of memory hold: the inverse of [`to_memory`].
+pub fn from_memory(bytes: &[u8; 16]) -> Word
+    ensures word { result.0 ≡ stored_word bytes.now }
+    ensures by_index { (i : ℕ) → i < 16 → memory_byte result.0 i ≡ slice_index bytes.now i }
+    ensures writes_back { memory_of result.0 ≡ bytes.now }
+{
+    Word(u128::from_le_bytes(*bytes) ^ null().0)
+}
+
+#[cfg(test)]
+mod tests {
+    use super::*;
+
+    #[test]
+    fn given_words_in_memory(rt: HostRuntime) {
+        for (word, bytes) in [
+            (0x00001ffffc0180040000000000000000, 0),
+            (
+                0xffff1ffffbffd0000000000000001000,
+                0x00100000000000000450fe070000ffffu128,
+            ),
+        ] {
+            assert_eq!(rt; to_memory(Word(word)), bytes.to_be_bytes());
+            assert_eq!(rt; from_memory(&bytes.to_be_bytes()), Word(word));
+        }
+    }
+}

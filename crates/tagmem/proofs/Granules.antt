@@ -1,0 +1,134 @@
+-- What a map of granules has after a put, and what a write leaves of a granule's bytes.
+use Rattle.std.proofs.Common.{◌≡◌, ℕ, ◌+◌, ◌-◌, ◌^◌, ◌<◌, ◌≤◌, ◌≢◌, Bool, true, false, cond, eqb, List, [], ◌++◌, length, get_or, take, drop, All, Option, Some, None, unwrap_or, is_some, Result, Ok, Err, OnOk, OnErr, sym, refl, ap, subst, ◌∙◌, arith}
+use Rattle.std.specs.Ordering.{nat_cmp}
+use Rattle.std.specs.Cmp.{nat_cmp_total, unsigned_tied}
+use Rattle.std.specs.FinMap.{get, insert, len, empty, get-insert, get-empty, len-insert}
+use Rattle.std.proofs.lemmas.Bool.{eqb-true}
+use Rattle.std.proofs.lemmas.Bool.Decides.{nat_tests}
+use Rattle.std.proofs.lemmas.List.{length-append, length-take-le, length-drop, drop_all, append-nil, get_or-take, get_or-drop, get_or_append_left, get_or-append_right}
+use Rattle.std.proofs.lemmas.List.Elements.{All-append, All-take, All-drop, All-replicate}
+use Rattle.tagmem.specs.Granules.{Entry, Granules, blank, entry_at, bytes_at, overwritten, IsStored, AreStored}
+
+module _ (m : Granules) (granule : ℕ) (entry : Entry) where
+  -- a put changes one granule, and no other
+  pub get-put : (q : ℕ) → get (insert m granule entry) q ≡ cond (eqb q granule) (Some entry) (get m q)
+  get-put q = get-insert nat_cmp_total m granule entry q ∙ ap (λ b. cond b (Some entry) (get m q)) (unsigned_tied q granule)
+
+  pub get-put_same : get (insert m granule entry) granule ≡ Some entry
+  get-put_same = grind (arith, nat_tests, get-put granule)
+
+  pub get-put_other : (q : ℕ) → q ≢ granule → get (insert m granule entry) q ≡ get m q
+  get-put_other q differs = grind (arith, nat_tests, get-put q)
+
+  -- the same of what stands in a granule
+  pub entry_at-put : (q : ℕ) → entry_at (insert m granule entry) q ≡ cond (eqb q granule) entry (entry_at m q)
+  entry_at-put q = grind (arith, nat_tests, get-put q)
+
+  pub entry_at-put_same : entry_at (insert m granule entry) granule ≡ entry
+  entry_at-put_same = ap (λ o. unwrap_or o blank) get-put_same
+
+  pub entry_at-put_other : (q : ℕ) → q ≢ granule → entry_at (insert m granule entry) q ≡ entry_at m q
+  entry_at-put_other q differs = ap (λ o. unwrap_or o blank) (get-put_other q differs)
+
+  -- what holds of each granule, and of what is put, holds of each afterwards
+  pub each-put : (P : ℕ → Entry → Type 0) → P granule entry → ((q : ℕ) → P q (entry_at m q)) → (q : ℕ) → P q (entry_at (insert m granule entry) q)
+  each-put P here there q =
+      elim (eqb q granule) as (λ b. eqb q granule ≡ b → P q (entry_at (insert m granule entry) q)) [
+        | true ↦ λ is. subst (λ g. P g (entry_at (insert m granule entry) g)) (sym (eqb-true q granule is)) (subst (P granule) (sym entry_at-put_same) here)
+        | false ↦ λ is. subst (P q) (sym (entry_at-put q ∙ ap (λ b. cond b entry (entry_at m q)) is)) (there q)
+      ] refl
+
+  -- a put of a granule that was never put adds one entry, and any other adds none
+  pub len-put : len (insert m granule entry) ≡ cond (is_some (get m granule)) (len m) (len m + 1)
+  len-put = len-insert nat_cmp_total m granule entry
+
+  pub len-put_new : get m granule ≡ None → len (insert m granule entry) ≡ len m + 1
+  len-put_new new = len-put ∙ ap (λ o. cond (is_some o) (len m) (len m + 1)) new
+
+  pub len-put_old : (old : Entry) → get m granule ≡ Some old → len (insert m granule entry) ≡ len m
+  len-put_old old there = len-put ∙ ap (λ o. cond (is_some o) (len m) (len m + 1)) there
+
+  pub len-put_le : len (insert m granule entry) ≤ len m + 1
+  len-put_le = grind (arith, len-put)
+
+-- nothing stands in an empty map
+pub entry_at-empty : (q : ℕ) → entry_at empty q ≡ blank
+entry_at-empty q = ap (λ o. unwrap_or o blank) (get-empty nat_cmp q)
+
+-- what holds of the map before a put, and of the one that the put makes, holds of the map after a try
+pub each-tried : {A B : Type 0} (r : Result A B) (P : Granules → Type 0) (old put new : Granules) → OnOk r (new ≡ put) → OnErr r (new ≡ old) → P put → P old → P new
+each-tried (Ok _) P old put new ok err p q = subst P (sym ok) p
+each-tried (Err _) P old put new ok err p q = subst P (sym err) q
+
+-- a write keeps how many bytes there are
+pub length-overwritten : (bytes : List ℕ) (from : ℕ) (new : List ℕ) → from + length new ≤ length bytes → length (overwritten bytes from new) ≡ length bytes
+length-overwritten bytes from new inside =
+    let taken : length (take from bytes) ≡ from = length-take-le from bytes (omega arith) in
+    simp (length-append, length-drop) (omega arith)
+
+-- and what holds of each byte, old and new
+pub All-overwritten : (P : ℕ → Type 0) (bytes : List ℕ) (from : ℕ) (new : List ℕ) → All P bytes → All P new → All P (overwritten bytes from new)
+All-overwritten P bytes from new all all_new = All-append P _ _ (All-append P _ _ (All-take P from bytes all) all_new) (All-drop P (from + length new) bytes all)
+
+-- a write of all the bytes leaves none of the old
+pub overwritten_whole : (bytes new : List ℕ) → length new ≡ length bytes → overwritten bytes 0 new ≡ new
+overwritten_whole bytes new same =
+    let rest : drop (0 + length new) bytes ≡ [] = drop_all (0 + length new) bytes (omega arith) in
+    ap (λ tail. new ++ tail) rest ∙ append-nil new
+
+-- the bytes before a write stay
+pub get_or-overwritten_before : (bytes : List ℕ) (from : ℕ) (new : List ℕ) (i d : ℕ) → from ≤ length bytes → i < from → get_or (overwritten bytes from new) i d ≡ get_or bytes i d
+get_or-overwritten_before bytes from new i d inside lt =
+    let taken : length (take from bytes) ≡ from = length-take-le from bytes inside in
+    let first : length (take from bytes ++ new) ≡ from + length new = length-append (take from bytes) new ∙ ap (λ n. n + length new) taken in
+    get_or_append_left (take from bytes ++ new) _ d i (omega arith) ∙ get_or_append_left (take from bytes) new d i (omega arith) ∙ get_or-take from bytes i d lt
+
+-- those in it are the new ones
+pub get_or-overwritten_in : (bytes : List ℕ) (from : ℕ) (new : List ℕ) (i d : ℕ) → from ≤ length bytes → i < length new → get_or (overwritten bytes from new) (from + i) d ≡ get_or new i d
+get_or-overwritten_in bytes from new i d inside lt =
+    let taken : length (take from bytes) ≡ from = length-take-le from bytes inside in
+    let first : length (take from bytes ++ new) ≡ from + length new = length-append (take from bytes) new ∙ ap (λ n. n + length new) taken in
+    let place : from + i - from ≡ i = omega arith in
+    get_or_append_left (take from bytes ++ new) _ d (from + i) (omega arith) ∙ get_or-append_right (take from bytes) new from (from + i) d taken (omega arith) ∙ ap (λ j. get_or new j d) place
+
+-- and those after it stay
+pub get_or-overwritten_after : (bytes : List ℕ) (from : ℕ) (new : List ℕ) (i d : ℕ) → from ≤ length bytes → from + length new ≤ i → get_or (overwritten bytes from new) i d ≡ get_or bytes i d
+get_or-overwritten_after bytes from new i d inside le =
+    let taken : length (take from bytes) ≡ from = length-take-le from bytes inside in
+    let first : length (take from bytes ++ new) ≡ from + length new = length-append (take from bytes) new ∙ ap (λ n. n + length new) taken in
+    let place : from + length new + (i - (from + length new)) ≡ i = omega arith in
+    get_or-append_right (take from bytes ++ new) _ (from + length new) i d first le ∙ get_or-drop (from + length new) bytes (i - (from + length new)) d ∙ ap (λ j. get_or bytes j d) place
+
+-- a write inside a granule leaves a granule
+pub IsStored-overwritten : (granule : ℕ) (old : Entry) (tag : Bool) (from : ℕ) (new : List ℕ) → IsStored granule old → from + length new ≤ 16 → All (λ byte. byte < 256) new → IsStored granule (tag, overwritten old.1 from new)
+IsStored-overwritten granule old tag from new stored inside fits = record {
+  in_memory = stored.in_memory;
+  sixteen = length-overwritten old.1 from new (omega (arith, stored.sixteen)) ∙ stored.sixteen;
+  bytes = All-overwritten (λ byte. byte < 256) old.1 from new stored.bytes fits;
+}
+
+-- a granule that was never put is a granule too
+pub IsStored-blank : (granule : ℕ) → granule < 2 ^ 60 → IsStored granule blank
+IsStored-blank granule below = record { in_memory = below; sixteen = refl; bytes = All-replicate (λ byte. byte < 256) 16 0 (omega arith) }
+
+-- so there are sixteen bytes in each granule, each below 256
+pub IsStored-entry_at : (m : Granules) → AreStored m → (q : ℕ) → q < 2 ^ 60 → IsStored q (entry_at m q)
+IsStored-entry_at m stored q below = by_entry (get m q) refl
+  where
+    by_entry : (o : Option Entry) → get m q ≡ o → IsStored q (unwrap_or o blank)
+    by_entry None is = IsStored-blank q below
+    by_entry (Some entry) is = stored q entry is
+
+pub length-bytes_at : (m : Granules) → AreStored m → (q : ℕ) → length (bytes_at m q) ≡ 16
+length-bytes_at m stored q = by_entry (get m q) refl
+  where
+    by_entry : (o : Option Entry) → get m q ≡ o → length (unwrap_or o blank).1 ≡ 16
+    by_entry None is = refl
+    by_entry (Some entry) is = (stored q entry is).sixteen
+
+pub bytes_at_fit : (m : Granules) → AreStored m → (q : ℕ) → All (λ byte. byte < 256) (bytes_at m q)
+bytes_at_fit m stored q = by_entry (get m q) refl
+  where
+    by_entry : (o : Option Entry) → get m q ≡ o → All (λ byte. byte < 256) (unwrap_or o blank).1
+    by_entry None is = All-replicate (λ byte. byte < 256) 16 0 (omega arith)
+    by_entry (Some entry) is = (stored q entry is).bytes

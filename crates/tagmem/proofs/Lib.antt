@@ -1,0 +1,3 @@
+pub mod Granules
+mod Listed
+mod Places

@@ -1,0 +1,3 @@
+pub mod Granules
+pub mod Listed
+pub mod ListLaws

@@ -1,0 +1,82 @@
+-- Why the map that a list of entries is keeps the laws of a store.
+use Rattle.std.proofs.Common.{◌≡◌, ℕ, suc, ◌+◌, ◌^◌, ◌<◌, ◌≢◌, true, false, cond, eqb, List, [], ◌∷◌, map, length, get_or, Option, Some, None, is_some, sym, refl, ap, subst, ◌∙◌, arith}
+use Rattle.std.specs.Ordering.{nat_cmp}
+use Rattle.std.specs.Cmp.{nat_cmp_total, unsigned_tied}
+use Rattle.std.specs.FinMap as map
+use Rattle.std.specs.FinMap.{find, get-from_entries}
+use Rattle.std.proofs.lemmas.Bool.{eqb-true}
+use Rattle.std.proofs.lemmas.Bool.Decides.{nat_tests}
+use Rattle.std.proofs.lemmas.List.{length-map}
+use Rattle.std.proofs.lemmas.List.Elements.{All-head, All-tail}
+use Rattle.std.proofs.lemmas.Map.Keys.{below_from_sorted, sorted_from_strictly_increasing}
+use Rattle.std.proofs.lemmas.Option.{none-some, same_Some}
+use Rattle.tagmem.specs.declared.list_store.Listed.{Listed}
+use Rattle.tagmem.specs.Granules.{Entry, IsStored, AreStored}
+use Rattle.tagmem.specs.Listed.{entry_of, keyed, contents_of, granules_of, IsRising, AllStored}
+
+-- the granule of the entry at a place
+abbrev pub granule_at : List Listed → ℕ → ℕ
+granule_at l i = get_or (granules_of l) i 0
+
+-- what the first entry of a granule says stands there
+abbrev pub found : List Listed → ℕ → Option Entry
+found [] q = None
+found (x ∷ l) q = cond (eqb q x.granule) (Some (entry_of x)) (found l q)
+
+find-keyed : (l : List Listed) (q : ℕ) → find nat_cmp q (map keyed l) ≡ found l q
+find-keyed [] q = refl
+find-keyed (x ∷ l) q = ap (λ b. cond b (Some (entry_of x)) (find nat_cmp q (map keyed l))) (unsigned_tied q x.granule) ∙ ap (cond (eqb q x.granule) (Some (entry_of x))) (find-keyed l q)
+
+-- the map has it
+pub get-contents_of : (l : List Listed) (q : ℕ) → map.get (contents_of l) q ≡ found l q
+get-contents_of l q = get-from_entries nat_cmp_total (map keyed l) q ∙ find-keyed l q
+
+-- no entry before place i is the granule's
+abbrev pub NoneBefore : List Listed → ℕ → ℕ → Type 0
+NoneBefore l k i = (j : ℕ) → j < i → granule_at l j ≢ k
+
+pub none_before_tail : (x : Listed) (l : List Listed) (k i : ℕ) → NoneBefore (x ∷ l) k (suc i) → NoneBefore l k i
+none_before_tail x l k i none j lt = none (suc j) (omega arith)
+
+-- a granule that no entry is of is not found
+pub found_absent : (l : List Listed) (k : ℕ) → NoneBefore l k (length l) → found l k ≡ None
+found_absent [] k none = refl
+found_absent (x ∷ l) k none = grind (arith, nat_tests, none 0 (omega arith), found_absent l k (none_before_tail x l k _ none))
+
+-- what is found is what some entry says
+pub found_stored : (l : List Listed) → AllStored l → (q : ℕ) (entry : Entry) → found l q ≡ Some entry → IsStored q entry
+found_stored [] all q entry is = absurd (none-some entry is)
+found_stored (x ∷ l) all q entry is =
+    elim (eqb q x.granule) as (λ b. eqb q x.granule ≡ b → cond b (Some (entry_of x)) (found l q) ≡ Some entry → IsStored q entry) [
+      | true ↦ λ same here.
+          subst (λ granule. IsStored granule entry) (sym (eqb-true q x.granule same))
+          (subst (IsStored x.granule) (same_Some (entry_of x) entry here) (All-head (λ listed. IsStored listed.granule (entry_of listed)) x l all))
+      | false ↦ λ differs later. found_stored l (All-tail (λ listed. IsStored listed.granule (entry_of listed)) x l all) q entry later
+    ] refl is
+
+-- so the map's entries are granules'
+pub AreStored-contents_of : (l : List Listed) → AllStored l → AreStored (contents_of l)
+AreStored-contents_of l all q entry is = found_stored l all q entry (sym (get-contents_of l q) ∙ is)
+
+-- the granules rise over any distance
+abbrev pub RisesFar : List Listed → Type 0
+RisesFar l = (i j : ℕ) → i < j → j < length l → granule_at l i < granule_at l j
+
+pub rises_far : (l : List Listed) → IsRising l → RisesFar l
+rises_far l rising i j lt in_range = below_from_sorted (granules_of l) i j 0 (sorted_from_strictly_increasing (granules_of l) rising) lt (rw length-map in_range)
+
+len_by_tail : (l : List Listed) → RisesFar l → map.len (contents_of l) ≡ length l
+len_by_tail [] far = map.len-empty nat_cmp Entry
+len_by_tail (x ∷ l) far =
+    let absent : found l x.granule ≡ None = found_absent l x.granule (λ j lt same. omega (arith, far 0 (suc j) (omega arith) (omega arith))) in
+    let tail : map.len (contents_of l) ≡ length l = len_by_tail l (λ i j lt in_range. far (suc i) (suc j) (omega arith) (omega arith)) in
+    let added : map.len (contents_of (x ∷ l)) ≡ map.len (contents_of l) + 1 = map.len-insert nat_cmp_total (contents_of l) x.granule (entry_of x) ∙ ap (λ o. cond (is_some o) (map.len (contents_of l)) (map.len (contents_of l) + 1)) (get-contents_of l x.granule ∙ absent) in
+    omega arith
+
+-- a list whose granules rise has as many entries as its map
+pub len-contents_of : (l : List Listed) → IsRising l → map.len (contents_of l) ≡ length l
+len-contents_of l rising = len_by_tail l (rises_far l rising)
+
+-- and a short one has a map whose count fits
+pub len_fits : (l : List Listed) → IsRising l → length l < 2 ^ 32 → map.len (contents_of l) < 2 ^ 32
+len_fits l rising short = omega (arith, len-contents_of l rising)

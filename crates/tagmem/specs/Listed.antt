@@ -1,0 +1,41 @@
+-- The entries that a `ListStore` keeps, and the map that they are. All of it is this profile's own.
+use Rattle.std.specs.Prelude.{◌≡◌, ℕ, ◌<◌, ◌≤◌, List, length, map, All, slice_index}
+use Rattle.std.specs.List.Sorted.{IsStrictlyIncreasing}
+use Rattle.std.specs.FinMap.{from_entries}
+use Rattle.tagmem.specs.declared.list_store.Listed.{Listed}
+use Rattle.tagmem.specs.Granules.{Entry, Granules, IsStored}
+
+-- what stands in the granule
+abbrev pub entry_of : Listed → Entry
+entry_of listed = (listed.tag, listed.bytes)
+
+-- the granule, and what stands there
+abbrev pub keyed : Listed → ℕ × Entry
+keyed listed = (listed.granule, entry_of listed)
+
+-- the map that a list of entries is
+abbrev pub contents_of : List Listed → Granules
+contents_of entries = from_entries (map keyed entries)
+
+-- the granules of the entries, in their order
+abbrev pub granules_of : List Listed → List ℕ
+granules_of entries = map (λ listed. listed.granule) entries
+
+-- the granules rise, so that none stands twice
+abbrev pub IsRising : List Listed → Type 0
+IsRising entries = IsStrictlyIncreasing (granules_of entries)
+
+-- each entry is a granule's
+abbrev pub AllStored : List Listed → Type 0
+AllStored entries = All (λ listed. IsStored listed.granule (entry_of listed)) entries
+
+-- the entry at a place is the granule's
+pub record IsAt (entries : List Listed) (granule place : ℕ) : Type 0 where
+  pub in_range : place < length entries
+  pub has_granule : slice_index (granules_of entries) place ≡ granule
+
+-- the granule has no entry, and its own would go at a place: lower granules before it, higher ones from it on
+pub record IsGapFor (entries : List Listed) (granule place : ℕ) : Type 0 where
+  pub in_range : place ≤ length entries
+  pub lower_before : (i : ℕ) → i < place → slice_index (granules_of entries) i < granule
+  pub higher_after : (i : ℕ) → place ≤ i → i < length entries → granule < slice_index (granules_of entries) i

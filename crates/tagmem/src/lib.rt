@@ -1,0 +1,11 @@
+//! Tagged memory: stores of granules, each with a tag and sixteen bytes.
+#![tactic(auto)]
+
+mod list_store;
+mod store;
+
+pub use crate::list_store::ListStore;
+pub use crate::store::{NoMemory, TaggedStore};
+
+#[cfg(test)]
+mod tests;

@@ -1,0 +1,54 @@
+//! What a store of tagged memory does.
+//!
+//! Granule `g` is the sixteen bytes from address `16 * g` on, so there are 2^60 of them. Each has one
+//! tag, which says whether its bytes are a valid capability. A store keeps those that were put.
+ghost use Rattle.std.specs.Prelude.{◌≡◌, ◌+◌, ◌^◌, ◌<◌, ◌≤◌, length, None, OnOk, OnErr};
+ghost use Rattle.std.specs.FinMap as map;
+ghost use Rattle.tagmem.specs.Granules.{Granules, AreStored, HasRoom, with_cap, with_bytes};
+
+/// The memory that a granule put for the first time needs was refused.
+#[derive(Clone, Copy, Debug, PartialEq, Eq)]
+pub struct NoMemory;
+
+/// A store of granules: a map from numbers below 2^60 to a tag and sixteen bytes, lowest address first.
+///
+/// Nothing but a put of a granule that was never put takes memory.
+pub trait TaggedStore: Drop {
+    /// The entries of the granules that were put, however the store keeps them.
+    ghost contents: { Self → Granules };
+
+    /// The tag and the bytes of a granule, or `None` where it was never put.
+    fn get(&self, granule: u64) -> Option<(bool, [u8; 16])>
+        requires { granule < 2 ^ 60 }
+        ensures { result ≡ map.get (contents self.now) granule };
+
+    /// Sets a granule's tag and bytes. After an error the store is as it was, and a granule that was
+    /// put before never gives one.
+    fn put_cap(&mut self, granule: u64, tag: bool, bytes: [u8; 16]) -> Result<(), NoMemory>
+        requires in_memory { granule < 2 ^ 60 }
+        requires room { HasRoom (contents self.old) granule }
+        ensures ok { OnOk result (contents self.new ≡ with_cap (contents self.old) granule tag bytes) }
+        ensures err { OnErr result (contents self.new ≡ contents self.old) }
+        ensures only_new { OnErr result (map.get (contents self.old) granule ≡ None) };
+
+    /// Writes one to sixteen bytes inside a granule, from its byte `at` on, and clears its tag. Its
+    /// other bytes stay, and are zero where it was never put. Errors are those of `put_cap`.
+    fn put_bytes(&mut self, granule: u64, at: u8, bytes: &[u8]) -> Result<(), NoMemory>
+        requires in_memory { granule < 2 ^ 60 }
+        requires some { 0 < length bytes.now }
+        requires inside { at + length bytes.now ≤ 16 }
+        requires room { HasRoom (contents self.old) granule }
+        ensures ok { OnOk result (contents self.new ≡ with_bytes (contents self.old) granule at bytes.now) }
+        ensures err { OnErr result (contents self.new ≡ contents self.old) }
+        ensures only_new { OnErr result (map.get (contents self.old) granule ≡ None) };
+
+    /// How many granules were put.
+    fn count(&self) -> u32
+        ensures { result ≡ map.len (contents self.now) };
+
+    /// Each entry is of a granule below 2^60 and has sixteen bytes.
+    ghost are_stored: { (s : Self) → AreStored (contents s) };
+
+    /// The count fits 32 bits.
+    ghost count_fits: { (s : Self) → map.len (contents s) < 2 ^ 32 };
+}

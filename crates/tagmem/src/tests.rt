@@ -1,0 +1,183 @@
+// The stores on puts whose answers are known, and beside a plain list.
+//
+// Run it with `rt try --test --fail-alloc N` too, for each N: a put whose memory is refused then
+// answers `NoMemory`, the list below still agrees with the store, and the same put succeeds the next
+// time.
+ghost use Rattle.std.specs.Prelude.{◌+◌, ◌^◌, ◌<◌, ◌≤◌, length};
+
+use crate::{ListStore, TaggedStore};
+use std::process::Abort;
+
+const SLOTS: usize = 48;
+
+const GRANULES: u64 = 1 << 60;
+
+// Puts, where one more granule can be counted. A put that is refused is tried again.
+fn put_cap<S: TaggedStore>(rt: &impl Abort, store: &mut S, granule: u64, tag: bool, bytes: [u8; 16])
+    requires { granule < 2 ^ 60 }
+{
+    assert!(rt; store.count() < u32::MAX);
+    if store.put_cap(granule, tag, bytes).is_err() {
+        assert!(rt; store.count() < u32::MAX);
+        assert_eq!(rt; store.put_cap(granule, tag, bytes), Ok(()));
+    }
+}
+
+fn put_bytes<S: TaggedStore>(rt: &impl Abort, store: &mut S, granule: u64, at: u8, bytes: &[u8])
+    requires in_memory { granule < 2 ^ 60 }
+    requires some { 0 < length bytes.now }
+    requires inside { at + length bytes.now ≤ 16 }
+{
+    assert!(rt; store.count() < u32::MAX);
+    if store.put_bytes(granule, at, bytes).is_err() {
+        assert!(rt; store.count() < u32::MAX);
+        assert_eq!(rt; store.put_bytes(granule, at, bytes), Ok(()));
+    }
+}
+
+// Puts at the ends of pages of 256 granules and of memory.
+fn counts_each_granule_once<S: TaggedStore>(rt: &impl Abort, store: &mut S) {
+    for granule in [0, 255, 256, GRANULES - 1] {
+        assert!(rt; granule < GRANULES);
+        put_cap(rt, store, granule, true, [7; 16]);
+    }
+    assert_eq!(rt; store.count(), 4);
+    put_cap(rt, store, 255, false, [9; 16]);
+    assert_eq!(rt; store.count(), 4);
+    assert_eq!(rt; store.get(1), None);
+    assert_eq!(rt; store.get(255), Some((false, [9; 16])));
+    assert_eq!(rt; store.get(256), Some((true, [7; 16])));
+}
+
+fn writes_over_zeros<S: TaggedStore>(rt: &impl Abort, store: &mut S) {
+    put_bytes(rt, store, 5, 3, &[0xaa]);
+    let mut bytes = [0; 16];
+    bytes[3] = 0xaa;
+    assert_eq!(rt; store.get(5), Some((false, bytes)));
+    assert_eq!(rt; store.count(), 1);
+}
+
+// What a plain list says of some granules: whether each was put, its tag and its bytes.
+#[derive(Drop)]
+struct Plain {
+    put: [bool; SLOTS],
+    tags: [bool; SLOTS],
+    bytes: [[u8; 16]; SLOTS],
+}
+
+impl Plain {
+    fn write(&mut self, slot: usize, tag: bool, at: usize, bytes: &[u8])
+        requires slot_in { slot < 48 }
+        requires inside { at + length bytes.now ≤ 16 }
+    {
+        self.put[slot] = true;
+        self.tags[slot] = tag;
+        let kept = &mut self.bytes[slot];
+        for i in 0..bytes.len() {
+            kept[at + i] = bytes[i];
+        }
+    }
+}
+
+// The granules of the list: some below, some at the end of memory, none beside another below.
+fn granule_of(slot: usize) -> u64
+    requires { slot < 48 }
+    ensures in_memory { result < 2 ^ 60 }
+    ensures low { slot < 40 → result < 12000 }
+{
+    let slot = slot as u64;
+    if slot < 40 {
+        300 * slot
+    } else {
+        GRANULES - 1 - (slot - 40)
+    }
+}
+
+// Sixteen bytes that differ.
+fn bytes_from(first: u8) -> [u8; 16] {
+    let mut bytes = [0; 16];
+    for i in 0..16 {
+        bytes[i] = first ^ i as u8;
+    }
+    bytes
+}
+
+fn assert_agree<S: TaggedStore>(rt: &impl Abort, store: &S, plain: &Plain) {
+    for slot in 0..SLOTS {
+        let granule = granule_of(slot);
+        let found = store.get(granule);
+        if plain.put[slot] {
+            assert_eq!(rt; found, Some((plain.tags[slot], plain.bytes[slot])));
+        } else {
+            assert_eq!(rt; found, None);
+        }
+        if slot < 40 {
+            assert_eq!(rt; store.get(granule + 1), None);
+        }
+    }
+    let count = plain.put.iter().filter(|put| **put).count();
+    assert_eq!(rt; store.count() as usize, count);
+}
+
+// One put, beside the same write of the list: of a capability at byte 0, of bytes up to the end at any other.
+fn put_beside<S: TaggedStore>(
+    rt: &impl Abort,
+    store: &mut S,
+    plain: &mut Plain,
+    slot: usize,
+    at: u8,
+    bytes: [u8; 16],
+)
+    requires slot_in { slot < 48 }
+    requires inside { at < 16 }
+{
+    let granule = granule_of(slot);
+    assert!(rt; store.count() < u32::MAX);
+    if at == 0 {
+        if store.put_cap(granule, true, bytes).is_err() {
+            assert_agree(rt, store, plain);
+            put_cap(rt, store, granule, true, bytes);
+        }
+        plain.write(slot, true, 0, &bytes);
+    } else {
+        let written = &bytes[..16 - at as usize];
+        if store.put_bytes(granule, at, written).is_err() {
+            assert_agree(rt, store, plain);
+            put_bytes(rt, store, granule, at, written);
+        }
+        plain.write(slot, false, at as usize, written);
+    }
+    assert_agree(rt, store, plain);
+}
+
+// Some hundred puts in no order.
+fn agrees_with_a_plain_list<S: TaggedStore>(rt: &impl Abort, store: &mut S) {
+    let mut plain = Plain {
+        put: [false; SLOTS],
+        tags: [false; SLOTS],
+        bytes: [[0; 16]; SLOTS],
+    };
+    let mut random: u32 = 1;
+    for _ in 0..400 {
+        random = random.wrapping_mul(1664525).wrapping_add(1013904223);
+        let slot = (random >> 24) as usize % SLOTS;
+        let at = ((random >> 20) & 15) as u8;
+        let bytes = bytes_from(((random >> 12) & 0xff) as u8);
+        put_beside(rt, store, &mut plain, slot, at, bytes);
+    }
+}
+
+#[test]
+fn a_list_counts_each_granule_once(rt: HostRuntime) {
+    counts_each_granule_once(&rt, &mut ListStore::new(rt.alloc()));
+}
+
+#[test]
+fn a_list_writes_over_zeros(rt: HostRuntime) {
+    writes_over_zeros(&rt, &mut ListStore::new(rt.alloc()));
+}
+
+#[test]
+fn a_list_agrees_with_a_plain_list(rt: HostRuntime) {
+    agrees_with_a_plain_list(&rt, &mut ListStore::new(rt.alloc()));
+}
