@@ -1,6 +1,6 @@
 mod StepLemmas
-mod AuthorityLemmas
-mod AccessLemmas
+pub mod AuthorityLemmas
+pub mod AccessLemmas
 mod GranuleLemmas
 mod StateLemmas
 mod RootLemmas

@@ -1,7 +1,8 @@
-mod MachineLemmas
 mod ResultLemmas
 mod LogLemmas
 mod ProgressLemmas
-mod AuthorityLemmas
 mod JudgeLemmas
-mod WordLemmas
+mod LineLemmas
+mod MemoryTexts
+mod SoundTests
+mod OperandLemmas

@@ -6,12 +6,13 @@ use Rattle.std.proofs.lemmas.Bool.{false≢true, eqb-true, eqb-false}
 use Rattle.cap_word.specs.declared.word.Cap.{Cap}
 use Rattle.cap_log.specs.declared.lines.Place.{Place}
 use Rattle.cap_log.specs.declared.lines.Line.{Line}
-use Rattle.cap_log.specs.declared.lines.Line.TheVariants.{Version, Root, Step}
+use Rattle.cap_log.specs.declared.lines.Line.TheVariants.{Version, Root, Step, End}
 use Rattle.cap_log.specs.declared.lines.Step as steps_module
-use Rattle.capcheck.specs.States.{State, DeclaredRoot, key_of, tagged, is_taken, start}
-use Rattle.capcheck.specs.Steps.{Leads}
-use Rattle.capcheck.specs.Runs.{IsRun, last_of}
-use Rattle.capcheck.specs.Logs.{body_lines}
+use Rattle.cap_machine.specs.States.{State, DeclaredRoot, key_of, tagged, is_taken, blank, start}
+use Rattle.cap_machine.specs.Steps.{Leads}
+use Rattle.cap_machine.specs.Tallies.{Tally, with_root, with_step}
+use Rattle.cap_machine.specs.Runs.{IsRun, last_of}
+use Rattle.capcheck.specs.Logs.{body_lines, tally_roots, tally_steps}
 
 -- what holds of each element of two lists holds of each element of both together
 pub AllByRecursion-append : {X : Type 0} (P : X → Type 0) (xs ys : List X) → AllByRecursion P xs → AllByRecursion P ys → AllByRecursion P (xs ++ ys)
@@ -94,3 +95,16 @@ roots_push roots root =
 pub list_any-map : {X Y : Type 0} (f : X → Y) (p : Y → Bool) (xs : List X) → list_any p (map f xs) ≡ list_any (λ x. p (f x)) xs
 list_any-map f p [] = refl
 list_any-map f p (x ∷ xs) = ap (λ b. p (f x) || b) (list_any-map f p xs)
+
+-- the tally of one root more
+pub tally_roots-push : (tally : Tally) (roots : List DeclaredRoot) (root : DeclaredRoot) → tally_roots tally (roots ++ root ∷ []) ≡ with_root (tally_roots tally roots) root.place
+tally_roots-push tally [] root = refl
+tally_roots-push tally (first ∷ roots) root = tally_roots-push (with_root tally first.place) roots root
+
+-- the tally of one step more
+pub tally_steps-push : (tally : Tally) (state : State) (steps : List steps_module.Step) (states : List State) (step : steps_module.Step) (next : State) → IsRun state steps states
+    → tally_steps tally state (steps ++ step ∷ []) (states ++ next ∷ []) ≡ with_step (tally_steps tally state steps states) (last_of state states) step
+tally_steps-push tally state [] [] step next run = refl
+tally_steps-push tally state (first ∷ steps) (middle ∷ states) step next run = tally_steps-push (with_step tally state first) middle steps states step next run.1
+tally_steps-push tally state [] (middle ∷ states) step next run = absurd run
+tally_steps-push tally state (first ∷ steps) [] step next run = absurd run

@@ -1,11 +1,10 @@
-pub mod Refusals
-pub mod States
-pub mod Steps
-pub mod Runs
 pub mod Logs
-pub mod Machines
 pub mod Progresses
 pub mod VerdictLines
+pub mod TextLines
+pub mod RoundLines
+pub mod ExplainLines
 pub mod Verdicts
 pub mod Orders
+pub mod Operands
 pub mod Statuses

@@ -1,11 +1,13 @@
 -- The statuses and the lines of what the program could not do.
-use Rattle.std.specs.Prelude.{ℕ, List, codes}
-use Rattle.capcheck.specs.declared.running.Fault.{Fault}
-use Rattle.capcheck.specs.declared.running.Fault.TheVariants.{BadWords, Read, Write, NoMemory}
+use Rattle.std.specs.Prelude.{ℕ, List, codes, Result, Ok, Err}
+use Rattle.capcheck.specs.declared.faults.Fault.{Fault}
+use Rattle.capcheck.specs.declared.faults.Fault.TheVariants.{BadWords, BadWord, BadRequest, Read, Write, NoMemory}
 
 -- the exit status of a fault (this profile's own)
 abbrev pub status_of : Fault → ℕ
 status_of BadWords = 2
+status_of BadWord = 2
+status_of BadRequest = 2
 status_of Read = 3
 status_of Write = 3
 status_of NoMemory = 3
@@ -13,6 +15,13 @@ status_of NoMemory = 3
 -- the line on standard error (this profile's own)
 abbrev pub fault_text : Fault → List ℕ
 fault_text BadWords = codes "capcheck: bad words\n"
+fault_text BadWord = codes "capcheck: bad word\n"
+fault_text BadRequest = codes "capcheck: bad request\n"
 fault_text Read = codes "capcheck: read fault\n"
 fault_text Write = codes "capcheck: write fault\n"
 fault_text NoMemory = codes "capcheck: no memory\n"
+
+-- the exit status of what was done, or of the fault in its place
+abbrev pub exit_status : Result ℕ Fault → ℕ
+exit_status (Ok status) = status
+exit_status (Err fault) = status_of fault

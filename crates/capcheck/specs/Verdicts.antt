@@ -1,11 +1,16 @@
 -- The verdict on some bytes.
-use Rattle.std.specs.Prelude.{◌≡◌, ℕ, List, length}
+use Rattle.std.specs.Prelude.{◌≡◌, ℕ, List, length, Result, Ok, Err}
+use Rattle.cap_machine.specs.declared.ends.StepEnd.{StepEnd}
+use Rattle.cap_machine.specs.declared.ends.StepEnd.TheVariants.{Refused}
+use Rattle.cap_machine.specs.declared.ends.StepEnd.TheVariants as ends
 use Rattle.cap_log.specs.declared.lines.Step.{Step}
+use Rattle.cap_machine.specs.States.{State, DeclaredRoot, start}
+use Rattle.cap_machine.specs.Runs.{IsRun, AuthorityNeverGrows, AccessesLieInside}
 use Rattle.capcheck.specs.declared.verdict.Verdict.{Verdict}
 use Rattle.capcheck.specs.declared.verdict.Verdict.TheVariants.{Yes, No}
-use Rattle.capcheck.specs.States.{State, DeclaredRoot, start}
-use Rattle.capcheck.specs.Runs.{IsRun, AuthorityNeverGrows}
-use Rattle.capcheck.specs.Logs.{IsLogOf, IsFirstFault}
+use Rattle.capcheck.specs.declared.verdict.JudgeFault.{JudgeFault}
+use Rattle.capcheck.specs.declared.verdict.JudgeFault.TheVariants.{Pull, NoMemory}
+use Rattle.capcheck.specs.Logs.{IsLogOf, IsFirstFault, MayLackMemory}
 
 -- the bytes are a log of so many steps and roots, whose steps have a run
 pub record IsYes (bytes : List ℕ) (step_count root_count : ℕ) : Type 0 where
@@ -20,9 +25,24 @@ abbrev pub IsVerdict : List ℕ → Verdict → Type 0
 IsVerdict bytes (Yes steps roots) = IsYes bytes steps roots
 IsVerdict bytes (No line refusal) = IsFirstFault bytes line refusal
 
--- after a yes: whatever log the bytes are, and whatever run its steps have, authority never grows along it
-abbrev pub GrowsNoAuthority : List ℕ → Verdict → Type 0
-GrowsNoAuthority bytes (Yes step_count root_count) =
-    (roots : List DeclaredRoot) (steps : List Step) (states : List State)
-    → IsLogOf bytes roots steps → IsRun (start roots) steps states → AuthorityNeverGrows roots steps states
-GrowsNoAuthority bytes (No line refusal) = Unit {0}
+-- along every run that the bytes as a log have, authority never grows and each access lies inside its root (this profile's own)
+pub record IsGuarded (bytes : List ℕ) : Type 0 where
+  pub authority : (roots : List DeclaredRoot) (steps : List Step) (states : List State) → IsLogOf bytes roots steps → IsRun (start roots) steps states
+      → AuthorityNeverGrows roots steps states
+  pub accesses : (roots : List DeclaredRoot) (steps : List Step) (states : List State) → IsLogOf bytes roots steps → IsRun (start roots) steps states
+      → AccessesLieInside roots steps states
+
+-- after a yes: what the bytes are a log of is guarded
+abbrev pub GuardsAuthority : List ℕ → Verdict → Type 0
+GuardsAuthority bytes (Yes steps roots) = IsGuarded bytes
+GuardsAuthority bytes (No line refusal) = Unit {0}
+
+-- why there is no verdict: the memory for a granule that a line names for the first time was refused
+abbrev pub IsFault : List ℕ → JudgeFault → Type 0
+IsFault bytes Pull = ⊥
+IsFault bytes NoMemory = MayLackMemory bytes
+
+-- what a line that the machine does not take makes the answer
+abbrev pub answer_at : ℕ → StepEnd → Result Verdict JudgeFault
+answer_at line (Refused refusal) = Ok (No line refusal)
+answer_at line ends.NoMemory = Err NoMemory

@@ -1,25 +1,45 @@
 //! The judge: whether bytes are a log whose steps have a run, and if not, which line is the first fault.
 
-ghost use Rattle.std.specs.Prelude.{◌≡◌, ℕ, List, IsOk, IfOk};
-ghost use Rattle.capcheck.specs.Verdicts.{IsVerdict, GrowsNoAuthority};
+ghost use Rattle.std.specs.Prelude.{◌≡◌, ℕ, List, IsOk, IfOk, IfErr};
+ghost use Rattle.std.specs.FinMap as map;
+ghost use Rattle.cap_machine.specs.Helds.{held_of};
+ghost use Rattle.capcheck.specs.Logs.{NamesNoGranules};
+ghost use Rattle.capcheck.specs.Verdicts.{GuardsAuthority, IsFault, IsVerdict, answer_at};
 ghost use Rattle.capcheck.specs.Progresses.{IsAt};
 
 use crate::progress::{Progress, Stage};
-use crate::refusal::Refusal;
 use crate::verdict::{JudgeFault, Verdict};
 use cap_log::{Front, front};
+use cap_machine::{Refusal, StepEnd};
+use std::alloc::Global;
+use tagmem::{ListStore, TaggedStore};
 
 /// Judges the bytes of a log. It is `Yes` exactly for a log whose steps have a run from its roots, and
-/// otherwise `No` with the first fault. It takes no memory and always answers.
-pub fn judge_bytes(bytes: &[u8]) -> Result<Verdict, JudgeFault>
-    ensures answers { IsOk result }
+/// otherwise `No` with the first fault. Memory is taken only where a line names a granule for the first
+/// time; `NoMemory` comes only there.
+pub fn judge_bytes(alloc: Global, bytes: &[u8]) -> Result<Verdict, JudgeFault>
     ensures verdict { IfOk result (IsVerdict bytes.now) }
 
-    // After a yes, at every moment each tagged register holds the very word of the one root that it
-    // descends from.
-    ensures authority { IfOk result (GrowsNoAuthority bytes.now) }
+    // After a yes, at every moment each tagged capability in a register or memory has bounds inside and
+    // permissions among those of the one root that it descends from, and each access lies inside them.
+    ensures authority { IfOk result (GuardsAuthority bytes.now) }
+
+    // There is no verdict only where a line that no test refuses names a granule for the first time.
+    ensures fault { IfErr result (IsFault bytes.now) }
+    ensures answers { NamesNoGranules bytes.now → IsOk result }
 {
-    let mut progress = Progress::new();
+    judge_over(ListStore::new(alloc), bytes)
+}
+
+// Judges the bytes of a log with a machine over an empty store.
+fn judge_over<M: TaggedStore>(memory: M, bytes: &[u8]) -> Result<Verdict, JudgeFault>
+    requires { map.len (M.contents memory) ≡ 0 }
+    ensures verdict { IfOk result (IsVerdict bytes.now) }
+    ensures authority { IfOk result (GuardsAuthority bytes.now) }
+    ensures fault { IfErr result (IsFault bytes.now) }
+    ensures answers { NamesNoGranules bytes.now → IsOk result }
+{
+    let mut progress = Progress::new(memory);
     let mut rest = bytes;
     let mut line = 1u64;
     'lines: loop {
@@ -40,8 +60,8 @@ pub fn judge_bytes(bytes: &[u8]) -> Result<Verdict, JudgeFault>
                 });
             }
             Front::Line(length) => {
-                if let Err(refusal) = progress.take_line(&rest[..length]) {
-                    return Ok(Verdict::No { line, refusal });
+                if let Err(end) = progress.take_line(&rest[..length]) {
+                    return answer_at(line, end);
                 }
                 rest = &rest[length + 1..];
                 line += 1;
@@ -51,9 +71,9 @@ pub fn judge_bytes(bytes: &[u8]) -> Result<Verdict, JudgeFault>
 }
 
 // The verdict after the end line: any byte that follows is misplaced.
-fn end_verdict(progress: &Progress, rest: &[u8], line: u64) -> Verdict
+fn end_verdict<M: TaggedStore>(progress: &Progress<M>, rest: &[u8], line: u64) -> Verdict
     requires { progress.now.stage ≡ Stage.Ended }
-    ensures { (bytes : List ℕ) → IsAt bytes progress.now rest.now line → IsVerdict bytes result }
+    ensures { (bytes : List ℕ) → IsAt bytes (held_of M.contents progress.now.machine) progress.now.stage rest.now line → IsVerdict bytes result }
 {
     if rest.is_empty() {
         Verdict::Yes {
@@ -65,5 +85,15 @@ fn end_verdict(progress: &Progress, rest: &[u8], line: u64) -> Verdict
             line,
             refusal: Refusal::Misplaced,
         }
+    }
+}
+
+// What a line that is not taken makes the answer.
+fn answer_at(line: u64, end: StepEnd) -> Result<Verdict, JudgeFault>
+    ensures { result ≡ answer_at line end }
+{
+    match end {
+        StepEnd::Refused(refusal) => Ok(Verdict::No { line, refusal }),
+        StepEnd::NoMemory => Err(JudgeFault::NoMemory),
     }
 }

@@ -1,13 +1,11 @@
-//! Laws about runs and verdicts. These functions do nothing: what they say is their contract.
+//! Laws about verdicts. These functions do nothing: what they say is their contract.
 
-ghost use Rattle.std.specs.Prelude.{List};
-ghost use Rattle.cap_log.specs.declared.lines.Step.{Step};
-ghost use Rattle.capcheck.specs.States.{DeclaredRoot, State, start};
-ghost use Rattle.capcheck.specs.Runs.{AuthorityNeverGrows, IsRun};
+ghost use Rattle.std.specs.Prelude.{ℕ, List};
+ghost use Rattle.capcheck.specs.Verdicts.{IsGuarded};
 
-/// Along every run from declared roots, at every moment each tagged place holds the very word of the
-/// one root that it descends from.
-pub fn authority_never_grows()
-    ensures { (roots : List DeclaredRoot) (steps : List Step) (states : List State)
-        → IsRun (start roots) steps states → AuthorityNeverGrows roots steps states }
+/// Whatever bytes are read: where they are a log whose steps have a run, then along it, at every moment,
+/// each tagged capability in a register or memory has bounds inside and permissions among those of the
+/// one root that it descends from, and each access lies inside the root of its authority.
+pub fn logs_are_guarded()
+    ensures { (bytes : List ℕ) → IsGuarded bytes }
 {}

@@ -1,20 +1,24 @@
-//! Judges logs of what a program did with CHERI capabilities.
+//! Explains CHERI capabilities, rounds requests for bounds, and judges logs of what a program did with
+//! capabilities.
 #![tactic(auto)]
 
 pub mod buffers;
+pub mod explain_lines;
+pub mod faults;
 pub mod judging;
 pub mod laws;
-pub mod machine;
 pub mod progress;
-pub mod refusal;
+pub mod round_lines;
 pub mod running;
 #[cfg(test)]
 mod tests;
+pub mod text_lines;
 pub mod verdict;
 pub mod verdict_lines;
 pub mod words;
 
-use crate::running::{Fault, run};
+use crate::faults::Fault;
+use crate::running::run;
 use crate::words::Order;
 use crate::words::reading::read_words;
 use std::alloc::AllocError;
@@ -44,7 +48,7 @@ fn answer(rt: &HostRuntime) -> Result<u8, AllocError> {
             return Ok(run(
                 rt.alloc(),
                 None,
-                Some(rt.stdin()),
+                None::<File>,
                 &mut rt.stdout(),
                 &mut rt.stderr(),
             ));
@@ -64,10 +68,17 @@ fn answer(rt: &HostRuntime) -> Result<u8, AllocError> {
             let input = File::open(rt, path).ok();
             run(rt.alloc(), order, input, &mut rt.stdout(), &mut rt.stderr())
         }
-        _ => run(
+        Some(Order::Judge { file: None }) => run(
             rt.alloc(),
             order,
             Some(rt.stdin()),
+            &mut rt.stdout(),
+            &mut rt.stderr(),
+        ),
+        _ => run(
+            rt.alloc(),
+            order,
+            None::<File>,
             &mut rt.stdout(),
             &mut rt.stderr(),
         ),

@@ -1,6 +1,6 @@
 //! What a judge answers.
 
-use crate::refusal::Refusal;
+use cap_machine::Refusal;
 
 /// The verdict on the bytes of a log.
 #[derive(Debug, Clone, Copy, PartialEq, Eq)]

@@ -5,8 +5,8 @@ ghost use Rattle.capcheck.specs.VerdictLines.{verdict_line};
 ghost use Rattle.capcheck.specs.declared.verdict.Verdict.TheVariants.{Yes, No};
 
 use crate::buffers::{put, put_decimal};
-use crate::refusal::Refusal;
 use crate::verdict::Verdict;
+use cap_machine::Refusal;
 
 /// Writes the line of a verdict, `yes STEPS ROOTS` or `no LINE NUMBER NAME` with its line feed, at the
 /// front of the buffer, and answers its length. The rest of the buffer stays as it was.

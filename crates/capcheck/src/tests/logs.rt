@@ -8,8 +8,8 @@ use std::process::Abort;
 use std::test::Fail;
 
 // The verdict on a log is this line.
-fn judges(rt: &impl Abort, log: &[u8], line: &[u8]) {
-    let Ok(verdict) = judge_bytes(log) else {
+pub fn judges(rt: &(impl Abort + AllocGlobal), log: &[u8], line: &[u8]) {
+    let Ok(verdict) = judge_bytes(rt.alloc(), log) else {
         panic!(rt; "no verdict");
     };
     let mut text = [0u8; 64];
@@ -225,7 +225,7 @@ fn many_moves(alloc: Global, moves: u32) -> Result<Vec<u8>, AllocError> {
 fn a_hundred_thousand_moves(rt: HostRuntime) -> Result<(), Fail> {
     let log = many_moves(rt.alloc(), 100_000)?;
     assert_eq!(rt;
-        judge_bytes(log.as_slice()),
+        judge_bytes(rt.alloc(), log.as_slice()),
         Ok(Verdict::Yes {
             steps: 100_000,
             roots: 1

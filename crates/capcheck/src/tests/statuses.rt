@@ -112,6 +112,20 @@ fn a_full_output_at_no(rt: HostRuntime) -> Result<(), Fail> {
 }
 
 #[test]
+fn a_full_output_at_what_is_shown(rt: HostRuntime) {
+    for words in [
+        ["round", "0000000000000001", "0000000000001fff"].as_slice(),
+        ["explain", "00001ffffc0180040000000000000000"].as_slice(),
+    ] {
+        let order = read_words(words);
+        let mut faults = Vec::new(rt.alloc());
+        let status = run(rt.alloc(), order, None::<&[u8]>, &mut Full, &mut faults);
+        assert_eq!(rt; status, 3);
+        assert_eq!(rt; faults.as_slice(), b"capcheck: write fault\n".as_slice());
+    }
+}
+
+#[test]
 fn a_fault_on_standard_error_changes_nothing(rt: HostRuntime) -> Result<(), Fail> {
     let mut out = Vec::new(rt.alloc());
     let status = run(rt.alloc(), None, Some(YES), &mut out, &mut Full);
@@ -130,4 +144,47 @@ fn words(rt: HostRuntime) {
     assert_eq!(rt; read_words(&["judges"]), None);
     assert_eq!(rt; read_words(&[""]), None);
     assert_eq!(rt; read_words(&[]), None);
+}
+
+#[test]
+fn words_of_a_rounding(rt: HostRuntime) {
+    let order = Order::Round {
+        base: "1",
+        length: "",
+    };
+    assert!(rt; read_words(&["round", "1", ""]) == Some(order));
+    assert_eq!(rt; read_words(&["round"]), None);
+    assert_eq!(rt; read_words(&["round", "1"]), None);
+    assert_eq!(rt; read_words(&["round", "1", "-2"]), None);
+    assert_eq!(rt; read_words(&["round", "-1", "2"]), None);
+    assert_eq!(rt; read_words(&["round", "1", "2", "3"]), None);
+}
+
+#[test]
+fn words_of_an_explanation(rt: HostRuntime) {
+    for (memory, tag, words) in [
+        (false, false, ["explain", "12"].as_slice()),
+        (true, false, ["explain", "--memory", "12"].as_slice()),
+        (false, true, ["explain", "--tag", "12"].as_slice()),
+        (
+            true,
+            true,
+            ["explain", "--memory", "--tag", "12"].as_slice(),
+        ),
+    ] {
+        let order = Order::Explain {
+            memory,
+            tag,
+            hex: "12",
+        };
+        assert!(rt; read_words(words) == Some(order));
+    }
+    assert_eq!(rt; read_words(&["explain"]), None);
+    assert_eq!(rt; read_words(&["explain", "--tag"]), None);
+    assert_eq!(rt; read_words(&["explain", "--tag", "--memory", "12"]), None);
+    assert_eq!(rt;
+        read_words(&["explain", "--memory", "--memory", "12"]),
+        None
+    );
+    assert_eq!(rt; read_words(&["explain", "12", "--tag"]), None);
 }

@@ -1,7 +1,7 @@
 //! Reading the words after the program's name.
 
-ghost use Rattle.std.specs.Prelude.{◌≡◌, IfSome, IfNone, map};
-ghost use Rattle.capcheck.specs.Orders.{Asks, is_operand};
+ghost use Rattle.std.specs.Prelude.{◌≡◌, ℕ, List, ◌∷◌, ◌++◌, IfSome, IfNone, codes, false, map};
+ghost use Rattle.capcheck.specs.Orders.{Asks, is_operand, option_word};
 ghost use Rattle.capcheck.specs.declared.words.Order.{Order};
 
 use crate::words::Order;
@@ -13,9 +13,82 @@ pub fn read_words<'a>(words: &[&'a str]) -> Option<Order<'a>>
     ensures none { IfNone result ((order : Order) → Asks (map (λ word. word.now) words.now) order → ⊥) }
 {
     let (command, operands) = words.split_first()?;
-    if *command != "judge" {
-        return None;
+    if *command == "explain" {
+        read_explain(operands)
+    } else if *command == "round" {
+        read_round(operands)
+    } else if *command == "judge" {
+        read_judge(operands)
+    } else {
+        None
     }
+}
+
+// Reads the words after `explain`.
+fn read_explain<'a>(operands: &[&'a str]) -> Option<Order<'a>>
+    ensures some { IfSome result (λ order. Asks (codes "explain" ∷ map (λ word. word.now) operands.now) order) }
+    ensures none { IfNone result ((order : Order) → Asks (codes "explain" ∷ map (λ word. word.now) operands.now) order → ⊥) }
+{
+    let (memory, operands) = take_option("--memory", operands);
+    let (tag, operands) = take_option("--tag", operands);
+    match operands {
+        [hex] => {
+            if is_operand(hex) {
+                Some(Order::Explain {
+                    memory,
+                    tag,
+                    hex: *hex,
+                })
+            } else {
+                None
+            }
+        }
+        _ => None,
+    }
+}
+
+// Whether words begin with an option, and the words behind it.
+fn take_option<'w, 'a>(option: &str, words: &'w [&'a str]) -> (bool, &'w [&'a str])
+    ensures taken { map (λ word. word.now) words.now ≡ option_word result.0 option.now ++ map (λ word. word.now) result.1.now }
+    ensures absent { result.0 ≡ false → (rest : List (List ℕ)) → map (λ word. word.now) words.now ≡ option.now ∷ rest → ⊥ }
+{
+    match words.split_first() {
+        Some((first, rest)) => {
+            if *first == option {
+                (true, rest)
+            } else {
+                (false, words)
+            }
+        }
+        None => (false, words),
+    }
+}
+
+// Reads the words after `round`.
+fn read_round<'a>(operands: &[&'a str]) -> Option<Order<'a>>
+    ensures some { IfSome result (λ order. Asks (codes "round" ∷ map (λ word. word.now) operands.now) order) }
+    ensures none { IfNone result ((order : Order) → Asks (codes "round" ∷ map (λ word. word.now) operands.now) order → ⊥) }
+{
+    match operands {
+        [base, length] => {
+            if is_operand(base) && is_operand(length) {
+                Some(Order::Round {
+                    base: *base,
+                    length: *length,
+                })
+            } else {
+                None
+            }
+        }
+        _ => None,
+    }
+}
+
+// Reads the words after `judge`.
+fn read_judge<'a>(operands: &[&'a str]) -> Option<Order<'a>>
+    ensures some { IfSome result (λ order. Asks (codes "judge" ∷ map (λ word. word.now) operands.now) order) }
+    ensures none { IfNone result ((order : Order) → Asks (codes "judge" ∷ map (λ word. word.now) operands.now) order → ⊥) }
+{
     match operands {
         [] => Some(Order::Judge { file: None }),
         [file] => {
