@@ -1,9 +1,8 @@
 -- Where the judge is, and what it may answer there.
-use Rattle.std.proofs.Common.{◌≡◌, ◌≢◌, ℕ, zero, suc, ◌+◌, ◌<◌, ◌≤◌, inl, inr, Bool, true, false, List, [], ◌∷◌, ◌++◌, length, map, refl, sym, ap, subst, ◌∙◌, append-nil, append_assoc, arith, Option, Some, None, Result, Ok, Err, IsOk, IfOk, IfErr, MatchResult, Contains, IsTrue, get_or}
-use Rattle.std.specs.List.{flat_map, AllByRecursion}
+use Rattle.std.proofs.Common.{◌≡◌, ◌≢◌, ℕ, zero, suc, ◌+◌, inl, inr, true, List, [], ◌∷◌, ◌++◌, length, map, refl, sym, ap, subst, ◌∙◌, append-nil, append_assoc, arith, Result, Ok, Err, IsOk, IfOk, IfErr, MatchResult}
+use Rattle.std.specs.List.{AllByRecursion}
 use Rattle.std.proofs.lemmas.Grind.{flat_map-append}
 use Rattle.std.proofs.lemmas.Bool.{false≢true}
-use Rattle.std.proofs.lemmas.Option.{none-some}
 use Rattle.cap_bounds.specs.Bounds.{IsSound}
 use Rattle.cap_log.specs.declared.lines.Place.TheVariants.{Register, Granule}
 use Rattle.cap_log.specs.declared.lines.Line.{Line}
@@ -23,12 +22,12 @@ use Rattle.cap_machine.specs.Helds.{Held, state_of, tally_of}
 use Rattle.cap_machine.proofs.AuthorityLemmas.{one_root}
 use Rattle.cap_machine.proofs.AccessLemmas.{lie_inside}
 use Rattle.capcheck.specs.declared.progress.Stage.{Stage}
-use Rattle.capcheck.specs.declared.progress.Stage.TheVariants.{Header, Roots, Steps, Ended}
+use Rattle.capcheck.specs.declared.progress.Stage.TheVariants.{Header, Ended}
 use Rattle.capcheck.specs.declared.verdict.Verdict.{Verdict}
 use Rattle.capcheck.specs.declared.verdict.Verdict.TheVariants.{Yes, No}
 use Rattle.capcheck.specs.declared.verdict.JudgeFault.{JudgeFault}
 use Rattle.capcheck.specs.declared.verdict.JudgeFault.TheVariants as faults
-use Rattle.capcheck.specs.Logs.{Beginning, Nothing, Body, Whole, body_lines, lines_of, text_of, LeadsTo, RefusesWhole, RefusesFront, Refuses, IsFirstFault, IsLogOf, WantsMemory, MayLackMemory, NamesNoGranules, names_granule, named_by_line}
+use Rattle.capcheck.specs.Logs.{Beginning, Nothing, Body, Whole, lines_of, text_of, RefusesFront, Refuses, IsFirstFault, WantsMemory, MayLackMemory, NamesNoGranules, names_granule, named_by_line}
 use Rattle.capcheck.specs.Verdicts.{answer_at, IsVerdict, IsYes, IsGuarded, GuardsAuthority, IsFault}
 use Rattle.capcheck.specs.Progresses.{StandsFor, GoesOn, EndsNext, IsAt, stage_after}
 use Rattle.capcheck.proofs.LogLemmas.{length-push}

@@ -6,9 +6,9 @@ use Rattle.std.proofs.lemmas.Bool.{false≢true, eqb-true, eqb-false}
 use Rattle.cap_word.specs.declared.word.Cap.{Cap}
 use Rattle.cap_log.specs.declared.lines.Place.{Place}
 use Rattle.cap_log.specs.declared.lines.Line.{Line}
-use Rattle.cap_log.specs.declared.lines.Line.TheVariants.{Version, Root, Step, End}
+use Rattle.cap_log.specs.declared.lines.Line.TheVariants.{Version, Root, Step}
 use Rattle.cap_log.specs.declared.lines.Step as steps_module
-use Rattle.cap_machine.specs.States.{State, DeclaredRoot, key_of, tagged, is_taken, blank, start}
+use Rattle.cap_machine.specs.States.{State, DeclaredRoot, key_of, tagged, is_taken, start}
 use Rattle.cap_machine.specs.Steps.{Leads}
 use Rattle.cap_machine.specs.Tallies.{Tally, with_root, with_step}
 use Rattle.cap_machine.specs.Runs.{IsRun, last_of}

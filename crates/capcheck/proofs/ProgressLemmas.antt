@@ -1,15 +1,13 @@
 -- What the judge's progress stands for, with one line more.
-use Rattle.std.proofs.Common.{◌≡◌, ◌≢◌, ℕ, zero, suc, ◌+◌, ◌^◌, ◌<◌, ◌≤◌, Bool, true, false, not, ◌==◌, ◌&&◌, ◌||◌, nat_eq, nat_le, List, [], ◌∷◌, ◌++◌, length, map, refl, sym, ap, subst, ◌∙◌, arith, rules, tests, lit≤, Some, None, Option, is_some, codes, IsTrue}
+use Rattle.std.proofs.Common.{◌≡◌, ◌≢◌, ℕ, ◌+◌, ◌^◌, ◌<◌, ◌≤◌, Bool, true, false, not, ◌&&◌, ◌||◌, nat_eq, nat_le, List, [], ◌∷◌, ◌++◌, length, map, refl, sym, ap, subst, ◌∙◌, arith, tests, lit≤, Some, None, Option, is_some, codes}
 use Rattle.std.proofs.Math.Path.{fun_ext}
 use Rattle.std.specs.Bool.{if◌then◌else◌}
-use Rattle.std.specs.List.{AllByRecursion, IsDistinct, list_any}
+use Rattle.std.specs.List.{AllByRecursion, IsDistinct}
 use Rattle.std.proofs.lemmas.Bool.{false≢true, eqb-true, leb-true, leb-false, and_parts}
 use Rattle.std.proofs.lemmas.Option.{none-some}
 use Rattle.cap_bounds.specs.Bounds.{IsSound}
 use Rattle.cap_word.specs.declared.word.Word.{Word}
-use Rattle.cap_word.specs.declared.word.Cap.{Cap}
 use Rattle.cap_log.specs.declared.lines.Place.{Place}
-use Rattle.cap_log.specs.declared.lines.Line.{Line}
 use Rattle.cap_log.specs.declared.lines.Line.TheVariants.{Version, Root, Step, End}
 use Rattle.cap_log.specs.declared.lines.Step as steps_module
 use Rattle.cap_log.specs.Lines.{spelling, IsInRange, IsStepInRange, IsPlace}
@@ -28,7 +26,7 @@ use Rattle.cap_machine.specs.Runs.{IsRun, last_of}
 use Rattle.cap_machine.specs.Helds.{Held, Makes, EndsStep, Takes as Declares, EndsRoot, state_of, tally_of}
 use Rattle.capcheck.specs.declared.progress.Stage.{Stage}
 use Rattle.capcheck.specs.declared.progress.Stage.TheVariants.{Header, Roots, Steps, Ended}
-use Rattle.capcheck.specs.Logs.{Beginning, Nothing, Body, Whole, body_lines, lines_of, no_tally, tally_roots, tally_steps, EndsAt, RunsTo, LeadsTo, line_tests}
+use Rattle.capcheck.specs.Logs.{Nothing, Body, Whole, body_lines, no_tally, tally_roots, tally_steps, RunsTo}
 use Rattle.capcheck.specs.Progresses.{StandsFor, GoesOn, EndsNext, Takes, EndsFor, stage_after}
 use Rattle.capcheck.proofs.LogLemmas.{AllByRecursion-append, IsDistinct-push, tag-start, start-push, IsRun-push, last_of-push, map-push, length-push, steps_push, roots_push, list_any-map, tally_roots-push, tally_steps-push}
 

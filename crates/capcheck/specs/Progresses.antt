@@ -1,5 +1,5 @@
 -- Which beginnings of a log the progress of the judge stands for, and how it goes on.
-use Rattle.std.specs.Prelude.{◌≡◌, ◌≢◌, ℕ, ◌+◌, List, [], ◌∷◌, ◌++◌, length, Some, None, IsTrue}
+use Rattle.std.specs.Prelude.{◌≡◌, ℕ, ◌+◌, List, [], ◌∷◌, ◌++◌, length, Some, None, IsTrue}
 use Rattle.cap_log.specs.declared.lines.Line.{Line}
 use Rattle.cap_log.specs.declared.lines.Step as steps_module
 use Rattle.cap_log.specs.Lines.{Spells}
@@ -7,7 +7,7 @@ use Rattle.cap_ops.specs.Tests.{first_of}
 use Rattle.cap_machine.specs.declared.refusal.Refusal.{Refusal}
 use Rattle.cap_machine.specs.declared.ends.StepEnd.{StepEnd}
 use Rattle.cap_machine.specs.declared.ends.StepEnd.TheVariants.{Refused, NoMemory}
-use Rattle.cap_machine.specs.States.{State, DeclaredRoot}
+use Rattle.cap_machine.specs.States.{State}
 use Rattle.cap_machine.specs.Tallies.{Tally, is_new}
 use Rattle.cap_machine.specs.Helds.{Held, state_of, tally_of}
 use Rattle.capcheck.specs.declared.progress.Stage.{Stage}

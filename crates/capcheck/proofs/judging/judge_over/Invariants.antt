@@ -1,4 +1,4 @@
-use Rattle.std.proofs.Common.{◌≡◌, ◌+◌, ◌≤◌, length}
+use Rattle.std.proofs.Common.{◌+◌, ◌≤◌, length}
 use Rattle.cap_machine.specs.Helds.{held_of}
 use Rattle.capcheck.specs.Progresses.{IsAt}
 use Rattle.capcheck.proofs.judging.judge_over.Given as goal
