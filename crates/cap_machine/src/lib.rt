@@ -5,6 +5,7 @@ mod accessing;
 mod declaring;
 mod ends;
 mod granules;
+mod holding;
 mod machine;
 mod refusal;
 mod stepping;
@@ -12,3 +13,6 @@ mod stepping;
 pub use crate::ends::StepEnd;
 pub use crate::machine::{MOST_GRANULES, MOST_ROOTS, MOST_STEPS, Machine};
 pub use crate::refusal::Refusal;
+
+#[cfg(test)]
+mod tests;
