@@ -1,22 +1,19 @@
 -- Each tagged capability of a run descends from one root, and lies within it; so does each access.
-use Rattle.std.proofs.Common.{◌≡◌, ◌≢◌, ℕ, ℤ, zero, suc, ◌+◌, ◌<◌, ◌≤◌, inl, inr, Bool, true, false, not, ◌&&◌, ◌==◌, ◌∷◌, [], List, length, take, refl, sym, ap, subst, ◌∙◌, arith, Option, Some, None, Contains, IsTrue, slice_get}
+use Rattle.std.proofs.Common.{◌≡◌, ℕ, zero, suc, ◌≤◌, inl, inr, Bool, true, ◌∷◌, [], List, length, take, refl, sym, ap, subst, ◌∙◌, arith, Option, Some, None, Contains}
 use Rattle.std.specs.Bool.{if◌then◌else◌}
 use Rattle.std.specs.List.{AllByRecursion}
 use Rattle.std.proofs.lemmas.Bool.{false≢true}
 use Rattle.std.proofs.lemmas.Bool.Decides.{eqb_tells}
-use Rattle.std.proofs.lemmas.Option.{same_Some, none-some}
-use Rattle.cap_word.specs.declared.word.Word.{Word}
+use Rattle.std.proofs.lemmas.Option.{same_Some}
 use Rattle.cap_word.specs.declared.word.Cap.{Cap}
-use Rattle.cap_bounds.specs.Bounds.{base_of, top_of, IsSound}
+use Rattle.cap_bounds.specs.Bounds.{IsSound}
 use Rattle.cap_log.specs.declared.lines.Step.{Step}
-use Rattle.cap_log.specs.declared.lines.Step.TheVariants.{Move, ClearTag, SetBounds, SetBoundsExact, SetAddr, AndPerm, Seal, Unseal, LoadCap, StoreCap, Load, Store}
 use Rattle.cap_log.specs.Lines.{IsStepInRange}
-use Rattle.cap_ops.specs.Tests.{first_of}
-use Rattle.cap_ops.specs.Authority.{IsWithin, StaysWithin}
+use Rattle.cap_ops.specs.Authority.{IsWithin}
 use Rattle.cap_ops.proofs.WithinLemmas.{IsWithin-refl, IsWithin-trans}
-use Rattle.cap_machine.specs.States.{State, DeclaredRoot, key_of, tagged, put, start}
-use Rattle.cap_machine.specs.Steps.{Leads, operation_tests, written, parent_place, state_with}
-use Rattle.cap_machine.specs.Runs.{IsRun, state_at, parent_in, parent_of, Descends, DescendsFrom, AuthorityNeverGrows, AreSound}
+use Rattle.cap_machine.specs.States.{State, DeclaredRoot, key_of, tagged, start}
+use Rattle.cap_machine.specs.Steps.{Leads, written, parent_place, state_with}
+use Rattle.cap_machine.specs.Runs.{IsRun, state_at, parent_in, parent_of, Descends, AuthorityNeverGrows, AreSound}
 use Rattle.cap_machine.specs.Parents.{IsSoundState, ComesFrom}
 use Rattle.cap_machine.proofs.StepLemmas.{WritesWithin, writes_within}
 

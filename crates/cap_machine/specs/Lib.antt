@@ -1,4 +1,5 @@
 pub mod States
+pub mod Places
 pub mod Steps
 pub mod Runs
 pub mod Parents
@@ -6,3 +7,4 @@ pub mod Refusals
 pub mod Tallies
 pub mod Values
 pub mod Helds
+pub mod Escapes

@@ -1,14 +1,19 @@
 -- What a step leaves of authority: each tagged capability after it lies within the one that it comes from.
-use Rattle.std.specs.Prelude.{◌≡◌, ℕ, Option, Some, IsTrue}
+use Rattle.std.specs.Prelude.{◌≡◌, ℕ, Some, IsTrue}
 use Rattle.cap_log.specs.declared.lines.Step.{Step}
+use Rattle.cap_word.specs.declared.word.Cap.{Cap}
 use Rattle.cap_bounds.specs.Bounds.{IsSound}
 use Rattle.cap_ops.specs.Authority.{IsWithin}
 use Rattle.cap_machine.specs.States.{State}
 use Rattle.cap_machine.specs.Runs.{parent_of}
 
--- each tagged capability of a state is sound (this profile's own, as are all below)
+-- a capability is sound where it is tagged (this profile's own, as are all below)
+abbrev pub IsSoundCap : Cap → Type 0
+IsSoundCap cap = IsTrue cap.tag → IsSound cap.word.0
+
+-- each tagged capability of a state is sound
 abbrev pub IsSoundState : State → Type 0
-IsSoundState state = (key : ℕ) → IsTrue (state key).tag → IsSound (state key).word.0
+IsSoundState state = (key : ℕ) → IsSoundCap (state key)
 
 -- what a place holds after a step comes from what another, or the same, held before it: that was tagged, and the new word is
 -- sound, with bounds inside and permissions among those of the old one

@@ -3,6 +3,7 @@
 ghost use Rattle.std.specs.Prelude.{◌≡◌, ℕ, ◌<◌, ◌≤◌, ◌^◌, ◌+◌};
 ghost use Rattle.std.specs.FinMap as map;
 ghost use Rattle.cap_machine.specs.States.{blank, granule_key};
+ghost use Rattle.cap_machine.specs.Parents.{IsSoundCap};
 ghost use Rattle.cap_machine.specs.Helds.{held_of, state_of};
 
 use crate::granules::capability_at;
@@ -16,9 +17,9 @@ impl<M: TaggedStore> Machine<M> {
     pub fn new(memory: M) -> Machine<M>
         requires { map.len (M.contents memory) ≡ 0 }
         ensures state { (key : ℕ) → state_of (held_of M.contents result) key ≡ blank key }
-        ensures roots { result.roots ≡ 0 }
-        ensures steps { result.steps ≡ 0 }
-        ensures memory { M.contents result.memory ≡ map.empty }
+        ensures roots { (let held = held_of M.contents result in held.roots) ≡ 0 }
+        ensures steps { (let held = held_of M.contents result in held.steps) ≡ 0 }
+        ensures memory { (let held = held_of M.contents result in held.memory) ≡ map.empty }
     {
         let nothing = Cap {
             tag: false,
@@ -34,14 +35,14 @@ impl<M: TaggedStore> Machine<M> {
 
     /// How many steps were made, at most 4,294,967,295.
     pub fn steps(&self) -> u32
-        ensures { result ≡ self.now.steps }
+        ensures { result ≡ (let held = held_of M.contents self.now in held.steps) }
     {
         self.steps
     }
 
     /// How many roots were declared, at most 4,096.
     pub fn roots(&self) -> u32
-        ensures { result ≡ self.now.roots }
+        ensures { result ≡ (let held = held_of M.contents self.now in held.roots) }
     {
         self.roots
     }
@@ -49,7 +50,8 @@ impl<M: TaggedStore> Machine<M> {
     /// What a register holds. Register 0 is c0, which is NULL without a tag.
     pub fn register(&self, number: u8) -> Cap
         requires { number ≤ 31 }
-        ensures { result ≡ state_of (held_of M.contents self.now) number }
+        ensures holds { result ≡ state_of (held_of M.contents self.now) number }
+        ensures sound { IsSoundCap result }
     {
         self.registers[number as usize]
     }
@@ -58,7 +60,8 @@ impl<M: TaggedStore> Machine<M> {
     /// where nothing was put.
     pub fn granule(&self, granule: u64) -> Cap
         requires { granule < 2 ^ 60 }
-        ensures { result ≡ state_of (held_of M.contents self.now) (granule_key granule) }
+        ensures holds { result ≡ state_of (held_of M.contents self.now) (granule_key granule) }
+        ensures sound { IsSoundCap result }
     {
         capability_at(&self.memory, granule)
     }

@@ -1,5 +1,8 @@
 //! The machine: registers and tagged memory, with counts of its roots and steps.
 
+ghost use Rattle.cap_machine.specs.Places.{places_of};
+ghost use Rattle.cap_machine.specs.Parents.{IsSoundState};
+
 use cap_word::Cap;
 use tagmem::TaggedStore;
 
@@ -13,11 +16,13 @@ pub const MOST_GRANULES: u32 = 65_536;
 pub const MOST_STEPS: u32 = u32::MAX;
 
 /// A machine over a store of granules: registers c1 to c31, c0, which is always NULL without a tag, and
-/// memory of 2^60 granules. It counts the roots that were declared and the steps that were made.
+/// memory of 2^60 granules. It counts the roots that were declared and the steps that were made. The word of
+/// each tagged capability that it holds is sound.
 #[derive(Drop)]
 pub struct Machine<M: TaggedStore> {
     pub(crate) registers: [Cap; 32],
     pub(crate) memory: M,
     pub(crate) roots: u32,
     pub(crate) steps: u32,
+    ghost sound: { IsSoundState (places_of registers (M.contents memory)) },
 }
