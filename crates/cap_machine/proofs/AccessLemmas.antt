@@ -1,5 +1,5 @@
 -- Each access of a run lies inside the root that its authority descends from.
-use Rattle.std.proofs.Common.{◌≡◌, ℕ, ℤ, zero, suc, ◌+◌, ◌<◌, ◌≤◌, Bool, true, false, not, List, [], ◌∷◌, length, take, refl, sym, ap, subst, ◌∙◌, arith, Option, Some, None, IsTrue, slice_get}
+use Rattle.std.proofs.Common.{◌≡◌, ℕ, ℤ, zero, suc, ◌<◌, Bool, true, false, not, List, [], ◌∷◌, length, refl, sym, subst, arith, Some, None, slice_get}
 use Rattle.std.specs.List.{AllByRecursion}
 use Rattle.std.proofs.lemmas.Option.{same_Some, none-some}
 use Rattle.cap_word.specs.declared.word.Cap.{Cap}
@@ -13,7 +13,7 @@ use Rattle.cap_ops.specs.Accesses.{IsAllowed, access_tests, access_address, perm
 use Rattle.cap_ops.proofs.AccessLemmas.{IsAllowed-access}
 use Rattle.cap_ops.proofs.TestLemmas.{none_hold}
 use Rattle.cap_machine.specs.States.{State, DeclaredRoot, start}
-use Rattle.cap_machine.specs.Steps.{Leads, operation_tests}
+use Rattle.cap_machine.specs.Steps.{operation_tests}
 use Rattle.cap_machine.specs.Runs.{IsRun, state_at, Access, access_of, AccessesLieInside, AreSound}
 use Rattle.cap_machine.proofs.AuthorityLemmas.{one_root}
 

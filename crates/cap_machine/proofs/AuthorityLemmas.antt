@@ -1,37 +1,31 @@
 -- Each tagged capability of a run descends from one root, and lies within it; so does each access.
-use Rattle.std.proofs.Common.{◌≡◌, ◌≢◌, ℕ, ℤ, zero, suc, ◌+◌, ◌<◌, ◌≤◌, inl, inr, Bool, true, false, not, ◌&&◌, ◌==◌, ◌∷◌, [], List, length, take, refl, sym, ap, subst, ◌∙◌, arith, Option, Some, None, Contains, IsTrue, slice_get}
+use Rattle.std.proofs.Common.{◌≡◌, ℕ, zero, suc, ◌≤◌, inl, inr, Bool, true, ◌∷◌, [], List, length, take, refl, sym, ap, subst, ◌∙◌, arith, Option, Some, None, Contains}
 use Rattle.std.specs.Bool.{if◌then◌else◌}
 use Rattle.std.specs.List.{AllByRecursion}
 use Rattle.std.proofs.lemmas.Bool.{false≢true}
 use Rattle.std.proofs.lemmas.Bool.Decides.{eqb_tells}
-use Rattle.std.proofs.lemmas.Option.{same_Some, none-some}
-use Rattle.cap_word.specs.declared.word.Word.{Word}
+use Rattle.std.proofs.lemmas.Option.{same_Some}
 use Rattle.cap_word.specs.declared.word.Cap.{Cap}
-use Rattle.cap_bounds.specs.Bounds.{base_of, top_of, IsSound}
+use Rattle.cap_bounds.specs.Bounds.{IsSound}
 use Rattle.cap_log.specs.declared.lines.Step.{Step}
-use Rattle.cap_log.specs.declared.lines.Step.TheVariants.{Move, ClearTag, SetBounds, SetBoundsExact, SetAddr, AndPerm, Seal, Unseal, LoadCap, StoreCap, Load, Store}
 use Rattle.cap_log.specs.Lines.{IsStepInRange}
-use Rattle.cap_ops.specs.Tests.{first_of}
-use Rattle.cap_ops.specs.Authority.{IsWithin, StaysWithin}
+use Rattle.cap_ops.specs.Authority.{IsWithin}
 use Rattle.cap_ops.proofs.WithinLemmas.{IsWithin-refl, IsWithin-trans}
-use Rattle.cap_machine.specs.States.{State, DeclaredRoot, key_of, tagged, put, start}
-use Rattle.cap_machine.specs.Steps.{Leads, operation_tests, written, parent_place, state_with}
-use Rattle.cap_machine.specs.Runs.{IsRun, state_at, parent_in, parent_of, Descends, DescendsFrom, AuthorityNeverGrows, AreSound}
+use Rattle.cap_machine.specs.States.{State, DeclaredRoot, key_of, tagged, start}
+use Rattle.cap_machine.specs.Steps.{Leads, written, parent_place, state_with}
+use Rattle.cap_machine.specs.Runs.{IsRun, state_at, parent_in, parent_of, Descends, AuthorityNeverGrows, AreSound}
+use Rattle.cap_machine.specs.Parents.{IsSoundState, ComesFrom}
 use Rattle.cap_machine.proofs.StepLemmas.{WritesWithin, writes_within}
 
--- each tagged capability of a state is sound
-abbrev pub IsSoundState : State → Type 0
-IsSoundState state = (key : ℕ) → (state key).tag ≡ true → IsSound (state key).word.0
-
 -- what a tagged place holds after a write lies within what the place before the write held that it comes from
-pub record ComesFrom (old new : State) (write : Option (ℕ × Cap)) (parent key from : ℕ) : Type 0 where
+record Came (old new : State) (write : Option (ℕ × Cap)) (parent key from : ℕ) : Type 0 where
   pub by : parent_in write parent key ≡ Some from
   pub tag : (old from).tag ≡ true
   pub within : IsWithin (new key).word.0 (old from).word.0
   pub sound : IsSound (new key).word.0
 
 came : (old : State) (write : Option (ℕ × Cap)) (parent key : ℕ) → IsSoundState old → WritesWithin old parent write
-    → (state_with old write key).tag ≡ true → (from : ℕ) × ComesFrom old (state_with old write) write parent key from
+    → (state_with old write key).tag ≡ true → (from : ℕ) × Came old (state_with old write) write parent key from
 came old None parent key sound within held = (key, record { by = refl; tag = held; within = IsWithin-refl (old key).word.0; sound = sound key held })
 came old (Some target) parent key sound within held =
     let there = λ (hit : Bool). if hit then target.1 else old key in
@@ -62,11 +56,13 @@ came old (Some target) parent key sound within held =
     ]
 
 pub one_back : (old : State) (step : Step) (new : State) (key : ℕ) → IsStepInRange step → IsSoundState old → Leads old step new → (new key).tag ≡ true
-    → (from : ℕ) × ComesFrom old new (written old step) (parent_place old step) key from
+    → (from : ℕ) × ComesFrom old step new key from
 one_back old step new key range sound leads held =
-    subst (λ (s : State). (from : ℕ) × ComesFrom old s (written old step) (parent_place old step) key from) (sym leads.after)
-    (came old (written old step) (parent_place old step) key sound (writes_within old step range leads.allowed)
-    (ap (λ (s : State). (s key).tag) (sym leads.after) ∙ held))
+    let back_to = came old (written old step) (parent_place old step) key sound (writes_within old step range leads.allowed)
+    (ap (λ (s : State). (s key).tag) (sym leads.after) ∙ held) in
+    let from = back_to.1 in
+    subst (λ (s : State). (from : ℕ) × ComesFrom old step s key from) (sym leads.after)
+    (back_to.0, record { parent = from.by; tag = from.tag; within = from.within; sound = from.sound })
 
 -- a step keeps each tagged capability sound
 pub sound_after : (old : State) (step : Step) (new : State) → IsStepInRange step → IsSoundState old → Leads old step new → IsSoundState new
@@ -89,7 +85,7 @@ back state (step ∷ steps) (next ∷ states) (suc moment) key ranges sound run 
     let earlier = one_back state step next later.0 ranges.0 sound run.0 later.1.tag in (
       earlier.0,
       record {
-        descends = (later.0, later.1.descends, earlier.1.by);
+        descends = (later.0, later.1.descends, earlier.1.parent);
         tag = earlier.1.tag;
         within = IsWithin-trans _ _ _ later.1.within earlier.1.within;
       },

@@ -1,7 +1,7 @@
 -- Granules as capabilities and as numbers.
-use Rattle.std.proofs.Common.{◌≡◌, ℕ, zero, suc, ◌+◌, ◌*◌, ◌/◌, ◌%◌, ◌^◌, ◌<◌, ◌≤◌, ◌⊎◌, inl, inr, Bool, true, false, List, [], ◌∷◌, length, drop, take, get_or, refl, sym, ap, ◌∙◌, arith, Option, Some, None, lit<, lit≤}
-use Rattle.std.proofs.Math.Nat.{div-div-eq-div-mul, pow-suc, pow-zero, pow-succ', div-one, zero-div}
-use Rattle.std.proofs.lemmas.List.{at_drop_more, at_drop_all}
+use Rattle.std.proofs.Common.{◌≡◌, ℕ, zero, suc, ◌+◌, ◌*◌, ◌/◌, ◌%◌, ◌^◌, ◌<◌, ◌≤◌, false, List, [], ◌∷◌, length, drop, take, get_or, refl, sym, ap, ◌∙◌, arith, Option, None}
+use Rattle.std.proofs.Math.Nat.{div-div-eq-div-mul, pow-suc, pow-zero, div-one, zero-div}
+use Rattle.std.proofs.lemmas.List.{at_drop_more}
 use Rattle.std.proofs.lemmas.Nat.{pow-add}
 use Rattle.std.specs.Prelude.{unwrap_or, replicate}
 use Rattle.std.specs.FinMap as map
@@ -9,7 +9,6 @@ use Rattle.std.specs.Int.{byte_at, bytes_low_first, to_le_bytes, w64}
 use Rattle.cap_word.specs.Word.{null_word}
 use Rattle.cap_word.specs.Memory.{number_of, stored_word, low_bytes}
 use Rattle.cap_word.specs.declared.word.Cap.{Cap}
-use Rattle.cap_log.specs.Lines.{IsDataSize}
 use Rattle.tagmem.specs.Granules.{Granules, Entry, blank}
 use Rattle.cap_machine.specs.States.{untagged_null}
 use Rattle.cap_machine.specs.Helds.{granule_cap}

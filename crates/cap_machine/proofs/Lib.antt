@@ -5,3 +5,5 @@ mod GranuleLemmas
 mod StateLemmas
 mod RootLemmas
 mod MadeLemmas
+mod SoundLemmas
+mod EscapeLemmas

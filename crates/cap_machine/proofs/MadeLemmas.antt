@@ -1,8 +1,8 @@
 -- A machine after a step was made, or refused.
-use Rattle.std.proofs.Common.{◌≡◌, ◌≢◌, ℕ, ℤ, zero, suc, ◌+◌, ◌*◌, ◌/◌, ◌%◌, ◌^◌, ◌<◌, ◌≤◌, Bool, true, false, not, ◌||◌, ◌&&◌, ◌==◌, nat_le, List, [], ◌∷◌, ◌++◌, map, length, get_or, refl, sym, ap, subst, ◌∙◌, arith, lit<, inl, inr, nat_lt, ◌-◌, Some, None, Option, is_some, Result, Ok, Err, MatchResult, IfOk, IfErr, IsTrue, All}
+use Rattle.std.proofs.Common.{◌≡◌, ℕ, ℤ, zero, suc, ◌+◌, ◌*◌, ◌/◌, ◌%◌, ◌^◌, ◌<◌, ◌≤◌, Bool, true, false, not, ◌||◌, nat_le, List, [], ◌∷◌, ◌++◌, map, length, get_or, refl, sym, ap, subst, ◌∙◌, arith, lit<, inl, inr, nat_lt, ◌-◌, Some, None, Option, Result, Ok, Err, MatchResult, IfOk, IfErr, All}
 use Rattle.std.specs.Bool.{if◌then◌else◌}
 use Rattle.std.specs.FinMap as fin
-use Rattle.std.proofs.lemmas.Bool.{false≢true, cases_lt, le-ltb, eq-eqb, lt-leb}
+use Rattle.std.proofs.lemmas.Bool.{cases_lt, le-ltb, eq-eqb, lt-leb}
 use Rattle.std.proofs.lemmas.List.{get_or_past}
 use Rattle.std.proofs.lemmas.List.Elements.{All-get_or}
 use Rattle.std.proofs.lemmas.Option.{none-some}
@@ -11,20 +11,18 @@ use Rattle.cap_word.specs.Memory.{low_bytes, memory_of, stored_word}
 use Rattle.cap_word.proofs.Bytes.{stored_word-memory_of, memory_of-stored_word}
 use Rattle.cap_log.specs.declared.lines.Step.{Step}
 use Rattle.cap_log.specs.declared.lines.Step.TheVariants as steps
-use Rattle.cap_log.specs.Lines.{IsDataSize}
 use Rattle.cap_ops.specs.declared.faults.OpFault.{OpFault}
 use Rattle.cap_ops.specs.Tests.{first_of}
-use Rattle.cap_ops.specs.Accesses.{access_address}
-use Rattle.tagmem.specs.Granules.{Granules, Entry, AreStored, bytes_at, overwritten, with_bytes, with_cap}
+use Rattle.tagmem.specs.Granules.{Entry, AreStored, bytes_at, overwritten}
 use Rattle.tagmem.proofs.Granules.{len-put, length-bytes_at, bytes_at_fit}
 use Rattle.cap_machine.specs.declared.refusal.Refusal.{Refusal}
 use Rattle.cap_machine.specs.declared.refusal.Refusal.TheVariants.{WrongResult, LimitPassed}
 use Rattle.cap_machine.specs.declared.ends.StepEnd.{StepEnd}
 use Rattle.cap_machine.specs.declared.ends.StepEnd.TheVariants.{Refused, NoMemory}
 use Rattle.cap_machine.specs.Refusals.{refusal_of}
-use Rattle.cap_machine.specs.States.{State, untagged_null, granule_key, put, value_at, byte_at}
+use Rattle.cap_machine.specs.States.{untagged_null, granule_key, put, value_at}
 use Rattle.cap_machine.specs.Steps.{operation_tests, written, is_recorded, is_same_cap, state_with, address_through, with_value}
-use Rattle.cap_machine.specs.Tallies.{Tally, as_line_test, step_tests, named_by, naming, is_new, with_step, passes_granules, most_steps}
+use Rattle.cap_machine.specs.Tallies.{as_line_test, step_tests, named_by, naming, is_new, passes_granules, most_steps}
 use Rattle.cap_machine.specs.Helds.{Held, Makes, EndsStep, EndsAccess, EndsPut, last_tests, is_past_limits, state_of, tally_of, with_register, with_cap_put, with_value_put, granule_cap}
 use Rattle.cap_machine.specs.Values.{number_at}
 use Rattle.cap_machine.proofs.StateLemmas.{state-register, state-granule, named-put, named_in, also_named, cap_of}

@@ -1,5 +1,5 @@
 -- The state of what a machine holds, after each kind of change.
-use Rattle.std.proofs.Common.{◌≡◌, ◌≢◌, ℕ, zero, suc, ◌+◌, ◌-◌, ◌<◌, ◌≤◌, ◌⊎◌, inl, inr, Bool, true, false, not, ◌==◌, ◌||◌, nat_lt, List, length, get_or, refl, sym, ap, ◌∙◌, arith, Option, Some, None, is_some}
+use Rattle.std.proofs.Common.{◌≡◌, ◌≢◌, ℕ, ◌+◌, ◌-◌, ◌<◌, ◌≤◌, inl, inr, Bool, true, false, ◌==◌, ◌||◌, nat_lt, length, get_or, refl, sym, ap, ◌∙◌, arith, Option, Some, is_some}
 use Rattle.std.specs.Bool.{if◌then◌else◌}
 use Rattle.std.proofs.Math.ListN.{replicate, set}
 use Rattle.std.proofs.Math.Path.{fun_ext}
@@ -9,11 +9,11 @@ use Rattle.std.proofs.lemmas.Bool.Decides.{eqb_tells}
 use Rattle.std.specs.FinMap as map
 use Rattle.std.specs.Ordering.{nat_cmp}
 use Rattle.cap_word.specs.declared.word.Cap.{Cap}
-use Rattle.tagmem.specs.Granules.{Granules, Entry, with_cap}
-use Rattle.tagmem.proofs.Granules.{get-put, entry_at-put_same, entry_at-put_other, len-put}
-use Rattle.cap_word.specs.Memory.{memory_of, stored_word}
-use Rattle.cap_machine.specs.States.{State, untagged_null, put, granule_key}
-use Rattle.cap_machine.specs.Helds.{Held, granule_cap, state_of, with_register}
+use Rattle.tagmem.specs.Granules.{Granules, Entry}
+use Rattle.tagmem.proofs.Granules.{get-put, entry_at-put_same, entry_at-put_other}
+use Rattle.cap_word.specs.Memory.{stored_word}
+use Rattle.cap_machine.specs.States.{untagged_null, put, granule_key}
+use Rattle.cap_machine.specs.Helds.{Held, granule_cap, state_of}
 use Rattle.cap_machine.proofs.GranuleLemmas.{granule_cap-absent}
 
 -- n copies of a value have it at each index, and past their end the default is that value

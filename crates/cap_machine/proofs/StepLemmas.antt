@@ -1,8 +1,7 @@
 -- What a step writes lies within what its parent place held.
-use Rattle.std.proofs.Common.{◌≡◌, ℕ, ℤ, ◌+◌, ◌^◌, ◌<◌, ◌≤◌, Bool, true, false, refl, sym, ap, subst, ◌∙◌, List, Option, Some, None, IsTrue}
+use Rattle.std.proofs.Common.{◌≡◌, ℕ, true, false, Option, Some, None}
 use Rattle.cap_word.specs.declared.word.Cap.{Cap}
 use Rattle.cap_word.specs.declared.word.Word.{Word}
-use Rattle.cap_bounds.specs.Bounds.{IsSound}
 use Rattle.cap_log.specs.declared.lines.Step.{Step}
 use Rattle.cap_log.specs.declared.lines.Step.TheVariants.{Move, ClearTag, SetBounds, SetBoundsExact, SetAddr, AndPerm, Seal, Unseal, LoadCap, StoreCap, Load, Store}
 use Rattle.cap_log.specs.Lines.{IsStepInRange}
@@ -13,7 +12,6 @@ use Rattle.cap_ops.proofs.Derivations.{StaysWithin-and_perm, StaysWithin-seal, S
 use Rattle.cap_ops.proofs.NarrowingLemmas.{StaysWithin-set_bounds}
 use Rattle.cap_ops.proofs.AddressLemmas.{StaysWithin-set_addr}
 use Rattle.std.proofs.lemmas.Bool.{false≢true}
-use Rattle.std.proofs.lemmas.Option.{same_Some}
 use Rattle.cap_machine.specs.States.{State}
 use Rattle.cap_machine.specs.Steps.{operation_tests, written, parent_place, granule_through}
 

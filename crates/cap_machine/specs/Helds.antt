@@ -1,20 +1,22 @@
 -- What a machine holds, and what its roots and its steps do to that.
-use Rattle.std.specs.Prelude.{◌≡◌, ℕ, ◌+◌, ◌-◌, ◌<◌, Bool, true, false, not, ◌||◌, nat_lt, nat_le, if◌then◌else◌, List, [], ◌∷◌, slice_index_or, slice_set, Option, Some, None, is_some, Result, Ok, Err, IsTrue, length}
+use Rattle.std.specs.Prelude.{◌≡◌, ℕ, ◌+◌, Bool, true, false, not, ◌||◌, nat_le, List, [], ◌∷◌, slice_set, Some, None, is_some, IsTrue}
 use Rattle.std.specs.FinMap as map
 use Rattle.cap_word.specs.declared.word.Word.{Word}
 use Rattle.cap_word.specs.declared.word.Cap.{Cap}
-use Rattle.cap_word.specs.Memory.{low_bytes, memory_of, stored_word}
+use Rattle.cap_word.specs.Memory.{low_bytes, memory_of}
 use Rattle.cap_log.specs.declared.lines.Place.{Place}
 use Rattle.cap_log.specs.declared.lines.Place.TheVariants.{Register, Granule}
 use Rattle.cap_log.specs.declared.lines.Step.{Step}
 use Rattle.cap_ops.specs.Tests.{first_of}
-use Rattle.tagmem.specs.Granules.{Granules, tag_at, bytes_at, with_cap, with_bytes}
+use Rattle.tagmem.specs.Granules.{Granules, with_cap, with_bytes}
 use Rattle.cap_machine.specs.declared.refusal.Refusal.{Refusal}
 use Rattle.cap_machine.specs.declared.refusal.Refusal.TheVariants.{WrongResult, LimitPassed}
 use Rattle.cap_machine.specs.declared.ends.StepEnd.{StepEnd}
 use Rattle.cap_machine.specs.declared.ends.StepEnd.TheVariants.{Refused, NoMemory}
 use Rattle.cap_machine.specs.declared.machine.Machine.{Machine}
-use Rattle.cap_machine.specs.States.{State, key_of, tagged, untagged_null, put}
+pub use Rattle.cap_machine.specs.Places.{granule_cap}
+use Rattle.cap_machine.specs.Places.{places_of}
+use Rattle.cap_machine.specs.States.{State, key_of, tagged, put}
 use Rattle.cap_machine.specs.Steps.{Leads}
 use Rattle.cap_machine.specs.Tallies.{Tally, most_steps, granule_of, named_by, is_new, with_root, with_step, passes_granules, root_tests, step_tests}
 
@@ -26,17 +28,12 @@ pub record Held : Type 0 where
   pub steps : ℕ
 
 -- what a machine over a store holds, by the store's map
-abbrev pub held_of : {M : Type 0} → (M → Granules) → Machine M → Held
+abbrev pub held_of : {M : Type 0} {g : _} → (M → Granules) → Machine M g → Held
 held_of contents machine = record { registers = machine.registers; memory = contents machine.memory; roots = machine.roots; steps = machine.steps }
-
--- the capability that a granule holds
-abbrev pub granule_cap : Granules → ℕ → Cap
-granule_cap memory granule = record { tag = tag_at memory granule; word = record { 0 = stored_word (bytes_at memory granule) } }
 
 -- the state that a machine is in
 abbrev pub state_of : Held → State
-state_of held key =
-    if nat_lt key 32 then slice_index_or held.registers key untagged_null else granule_cap held.memory (key - 32)
+state_of held = places_of held.registers held.memory
 
 -- what its limits are measured by
 abbrev pub tally_of : Held → Tally

@@ -1,7 +1,10 @@
 pub mod States
+pub mod Places
 pub mod Steps
 pub mod Runs
+pub mod Parents
 pub mod Refusals
 pub mod Tallies
 pub mod Values
 pub mod Helds
+pub mod Escapes

@@ -1,5 +1,5 @@
 -- One step of the machine (the operations and accesses of UCAM-CL-TR-987 for CHERI-RISC-V).
-use Rattle.std.specs.Prelude.{◌≡◌, ℕ, ℤ, ◌/◌, ◌%◌, Bool, true, false, ◌==◌, ◌&&◌, not, if◌then◌else◌, List, [], ◌∷◌, Option, Some, None, IsTrue}
+use Rattle.std.specs.Prelude.{◌≡◌, ℕ, ℤ, ◌/◌, ◌%◌, Bool, true, false, ◌==◌, ◌&&◌, not, if◌then◌else◌, List, [], Option, Some, None, IsTrue}
 use Rattle.cap_word.specs.declared.word.Cap.{Cap}
 use Rattle.cap_word.specs.Memory.{low_bytes, memory_of, stored_word}
 use Rattle.cap_log.specs.declared.lines.Step.{Step}

@@ -1,5 +1,5 @@
 -- What the limits are measured by, and the tests of roots and steps in their order.
-use Rattle.std.specs.Prelude.{◌≡◌, ℕ, ◌+◌, ◌/◌, ◌^◌, Bool, true, false, ◌==◌, ◌&&◌, ◌||◌, not, nat_le, if◌then◌else◌, List, [], ◌∷◌, ◌++◌, map, Option, Some, None}
+use Rattle.std.specs.Prelude.{ℕ, ◌+◌, ◌/◌, ◌^◌, Bool, false, ◌==◌, ◌&&◌, ◌||◌, not, nat_le, if◌then◌else◌, List, [], ◌∷◌, ◌++◌, map, Option, Some, None}
 use Rattle.cap_word.specs.declared.word.Word.{Word}
 use Rattle.cap_log.specs.declared.lines.Place.{Place}
 use Rattle.cap_log.specs.declared.lines.Place.TheVariants.{Register, Granule}
@@ -10,7 +10,7 @@ use Rattle.cap_ops.specs.declared.faults.OpFault.{OpFault}
 use Rattle.cap_machine.specs.declared.refusal.Refusal.{Refusal}
 use Rattle.cap_machine.specs.declared.refusal.Refusal.TheVariants.{PlaceTaken, UnsoundRoot, WrongResult, LimitPassed}
 use Rattle.cap_machine.specs.Refusals.{refusal_of}
-use Rattle.cap_machine.specs.States.{State, key_of}
+use Rattle.cap_machine.specs.States.{State}
 use Rattle.cap_machine.specs.Steps.{operation_tests, is_recorded, address_through}
 
 -- how many steps were made and roots declared, which granules a root, an sc or a store has named, and how many these are

@@ -4,6 +4,7 @@ ghost use Rattle.std.specs.Prelude.{◌≡◌, ◌<◌, ◌≤◌, ◌^◌, ◌+
 ghost use Rattle.cap_word.specs.Memory.{low_bytes};
 ghost use Rattle.cap_log.specs.Lines.{IsDataSize, IsDataValue, IsOffset};
 ghost use Rattle.cap_log.specs.declared.lines.Step.TheVariants as steps;
+ghost use Rattle.cap_machine.specs.Parents.{IsSoundCap};
 ghost use Rattle.cap_machine.specs.Helds.{
   EndsPut,
   EndsStep,
@@ -120,7 +121,8 @@ impl<M: TaggedStore> Machine<M> {
 
     // Puts a capability into a granule and counts the step.
     fn put_counted(&mut self, granule: u64, stored: Cap) -> Result<(), StepEnd>
-        requires { granule < 2 ^ 60 }
+        requires in_memory { granule < 2 ^ 60 }
+        requires sound { IsSoundCap stored }
         ensures { MatchResult result
             (λ _. (is_past_limits (held_of M.contents self.old) granule ≡ false)
             × (held_of M.contents self.new ≡ with_cap_put (held_of M.contents self.old) granule stored))

@@ -5,6 +5,7 @@ ghost use Rattle.std.specs.FinMap as map;
 ghost use Rattle.cap_ops.specs.Tests.{first_of};
 ghost use Rattle.cap_log.specs.Lines.{IsPlace};
 ghost use Rattle.cap_machine.specs.States.{key_of, tagged};
+ghost use Rattle.cap_machine.specs.Parents.{IsSoundCap};
 ghost use Rattle.cap_machine.specs.Tallies.{
   granule_of,
   is_new,
@@ -97,6 +98,7 @@ impl<M: TaggedStore> Machine<M> {
     fn place_root(&mut self, place: Place, cap: Cap) -> Result<(), NoMemory>
         requires in_range { IsPlace place }
         requires room { passes_granules (tally_of (held_of M.contents self.old)) (granule_of place) ≡ false }
+        requires sound { IsSoundCap cap }
         ensures ok { OnOk result (Placed (held_of M.contents self.old) place cap (held_of M.contents self.new)) }
         ensures err { OnErr result (held_of M.contents self.new ≡ held_of M.contents self.old) }
         ensures only_new { OnErr result (IsTrue (is_new (tally_of (held_of M.contents self.old)) (granule_of place))) }

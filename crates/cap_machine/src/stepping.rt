@@ -1,6 +1,6 @@
 //! Making steps.
 
-ghost use Rattle.std.specs.Prelude.{◌≡◌, ◌<◌, ◌≤◌, ◌^◌, ◌/◌, ◌%◌, ◌+◌, ◌*◌, ◌||◌, ◌⊎◌, ◌≤ℤ◌, pos, neg_ℤ, nat_le, MatchResult, IfOk, IfErr, Ok, Err, None, Some, true, false};
+ghost use Rattle.std.specs.Prelude.{◌≡◌, ◌<◌, ◌≤◌, ◌^◌, ◌/◌, ◌%◌, ◌+◌, ◌*◌, ◌||◌, ◌⊎◌, ◌≤ℤ◌, pos, neg_ℤ, nat_le, MatchResult, OnOk, IfOk, IfErr, Ok, Err, None, Some, true, false};
 ghost use Rattle.cap_ops.specs.Tests.{first_of};
 ghost use Rattle.cap_ops.specs.Accesses.{
   access_address,
@@ -11,6 +11,8 @@ ghost use Rattle.cap_ops.specs.declared.kinds.Kind.TheVariants as kinds;
 ghost use Rattle.cap_log.specs.Lines.{IsDataSize, IsOffset, IsStepInRange};
 ghost use Rattle.cap_machine.specs.States.{granule_key};
 ghost use Rattle.cap_machine.specs.Steps.{is_same_cap};
+ghost use Rattle.cap_machine.specs.Parents.{IsSoundCap, StaysWithinParents};
+ghost use Rattle.cap_machine.specs.Escapes.{EscapesExactly};
 ghost use Rattle.cap_machine.specs.Refusals.{refusal_of};
 ghost use Rattle.cap_machine.specs.Helds.{
   EndsAccess,
@@ -40,7 +42,25 @@ impl<M: TaggedStore> Machine<M> {
     /// (`WrongResult`); there are 4,294,967,295 steps, or it names a granule beyond 65,536
     /// (`LimitPassed`). `NoMemory` comes only at a granule named for the first time. After an error
     /// nothing has changed.
+    ///
+    /// A step keeps every tagged word sound, and each tagged capability after it lies within what the place
+    /// held before that it comes from. `setbounds` and `setboundsexact` of a tagged, unsealed source are
+    /// refused by `BoundsEscape` exactly where the bounds that they ask for, before any rounding, do not lie
+    /// inside the source's, which is the test of the instruction CSetBounds.
     pub fn step(&mut self, step: &Step) -> Result<(), StepEnd>
+        requires { IsStepInRange step.now }
+        ensures outcome { MatchResult result
+            (λ _. Makes (held_of M.contents self.old) step.now (held_of M.contents self.new))
+            (λ end. EndsStep (held_of M.contents self.old) step.now end (held_of M.contents self.new)) }
+        ensures lawful { OnOk result
+            (StaysWithinParents (state_of (held_of M.contents self.old)) step.now (state_of (held_of M.contents self.new))) }
+        ensures escape { EscapesExactly (state_of (held_of M.contents self.old)) step.now result }
+    {
+        self.make(step)
+    }
+
+    // Makes a step and counts it, or refuses it.
+    fn make(&mut self, step: &Step) -> Result<(), StepEnd>
         requires { IsStepInRange step.now }
         ensures { MatchResult result
             (λ _. Makes (held_of M.contents self.old) step.now (held_of M.contents self.new))
@@ -154,7 +174,8 @@ impl<M: TaggedStore> Machine<M> {
         outcome: Result<Cap, OpFault>,
         recorded: Cap,
     ) -> Result<(), StepEnd>
-        requires { target ≤ 31 }
+        requires low { target ≤ 31 }
+        requires sound { IfOk outcome (λ cap. IsSoundCap cap) }
         ensures faulted { IfErr outcome (λ fault. (result ≡ Err (StepEnd.Refused (refusal_of fault)))
             × (held_of M.contents self.new ≡ held_of M.contents self.old)) }
         ensures derived { IfOk outcome (λ derived. MatchResult result
@@ -181,7 +202,8 @@ impl<M: TaggedStore> Machine<M> {
     // The capability that a load through an authority gives.
     fn load_capability(&self, authority: Cap, offset: i16) -> Result<Cap, OpFault>
         requires { IsOffset offset }
-        ensures { MatchResult result
+        ensures sound { IfOk result (λ cap. IsSoundCap cap) }
+        ensures outcome { MatchResult result
             (λ cap. (first_of (access_tests authority kinds.LoadCap offset 16) ≡ None)
             × (cap ≡ loaded_result authority (state_of (held_of M.contents self.now) (granule_key (access_address authority.word.0 offset / 16)))))
             (λ fault. first_of (access_tests authority kinds.LoadCap offset 16) ≡ Some fault) }

@@ -1,4 +1,4 @@
-use Rattle.std.proofs.Common.{◌≡◌, ◌≢◌, ℕ, ◌+◌, ◌*◌, ◌/◌, ◌%◌, ◌^◌, ◌⊎◌, inl, inr, ap, sym, subst, ◌∙◌, drop, arith, List}
+use Rattle.std.proofs.Common.{◌≡◌, ◌≢◌, ℕ, ◌*◌, ◌/◌, ◌%◌, ◌^◌, inl, inr, ap, sym, ◌∙◌, drop, arith}
 use Rattle.std.specs.Int.Bits.{and_mask}
 use Rattle.cap_word.specs.Memory.{number_of}
 use Rattle.cap_word.proofs.Bytes.{from_le_bytes_is}

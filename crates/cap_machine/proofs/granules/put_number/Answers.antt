@@ -1,4 +1,4 @@
-use Rattle.std.proofs.Common.{◌≡◌, ◌≤◌, ℕ, ◌⊎◌, inl, inr, ap, sym, ◌∙◌, arith, List, take}
+use Rattle.std.proofs.Common.{◌≤◌, ℕ, inl, inr, ap, ◌∙◌, arith, List, take}
 use Rattle.std.proofs.lemmas.Result.{on_ok_weaker}
 use Rattle.cap_log.specs.Lines.{IsDataSize}
 use Rattle.tagmem.specs.Granules.{with_bytes}

@@ -1,18 +1,14 @@
-use Rattle.std.proofs.Common.{◌≡◌, ◌<◌, ◌≤◌, ℕ, ℤ, ◌+◌, ◌/◌, ◌%◌, ◌^◌, sym, ap, subst, ◌∙◌, refl, rules, arith, Result, Ok, Err, Some, None, Option, true, false, Bool}
+use Rattle.std.proofs.Common.{◌≡◌, ℕ, ℤ, sym, ap, subst, ◌∙◌, refl, rules, Some, None, true, false}
 use Rattle.std.proofs.lemmas.Int.{to_z-of_z}
 use Rattle.std.specs.Prelude.{FitsSigned}
 use Rattle.std.specs.Int.{w16, cast_signed, cast_unsigned}
 use Rattle.cap_word.specs.declared.word.Cap.{Cap}
 use Rattle.cap_log.specs.declared.lines.Step.TheVariants as steps
-use Rattle.cap_ops.specs.declared.kinds.Kind.{Kind}
 use Rattle.cap_ops.specs.declared.kinds.Kind.TheVariants as kinds
-use Rattle.cap_ops.specs.declared.faults.OpFault.{OpFault}
 use Rattle.cap_ops.specs.Tests.{first_of}
 use Rattle.cap_ops.specs.Accesses.{access_address, access_tests}
-use Rattle.cap_machine.specs.Helds.{held_of, state_of, with_cap_put, with_value_put}
-use Rattle.std.proofs.lemmas.Bool.{le-leb}
+use Rattle.cap_machine.specs.Helds.{held_of, state_of}
 use Rattle.cap_machine.specs.States.{value_at}
-use Rattle.cap_machine.specs.Steps.{is_recorded}
 use Rattle.cap_machine.proofs.MadeLemmas.{value_in, loaded_value, load_refused, faulted_as}
 use Rattle.cap_machine.proofs.StateLemmas.{unlike_false}
 use Rattle.std.proofs.lemmas.Bool.{eq-eqb}
@@ -27,7 +23,7 @@ returns-then-number_in-value g c =
     let old = held_of g.M.TaggedStore.contents c.args.self.now in
     let address = c.in-Ok.address in
     let out = at_state (λ authority offset. (first_of (access_tests authority kinds.LoadData offset c.args.size) ≡ None) × (address ≡ access_address authority.word.0 offset))
-    _ (state_of old c.args.authority) c.args.offset (search rules) c.register.ensures c.in-Ok.ensures.outcome in
+    _ (state_of old c.args.authority) c.args.offset (search rules) c.register.ensures.holds c.in-Ok.ensures.outcome in
     let read = c.number_in.ensures ∙ sym (value_in old address c.args.size (g.met.M.TaggedStore.are_stored c.args.self.now.memory) c.in-Ok.ensures.in_one_granule)
     ∙ ap (λ (a : ℕ). value_at (state_of old) a c.args.size) out.1 in
     load_refused old c.args.authority c.args.offset c.args.size c.args.value false _ out.0
@@ -38,7 +34,7 @@ returns-then-self-ge-MOST_STEPS g c =
     let old = held_of g.M.TaggedStore.contents c.args.self.now in
     let address = c.in-Ok.address in
     let out = at_state (λ authority offset. (first_of (access_tests authority kinds.LoadData offset c.args.size) ≡ None) × (address ≡ access_address authority.word.0 offset))
-    _ (state_of old c.args.authority) c.args.offset (search rules) c.register.ensures c.in-Ok.ensures.outcome in
+    _ (state_of old c.args.authority) c.args.offset (search rules) c.register.ensures.holds c.in-Ok.ensures.outcome in
     let read = c.number_in.ensures ∙ sym (value_in old address c.args.size (g.met.M.TaggedStore.are_stored c.args.self.now.memory) c.in-Ok.ensures.in_one_granule)
     ∙ ap (λ (a : ℕ). value_at (state_of old) a c.args.size) out.1 in
     load_refused old c.args.authority c.args.offset c.args.size c.args.value true _ out.0
@@ -49,7 +45,7 @@ returns-else-self-ge-MOST_STEPS g c =
     let old = held_of g.M.TaggedStore.contents c.args.self.now in
     let address = c.in-Ok.address in
     let out = at_state (λ authority offset. (first_of (access_tests authority kinds.LoadData offset c.args.size) ≡ None) × (address ≡ access_address authority.word.0 offset))
-    _ (state_of old c.args.authority) c.args.offset (search rules) c.register.ensures c.in-Ok.ensures.outcome in
+    _ (state_of old c.args.authority) c.args.offset (search rules) c.register.ensures.holds c.in-Ok.ensures.outcome in
     let read = c.number_in.ensures ∙ sym (value_in old address c.args.size (g.met.M.TaggedStore.are_stored c.args.self.now.memory) c.in-Ok.ensures.in_one_granule)
     ∙ ap (λ (a : ℕ). value_at (state_of old) a c.args.size) out.1 in
     loaded_value old c.args.authority c.args.offset c.args.size c.args.value out.0 (sym c.if-number_in-value.false ∙ read) c.if-self-ge-MOST_STEPS.false
@@ -59,5 +55,5 @@ returns-in-Err g c =
     let old = held_of g.M.TaggedStore.contents c.args.self.now in
     let fault = c.in-Err.fault in
     let found = at_state (λ authority offset. first_of (access_tests authority kinds.LoadData offset c.args.size) ≡ Some fault)
-    _ (state_of old c.args.authority) c.args.offset (search rules) c.register.ensures c.in-Err.ensures.outcome in
+    _ (state_of old c.args.authority) c.args.offset (search rules) c.register.ensures.holds c.in-Err.ensures.outcome in
     faulted_as old (steps.Load c.args.authority c.args.offset c.args.size c.args.value) fault c.from.result found c.from.ensures

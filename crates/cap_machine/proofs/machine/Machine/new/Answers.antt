@@ -1,9 +1,8 @@
-use Rattle.std.proofs.Common.{◌≡◌, ℕ, ◌-◌, ap, sym, ◌∙◌, Bool, false, if◌then◌else◌, nat_lt, None}
+use Rattle.std.proofs.Common.{ℕ, ap, false}
 use Rattle.std.specs.FinMap as map
 use Rattle.cap_word.specs.declared.word.Cap.{Cap}
-use Rattle.tagmem.specs.Granules.{Granules}
-use Rattle.cap_machine.specs.States.{untagged_null}
 use Rattle.cap_machine.proofs.StateLemmas.{blank_state}
+use Rattle.cap_machine.proofs.SoundLemmas.{IsSoundState-blank}
 use Rattle.cap_machine.proofs.machine.Machine.new.Goals as goal
 
 pub returns-clause-state : goal.returns-clause-state
@@ -13,3 +12,9 @@ returns-clause-state g c key =
 
 pub returns-clause-memory : goal.returns-clause-memory
 returns-clause-memory g c = map.empty_of_len _ c.requires
+
+pub invariant_of-result : goal.invariant_of-result
+invariant_of-result g c = record {
+  sound = IsSoundState-blank _ (λ key. blank_state (g.M.TaggedStore.contents c.args.memory) _ key (map.empty_of_len _ c.requires)
+      (ap (λ (n : ℕ). let cap : Cap = record { tag = false; word = record { 0 = n } } in cap) c.null.ensures));
+}

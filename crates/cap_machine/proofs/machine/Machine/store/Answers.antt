@@ -1,15 +1,13 @@
-use Rattle.std.proofs.Common.{◌≡◌, ◌<◌, ◌≤◌, ℕ, ℤ, ◌+◌, ◌/◌, ◌%◌, ◌^◌, sym, ap, subst, ◌∙◌, refl, rules, arith, Result, Ok, Err, Some, None, Option, true, false, Bool}
+use Rattle.std.proofs.Common.{◌≡◌, ℕ, ℤ, ◌/◌, ◌%◌, subst, rules, Some, None}
 use Rattle.std.proofs.lemmas.Int.{to_z-of_z}
 use Rattle.std.specs.Prelude.{FitsSigned}
 use Rattle.std.specs.Int.{w16, cast_signed, cast_unsigned}
 use Rattle.cap_word.specs.declared.word.Cap.{Cap}
 use Rattle.cap_log.specs.declared.lines.Step.TheVariants as steps
-use Rattle.cap_ops.specs.declared.kinds.Kind.{Kind}
 use Rattle.cap_ops.specs.declared.kinds.Kind.TheVariants as kinds
-use Rattle.cap_ops.specs.declared.faults.OpFault.{OpFault}
 use Rattle.cap_ops.specs.Tests.{first_of}
 use Rattle.cap_ops.specs.Accesses.{access_address, access_tests}
-use Rattle.cap_machine.specs.Helds.{held_of, state_of, with_cap_put, with_value_put}
+use Rattle.cap_machine.specs.Helds.{held_of, state_of, with_value_put}
 use Rattle.cap_machine.proofs.MadeLemmas.{EndsPutIn, stored_value, faulted_as}
 use Rattle.cap_machine.proofs.machine.Machine.store.Goals as goal
 
@@ -24,7 +22,7 @@ returns-in-Ok g c =
     let state = state_of old in
     let address = c.in-Ok.address in
     let out = at_state (λ authority offset. (first_of (access_tests authority kinds.StoreData offset c.args.size) ≡ None) × (address ≡ access_address authority.word.0 offset))
-    _ (state c.args.authority) c.args.offset (search rules) c.register.ensures c.in-Ok.ensures.outcome in
+    _ (state c.args.authority) c.args.offset (search rules) c.register.ensures.holds c.in-Ok.ensures.outcome in
     let put_through = subst (λ (a : ℕ). EndsPutIn old (a / 16) (with_value_put old (a / 16) (a % 16) c.args.size c.args.value) c.put_value_counted.result new) out.1 c.put_value_counted.ensures in
     stored_value old new c.args.authority c.args.offset c.args.size c.args.value c.put_value_counted.result (g.met.M.TaggedStore.are_stored c.args.self.now.memory) out.0 put_through
 
@@ -33,5 +31,5 @@ returns-in-Err g c =
     let old = held_of g.M.TaggedStore.contents c.args.self.now in
     let fault = c.in-Err.fault in
     let found = at_state (λ authority offset. first_of (access_tests authority kinds.StoreData offset c.args.size) ≡ Some fault)
-    _ (state_of old c.args.authority) c.args.offset (search rules) c.register.ensures c.in-Err.ensures.outcome in
+    _ (state_of old c.args.authority) c.args.offset (search rules) c.register.ensures.holds c.in-Err.ensures.outcome in
     faulted_as old (steps.Store c.args.authority c.args.offset c.args.size c.args.value) fault c.from.result found c.from.ensures

@@ -1,15 +1,13 @@
-use Rattle.std.proofs.Common.{◌≡◌, ◌<◌, ◌≤◌, ℕ, ℤ, ◌+◌, ◌/◌, ◌%◌, ◌^◌, sym, ap, subst, ◌∙◌, refl, rules, arith, Result, Ok, Err, Some, None, Option, true, false, Bool}
+use Rattle.std.proofs.Common.{◌≡◌, ◌<◌, ℕ, ℤ, ◌/◌, ◌^◌, subst, rules, Some, None}
 use Rattle.std.proofs.lemmas.Int.{to_z-of_z}
 use Rattle.std.specs.Prelude.{FitsSigned}
 use Rattle.std.specs.Int.{w16, cast_signed, cast_unsigned}
 use Rattle.cap_word.specs.declared.word.Cap.{Cap}
 use Rattle.cap_log.specs.declared.lines.Step.TheVariants as steps
-use Rattle.cap_ops.specs.declared.kinds.Kind.{Kind}
 use Rattle.cap_ops.specs.declared.kinds.Kind.TheVariants as kinds
-use Rattle.cap_ops.specs.declared.faults.OpFault.{OpFault}
 use Rattle.cap_ops.specs.Tests.{first_of}
 use Rattle.cap_ops.specs.Accesses.{access_address, access_tests}
-use Rattle.cap_machine.specs.Helds.{held_of, state_of, with_cap_put, with_value_put}
+use Rattle.cap_machine.specs.Helds.{held_of, state_of, with_cap_put}
 use Rattle.cap_machine.proofs.MadeLemmas.{EndsPutIn, stored, faulted_as}
 use Rattle.cap_machine.proofs.machine.Machine.store_capability.Goals as goal
 
@@ -26,10 +24,10 @@ returns-in-Ok g c =
     let state = state_of old in
     let address = c.in-Ok.address in
     let out = at_state (λ cap authority offset. (first_of (access_tests authority (kinds.StoreCap cap) offset 16) ≡ None) × (address ≡ access_address authority.word.0 offset))
-    _ (state c.args.source) _ (state c.args.authority) c.args.offset (search rules) c.register-stored.ensures c.register.ensures c.in-Ok.ensures.outcome in
-    let put_there = subst (λ (cap : Cap). EndsPutIn old (address / 16) (with_cap_put old (address / 16) cap) c.put_counted.result new) c.register-stored.ensures c.put_counted.ensures in
+    _ (state c.args.source) _ (state c.args.authority) c.args.offset (search rules) c.register-stored.ensures.holds c.register.ensures.holds c.in-Ok.ensures.outcome in
+    let put_there = subst (λ (cap : Cap). EndsPutIn old (address / 16) (with_cap_put old (address / 16) cap) c.put_counted.result new) c.register-stored.ensures.holds c.put_counted.ensures in
     let put_through = subst (λ (a : ℕ). EndsPutIn old (a / 16) (with_cap_put old (a / 16) (state c.args.source)) c.put_counted.result new) out.1 put_there in
-    let small = subst (λ (cap : Cap). cap.word.0 < 2 ^ 128) c.register-stored.ensures (search rules) in
+    let small = subst (λ (cap : Cap). cap.word.0 < 2 ^ 128) c.register-stored.ensures.holds (search rules) in
     stored old new c.args.source c.args.authority c.args.offset c.put_counted.result small out.0 put_through
 
 pub returns-in-Err : goal.returns-in-Err
@@ -38,5 +36,5 @@ returns-in-Err g c =
     let state = state_of old in
     let fault = c.in-Err.fault in
     let found = at_state (λ cap authority offset. first_of (access_tests authority (kinds.StoreCap cap) offset 16) ≡ Some fault)
-    _ (state c.args.source) _ (state c.args.authority) c.args.offset (search rules) c.register-stored.ensures c.register.ensures c.in-Err.ensures.outcome in
+    _ (state c.args.source) _ (state c.args.authority) c.args.offset (search rules) c.register-stored.ensures.holds c.register.ensures.holds c.in-Err.ensures.outcome in
     faulted_as old (steps.StoreCap c.args.source c.args.authority c.args.offset) fault c.from.result found c.from.ensures

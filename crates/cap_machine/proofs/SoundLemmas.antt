@@ -1,0 +1,58 @@
+-- A state whose tagged capabilities are sound stays such a state.
+use Rattle.std.proofs.Common.{◌≡◌, ℕ, ◌<◌, ◌≤◌, ◌^◌, ◌==◌, ◌-◌, Bool, true, false, nat_lt, get_or, arith, List, length, sym, ap, subst, ◌∙◌}
+use Rattle.std.specs.Bool.{if◌then◌else◌}
+use Rattle.std.proofs.Math.ListN.{set}
+use Rattle.std.proofs.lemmas.Bool.{false≢true, le-ltb}
+use Rattle.std.specs.FinMap as map
+use Rattle.cap_word.specs.declared.word.Word.{Word}
+use Rattle.cap_word.specs.declared.word.Cap.{Cap}
+use Rattle.cap_word.specs.Memory.{memory_of}
+use Rattle.cap_word.proofs.Bytes.{stored_word-memory_of}
+use Rattle.cap_bounds.specs.Bounds.{IsSound}
+use Rattle.tagmem.specs.Granules.{Granules, Entry}
+use Rattle.cap_machine.specs.States.{State, blank, put, granule_key, untagged_null}
+use Rattle.cap_machine.specs.Places.{places_of, granule_cap}
+use Rattle.cap_machine.specs.Parents.{IsSoundCap, IsSoundState}
+use Rattle.cap_machine.proofs.StateLemmas.{state-register, state-granule, cap_of}
+
+either : (b : Bool) (x y : Cap) → IsSoundCap x → IsSoundCap y → IsSoundCap (if b then x else y)
+either true x y h k = h
+either false x y h k = k
+
+-- a write of a sound capability
+pub IsSoundState-put : (state : State) (place : ℕ) (cap : Cap) → IsSoundState state → IsSoundCap cap → IsSoundState (put state place cap)
+IsSoundState-put state place cap all one key = either (place == key) cap (state key) one (all key)
+
+-- NULL without a tag everywhere
+pub IsSoundState-blank : (state : State) → ((key : ℕ) → state key ≡ blank key) → IsSoundState state
+IsSoundState-blank state empty key held = absurd (false≢true (sym (ap (λ (cap : Cap). cap.tag) (empty key)) ∙ held))
+
+-- a register that holds another sound capability
+pub sound_register : (registers : List Cap) (memory : Granules) (target : ℕ) (cap : Cap) → length registers ≡ 32 → target ≤ 31
+    → IsSoundState (places_of registers memory) → IsSoundCap cap → IsSoundState (places_of (set registers target cap) memory)
+sound_register registers memory target cap sized low all one =
+    subst IsSoundState (sym (state-register (record { registers = registers; memory = memory; roots = 0; steps = 0 }) target cap 0 0 sized low))
+    (IsSoundState-put (places_of registers memory) target cap all one)
+
+-- a granule that holds another sound capability
+pub sound_granule : (registers : List Cap) (memory : Granules) (granule : ℕ) (entry : Entry)
+    → IsSoundState (places_of registers memory) → IsSoundCap (cap_of entry) → IsSoundState (places_of registers (map.insert memory granule entry))
+sound_granule registers memory granule entry all one =
+    subst IsSoundState (sym (state-granule (record { registers = registers; memory = memory; roots = 0; steps = 0 }) granule entry 0 0))
+    (IsSoundState-put (places_of registers memory) (granule_key granule) (cap_of entry) all one)
+
+-- a capability as its granule keeps it
+pub sound_entry : (cap : Cap) → cap.word.0 < 2 ^ 128 → IsSoundCap cap → IsSoundCap (cap_of (cap.tag, memory_of cap.word.0))
+sound_entry cap fits one held = subst IsSound (sym (stored_word-memory_of cap.word.0 fits)) (one held)
+
+-- what has no tag
+pub untagged_sound : (word : Word) → IsSoundCap (record { tag = false; word = word })
+untagged_sound word held = absurd (false≢true held)
+
+-- a granule's capability is the state's at its place
+pub granule_state : (registers : List Cap) (memory : Granules) (granule : ℕ) → places_of registers memory (granule_key granule) ≡ granule_cap memory granule
+granule_state registers memory granule =
+    let past : nat_lt (granule_key granule) 32 ≡ false = le-ltb (granule_key granule) 32 (omega arith) in
+    let place : granule_key granule - 32 ≡ granule = omega arith in
+    ap (λ (b : Bool). if b then get_or registers (granule_key granule) untagged_null else granule_cap memory (granule_key granule - 32)) past
+    ∙ ap (granule_cap memory) place

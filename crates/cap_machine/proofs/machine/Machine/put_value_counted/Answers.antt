@@ -1,0 +1,17 @@
+use Rattle.std.proofs.Common.{false, sym, subst}
+use Rattle.cap_word.specs.Memory.{low_bytes}
+use Rattle.tagmem.specs.Granules.{Granules, bytes_at, overwritten}
+use Rattle.cap_machine.specs.Places.{places_of}
+use Rattle.cap_machine.specs.Parents.{IsSoundState}
+use Rattle.cap_machine.proofs.SoundLemmas.{sound_granule, untagged_sound}
+use Rattle.cap_machine.proofs.machine.Machine.put_value_counted.Goals as goal
+
+pub invariant_of-self : goal.invariant_of-self
+invariant_of-self g c =
+    let machine = c.args.self.now in
+    let old = g.M.TaggedStore.contents machine.memory in
+    record {
+      sound = subst (λ (m : Granules). IsSoundState (places_of machine.registers m)) (sym c.in-Ok.ensures.ok)
+          (sound_granule machine.registers old c.args.granule (false, overwritten (bytes_at old c.args.granule) c.args.at (low_bytes c.args.size c.args.value)) machine.sound
+          (untagged_sound _));
+    }
