@@ -132,7 +132,7 @@ wants_line (Whole roots steps) state tally text wants = absurd wants
 no_lack : (bytes : List ℕ) → NamesNoGranules bytes → MayLackMemory bytes → ⊥
 no_lack bytes none lack =
     let wants = wants_line lack.beginning lack.state lack.tally lack.line lack.wants in
-    false≢true (sym (none (text_of (lines_of lack.beginning)) lack.line lack.more wants.0 lack.bytes_are wants.1) ∙ wants.2)
+    false≢true (sym (none (lines_of lack.beginning) lack.line lack.more wants.0 lack.bytes_are wants.1) ∙ wants.2)
 
 -- a log without lines that name granules has a verdict
 pub answered : (bytes : List ℕ) (result : Result Verdict JudgeFault) → IfErr result (IsFault bytes) → NamesNoGranules bytes → IsOk result

@@ -177,7 +177,7 @@ names_granule (Step (steps.Load authority offset size value)) = false
 names_granule (Step (steps.Store authority offset size value)) = true
 names_granule (End count) = false
 
--- no line of the bytes, wherever it stands, names a granule
+-- no line of the bytes, after whole lines that have forms, names a granule
 abbrev pub NamesNoGranules : List ℕ → Type 0
 NamesNoGranules bytes =
-    (before text more : List ℕ) (line : Line) → bytes ≡ before ++ text ++ 10 ∷ more → Spells text line → names_granule line ≡ false
+    (lines : List Line) (text more : List ℕ) (line : Line) → bytes ≡ text_of lines ++ text ++ 10 ∷ more → Spells text line → names_granule line ≡ false
