@@ -15,12 +15,10 @@ use Rattle.cap_machine.specs.declared.refusal.Refusal.{Refusal}
 use Rattle.cap_machine.specs.declared.refusal.Refusal.TheVariants.{LineTooLong, Truncated, Misplaced}
 use Rattle.cap_machine.specs.declared.ends.StepEnd.{StepEnd}
 use Rattle.cap_machine.specs.declared.ends.StepEnd.TheVariants.{Refused, NoMemory}
-use Rattle.cap_machine.specs.States.{State, DeclaredRoot}
+use Rattle.cap_machine.specs.States.{State, DeclaredRoot, start}
 use Rattle.cap_machine.specs.Tallies.{Tally, is_new}
-use Rattle.cap_machine.specs.Runs.{AreSound}
+use Rattle.cap_machine.specs.Runs.{AreSound, IsRun, AuthorityNeverGrows, AccessesLieInside}
 use Rattle.cap_machine.specs.Helds.{Held, state_of, tally_of}
-use Rattle.cap_machine.proofs.AuthorityLemmas.{one_root}
-use Rattle.cap_machine.proofs.AccessLemmas.{lie_inside}
 use Rattle.capcheck.specs.declared.progress.Stage.{Stage}
 use Rattle.capcheck.specs.declared.progress.Stage.TheVariants.{Header, Ended}
 use Rattle.capcheck.specs.declared.verdict.Verdict.{Verdict}
@@ -195,20 +193,24 @@ are_sound [] all root there = absurd (omega (arith, there.1))
 are_sound (first ∷ roots) all root (zero, below, is) = subst (λ (r : DeclaredRoot). IsSound r.word.0) is all.0
 are_sound (first ∷ roots) all root (suc place, below, is) = are_sound roots all.1 root (place, omega arith, is)
 
--- every log is guarded
-pub guarded : (bytes : List ℕ) → IsGuarded bytes
-guarded bytes = record {
+-- every log is guarded, by the machine's laws of runs
+pub guarded : ((roots : List DeclaredRoot) (made : List Step) (states : List State) → AreSound roots → AllByRecursion IsStepInRange made → IsRun (start roots) made states
+    → AuthorityNeverGrows roots made states)
+    → ((roots : List DeclaredRoot) (made : List Step) (states : List State) → AreSound roots → AllByRecursion IsStepInRange made → IsRun (start roots) made states
+    → AccessesLieInside roots made states)
+    → (bytes : List ℕ) → IsGuarded bytes
+guarded grows inside bytes = record {
   authority = λ roots made states log run.
       let runs = log.runs.2 in
-      one_root roots made states (are_sound roots runs.sound) (steps_in_range roots made runs.grammar.1) run;
+      grows roots made states (are_sound roots runs.sound) (steps_in_range roots made runs.grammar.1) run;
   accesses = λ roots made states log run.
       let runs = log.runs.2 in
-      lie_inside roots made states (are_sound roots runs.sound) (steps_in_range roots made runs.grammar.1) run;
+      inside roots made states (are_sound roots runs.sound) (steps_in_range roots made runs.grammar.1) run;
 }
 
-pub guards : (bytes : List ℕ) (verdict : Verdict) → GuardsAuthority bytes verdict
-guards bytes (Yes steps roots) = guarded bytes
-guards bytes (No line refusal) = tt
+guards : (bytes : List ℕ) → IsGuarded bytes → (verdict : Verdict) → GuardsAuthority bytes verdict
+guards bytes all (Yes steps roots) = all
+guards bytes all (No line refusal) = tt
 
 half_ok : (answer : Result Verdict JudgeFault) (P : Verdict → Type 0) (Q : JudgeFault → Type 0) → MatchResult answer P Q → IfOk answer P
 half_ok (Ok verdict) P Q both = both
@@ -218,9 +220,9 @@ half_err : (answer : Result Verdict JudgeFault) (P : Verdict → Type 0) (Q : Ju
 half_err (Ok verdict) P Q both = tt
 half_err (Err fault) P Q both = both
 
-pub guards_all : (bytes : List ℕ) (result : Result Verdict JudgeFault) → IfOk result (GuardsAuthority bytes)
-guards_all bytes (Ok verdict) = guards bytes verdict
-guards_all bytes (Err fault) = tt
+pub guards_all : (bytes : List ℕ) → IsGuarded bytes → (result : Result Verdict JudgeFault) → IfOk result (GuardsAuthority bytes)
+guards_all bytes all (Ok verdict) = guards bytes all verdict
+guards_all bytes all (Err fault) = tt
 
 -- a line that is not taken
 pub line_ended : (bytes rest text more : List ℕ) (held : Held) (stage : Stage) (line : ℕ) (end : StepEnd) → IsAt bytes held stage rest line → stage ≢ Ended

@@ -35,7 +35,6 @@ pub fn judge_bytes(alloc: Global, bytes: &[u8]) -> Result<Verdict, JudgeFault>
 fn judge_over<M: TaggedStore>(memory: M, bytes: &[u8]) -> Result<Verdict, JudgeFault>
     requires { map.len (M.contents memory) ≡ 0 }
     ensures verdict { IfOk result (IsVerdict bytes.now) }
-    ensures authority { IfOk result (GuardsAuthority bytes.now) }
     ensures fault { IfErr result (IsFault bytes.now) }
     ensures answers { NamesNoGranules bytes.now → IsOk result }
 {

@@ -1,4 +1,4 @@
-//! Laws about verdicts. These functions do nothing: what they say is their contract.
+//! A law about logs. Its function does nothing: what it says is its contract.
 
 ghost use Rattle.std.specs.Prelude.{ℕ, List};
 ghost use Rattle.capcheck.specs.Verdicts.{IsGuarded};

@@ -1,11 +1,8 @@
 use Rattle.std.proofs.Common.{rules, take, drop, ◌+◌}
 use Rattle.cap_machine.specs.Helds.{held_of}
 use Rattle.capcheck.specs.Verdicts.{IsVerdict, IsFault, answer_at}
-use Rattle.capcheck.proofs.JudgeLemmas.{guards, guards_all, line_ended, ok_half, err_half, answered}
+use Rattle.capcheck.proofs.JudgeLemmas.{line_ended, ok_half, err_half, answered}
 use Rattle.capcheck.proofs.judging.judge_over.Goals as goal
-
-pub returns-then-eq-clause-authority : goal.returns-then-eq-clause-authority
-returns-then-eq-clause-authority g c = guards c.args.bytes.now c.end_verdict.result
 
 pub returns-in-Err-clause-verdict : goal.returns-in-Err-clause-verdict
 returns-in-Err-clause-verdict g c =
@@ -15,9 +12,6 @@ returns-in-Err-clause-verdict g c =
     let both = line_ended c.args.bytes.now rest (take n rest) (drop (n + 1) rest) held c.lines.progress.stage c.lines.line c.in-Err.end
     c.lines.invariant.here (search rules) c.in-Line.ensures.1 c.in-Err.ensures.err in
     ok_half c.answer_at.result (answer_at c.lines.line c.in-Err.end) (IsVerdict c.args.bytes.now) (IsFault c.args.bytes.now) c.answer_at.ensures both
-
-pub returns-in-Err-clause-authority : goal.returns-in-Err-clause-authority
-returns-in-Err-clause-authority g c = guards_all c.args.bytes.now c.answer_at.result
 
 pub returns-in-Err-clause-fault : goal.returns-in-Err-clause-fault
 returns-in-Err-clause-fault g c =
