@@ -2,6 +2,7 @@
 use Rattle.std.proofs.Common.{◌≡◌, ℕ, ◌<◌, ◌≤◌, ◌^◌, ◌==◌, ◌-◌, Bool, true, false, nat_lt, get_or, arith, List, length, sym, ap, subst, ◌∙◌}
 use Rattle.std.specs.Bool.{if◌then◌else◌}
 use Rattle.std.proofs.Math.ListN.{set}
+use Rattle.std.proofs.lemmas.List.{get_or-set_other}
 use Rattle.std.proofs.lemmas.Bool.{false≢true, le-ltb}
 use Rattle.std.specs.FinMap as map
 use Rattle.cap_word.specs.declared.word.Word.{Word}
@@ -56,3 +57,9 @@ granule_state registers memory granule =
     let place : granule_key granule - 32 ≡ granule = omega arith in
     ap (λ (b : Bool). if b then get_or registers (granule_key granule) untagged_null else granule_cap memory (granule_key granule - 32)) past
     ∙ ap (granule_cap memory) place
+
+-- register 0 stays NULL without a tag where another register is written
+pub zero_register : (registers : List Cap) (target : ℕ) (cap : Cap) → 1 ≤ target → get_or registers 0 untagged_null ≡ untagged_null
+    → get_or (set registers target cap) 0 untagged_null ≡ untagged_null
+zero_register registers target cap written null =
+    get_or-set_other registers target 0 cap untagged_null (λ e. let same : 0 ≡ target = e in omega arith) ∙ null

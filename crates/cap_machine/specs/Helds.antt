@@ -1,4 +1,4 @@
--- What a machine holds, and what its roots and its steps do to that.
+-- What a machine holds, and what its roots and its steps do to that (this profile's own).
 use Rattle.std.specs.Prelude.{◌≡◌, ℕ, ◌+◌, Bool, true, false, not, ◌||◌, nat_le, List, [], ◌∷◌, slice_set, Some, None, is_some, IsTrue}
 use Rattle.std.specs.FinMap as map
 use Rattle.cap_word.specs.declared.word.Word.{Word}
@@ -53,6 +53,7 @@ abbrev pub placed : Held → Place → Cap → Held
 placed old (Register number) cap = record old { registers = slice_set old.registers number cap }
 placed old (Granule granule) cap = record old { memory = with_cap old.memory granule cap.tag (memory_of cap.word.0) }
 
+-- a capability was put into a place
 abbrev pub Placed : Held → Place → Cap → Held → Type 0
 Placed old place cap new = new ≡ placed old place cap
 

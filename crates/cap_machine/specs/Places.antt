@@ -1,4 +1,4 @@
--- What registers and granules hold, as one state.
+-- What registers and granules hold, as one state (this profile's own).
 use Rattle.std.specs.Prelude.{ℕ, ◌-◌, nat_lt, if◌then◌else◌, List, slice_index_or}
 use Rattle.cap_word.specs.declared.word.Cap.{Cap}
 use Rattle.cap_word.specs.Memory.{stored_word}

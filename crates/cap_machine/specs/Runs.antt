@@ -33,6 +33,7 @@ abbrev pub parent_in : Option (ℕ × Cap) → ℕ → ℕ → Option ℕ
 parent_in None parent key = Some key
 parent_in (Some target) parent key = if target.0 == key then (if target.1.tag then Some parent else None) else Some key
 
+-- the same of a step from a state
 abbrev pub parent_of : State → Step → ℕ → Option ℕ
 parent_of state step key = parent_in (written state step) (parent_place state step) key
 

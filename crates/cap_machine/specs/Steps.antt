@@ -71,7 +71,7 @@ parent_place state (StoreCap source authority offset) = source
 parent_place state (Load authority offset size value) = authority
 parent_place state (Store authority offset size value) = authority
 
--- whether two capabilities have the same tag
+-- whether two tags are the same
 abbrev pub is_same_tag : Bool → Bool → Bool
 is_same_tag a b = if a then b else not b
 

@@ -1,4 +1,4 @@
--- What the limits are measured by, and the tests of roots and steps in their order.
+-- What the limits are measured by, and the tests of roots and steps in their order (this profile's own).
 use Rattle.std.specs.Prelude.{ℕ, ◌+◌, ◌/◌, ◌^◌, Bool, false, ◌==◌, ◌&&◌, ◌||◌, not, nat_le, if◌then◌else◌, List, [], ◌∷◌, ◌++◌, map, Option, Some, None}
 use Rattle.cap_word.specs.declared.word.Word.{Word}
 use Rattle.cap_log.specs.declared.lines.Place.{Place}
@@ -20,13 +20,15 @@ pub record Tally : Type 0 where
   pub is_named : ℕ → Bool
   pub granules : ℕ
 
--- the greatest numbers of roots, of named granules and of steps (this profile's own)
+-- the greatest number of roots (this profile's own)
 abbrev pub most_roots : ℕ
 most_roots = 4096
 
+-- the greatest number of distinct granules that roots, sc and store name (this profile's own)
 abbrev pub most_granules : ℕ
 most_granules = 65536
 
+-- the greatest number of steps (this profile's own)
 abbrev pub most_steps : ℕ
 most_steps = 4294967295
 
@@ -67,14 +69,15 @@ naming tally (Some granule) = record tally {
   granules = if tally.is_named granule then tally.granules else tally.granules + 1;
 }
 
--- the tally after one root more, or one step more
+-- the tally after one root more
 abbrev pub with_root : Tally → Place → Tally
 with_root tally place = let named = naming tally (granule_of place) in record named { roots = named.roots + 1 }
 
+-- the tally after one step more
 abbrev pub with_step : Tally → State → Step → Tally
 with_step tally state step = let named = naming tally (named_by state step) in record named { steps = named.steps + 1 }
 
--- whether a word is sound
+-- whether a word is sound: its top is its base plus its length, and at most 2^64 (this profile's own)
 abbrev pub is_sound : ℕ → Bool
 is_sound w = base_of w + length_of w == top_of w && nat_le (top_of w) (2 ^ 64)
 

@@ -1,4 +1,4 @@
--- Numbers that bytes spell.
+-- Numbers that bytes spell (data stand least significant byte first, as in RISC-V).
 use Rattle.std.specs.Prelude.{ℕ, zero, suc, ◌+◌, ◌*◌, List, slice_index}
 
 -- the number that so many bytes from a place on spell, the least significant first

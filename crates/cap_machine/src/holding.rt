@@ -2,7 +2,7 @@
 
 ghost use Rattle.std.specs.Prelude.{◌≡◌, ℕ, ◌<◌, ◌≤◌, ◌^◌, ◌+◌};
 ghost use Rattle.std.specs.FinMap as map;
-ghost use Rattle.cap_machine.specs.States.{blank, granule_key};
+ghost use Rattle.cap_machine.specs.States.{blank, granule_key, untagged_null};
 ghost use Rattle.cap_machine.specs.Parents.{IsSoundCap};
 ghost use Rattle.cap_machine.specs.Helds.{held_of, state_of};
 
@@ -52,6 +52,7 @@ impl<M: TaggedStore> Machine<M> {
         requires { number ≤ 31 }
         ensures holds { result ≡ state_of (held_of M.contents self.now) number }
         ensures sound { IsSoundCap result }
+        ensures zero { number ≡ 0 → result ≡ untagged_null }
     {
         self.registers[number as usize]
     }

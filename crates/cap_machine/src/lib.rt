@@ -1,4 +1,10 @@
 //! The machine that a log is judged by: registers, tagged memory, and the steps on them.
+//!
+//! A [`Machine`] takes roots by `declare` and steps by `step`, over any store of granules. Each does what
+//! its definition says, or is refused for the first test that holds, and then nothing has changed. Every
+//! tagged word that a machine holds is sound. Only a granule named for the first time takes memory. The
+//! laws [`steps_stay_within`], [`authority_never_grows`] and [`accesses_lie_inside`] are of single steps
+//! and of whole runs.
 #![tactic(auto)]
 
 mod accessing;

@@ -1,18 +1,21 @@
 //! The machine: registers and tagged memory, with counts of its roots and steps.
 
+ghost use Rattle.std.specs.Prelude.{◌≡◌, slice_index_or};
+ghost use Rattle.cap_machine.specs.States.{untagged_null};
 ghost use Rattle.cap_machine.specs.Places.{places_of};
 ghost use Rattle.cap_machine.specs.Parents.{IsSoundState};
 
 use cap_word::Cap;
 use tagmem::TaggedStore;
 
-/// The greatest number of roots.
+/// The greatest number of roots that a machine takes (this profile's own): past it comes `LimitPassed`.
 pub const MOST_ROOTS: u32 = 4096;
 
-/// The greatest number of granules that roots and stores name.
+/// The greatest number of distinct granules that roots, `sc` and `store` name (this profile's own): past it
+/// comes `LimitPassed`.
 pub const MOST_GRANULES: u32 = 65_536;
 
-/// The greatest number of steps.
+/// The greatest number of steps that a machine makes (this profile's own): past it comes `LimitPassed`.
 pub const MOST_STEPS: u32 = u32::MAX;
 
 /// A machine over a store of granules: registers c1 to c31, c0, which is always NULL without a tag, and
@@ -24,5 +27,6 @@ pub struct Machine<M: TaggedStore> {
     pub(crate) memory: M,
     pub(crate) roots: u32,
     pub(crate) steps: u32,
+    ghost zero: { slice_index_or registers 0 untagged_null ≡ untagged_null },
     ghost sound: { IsSoundState (places_of registers (M.contents memory)) },
 }

@@ -174,6 +174,7 @@ impl<M: TaggedStore> Machine<M> {
         outcome: Result<Cap, OpFault>,
         recorded: Cap,
     ) -> Result<(), StepEnd>
+        requires written { 1 ≤ target }
         requires low { target ≤ 31 }
         requires sound { IfOk outcome (λ cap. IsSoundCap cap) }
         ensures faulted { IfErr outcome (λ fault. (result ≡ Err (StepEnd.Refused (refusal_of fault)))

@@ -15,6 +15,7 @@ returns-clause-memory g c = map.empty_of_len _ c.requires
 
 pub invariant_of-result : goal.invariant_of-result
 invariant_of-result g c = record {
+  zero = ap (λ (n : ℕ). let cap : Cap = record { tag = false; word = record { 0 = n } } in cap) c.null.ensures;
   sound = IsSoundState-blank _ (λ key. blank_state (g.M.TaggedStore.contents c.args.memory) _ key (map.empty_of_len _ c.requires)
       (ap (λ (n : ℕ). let cap : Cap = record { tag = false; word = record { 0 = n } } in cap) c.null.ensures));
 }

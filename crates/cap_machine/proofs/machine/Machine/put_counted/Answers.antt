@@ -10,6 +10,7 @@ pub invariant_of-self : goal.invariant_of-self
 invariant_of-self g c =
     let machine = c.args.self.now in
     record {
+      zero = machine.zero;
       sound = subst (λ (m : Granules). IsSoundState (places_of machine.registers m)) (sym c.in-Ok.ensures.ok)
           (sound_granule machine.registers (g.M.TaggedStore.contents machine.memory) c.args.granule (c.args.stored.tag, memory_of c.args.stored.word.0) machine.sound
           (sound_entry c.args.stored (search rules) c.requires.sound));

@@ -11,6 +11,7 @@ invariant_of-self g c =
     let machine = c.args.self.now in
     let old = g.M.TaggedStore.contents machine.memory in
     record {
+      zero = machine.zero;
       sound = subst (λ (m : Granules). IsSoundState (places_of machine.registers m)) (sym c.in-Ok.ensures.ok)
           (sound_granule machine.registers old c.args.granule (false, overwritten (bytes_at old c.args.granule) c.args.at (low_bytes c.args.size c.args.value)) machine.sound
           (untagged_sound _));
