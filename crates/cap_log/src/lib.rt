@@ -16,6 +16,6 @@ mod writing;
 
 pub use crate::fronts::Front;
 pub use crate::fronts::finding::front;
-pub use crate::lines::{Line, Place, Step};
+pub use crate::lines::{Line, Mode, Place, Step};
 pub use crate::reading::{one_line, read_line};
 pub use crate::writing::{write_line, write_place};

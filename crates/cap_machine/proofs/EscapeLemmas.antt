@@ -1,10 +1,10 @@
 -- A step that sets bounds is refused for them exactly where the requested ones do not lie inside its source's.
-use Rattle.std.proofs.Common.{◌≡◌, ◌↔◌, ℕ, ◌^◌, ◌<◌, Bool, true, false, List, refl, sym, ap, ◌∙◌, Some, None, Result, Ok, Err, OnOk}
+use Rattle.std.proofs.Common.{◌≡◌, ◌≢◌, ◌↔◌, ℕ, ◌^◌, ◌<◌, Bool, true, false, List, refl, sym, ap, ◌∙◌, Some, None, Result, Ok, Err, OnOk}
 use Rattle.std.proofs.lemmas.Option.{same_Some}
 use Rattle.cap_word.specs.declared.word.Cap.{Cap}
 use Rattle.cap_bounds.specs.Bounds.{IsSound}
 use Rattle.cap_log.specs.declared.lines.Step.{Step}
-use Rattle.cap_log.specs.declared.lines.Step.TheVariants.{Move, ClearTag, SetBounds, SetBoundsExact, SetAddr, AndPerm, Seal, Unseal, LoadCap, StoreCap, Load, Store}
+use Rattle.cap_log.specs.declared.lines.Step.TheVariants.{SetBounds, SetBoundsExact}
 use Rattle.cap_log.specs.Lines.{IsStepInRange}
 use Rattle.cap_ops.specs.declared.faults.OpFault.{OpFault}
 use Rattle.cap_ops.specs.declared.faults.OpFault.TheVariants as faults
@@ -17,13 +17,15 @@ use Rattle.cap_machine.specs.declared.refusal.Refusal.TheVariants.{BoundsEscape}
 use Rattle.cap_machine.specs.declared.ends.StepEnd.{StepEnd}
 use Rattle.cap_machine.specs.declared.ends.StepEnd.TheVariants.{Refused, NoMemory}
 use Rattle.cap_machine.specs.Refusals.{refusal_of}
-use Rattle.cap_machine.specs.Steps.{operation_tests}
-use Rattle.cap_machine.specs.Tallies.{step_tests}
-use Rattle.cap_machine.specs.Helds.{Held, state_of, tally_of}
+use Rattle.cap_machine.specs.declared.rules.Rules.{Rules}
+use Rattle.cap_machine.specs.declared.rules.Rules.TheVariants.{One, TwoStrict, TwoClear}
+use Rattle.cap_machine.specs.Steps.{Row}
+use Rattle.cap_machine.specs.Accounts.{row_in, step_tests}
+use Rattle.cap_machine.specs.Helds.{Held, state_of, account_of, tests_by}
 use Rattle.cap_machine.specs.Parents.{IsSoundState, StaysWithinParents}
 use Rattle.cap_machine.specs.Escapes.{HasRoomFor, EscapesExactly}
 use Rattle.cap_machine.proofs.AuthorityLemmas.{one_back}
-use Rattle.cap_machine.proofs.MadeLemmas.{EndsIn, first_mapped-some, first_mapped-none, ending}
+use Rattle.cap_machine.proofs.MadeLemmas.{EndsIn, first_mapped-some, first_mapped-none, ending, row_by-operation}
 
 -- how an operation ends
 ended : (tests : List (Bool × OpFault)) (cap : Cap) → (result : Result Cap OpFault) × EndsWith result tests cap
@@ -76,57 +78,59 @@ no_last_test true false h = cc
 no_last_test false limit h = cc
 
 -- the tests of a step begin with those of its operation
-first_escapes : (old : Held) (step : Step) → first_of (step_tests (tally_of old) (state_of old) step) ≡ Some BoundsEscape
-    → first_of (operation_tests (state_of old) step) ≡ Some faults.BoundsEscape
+first_escapes : (old : Held) (step : Step) → first_of (step_tests (account_of old) step) ≡ Some BoundsEscape
+    → first_of ((row_in (account_of old) step).tests) ≡ Some faults.BoundsEscape
 first_escapes old step h =
-    let tests = operation_tests (state_of old) step in
+    let tests = (row_in (account_of old) step).tests in
     elim (first_of tests) as (λ o. first_of tests ≡ o → first_of tests ≡ Some faults.BoundsEscape) [
       | None ↦ λ is. absurd (no_last_test _ _ (sym (first_mapped-none tests _ is) ∙ h))
       | Some fault ↦ λ is. is ∙ ap (λ (f : OpFault). Some f) (only_escape fault (same_Some _ _ (sym (first_mapped-some tests _ fault is) ∙ h)))
     ] refl
 
 answers : (old new : Held) (step : Step) (result : Result (Unit {0}) StepEnd) → EndsIn old step result new → result ≡ Err (Refused BoundsEscape)
-    → first_of (step_tests (tally_of old) (state_of old) step) ≡ Some BoundsEscape
+    → first_of (step_tests (account_of old) step) ≡ Some BoundsEscape
 answers old new step (Ok done) ends h = cc
 answers old new step (Err (Refused refusal)) ends h = let found = ends.0 in cc
 answers old new step (Err NoMemory) ends h = cc
 
 answered : (old new : Held) (step : Step) (result : Result (Unit {0}) StepEnd) → EndsIn old step result new
-    → first_of (step_tests (tally_of old) (state_of old) step) ≡ Some BoundsEscape → result ≡ Err (Refused BoundsEscape)
+    → first_of (step_tests (account_of old) step) ≡ Some BoundsEscape → result ≡ Err (Refused BoundsEscape)
 answered old new step (Ok done) ends h = let free = ends.tests in cc
 answered old new step (Err (Refused refusal)) ends h = let found = ends.0 in cc
 answered old new step (Err NoMemory) ends h = let free = ends.0 in cc
 
+-- the same by any rules
+escapes_by : (rules : Rules) (source : Cap) (length : ℕ) (exact : Bool) → length < 2 ^ 64 → source.tag ≡ true → is_sealed source.word.0 ≡ false → IsSound source.word.0
+    → (first_of (tests_by rules (set_bounds_tests source length exact)) ≡ Some faults.BoundsEscape) ↔ ((rules ≢ TwoClear) × (HasRoomFor source length → ⊥))
+escapes_by One source length exact fits held unsealed sound =
+    let both = escapes source length exact fits held unsealed sound in (λ h. (λ e. cc, both.0 h), λ p. both.1 p.1)
+escapes_by TwoStrict source length exact fits held unsealed sound =
+    let both = escapes source length exact fits held unsealed sound in (λ h. (λ e. cc, both.0 h), λ p. both.1 p.1)
+escapes_by TwoClear source length exact fits held unsealed sound = (λ h. cc, λ p. absurd (p.0 refl))
+
 narrowed : (old new : Held) (step : Step) (source length : ℕ) (exact : Bool) (result : Result (Unit {0}) StepEnd)
-    → operation_tests (state_of old) step ≡ set_bounds_tests (state_of old source) length exact → length < 2 ^ 64 → IsSoundState (state_of old) → EndsIn old step result new
+    → (row_in (account_of old) step).tests ≡ tests_by old.rules (set_bounds_tests (state_of old source) length exact) → length < 2 ^ 64 → IsSoundState (state_of old) → EndsIn old step result new
     → (state_of old source).tag ≡ true → is_sealed (state_of old source).word.0 ≡ false
-    → (result ≡ Err (Refused BoundsEscape)) ↔ (HasRoomFor (state_of old source) length → ⊥)
+    → (result ≡ Err (Refused BoundsEscape)) ↔ ((old.rules ≢ TwoClear) × (HasRoomFor (state_of old source) length → ⊥))
 narrowed old new step source length exact result same fits sound ends held unsealed =
-    let both = escapes (state_of old source) length exact fits held unsealed (sound source held) in (
+    let both = escapes_by old.rules (state_of old source) length exact fits held unsealed (sound source held) in (
       λ h. both.0 (sym (ap first_of same) ∙ first_escapes old step (answers old new step result ends h)),
-      λ outside. answered old new step result ends (first_mapped-some (operation_tests (state_of old) step) _ faults.BoundsEscape (ap first_of same ∙ both.1 outside)),
+      λ outside. answered old new step result ends (first_mapped-some ((row_in (account_of old) step).tests) _ faults.BoundsEscape (ap first_of same ∙ both.1 outside)),
     )
 
 -- a step's answer for its bounds
 pub escape_exact : (old new : Held) (step : Step) (result : Result (Unit {0}) StepEnd) → IsStepInRange step → IsSoundState (state_of old) → EndsIn old step result new
-    → EscapesExactly (state_of old) step result
-escape_exact old new (Move target source recorded) result range sound ends = tt
-escape_exact old new (ClearTag target source recorded) result range sound ends = tt
+    → EscapesExactly old.rules (state_of old) step result
 escape_exact old new (SetBounds target source length recorded) result range sound ends =
-    narrowed old new (SetBounds target source length recorded) source length false result refl range.2 sound ends
+    narrowed old new (SetBounds target source length recorded) source length false result
+    (ap (λ (row : Row). row.tests) (row_by-operation old.rules target source recorded _ _)) range.2 sound ends
 escape_exact old new (SetBoundsExact target source length recorded) result range sound ends =
-    narrowed old new (SetBoundsExact target source length recorded) source length true result refl range.2 sound ends
-escape_exact old new (SetAddr target source address recorded) result range sound ends = tt
-escape_exact old new (AndPerm target source mask recorded) result range sound ends = tt
-escape_exact old new (Seal target source authority recorded) result range sound ends = tt
-escape_exact old new (Unseal target source authority recorded) result range sound ends = tt
-escape_exact old new (LoadCap target authority offset recorded) result range sound ends = tt
-escape_exact old new (StoreCap source authority offset) result range sound ends = tt
-escape_exact old new (Load authority offset size value) result range sound ends = tt
-escape_exact old new (Store authority offset size value) result range sound ends = tt
+    narrowed old new (SetBoundsExact target source length recorded) source length true result
+    (ap (λ (row : Row). row.tests) (row_by-operation old.rules target source recorded _ _)) range.2 sound ends
+escape_exact old new step result range sound ends = tt
 
 -- what a step that is made leaves of authority
 pub step_within : (old new : Held) (step : Step) (result : Result (Unit {0}) StepEnd) → IsStepInRange step → IsSoundState (state_of old) → EndsIn old step result new
     → OnOk result (StaysWithinParents (state_of old) step (state_of new))
-step_within old new step (Ok done) range sound ends = λ key held. one_back (state_of old) step (state_of new) key range sound ends.leads held
+step_within old new step (Ok done) range sound ends = λ key held. one_back old.rules (state_of old) step (state_of new) key range sound ends.leads held
 step_within old new step (Err end) range sound ends = tt

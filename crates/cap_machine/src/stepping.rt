@@ -21,18 +21,16 @@ ghost use Rattle.cap_machine.specs.Helds.{
   held_of,
   last_tests,
   state_of,
-  tally_of,
+  account_of,
   with_register,
 };
 
 use crate::ends::StepEnd;
 use crate::machine::{MOST_STEPS, Machine};
+use crate::operating::{and_perm_by, seal_by, set_addr_by, set_bounds_by, unseal_by};
 use crate::refusal::Refusal;
 use cap_log::Step;
-use cap_ops::{
-    Access, Kind, OpFault, and_perm, clear_tag, loaded, may_access, seal, set_addr, set_bounds,
-    unseal,
-};
+use cap_ops::{Access, Kind, OpFault, clear_tag, loaded, may_access};
 use cap_word::Cap;
 use tagmem::TaggedStore;
 
@@ -54,7 +52,7 @@ impl<M: TaggedStore> Machine<M> {
             (λ end. EndsStep (held_of M.contents self.old) step.now end (held_of M.contents self.new)) }
         ensures lawful { OnOk result
             (StaysWithinParents (state_of (held_of M.contents self.old)) step.now (state_of (held_of M.contents self.new))) }
-        ensures escape { EscapesExactly (state_of (held_of M.contents self.old)) step.now result }
+        ensures escape { EscapesExactly self.old.rules (state_of (held_of M.contents self.old)) step.now result }
     {
         self.make(step)
     }
@@ -89,7 +87,7 @@ impl<M: TaggedStore> Machine<M> {
                 length,
                 result: recorded,
             } => {
-                let derived = set_bounds(self.register(source), length, false);
+                let derived = set_bounds_by(self.rules, self.register(source), length, false);
                 self.finish(target, derived, recorded)
             }
             Step::SetBoundsExact {
@@ -98,7 +96,7 @@ impl<M: TaggedStore> Machine<M> {
                 length,
                 result: recorded,
             } => {
-                let derived = set_bounds(self.register(source), length, true);
+                let derived = set_bounds_by(self.rules, self.register(source), length, true);
                 self.finish(target, derived, recorded)
             }
             Step::SetAddr {
@@ -107,7 +105,7 @@ impl<M: TaggedStore> Machine<M> {
                 address,
                 result: recorded,
             } => {
-                let derived = set_addr(self.register(source), address);
+                let derived = set_addr_by(self.rules, self.register(source), address);
                 self.finish(target, derived, recorded)
             }
             Step::AndPerm {
@@ -116,7 +114,7 @@ impl<M: TaggedStore> Machine<M> {
                 mask,
                 result: recorded,
             } => {
-                let derived = and_perm(self.register(source), mask);
+                let derived = and_perm_by(self.rules, self.register(source), mask);
                 self.finish(target, derived, recorded)
             }
             Step::Seal {
@@ -125,7 +123,7 @@ impl<M: TaggedStore> Machine<M> {
                 authority,
                 result: recorded,
             } => {
-                let derived = seal(self.register(source), self.register(authority));
+                let derived = seal_by(self.rules, self.register(source), self.register(authority));
                 self.finish(target, derived, recorded)
             }
             Step::Unseal {
@@ -134,7 +132,7 @@ impl<M: TaggedStore> Machine<M> {
                 authority,
                 result: recorded,
             } => {
-                let derived = unseal(self.register(source), self.register(authority));
+                let derived = unseal_by(self.rules, self.register(source), self.register(authority));
                 self.finish(target, derived, recorded)
             }
             Step::LoadCap {

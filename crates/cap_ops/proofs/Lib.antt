@@ -1,5 +1,6 @@
 pub mod AccessLemmas
 pub mod AddressLemmas
+pub mod ClearLemmas
 pub mod Derivations
 pub mod NarrowingLemmas
 pub mod PermissionLemmas

@@ -4,14 +4,14 @@ use Rattle.std.proofs.lemmas.Bool.{both_ways, false_from_ne_true, not-false, and
 use Rattle.cap_word.specs.declared.word.Cap.{Cap}
 use Rattle.cap_word.specs.Fields.{address_of}
 use Rattle.cap_bounds.specs.Bounds.{base_of, top_of, IsInside, IsSound}
-use Rattle.cap_bounds.specs.Rounding.{IsExact, rounded_base, rounded_top, rounded_ie, rounded_exponent, rounded_b, rounded_t, rounded_word}
+use Rattle.cap_bounds.specs.Rounding.{HasRounding, IsExact, bounded_word, rounded_base, rounded_top, rounded_ie, rounded_exponent, rounded_b, rounded_t, rounded_word}
 use Rattle.cap_bounds.proofs.BoundedWords.{above-bounded_word}
 use Rattle.cap_bounds.proofs.LeastRounding.{IsInside-rounded, IsInside-requested}
 use Rattle.cap_bounds.proofs.RoundedWords.{AreFields-rounded, base_of-rounded_word, top_of-rounded_word, IsSound-rounded_word}
 use Rattle.cap_ops.specs.declared.faults.OpFault.{OpFault}
 use Rattle.cap_ops.specs.declared.faults.OpFault.TheVariants.{SourceSealed, BoundsEscape, NotExact}
 use Rattle.cap_ops.specs.Authority.{IsWithin, StaysWithin}
-use Rattle.cap_ops.specs.Operations.{covers, is_exact, set_bounds_tests, set_bounds_result}
+use Rattle.cap_ops.specs.Operations.{covers, is_exact, set_bounds_tests, set_bounds_result, with_word}
 use Rattle.cap_ops.specs.Permissions.{is_sealed}
 use Rattle.cap_ops.specs.Tests.{first_of}
 use Rattle.cap_ops.proofs.ReplacedFields.{perms_of-high}
@@ -103,3 +103,17 @@ BoundsEscape-exact source length exact (Err fault) fits ends tagged unsealed sou
   λ e. let which : fault ≡ BoundsEscape = cc in escapes_first source length exact fits tagged unsealed sound (ends ∙ ap Some which),
   λ outside. let first = first_escapes source length exact fits tagged unsealed sound outside in cc,
 )
+
+-- the source with the word that the code makes is the result
+pub set_bounds_result-made : (source : Cap) (v length : ℕ) (ie : Bool) (e b t address : ℕ) → address ≡ address_of source.word.0 → HasRounding ie e b t (address_of source.word.0) length → v ≡ bounded_word source.word.0 ie e b t address → with_word source v ≡ set_bounds_result source length
+unfolding set_bounds_result
+set_bounds_result-made source v length ie e b t address at fields is_bounded =
+    let w = source.word.0 in
+    let base = address_of w in
+    ap (with_word source) (
+    is_bounded
+    ∙ ap (λ (x : Bool). bounded_word w x e b t address) fields.0
+    ∙ ap (λ (x : ℕ). bounded_word w (rounded_ie length) x b t address) fields.1
+    ∙ ap (λ (x : ℕ). bounded_word w (rounded_ie length) (rounded_exponent base length) x t address) fields.2
+    ∙ ap (λ (x : ℕ). bounded_word w (rounded_ie length) (rounded_exponent base length) (rounded_b base length) x address) fields.3
+    ∙ ap (λ (x : ℕ). bounded_word w (rounded_ie length) (rounded_exponent base length) (rounded_b base length) (rounded_t base length) x) at)

@@ -45,7 +45,7 @@ fn set_addr_fault(source: Cap, address: u64) -> Option<OpFault>
 
 /// The source with another address.
 #[tactic(auto, unfolding(crate::specs::Operations::set_addr_result))]
-fn moved(source: Cap, address: u64) -> Cap
+pub(crate) fn moved(source: Cap, address: u64) -> Cap
     ensures { result ≡ set_addr_result source address }
 {
     Cap {

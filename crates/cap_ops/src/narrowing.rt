@@ -80,5 +80,16 @@ pub fn set_bounds(source: Cap, length: u64, exact: bool) -> Result<Cap, OpFault>
     }
 }
 
+/// The source with the rounded bounds of the length from its address on.
+pub(crate) fn narrowed(source: Cap, length: u64) -> Cap
+    ensures { result ≡ set_bounds_result source length }
+{
+    let rounded = rounding_of(source.word, length);
+    Cap {
+        tag: source.tag,
+        word: with_bounds(source.word, &rounded, address(source.word)),
+    }
+}
+
 #[cfg(test)]
 mod tests;

@@ -51,7 +51,7 @@ fn and_perm_fault(source: Cap) -> Option<OpFault>
 }
 
 /// The source with those of its permissions that a mask has too.
-fn masked(source: Cap, mask: u64) -> Cap
+pub(crate) fn masked(source: Cap, mask: u64) -> Cap
     ensures { result ≡ and_perm_result source mask }
 {
     let kept = permissions(source.word) & field_of(mask);

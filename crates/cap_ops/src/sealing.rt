@@ -87,7 +87,7 @@ fn seal_fault(source: Cap, authority: Cap) -> Option<OpFault>
 
 /// The source with the low 18 bits of the authority's address as its object type.
 #[tactic(auto, unfolding(crate::specs::Operations::seal_result))]
-fn with_authority_type(source: Cap, authority: Cap) -> Cap
+pub(crate) fn with_authority_type(source: Cap, authority: Cap) -> Cap
     ensures { result ≡ seal_result source authority }
 {
     let object_type = (address(authority.word) & 0x3_ffff) as u32;
@@ -149,7 +149,7 @@ fn with_common_global(word: Word, other: Word) -> u16
 
 /// The source unsealed, and global only where the authority is.
 #[tactic(auto, unfolding(crate::specs::Operations::unseal_result))]
-fn without_type(source: Cap, authority: Cap) -> Cap
+pub(crate) fn without_type(source: Cap, authority: Cap) -> Cap
     ensures { result ≡ unseal_result source authority }
 {
     let permissions = with_common_global(source.word, authority.word);
