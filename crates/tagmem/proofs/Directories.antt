@@ -51,7 +51,8 @@ IsDirectory-set boxes directory new place at known =
     }
 
 -- a page more, at a place behind the others
-module _ {Z : Type 0} (boxes : List (Box Page Z)) (box : Box Page Z) (number place : ℕ) (its_number : box.value.number ≡ number) (last : place ≡ length boxes) where
+module _ {Z : Type 0} (boxes : List (Box Page Z)) (box : Box Page Z) (number place : ℕ)
+    (its_number : box.value.number ≡ number) (last : place ≡ length boxes) where
   length-push : length (boxes ++ box ∷ []) ≡ length boxes + 1
   length-push = length-append boxes (box ∷ [])
 
@@ -105,7 +106,8 @@ module _ {Z : Type 0} (boxes : List (Box Page Z)) (box : Box Page Z) (number pla
                 (subst (λ m. IsPageAt (boxes ++ box ∷ []) m place) (eqb-true _ _ same) IsPageAt-push)
             | false ↦ λ differs.
                 let was : IsPageAt boxes n i = known.right n i (sym (told_other n differs) ∙ is) in
-                record { in_range = omega (arith, length-push, was.in_range); has_number = number_at-before i was.in_range ∙ was.has_number }
+                let below = was.in_range in
+                record { in_range = omega (arith, length-push, below); has_number = number_at-before i below ∙ was.has_number }
           ] refl
 
 entries_from-none : (g : ℕ) (slots : List (Option Entry)) → ((i : ℕ) → get_or slots i None ≡ None) → entries_from g slots ≡ []

@@ -131,9 +131,10 @@ in_page-set : (old new : Page) (g : ℕ) (entry : Entry) → old.number ≡ g / 
     → slots_of new ≡ set (slots_of old) (g % 256) (Some entry) → (q : ℕ) → in_page new q ≡ cond (eqb q g) (Some entry) (in_page old q)
 in_page-set old new g entry old_is new_is are q =
     let inside : g % 256 < length (slots_of old) = let wide = old.whole in omega arith in
-    let here : q % 256 ≡ g % 256 → get_or (set (slots_of old) (g % 256) (Some entry)) (q % 256) None ≡ Some entry =
-    λ is. ap (λ n. get_or (set (slots_of old) (g % 256) (Some entry)) n None) is ∙ get_or-set_same (slots_of old) (g % 256) (Some entry) None inside in
-    let there : q % 256 ≢ g % 256 → get_or (set (slots_of old) (g % 256) (Some entry)) (q % 256) None ≡ get_or (slots_of old) (q % 256) None =
+    let changed = set (slots_of old) (g % 256) (Some entry) in
+    let here : q % 256 ≡ g % 256 → get_or changed (q % 256) None ≡ Some entry =
+    λ is. ap (λ n. get_or changed n None) is ∙ get_or-set_same (slots_of old) (g % 256) (Some entry) None inside in
+    let there : q % 256 ≢ g % 256 → get_or changed (q % 256) None ≡ get_or (slots_of old) (q % 256) None =
     λ differs. get_or-set_other (slots_of old) (g % 256) (q % 256) (Some entry) None differs in
     ap (λ slots. cond (eqb new.number (q / 256)) (get_or slots (q % 256) None) None) are ∙ grind (arith, nat_tests, here, there)
 
@@ -156,7 +157,8 @@ found-set (box ∷ boxes) new d (suc place) g entry at none number are q =
     rw later (by_test (eqb q g) refl (in_page-other box.value g (none 0 (omega arith))))
   where
     by_test : (b : Bool) → eqb q g ≡ b → in_page box.value g ≡ None
-        → option_or (in_page box.value q) (cond b (Some entry) (found boxes q)) ≡ cond b (Some entry) (option_or (in_page box.value q) (found boxes q))
+        → option_or (in_page box.value q) (cond b (Some entry) (found boxes q))
+        ≡ cond b (Some entry) (option_or (in_page box.value q) (found boxes q))
     by_test false is other = refl
     by_test true is other = rw (ap (in_page box.value) (eqb-true q g is) ∙ other) refl
 
