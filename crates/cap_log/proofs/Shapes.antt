@@ -1,12 +1,12 @@
 -- Lines by their heads: what stands behind the head, and the line that head and operands make.
-use Rattle.std.proofs.Common.{◌≡◌, ℕ, ◌<◌, ◌≤◌, ◌^◌, List, ◌∷◌, ◌++◌, length, sym, ap, subst, ◌∙◌, refl, decimal, codes, lit≤, if◌then◌else◌, Option, Some, None, IfSome, IfNone}
+use Rattle.std.proofs.Common.{◌≡◌, ◌≢◌, ℕ, ◌+◌, ◌<◌, ◌≤◌, ◌^◌, List, ◌∷◌, ◌++◌, length, sym, ap, subst, ◌∙◌, refl, arith, inl, inr, decimal, codes, lit≤, if◌then◌else◌, Option, Some, None, IfSome, IfNone}
 use Rattle.std.specs.Fmt.{signed_decimal}
 use Rattle.std.specs.Str.{bytes_eq}
 use Rattle.cap_word.specs.Digits.{hex_digits}
 use Rattle.cap_word.specs.declared.word.Word.{Word}
 use Rattle.cap_log.specs.Front.{HasNoFeed}
 use Rattle.cap_log.specs.Heads.{IsHead, head_spelling}
-use Rattle.cap_log.specs.Lines.{IsInRange, IsNumber, IsOffset, IsPlace, IsRegister, IsTarget, IsWordNumber, Spells, place_spelling, register_spelling, spelling}
+use Rattle.cap_log.specs.Lines.{IsInRange, IsMode, IsNumber, IsVersion, IsOffset, IsPlace, IsRegister, IsTarget, IsWordNumber, Spells, mode_spelling, version_spelling, place_spelling, register_spelling, spelling}
 use Rattle.cap_log.specs.Parts.{FitsBoth, Reads, HasNoSpace, IsCutAt, IsSized, loaded_spelling, result_spelling, spaced, stored_spelling}
 use Rattle.cap_log.specs.declared.heads.Head.{Head}
 use Rattle.cap_log.specs.declared.heads.Head.TheVariants as head
@@ -15,6 +15,8 @@ use Rattle.cap_log.specs.declared.heads.NumberStep.TheVariants as number
 use Rattle.cap_log.specs.declared.heads.AccessStep.TheVariants as access
 use Rattle.cap_log.specs.declared.lines.Place.{Place}
 use Rattle.cap_log.specs.declared.lines.Step.TheVariants as step
+use Rattle.cap_log.specs.declared.lines.Mode.{Mode}
+use Rattle.cap_log.specs.declared.lines.Mode.TheVariants as modes
 use Rattle.cap_log.specs.declared.lines.Line.{Line}
 use Rattle.cap_log.specs.declared.lines.Line.TheVariants as line
 use Rattle.cap_log.specs.declared.parts.decimals.Count.{Count}
@@ -86,7 +88,8 @@ word_text = λ (a : Word). hex_digits 32 a.0
 
 -- what stands behind a head
 abbrev pub Operands : Head → Type 0
-Operands head.Version = Unit {0}
+Operands head.Version = ℕ
+Operands head.Mode = Mode
 Operands head.Root = Place × Word
 Operands (head.Registers registers.Move) = Target × (Register × Recorded)
 Operands (head.Registers registers.ClearTag) = Target × (Register × Recorded)
@@ -100,7 +103,8 @@ Operands (head.Access access.Store) = Register × (Offset × Stored)
 Operands head.End = Count
 
 abbrev pub Fits : (h : Head) → Operands h → Type 0
-Fits head.Version = λ _. Unit {0}
+Fits head.Version = IsVersion
+Fits head.Mode = IsMode
 Fits head.Root = FitsBoth IsPlace place_spelling FitsWord
 Fits (head.Registers registers.Move) = FitsBoth FitsTarget target_text (FitsBoth FitsRegister register_text FitsRecorded)
 Fits (head.Registers registers.ClearTag) = FitsBoth FitsTarget target_text (FitsBoth FitsRegister register_text FitsRecorded)
@@ -114,7 +118,8 @@ Fits (head.Access access.Store) = FitsBoth FitsRegister register_text (FitsBoth 
 Fits head.End = FitsCount
 
 abbrev pub spelled : (h : Head) → Operands h → List ℕ
-spelled head.Version = λ _. codes "1"
+spelled head.Version = version_spelling
+spelled head.Mode = mode_spelling
 spelled head.Root = spaced place_spelling word_text
 spelled (head.Registers registers.Move) = spaced target_text (spaced register_text recorded_text)
 spelled (head.Registers registers.ClearTag) = spaced target_text (spaced register_text recorded_text)
@@ -129,7 +134,8 @@ spelled head.End = count_text
 
 -- the line that they make
 abbrev pub made : (h : Head) → Operands h → Line
-made head.Version _ = line.Version
+made head.Version version = line.Version version
+made head.Mode mode = line.Mode mode
 made head.Root x = line.Root x.0 x.1
 made (head.Registers registers.Move) x = line.Step (step.Move x.0.0 x.1.0.0 x.1.1.0)
 made (head.Registers registers.ClearTag) x = line.Step (step.ClearTag x.0.0 x.1.0.0 x.1.1.0)
@@ -147,7 +153,8 @@ made head.End x = line.End x.0
 
 -- the head and the operands of a line
 abbrev pub head_of : Line → Head
-head_of line.Version = head.Version
+head_of (line.Version version) = head.Version
+head_of (line.Mode mode) = head.Mode
 head_of (line.Root place word) = head.Root
 head_of (line.Step (step.Move target source result)) = head.Registers registers.Move
 head_of (line.Step (step.ClearTag target source result)) = head.Registers registers.ClearTag
@@ -164,7 +171,8 @@ head_of (line.Step (step.Store authority offset size value)) = head.Access acces
 head_of (line.End steps) = head.End
 
 abbrev pub operands_of : (l : Line) → Operands (head_of l)
-operands_of line.Version = tt
+operands_of (line.Version version) = version
+operands_of (line.Mode mode) = mode
 operands_of (line.Root place word) = (place, word)
 operands_of (line.Step (step.Move target source result)) = (record { 0 = target }, (record { 0 = source }, record { 0 = result }))
 operands_of (line.Step (step.ClearTag target source result)) = (record { 0 = target }, (record { 0 = source }, record { 0 = result }))
@@ -181,7 +189,8 @@ operands_of (line.Step (step.Store authority offset size value)) = (record { 0 =
 operands_of (line.End steps) = record { 0 = steps }
 
 pub made-of : (l : Line) → made (head_of l) (operands_of l) ≡ l
-made-of line.Version = refl
+made-of (line.Version version) = refl
+made-of (line.Mode mode) = refl
 made-of (line.Root place word) = refl
 made-of (line.Step (step.Move target source result)) = refl
 made-of (line.Step (step.ClearTag target source result)) = refl
@@ -198,7 +207,8 @@ made-of (line.Step (step.Store authority offset size value)) = refl
 made-of (line.End steps) = refl
 
 pub fits-of : (l : Line) → IsInRange l → Fits (head_of l) (operands_of l)
-fits-of line.Version fits = tt
+fits-of (line.Version version) fits = fits
+fits-of (line.Mode mode) fits = fits
 fits-of (line.Root place word) fits = (fits.0, place-spaceless place fits.0, fits.1)
 fits-of (line.Step (step.Move target source result)) fits = (fits.0, register-spaceless target fits.0.1, (fits.1, register-spaceless source fits.1, fits.2))
 fits-of (line.Step (step.ClearTag target source result)) fits = (fits.0, register-spaceless target fits.0.1, (fits.1, register-spaceless source fits.1, fits.2))
@@ -216,7 +226,8 @@ fits-of (line.End steps) fits = fits
 
 pub spelling-of : (l : Line) → spelling l ≡ head_spelling (head_of l) ++ 32 ∷ spelled (head_of l) (operands_of l)
 unfolding spelling
-spelling-of line.Version = refl
+spelling-of (line.Version version) = refl
+spelling-of (line.Mode mode) = refl
 spelling-of (line.Root place word) = refl
 spelling-of (line.Step (step.Move target source result)) = refl
 spelling-of (line.Step (step.ClearTag target source result)) = refl
@@ -233,7 +244,8 @@ spelling-of (line.Step (step.Store authority offset size value)) = refl
 spelling-of (line.End steps) = refl
 
 in_range-made : (h : Head) (x : Operands h) → Fits h x → IsInRange (made h x)
-in_range-made head.Version x fits = tt
+in_range-made head.Version x fits = fits
+in_range-made head.Mode x fits = fits
 in_range-made head.Root x fits = (fits.0, fits.2)
 in_range-made (head.Registers registers.Move) x fits = (fits.0, fits.2.0, fits.2.2)
 in_range-made (head.Registers registers.ClearTag) x fits = (fits.0, fits.2.0, fits.2.2)
@@ -252,6 +264,7 @@ in_range-made head.End x fits = fits
 spelling-made : (h : Head) (x : Operands h) → spelling (made h x) ≡ head_spelling h ++ 32 ∷ spelled h x
 unfolding spelling
 spelling-made head.Version x = refl
+spelling-made head.Mode x = refl
 spelling-made head.Root x = refl
 spelling-made (head.Registers registers.Move) x = refl
 spelling-made (head.Registers registers.ClearTag) x = refl
@@ -270,6 +283,7 @@ spelling-made head.End x = refl
 -- heads
 pub head-spaceless : (h : Head) → HasNoSpace (head_spelling h)
 head-spaceless head.Version = Lacks-by_test 32 (codes "capcheck") refl
+head-spaceless head.Mode = Lacks-by_test 32 (codes "mode") refl
 head-spaceless head.Root = Lacks-by_test 32 (codes "root") refl
 head-spaceless (head.Registers registers.Move) = Lacks-by_test 32 (codes "move") refl
 head-spaceless (head.Registers registers.ClearTag) = Lacks-by_test 32 (codes "cleartag") refl
@@ -287,6 +301,7 @@ head-spaceless head.End = Lacks-by_test 32 (codes "end") refl
 
 head-plain : (h : Head) → IsHead h → HasNoFeed (head_spelling h)
 head-plain head.Version fits = Lacks-by_test 10 (codes "capcheck") refl
+head-plain head.Mode fits = Lacks-by_test 10 (codes "mode") refl
 head-plain head.Root fits = Lacks-by_test 10 (codes "root") refl
 head-plain (head.Registers registers.Move) fits = Lacks-by_test 10 (codes "move") refl
 head-plain (head.Registers registers.ClearTag) fits = Lacks-by_test 10 (codes "cleartag") refl
@@ -304,6 +319,7 @@ head-plain head.End fits = Lacks-by_test 10 (codes "end") refl
 
 head-short : (h : Head) → IsHead h → length (head_spelling h) ≤ 14
 head-short head.Version fits = lit≤ tt
+head-short head.Mode fits = lit≤ tt
 head-short head.Root fits = lit≤ tt
 head-short (head.Registers registers.Move) fits = lit≤ tt
 head-short (head.Registers registers.ClearTag) fits = lit≤ tt
@@ -323,6 +339,7 @@ head-short head.End fits = lit≤ tt
 named : List ℕ → Head
 named word =
     if bytes_eq word (codes "capcheck") then head.Version else (
+    if bytes_eq word (codes "mode") then head.Mode else (
     if bytes_eq word (codes "root") then head.Root else (
     if bytes_eq word (codes "move") then head.Registers registers.Move else (
     if bytes_eq word (codes "cleartag") then head.Registers registers.ClearTag else (
@@ -336,11 +353,12 @@ named word =
     if bytes_eq word (codes "sc") then head.Access access.StoreCap else (
     if bytes_eq word (codes "load") then head.Access access.Load else (
     if bytes_eq word (codes "store") then head.Access access.Store else (
-    head.End))))))))))))))
+    head.End)))))))))))))))
 
 named-spelling : (h : Head) → named (head_spelling h) ≡ h
 unfolding named
 named-spelling head.Version = refl
+named-spelling head.Mode = refl
 named-spelling head.Root = refl
 named-spelling (head.Registers registers.Move) = refl
 named-spelling (head.Registers registers.ClearTag) = refl
@@ -391,11 +409,47 @@ count_part = mapped (λ n. n < 2 ^ 32) decimal 10 count-operand (λ (a : Count).
 word_part : IsOperand FitsWord word_text 32
 word_part = mapped IsWordNumber (hex_digits 32) 32 word-operand (λ (a : Word). a.0) (λ x. record { 0 = x }) (λ _. refl)
 
-version-operand : IsOperand (Fits head.Version) (spelled head.Version) 1
-version-operand = record { one = λ a b fits fits' e. refl; plain = λ a fits. Lacks-by_test 10 (codes "1") refl; short = λ a fits. lit≤ tt }
+pub version_two : (version : ℕ) → IsVersion version → version ≢ 1 → version ≡ 2
+version_two version (inl one) other = absurd (other one)
+version_two version (inr two) other = two
+
+pub no_version : (rest : List ℕ) → (rest ≡ codes "1" → ⊥) → (rest ≡ codes "2" → ⊥) → (version : ℕ) → IsVersion version → rest ≡ version_spelling version → ⊥
+no_version rest first second version (inl one) e = first (e ∙ ap version_spelling one)
+no_version rest first second version (inr two) e = second (e ∙ ap version_spelling two)
+
+one_version : (a b : ℕ) → IsVersion a → IsVersion b → version_spelling a ≡ version_spelling b → a ≡ b
+one_version a b (inl x) (inl y) e = x ∙ sym y
+one_version a b (inr x) (inr y) e = x ∙ sym y
+one_version a b (inl x) (inr y) e = let h : 48 + a ≡ 48 + b = cc in omega arith
+one_version a b (inr x) (inl y) e = let h : 48 + a ≡ 48 + b = cc in omega arith
+
+plain_version : (a : ℕ) → IsVersion a → HasNoFeed (version_spelling a)
+plain_version a (inl x) = subst (λ (n : ℕ). HasNoFeed (version_spelling n)) (sym x) (Lacks-by_test 10 (codes "1") refl)
+plain_version a (inr x) = subst (λ (n : ℕ). HasNoFeed (version_spelling n)) (sym x) (Lacks-by_test 10 (codes "2") refl)
+
+version-operand : IsOperand IsVersion version_spelling 1
+version-operand = record { one = one_version; plain = plain_version; short = λ a fits. lit≤ tt }
+
+one_mode : (a b : Mode) → mode_spelling a ≡ mode_spelling b → a ≡ b
+one_mode modes.Strict modes.Strict e = refl
+one_mode modes.Strict modes.Clear e = cc
+one_mode modes.Clear modes.Strict e = cc
+one_mode modes.Clear modes.Clear e = refl
+
+plain_mode : (a : Mode) → HasNoFeed (mode_spelling a)
+plain_mode modes.Strict = Lacks-by_test 10 (codes "strict") refl
+plain_mode modes.Clear = Lacks-by_test 10 (codes "clear") refl
+
+short_mode : (a : Mode) → length (mode_spelling a) ≤ 6
+short_mode modes.Strict = lit≤ tt
+short_mode modes.Clear = lit≤ tt
+
+mode-operand : IsOperand IsMode mode_spelling 6
+mode-operand = record { one = λ a b fits fits' e. one_mode a b e; plain = λ a fits. plain_mode a; short = λ a fits. short_mode a }
 
 pub shape : (h : Head) → IsOperand (Fits h) (spelled h) 80
-shape head.Version = longer (Fits head.Version) (spelled head.Version) 1 80 version-operand (lit≤ tt)
+shape head.Version = longer IsVersion version_spelling 1 80 version-operand (lit≤ tt)
+shape head.Mode = longer IsMode mode_spelling 6 80 mode-operand (lit≤ tt)
 shape head.Root = longer (FitsBoth IsPlace place_spelling FitsWord) (spaced place_spelling word_text) 50 80 (FitsBoth-operand IsPlace place_spelling 17 FitsWord word_text 32 place-operand word_part) (lit≤ tt)
 shape (head.Registers registers.Move) = longer (FitsBoth FitsTarget target_text (FitsBoth FitsRegister register_text FitsRecorded)) (spaced target_text (spaced register_text recorded_text)) 44 80 (FitsBoth-operand FitsTarget target_text 3 (FitsBoth FitsRegister register_text FitsRecorded) (spaced register_text recorded_text) 40 target_part (FitsBoth-operand FitsRegister register_text 3 FitsRecorded recorded_text 36 register_part recorded_part)) (lit≤ tt)
 shape (head.Registers registers.ClearTag) = longer (FitsBoth FitsTarget target_text (FitsBoth FitsRegister register_text FitsRecorded)) (spaced target_text (spaced register_text recorded_text)) 44 80 (FitsBoth-operand FitsTarget target_text 3 (FitsBoth FitsRegister register_text FitsRecorded) (spaced register_text recorded_text) 40 target_part (FitsBoth-operand FitsRegister register_text 3 FitsRecorded recorded_text 36 register_part recorded_part)) (lit≤ tt)

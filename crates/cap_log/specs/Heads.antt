@@ -1,7 +1,7 @@
 -- The word that a line begins with.
 use Rattle.std.specs.Prelude.{ℕ, List, codes}
 use Rattle.cap_log.specs.declared.heads.Head.{Head}
-use Rattle.cap_log.specs.declared.heads.Head.TheVariants.{Version, Root, Registers, Number, Access, End}
+use Rattle.cap_log.specs.declared.heads.Head.TheVariants.{Version, Mode, Root, Registers, Number, Access, End}
 use Rattle.cap_log.specs.declared.heads.RegisterStep.TheVariants.{Move, ClearTag, Seal, Unseal}
 use Rattle.cap_log.specs.declared.heads.NumberStep.TheVariants.{SetBounds, SetBoundsExact, SetAddr, AndPerm}
 use Rattle.cap_log.specs.declared.heads.AccessStep.TheVariants.{LoadCap, StoreCap, Load, Store}
@@ -13,6 +13,7 @@ IsHead head = Unit {0}
 -- the word itself (this profile's own)
 abbrev pub head_spelling : Head → List ℕ
 head_spelling Version = codes "capcheck"
+head_spelling Mode = codes "mode"
 head_spelling Root = codes "root"
 head_spelling (Registers Move) = codes "move"
 head_spelling (Registers ClearTag) = codes "cleartag"

@@ -1,5 +1,5 @@
 -- The grammar of a log's lines: what each line is spelled as, and which lines have a spelling. All of it is this profile's own.
-use Rattle.std.specs.Prelude.{◌≡◌, ℕ, ◌*◌, ◌^◌, ◌<◌, ◌≤◌, ℤ, pos, negsuc, ◌≤ℤ◌, Bool, true, false, ◌⊎◌, List, [], ◌∷◌, ◌++◌, codes, decimal}
+use Rattle.std.specs.Prelude.{◌≡◌, ℕ, ◌+◌, ◌*◌, ◌^◌, ◌<◌, ◌≤◌, ℤ, pos, negsuc, ◌≤ℤ◌, Bool, true, false, ◌⊎◌, List, [], ◌∷◌, ◌++◌, codes, decimal}
 use Rattle.std.specs.Fmt.{signed_decimal}
 use Rattle.std.specs.List.{join_with_byte}
 use Rattle.cap_word.specs.Digits.{hex_digits}
@@ -8,8 +8,10 @@ use Rattle.cap_log.specs.declared.lines.Place.{Place}
 use Rattle.cap_log.specs.declared.lines.Place.TheVariants.{Register, Granule}
 use Rattle.cap_log.specs.declared.lines.Step.{Step}
 use Rattle.cap_log.specs.declared.lines.Step.TheVariants.{Move, ClearTag, SetBounds, SetBoundsExact, SetAddr, AndPerm, Seal, Unseal, LoadCap, StoreCap, Load, Store}
+use Rattle.cap_log.specs.declared.lines.Mode.{Mode}
+use Rattle.cap_log.specs.declared.lines.Mode.TheVariants.{Strict, Clear}
 use Rattle.cap_log.specs.declared.lines.Line.{Line}
-use Rattle.cap_log.specs.declared.lines.Line.TheVariants.{Version, Root, Step as Stepping, End}
+use Rattle.cap_log.specs.declared.lines.Line.TheVariants.{Version, Mode as Moding, Root, Step as Stepping, End}
 
 -- a register that is read
 abbrev pub IsRegister : ℕ → Type 0
@@ -53,6 +55,23 @@ IsDataSize size = (size ≡ 1) ⊎ ((size ≡ 2) ⊎ ((size ≡ 4) ⊎ (size ≡
 abbrev pub IsDataValue : ℕ → ℕ → Type 0
 IsDataValue size value = value < 256 ^ size
 
+-- the versions of the log
+abbrev pub IsVersion : ℕ → Type 0
+IsVersion version = (version ≡ 1) ⊎ (version ≡ 2)
+
+-- a version's number: one digit
+abbrev pub version_spelling : ℕ → List ℕ
+version_spelling version = (48 + version) ∷ []
+
+-- each mode has a spelling
+abbrev pub IsMode : Mode → Type 0
+IsMode mode = Unit {0}
+
+-- a mode's name
+abbrev pub mode_spelling : Mode → List ℕ
+mode_spelling Strict = codes "strict"
+mode_spelling Clear = codes "clear"
+
 -- a tag: one digit
 abbrev pub tag_spelling : Bool → List ℕ
 tag_spelling true = codes "1"
@@ -79,7 +98,8 @@ step_words (Store authority offset size value) = codes "store" ∷ register_spel
 
 -- the words of a line
 abbrev pub line_words : Line → List (List ℕ)
-line_words Version = codes "capcheck" ∷ codes "1" ∷ []
+line_words (Version version) = codes "capcheck" ∷ version_spelling version ∷ []
+line_words (Moding mode) = codes "mode" ∷ mode_spelling mode ∷ []
 line_words (Root place word) = codes "root" ∷ place_spelling place ∷ hex_digits 32 word.0 ∷ []
 line_words (Stepping step) = step_words step
 line_words (End steps) = codes "end" ∷ decimal steps ∷ []
@@ -105,7 +125,8 @@ IsStepInRange (Store authority offset size value) = IsRegister authority × IsOf
 
 -- the numbers of a line are such as a line has
 abbrev pub IsInRange : Line → Type 0
-IsInRange Version = Unit {0}
+IsInRange (Version version) = IsVersion version
+IsInRange (Moding mode) = IsMode mode
 IsInRange (Root place word) = IsPlace place × IsWordNumber word.0
 IsInRange (Stepping step) = IsStepInRange step
 IsInRange (End steps) = steps < 2 ^ 32

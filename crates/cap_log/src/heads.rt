@@ -7,6 +7,8 @@ mod finding;
 pub enum Head {
     /// `capcheck`.
     Version,
+    /// `mode`.
+    Mode,
     /// `root`.
     Root,
     /// A step from registers to a register.

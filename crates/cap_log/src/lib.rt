@@ -26,7 +26,7 @@ mod writing;
 
 pub use crate::fronts::Front;
 pub use crate::fronts::finding::front;
-pub use crate::lines::{Line, Place, Step};
+pub use crate::lines::{Line, Mode, Place, Step};
 pub use crate::nexts::Next;
 pub use crate::pushing::push_all;
 pub use crate::reading::{one_line, read_line};

@@ -101,11 +101,22 @@ pub enum Step {
     },
 }
 
+/// What a machine does where a test of an operation on registers holds.
+#[derive(Clone, Copy, Debug, PartialEq, Eq)]
+pub enum Mode {
+    /// It refuses the step.
+    Strict,
+    /// It clears the tag of the result.
+    Clear,
+}
+
 /// One line of a log.
 #[derive(Clone, Copy, Debug, PartialEq, Eq)]
 pub enum Line {
-    /// `capcheck 1`: the version of the log.
-    Version,
+    /// `capcheck 1` or `capcheck 2`: the version of the log.
+    Version(u8),
+    /// `mode strict` or `mode clear`: the mode of a log of version 2.
+    Mode(Mode),
     /// `root`: a place that holds this word, tagged, before the first step.
     Root(Place, Word),
     /// A step.

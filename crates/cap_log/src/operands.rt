@@ -2,12 +2,12 @@
 
 ghost use Rattle.std.specs.Prelude.{◌∷◌, ◌++◌};
 ghost use Rattle.cap_log.specs.Heads.{head_spelling};
-ghost use Rattle.cap_log.specs.Lines.{IsInRange, spelling};
+ghost use Rattle.cap_log.specs.Lines.{IsInRange, IsMode, IsVersion, mode_spelling, spelling, version_spelling};
 ghost use Rattle.cap_log.specs.Parts.{Reads};
 ghost use Rattle.cap_log.specs.declared.heads.Head.TheVariants as head;
 
 use crate::heads::{AccessStep, Head, NumberStep, RegisterStep};
-use crate::lines::{Line, Place, Step};
+use crate::lines::{Line, Mode, Place, Step};
 use crate::parts::Part;
 use crate::parts::decimals::Count;
 use crate::parts::hexadecimals::Number;
@@ -38,11 +38,12 @@ pub fn read_operands(head: Head, rest: &[u8]) -> Option<Line>
 {
     match head {
         Head::Version => {
-            if rest == b"1".as_slice() {
-                Some(Line::Version)
-            } else {
-                None
-            }
+            let version = read_version(rest)?;
+            Some(Line::Version(version))
+        }
+        Head::Mode => {
+            let mode = read_mode(rest)?;
+            Some(Line::Mode(mode))
         }
         Head::Root => {
             let (place, word) = <(Place, Word)>::read(rest)?;
@@ -55,6 +56,32 @@ pub fn read_operands(head: Head, rest: &[u8]) -> Option<Line>
             let count = Count::read(rest)?;
             Some(Line::End(count.0))
         }
+    }
+}
+
+// Reads the number of a version.
+fn read_version(rest: &[u8]) -> Option<u8>
+    ensures { Reads IsVersion version_spelling rest.now result }
+{
+    if rest == b"1".as_slice() {
+        Some(1)
+    } else if rest == b"2".as_slice() {
+        Some(2)
+    } else {
+        None
+    }
+}
+
+// Reads the name of a mode.
+fn read_mode(rest: &[u8]) -> Option<Mode>
+    ensures { Reads IsMode mode_spelling rest.now result }
+{
+    if rest == b"strict".as_slice() {
+        Some(Mode::Strict)
+    } else if rest == b"clear".as_slice() {
+        Some(Mode::Clear)
+    } else {
+        None
     }
 }
 

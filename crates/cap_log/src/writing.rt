@@ -1,13 +1,13 @@
 //! Writing lines and places.
 
 ghost use Rattle.std.specs.Prelude.{◌≡◌, ◌+◌, ◌-◌, ◌≤◌, [], ◌∷◌, ◌++◌, length, take, drop};
-ghost use Rattle.cap_log.specs.Lines.{IsInRange, IsPlace, IsStepInRange, Spells, place_spelling, spelling};
+ghost use Rattle.cap_log.specs.Lines.{IsInRange, IsPlace, IsStepInRange, IsVersion, Spells, place_spelling, spelling};
 ghost use Rattle.cap_log.specs.Parts.{Writes};
 ghost use Rattle.cap_log.specs.declared.lines.Line.{Line};
 ghost use Rattle.cap_log.specs.declared.lines.Line.TheVariants as line;
 
 use crate::heads::{AccessStep, Head, NumberStep, RegisterStep};
-use crate::lines::{Line, Place, Step};
+use crate::lines::{Line, Mode, Place, Step};
 use crate::parts::Part;
 use crate::parts::cutting::put;
 use crate::parts::decimals::Count;
@@ -52,10 +52,35 @@ fn write_words(line: &Line, buffer: &mut [u8]) -> usize
     ensures { Writes 0 (spelling line.now) buffer.old buffer.new result }
 {
     match *line {
-        Line::Version => put(buffer, 0, b"capcheck 1"),
+        Line::Version(version) => write_version(version, buffer),
+        Line::Mode(mode) => write_mode(mode, buffer),
         Line::Root(place, word) => (Head::Root, (place, word)).write(buffer, 0),
         Line::Step(step) => write_step(step, buffer),
         Line::End(steps) => (Head::End, Count(steps)).write(buffer, 0),
+    }
+}
+
+// Writes a version line.
+fn write_version(version: u8, buffer: &mut [u8]) -> usize
+    requires in_range { IsVersion version }
+    requires room { 95 ≤ length buffer.old }
+    ensures { Writes 0 (spelling (line.Version version)) buffer.old buffer.new result }
+{
+    if version == 1 {
+        put(buffer, 0, b"capcheck 1")
+    } else {
+        put(buffer, 0, b"capcheck 2")
+    }
+}
+
+// Writes a mode line.
+fn write_mode(mode: Mode, buffer: &mut [u8]) -> usize
+    requires room { 95 ≤ length buffer.old }
+    ensures { Writes 0 (spelling (line.Mode mode)) buffer.old buffer.new result }
+{
+    match mode {
+        Mode::Strict => put(buffer, 0, b"mode strict"),
+        Mode::Clear => put(buffer, 0, b"mode clear"),
     }
 }
 

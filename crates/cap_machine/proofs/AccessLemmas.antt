@@ -1,10 +1,10 @@
 -- Each access of a run lies inside the root that its authority descends from.
-use Rattle.std.proofs.Common.{◌≡◌, ℕ, ℤ, zero, suc, ◌<◌, Bool, true, false, not, List, [], ◌∷◌, length, refl, sym, subst, arith, Some, None, slice_get}
+use Rattle.std.proofs.Common.{◌≡◌, ℕ, ℤ, zero, suc, ◌<◌, Bool, true, false, not, List, [], ◌∷◌, length, refl, sym, ap, subst, ◌∙◌, arith, Some, None, slice_get}
 use Rattle.std.specs.List.{AllByRecursion}
 use Rattle.std.proofs.lemmas.Option.{same_Some, none-some}
 use Rattle.cap_word.specs.declared.word.Cap.{Cap}
 use Rattle.cap_log.specs.declared.lines.Step.{Step}
-use Rattle.cap_log.specs.declared.lines.Step.TheVariants.{Move, ClearTag, SetBounds, SetBoundsExact, SetAddr, AndPerm, Seal, Unseal, LoadCap, StoreCap, Load, Store}
+use Rattle.cap_log.specs.declared.lines.Step.TheVariants.{LoadCap, StoreCap, Load, Store}
 use Rattle.cap_log.specs.Lines.{IsStepInRange}
 use Rattle.cap_ops.specs.declared.kinds.Kind.{Kind}
 use Rattle.cap_ops.specs.declared.kinds.Kind.TheVariants as kinds
@@ -12,10 +12,12 @@ use Rattle.cap_ops.specs.Tests.{first_of}
 use Rattle.cap_ops.specs.Accesses.{IsAllowed, access_tests, access_address, permission_for}
 use Rattle.cap_ops.proofs.AccessLemmas.{IsAllowed-access}
 use Rattle.cap_ops.proofs.TestLemmas.{none_hold}
+use Rattle.cap_machine.specs.declared.rules.Rules.{Rules}
 use Rattle.cap_machine.specs.States.{State, DeclaredRoot, start}
-use Rattle.cap_machine.specs.Steps.{operation_tests}
-use Rattle.cap_machine.specs.Runs.{IsRun, state_at, Access, access_of, AccessesLieInside, AreSound}
+use Rattle.cap_machine.specs.Steps.{Access, Row, row_of, row_by}
+use Rattle.cap_machine.specs.Runs.{IsRun, state_at, AccessesLieInside, AreSound}
 use Rattle.cap_machine.proofs.AuthorityLemmas.{one_root}
+use Rattle.cap_machine.proofs.StepLemmas.{row_by-access}
 
 not_false : (b : Bool) → not b ≡ false → b ≡ true
 not_false true h = refl
@@ -38,28 +40,21 @@ granted_to state register kind offset bytes access free is =
     subst (IsGranted state) (same_Some _ access is)
     (record { tag = tag_tested (state register) kind offset bytes free; allowed = IsAllowed-access (state register) kind offset bytes free })
 
-pub granted : (state : State) (step : Step) (access : Access) → first_of (operation_tests state step) ≡ None → access_of state step ≡ Some access → IsGranted state access
-granted state (Move target source result) access free is = absurd (none-some access is)
-granted state (ClearTag target source result) access free is = absurd (none-some access is)
-granted state (SetBounds target source requested result) access free is = absurd (none-some access is)
-granted state (SetBoundsExact target source requested result) access free is = absurd (none-some access is)
-granted state (SetAddr target source address result) access free is = absurd (none-some access is)
-granted state (AndPerm target source mask result) access free is = absurd (none-some access is)
-granted state (Seal target source authority result) access free is = absurd (none-some access is)
-granted state (Unseal target source authority result) access free is = absurd (none-some access is)
+pub granted : (state : State) (step : Step) (access : Access) → first_of (row_of state step).tests ≡ None → (row_of state step).access ≡ Some access → IsGranted state access
 granted state (LoadCap target register offset result) access free is = granted_to state register kinds.LoadCap offset 16 access free is
 granted state (StoreCap source register offset) access free is = granted_to state register (kinds.StoreCap (state source)) offset 16 access free is
 granted state (Load register offset bytes value) access free is = granted_to state register kinds.LoadData offset bytes access free is
 granted state (Store register offset bytes value) access free is = granted_to state register kinds.StoreData offset bytes access free is
+granted state step access free is = absurd (none-some access is)
 
 -- the step at a moment of a run leads from the state there
-pub leads_at : (state : State) (steps : List Step) (states : List State) (moment : ℕ) (step : Step) → IsRun state steps states → slice_get steps moment ≡ Some step
-    → first_of (operation_tests (state_at state states moment) step) ≡ None
-leads_at state [] states moment step run is = absurd (none-some step is)
-leads_at state (first ∷ steps) [] moment step run is = absurd run
-leads_at state (first ∷ steps) (next ∷ states) zero step run is =
-    subst (λ (s : Step). first_of (operation_tests state s) ≡ None) (same_Some first step is) run.0.allowed
-leads_at state (first ∷ steps) (next ∷ states) (suc moment) step run is = leads_at next steps states moment step run.1 is
+pub leads_at : (rules : Rules) (state : State) (steps : List Step) (states : List State) (moment : ℕ) (step : Step) → IsRun rules state steps states → slice_get steps moment ≡ Some step
+    → first_of (row_by rules (row_of (state_at state states moment) step)).tests ≡ None
+leads_at rules state [] states moment step run is = absurd (none-some step is)
+leads_at rules state (first ∷ steps) [] moment step run is = absurd run
+leads_at rules state (first ∷ steps) (next ∷ states) zero step run is =
+    subst (λ (s : Step). first_of (row_by rules (row_of state s)).tests ≡ None) (same_Some first step is) run.0.allowed
+leads_at rules state (first ∷ steps) (next ∷ states) (suc moment) step run is = leads_at rules next steps states moment step run.1 is
 
 in_range : (steps : List Step) (moment : ℕ) (step : Step) → slice_get steps moment ≡ Some step → moment < length steps
 in_range [] moment step is = absurd (none-some step is)
@@ -67,13 +62,14 @@ in_range (first ∷ steps) zero step is = omega arith
 in_range (first ∷ steps) (suc moment) step is = let h = in_range steps moment step is in omega arith
 
 -- each access lies inside its root
-pub lie_inside : (roots : List DeclaredRoot) (steps : List Step) (states : List State) → AreSound roots → AllByRecursion IsStepInRange steps → IsRun (start roots) steps states
+pub lie_inside : (rules : Rules) (roots : List DeclaredRoot) (steps : List Step) (states : List State) → AreSound roots → AllByRecursion IsStepInRange steps → IsRun rules (start roots) steps states
     → AccessesLieInside roots steps states
-lie_inside roots steps states sound ranges run moment step access at is =
+lie_inside rules roots steps states sound ranges run moment step access at is =
     let state = state_at (start roots) states moment in
-    let grant = granted state step access (leads_at (start roots) steps states moment step run at) is in
+    let free = ap (λ (row : Row). first_of row.tests) (sym (row_by-access rules (row_of state step) access is)) ∙ leads_at rules (start roots) steps states moment step run at in
+    let grant = granted state step access free is in
     let below = in_range steps moment step at in
-    let root = one_root roots steps states sound ranges run moment (omega arith) access.authority grant.tag in
+    let root = one_root rules roots steps states sound ranges run moment (omega arith) access.authority grant.tag in
     let within = root.2 in (
       root.0,
       root.1,

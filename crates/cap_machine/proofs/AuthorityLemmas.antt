@@ -1,5 +1,5 @@
 -- Each tagged capability of a run descends from one root, and lies within it; so does each access.
-use Rattle.std.proofs.Common.{◌≡◌, ℕ, zero, suc, ◌≤◌, inl, inr, Bool, true, ◌∷◌, [], List, length, take, refl, sym, ap, subst, ◌∙◌, arith, Option, Some, None, Contains}
+use Rattle.std.proofs.Common.{◌≡◌, ℕ, zero, suc, ◌≤◌, inl, inr, Bool, true, false, ◌==◌, ◌∷◌, [], List, length, take, refl, sym, ap, subst, ◌∙◌, arith, Option, Some, None, Contains}
 use Rattle.std.specs.Bool.{if◌then◌else◌}
 use Rattle.std.specs.List.{AllByRecursion}
 use Rattle.std.proofs.lemmas.Bool.{false≢true}
@@ -7,66 +7,88 @@ use Rattle.std.proofs.lemmas.Bool.Decides.{eqb_tells}
 use Rattle.std.proofs.lemmas.Option.{same_Some}
 use Rattle.cap_word.specs.declared.word.Cap.{Cap}
 use Rattle.cap_bounds.specs.Bounds.{IsSound}
+use Rattle.cap_log.specs.declared.lines.Place.{Place}
 use Rattle.cap_log.specs.declared.lines.Step.{Step}
 use Rattle.cap_log.specs.Lines.{IsStepInRange}
 use Rattle.cap_ops.specs.Authority.{IsWithin}
 use Rattle.cap_ops.proofs.WithinLemmas.{IsWithin-refl, IsWithin-trans}
+use Rattle.cap_machine.specs.declared.rules.Rules.{Rules}
 use Rattle.cap_machine.specs.States.{State, DeclaredRoot, key_of, tagged, start}
-use Rattle.cap_machine.specs.Steps.{Leads, written, parent_place, state_with}
-use Rattle.cap_machine.specs.Runs.{IsRun, state_at, parent_in, parent_of, Descends, AuthorityNeverGrows, AreSound}
+use Rattle.cap_machine.specs.Steps.{Leads, row_of, row_by, state_with}
+use Rattle.cap_machine.specs.Runs.{IsRun, state_at, hits, parent_in, parent_of, Descends, AuthorityNeverGrows, AreSound}
 use Rattle.cap_machine.specs.Parents.{IsSoundState, ComesFrom}
-use Rattle.cap_machine.proofs.StepLemmas.{WritesWithin, writes_within}
+use Rattle.cap_machine.proofs.StepLemmas.{WritesWithin, writes_within_by, hits-row_by}
 
 -- what a tagged place holds after a write lies within what the place before the write held that it comes from
-record Came (old new : State) (write : Option (ℕ × Cap)) (parent key from : ℕ) : Type 0 where
-  pub by : parent_in write parent key ≡ Some from
+record Came (old new : State) (hit : Bool) (parent : Option Place) (key from : ℕ) : Type 0 where
+  pub by : parent_in hit (new key).tag parent key ≡ Some from
   pub tag : (old from).tag ≡ true
   pub within : IsWithin (new key).word.0 (old from).word.0
   pub sound : IsSound (new key).word.0
 
-came : (old : State) (write : Option (ℕ × Cap)) (parent key : ℕ) → IsSoundState old → WritesWithin old parent write
-    → (state_with old write key).tag ≡ true → (from : ℕ) × Came old (state_with old write) write parent key from
-came old None parent key sound within held = (key, record { by = refl; tag = held; within = IsWithin-refl (old key).word.0; sound = sound key held })
-came old (Some target) parent key sound within held =
-    let there = λ (hit : Bool). if hit then target.1 else old key in
-    let from = λ (hit : Bool). if hit then (if target.1.tag then Some parent else None) else Some key in
-    elim (eqb_tells target.0 key) [
-      | inl same ↦
-          let held_there = ap (λ (cap : Cap). cap.tag) (sym (ap there same.0)) ∙ held in
-          let tagged_from = within.from_tagged held_there in
-          let sound_from = sound parent tagged_from in (
-            parent,
-            record {
-              by = ap from same.0 ∙ ap (λ (b : Bool). if b then Some parent else None) held_there;
-              tag = tagged_from;
-              within = subst (λ (cap : Cap). IsWithin cap.word.0 (old parent).word.0) (sym (ap there same.0)) (within.within held_there sound_from);
-              sound = subst (λ (cap : Cap). IsSound cap.word.0) (sym (ap there same.0)) (within.sound held_there sound_from);
-            },
-          )
-      | inr unlike ↦
-          let held_here = ap (λ (cap : Cap). cap.tag) (sym (ap there unlike.0)) ∙ held in (
-            key,
-            record {
-              by = ap from unlike.0;
-              tag = held_here;
-              within = subst (λ (cap : Cap). IsWithin cap.word.0 (old key).word.0) (sym (ap there unlike.0)) (IsWithin-refl (old key).word.0);
-              sound = subst (λ (cap : Cap). IsSound cap.word.0) (sym (ap there unlike.0)) (sound key held_here);
-            },
-          )
+-- at the place that is written
+came_there : (old new : State) (hit : Bool) (parent : Option Place) (write : Place × Cap) (key : ℕ) → IsSoundState old → WritesWithin old parent (Some write)
+    → hit ≡ true → new key ≡ write.1 → (new key).tag ≡ true → (from : ℕ) × Came old new hit parent key from
+came_there old new hit None write key sound within there is held = absurd (within (ap (λ (cap : Cap). cap.tag) (sym is) ∙ held))
+came_there old new hit (Some parent) write key sound within there is held =
+    let held_there = ap (λ (cap : Cap). cap.tag) (sym is) ∙ held in
+    let tagged_from = within.from_tagged held_there in
+    let sound_from = sound (key_of parent) tagged_from in (
+      key_of parent,
+      record {
+        by = ap (λ (b : Bool). parent_in b (new key).tag (Some parent) key) there ∙ ap (λ (b : Bool). if b then Some (key_of parent) else None) held;
+        tag = tagged_from;
+        within = subst (λ (cap : Cap). IsWithin cap.word.0 (old (key_of parent)).word.0) (sym is) (within.within held_there sound_from);
+        sound = subst (λ (cap : Cap). IsSound cap.word.0) (sym is) (within.sound held_there sound_from);
+      },
+    )
+
+-- at every other place
+came_here : (old new : State) (hit : Bool) (parent : Option Place) (key : ℕ) → IsSoundState old → hit ≡ false → new key ≡ old key → (new key).tag ≡ true
+    → (from : ℕ) × Came old new hit parent key from
+came_here old new hit parent key sound elsewhere is held =
+    let held_here = ap (λ (cap : Cap). cap.tag) (sym is) ∙ held in (
+      key,
+      record {
+        by = ap (λ (b : Bool). parent_in b (new key).tag parent key) elsewhere;
+        tag = held_here;
+        within = subst (λ (cap : Cap). IsWithin cap.word.0 (old key).word.0) (sym is) (IsWithin-refl (old key).word.0);
+        sound = subst (λ (cap : Cap). IsSound cap.word.0) (sym is) (sound key held_here);
+      },
+    )
+
+came : (old : State) (write : Option (Place × Cap)) (parent : Option Place) (key : ℕ) → IsSoundState old → WritesWithin old parent write
+    → (state_with old write key).tag ≡ true → (from : ℕ) × Came old (state_with old write) (hits write key) parent key from
+came old None parent key sound within held = came_here old old false parent key sound refl refl held
+came old (Some write) parent key sound within held =
+    let new = state_with old (Some write) in
+    let there = λ (hit : Bool). if hit then write.1 else old key in
+    elim (eqb_tells (key_of write.0) key) [
+      | inl same ↦ came_there old new _ parent write key sound within same.0 (ap there same.0) held
+      | inr unlike ↦ came_here old new _ parent key sound unlike.0 (ap there unlike.0) held
     ]
 
-pub one_back : (old : State) (step : Step) (new : State) (key : ℕ) → IsStepInRange step → IsSoundState old → Leads old step new → (new key).tag ≡ true
+pub one_back : (rules : Rules) (old : State) (step : Step) (new : State) (key : ℕ) → IsStepInRange step → IsSoundState old → Leads rules old step new → (new key).tag ≡ true
     → (from : ℕ) × ComesFrom old step new key from
-one_back old step new key range sound leads held =
-    let back_to = came old (written old step) (parent_place old step) key sound (writes_within old step range leads.allowed)
+one_back rules old step new key range sound leads held =
+    let row = row_of old step in
+    let back_to = came old (row_by rules row).writes row.parent key sound (writes_within_by rules old step range leads.allowed)
     (ap (λ (s : State). (s key).tag) (sym leads.after) ∙ held) in
     let from = back_to.1 in
-    subst (λ (s : State). (from : ℕ) × ComesFrom old step s key from) (sym leads.after)
-    (back_to.0, record { parent = from.by; tag = from.tag; within = from.within; sound = from.sound })
+    let after = state_with old (row_by rules row).writes in
+    subst (λ (s : State). (from : ℕ) × ComesFrom old step s key from) (sym leads.after) (
+      back_to.0,
+      record {
+        parent = ap (λ (hit : Bool). parent_in hit (after key).tag row.parent key) (sym (hits-row_by rules row key)) ∙ from.by;
+        tag = from.tag;
+        within = from.within;
+        sound = from.sound;
+      },
+    )
 
 -- a step keeps each tagged capability sound
-pub sound_after : (old : State) (step : Step) (new : State) → IsStepInRange step → IsSoundState old → Leads old step new → IsSoundState new
-sound_after old step new range sound leads key held = let from = one_back old step new key range sound leads held in from.1.sound
+pub sound_after : (rules : Rules) (old : State) (step : Step) (new : State) → IsStepInRange step → IsSoundState old → Leads rules old step new → IsSoundState new
+sound_after rules old step new range sound leads key held = let from = one_back rules old step new key range sound leads held in from.1.sound
 
 -- the chain of parents of a tagged place leads back to a tagged place that it lies within
 pub record ChainsTo (state : State) (steps : List Step) (states : List State) (cap : Cap) (key from : ℕ) : Type 0 where
@@ -74,15 +96,15 @@ pub record ChainsTo (state : State) (steps : List Step) (states : List State) (c
   pub tag : (state from).tag ≡ true
   pub within : IsWithin cap.word.0 (state from).word.0
 
-pub back : (state : State) (steps : List Step) (states : List State) (moment key : ℕ) → AllByRecursion IsStepInRange steps → IsSoundState state
-    → IsRun state steps states → moment ≤ length steps → (state_at state states moment key).tag ≡ true
+pub back : (rules : Rules) (state : State) (steps : List Step) (states : List State) (moment key : ℕ) → AllByRecursion IsStepInRange steps → IsSoundState state
+    → IsRun rules state steps states → moment ≤ length steps → (state_at state states moment key).tag ≡ true
     → (from : ℕ) × ChainsTo state (take moment steps) (take moment states) (state_at state states moment key) key from
-back state steps states zero key ranges sound run within held = (key, record { descends = refl; tag = held; within = IsWithin-refl (state key).word.0 })
-back state [] states (suc moment) key ranges sound run within held = absurd (omega arith)
-back state (step ∷ steps) [] (suc moment) key ranges sound run within held = absurd run
-back state (step ∷ steps) (next ∷ states) (suc moment) key ranges sound run within held =
-    let later = back next steps states moment key ranges.1 (sound_after state step next ranges.0 sound run.0) run.1 (omega arith) held in
-    let earlier = one_back state step next later.0 ranges.0 sound run.0 later.1.tag in (
+back rules state steps states zero key ranges sound run within held = (key, record { descends = refl; tag = held; within = IsWithin-refl (state key).word.0 })
+back rules state [] states (suc moment) key ranges sound run within held = absurd (omega arith)
+back rules state (step ∷ steps) [] (suc moment) key ranges sound run within held = absurd run
+back rules state (step ∷ steps) (next ∷ states) (suc moment) key ranges sound run within held =
+    let later = back rules next steps states moment key ranges.1 (sound_after rules state step next ranges.0 sound run.0) run.1 (omega arith) held in
+    let earlier = one_back rules state step next later.0 ranges.0 sound run.0 later.1.tag in (
       earlier.0,
       record {
         descends = (later.0, later.1.descends, earlier.1.parent);
@@ -97,7 +119,7 @@ one_chain state [] states key a b h k = sym h ∙ k
 one_chain state (step ∷ steps) [] key a b h k = absurd h
 one_chain state (step ∷ steps) (next ∷ states) key a b h k =
     let same = one_chain next steps states key h.0 k.0 h.1 k.1 in
-    same_Some a b (sym h.2 ∙ ap (parent_of state step) same ∙ k.2)
+    same_Some a b (sym h.2 ∙ ap (parent_of state step next) same ∙ k.2)
 
 -- what the start has a tag at is a root
 pub rooted_at : (roots : List DeclaredRoot) (key : ℕ) → (start roots key).tag ≡ true
@@ -119,10 +141,10 @@ start_sound roots sound key held =
     subst (λ (cap : Cap). IsSound cap.word.0) (sym root.3) (sound root.0 root.1)
 
 -- a tagged place at a moment of a run descends from one root, and lies within it
-pub one_root : (roots : List DeclaredRoot) (steps : List Step) (states : List State) → AreSound roots → AllByRecursion IsStepInRange steps → IsRun (start roots) steps states
+pub one_root : (rules : Rules) (roots : List DeclaredRoot) (steps : List Step) (states : List State) → AreSound roots → AllByRecursion IsStepInRange steps → IsRun rules (start roots) steps states
     → AuthorityNeverGrows roots steps states
-one_root roots steps states sound ranges run moment within key held =
-    let chain = back (start roots) steps states moment key ranges (start_sound roots sound) run within held in
+one_root rules roots steps states sound ranges run moment within key held =
+    let chain = back rules (start roots) steps states moment key ranges (start_sound roots sound) run within held in
     let root = rooted_at roots chain.0 chain.1.tag in
     let leads_there = subst (λ (from : ℕ). Descends (start roots) (take moment steps) (take moment states) key from) (sym root.2) chain.1.descends in (
       root.0,

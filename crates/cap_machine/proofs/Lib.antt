@@ -7,3 +7,4 @@ mod RootLemmas
 mod MadeLemmas
 mod SoundLemmas
 mod EscapeLemmas
+pub mod OriginLemmas

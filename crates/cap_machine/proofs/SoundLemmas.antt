@@ -11,6 +11,7 @@ use Rattle.cap_word.specs.Memory.{memory_of}
 use Rattle.cap_word.proofs.Bytes.{stored_word-memory_of}
 use Rattle.cap_bounds.specs.Bounds.{IsSound}
 use Rattle.tagmem.specs.Granules.{Granules, Entry}
+use Rattle.cap_machine.specs.declared.rules.Rules.TheVariants.{One}
 use Rattle.cap_machine.specs.States.{State, blank, put, granule_key, untagged_null}
 use Rattle.cap_machine.specs.Places.{places_of, granule_cap}
 use Rattle.cap_machine.specs.Parents.{IsSoundCap, IsSoundState}
@@ -32,14 +33,14 @@ IsSoundState-blank state empty key held = absurd (false≢true (sym (ap (λ (cap
 pub sound_register : (registers : List Cap) (memory : Granules) (target : ℕ) (cap : Cap) → length registers ≡ 32 → target ≤ 31
     → IsSoundState (places_of registers memory) → IsSoundCap cap → IsSoundState (places_of (set registers target cap) memory)
 sound_register registers memory target cap sized low all one =
-    subst IsSoundState (sym (state-register (record { registers = registers; memory = memory; roots = 0; steps = 0 }) target cap 0 0 sized low))
+    subst IsSoundState (sym (state-register (record { rules = One; registers = registers; memory = memory; roots = 0; steps = 0 }) target cap 0 0 sized low))
     (IsSoundState-put (places_of registers memory) target cap all one)
 
 -- a granule that holds another sound capability
 pub sound_granule : (registers : List Cap) (memory : Granules) (granule : ℕ) (entry : Entry)
     → IsSoundState (places_of registers memory) → IsSoundCap (cap_of entry) → IsSoundState (places_of registers (map.insert memory granule entry))
 sound_granule registers memory granule entry all one =
-    subst IsSoundState (sym (state-granule (record { registers = registers; memory = memory; roots = 0; steps = 0 }) granule entry 0 0))
+    subst IsSoundState (sym (state-granule (record { rules = One; registers = registers; memory = memory; roots = 0; steps = 0 }) granule entry 0 0))
     (IsSoundState-put (places_of registers memory) (granule_key granule) (cap_of entry) all one)
 
 -- a capability as its granule keeps it

@@ -12,8 +12,10 @@ use Rattle.cap_word.specs.declared.word.Cap.{Cap}
 use Rattle.tagmem.specs.Granules.{Granules, Entry}
 use Rattle.tagmem.proofs.Granules.{get-put, entry_at-put_same, entry_at-put_other}
 use Rattle.cap_word.specs.Memory.{stored_word}
-use Rattle.cap_machine.specs.States.{untagged_null, put, granule_key}
-use Rattle.cap_machine.specs.Helds.{Held, granule_cap, state_of}
+use Rattle.cap_machine.specs.States.{State, blank, untagged_null, put, granule_key}
+use Rattle.cap_machine.specs.declared.rules.Rules.{Rules}
+use Rattle.cap_machine.specs.Accounts.{Account, no_account}
+use Rattle.cap_machine.specs.Helds.{Held, granule_cap, state_of, account_of}
 use Rattle.cap_machine.proofs.GranuleLemmas.{granule_cap-absent}
 
 -- n copies of a value have it at each index, and past their end the default is that value
@@ -130,3 +132,13 @@ also_named granule named other = granule == other || named other
 pub named-put : (memory : Granules) (granule : ℕ) (entry : Entry)
     → named_in (map.insert memory granule entry) ≡ also_named granule (named_in memory)
 named-put memory granule entry = fun_ext (λ other. ap is_some (get-put memory granule entry other) ∙ some_or entry (other == granule) (map.get memory other) ∙ ap (λ b. b || is_some (map.get memory other)) (eqb-turned other granule))
+
+-- the account of registers that all hold NULL, and an empty memory
+pub blank_account : (rules_are : Rules) (memory : Granules) (value : Cap) → memory ≡ map.empty → value ≡ untagged_null
+    → account_of (record { rules = rules_are; registers = replicate 32 value; memory = memory; roots = 0; steps = 0 }) ≡ no_account rules_are
+blank_account rules_are memory value empty null =
+    let account = λ (state : State) (named : ℕ → Bool) (granules : ℕ). let a : Account = record { rules = rules_are; state = state; roots = 0; steps = 0; is_named = named; granules = granules } in a in
+    ap (λ (state : State). account state (named_in memory) (map.len memory)) (fun_ext (λ key. blank_state memory value key empty null))
+    ∙ ap (λ (m : Granules). account blank (named_in m) (map.len m)) empty
+    ∙ ap (λ (named : ℕ → Bool). let m : Granules = map.empty in account blank named (map.len m)) (fun_ext (λ (g : ℕ). ap is_some (map.get-empty nat_cmp g)))
+    ∙ ap (account blank (λ (g : ℕ). false)) (map.len-empty nat_cmp Entry)

@@ -1,35 +1,34 @@
 -- What a step writes lies within what its parent place held.
-use Rattle.std.proofs.Common.{◌≡◌, ℕ, true, false, Option, Some, None}
+use Rattle.std.proofs.Common.{◌≡◌, ℕ, Bool, true, false, List, Option, Some, None, refl, sym, ap, ◌∙◌}
 use Rattle.cap_word.specs.declared.word.Cap.{Cap}
-use Rattle.cap_word.specs.declared.word.Word.{Word}
+use Rattle.cap_log.specs.declared.lines.Place.{Place}
 use Rattle.cap_log.specs.declared.lines.Step.{Step}
 use Rattle.cap_log.specs.declared.lines.Step.TheVariants.{Move, ClearTag, SetBounds, SetBoundsExact, SetAddr, AndPerm, Seal, Unseal, LoadCap, StoreCap, Load, Store}
 use Rattle.cap_log.specs.Lines.{IsStepInRange}
+use Rattle.cap_ops.specs.declared.faults.OpFault.{OpFault}
+use Rattle.cap_ops.specs.Operations.{clear_result}
 use Rattle.cap_ops.specs.Tests.{first_of}
+use Rattle.cap_ops.proofs.ClearLemmas.{StaysWithin-clear, clear_result-none, clear_result-some}
 use Rattle.cap_ops.specs.Authority.{StaysWithin}
 use Rattle.cap_ops.proofs.WithinLemmas.{StaysWithin-refl}
 use Rattle.cap_ops.proofs.Derivations.{StaysWithin-and_perm, StaysWithin-seal, StaysWithin-unseal, StaysWithin-loaded, StaysWithin-cleared}
 use Rattle.cap_ops.proofs.NarrowingLemmas.{StaysWithin-set_bounds}
 use Rattle.cap_ops.proofs.AddressLemmas.{StaysWithin-set_addr}
 use Rattle.std.proofs.lemmas.Bool.{false≢true}
-use Rattle.cap_machine.specs.States.{State}
-use Rattle.cap_machine.specs.Steps.{operation_tests, written, parent_place, granule_through}
+use Rattle.cap_machine.specs.States.{State, key_of, granule_key}
+use Rattle.cap_machine.specs.Steps.{Access, Row, row_of, row_by, clear_row, clear_write, granule_through}
+use Rattle.cap_machine.specs.Runs.{hits}
+use Rattle.cap_machine.specs.declared.rules.Rules.{Rules}
+use Rattle.cap_machine.specs.declared.rules.Rules.TheVariants.{One, TwoStrict, TwoClear}
 
--- what has no tag stays within anything
-untagged_within : (word : Word) (source : Cap) → StaysWithin (record { tag = false; word = word }) source
-untagged_within word source = record {
-  from_tagged = λ held. absurd (false≢true held);
-  within = λ held sound. absurd (false≢true held);
-  sound = λ held sound. absurd (false≢true held);
-}
-
--- what a step writes, if anything
-abbrev pub WritesWithin : State → ℕ → Option (ℕ × Cap) → Type 0
+-- what a step writes, if anything, where it is tagged, comes from the step's parent place and stays within it
+abbrev pub WritesWithin : State → Option Place → Option (Place × Cap) → Type 0
 WritesWithin state parent None = Unit {0}
-WritesWithin state parent (Some target) = StaysWithin target.1 (state parent)
+WritesWithin state None (Some write) = write.1.tag ≡ true → ⊥
+WritesWithin state (Some from) (Some write) = StaysWithin write.1 (state (key_of from))
 
-pub writes_within : (state : State) (step : Step) → IsStepInRange step → first_of (operation_tests state step) ≡ None
-    → WritesWithin state (parent_place state step) (written state step)
+pub writes_within : (state : State) (step : Step) → IsStepInRange step → first_of (row_of state step).tests ≡ None
+    → WritesWithin state (row_of state step).parent (row_of state step).writes
 writes_within state (Move target source result) range free = StaysWithin-refl (state source)
 writes_within state (ClearTag target source result) range free = StaysWithin-cleared (state source)
 writes_within state (SetBounds target source requested result) range free = StaysWithin-set_bounds (state source) requested false range.2 free
@@ -38,7 +37,50 @@ writes_within state (SetAddr target source address result) range free = StaysWit
 writes_within state (AndPerm target source mask result) range free = StaysWithin-and_perm (state source) mask
 writes_within state (Seal target source authority result) range free = StaysWithin-seal (state source) (state authority)
 writes_within state (Unseal target source authority result) range free = StaysWithin-unseal (state source) (state authority)
-writes_within state (LoadCap target authority offset result) range free = StaysWithin-loaded (state authority) (state (granule_through state authority offset))
+writes_within state (LoadCap target authority offset result) range free = StaysWithin-loaded (state authority) (state (granule_key (granule_through state authority offset)))
 writes_within state (StoreCap source authority offset) range free = StaysWithin-refl (state source)
 writes_within state (Load authority offset size value) range free = tt
-writes_within state (Store authority offset size value) range free = untagged_within _ (state authority)
+writes_within state (Store authority offset size value) range free = λ held. false≢true held
+
+-- a write in clear mode
+clear_write_within : (state : State) (tests : List (Bool × OpFault)) (parent : Option Place) (write : Option (Place × Cap))
+    → (first_of tests ≡ None → WritesWithin state parent write) → WritesWithin state parent (clear_write tests write)
+clear_write_within state tests parent None within = tt
+clear_write_within state tests (Some from) (Some write) within = StaysWithin-clear tests write.1 (state (key_of from)) within
+clear_write_within state tests None (Some write) within =
+    elim (first_of tests) as (λ o. first_of tests ≡ o → (clear_result tests write.1).tag ≡ true → ⊥) [
+      | None ↦ λ free held. within free (ap (λ (cap : Cap). cap.tag) (sym (clear_result-none tests write.1 free)) ∙ held)
+      | Some fault ↦ λ found held. false≢true (ap (λ (cap : Cap). cap.tag) (sym (clear_result-some tests write.1 fault found)) ∙ held)
+    ] refl
+
+clear_row_within : (state : State) (row : Row) (access : Option Access) → (first_of row.tests ≡ None → WritesWithin state row.parent row.writes)
+    → first_of (clear_row access row).tests ≡ None → WritesWithin state row.parent (clear_row access row).writes
+clear_row_within state row None within free = clear_write_within state row.tests row.parent row.writes within
+clear_row_within state row (Some access) within free = within free
+
+-- what a step writes by any rules
+pub writes_within_by : (rules : Rules) (state : State) (step : Step) → IsStepInRange step → first_of (row_by rules (row_of state step)).tests ≡ None
+    → WritesWithin state (row_of state step).parent (row_by rules (row_of state step)).writes
+writes_within_by One state step range free = writes_within state step range free
+writes_within_by TwoStrict state step range free = writes_within state step range free
+writes_within_by TwoClear state step range free = clear_row_within state (row_of state step) (row_of state step).access (writes_within state step range) free
+
+-- rules change no place
+hits-clear_write : (tests : List (Bool × OpFault)) (write : Option (Place × Cap)) (key : ℕ) → hits (clear_write tests write) key ≡ hits write key
+hits-clear_write tests None key = refl
+hits-clear_write tests (Some write) key = refl
+
+hits-clear_row : (access : Option Access) (row : Row) (key : ℕ) → hits (clear_row access row).writes key ≡ hits row.writes key
+hits-clear_row None row key = hits-clear_write row.tests row.writes key
+hits-clear_row (Some access) row key = refl
+
+pub hits-row_by : (rules : Rules) (row : Row) (key : ℕ) → hits (row_by rules row).writes key ≡ hits row.writes key
+hits-row_by One row key = refl
+hits-row_by TwoStrict row key = refl
+hits-row_by TwoClear row key = hits-clear_row row.access row key
+
+-- the row of an access is the same by all rules
+pub row_by-access : (rules : Rules) (row : Row) (access : Access) → row.access ≡ Some access → row_by rules row ≡ row
+row_by-access One row access is = refl
+row_by-access TwoStrict row access is = refl
+row_by-access TwoClear row access is = ap (λ (o : Option Access). clear_row o row) is

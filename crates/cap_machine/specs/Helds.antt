@@ -1,5 +1,5 @@
 -- What a machine holds, and what its roots and its steps do to that (this profile's own).
-use Rattle.std.specs.Prelude.{◌≡◌, ℕ, ◌+◌, Bool, true, false, not, ◌||◌, nat_le, List, [], ◌∷◌, slice_set, Some, None, is_some, IsTrue}
+use Rattle.std.specs.Prelude.{◌≡◌, ℕ, ◌+◌, Bool, true, false, not, ◌||◌, nat_le, List, [], ◌∷◌, slice_set, Some, None, is_some, IsTrue, Result, MatchResult}
 use Rattle.std.specs.FinMap as map
 use Rattle.cap_word.specs.declared.word.Word.{Word}
 use Rattle.cap_word.specs.declared.word.Cap.{Cap}
@@ -7,6 +7,8 @@ use Rattle.cap_word.specs.Memory.{low_bytes, memory_of}
 use Rattle.cap_log.specs.declared.lines.Place.{Place}
 use Rattle.cap_log.specs.declared.lines.Place.TheVariants.{Register, Granule}
 use Rattle.cap_log.specs.declared.lines.Step.{Step}
+use Rattle.cap_ops.specs.declared.faults.OpFault.{OpFault}
+use Rattle.cap_ops.specs.Operations.{clear_result}
 use Rattle.cap_ops.specs.Tests.{first_of}
 use Rattle.tagmem.specs.Granules.{Granules, with_cap, with_bytes}
 use Rattle.cap_machine.specs.declared.refusal.Refusal.{Refusal}
@@ -14,14 +16,17 @@ use Rattle.cap_machine.specs.declared.refusal.Refusal.TheVariants.{WrongResult, 
 use Rattle.cap_machine.specs.declared.ends.StepEnd.{StepEnd}
 use Rattle.cap_machine.specs.declared.ends.StepEnd.TheVariants.{Refused, NoMemory}
 use Rattle.cap_machine.specs.declared.machine.Machine.{Machine}
+use Rattle.cap_machine.specs.declared.rules.Rules.{Rules}
+use Rattle.cap_machine.specs.declared.rules.Rules.TheVariants.{One, TwoStrict, TwoClear}
 pub use Rattle.cap_machine.specs.Places.{granule_cap}
 use Rattle.cap_machine.specs.Places.{places_of}
-use Rattle.cap_machine.specs.States.{State, key_of, tagged, put}
+use Rattle.cap_machine.specs.States.{State}
 use Rattle.cap_machine.specs.Steps.{Leads}
-use Rattle.cap_machine.specs.Tallies.{Tally, most_steps, granule_of, named_by, is_new, with_root, with_step, passes_granules, root_tests, step_tests}
+use Rattle.cap_machine.specs.Accounts.{Account, most_steps, granule_of, named_by, row_in, is_new, with_root, with_step, passes_granules, root_tests, step_tests}
 
--- what a machine holds: its registers, the granules that were put, and its counts of roots and steps
+-- what a machine holds: its rules, its registers, the granules that were put, and its counts of roots and steps
 pub record Held : Type 0 where
+  pub rules : Rules
   pub registers : List Cap
   pub memory : Granules
   pub roots : ℕ
@@ -29,20 +34,39 @@ pub record Held : Type 0 where
 
 -- what a machine over a store holds, by the store's map
 abbrev pub held_of : {M : Type 0} {g : _} → (M → Granules) → Machine M g → Held
-held_of contents machine = record { registers = machine.registers; memory = contents machine.memory; roots = machine.roots; steps = machine.steps }
+held_of contents machine = record { rules = machine.rules; registers = machine.registers; memory = contents machine.memory; roots = machine.roots; steps = machine.steps }
 
 -- the state that a machine is in
 abbrev pub state_of : Held → State
 state_of held = places_of held.registers held.memory
 
--- what its limits are measured by
-abbrev pub tally_of : Held → Tally
-tally_of held = record {
+-- its account
+abbrev pub account_of : Held → Account
+account_of held = record {
+  rules = held.rules;
+  state = state_of held;
   roots = held.roots;
   steps = held.steps;
   is_named = λ granule. is_some (map.get held.memory granule);
   granules = map.len held.memory;
 }
+
+-- the tests of an operation on registers that refuse it, by the rules
+abbrev pub tests_by : Rules → List (Bool × OpFault) → List (Bool × OpFault)
+tests_by One tests = tests
+tests_by TwoStrict tests = tests
+tests_by TwoClear tests = []
+
+-- its result, by the rules
+abbrev pub value_by : Rules → List (Bool × OpFault) → Cap → Cap
+value_by One tests result = result
+value_by TwoStrict tests result = result
+value_by TwoClear tests result = clear_result tests result
+
+-- how an operation on registers ends, by the rules
+abbrev pub EndsBy : Rules → List (Bool × OpFault) → Cap → Result Cap OpFault → Type 0
+EndsBy rules_are tests result outcome =
+    MatchResult outcome (λ cap. (first_of (tests_by rules_are tests) ≡ None) × (cap ≡ value_by rules_are tests result)) (λ fault. first_of (tests_by rules_are tests) ≡ Some fault)
 
 -- the machine with another capability in a register, after one step more
 abbrev pub with_register : Held → ℕ → Cap → Held
@@ -68,7 +92,7 @@ EndsAccess old tests NoMemory new = ⊥
 
 -- whether one step more that names a granule passes a limit
 abbrev pub is_past_limits : Held → ℕ → Bool
-is_past_limits held granule = nat_le most_steps held.steps || passes_granules (tally_of held) (Some granule)
+is_past_limits held granule = nat_le most_steps held.steps || passes_granules (account_of held) (Some granule)
 
 -- the machine with a capability put into a granule, after one step more
 abbrev pub with_cap_put : Held → ℕ → Cap → Held
@@ -82,30 +106,27 @@ with_value_put held granule place size value =
 -- what a machine answers where a put passes a limit or memory for it is refused, and nothing changes
 abbrev pub EndsPut : Held → ℕ → StepEnd → Held → Type 0
 EndsPut old granule (Refused refusal) new = (is_past_limits old granule ≡ true) × (refusal ≡ LimitPassed) × (new ≡ old)
-EndsPut old granule NoMemory new = (is_past_limits old granule ≡ false) × IsTrue (is_new (tally_of old) (Some granule)) × (new ≡ old)
+EndsPut old granule NoMemory new = (is_past_limits old granule ≡ false) × IsTrue (is_new (account_of old) (Some granule)) × (new ≡ old)
 
--- the machine made the step: no test of it holds, and state and tally are those after it
+-- the machine made the step: no test of it holds, it leads to the new state, and the account is that after it
 pub record Makes (old : Held) (step : Step) (new : Held) : Type 0 where
-  pub tests : first_of (step_tests (tally_of old) (state_of old) step) ≡ None
-  pub leads : Leads (state_of old) step (state_of new)
-  pub tally : tally_of new ≡ with_step (tally_of old) (state_of old) step
+  pub tests : first_of (step_tests (account_of old) step) ≡ None
+  pub leads : Leads old.rules (state_of old) step (state_of new)
+  pub account : account_of new ≡ with_step (account_of old) step
 
 -- the machine refused the step for its first test that holds, or memory for a granule named for the first time was refused; nothing changed
 abbrev pub EndsStep : Held → Step → StepEnd → Held → Type 0
-EndsStep old step (Refused refusal) new = (first_of (step_tests (tally_of old) (state_of old) step) ≡ Some refusal) × (new ≡ old)
+EndsStep old step (Refused refusal) new = (first_of (step_tests (account_of old) step) ≡ Some refusal) × (new ≡ old)
 EndsStep old step NoMemory new =
-    (first_of (step_tests (tally_of old) (state_of old) step) ≡ None) × IsTrue (is_new (tally_of old) (named_by (state_of old) step)) × (new ≡ old)
+    (first_of (step_tests (account_of old) step) ≡ None) × IsTrue (is_new (account_of old) (named_by (row_in (account_of old) step))) × (new ≡ old)
 
--- the machine took the root: no test of it holds, the place holds it, tagged, and it is counted
+-- the machine took the root: no test of it holds, and the account is that after it
 pub record Takes (old : Held) (place : Place) (word : Word) (new : Held) : Type 0 where
-  pub tests : first_of (root_tests (tally_of old) (let held = state_of old (key_of place) in held.tag) place word) ≡ None
-  pub state : state_of new ≡ put (state_of old) (key_of place) (tagged word)
-  pub tally : tally_of new ≡ with_root (tally_of old) place
+  pub tests : first_of (root_tests (account_of old) place word) ≡ None
+  pub account : account_of new ≡ with_root (account_of old) place word
 
 -- the machine refused the root for its first test that holds, or memory for a granule named for the first time was refused; nothing changed
 abbrev pub EndsRoot : Held → Place → Word → StepEnd → Held → Type 0
-EndsRoot old place word (Refused refusal) new =
-    (first_of (root_tests (tally_of old) (let held = state_of old (key_of place) in held.tag) place word) ≡ Some refusal) × (new ≡ old)
+EndsRoot old place word (Refused refusal) new = (first_of (root_tests (account_of old) place word) ≡ Some refusal) × (new ≡ old)
 EndsRoot old place word NoMemory new =
-    (first_of (root_tests (tally_of old) (let held = state_of old (key_of place) in held.tag) place word) ≡ None)
-    × IsTrue (is_new (tally_of old) (granule_of place)) × (new ≡ old)
+    (first_of (root_tests (account_of old) place word) ≡ None) × IsTrue (is_new (account_of old) (granule_of place)) × (new ≡ old)

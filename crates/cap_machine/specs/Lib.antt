@@ -4,7 +4,8 @@ pub mod Steps
 pub mod Runs
 pub mod Parents
 pub mod Refusals
-pub mod Tallies
+pub mod Accounts
 pub mod Values
 pub mod Helds
 pub mod Escapes
+pub mod Origins

@@ -3,7 +3,7 @@ use Rattle.std.specs.Prelude.{ℕ, List, codes}
 use Rattle.cap_ops.specs.declared.faults.OpFault.{OpFault}
 use Rattle.cap_ops.specs.declared.faults.OpFault.TheVariants as faults
 use Rattle.cap_machine.specs.declared.refusal.Refusal.{Refusal}
-use Rattle.cap_machine.specs.declared.refusal.Refusal.TheVariants.{BadHeader, LineTooLong, BadLine, Misplaced, Truncated, WrongCount, PlaceTaken, UnsoundRoot, SourceUntagged, SourceSealed, BoundsEscape, NotExact, NotRepresentable, AuthorityUntagged, AuthoritySealed, AuthorityPermission, AuthorityBounds, TypeOutOfRange, TypeMismatch, Misaligned, StoreCapPermission, StoreLocalPermission, WrongResult, LimitPassed}
+use Rattle.cap_machine.specs.declared.refusal.Refusal.TheVariants.{BadHeader, LineTooLong, BadLine, Misplaced, Truncated, WrongCount, PlaceTaken, UnsoundRoot, SourceUntagged, SourceSealed, BoundsEscape, NotExact, NotRepresentable, AuthorityUntagged, AuthoritySealed, AuthorityPermission, AuthorityBounds, TypeOutOfRange, TypeMismatch, Misaligned, StoreCapPermission, StoreLocalPermission, WrongResult, LimitPassed, BadMode}
 
 -- a refusal's number (this profile's own)
 abbrev pub number_of : Refusal → ℕ
@@ -31,6 +31,7 @@ number_of StoreCapPermission = 21
 number_of StoreLocalPermission = 22
 number_of WrongResult = 23
 number_of LimitPassed = 24
+number_of BadMode = 25
 
 -- a refusal's name (this profile's own)
 abbrev pub name_of : Refusal → List ℕ
@@ -58,6 +59,7 @@ name_of StoreCapPermission = codes "StoreCapPermission"
 name_of StoreLocalPermission = codes "StoreLocalPermission"
 name_of WrongResult = codes "WrongResult"
 name_of LimitPassed = codes "LimitPassed"
+name_of BadMode = codes "BadMode"
 
 -- the refusal that a fault of an operation or an access is, of the same name
 abbrev pub refusal_of : OpFault → Refusal

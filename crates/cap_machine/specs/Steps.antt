@@ -2,74 +2,110 @@
 use Rattle.std.specs.Prelude.{◌≡◌, ℕ, ℤ, ◌/◌, ◌%◌, Bool, true, false, ◌==◌, ◌&&◌, not, if◌then◌else◌, List, [], Option, Some, None, IsTrue}
 use Rattle.cap_word.specs.declared.word.Cap.{Cap}
 use Rattle.cap_word.specs.Memory.{low_bytes, memory_of, stored_word}
+use Rattle.cap_log.specs.declared.lines.Place.{Place}
+use Rattle.cap_log.specs.declared.lines.Place.TheVariants.{Register, Granule}
 use Rattle.cap_log.specs.declared.lines.Step.{Step}
 use Rattle.cap_log.specs.declared.lines.Step.TheVariants.{Move, ClearTag, SetBounds, SetBoundsExact, SetAddr, AndPerm, Seal, Unseal, LoadCap, StoreCap, Load, Store}
 use Rattle.cap_ops.specs.declared.faults.OpFault.{OpFault}
+use Rattle.cap_ops.specs.declared.kinds.Kind.{Kind}
 use Rattle.cap_ops.specs.declared.kinds.Kind.TheVariants as kinds
 use Rattle.cap_ops.specs.Tests.{first_of}
-use Rattle.cap_ops.specs.Operations.{cleared, set_bounds_tests, set_bounds_result, set_addr_tests, set_addr_result, and_perm_tests, and_perm_result, seal_tests, seal_result, unseal_tests, unseal_result}
-use Rattle.cap_ops.specs.Accesses.{access_address, access_tests, loaded_result}
+use Rattle.cap_ops.specs.Operations.{cleared, clear_result, set_bounds_tests, set_bounds_result, set_addr_tests, set_addr_result, and_perm_tests, and_perm_result, seal_tests, seal_result, unseal_tests, unseal_result}
+use Rattle.cap_ops.specs.Accesses.{access_address, access_tests, loaded_result, permission_for}
 use Rattle.tagmem.specs.Granules.{overwritten}
-use Rattle.cap_machine.specs.States.{State, granule_key, put, value_at}
+use Rattle.cap_machine.specs.declared.rules.Rules.{Rules}
+use Rattle.cap_machine.specs.declared.rules.Rules.TheVariants.{One, TwoStrict, TwoClear}
+use Rattle.cap_machine.specs.States.{State, granule_key, key_of, put, value_at}
 
--- the tests of a step's operation or access, in order
-abbrev pub operation_tests : State → Step → List (Bool × OpFault)
-operation_tests state (Move target source result) = []
-operation_tests state (ClearTag target source result) = []
-operation_tests state (SetBounds target source length result) = set_bounds_tests (state source) length false
-operation_tests state (SetBoundsExact target source length result) = set_bounds_tests (state source) length true
-operation_tests state (SetAddr target source address result) = set_addr_tests (state source) address
-operation_tests state (AndPerm target source mask result) = and_perm_tests (state source)
-operation_tests state (Seal target source authority result) = seal_tests (state source) (state authority)
-operation_tests state (Unseal target source authority result) = unseal_tests (state source) (state authority)
-operation_tests state (LoadCap target authority offset result) = access_tests (state authority) kinds.LoadCap offset 16
-operation_tests state (StoreCap source authority offset) = access_tests (state authority) (kinds.StoreCap (state source)) offset 16
-operation_tests state (Load authority offset size value) = access_tests (state authority) kinds.LoadData offset size
-operation_tests state (Store authority offset size value) = access_tests (state authority) kinds.StoreData offset size
+-- an access to memory: the register that is its authority, its address and size, and the permission that it needs
+pub record Access : Type 0 where
+  pub authority : ℕ
+  pub address : ℕ
+  pub size : ℕ
+  pub permission : ℕ
+
+-- what a line records of its step: nothing, what the step writes, or the value that it reads, beside the one in memory
+pub data Recorded : Type 0 where
+  Nothing : Recorded
+  Written : (cap : Cap) → Recorded
+  Read : (value in_memory : ℕ) → Recorded
+
+-- a row of the machine's table: the tests of a step, in order; the place that it writes, and what that holds then; the place that
+-- a tagged result comes from; what its line records; and its access
+pub record Row : Type 0 where
+  pub tests : List (Bool × OpFault)
+  pub writes : Option (Place × Cap)
+  pub parent : Option Place
+  pub records : Recorded
+  pub access : Option Access
+
+-- the row of an operation from a register to a register
+abbrev pub operation : ℕ → ℕ → Cap → List (Bool × OpFault) → Cap → Row
+operation target source recorded tests_are result =
+    record { tests = tests_are; writes = Some (Register target, result); parent = Some (Register source); records = Written recorded; access = None }
 
 -- the address of an access through a register
 abbrev pub address_through : State → ℕ → ℤ → ℕ
 address_through state authority offset = access_address (state authority).word.0 offset
 
--- the number of the place of the granule that an access through a register reaches
+-- the granule that an access through a register reaches
 abbrev pub granule_through : State → ℕ → ℤ → ℕ
-granule_through state authority offset = granule_key (address_through state authority offset / 16)
+granule_through state authority offset = address_through state authority offset / 16
+
+-- the access of a kind through a register
+abbrev pub access_through : State → ℕ → Kind → ℤ → ℕ → Access
+access_through state register kind offset bytes =
+    record { authority = register; address = address_through state register offset; size = bytes; permission = permission_for kind }
 
 -- a granule's capability after a write of a value's bytes, least significant first, from a place in it on: its tag is clear
 abbrev pub with_value : Cap → ℕ → ℕ → ℕ → Cap
 with_value cap place size value =
     record { tag = false; word = record { 0 = stored_word (overwritten (memory_of cap.word.0) place (low_bytes size value)) } }
 
--- the place that a step writes, and what it holds then: the machine's own result, whatever the log records
-abbrev pub written : State → Step → Option (ℕ × Cap)
-written state (Move target source result) = Some (target, state source)
-written state (ClearTag target source result) = Some (target, cleared (state source))
-written state (SetBounds target source length result) = Some (target, set_bounds_result (state source) length)
-written state (SetBoundsExact target source length result) = Some (target, set_bounds_result (state source) length)
-written state (SetAddr target source address result) = Some (target, set_addr_result (state source) address)
-written state (AndPerm target source mask result) = Some (target, and_perm_result (state source) mask)
-written state (Seal target source authority result) = Some (target, seal_result (state source) (state authority))
-written state (Unseal target source authority result) = Some (target, unseal_result (state source) (state authority))
-written state (LoadCap target authority offset result) = Some (target, loaded_result (state authority) (state (granule_through state authority offset)))
-written state (StoreCap source authority offset) = Some (granule_through state authority offset, state source)
-written state (Load authority offset size value) = None
-written state (Store authority offset size value) =
-    Some (granule_through state authority offset, with_value (state (granule_through state authority offset)) (address_through state authority offset % 16) size value)
-
--- the number of the place that a tagged capability comes from which the step writes (this profile's own)
-abbrev pub parent_place : State → Step → ℕ
-parent_place state (Move target source result) = source
-parent_place state (ClearTag target source result) = source
-parent_place state (SetBounds target source length result) = source
-parent_place state (SetBoundsExact target source length result) = source
-parent_place state (SetAddr target source address result) = source
-parent_place state (AndPerm target source mask result) = source
-parent_place state (Seal target source authority result) = source
-parent_place state (Unseal target source authority result) = source
-parent_place state (LoadCap target authority offset result) = granule_through state authority offset
-parent_place state (StoreCap source authority offset) = source
-parent_place state (Load authority offset size value) = authority
-parent_place state (Store authority offset size value) = authority
+-- the machine's table: the row of each step in a state. The result is the machine's own, whatever the line records
+abbrev pub row_of : State → Step → Row
+row_of state (Move target source recorded) = operation target source recorded [] (state source)
+row_of state (ClearTag target source recorded) = operation target source recorded [] (cleared (state source))
+row_of state (SetBounds target source length recorded) =
+    operation target source recorded (set_bounds_tests (state source) length false) (set_bounds_result (state source) length)
+row_of state (SetBoundsExact target source length recorded) =
+    operation target source recorded (set_bounds_tests (state source) length true) (set_bounds_result (state source) length)
+row_of state (SetAddr target source address recorded) =
+    operation target source recorded (set_addr_tests (state source) address) (set_addr_result (state source) address)
+row_of state (AndPerm target source mask recorded) =
+    operation target source recorded (and_perm_tests (state source)) (and_perm_result (state source) mask)
+row_of state (Seal target source authority recorded) =
+    operation target source recorded (seal_tests (state source) (state authority)) (seal_result (state source) (state authority))
+row_of state (Unseal target source authority recorded) =
+    operation target source recorded (unseal_tests (state source) (state authority)) (unseal_result (state source) (state authority))
+row_of state (LoadCap target authority offset recorded) = let granule = granule_through state authority offset in record {
+  tests = access_tests (state authority) kinds.LoadCap offset 16;
+  writes = Some (Register target, loaded_result (state authority) (state (granule_key granule)));
+  parent = Some (Granule granule);
+  records = Written recorded;
+  access = Some (access_through state authority kinds.LoadCap offset 16);
+}
+row_of state (StoreCap source authority offset) = record {
+  tests = access_tests (state authority) (kinds.StoreCap (state source)) offset 16;
+  writes = Some (Granule (granule_through state authority offset), state source);
+  parent = Some (Register source);
+  records = Nothing;
+  access = Some (access_through state authority (kinds.StoreCap (state source)) offset 16);
+}
+row_of state (Load authority offset size value) = record {
+  tests = access_tests (state authority) kinds.LoadData offset size;
+  writes = None;
+  parent = None;
+  records = Read value (value_at state (address_through state authority offset) size);
+  access = Some (access_through state authority kinds.LoadData offset size);
+}
+row_of state (Store authority offset size value) = let granule = granule_through state authority offset in record {
+  tests = access_tests (state authority) kinds.StoreData offset size;
+  writes = Some (Granule granule, with_value (state (granule_key granule)) (address_through state authority offset % 16) size value);
+  parent = None;
+  records = Nothing;
+  access = Some (access_through state authority kinds.StoreData offset size);
+}
 
 -- whether two tags are the same
 abbrev pub is_same_tag : Bool → Bool → Bool
@@ -79,29 +115,55 @@ is_same_tag a b = if a then b else not b
 abbrev pub is_same_cap : Cap → Cap → Bool
 is_same_cap a b = is_same_tag a.tag b.tag && (a.word.0 == b.word.0)
 
--- whether what the log records of a step is what the machine has: the result in the target, or the value that is read
-abbrev pub is_recorded : State → Step → Bool
-is_recorded state (Move target source result) = is_same_cap result (state source)
-is_recorded state (ClearTag target source result) = is_same_cap result (cleared (state source))
-is_recorded state (SetBounds target source length result) = is_same_cap result (set_bounds_result (state source) length)
-is_recorded state (SetBoundsExact target source length result) = is_same_cap result (set_bounds_result (state source) length)
-is_recorded state (SetAddr target source address result) = is_same_cap result (set_addr_result (state source) address)
-is_recorded state (AndPerm target source mask result) = is_same_cap result (and_perm_result (state source) mask)
-is_recorded state (Seal target source authority result) = is_same_cap result (seal_result (state source) (state authority))
-is_recorded state (Unseal target source authority result) = is_same_cap result (unseal_result (state source) (state authority))
-is_recorded state (LoadCap target authority offset result) = is_same_cap result (loaded_result (state authority) (state (granule_through state authority offset)))
-is_recorded state (StoreCap source authority offset) = true
-is_recorded state (Load authority offset size value) = value == value_at state (address_through state authority offset) size
-is_recorded state (Store authority offset size value) = true
+-- whether what is written, or read, is what a line records
+abbrev pub agrees : Option (Place × Cap) → Recorded → Bool
+agrees write Nothing = true
+agrees None (Written cap) = true
+agrees (Some write) (Written cap) = is_same_cap cap write.1
+agrees write (Read value in_memory) = value == in_memory
+
+-- whether the line of a row records what the machine has
+abbrev pub is_recorded : Row → Bool
+is_recorded row = agrees row.writes row.records
+
+-- the granule that a place is
+abbrev pub granule_of : Place → Option ℕ
+granule_of (Register n) = None
+granule_of (Granule g) = Some g
+
+-- the granule that a write names
+abbrev pub named_in : Option (Place × Cap) → Option ℕ
+named_in None = None
+named_in (Some write) = granule_of write.0
+
+-- the granule that a row names: the one that an sc or a store writes
+abbrev pub named_by : Row → Option ℕ
+named_by row = named_in row.writes
 
 -- the state after a write
-abbrev pub state_with : State → Option (ℕ × Cap) → State
+abbrev pub state_with : State → Option (Place × Cap) → State
 state_with state None = state
-state_with state (Some target) = put state target.0 target.1
+state_with state (Some write) = put state (key_of write.0) write.1
 
--- the step leads from one state to the next: no test of it holds, the log records what the machine has, and the place that it
--- writes is all that changes
-pub record Leads (old : State) (step : Step) (new : State) : Type 0 where
-  pub allowed : first_of (operation_tests old step) ≡ None
-  pub recorded : IsTrue (is_recorded old step)
-  pub after : new ≡ state_with old (written old step)
+-- what is written in clear mode
+abbrev pub clear_write : List (Bool × OpFault) → Option (Place × Cap) → Option (Place × Cap)
+clear_write tests None = None
+clear_write tests (Some write) = Some (write.0, clear_result tests write.1)
+
+-- a row in clear mode: an operation on registers meets no test, and its result loses its tag where one holds; an access stays as it is
+abbrev pub clear_row : Option Access → Row → Row
+clear_row None row = record row { tests = []; writes = clear_write row.tests row.writes }
+clear_row (Some access) row = row
+
+-- a row by the rules
+abbrev pub row_by : Rules → Row → Row
+row_by One row = row
+row_by TwoStrict row = row
+row_by TwoClear row = clear_row row.access row
+
+-- the step leads, by the rules, from one state to the next: no test of it holds, the line records what the machine has, and the place
+-- that it writes is all that changes
+pub record Leads (rules : Rules) (old : State) (step : Step) (new : State) : Type 0 where
+  pub allowed : first_of (row_by rules (row_of old step)).tests ≡ None
+  pub recorded : IsTrue (is_recorded (row_by rules (row_of old step)))
+  pub after : new ≡ state_with old (row_by rules (row_of old step)).writes

@@ -6,18 +6,18 @@ ghost use Rattle.cap_ops.specs.Tests.{first_of};
 ghost use Rattle.cap_log.specs.Lines.{IsPlace};
 ghost use Rattle.cap_machine.specs.States.{key_of, tagged};
 ghost use Rattle.cap_machine.specs.Parents.{IsSoundCap};
-ghost use Rattle.cap_machine.specs.Tallies.{
+ghost use Rattle.cap_machine.specs.Accounts.{
   granule_of,
   is_new,
   most_roots,
   passes_granules,
   root_tests,
 };
-ghost use Rattle.cap_machine.specs.Helds.{EndsRoot, Placed, Takes, held_of, state_of, tally_of};
+ghost use Rattle.cap_machine.specs.Helds.{EndsRoot, Placed, Takes, held_of, state_of, account_of};
 
 use crate::ends::StepEnd;
 use crate::granules::put_capability;
-use crate::machine::{MOST_GRANULES, MOST_ROOTS, Machine};
+use crate::machine::{MOST_ROOTS, Machine};
 use crate::refusal::Refusal;
 use cap_bounds::sound;
 use cap_log::Place;
@@ -27,7 +27,8 @@ use tagmem::{NoMemory, TaggedStore};
 impl<M: TaggedStore> Machine<M> {
     /// Puts a root, tagged, at its place, and counts it. It is refused for the first of these that holds:
     /// its place has a capability with a tag already (`PlaceTaken`), its word is not sound
-    /// (`UnsoundRoot`), there are 4,096 roots, or it names a granule beyond 65,536 (`LimitPassed`).
+    /// (`UnsoundRoot`), there are 4,096 roots, or it names a granule beyond those that the rules allow
+    /// (`LimitPassed`).
     /// `NoMemory` comes only at a granule named for the first time. After an error nothing has changed.
     pub fn declare(&mut self, place: Place, word: Word) -> Result<(), StepEnd>
         requires { IsPlace place }
@@ -61,8 +62,7 @@ impl<M: TaggedStore> Machine<M> {
     // The first test that refuses a root.
     fn root_fault(&self, place: Place, word: Word) -> Option<Refusal>
         requires { IsPlace place }
-        ensures { result ≡ first_of (root_tests (tally_of (held_of M.contents self.now))
-            (let cap = state_of (held_of M.contents self.now) (key_of place) in cap.tag) place word) }
+        ensures { result ≡ first_of (root_tests (account_of (held_of M.contents self.now)) place word) }
     {
         if self.at(place).tag {
             Some(Refusal::PlaceTaken)
@@ -78,7 +78,7 @@ impl<M: TaggedStore> Machine<M> {
     // Whether a root's place names a granule beyond the limit.
     fn root_passes_granules(&self, place: Place) -> bool
         requires { IsPlace place }
-        ensures { result ≡ passes_granules (tally_of (held_of M.contents self.now)) (granule_of place) }
+        ensures { result ≡ passes_granules (account_of (held_of M.contents self.now)) (granule_of place) }
     {
         match place {
             Place::Register(_) => false,
@@ -89,19 +89,19 @@ impl<M: TaggedStore> Machine<M> {
     // Whether naming a granule passes the limit on granules.
     pub(crate) fn granule_passes(&self, granule: u64) -> bool
         requires { granule < 2 ^ 60 }
-        ensures { result ≡ passes_granules (tally_of (held_of M.contents self.now)) (Some granule) }
+        ensures { result ≡ passes_granules (account_of (held_of M.contents self.now)) (Some granule) }
     {
-        self.memory.count() >= MOST_GRANULES && self.memory.get(granule).is_none()
+        self.memory.count() >= self.rules.most_granules() && self.memory.get(granule).is_none()
     }
 
     // Puts a capability into a place, and counts nothing. A refused put changes nothing.
     fn place_root(&mut self, place: Place, cap: Cap) -> Result<(), NoMemory>
         requires in_range { IsPlace place }
-        requires room { passes_granules (tally_of (held_of M.contents self.old)) (granule_of place) ≡ false }
+        requires room { passes_granules (account_of (held_of M.contents self.old)) (granule_of place) ≡ false }
         requires sound { IsSoundCap cap }
         ensures ok { OnOk result (Placed (held_of M.contents self.old) place cap (held_of M.contents self.new)) }
         ensures err { OnErr result (held_of M.contents self.new ≡ held_of M.contents self.old) }
-        ensures only_new { OnErr result (IsTrue (is_new (tally_of (held_of M.contents self.old)) (granule_of place))) }
+        ensures only_new { OnErr result (IsTrue (is_new (account_of (held_of M.contents self.old)) (granule_of place))) }
     {
         match place {
             Place::Register(number) => {

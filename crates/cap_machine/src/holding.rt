@@ -2,35 +2,50 @@
 
 ghost use Rattle.std.specs.Prelude.{◌≡◌, ℕ, ◌<◌, ◌≤◌, ◌^◌, ◌+◌};
 ghost use Rattle.std.specs.FinMap as map;
-ghost use Rattle.cap_machine.specs.States.{blank, granule_key, untagged_null};
+ghost use Rattle.cap_machine.specs.States.{granule_key, untagged_null};
+ghost use Rattle.cap_machine.specs.Accounts.{no_account};
 ghost use Rattle.cap_machine.specs.Parents.{IsSoundCap};
-ghost use Rattle.cap_machine.specs.Helds.{held_of, state_of};
+ghost use Rattle.cap_machine.specs.Helds.{account_of, held_of, state_of};
 
 use crate::granules::capability_at;
+use crate::rules::Rules;
 use crate::machine::Machine;
 use cap_word::{Cap, null};
 use tagmem::TaggedStore;
 
 impl<M: TaggedStore> Machine<M> {
-    /// A machine that holds NULL without a tag everywhere, with no root and no step, over an empty store.
-    /// It takes no memory.
+    /// A machine by the rules of version 1, as `with_rules` makes it.
     pub fn new(memory: M) -> Machine<M>
         requires { map.len (M.contents memory) ≡ 0 }
-        ensures state { (key : ℕ) → state_of (held_of M.contents result) key ≡ blank key }
-        ensures roots { (let held = held_of M.contents result in held.roots) ≡ 0 }
-        ensures steps { (let held = held_of M.contents result in held.steps) ≡ 0 }
-        ensures memory { (let held = held_of M.contents result in held.memory) ≡ map.empty }
+        ensures { account_of (held_of M.contents result) ≡ no_account Rules.One }
+    {
+        Machine::with_rules(memory, Rules::One)
+    }
+
+    /// A machine that holds NULL without a tag everywhere, with no root and no step, over an empty store.
+    /// It takes no memory.
+    pub fn with_rules(memory: M, rules: Rules) -> Machine<M>
+        requires { map.len (M.contents memory) ≡ 0 }
+        ensures { account_of (held_of M.contents result) ≡ no_account rules }
     {
         let nothing = Cap {
             tag: false,
             word: null(),
         };
         Machine {
+            rules,
             registers: [nothing; 32],
             memory,
             roots: 0,
             steps: 0,
         }
+    }
+
+    /// The rules that it follows.
+    pub fn rules(&self) -> Rules
+        ensures { result ≡ (let held = held_of M.contents self.now in held.rules) }
+    {
+        self.rules
     }
 
     /// How many steps were made, at most 4,294,967,295.

@@ -1,34 +1,42 @@
 //! Laws about steps and runs. These functions do nothing: what they say is their contract.
 
-ghost use Rattle.std.specs.Prelude.{List};
+ghost use Rattle.std.specs.Prelude.{◌≡◌, ℕ, List};
 ghost use Rattle.std.specs.List.{AllByRecursion};
 ghost use Rattle.cap_log.specs.declared.lines.Step.{Step};
 ghost use Rattle.cap_log.specs.Lines.{IsStepInRange};
+ghost use Rattle.cap_machine.specs.declared.rules.Rules.{Rules};
 ghost use Rattle.cap_machine.specs.States.{DeclaredRoot, State, start};
 ghost use Rattle.cap_machine.specs.Steps.{Leads};
-ghost use Rattle.cap_machine.specs.Runs.{AccessesLieInside, AreSound, AuthorityNeverGrows, IsRun};
+ghost use Rattle.cap_machine.specs.Runs.{AccessesLieInside, AreSound, AuthorityNeverGrows, Descends, IsRun};
+ghost use Rattle.cap_machine.specs.Origins.{Origins, origins_along};
 ghost use Rattle.cap_machine.specs.Parents.{IsSoundState, StaysWithinParents};
 
 /// Where each tagged capability of a state is sound, each one after a step is sound too, and lies within
 /// what the place held before the step that it comes from: a place that the step does not write keeps its
 /// own, and a result comes from the step's source, or for `lc` from the granule.
 pub fn steps_stay_within()
-    ensures { (old : State) (step : Step) (new : State) → IsStepInRange step → IsSoundState old
-        → Leads old step new → StaysWithinParents old step new }
+    ensures { (rules : Rules) (old : State) (step : Step) (new : State) → IsStepInRange step → IsSoundState old
+        → Leads rules old step new → StaysWithinParents old step new }
 {}
 
 /// Along every run from sound roots, at every moment each tagged capability in a register or in memory
 /// has bounds inside and permissions among those of the one root that it descends from.
 pub fn authority_never_grows()
-    ensures { (roots : List DeclaredRoot) (steps : List Step) (states : List State) → AreSound roots
-        → AllByRecursion IsStepInRange steps → IsRun (start roots) steps states
+    ensures { (rules : Rules) (roots : List DeclaredRoot) (steps : List Step) (states : List State) → AreSound roots
+        → AllByRecursion IsStepInRange steps → IsRun rules (start roots) steps states
         → AuthorityNeverGrows roots steps states }
 {}
 
 /// Along every run from sound roots, each access of a step lies inside the bounds of the one root that
 /// its authority descends from, and that root has the permission that the access needs.
 pub fn accesses_lie_inside()
-    ensures { (roots : List DeclaredRoot) (steps : List Step) (states : List State) → AreSound roots
-        → AllByRecursion IsStepInRange steps → IsRun (start roots) steps states
+    ensures { (rules : Rules) (roots : List DeclaredRoot) (steps : List Step) (states : List State) → AreSound roots
+        → AllByRecursion IsStepInRange steps → IsRun rules (start roots) steps states
         → AccessesLieInside roots steps states }
+{}
+
+/// Origins that each step carries forward, from parents, are those that descent leads back to.
+pub fn origins_follow_descent()
+    ensures { (origins : Origins) (state : State) (steps : List Step) (states : List State) (key from : ℕ)
+        → Descends state steps states key from → origins_along origins state steps states key ≡ origins from }
 {}

@@ -14,13 +14,16 @@ mod granules;
 mod holding;
 mod laws;
 mod machine;
+mod operating;
 mod refusal;
+mod rules;
 mod stepping;
 
 pub use crate::ends::StepEnd;
-pub use crate::laws::{accesses_lie_inside, authority_never_grows, steps_stay_within};
-pub use crate::machine::{MOST_GRANULES, MOST_ROOTS, MOST_STEPS, Machine};
+pub use crate::laws::{accesses_lie_inside, authority_never_grows, origins_follow_descent, steps_stay_within};
+pub use crate::machine::{MOST_ROOTS, MOST_STEPS, Machine};
 pub use crate::refusal::Refusal;
+pub use crate::rules::Rules;
 
 #[cfg(test)]
 mod tests;

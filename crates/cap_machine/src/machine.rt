@@ -5,15 +5,12 @@ ghost use Rattle.cap_machine.specs.States.{untagged_null};
 ghost use Rattle.cap_machine.specs.Places.{places_of};
 ghost use Rattle.cap_machine.specs.Parents.{IsSoundState};
 
+use crate::rules::Rules;
 use cap_word::Cap;
 use tagmem::TaggedStore;
 
 /// The greatest number of roots that a machine takes (this profile's own): past it comes `LimitPassed`.
 pub const MOST_ROOTS: u32 = 4096;
-
-/// The greatest number of distinct granules that roots, `sc` and `store` name (this profile's own): past it
-/// comes `LimitPassed`.
-pub const MOST_GRANULES: u32 = 65_536;
 
 /// The greatest number of steps that a machine makes (this profile's own): past it comes `LimitPassed`.
 pub const MOST_STEPS: u32 = u32::MAX;
@@ -23,6 +20,7 @@ pub const MOST_STEPS: u32 = u32::MAX;
 /// each tagged capability that it holds is sound.
 #[derive(Drop)]
 pub struct Machine<M: TaggedStore> {
+    pub(crate) rules: Rules,
     pub(crate) registers: [Cap; 32],
     pub(crate) memory: M,
     pub(crate) roots: u32,

@@ -1,4 +1,4 @@
-//! The 24 reasons for which a line is refused.
+//! The 25 reasons for which a line is refused.
 
 ghost use Rattle.std.specs.Prelude.{◌≡◌, ◌≤◌, length};
 
@@ -55,15 +55,17 @@ pub enum Refusal {
     WrongResult = 23,
     /// 24: A limit on roots, granules or steps is passed.
     LimitPassed = 24,
+    /// 25: The line after the version line of version 2 is no mode line.
+    BadMode = 25,
 }
 
 impl Refusal {
     ghost use Rattle.cap_machine.specs.Refusals.{name_of, number_of};
 
-    /// The number that a verdict line shows, 1 to 24.
+    /// The number that a verdict line shows, 1 to 25.
     pub fn number(&self) -> u8
         ensures number { result ≡ number_of self.now }
-        ensures range { (1 ≤ result) × (result ≤ 24) }
+        ensures range { (1 ≤ result) × (result ≤ 25) }
     {
         *self as u8
     }
@@ -98,6 +100,7 @@ impl Refusal {
             Refusal::StoreLocalPermission => "StoreLocalPermission",
             Refusal::WrongResult => "WrongResult",
             Refusal::LimitPassed => "LimitPassed",
+            Refusal::BadMode => "BadMode",
         }
     }
 }

@@ -1,6 +1,6 @@
 //! Making steps.
 
-ghost use Rattle.std.specs.Prelude.{◌≡◌, ◌<◌, ◌≤◌, ◌^◌, ◌/◌, ◌%◌, ◌+◌, ◌*◌, ◌||◌, ◌⊎◌, ◌≤ℤ◌, pos, neg_ℤ, nat_le, MatchResult, OnOk, IfOk, IfErr, Ok, Err, None, Some, true, false};
+ghost use Rattle.std.specs.Prelude.{◌≡◌, ◌↔◌, ◌<◌, ◌≤◌, ◌^◌, ◌/◌, ◌%◌, ◌+◌, ◌*◌, ◌||◌, ◌⊎◌, ◌≤ℤ◌, pos, neg_ℤ, nat_le, MatchResult, OnOk, IfOk, IfErr, Ok, Err, None, Some, true, false};
 ghost use Rattle.cap_ops.specs.Tests.{first_of};
 ghost use Rattle.cap_ops.specs.Accesses.{
   access_address,
@@ -12,7 +12,7 @@ ghost use Rattle.cap_log.specs.Lines.{IsDataSize, IsOffset, IsStepInRange};
 ghost use Rattle.cap_machine.specs.States.{granule_key};
 ghost use Rattle.cap_machine.specs.Steps.{is_same_cap};
 ghost use Rattle.cap_machine.specs.Parents.{IsSoundCap, StaysWithinParents};
-ghost use Rattle.cap_machine.specs.Escapes.{EscapesExactly};
+ghost use Rattle.cap_machine.specs.Escapes.{ClearsBeyond, Escapes};
 ghost use Rattle.cap_machine.specs.Refusals.{refusal_of};
 ghost use Rattle.cap_machine.specs.Helds.{
   EndsAccess,
@@ -21,40 +21,42 @@ ghost use Rattle.cap_machine.specs.Helds.{
   held_of,
   last_tests,
   state_of,
-  tally_of,
+  account_of,
   with_register,
 };
 
 use crate::ends::StepEnd;
 use crate::machine::{MOST_STEPS, Machine};
+use crate::operating::{and_perm_by, seal_by, set_addr_by, set_bounds_by, unseal_by};
 use crate::refusal::Refusal;
 use cap_log::Step;
-use cap_ops::{
-    Access, Kind, OpFault, and_perm, clear_tag, loaded, may_access, seal, set_addr, set_bounds,
-    unseal,
-};
+use cap_ops::{Access, Kind, OpFault, clear_tag, loaded, may_access};
 use cap_word::Cap;
 use tagmem::TaggedStore;
 
 impl<M: TaggedStore> Machine<M> {
     /// Makes a step and counts it. It is refused for the first of these that holds: the tests of its
     /// operation or access, in their order; the log records another result or value than the machine's
-    /// (`WrongResult`); there are 4,294,967,295 steps, or it names a granule beyond 65,536
-    /// (`LimitPassed`). `NoMemory` comes only at a granule named for the first time. After an error
+    /// (`WrongResult`); there are 4,294,967,295 steps, or it names a granule beyond those that the rules
+    /// allow (`LimitPassed`). In clear mode the tests of an operation on registers refuse nothing: its result
+    /// loses its tag where one holds. `NoMemory` comes only at a granule named for the first time. After an error
     /// nothing has changed.
     ///
     /// A step keeps every tagged word sound, and each tagged capability after it lies within what the place
-    /// held before that it comes from. `setbounds` and `setboundsexact` of a tagged, unsealed source are
-    /// refused by `BoundsEscape` exactly where the bounds that they ask for, before any rounding, do not lie
-    /// inside the source's, which is the test of the instruction CSetBounds.
+    /// held before that it comes from. By strict rules a step is refused by `BoundsEscape` exactly where it
+    /// sets bounds of a tagged, unsealed source and those that it asks for, before any rounding, do not lie
+    /// inside the source's, which is the test of the instruction CSetBounds. In clear mode no step is, and
+    /// `setbounds` of such a source loses its tag exactly there.
     pub fn step(&mut self, step: &Step) -> Result<(), StepEnd>
         requires { IsStepInRange step.now }
         ensures outcome { MatchResult result
             (λ _. Makes (held_of M.contents self.old) step.now (held_of M.contents self.new))
             (λ end. EndsStep (held_of M.contents self.old) step.now end (held_of M.contents self.new)) }
-        ensures lawful { OnOk result
+        ensures stays_within { OnOk result
             (StaysWithinParents (state_of (held_of M.contents self.old)) step.now (state_of (held_of M.contents self.new))) }
-        ensures escape { EscapesExactly (state_of (held_of M.contents self.old)) step.now result }
+        ensures escape { (result ≡ Err (StepEnd.Refused Refusal.BoundsEscape)) ↔ Escapes self.old.rules (state_of (held_of M.contents self.old)) step.now }
+        ensures clears { OnOk result
+            (ClearsBeyond self.old.rules (state_of (held_of M.contents self.old)) step.now (state_of (held_of M.contents self.new))) }
     {
         self.make(step)
     }
@@ -89,7 +91,7 @@ impl<M: TaggedStore> Machine<M> {
                 length,
                 result: recorded,
             } => {
-                let derived = set_bounds(self.register(source), length, false);
+                let derived = set_bounds_by(self.rules, self.register(source), length, false);
                 self.finish(target, derived, recorded)
             }
             Step::SetBoundsExact {
@@ -98,7 +100,7 @@ impl<M: TaggedStore> Machine<M> {
                 length,
                 result: recorded,
             } => {
-                let derived = set_bounds(self.register(source), length, true);
+                let derived = set_bounds_by(self.rules, self.register(source), length, true);
                 self.finish(target, derived, recorded)
             }
             Step::SetAddr {
@@ -107,7 +109,7 @@ impl<M: TaggedStore> Machine<M> {
                 address,
                 result: recorded,
             } => {
-                let derived = set_addr(self.register(source), address);
+                let derived = set_addr_by(self.rules, self.register(source), address);
                 self.finish(target, derived, recorded)
             }
             Step::AndPerm {
@@ -116,7 +118,7 @@ impl<M: TaggedStore> Machine<M> {
                 mask,
                 result: recorded,
             } => {
-                let derived = and_perm(self.register(source), mask);
+                let derived = and_perm_by(self.rules, self.register(source), mask);
                 self.finish(target, derived, recorded)
             }
             Step::Seal {
@@ -125,7 +127,7 @@ impl<M: TaggedStore> Machine<M> {
                 authority,
                 result: recorded,
             } => {
-                let derived = seal(self.register(source), self.register(authority));
+                let derived = seal_by(self.rules, self.register(source), self.register(authority));
                 self.finish(target, derived, recorded)
             }
             Step::Unseal {
@@ -134,7 +136,7 @@ impl<M: TaggedStore> Machine<M> {
                 authority,
                 result: recorded,
             } => {
-                let derived = unseal(self.register(source), self.register(authority));
+                let derived = unseal_by(self.rules, self.register(source), self.register(authority));
                 self.finish(target, derived, recorded)
             }
             Step::LoadCap {

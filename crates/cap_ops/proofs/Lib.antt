@@ -1,8 +1,10 @@
 pub mod AccessLemmas
 pub mod AddressLemmas
+pub mod ClearLemmas
 pub mod Derivations
 pub mod NarrowingLemmas
 pub mod PermissionLemmas
 pub mod ReplacedFields
 pub mod TestLemmas
 pub mod WithinLemmas
+mod ResultLemmas

@@ -4,14 +4,14 @@ use Rattle.std.proofs.lemmas.Bool.{both_ways, false_from_ne_true, not-false, and
 use Rattle.cap_word.specs.declared.word.Cap.{Cap}
 use Rattle.cap_word.specs.Fields.{address_of}
 use Rattle.cap_bounds.specs.Bounds.{base_of, top_of, IsInside, IsSound}
-use Rattle.cap_bounds.specs.Rounding.{IsExact, rounded_base, rounded_top, rounded_ie, rounded_exponent, rounded_b, rounded_t, rounded_word}
+use Rattle.cap_bounds.specs.Rounding.{HasRounding, IsExact, bounded_word, rounded_base, rounded_top, rounded_ie, rounded_exponent, rounded_b, rounded_t, rounded_word}
 use Rattle.cap_bounds.proofs.BoundedWords.{above-bounded_word}
 use Rattle.cap_bounds.proofs.LeastRounding.{IsInside-rounded, IsInside-requested}
 use Rattle.cap_bounds.proofs.RoundedWords.{AreFields-rounded, base_of-rounded_word, top_of-rounded_word, IsSound-rounded_word}
 use Rattle.cap_ops.specs.declared.faults.OpFault.{OpFault}
 use Rattle.cap_ops.specs.declared.faults.OpFault.TheVariants.{SourceSealed, BoundsEscape, NotExact}
 use Rattle.cap_ops.specs.Authority.{IsWithin, StaysWithin}
-use Rattle.cap_ops.specs.Operations.{covers, is_exact, set_bounds_tests, set_bounds_result}
+use Rattle.cap_ops.specs.Operations.{covers, is_exact, set_bounds_tests, set_bounds_result, with_word}
 use Rattle.cap_ops.specs.Permissions.{is_sealed}
 use Rattle.cap_ops.specs.Tests.{first_of}
 use Rattle.cap_ops.proofs.ReplacedFields.{perms_of-high}
@@ -70,6 +70,25 @@ escapes_since true false false rounds t u h = refl
 escapes_since true true covered rounds t u h = cc
 escapes_since false seal covered rounds t u h = cc
 
+held_since : (tagged seal covered rounds : Bool) → first_fault tagged seal covered rounds ≡ Some BoundsEscape → (tagged ≡ true) × (seal ≡ false)
+unfolding first_fault
+held_since true false covered rounds h = (refl, refl)
+held_since true true covered rounds h = cc
+held_since false seal covered rounds h = cc
+
+-- only a tagged, unsealed source meets that test
+pub BoundsEscape-source : (source : Cap) (length : ℕ) (exact : Bool) → first_of (set_bounds_tests source length exact) ≡ Some BoundsEscape
+    → (source.tag ≡ true) × (is_sealed source.word.0 ≡ false)
+BoundsEscape-source source length exact h = held_since source.tag (is_sealed source.word.0) _ _ (sym (first_of-set_bounds source length exact) ∙ h)
+
+passes_since : (tagged seal covered rounds : Bool) → tagged ≡ true → seal ≡ false → covered ≡ true → rounds ≡ false → first_fault tagged seal covered rounds ≡ None
+unfolding first_fault
+passes_since true false true false t u h k = refl
+passes_since true false true true t u h k = cc
+passes_since true false false rounds t u h k = cc
+passes_since true true covered rounds t u h k = cc
+passes_since false seal covered rounds t u h k = cc
+
 escaped_since : (tagged seal covered rounds : Bool) → first_fault tagged seal covered rounds ≡ Some BoundsEscape → covered ≡ false
 unfolding first_fault
 escaped_since true false true true h = cc
@@ -87,12 +106,22 @@ module _ (source : Cap) (length : ℕ) (exact : Bool) (fits : length < 2 ^ 64) (
       let lost = escaped_since source.tag (is_sealed w) _ (exact && not (is_exact base length)) (sym (first_of-set_bounds source length exact) ∙ h) in
       both_ways _ lost (covers-inside w (rounded_base base length) (rounded_top base length) (IsInside-rounded w base length fits sound inside))
 
-  first_escapes : (IsInside (address_of source.word.0) (address_of source.word.0 + length) (base_of source.word.0) (top_of source.word.0) → ⊥) → first_of (set_bounds_tests source length exact) ≡ Some BoundsEscape
+  pub first_escapes : (IsInside (address_of source.word.0) (address_of source.word.0 + length) (base_of source.word.0) (top_of source.word.0) → ⊥) → first_of (set_bounds_tests source length exact) ≡ Some BoundsEscape
   first_escapes outside =
       let w = source.word.0 in
       let base = address_of w in
       let lost = false_from_ne_true (covers w (rounded_base base length) (rounded_top base length)) (λ h. outside (IsInside-requested base length (base_of w) (top_of w) (IsInside-covers w _ _ h))) in
       first_of-set_bounds source length exact ∙ escapes_since source.tag (is_sealed w) _ (exact && not (is_exact base length)) tagged unsealed lost
+
+  -- requested bounds inside the source's pass, where they may be rounded
+  pub inside_passes : exact ≡ false → IsInside (address_of source.word.0) (address_of source.word.0 + length) (base_of source.word.0) (top_of source.word.0)
+      → first_of (set_bounds_tests source length exact) ≡ None
+  inside_passes inexact inside =
+      let w = source.word.0 in
+      let base = address_of w in
+      let kept = covers-inside w (rounded_base base length) (rounded_top base length) (IsInside-rounded w base length fits sound inside) in
+      first_of-set_bounds source length exact
+      ∙ passes_since source.tag (is_sealed w) _ (exact && not (is_exact base length)) tagged unsealed kept (ap (λ (b : Bool). b && not (is_exact base length)) inexact)
 
 pub BoundsEscape-exact : (source : Cap) (length : ℕ) (exact : Bool) (result : Result Cap OpFault) → length < 2 ^ 64 → EndsWith result (set_bounds_tests source length exact) (set_bounds_result source length)
     → source.tag ≡ true → is_sealed source.word.0 ≡ false → IsSound source.word.0
@@ -103,3 +132,17 @@ BoundsEscape-exact source length exact (Err fault) fits ends tagged unsealed sou
   λ e. let which : fault ≡ BoundsEscape = cc in escapes_first source length exact fits tagged unsealed sound (ends ∙ ap Some which),
   λ outside. let first = first_escapes source length exact fits tagged unsealed sound outside in cc,
 )
+
+-- the source with the word that the code makes is the result
+pub set_bounds_result-made : (source : Cap) (v length : ℕ) (ie : Bool) (e b t address : ℕ) → address ≡ address_of source.word.0 → HasRounding ie e b t (address_of source.word.0) length → v ≡ bounded_word source.word.0 ie e b t address → with_word source v ≡ set_bounds_result source length
+unfolding set_bounds_result
+set_bounds_result-made source v length ie e b t address at fields is_bounded =
+    let w = source.word.0 in
+    let base = address_of w in
+    ap (with_word source) (
+    is_bounded
+    ∙ ap (λ (x : Bool). bounded_word w x e b t address) fields.0
+    ∙ ap (λ (x : ℕ). bounded_word w (rounded_ie length) x b t address) fields.1
+    ∙ ap (λ (x : ℕ). bounded_word w (rounded_ie length) (rounded_exponent base length) x t address) fields.2
+    ∙ ap (λ (x : ℕ). bounded_word w (rounded_ie length) (rounded_exponent base length) (rounded_b base length) x address) fields.3
+    ∙ ap (λ (x : ℕ). bounded_word w (rounded_ie length) (rounded_exponent base length) (rounded_b base length) (rounded_t base length) x) at)

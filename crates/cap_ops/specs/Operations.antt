@@ -2,7 +2,7 @@
 -- (UCAM-CL-TR-987, the descriptions of CSetBounds, CSetBoundsExact, CSetAddr, CAndPerm, CSeal, CUnseal and
 -- CClearTag for CHERI-RISC-V). The order of the tests, and that an untagged source meets none where no
 -- authority is needed, are this profile's own.
-use Rattle.std.specs.Prelude.{ℕ, ◌+◌, ◌*◌, ◌/◌, ◌%◌, ◌^◌, Bool, false, not, ◌&&◌, ◌==◌, nat_lt, nat_le, List, [], ◌∷◌, ◌++◌, if◌then◌else◌, bit_and}
+use Rattle.std.specs.Prelude.{ℕ, ◌+◌, ◌*◌, ◌/◌, ◌%◌, ◌^◌, Bool, false, not, ◌&&◌, ◌==◌, nat_lt, nat_le, List, [], ◌∷◌, ◌++◌, if◌then◌else◌, is_some, bit_and, ◌≡◌, IsTrue, None, Result, MatchResult}
 use Rattle.cap_word.specs.declared.word.Cap.{Cap}
 use Rattle.cap_word.specs.Fields.{address_of, bit_of, otype_of, perms_of}
 use Rattle.cap_bounds.specs.Bounds.{base_of, top_of}
@@ -10,6 +10,7 @@ use Rattle.cap_bounds.specs.Range.{with_address}
 use Rattle.cap_bounds.specs.Rounding.{rounded_base, rounded_top, rounded_word}
 use Rattle.cap_ops.specs.declared.faults.OpFault.{OpFault}
 use Rattle.cap_ops.specs.declared.faults.OpFault.TheVariants.{SourceUntagged, SourceSealed, BoundsEscape, NotExact, NotRepresentable, AuthorityUntagged, AuthoritySealed, AuthorityPermission, AuthorityBounds, TypeOutOfRange, TypeMismatch}
+use Rattle.cap_ops.specs.Tests.{first_of}
 use Rattle.cap_ops.specs.Permissions.{has_permission, perm_view_of, perms_from_view, is_sealed, with_perms, with_type, unsealed_type, greatest_type, global, permit_seal, permit_unseal}
 
 -- a capability with another word
@@ -19,6 +20,18 @@ with_word cap w = record cap { word = record { 0 = w } }
 -- a capability without its tag
 abbrev pub cleared : Cap → Cap
 cleared cap = record cap { tag = false }
+
+-- the result of an operation in clear mode: it loses its tag where a test holds
+abbrev pub clear_result : List (Bool × OpFault) → Cap → Cap
+clear_result tests result = if is_some (first_of tests) then cleared result else result
+
+-- what has a tag in clear mode is what the strict operation gives: no test holds, and it is that result
+abbrev pub IsStrictWhereTagged : List (Bool × OpFault) → Cap → Cap → Type 0
+IsStrictWhereTagged tests result made = IsTrue made.tag → (first_of tests ≡ None) × (made ≡ result)
+
+-- what a call gave, or where it refused the result without its tag
+abbrev pub Clears : Result Cap OpFault → Cap → Cap → Type 0
+Clears outcome result made = MatchResult outcome (λ cap. made ≡ cap) (λ fault. made ≡ cleared result)
 
 -- the interval from base to top lies inside the bounds of a word
 unfoldable pub covers : ℕ → ℕ → ℕ → Bool

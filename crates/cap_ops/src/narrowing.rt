@@ -66,7 +66,7 @@ pub fn set_bounds(source: Cap, length: u64, exact: bool) -> Result<Cap, OpFault>
     ensures outcome { MatchResult result
         (λ cap. (first_of (set_bounds_tests source length exact) ≡ None) × (cap ≡ set_bounds_result source length))
         (λ fault. first_of (set_bounds_tests source length exact) ≡ Some fault) }
-    ensures lawful { IfOk result (λ cap. StaysWithin cap source) }
+    ensures stays_within { IfOk result (λ cap. StaysWithin cap source) }
     ensures escape { IsTrue source.tag → IsFalse (is_sealed source.word.0) → IsSound source.word.0
         → (result ≡ Err OpFault.BoundsEscape) ↔ (¬ IsInside (address_of source.word.0)
         (address_of source.word.0 + length) (base_of source.word.0) (top_of source.word.0)) }
@@ -77,6 +77,17 @@ pub fn set_bounds(source: Cap, length: u64, exact: bool) -> Result<Cap, OpFault>
             tag: source.tag,
             word: with_bounds(source.word, &rounded, address(source.word)),
         }),
+    }
+}
+
+/// The source with the rounded bounds of the length from its address on.
+pub(crate) fn narrowed(source: Cap, length: u64) -> Cap
+    ensures { result ≡ set_bounds_result source length }
+{
+    let rounded = rounding_of(source.word, length);
+    Cap {
+        tag: source.tag,
+        word: with_bounds(source.word, &rounded, address(source.word)),
     }
 }
 

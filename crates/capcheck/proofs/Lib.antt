@@ -2,6 +2,8 @@ mod ResultLemmas
 mod LogLemmas
 mod ProgressLemmas
 mod JudgeLemmas
+mod VersionLemmas
+mod HeaderLemmas
 mod LineLemmas
 mod MemoryTexts
 mod SoundTests

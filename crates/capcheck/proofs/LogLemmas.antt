@@ -6,13 +6,14 @@ use Rattle.std.proofs.lemmas.Bool.{false≢true, eqb-true, eqb-false}
 use Rattle.cap_word.specs.declared.word.Cap.{Cap}
 use Rattle.cap_log.specs.declared.lines.Place.{Place}
 use Rattle.cap_log.specs.declared.lines.Line.{Line}
-use Rattle.cap_log.specs.declared.lines.Line.TheVariants.{Version, Root, Step}
+use Rattle.cap_log.specs.declared.lines.Line.TheVariants.{Root, Step}
 use Rattle.cap_log.specs.declared.lines.Step as steps_module
 use Rattle.cap_machine.specs.States.{State, DeclaredRoot, key_of, tagged, is_taken, start}
 use Rattle.cap_machine.specs.Steps.{Leads}
-use Rattle.cap_machine.specs.Tallies.{Tally, with_root, with_step}
+use Rattle.cap_machine.specs.declared.rules.Rules.{Rules}
+use Rattle.cap_machine.specs.Accounts.{Account, with_root, with_step}
 use Rattle.cap_machine.specs.Runs.{IsRun, last_of}
-use Rattle.capcheck.specs.Logs.{body_lines, tally_roots, tally_steps}
+use Rattle.capcheck.specs.Logs.{header_lines, body_lines, after_roots, after_steps}
 
 -- what holds of each element of two lists holds of each element of both together
 pub AllByRecursion-append : {X : Type 0} (P : X → Type 0) (xs ys : List X) → AllByRecursion P xs → AllByRecursion P ys → AllByRecursion P (xs ++ ys)
@@ -59,12 +60,12 @@ start-push (first ∷ roots) root key new =
     (λ a b. eqb-false _ _ parts.0 (eqb-true _ _ a ∙ sym (eqb-true _ _ b)))
 
 -- one step more
-pub IsRun-push : (state : State) (steps : List steps_module.Step) (states : List State) (step : steps_module.Step) (next : State)
-    → IsRun state steps states → Leads (last_of state states) step next → IsRun state (steps ++ step ∷ []) (states ++ next ∷ [])
-IsRun-push state [] [] step next run leads = (leads, tt)
-IsRun-push state (first ∷ steps) (middle ∷ states) step next run leads = (run.0, IsRun-push middle steps states step next run.1 leads)
-IsRun-push state [] (middle ∷ states) step next run leads = absurd run
-IsRun-push state (first ∷ steps) [] step next run leads = absurd run
+pub IsRun-push : (rules : Rules) (state : State) (steps : List steps_module.Step) (states : List State) (step : steps_module.Step) (next : State)
+    → IsRun rules state steps states → Leads rules (last_of state states) step next → IsRun rules state (steps ++ step ∷ []) (states ++ next ∷ [])
+IsRun-push rules state [] [] step next run leads = (leads, tt)
+IsRun-push rules state (first ∷ steps) (middle ∷ states) step next run leads = (run.0, IsRun-push rules middle steps states step next run.1 leads)
+IsRun-push rules state [] (middle ∷ states) step next run leads = absurd run
+IsRun-push rules state (first ∷ steps) [] step next run leads = absurd run
 
 pub last_of-push : (state : State) (states : List State) (next : State) → last_of state (states ++ next ∷ []) ≡ next
 last_of-push state [] next = refl
@@ -79,32 +80,37 @@ pub length-push : {X : Type 0} (xs : List X) (x : X) → length (xs ++ x ∷ [])
 length-push [] x = refl
 length-push (y ∷ xs) x = let more = length-push xs x in omega arith
 
-pub steps_push : (roots : List DeclaredRoot) (steps : List steps_module.Step) (step : steps_module.Step)
-    → body_lines roots (steps ++ step ∷ []) ≡ body_lines roots steps ++ Step step ∷ []
-steps_push roots steps step = rw (map-push Step steps step) (search (rules, append_assoc))
+pub steps_push : (rules_are : Rules) (roots : List DeclaredRoot) (steps : List steps_module.Step) (step : steps_module.Step)
+    → body_lines rules_are roots (steps ++ step ∷ []) ≡ body_lines rules_are roots steps ++ Step step ∷ []
+steps_push rules_are roots steps step =
+    let header = header_lines rules_are in
+    let before = map (λ (r : DeclaredRoot). Root r.place r.word) roots in
+    ap (λ (lines : List Line). header ++ (before ++ lines)) (map-push Step steps step)
+    ∙ ap (λ (lines : List Line). header ++ lines) (sym (append_assoc before (map Step steps) (Step step ∷ [])))
+    ∙ sym (append_assoc header (before ++ map Step steps) (Step step ∷ []))
 
-pub roots_push : (roots : List DeclaredRoot) (root : DeclaredRoot)
-    → body_lines (roots ++ root ∷ []) [] ≡ body_lines roots [] ++ Root root.place root.word ∷ []
-roots_push roots root =
+pub roots_push : (rules_are : Rules) (roots : List DeclaredRoot) (root : DeclaredRoot)
+    → body_lines rules_are (roots ++ root ∷ []) [] ≡ body_lines rules_are roots [] ++ Root root.place root.word ∷ []
+roots_push rules_are roots root =
     let line = λ (r : DeclaredRoot). Root r.place r.word in
-    ap (λ (lines : List Line). Version ∷ (lines ++ [])) (map-push line roots root)
-    ∙ ap (λ (lines : List Line). Version ∷ lines) (append-nil (map line roots ++ line root ∷ []))
-    ∙ sym (ap (λ (lines : List Line). Version ∷ (lines ++ line root ∷ [])) (append-nil (map line roots)))
+    let header = header_lines rules_are in
+    ap (λ (lines : List Line). header ++ lines) (append-nil (map line (roots ++ root ∷ [])) ∙ map-push line roots root)
+    ∙ sym (append_assoc header (map line roots) (line root ∷ []))
+    ∙ ap (λ (lines : List Line). (header ++ lines) ++ line root ∷ []) (sym (append-nil (map line roots)))
 
 -- a test of what a function makes of the elements
 pub list_any-map : {X Y : Type 0} (f : X → Y) (p : Y → Bool) (xs : List X) → list_any p (map f xs) ≡ list_any (λ x. p (f x)) xs
 list_any-map f p [] = refl
 list_any-map f p (x ∷ xs) = ap (λ b. p (f x) || b) (list_any-map f p xs)
 
--- the tally of one root more
-pub tally_roots-push : (tally : Tally) (roots : List DeclaredRoot) (root : DeclaredRoot) → tally_roots tally (roots ++ root ∷ []) ≡ with_root (tally_roots tally roots) root.place
-tally_roots-push tally [] root = refl
-tally_roots-push tally (first ∷ roots) root = tally_roots-push (with_root tally first.place) roots root
+-- the account of one root more
+pub after_roots-push : (account : Account) (roots : List DeclaredRoot) (root : DeclaredRoot)
+    → after_roots account (roots ++ root ∷ []) ≡ with_root (after_roots account roots) root.place root.word
+after_roots-push account [] root = refl
+after_roots-push account (first ∷ roots) root = after_roots-push (with_root account first.place first.word) roots root
 
--- the tally of one step more
-pub tally_steps-push : (tally : Tally) (state : State) (steps : List steps_module.Step) (states : List State) (step : steps_module.Step) (next : State) → IsRun state steps states
-    → tally_steps tally state (steps ++ step ∷ []) (states ++ next ∷ []) ≡ with_step (tally_steps tally state steps states) (last_of state states) step
-tally_steps-push tally state [] [] step next run = refl
-tally_steps-push tally state (first ∷ steps) (middle ∷ states) step next run = tally_steps-push (with_step tally state first) middle steps states step next run.1
-tally_steps-push tally state [] (middle ∷ states) step next run = absurd run
-tally_steps-push tally state (first ∷ steps) [] step next run = absurd run
+-- the account of one step more
+pub after_steps-push : (account : Account) (steps : List steps_module.Step) (step : steps_module.Step)
+    → after_steps account (steps ++ step ∷ []) ≡ with_step (after_steps account steps) step
+after_steps-push account [] step = refl
+after_steps-push account (first ∷ steps) step = after_steps-push (with_step account first) steps step

@@ -1,4 +1,5 @@
 pub mod Logs
+pub mod Headers
 pub mod Progresses
 pub mod VerdictLines
 pub mod TextLines

@@ -1,22 +1,25 @@
 -- The verdict on some bytes.
-use Rattle.std.specs.Prelude.{◌≡◌, ℕ, List, length, Result, Ok, Err}
+use Rattle.std.specs.Prelude.{◌≡◌, ◌≢◌, ℕ, List, ◌++◌, length, codes, Result, Ok, Err}
 use Rattle.cap_machine.specs.declared.ends.StepEnd.{StepEnd}
 use Rattle.cap_machine.specs.declared.ends.StepEnd.TheVariants.{Refused}
 use Rattle.cap_machine.specs.declared.ends.StepEnd.TheVariants as ends
 use Rattle.cap_log.specs.declared.lines.Step.{Step}
+use Rattle.cap_machine.specs.declared.rules.Rules.{Rules}
+use Rattle.cap_machine.specs.declared.rules.Rules.TheVariants.{One}
 use Rattle.cap_machine.specs.States.{State, DeclaredRoot, start}
 use Rattle.cap_machine.specs.Runs.{IsRun, AuthorityNeverGrows, AccessesLieInside}
 use Rattle.capcheck.specs.declared.verdict.Verdict.{Verdict}
 use Rattle.capcheck.specs.declared.verdict.Verdict.TheVariants.{Yes, No}
 use Rattle.capcheck.specs.declared.verdict.JudgeFault.{JudgeFault}
 use Rattle.capcheck.specs.declared.verdict.JudgeFault.TheVariants.{Pull, NoMemory}
-use Rattle.capcheck.specs.Logs.{IsLogOf, IsFirstFault, MayLackMemory}
+use Rattle.capcheck.specs.Logs.{Beginning, Nothing, NoMode, Body, Whole, IsLogOf, IsFirstFault, MayLackMemory}
 
 -- the bytes are a log of so many steps and roots, whose steps have a run
 pub record IsYes (bytes : List ℕ) (step_count root_count : ℕ) : Type 0 where
+  pub rules : Rules
   pub roots : List DeclaredRoot
   pub steps : List Step
-  pub log : IsLogOf bytes roots steps
+  pub log : IsLogOf bytes rules roots steps
   pub step_count_is : step_count ≡ length steps
   pub root_count_is : root_count ≡ length roots
 
@@ -27,10 +30,10 @@ IsVerdict bytes (No line refusal) = IsFirstFault bytes line refusal
 
 -- along every run that the bytes as a log have, authority never grows and each access lies inside its root (this profile's own)
 pub record IsGuarded (bytes : List ℕ) : Type 0 where
-  pub authority : (roots : List DeclaredRoot) (steps : List Step) (states : List State) → IsLogOf bytes roots steps → IsRun (start roots) steps states
-      → AuthorityNeverGrows roots steps states
-  pub accesses : (roots : List DeclaredRoot) (steps : List Step) (states : List State) → IsLogOf bytes roots steps → IsRun (start roots) steps states
-      → AccessesLieInside roots steps states
+  pub authority : (rules : Rules) (roots : List DeclaredRoot) (steps : List Step) (states : List State) → IsLogOf bytes rules roots steps
+      → IsRun rules (start roots) steps states → AuthorityNeverGrows roots steps states
+  pub accesses : (rules : Rules) (roots : List DeclaredRoot) (steps : List Step) (states : List State) → IsLogOf bytes rules roots steps
+      → IsRun rules (start roots) steps states → AccessesLieInside roots steps states
 
 -- after a yes: what the bytes are a log of is guarded
 abbrev pub GuardsAuthority : List ℕ → Verdict → Type 0
@@ -46,3 +49,19 @@ IsFault bytes NoMemory = MayLackMemory bytes
 abbrev pub answer_at : ℕ → StepEnd → Result Verdict JudgeFault
 answer_at line (Refused refusal) = Ok (No line refusal)
 answer_at line ends.NoMemory = Err NoMemory
+
+-- bytes that do not begin with the line `capcheck 2`
+abbrev pub IsOfVersionOne : List ℕ → Type 0
+IsOfVersionOne bytes = (more : List ℕ) → bytes ≢ codes "capcheck 2\n" ++ more
+
+-- a beginning of a log of version 1
+abbrev pub BeginsOne : Beginning → Type 0
+BeginsOne Nothing = Unit {0}
+BeginsOne NoMode = ⊥
+BeginsOne (Body rules roots steps) = rules ≡ One
+BeginsOne (Whole rules roots steps) = rules ≡ One
+
+-- a verdict that speaks of version 1 alone
+abbrev pub IsByVersionOne : (bytes : List ℕ) (verdict : Verdict) → IsVerdict bytes verdict → Type 0
+IsByVersionOne bytes (Yes steps roots) log = log.rules ≡ One
+IsByVersionOne bytes (No line refusal) fault = BeginsOne fault.beginning

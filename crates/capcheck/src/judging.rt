@@ -1,13 +1,14 @@
 //! The judge: whether bytes are a log whose steps have a run, and if not, which line is the first fault.
 
-ghost use Rattle.std.specs.Prelude.{◌≡◌, ℕ, List, IsOk, IfOk, IfErr};
+ghost use Rattle.std.specs.Prelude.{◌≡◌, ℕ, ◌+◌, ◌≤◌, length, List, IsOk, IfOk, IfErr, true, false};
 ghost use Rattle.std.specs.FinMap as map;
 ghost use Rattle.cap_machine.specs.Helds.{held_of};
 ghost use Rattle.capcheck.specs.Logs.{NamesNoGranules};
 ghost use Rattle.capcheck.specs.Verdicts.{GuardsAuthority, IsFault, IsVerdict, answer_at};
 ghost use Rattle.capcheck.specs.Progresses.{IsAt};
 
-use crate::progress::{Progress, Stage};
+use crate::headers::read_header;
+use crate::progress::Progress;
 use crate::verdict::{JudgeFault, Verdict};
 use cap_log::{Front, front};
 use cap_machine::{Refusal, StepEnd};
@@ -38,11 +39,34 @@ fn judge_over<M: TaggedStore>(memory: M, bytes: &[u8]) -> Result<Verdict, JudgeF
     ensures fault { IfErr result (IsFault bytes.now) }
     ensures answers { NamesNoGranules bytes.now → IsOk result }
 {
-    let mut progress = Progress::new(memory);
-    let mut rest = bytes;
-    let mut line = 1u64;
+    match read_header(bytes) {
+        Err(verdict) => Ok(verdict),
+        Ok(header) => {
+            let progress = Progress::new(memory, header.rules);
+            let rest = &bytes[header.length..];
+            judge_body(progress, bytes, rest, header.lines + 1)
+        }
+    }
+}
+
+// Judges what follows the header, from the line with this number on.
+fn judge_body<M: TaggedStore>(
+    progress: Progress<M>,
+    bytes: &[u8],
+    rest: &[u8],
+    line: u64,
+) -> Result<Verdict, JudgeFault>
+    requires here { IsAt bytes.now (held_of M.contents progress.machine) progress.ended rest.now line }
+    requires few { line + length rest.now ≤ length bytes.now + 1 }
+    ensures verdict { IfOk result (IsVerdict bytes.now) }
+    ensures fault { IfErr result (IsFault bytes.now) }
+    ensures answers { NamesNoGranules bytes.now → IsOk result }
+{
+    let mut progress = progress;
+    let mut rest = rest;
+    let mut line = line;
     'lines: loop {
-        if progress.stage == Stage::Ended {
+        if progress.ended {
             return Ok(end_verdict(&progress, rest, line));
         }
         match front(rest) {
@@ -71,8 +95,8 @@ fn judge_over<M: TaggedStore>(memory: M, bytes: &[u8]) -> Result<Verdict, JudgeF
 
 // The verdict after the end line: any byte that follows is misplaced.
 fn end_verdict<M: TaggedStore>(progress: &Progress<M>, rest: &[u8], line: u64) -> Verdict
-    requires { progress.now.stage ≡ Stage.Ended }
-    ensures { (bytes : List ℕ) → IsAt bytes (held_of M.contents progress.now.machine) progress.now.stage rest.now line → IsVerdict bytes result }
+    requires { progress.now.ended ≡ true }
+    ensures { (bytes : List ℕ) → IsAt bytes (held_of M.contents progress.now.machine) progress.now.ended rest.now line → IsVerdict bytes result }
 {
     if rest.is_empty() {
         Verdict::Yes {

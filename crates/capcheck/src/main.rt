@@ -5,6 +5,7 @@
 pub mod buffers;
 pub mod explain_lines;
 pub mod faults;
+pub mod headers;
 pub mod judging;
 pub mod laws;
 pub mod progress;

@@ -42,6 +42,8 @@ fn read_head(word: &[u8]) -> Option<Head>
         Some(Head::End)
     } else if word == b"capcheck".as_slice() {
         Some(Head::Version)
+    } else if word == b"mode".as_slice() {
+        Some(Head::Mode)
     } else {
         None
     }
@@ -67,6 +69,7 @@ fn head_text(head: Head) -> &'static [u8]
 {
     match head {
         Head::Version => b"capcheck",
+        Head::Mode => b"mode",
         Head::Root => b"root",
         Head::Registers(RegisterStep::Move) => b"move",
         Head::Registers(RegisterStep::ClearTag) => b"cleartag",

@@ -31,7 +31,7 @@ fn refuses(rt: &impl Abort, bytes: &[u8]) {
 
 #[test]
 fn reads_versions_roots_and_ends(rt: HostRuntime) {
-    reads(&rt, b"capcheck 1", Line::Version);
+    reads(&rt, b"capcheck 1", Line::Version(1));
     reads(
         &rt,
         b"root c1 ffff1ffffc0180040000000000000000",

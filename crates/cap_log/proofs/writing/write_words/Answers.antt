@@ -17,9 +17,6 @@ write-requires-in-End-clause-room c =
     let fits = rw c.in-End.is at c.requires.in_range in
     line_room (line.End c.in-End.steps) fits _ c.requires.room
 
-pub returns-in-Version : goal.returns-in-Version
-returns-in-Version c = rw c.in-Version.is (line_written line.Version _ _ _ c.put.ensures)
-
 pub returns-in-Root : goal.returns-in-Root
 returns-in-Root c = rw c.in-Root.is (line_written (line.Root c.in-Root.place c.in-Root.word) _ _ _ c.write.ensures)
 

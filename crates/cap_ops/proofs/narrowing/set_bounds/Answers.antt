@@ -3,23 +3,9 @@ use Rattle.cap_word.specs.declared.word.Cap.{Cap}
 use Rattle.cap_word.specs.Fields.{address_of}
 use Rattle.cap_bounds.specs.Rounding.{HasRounding, bounded_word, rounded_ie, rounded_exponent, rounded_b, rounded_t}
 use Rattle.cap_ops.specs.Operations.{set_bounds_result, with_word}
-use Rattle.cap_ops.proofs.NarrowingLemmas.{BoundsEscape-exact, StaysWithin-set_bounds}
+use Rattle.cap_ops.proofs.NarrowingLemmas.{BoundsEscape-exact, StaysWithin-set_bounds, set_bounds_result-made}
 use Rattle.cap_ops.proofs.WithinLemmas.{StaysWithin-same}
 use Rattle.cap_ops.proofs.narrowing.set_bounds.Goals as goal
-
--- the source with the word that the code makes is the result
-made : (source : Cap) (v length : ℕ) (ie : Bool) (e b t address : ℕ) → address ≡ address_of source.word.0 → HasRounding ie e b t (address_of source.word.0) length → v ≡ bounded_word source.word.0 ie e b t address → with_word source v ≡ set_bounds_result source length
-unfolding set_bounds_result
-made source v length ie e b t address at fields is_bounded =
-    let w = source.word.0 in
-    let base = address_of w in
-    ap (with_word source) (
-    is_bounded
-    ∙ ap (λ (x : Bool). bounded_word w x e b t address) fields.0
-    ∙ ap (λ (x : ℕ). bounded_word w (rounded_ie length) x b t address) fields.1
-    ∙ ap (λ (x : ℕ). bounded_word w (rounded_ie length) (rounded_exponent base length) x t address) fields.2
-    ∙ ap (λ (x : ℕ). bounded_word w (rounded_ie length) (rounded_exponent base length) (rounded_b base length) x address) fields.3
-    ∙ ap (λ (x : ℕ). bounded_word w (rounded_ie length) (rounded_exponent base length) (rounded_b base length) (rounded_t base length) x) at)
 
 pub returns-in-Err-clause-escape : goal.returns-in-Err-clause-escape
 returns-in-Err-clause-escape c =
@@ -28,18 +14,18 @@ returns-in-Err-clause-escape c =
 
 pub returns-in-Ok-clause-outcome : goal.returns-in-Ok-clause-outcome
 returns-in-Ok-clause-outcome c =
-    (c.in-Ok.ensures.0, made c.args.source c.with_bounds.result.0 c.args.length _ _ _ _ _ c.address.ensures c.in-Ok.ensures.1 c.with_bounds.ensures.word)
+    (c.in-Ok.ensures.0, set_bounds_result-made c.args.source c.with_bounds.result.0 c.args.length _ _ _ _ _ c.address.ensures c.in-Ok.ensures.1 c.with_bounds.ensures.word)
 
-pub returns-in-Ok-clause-lawful : goal.returns-in-Ok-clause-lawful
-returns-in-Ok-clause-lawful c =
+pub returns-in-Ok-clause-stays_within : goal.returns-in-Ok-clause-stays_within
+returns-in-Ok-clause-stays_within c =
     let source = c.args.source in
     let fits : c.args.length < 2 ^ 64 = omega arith in
-    let result_is = made source c.with_bounds.result.0 c.args.length _ _ _ _ _ c.address.ensures c.in-Ok.ensures.1 c.with_bounds.ensures.word in
+    let result_is = set_bounds_result-made source c.with_bounds.result.0 c.args.length _ _ _ _ _ c.address.ensures c.in-Ok.ensures.1 c.with_bounds.ensures.word in
     StaysWithin-same record { tag = source.tag; word = c.with_bounds.result } _ source result_is (StaysWithin-set_bounds source c.args.length c.args.exact fits c.in-Ok.ensures.0)
 
 pub returns-in-Ok-clause-escape : goal.returns-in-Ok-clause-escape
 returns-in-Ok-clause-escape c =
     let source = c.args.source in
     let fits : c.args.length < 2 ^ 64 = omega arith in
-    let result_is = made source c.with_bounds.result.0 c.args.length _ _ _ _ _ c.address.ensures c.in-Ok.ensures.1 c.with_bounds.ensures.word in
+    let result_is = set_bounds_result-made source c.with_bounds.result.0 c.args.length _ _ _ _ _ c.address.ensures c.in-Ok.ensures.1 c.with_bounds.ensures.word in
     BoundsEscape-exact source c.args.length c.args.exact (Ok record { tag = source.tag; word = c.with_bounds.result }) fits (c.in-Ok.ensures.0, result_is)

@@ -1,26 +1,13 @@
-use Rattle.std.proofs.Common.{rules, take, drop, ◌+◌}
+use Rattle.std.proofs.Common.{ℕ, List, ◌+◌, subst, sym}
 use Rattle.cap_machine.specs.Helds.{held_of}
-use Rattle.capcheck.specs.Verdicts.{IsVerdict, IsFault, answer_at}
-use Rattle.capcheck.proofs.JudgeLemmas.{line_ended, ok_half, err_half, answered}
+use Rattle.capcheck.specs.Progresses.{IsAt}
+use Rattle.capcheck.proofs.HeaderLemmas.{at_body, tail_slice}
 use Rattle.capcheck.proofs.judging.judge_over.Goals as goal
 
-pub returns-in-Err-clause-verdict : goal.returns-in-Err-clause-verdict
-returns-in-Err-clause-verdict g c =
-    let n = c.in-Line.length in
-    let rest = c.lines.rest.now in
-    let held = held_of g.M.TaggedStore.contents c.lines.progress.machine in
-    let both = line_ended c.args.bytes.now rest (take n rest) (drop (n + 1) rest) held c.lines.progress.stage c.lines.line c.in-Err.end
-    c.lines.invariant.here (search rules) c.in-Line.ensures.1 c.in-Err.ensures.err in
-    ok_half c.answer_at.result (answer_at c.lines.line c.in-Err.end) (IsVerdict c.args.bytes.now) (IsFault c.args.bytes.now) c.answer_at.ensures both
-
-pub returns-in-Err-clause-fault : goal.returns-in-Err-clause-fault
-returns-in-Err-clause-fault g c =
-    let n = c.in-Line.length in
-    let rest = c.lines.rest.now in
-    let held = held_of g.M.TaggedStore.contents c.lines.progress.machine in
-    let both = line_ended c.args.bytes.now rest (take n rest) (drop (n + 1) rest) held c.lines.progress.stage c.lines.line c.in-Err.end
-    c.lines.invariant.here (search rules) c.in-Line.ensures.1 c.in-Err.ensures.err in
-    err_half c.answer_at.result (answer_at c.lines.line c.in-Err.end) (IsVerdict c.args.bytes.now) (IsFault c.args.bytes.now) c.answer_at.ensures both
-
-pub returns-in-Err-clause-answers : goal.returns-in-Err-clause-answers
-returns-in-Err-clause-answers g c = answered c.args.bytes.now c.answer_at.result (returns-in-Err-clause-fault g c)
+pub judge_body-requires-clause-here : goal.judge_body-requires-clause-here
+judge_body-requires-clause-here g c =
+    let bytes = c.args.bytes.now in
+    let header = c.in-Ok.header in
+    let held = held_of g.M.TaggedStore.contents c.new-progress.result.machine in
+    subst (λ (rest : List ℕ). IsAt bytes held c.new-progress.result.ended rest (header.lines + 1)) (sym (tail_slice header.length bytes))
+    (at_body bytes header.rules header.length header.lines held c.new-progress.result.ended c.in-Ok.ensures c.new-progress.ensures)

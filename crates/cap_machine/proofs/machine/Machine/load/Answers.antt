@@ -56,4 +56,4 @@ returns-in-Err g c =
     let fault = c.in-Err.fault in
     let found = at_state (λ authority offset. first_of (access_tests authority kinds.LoadData offset c.args.size) ≡ Some fault)
     _ (state_of old c.args.authority) c.args.offset (search rules) c.register.ensures.holds c.in-Err.ensures.outcome in
-    faulted_as old (steps.Load c.args.authority c.args.offset c.args.size c.args.value) fault c.from.result found c.from.ensures
+    faulted_as old (steps.Load c.args.authority c.args.offset c.args.size c.args.value) _ fault c.from.result refl found c.from.ensures

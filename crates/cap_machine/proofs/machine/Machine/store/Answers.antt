@@ -1,4 +1,4 @@
-use Rattle.std.proofs.Common.{◌≡◌, ℕ, ℤ, ◌/◌, ◌%◌, subst, rules, Some, None}
+use Rattle.std.proofs.Common.{refl, ◌≡◌, ℕ, ℤ, ◌/◌, ◌%◌, subst, rules, Some, None}
 use Rattle.std.proofs.lemmas.Int.{to_z-of_z}
 use Rattle.std.specs.Prelude.{FitsSigned}
 use Rattle.std.specs.Int.{w16, cast_signed, cast_unsigned}
@@ -32,4 +32,4 @@ returns-in-Err g c =
     let fault = c.in-Err.fault in
     let found = at_state (λ authority offset. first_of (access_tests authority kinds.StoreData offset c.args.size) ≡ Some fault)
     _ (state_of old c.args.authority) c.args.offset (search rules) c.register.ensures.holds c.in-Err.ensures.outcome in
-    faulted_as old (steps.Store c.args.authority c.args.offset c.args.size c.args.value) fault c.from.result found c.from.ensures
+    faulted_as old (steps.Store c.args.authority c.args.offset c.args.size c.args.value) _ fault c.from.result refl found c.from.ensures

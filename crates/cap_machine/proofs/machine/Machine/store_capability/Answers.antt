@@ -1,4 +1,4 @@
-use Rattle.std.proofs.Common.{◌≡◌, ◌<◌, ℕ, ℤ, ◌/◌, ◌^◌, subst, rules, Some, None}
+use Rattle.std.proofs.Common.{refl, ◌≡◌, ◌<◌, ℕ, ℤ, ◌/◌, ◌^◌, subst, rules, Some, None}
 use Rattle.std.proofs.lemmas.Int.{to_z-of_z}
 use Rattle.std.specs.Prelude.{FitsSigned}
 use Rattle.std.specs.Int.{w16, cast_signed, cast_unsigned}
@@ -37,4 +37,4 @@ returns-in-Err g c =
     let fault = c.in-Err.fault in
     let found = at_state (λ cap authority offset. first_of (access_tests authority (kinds.StoreCap cap) offset 16) ≡ Some fault)
     _ (state c.args.source) _ (state c.args.authority) c.args.offset (search rules) c.register-stored.ensures.holds c.register.ensures.holds c.in-Err.ensures.outcome in
-    faulted_as old (steps.StoreCap c.args.source c.args.authority c.args.offset) fault c.from.result found c.from.ensures
+    faulted_as old (steps.StoreCap c.args.source c.args.authority c.args.offset) _ fault c.from.result refl found c.from.ensures

@@ -1,17 +1,15 @@
 use Rattle.std.proofs.Common.{ℕ, ap, false}
 use Rattle.std.specs.FinMap as map
 use Rattle.cap_word.specs.declared.word.Cap.{Cap}
-use Rattle.cap_machine.proofs.StateLemmas.{blank_state}
+use Rattle.cap_machine.specs.Parents.{IsSoundState}
+use Rattle.cap_machine.proofs.StateLemmas.{blank_state, blank_account}
 use Rattle.cap_machine.proofs.SoundLemmas.{IsSoundState-blank}
-use Rattle.cap_machine.proofs.machine.Machine.new.Goals as goal
+use Rattle.cap_machine.proofs.machine.Machine.with_rules.Goals as goal
 
-pub returns-clause-state : goal.returns-clause-state
-returns-clause-state g c key =
-    blank_state (g.M.TaggedStore.contents c.args.memory) _ key (map.empty_of_len _ c.requires)
+pub returns : goal.returns
+returns g c =
+    blank_account c.args.rules (g.M.TaggedStore.contents c.args.memory) _ (map.empty_of_len _ c.requires)
     (ap (λ (n : ℕ). let cap : Cap = record { tag = false; word = record { 0 = n } } in cap) c.null.ensures)
-
-pub returns-clause-memory : goal.returns-clause-memory
-returns-clause-memory g c = map.empty_of_len _ c.requires
 
 pub invariant_of-result : goal.invariant_of-result
 invariant_of-result g c = record {

@@ -1,0 +1,106 @@
+-- What a machine's tests see: its rules, its state, and what the limits are measured by; and the tests of roots and steps in their order
+-- (this profile's own).
+use Rattle.std.specs.Prelude.{ℕ, ◌+◌, ◌^◌, Bool, false, ◌==◌, ◌&&◌, ◌||◌, not, nat_le, if◌then◌else◌, List, [], ◌∷◌, ◌++◌, map, Option, Some, None}
+use Rattle.cap_word.specs.declared.word.Word.{Word}
+use Rattle.cap_log.specs.declared.lines.Place.{Place}
+use Rattle.cap_log.specs.declared.lines.Step.{Step}
+use Rattle.cap_bounds.specs.Bounds.{base_of, length_of, top_of}
+use Rattle.cap_ops.specs.declared.faults.OpFault.{OpFault}
+use Rattle.cap_machine.specs.declared.refusal.Refusal.{Refusal}
+use Rattle.cap_machine.specs.declared.refusal.Refusal.TheVariants.{PlaceTaken, UnsoundRoot, WrongResult, LimitPassed}
+use Rattle.cap_machine.specs.declared.rules.Rules.{Rules}
+use Rattle.cap_machine.specs.declared.rules.Rules.TheVariants.{One, TwoStrict, TwoClear}
+use Rattle.cap_machine.specs.Refusals.{refusal_of}
+use Rattle.cap_machine.specs.States.{State, key_of, blank, put, tagged}
+pub use Rattle.cap_machine.specs.Steps.{granule_of, named_by}
+use Rattle.cap_machine.specs.Steps.{Row, row_of, row_by, is_recorded, state_with}
+
+-- an account of a machine: its rules and its state, how many roots were declared and steps made, which granules a root, an sc or a
+-- store has named, and how many these are
+pub record Account : Type 0 where
+  pub rules : Rules
+  pub state : State
+  pub roots : ℕ
+  pub steps : ℕ
+  pub is_named : ℕ → Bool
+  pub granules : ℕ
+
+-- before anything was declared
+abbrev pub no_account : Rules → Account
+no_account rules_are = record { rules = rules_are; state = blank; roots = 0; steps = 0; is_named = λ granule. false; granules = 0 }
+
+-- the greatest number of roots
+abbrev pub most_roots : ℕ
+most_roots = 4096
+
+-- the greatest number of distinct granules that roots, sc and store name
+abbrev pub most_granules : Rules → ℕ
+most_granules One = 65536
+most_granules TwoStrict = 1048576
+most_granules TwoClear = 1048576
+
+-- the greatest number of steps
+abbrev pub most_steps : ℕ
+most_steps = 4294967295
+
+-- the row of a step
+abbrev pub row_in : Account → Step → Row
+row_in account step = row_by account.rules (row_of account.state step)
+
+-- whether a granule is named for the first time
+abbrev pub is_new : Account → Option ℕ → Bool
+is_new account None = false
+is_new account (Some granule) = not (account.is_named granule)
+
+-- whether naming a granule passes the limit on granules
+abbrev pub passes_granules : Account → Option ℕ → Bool
+passes_granules account granule = is_new account granule && nat_le (most_granules account.rules) account.granules
+
+-- the account after a granule was named, or none
+abbrev pub naming : Account → Option ℕ → Account
+naming account None = account
+naming account (Some granule) = record account {
+  is_named = λ other. granule == other || account.is_named other;
+  granules = if account.is_named granule then account.granules else account.granules + 1;
+}
+
+-- the account after one root more
+abbrev pub with_root : Account → Place → Word → Account
+with_root account place word =
+    let named = naming account (granule_of place) in
+    record named { state = put account.state (key_of place) (tagged word); roots = account.roots + 1 }
+
+-- the account after one step more
+abbrev pub with_step : Account → Step → Account
+with_step account step =
+    let row = row_in account step in
+    let named = naming account (named_by row) in
+    record named { state = state_with account.state row.writes; steps = account.steps + 1 }
+
+-- whether a word is sound: its top is its base plus its length, and at most 2^64
+abbrev pub is_sound : ℕ → Bool
+is_sound w = base_of w + length_of w == top_of w && nat_le (top_of w) (2 ^ 64)
+
+-- the tests of a root, in order: its place has a tagged capability already, its word is not sound, a limit is passed
+abbrev pub root_tests : Account → Place → Word → List (Bool × Refusal)
+root_tests account place word =
+    ((account.state (key_of place)).tag, PlaceTaken)
+    ∷ (not (is_sound word.0), UnsoundRoot)
+    ∷ (nat_le most_roots account.roots || passes_granules account (granule_of place), LimitPassed)
+    ∷ []
+
+-- a test of an operation, as a test of a line
+abbrev pub as_line_test : Bool × OpFault → Bool × Refusal
+as_line_test test = (test.0, refusal_of test.1)
+
+-- the tests of a row, in order: its own, then whether its line records another result than the machine's, and whether a limit is passed
+abbrev pub row_tests : Account → Row → List (Bool × Refusal)
+row_tests account row =
+    map as_line_test row.tests
+    ++ (not (is_recorded row), WrongResult)
+    ∷ (nat_le most_steps account.steps || passes_granules account (named_by row), LimitPassed)
+    ∷ []
+
+-- the tests of a step, in order
+abbrev pub step_tests : Account → Step → List (Bool × Refusal)
+step_tests account step = row_tests account (row_in account step)

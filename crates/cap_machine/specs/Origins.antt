@@ -1,0 +1,24 @@
+-- The place of the root that each capability descends from, carried forward.
+use Rattle.std.specs.Prelude.{ℕ, List, [], ◌∷◌, Option, Some, None}
+use Rattle.cap_log.specs.declared.lines.Step.{Step}
+use Rattle.cap_machine.specs.States.{State}
+use Rattle.cap_machine.specs.Runs.{parent_of}
+
+-- the origin of each place, by the place's number (this profile's own, as are all below)
+abbrev pub Origins : Type 0
+Origins = ℕ → Option ℕ
+
+-- the origin of a place that may be none
+abbrev pub origin_at : Origins → Option ℕ → Option ℕ
+origin_at origins None = None
+origin_at origins (Some key) = origins key
+
+-- after a step a place has the origin that its parent had
+abbrev pub origins_after : Origins → State → Step → State → Origins
+origins_after origins state step next key = origin_at origins (parent_of state step next key)
+
+-- the origins after a run
+abbrev pub origins_along : Origins → State → List Step → List State → Origins
+origins_along origins state [] states = origins
+origins_along origins state (step ∷ steps) [] = origins
+origins_along origins state (step ∷ steps) (next ∷ states) = origins_along (origins_after origins state step next) next steps states
