@@ -1,3 +1,4 @@
+pub mod Failings
 pub mod Front
 pub mod Heads
 pub mod Known

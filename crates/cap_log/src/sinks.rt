@@ -3,6 +3,7 @@
 ghost use Rattle.std.specs.Prelude.{◌≡◌, ℕ, ◌≤◌, ◌<◌, List, [], ◌++◌, length, take, IfOk, OnOk, OnErr};
 ghost use Rattle.cap_log.specs.Streams.{next_count};
 
+pub mod failing;
 pub mod slices;
 pub mod writing;
 

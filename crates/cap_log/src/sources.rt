@@ -3,6 +3,7 @@
 ghost use Rattle.std.specs.Prelude.{◌≡◌, ℕ, ◌≤◌, Bool, false, List, [], ◌++◌, length, take, IfOk, OnOk, OnErr};
 ghost use Rattle.cap_log.specs.Streams.{next_count, is_end};
 
+pub mod failing;
 pub mod reading;
 pub mod slices;
 

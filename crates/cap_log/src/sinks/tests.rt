@@ -1,5 +1,6 @@
 //! A sink that is full, and writers that fail or take little.
 
+use super::failing::FailingSink;
 use super::slices::SliceSink;
 use super::writing::WriteSink;
 use super::{PushFault, Sink};
@@ -91,4 +92,29 @@ fn a_writer_that_fails(rt: HostRuntime) {
         assert_eq!(rt; sink.push(b"2"), Err(PushFault));
         assert_eq!(rt; some.taken, *b"yes.....");
     }
+}
+
+#[test]
+fn one_push_fails(rt: HostRuntime) {
+    for at in 0..8 {
+        let mut some = takes(8, true);
+        let mut sink = FailingSink::new(WriteSink::new(&mut some), at);
+        assert_eq!(rt; push_all(&mut sink, b"yes 2 1\n"), Err(PushFault));
+        assert_eq!(rt; push_all(&mut sink, b"!"), Ok(()));
+        assert_eq!(rt; some.count, at as usize + 1);
+        assert_eq!(rt;
+            some.taken.get(..at as usize),
+            b"yes 2 1\n".get(..at as usize)
+        );
+        assert_eq!(rt; some.taken.get(at as usize), Some(&b'!'));
+    }
+}
+
+#[test]
+fn a_push_that_does_not_come(rt: HostRuntime) {
+    let mut room = [b'.'; 8];
+    let mut sink = FailingSink::new(SliceSink::new(&mut room), 1);
+    assert_eq!(rt; push_all(&mut sink, b"yes"), Ok(()));
+    assert_eq!(rt; sink.push(b"!"), Err(PushFault));
+    assert_eq!(rt; room, *b"yes.....");
 }

@@ -1,5 +1,6 @@
 //! The pieces of a slice, and a reader that fails in between.
 
+use super::failing::FailingSource;
 use super::reading::ReadSource;
 use super::slices::SliceSource;
 use super::{PullFault, Source};
@@ -89,4 +90,21 @@ fn a_reader_that_is_interrupted(rt: HostRuntime) {
     gives(&rt, &mut source, 4, b"a");
     assert_eq!(rt; source.pull(&mut piece), Err(PullFault));
     gives(&rt, &mut source, 4, b"");
+}
+
+#[test]
+fn one_pull_fails(rt: HostRuntime) {
+    for at in 0..4 {
+        let mut source = FailingSource::new(SliceSource::new(b"abc", &[1, 1, 1]), at);
+        let mut piece = [0u8; 4];
+        for byte in [b'a', b'b', b'c'].iter().take(at as usize) {
+            gives(&rt, &mut source, 4, &[*byte]);
+        }
+        assert_eq!(rt; source.pull(&mut piece), Err(PullFault));
+        for byte in [b'a', b'b', b'c'].iter().skip(at as usize) {
+            gives(&rt, &mut source, 4, &[*byte]);
+        }
+        gives(&rt, &mut source, 4, b"");
+        gives(&rt, &mut source, 4, b"");
+    }
 }

@@ -2,6 +2,7 @@
 
 use super::Lines;
 use crate::nexts::Next;
+use crate::sources::failing::FailingSource;
 use crate::sources::slices::SliceSource;
 use crate::sources::{PullFault, Source};
 use std::process::Abort;
@@ -140,4 +141,47 @@ fn a_line_without_end(rt: HostRuntime) {
     let mut lines = Lines::new();
     gives(&rt, &mut lines, &mut Endless, Ok(Next::LineTooLong));
     gives(&rt, &mut lines, &mut Endless, Ok(Next::LineTooLong));
+}
+
+// The lines before pull number `at`, which fails, and the fault for good.
+#[test]
+fn a_fault_is_for_good(rt: HostRuntime) {
+    for at in 0..TEXT.len() as u64 + 1 {
+        let mut source = FailingSource::new(SliceSource::new(TEXT, &[1; 20]), at);
+        let mut lines = Lines::new();
+        if at > 10 {
+            gives(&rt, &mut lines, &mut source, Ok(Next::Line(b"capcheck 1")));
+        }
+        if at > 11 {
+            gives(&rt, &mut lines, &mut source, Ok(Next::Line(b"")));
+        }
+        if at > 17 {
+            gives(&rt, &mut lines, &mut source, Ok(Next::Line(b"end 0")));
+        }
+        gives(&rt, &mut lines, &mut source, Err(PullFault));
+        gives(&rt, &mut lines, &mut source, Err(PullFault));
+        let mut other = SliceSource::new(TEXT, &[]);
+        gives(&rt, &mut lines, &mut other, Err(PullFault));
+        gives(
+            &rt,
+            &mut Lines::new(),
+            &mut other,
+            Ok(Next::Line(b"capcheck 1")),
+        );
+    }
+}
+
+#[test]
+fn what_is_kept_comes_before_a_fault(rt: HostRuntime) {
+    let mut source = FailingSource::new(SliceSource::new(TEXT, &[]), 1);
+    let mut lines = Lines::new();
+    gives(&rt, &mut lines, &mut source, Ok(Next::Line(b"capcheck 1")));
+    gives(&rt, &mut lines, &mut source, Ok(Next::Line(b"")));
+    gives(&rt, &mut lines, &mut source, Ok(Next::Line(b"end 0")));
+    gives(&rt, &mut lines, &mut source, Err(PullFault));
+    let long = [b'x'; 96];
+    let mut source = FailingSource::new(SliceSource::new(&long, &[]), 1);
+    gives(&rt, &mut Lines::new(), &mut source, Ok(Next::LineTooLong));
+    let mut source = FailingSource::new(SliceSource::new(&long[1..], &[]), 1);
+    gives(&rt, &mut Lines::new(), &mut source, Err(PullFault));
 }
