@@ -217,16 +217,27 @@ few_body : (rules_are : Rules) (roots : List DeclaredRoot) (steps : List _)
     → length (body_lines rules_are roots steps) ≡ length (header_lines rules_are) + (length roots + length steps)
 few_body rules_are roots steps =
     let root_line = λ (root : DeclaredRoot). lines.Root root.place root.word in
-    omega (arith, length-append (header_lines rules_are) (map root_line roots ++ map lines.Step steps), length-append (map root_line roots) (map lines.Step steps),
-    length-map roots root_line, length-map steps lines.Step)
+    omega (
+      arith,
+      length-append (header_lines rules_are) (map root_line roots ++ map lines.Step steps),
+      length-append (map root_line roots) (map lines.Step steps),
+      length-map roots root_line,
+      length-map steps lines.Step,
+    )
 
 few_lines : (beginning : Beginning) → IsAccepted beginning → length (lines_of beginning) ≤ 4294971394
 few_lines Nothing accepted = omega arith
 few_lines NoMode accepted = omega arith
 few_lines (Body rules_are roots steps) accepted = omega (arith, accepted.few_roots, accepted.few_steps, few_header rules_are, few_body rules_are roots steps)
 few_lines (Whole rules_are roots steps) accepted =
-    omega (arith, accepted.few_roots, accepted.few_steps, few_header rules_are, few_body rules_are roots steps,
-    length-append (body_lines rules_are roots steps) (lines.End (length steps) ∷ []))
+    omega (
+      arith,
+      accepted.few_roots,
+      accepted.few_steps,
+      few_header rules_are,
+      few_body rules_are roots steps,
+      length-append (body_lines rules_are roots steps) (lines.End (length steps) ∷ []),
+    )
 
 pub few_at : (bytes : List ℕ) (held : Held) (now : Bool) (rest : List ℕ) (line : ℕ) → IsAt bytes held now rest line → line ≤ 4294971395
 few_at bytes held now rest line here =

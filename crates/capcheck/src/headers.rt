@@ -13,9 +13,8 @@ ghost use Rattle.capcheck.specs.declared.verdict.JudgeFault.TheVariants.{Pull};
 ghost use Rattle.capcheck.specs.declared.verdict.Verdict.TheVariants.{No};
 
 use crate::verdict::{JudgeFault, Verdict};
-use cap_log::{Line, Mode, read_line};
+use cap_log::{Line, Lines, Mode, Next, PullFault, Source, read_line};
 use cap_machine::{Refusal, Rules};
-use cap_log::{Lines, Next, PullFault, Source};
 
 /// Reads the header of a log from lines that were not begun, or gives the answer that its first fault
 /// makes.

@@ -35,7 +35,11 @@ pub fn judge_reader<R: Read + Drop, O: Write>(
 }
 
 // Judges a source and writes the verdict.
-fn report<S: Source, O: Write>(alloc: Global, source: &mut S, out: &mut O) -> Result<Verdict, JudgeToFault>
+fn report<S: Source, O: Write>(
+    alloc: Global,
+    source: &mut S,
+    out: &mut O,
+) -> Result<Verdict, JudgeToFault>
     ensures reported { Reported S.gave S.ended (λ a b xs. Appends (O.contents a) (O.contents b) xs) source.old source.new out.old out.new result }
 {
     judge_to(alloc, source, &mut WriteSink::new(out))

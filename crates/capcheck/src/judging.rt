@@ -12,10 +12,10 @@ ghost use Rattle.capcheck.specs.declared.verdict.JudgeFault.TheVariants.{Pull};
 use crate::headers::{first_line, read_header};
 use crate::progress::Progress;
 use crate::verdict::{JudgeFault, Verdict};
-use cap_machine::{Refusal, StepEnd};
 use cap_log::{Lines, Next, PullFault, SliceSource, Source};
+use cap_machine::{Refusal, StepEnd};
 use std::alloc::Global;
-use tagmem::{ListStore, TaggedStore};
+use tagmem::{PageStore, TaggedStore};
 
 /// Judges the bytes of a log. It is `Yes` exactly for a log whose steps have a run from its roots, and
 /// otherwise `No` with the first fault. Memory is taken only where a line names a granule for the first
@@ -48,7 +48,7 @@ pub fn judge<S: Source>(alloc: Global, source: &mut S) -> Result<Verdict, JudgeF
     ensures counted { result ≢ Err Pull → S.faults source.new ≡ S.faults source.old }
     ensures fault_counted { result ≡ Err Pull → S.faults source.new ≡ next_count (S.faults source.old) }
 {
-    judge_in(source, ListStore::new(alloc))
+    judge_in(source, PageStore::new(alloc))
 }
 
 /// Judges as [`judge`] does, with the granules in a store that is empty.
