@@ -6,5 +6,5 @@ mod StateLemmas
 mod RootLemmas
 mod MadeLemmas
 mod SoundLemmas
-mod EscapeLemmas
+pub mod EscapeLemmas
 pub mod OriginLemmas

@@ -3,6 +3,7 @@ mod LogLemmas
 mod ProgressLemmas
 mod JudgeLemmas
 mod VersionLemmas
+mod EscapeLaws
 mod SourceLemmas
 mod HeaderLemmas
 mod LineLemmas
