@@ -8,3 +8,6 @@ mod LineLemmas
 mod MemoryTexts
 mod SoundTests
 mod OperandLemmas
+mod CountLemmas
+mod OneReading
+mod OneVerdict
