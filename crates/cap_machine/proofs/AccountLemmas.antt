@@ -1,4 +1,4 @@
--- Accounts: what naming a granule changes, and the roots and steps that no test refuses.
+-- Accounts: how they grow, and the roots and steps of which no test holds.
 use Rattle.std.proofs.Common.{◌≡◌, ℕ, ◌+◌, ◌<◌, ◌≤◌, Bool, true, false, not, ◌&&◌, ◌||◌, nat_le, List, [], ◌∷◌, Option, Some, None, refl, sym, ap, ◌∙◌, eq-eqb, arith}
 use Rattle.std.specs.Bool.{if◌then◌else◌}
 use Rattle.std.proofs.lemmas.Bool.{false≢true, and_from, or_from, le-leb, lt-leb}
@@ -10,29 +10,36 @@ use Rattle.cap_ops.specs.Tests.{first_of}
 use Rattle.cap_ops.proofs.TestLemmas.{NoneHold}
 use Rattle.cap_machine.specs.States.{State, key_of}
 use Rattle.cap_machine.specs.Steps.{Leads, is_recorded}
-use Rattle.cap_machine.specs.Accounts.{Account, most_roots, most_granules, most_steps, granule_of, named_by, row_in, passes_granules, naming, is_sound, root_tests, step_tests}
+use Rattle.cap_machine.specs.Accounts.{Account, most_roots, most_granules, most_steps, granule_of, named_by, row_in, passes_granules, naming, with_root, with_step, is_sound, root_tests, step_tests}
 use Rattle.cap_machine.proofs.MadeLemmas.{first_mapped-none, ending}
 
-pub naming-rules : (account : Account) (granule : Option ℕ) → (naming account granule).rules ≡ account.rules
-naming-rules account None = refl
-naming-rules account (Some granule) = refl
-
-pub naming-steps : (account : Account) (granule : Option ℕ) → (naming account granule).steps ≡ account.steps
-naming-steps account None = refl
-naming-steps account (Some granule) = refl
-
-pub naming-roots : (account : Account) (granule : Option ℕ) → (naming account granule).roots ≡ account.roots
-naming-roots account None = refl
-naming-roots account (Some granule) = refl
+-- an account grows into another by so many roots and steps: its rules stay, and no granule that was named is taken away
+pub record Grows (old new : Account) (roots steps : ℕ) : Type 0 where
+  pub rules_stay : new.rules ≡ old.rules
+  pub roots_are : new.roots ≡ old.roots + roots
+  pub steps_are : new.steps ≡ old.steps + steps
+  pub granules_stay : old.granules ≤ new.granules
 
 one_more : (named : Bool) (granules : ℕ) → granules ≤ (if named then granules else granules + 1)
 one_more true granules = omega arith
 one_more false granules = omega arith
 
--- naming a granule takes none away
-pub naming-grows : (account : Account) (granule : Option ℕ) → account.granules ≤ (naming account granule).granules
-naming-grows account None = omega arith
-naming-grows account (Some granule) = one_more (account.is_named granule) account.granules
+pub naming-grows : (account : Account) (granule : Option ℕ) → Grows account (naming account granule) 0 0
+naming-grows account None =
+    record { rules_stay = refl; roots_are = omega arith; steps_are = omega arith; granules_stay = omega arith }
+naming-grows account (Some granule) =
+    let more = one_more (account.is_named granule) account.granules in
+    record { rules_stay = refl; roots_are = omega arith; steps_are = omega arith; granules_stay = more }
+
+pub with_root-grows : (account : Account) (place : Place) (word : Word) → Grows account (with_root account place word) 1 0
+with_root-grows account place word =
+    let named = naming-grows account (granule_of place) in
+    record { rules_stay = named.rules_stay; roots_are = refl; steps_are = named.steps_are; granules_stay = named.granules_stay }
+
+pub with_step-grows : (account : Account) (step : Step) → Grows account (with_step account step) 0 1
+with_step-grows account step =
+    let named = naming-grows account (named_by (row_in account step)) in
+    record { rules_stay = named.rules_stay; roots_are = named.roots_are; steps_are = refl; granules_stay = named.granules_stay }
 
 not_passed : (named : Bool) (granules most : ℕ) → (if named then granules else granules + 1) ≤ most
     → (not named && nat_le most granules) ≡ false

@@ -8,6 +8,6 @@ mod LineLemmas
 mod MemoryTexts
 mod SoundTests
 mod OperandLemmas
-mod CountLemmas
+mod BeginningLemmas
 mod OneReading
 mod OneVerdict

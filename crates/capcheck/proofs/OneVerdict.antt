@@ -1,15 +1,14 @@
 -- No bytes have two verdicts: each verdict comes from a reading of the bytes that stops.
-use Rattle.std.proofs.Common.{◌≡◌, ℕ, ◌+◌, ◌≤◌, inl, inr, true, false, not, ◌==◌, nat_eq, List, [], ◌∷◌, ◌++◌, length, map, refl, sym, ap, subst, ◌∙◌, append-nil, arith, eq-eqb}
+use Rattle.std.proofs.Common.{◌≡◌, ℕ, ◌+◌, ◌≤◌, inl, inr, true, false, not, ◌==◌, nat_eq, List, [], ◌∷◌, ◌++◌, length, map, refl, sym, ap, subst, ◌∙◌, append-nil, arith, eq-eqb, IsTrue}
 use Rattle.std.specs.List.{AllByRecursion, IsDistinct}
 use Rattle.std.proofs.Math.Path.{fun_ext}
-use Rattle.std.proofs.lemmas.Bool.{cond-true, cond-false, eqb-false, le-ltb, ne_eqb}
+use Rattle.std.proofs.lemmas.Bool.{false≢true, cond-true, cond-false, eqb-false, false_from_ne_true, le-ltb, ne_eqb}
 use Rattle.std.proofs.lemmas.Bool.Decides.{eqb_tells}
 use Rattle.cap_bounds.specs.Bounds.{IsSound}
 use Rattle.cap_word.specs.declared.word.Cap.{Cap}
 use Rattle.cap_log.specs.declared.lines.Line.{Line}
 use Rattle.cap_log.specs.declared.lines.Line.TheVariants.{Root, Step, End}
 use Rattle.cap_log.specs.declared.lines.Step as steps_module
-use Rattle.cap_log.specs.Lines.{IsInRange}
 use Rattle.cap_machine.specs.declared.refusal.Refusal.{Refusal}
 use Rattle.cap_machine.specs.declared.rules.Rules.{Rules}
 use Rattle.cap_machine.specs.declared.rules.Rules.TheVariants.{One, TwoStrict, TwoClear}
@@ -17,13 +16,12 @@ use Rattle.cap_machine.specs.States.{State, DeclaredRoot, blank, key_of, tagged,
 use Rattle.cap_machine.specs.Steps.{Leads}
 use Rattle.cap_machine.specs.Accounts.{Account, no_account, most_roots, most_granules, most_steps, with_root, with_step}
 use Rattle.cap_machine.specs.Runs.{IsRun}
-use Rattle.cap_machine.proofs.AccountLemmas.{naming-rules, naming-steps, first_of-none, root_free, step_free}
+use Rattle.cap_machine.proofs.AccountLemmas.{with_root-grows, with_step-grows, first_of-none, root_free, step_free}
 use Rattle.capcheck.specs.declared.verdict.Verdict.{Verdict}
 use Rattle.capcheck.specs.declared.verdict.Verdict.TheVariants.{Yes, No}
 use Rattle.capcheck.specs.Logs.{Beginning, Nothing, NoMode, Body, Whole, header_lines, body_lines, lines_of, text_of, after_roots, after_steps, account_after, RunsBy, IsAccepted, has_form, line_tests, Refuses}
 use Rattle.capcheck.specs.Verdicts.{IsVerdict}
-use Rattle.capcheck.proofs.LogLemmas.{AllByRecursion-append}
-use Rattle.capcheck.proofs.CountLemmas.{after_roots-rules, after_roots-steps, after_roots-grows, after_steps-grows, account_after-counts}
+use Rattle.capcheck.proofs.BeginningLemmas.{after_roots-grows, after_steps-grows, account_after-grows, accepted_in_range}
 use Rattle.capcheck.proofs.OneReading.{Stage, Unread, Versioned, Within, Ended, Reads, Answers, Reads-append, one_reading, answer_stops, one_answer}
 
 -- Distinct roots, and the state that they make
@@ -35,24 +33,22 @@ keys roots = map (λ (root : DeclaredRoot). key_of root.place) roots
 abbrev IsFree : ℕ → List DeclaredRoot → Type 0
 IsFree key roots = AllByRecursion (λ (other : ℕ). nat_eq key other ≡ false) (keys roots)
 
--- the places of the roots to come have no tag
-abbrev AreUntagged : State → List DeclaredRoot → Type 0
-AreUntagged state roots = AllByRecursion (λ (root : DeclaredRoot). (state (key_of root.place)).tag ≡ false) roots
+-- no root has a place that has a tag
+abbrev AreFree : State → List DeclaredRoot → Type 0
+AreFree state roots = (key : ℕ) → IsTrue (state key).tag → IsFree key roots
 
-blank-untagged : (roots : List DeclaredRoot) → AreUntagged blank roots
-blank-untagged [] = tt
-blank-untagged (root ∷ roots) = (refl, blank-untagged roots)
+-- one root more has a tag at its place alone
+still_free : (account : Account) (root : DeclaredRoot) (roots : List DeclaredRoot) → IsFree (key_of root.place) roots
+    → AreFree account.state (root ∷ roots) → AreFree (with_root account root.place root.word).state roots
+still_free account root roots own free key held =
+    elim (eqb_tells (key_of root.place) key) [
+      | inl same ↦ subst (λ (k : ℕ). IsFree k roots) same.1 own
+      | inr unlike ↦
+          let kept = cond-false _ (tagged root.word) (account.state key) unlike.0 in
+          (free key (ap (λ (cap : Cap). cap.tag) (sym kept) ∙ held)).1
+    ]
 
--- a root leaves the other places as they are
-root-untagged : (account : Account) (root : DeclaredRoot) (roots : List DeclaredRoot) → IsFree (key_of root.place) roots
-    → AreUntagged account.state roots → AreUntagged (with_root account root.place root.word).state roots
-root-untagged account root [] free untagged = tt
-root-untagged account root (other ∷ roots) free untagged = (
-  ap (λ (cap : Cap). cap.tag) (cond-false _ (tagged root.word) (account.state (key_of other.place)) free.0) ∙ untagged.0,
-  root-untagged account root roots free.1 untagged.1,
-)
-
--- and so do several
+-- roots leave the other places as they are
 state-free : (account : Account) (roots : List DeclaredRoot) (key : ℕ) → IsFree key roots
     → (after_roots account roots).state key ≡ account.state key
 state-free account [] key free = refl
@@ -84,21 +80,22 @@ formed TwoStrict line one = refl
 formed TwoClear line one = refl
 
 roots_read : (rules_are : Rules) (account : Account) (roots : List DeclaredRoot) → account.rules ≡ rules_are → account.steps ≡ 0
-    → IsDistinct nat_eq (keys roots) → AreUntagged account.state roots
-    → AllByRecursion (λ (root : DeclaredRoot). IsSound root.word.0) roots → account.roots + length roots ≤ most_roots
-    → (after_roots account roots).granules ≤ most_granules rules_are
+    → IsDistinct nat_eq (keys roots) → AreFree account.state roots → AllByRecursion (λ (root : DeclaredRoot). IsSound root.word.0) roots
+    → account.roots + length roots ≤ most_roots → (after_roots account roots).granules ≤ most_granules rules_are
     → Reads (Within account) (map (λ (root : DeclaredRoot). Root root.place root.word) roots) (Within (after_roots account roots))
 unfolding IsDistinct
-roots_read rules_are account [] same none distinct untagged sound few_roots few_granules = refl
-roots_read rules_are account (root ∷ roots) same none distinct untagged sound few_roots few_granules =
+roots_read rules_are account [] same none distinct free sound few_roots few_granules = refl
+roots_read rules_are account (root ∷ roots) same none distinct free sound few_roots few_granules =
     let line = Root root.place root.word in
     let after = with_root account root.place root.word in
-    let grow = after_roots-grows after roots in
+    let one = with_root-grows account root.place root.word in
+    let rest = after_roots-grows after roots in
     let most = ap most_granules same in
-    let free = root_free account root.place root.word untagged.0 sound.0 (omega arith) (omega arith) in (
-      (formed account.rules line refl, first_of-none (line_tests account line) (le-ltb 0 account.steps (omega arith), free)),
-      roots_read rules_are after roots (naming-rules account _ ∙ same) (naming-steps account _ ∙ none)
-          distinct.1 (root-untagged account root roots distinct.0 untagged.1) sound.1 (omega arith) few_granules,
+    let untagged = false_from_ne_true _ (λ held. eqb-false (key_of root.place) _ (free (key_of root.place) held).0 refl) in
+    let unrefused = root_free account root.place root.word untagged sound.0 (omega arith) (omega arith) in (
+      (formed account.rules line refl, first_of-none (line_tests account line) (le-ltb 0 account.steps (omega arith), unrefused)),
+      roots_read rules_are after roots (one.rules_stay ∙ same) (omega arith) distinct.1 (still_free account root roots distinct.0 free)
+          sound.1 (omega arith) few_granules,
     )
 
 steps_read : (rules_are : Rules) (account : Account) (steps : List steps_module.Step) (states : List State) → account.rules ≡ rules_are
@@ -109,12 +106,13 @@ steps_read rules_are account [] states same run few_steps few_granules = refl
 steps_read rules_are account (step ∷ steps) [] same run few_steps few_granules = absurd run
 steps_read rules_are account (step ∷ steps) (next ∷ states) same run few_steps few_granules =
     let after = with_step account step in
+    let one = with_step-grows account step in
+    let rest = after_steps-grows after steps in
+    let most = ap most_granules same in
     let leads = subst (λ (r : Rules). Leads r account.state step next) (sym same) run.0 in
-    let grow = after_steps-grows after steps in
-    let most = ap most_granules same in (
+    let later = subst (λ (state : State). IsRun rules_are state steps states) leads.after run.1 in (
       (formed account.rules (Step step) refl, step_free account step next leads (omega arith) (omega arith)),
-      steps_read rules_are after steps states (naming-rules account _ ∙ same)
-          (subst (λ (state : State). IsRun rules_are state steps states) leads.after run.1) (omega arith) few_granules,
+      steps_read rules_are after steps states (one.rules_stay ∙ same) later (omega arith) few_granules,
     )
 
 header_read : (rules_are : Rules) → Reads Unread (header_lines rules_are) (Within (no_account rules_are))
@@ -130,14 +128,14 @@ body_read rules_are roots steps runs =
     let last = account_after rules_are roots steps in
     let started : start roots ≡ rooted.state = sym (fun_ext (λ key. state-start first roots key runs.distinct refl)) in
     let run = subst (λ (state : State). IsRun rules_are state steps runs.run.0) started runs.run.1 in
-    let none = after_roots-steps first roots in
-    let grow = after_steps-grows rooted steps in
+    let by_roots = after_roots-grows first roots in
+    let by_steps = after_steps-grows rooted steps in
     let few_roots = runs.few_roots in
     let few_steps = runs.few_steps in
     let few_granules = runs.few_granules in
-    let untagged = blank-untagged roots in
-    let roots_are = roots_read rules_are first roots refl refl runs.distinct untagged runs.sound (omega arith) (omega arith) in
-    let steps_are = steps_read rules_are rooted steps runs.run.0 (after_roots-rules first roots) run (omega arith) few_granules in
+    let free = λ (key : ℕ) (held : IsTrue (blank key).tag). absurd (false≢true held) in
+    let roots_are = roots_read rules_are first roots refl refl runs.distinct free runs.sound (omega arith) (omega arith) in
+    let steps_are = steps_read rules_are rooted steps runs.run.0 by_roots.rules_stay run (omega arith) few_granules in
     Reads-append Unread (Within first) (Within last) (header_lines rules_are) _ (header_read rules_are)
     (Reads-append (Within first) (Within rooted) (Within last) _ (map Step steps) roots_are steps_are)
 
@@ -155,18 +153,10 @@ accepted_read (Body rules_are roots steps) runs = body_read rules_are roots step
 accepted_read (Whole rules_are roots steps) runs =
     let last = account_after rules_are roots steps in
     let end = End (length steps) in
-    let counts = account_after-counts rules_are roots steps in
-    let free = first_of-none (line_tests last end) (ap not (eq-eqb (length steps) last.steps counts.0), tt) in
+    let counts = account_after-grows rules_are roots steps in
+    let free = first_of-none (line_tests last end) (ap not (eq-eqb (length steps) last.steps (omega arith)), tt) in
     Reads-append Unread (Within last) (Ended last) (body_lines rules_are roots steps) (end ∷ []) (body_read rules_are roots steps runs)
     ((formed last.rules end refl, free), refl)
-
-accepted_in_range : (beginning : Beginning) → IsAccepted beginning → AllByRecursion IsInRange (lines_of beginning)
-accepted_in_range Nothing accepted = tt
-accepted_in_range NoMode accepted = (inr refl, tt)
-accepted_in_range (Body rules_are roots steps) runs = runs.grammar
-accepted_in_range (Whole rules_are roots steps) runs =
-    let few_steps = runs.few_steps in
-    AllByRecursion-append IsInRange (body_lines rules_are roots steps) (End (length steps) ∷ []) runs.grammar (omega arith, tt)
 
 -- Verdicts
 
@@ -187,13 +177,15 @@ refused (Whole rules_are roots steps) rest number line refusal is refuses = (is,
 
 read : (bytes : List ℕ) (verdict : Verdict) → IsVerdict bytes verdict → Reading bytes verdict
 read bytes (Yes steps roots) is =
-    let counts = account_after-counts is.rules is.roots is.steps in
+    let counts = account_after-grows is.rules is.roots is.steps in
+    let steps_are = is.step_count_is in
+    let roots_are = is.root_count_is in
     record {
       beginning = Whole is.rules is.roots is.steps;
       rest = [];
       bytes_are = is.log.bytes_are ∙ sym (append-nil _);
       accepted = is.log.runs;
-      answers = (refl, is.step_count_is ∙ counts.0, is.root_count_is ∙ counts.1);
+      answers = (refl, omega arith, omega arith);
     }
 read bytes (No line refusal) is = record {
   beginning = is.beginning;
