@@ -1,3 +1,4 @@
+pub mod AccountLemmas
 mod StepLemmas
 pub mod AuthorityLemmas
 pub mod AccessLemmas

@@ -12,3 +12,6 @@ mod SoundTests
 mod OperandLemmas
 mod DoingLemmas
 mod ShownLemmas
+mod BeginningLemmas
+mod OneReading
+mod OneVerdict
