@@ -158,104 +158,177 @@ fn memory_steps(rt: HostRuntime) {
     wrote(&rt, &buffer, length, b"store c1 8 2 ffff\n");
 }
 
-// A call wrote nothing.
-fn refused(rt: &impl Abort, buffer: &[u8; 96], length: usize) {
-    wrote(rt, buffer, length, b"");
+// Nothing was written into a buffer of letters x.
+fn is_kept(rt: &impl Abort, buffer: &[u8; 96]) {
+    assert_eq!(rt; buffer, &[b'x'; 96]);
 }
 
 #[test]
 fn numbers_of_headers_out_of_range(rt: HostRuntime) {
     let mut buffer = [b'x'; 96];
     for version in [0, 3, 257, u64::MAX] {
-        let length = capcheck_line_version(&mut buffer, version);
-        refused(&rt, &buffer, length);
+        assert_eq!(rt; capcheck_line_version(&mut buffer, version), 0);
     }
     for steps in [1 << 32, u64::MAX] {
-        let length = capcheck_line_end(&mut buffer, steps);
-        refused(&rt, &buffer, length);
-    }
-    for target in [0, 32, 257, u64::MAX] {
-        let length = capcheck_line_root(&mut buffer, target, word(0, 0));
-        refused(&rt, &buffer, length);
+        assert_eq!(rt; capcheck_line_end(&mut buffer, steps), 0);
     }
     for address in [1, 8, u64::MAX] {
-        let length = capcheck_line_root_at(&mut buffer, address, word(0, 0));
-        refused(&rt, &buffer, length);
+        assert_eq!(rt; capcheck_line_root_at(&mut buffer, address, word(0, 0)), 0);
     }
+    is_kept(&rt, &buffer);
+}
+
+fn targets_of_copies(rt: &impl Abort, target: u64) {
+    let mut buffer = [b'x'; 96];
+    assert_eq!(rt; capcheck_line_root(&mut buffer, target, word(0, 0)), 0);
+    assert_eq!(rt; capcheck_line_move(&mut buffer, target, 1, tagged(0, 0)), 0);
+    assert_eq!(rt;
+        capcheck_line_cleartag(&mut buffer, target, 1, tagged(0, 0)),
+        0
+    );
+    is_kept(rt, &buffer);
+}
+
+fn targets_of_numbers(rt: &impl Abort, target: u64) {
+    let mut buffer = [b'x'; 96];
+    assert_eq!(rt;
+        capcheck_line_setbounds(&mut buffer, target, 1, 1, tagged(0, 0)),
+        0
+    );
+    assert_eq!(rt;
+        capcheck_line_setboundsexact(&mut buffer, target, 1, 1, tagged(0, 0)),
+        0
+    );
+    assert_eq!(rt;
+        capcheck_line_setaddr(&mut buffer, target, 1, 1, tagged(0, 0)),
+        0
+    );
+    assert_eq!(rt;
+        capcheck_line_andperm(&mut buffer, target, 1, 1, tagged(0, 0)),
+        0
+    );
+    is_kept(rt, &buffer);
+}
+
+fn targets_of_authorities(rt: &impl Abort, target: u64) {
+    let mut buffer = [b'x'; 96];
+    assert_eq!(rt;
+        capcheck_line_seal(&mut buffer, target, 1, 1, tagged(0, 0)),
+        0
+    );
+    assert_eq!(rt;
+        capcheck_line_unseal(&mut buffer, target, 1, 1, tagged(0, 0)),
+        0
+    );
+    assert_eq!(rt;
+        capcheck_line_lc(&mut buffer, target, 1, 0, tagged(0, 0)),
+        0
+    );
+    is_kept(rt, &buffer);
 }
 
 #[test]
 fn targets_out_of_range(rt: HostRuntime) {
-    let all = tagged(ALL_HIGH, 0);
-    let mut buffer = [b'x'; 96];
     for target in [0, 32, 257, u64::MAX] {
-        let lengths = [
-            capcheck_line_move(&mut buffer, target, 1, all),
-            capcheck_line_cleartag(&mut buffer, target, 1, all),
-            capcheck_line_setbounds(&mut buffer, target, 1, 1, all),
-            capcheck_line_setboundsexact(&mut buffer, target, 1, 1, all),
-            capcheck_line_setaddr(&mut buffer, target, 1, 1, all),
-            capcheck_line_andperm(&mut buffer, target, 1, 1, all),
-            capcheck_line_seal(&mut buffer, target, 1, 1, all),
-            capcheck_line_unseal(&mut buffer, target, 1, 1, all),
-            capcheck_line_lc(&mut buffer, target, 1, 0, all),
-        ];
-        for length in lengths {
-            refused(&rt, &buffer, length);
-        }
+        targets_of_copies(&rt, target);
+        targets_of_numbers(&rt, target);
+        targets_of_authorities(&rt, target);
+    }
+}
+
+fn sources_of_copies(rt: &impl Abort, source: u64) {
+    let mut buffer = [b'x'; 96];
+    assert_eq!(rt; capcheck_line_move(&mut buffer, 1, source, tagged(0, 0)), 0);
+    assert_eq!(rt;
+        capcheck_line_cleartag(&mut buffer, 1, source, tagged(0, 0)),
+        0
+    );
+    assert_eq!(rt; capcheck_line_sc(&mut buffer, source, 1, 0), 0);
+    is_kept(rt, &buffer);
+}
+
+fn sources_of_numbers(rt: &impl Abort, source: u64) {
+    let mut buffer = [b'x'; 96];
+    assert_eq!(rt;
+        capcheck_line_setbounds(&mut buffer, 1, source, 1, tagged(0, 0)),
+        0
+    );
+    assert_eq!(rt;
+        capcheck_line_setboundsexact(&mut buffer, 1, source, 1, tagged(0, 0)),
+        0
+    );
+    assert_eq!(rt;
+        capcheck_line_setaddr(&mut buffer, 1, source, 1, tagged(0, 0)),
+        0
+    );
+    assert_eq!(rt;
+        capcheck_line_andperm(&mut buffer, 1, source, 1, tagged(0, 0)),
+        0
+    );
+    is_kept(rt, &buffer);
+}
+
+fn sources_and_authorities_of_seals(rt: &impl Abort, register: u64) {
+    let mut buffer = [b'x'; 96];
+    assert_eq!(rt;
+        capcheck_line_seal(&mut buffer, 1, register, 1, tagged(0, 0)),
+        0
+    );
+    assert_eq!(rt;
+        capcheck_line_seal(&mut buffer, 1, 1, register, tagged(0, 0)),
+        0
+    );
+    assert_eq!(rt;
+        capcheck_line_unseal(&mut buffer, 1, register, 1, tagged(0, 0)),
+        0
+    );
+    assert_eq!(rt;
+        capcheck_line_unseal(&mut buffer, 1, 1, register, tagged(0, 0)),
+        0
+    );
+    is_kept(rt, &buffer);
+}
+
+fn authorities_of_accesses(rt: &impl Abort, authority: u64) {
+    let mut buffer = [b'x'; 96];
+    assert_eq!(rt;
+        capcheck_line_lc(&mut buffer, 1, authority, 0, tagged(0, 0)),
+        0
+    );
+    assert_eq!(rt; capcheck_line_sc(&mut buffer, 1, authority, 0), 0);
+    assert_eq!(rt; capcheck_line_load(&mut buffer, authority, 0, 1, 0), 0);
+    assert_eq!(rt; capcheck_line_store(&mut buffer, authority, 0, 1, 0), 0);
+    is_kept(rt, &buffer);
+}
+
+#[test]
+fn registers_that_are_read_out_of_range(rt: HostRuntime) {
+    for register in [32, 256, u64::MAX] {
+        sources_of_copies(&rt, register);
+        sources_of_numbers(&rt, register);
+        sources_and_authorities_of_seals(&rt, register);
+        authorities_of_accesses(&rt, register);
     }
 }
 
 #[test]
-fn sources_out_of_range(rt: HostRuntime) {
-    let all = tagged(ALL_HIGH, 0);
+fn offsets_out_of_range(rt: HostRuntime) {
     let mut buffer = [b'x'; 96];
-    for source in [32, 256, u64::MAX] {
-        let lengths = [
-            capcheck_line_move(&mut buffer, 1, source, all),
-            capcheck_line_cleartag(&mut buffer, 1, source, all),
-            capcheck_line_setbounds(&mut buffer, 1, source, 1, all),
-            capcheck_line_setboundsexact(&mut buffer, 1, source, 1, all),
-            capcheck_line_setaddr(&mut buffer, 1, source, 1, all),
-            capcheck_line_andperm(&mut buffer, 1, source, 1, all),
-            capcheck_line_seal(&mut buffer, 1, source, 1, all),
-            capcheck_line_seal(&mut buffer, 1, 1, source, all),
-            capcheck_line_unseal(&mut buffer, 1, source, 1, all),
-            capcheck_line_unseal(&mut buffer, 1, 1, source, all),
-        ];
-        for length in lengths {
-            refused(&rt, &buffer, length);
-        }
-    }
-}
-
-#[test]
-fn accesses_out_of_range(rt: HostRuntime) {
-    let all = tagged(ALL_HIGH, 0);
-    let mut buffer = [b'x'; 96];
-    for authority in [32, 256, u64::MAX] {
-        let lengths = [
-            capcheck_line_lc(&mut buffer, 1, authority, 0, all),
-            capcheck_line_sc(&mut buffer, 1, authority, 0),
-            capcheck_line_sc(&mut buffer, authority, 1, 0),
-            capcheck_line_load(&mut buffer, authority, 0, 1, 0),
-            capcheck_line_store(&mut buffer, authority, 0, 1, 0),
-        ];
-        for length in lengths {
-            refused(&rt, &buffer, length);
-        }
-    }
     for offset in [-2049, 2048, 65536, i64::MIN, i64::MAX] {
-        let lengths = [
-            capcheck_line_lc(&mut buffer, 1, 1, offset, all),
-            capcheck_line_sc(&mut buffer, 1, 1, offset),
-            capcheck_line_load(&mut buffer, 1, offset, 1, 0),
-            capcheck_line_store(&mut buffer, 1, offset, 1, 0),
-        ];
-        for length in lengths {
-            refused(&rt, &buffer, length);
-        }
+        assert_eq!(rt;
+            capcheck_line_lc(&mut buffer, 1, 1, offset, tagged(0, 0)),
+            0
+        );
+        assert_eq!(rt; capcheck_line_sc(&mut buffer, 1, 1, offset), 0);
+        assert_eq!(rt; capcheck_line_load(&mut buffer, 1, offset, 1, 0), 0);
+        assert_eq!(rt; capcheck_line_store(&mut buffer, 1, offset, 1, 0), 0);
     }
+    is_kept(&rt, &buffer);
+}
+
+#[test]
+fn values_out_of_range(rt: HostRuntime) {
+    let mut buffer = [b'x'; 96];
     for (size, value) in [
         (0, 0),
         (3, 0),
@@ -265,12 +338,8 @@ fn accesses_out_of_range(rt: HostRuntime) {
         (2, 0x1_0000),
         (4, 1 << 32),
     ] {
-        let lengths = [
-            capcheck_line_load(&mut buffer, 1, 0, size, value),
-            capcheck_line_store(&mut buffer, 1, 0, size, value),
-        ];
-        for length in lengths {
-            refused(&rt, &buffer, length);
-        }
+        assert_eq!(rt; capcheck_line_load(&mut buffer, 1, 0, size, value), 0);
+        assert_eq!(rt; capcheck_line_store(&mut buffer, 1, 0, size, value), 0);
     }
+    is_kept(&rt, &buffer);
 }
