@@ -7,5 +7,8 @@ mod OperandLemmas
 mod PartLemmas
 mod Shapes
 mod SizedLemmas
+mod SliceLemmas
 pub mod SpellingLemmas
+mod TakingLemmas
+mod WindowLemmas
 mod WriteLemmas

@@ -1,4 +1,11 @@
+pub mod Failings
 pub mod Front
 pub mod Heads
+pub mod Known
 pub mod Lines
 pub mod Parts
+pub mod Slices
+pub mod Streams
+pub mod Takings
+pub mod Windows
+pub mod Written

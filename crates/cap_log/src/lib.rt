@@ -1,21 +1,42 @@
-//! The lines of a log of capability operations: their grammar, read and written, and where a line
-//! ends.
+//! The lines of a log of capability operations: their grammar, read and written, where a line ends,
+//! and where the bytes come from and a text goes.
 //!
 //! A line is its words with a single space between each two. [`read_line`] answers the line that
 //! some bytes spell, [`write_line`] writes a line's one spelling, and [`front`] finds the line that
-//! some bytes begin with. Nothing here takes memory.
+//! some bytes begin with.
+//!
+//! A [`Source`] gives bytes a piece at a time, and [`Lines`] are the lines of what it gives, however
+//! it is cut. A [`Sink`] takes bytes a piece at a time, and [`push_all`] pushes a whole text. Nothing
+//! here takes memory.
 #![tactic(auto)]
 
 mod fronts;
 mod heads;
 mod lines;
+mod nexts;
 mod operands;
 mod parts;
+mod pushing;
 mod reading;
+mod sinks;
+mod sources;
+mod taking;
+mod window;
 mod writing;
 
 pub use crate::fronts::Front;
 pub use crate::fronts::finding::front;
 pub use crate::lines::{Line, Mode, Place, Step};
+pub use crate::nexts::Next;
+pub use crate::pushing::push_all;
 pub use crate::reading::{one_line, read_line};
+pub use crate::sinks::failing::FailingSink;
+pub use crate::sinks::slices::SliceSink;
+pub use crate::sinks::writing::WriteSink;
+pub use crate::sinks::{PushFault, Sink};
+pub use crate::sources::failing::FailingSource;
+pub use crate::sources::reading::ReadSource;
+pub use crate::sources::slices::SliceSource;
+pub use crate::sources::{PullFault, Source};
+pub use crate::taking::Lines;
 pub use crate::writing::{write_line, write_place};

@@ -1,7 +1,8 @@
 //! Reading a line.
 
-ghost use Rattle.std.specs.Prelude.{◌≡◌, ℕ, List, IfSome, IfNone};
-ghost use Rattle.cap_log.specs.Lines.{Spells};
+ghost use Rattle.std.specs.Prelude.{◌≡◌, ◌≤◌, ℕ, List, length, IfSome, IfNone};
+ghost use Rattle.cap_log.specs.Front.{HasNoFeed};
+ghost use Rattle.cap_log.specs.Lines.{IsInRange, Spells, spelling};
 ghost use Rattle.cap_log.specs.declared.lines.Line.{Line};
 
 use crate::heads::Head;
@@ -21,9 +22,12 @@ pub fn read_line(bytes: &[u8]) -> Option<Line>
     read_operands(head, rest)
 }
 
-/// No two lines share a spelling: bytes spell one line at most.
+/// No two lines share a spelling: bytes spell one line at most. A spelling has no line feed and at
+/// most 95 bytes, so a line feed ends it, and a line's limit is never in its way.
 pub fn one_line()
-    ensures { (bytes : List ℕ) (a b : Line) → Spells bytes a → Spells bytes b → a ≡ b }
+    ensures one { (bytes : List ℕ) (a b : Line) → Spells bytes a → Spells bytes b → a ≡ b }
+    ensures plain { (line : Line) → IsInRange line → HasNoFeed (spelling line) }
+    ensures short { (line : Line) → IsInRange line → length (spelling line) ≤ 95 }
 {}
 
 #[cfg(test)]

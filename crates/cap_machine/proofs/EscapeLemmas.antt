@@ -1,29 +1,36 @@
 -- A step that sets bounds is refused for them exactly where the requested ones do not lie inside its source's.
-use Rattle.std.proofs.Common.{◌≡◌, ◌≢◌, ◌↔◌, ℕ, ◌^◌, ◌<◌, Bool, true, false, List, refl, sym, ap, ◌∙◌, Some, None, Result, Ok, Err, OnOk}
-use Rattle.std.proofs.lemmas.Option.{same_Some}
+use Rattle.std.proofs.Common.{◌≡◌, ◌≢◌, ◌↔◌, ℕ, ℤ, ◌^◌, ◌<◌, Bool, true, false, ◌==◌, List, [], ◌∷◌, Option, if◌then◌else◌, refl, sym, ap, ◌∙◌, Some, None, Result, Ok, Err, OnOk}
+use Rattle.std.proofs.lemmas.Bool.{eq-eqb}
+use Rattle.std.proofs.lemmas.Option.{none-some, same_Some}
 use Rattle.cap_word.specs.declared.word.Cap.{Cap}
 use Rattle.cap_bounds.specs.Bounds.{IsSound}
 use Rattle.cap_log.specs.declared.lines.Step.{Step}
-use Rattle.cap_log.specs.declared.lines.Step.TheVariants.{SetBounds, SetBoundsExact}
+use Rattle.cap_log.specs.declared.lines.Step.TheVariants.{Move, ClearTag, SetBounds, SetBoundsExact, SetAddr, AndPerm, Seal, Unseal, LoadCap, StoreCap, Load, Store}
 use Rattle.cap_log.specs.Lines.{IsStepInRange}
 use Rattle.cap_ops.specs.declared.faults.OpFault.{OpFault}
 use Rattle.cap_ops.specs.declared.faults.OpFault.TheVariants as faults
 use Rattle.cap_ops.specs.Tests.{first_of}
-use Rattle.cap_ops.specs.Operations.{set_bounds_tests, set_bounds_result}
+use Rattle.cap_ops.specs.declared.kinds.Kind.{Kind}
+use Rattle.cap_ops.specs.declared.kinds.Kind.TheVariants.{LoadData, StoreData}
+use Rattle.cap_ops.specs.declared.kinds.Kind.TheVariants.{LoadCap as LoadCapability, StoreCap as StoreCapability}
+use Rattle.cap_ops.specs.Accesses.{access_tests}
+use Rattle.cap_ops.specs.Operations.{clear_result, set_bounds_tests, set_bounds_result, set_addr_tests, and_perm_tests, seal_tests, unseal_tests}
+use Rattle.cap_ops.proofs.ClearLemmas.{untagged_where_beyond}
 use Rattle.cap_ops.specs.Permissions.{is_sealed}
 use Rattle.cap_ops.proofs.TestLemmas.{EndsWith}
-use Rattle.cap_ops.proofs.NarrowingLemmas.{BoundsEscape-exact}
+use Rattle.cap_ops.proofs.NarrowingLemmas.{BoundsEscape-exact, BoundsEscape-source}
 use Rattle.cap_machine.specs.declared.refusal.Refusal.TheVariants.{BoundsEscape}
 use Rattle.cap_machine.specs.declared.ends.StepEnd.{StepEnd}
 use Rattle.cap_machine.specs.declared.ends.StepEnd.TheVariants.{Refused, NoMemory}
 use Rattle.cap_machine.specs.Refusals.{refusal_of}
 use Rattle.cap_machine.specs.declared.rules.Rules.{Rules}
 use Rattle.cap_machine.specs.declared.rules.Rules.TheVariants.{One, TwoStrict, TwoClear}
-use Rattle.cap_machine.specs.Steps.{Row}
+use Rattle.cap_machine.specs.States.{State, put}
+use Rattle.cap_machine.specs.Steps.{Access, Leads, Row, clear_row, row_by, row_of, state_with}
 use Rattle.cap_machine.specs.Accounts.{row_in, step_tests}
 use Rattle.cap_machine.specs.Helds.{Held, state_of, account_of, tests_by}
 use Rattle.cap_machine.specs.Parents.{IsSoundState, StaysWithinParents}
-use Rattle.cap_machine.specs.Escapes.{HasRoomFor, EscapesExactly}
+use Rattle.cap_machine.specs.Escapes.{HasRoomFor, AsksBeyond, ClearsBeyond, Escapes, asked_by}
 use Rattle.cap_machine.proofs.AuthorityLemmas.{one_back}
 use Rattle.cap_machine.proofs.MadeLemmas.{EndsIn, first_mapped-some, first_mapped-none, ending, row_by-operation}
 
@@ -108,26 +115,135 @@ escapes_by TwoStrict source length exact fits held unsealed sound =
     let both = escapes source length exact fits held unsealed sound in (λ h. (λ e. cc, both.0 h), λ p. both.1 p.1)
 escapes_by TwoClear source length exact fits held unsealed sound = (λ h. cc, λ p. absurd (p.0 refl))
 
+-- what a step that sets bounds asks for
+asks : (rules : Rules) (state : State) (source length : ℕ) (exact : Bool) → length < 2 ^ 64 → IsSoundState state
+    → first_of (tests_by rules (set_bounds_tests (state source) length exact)) ≡ Some faults.BoundsEscape → (rules ≢ TwoClear) × AsksBeyond state (Some (source, length))
+asks TwoClear state source length exact fits sound h = cc
+asks One state source length exact fits sound h =
+    let is = BoundsEscape-source (state source) length exact h in
+    ((λ e. cc), (is.0, is.1, (escapes (state source) length exact fits is.0 is.1 (sound source is.0)).0 h))
+asks TwoStrict state source length exact fits sound h =
+    let is = BoundsEscape-source (state source) length exact h in
+    ((λ e. cc), (is.0, is.1, (escapes (state source) length exact fits is.0 is.1 (sound source is.0)).0 h))
+
 narrowed : (old new : Held) (step : Step) (source length : ℕ) (exact : Bool) (result : Result (Unit {0}) StepEnd)
     → (row_in (account_of old) step).tests ≡ tests_by old.rules (set_bounds_tests (state_of old source) length exact) → length < 2 ^ 64 → IsSoundState (state_of old) → EndsIn old step result new
-    → (state_of old source).tag ≡ true → is_sealed (state_of old source).word.0 ≡ false
-    → (result ≡ Err (Refused BoundsEscape)) ↔ ((old.rules ≢ TwoClear) × (HasRoomFor (state_of old source) length → ⊥))
-narrowed old new step source length exact result same fits sound ends held unsealed =
-    let both = escapes_by old.rules (state_of old source) length exact fits held unsealed (sound source held) in (
-      λ h. both.0 (sym (ap first_of same) ∙ first_escapes old step (answers old new step result ends h)),
-      λ outside. answered old new step result ends (first_mapped-some ((row_in (account_of old) step).tests) _ faults.BoundsEscape (ap first_of same ∙ both.1 outside)),
-    )
+    → (result ≡ Err (Refused BoundsEscape)) ↔ ((old.rules ≢ TwoClear) × AsksBeyond (state_of old) (Some (source, length)))
+narrowed old new step source length exact result same fits sound ends = (
+  λ h. asks old.rules (state_of old) source length exact fits sound (sym (ap first_of same) ∙ first_escapes old step (answers old new step result ends h)),
+  λ beyond.
+      let by = escapes_by old.rules (state_of old source) length exact fits beyond.1.0 beyond.1.1 (sound source beyond.1.0) in
+      answered old new step result ends
+      (first_mapped-some ((row_in (account_of old) step).tests) _ faults.BoundsEscape (ap first_of same ∙ by.1 (beyond.0, beyond.1.2))),
+)
+
+-- none of the tests is that of bounds
+abbrev FreeOfEscapes : List (Bool × OpFault) → Type 0
+FreeOfEscapes [] = Unit {0}
+FreeOfEscapes (test ∷ tests) = (test.1 ≢ faults.BoundsEscape) × FreeOfEscapes tests
+
+not_first : (tests : List (Bool × OpFault)) → FreeOfEscapes tests → first_of tests ≡ Some faults.BoundsEscape → ⊥
+not_first [] free h = none-some faults.BoundsEscape h
+not_first ((true, fault) ∷ tests) free h = free.0 (same_Some _ _ h)
+not_first ((false, fault) ∷ tests) free h = not_first tests free.1 h
+
+where_tagged : (tag : Bool) (tests : List (Bool × OpFault)) → FreeOfEscapes tests → FreeOfEscapes (if tag then tests else [])
+where_tagged true tests free = free
+where_tagged false tests free = tt
+
+-- nor is one of an access
+access_free : (authority : Cap) (kind : Kind) (offset : ℤ) (size : ℕ) → FreeOfEscapes (access_tests authority kind offset size)
+unfolding access_tests
+access_free authority LoadData offset size = ((λ e. cc), ((λ e. cc), ((λ e. cc), ((λ e. cc), ((λ e. cc), tt)))))
+access_free authority StoreData offset size = ((λ e. cc), ((λ e. cc), ((λ e. cc), ((λ e. cc), ((λ e. cc), tt)))))
+access_free authority LoadCapability offset size = ((λ e. cc), ((λ e. cc), ((λ e. cc), ((λ e. cc), ((λ e. cc), tt)))))
+access_free authority (StoreCapability stored) offset size =
+    ((λ e. cc), ((λ e. cc), ((λ e. cc), ((λ e. cc), ((λ e. cc), ((λ e. cc), ((λ e. cc), tt)))))))
+
+-- nor one of any step that asks for no bounds
+row_free : (state : State) (step : Step) → asked_by step ≡ None → FreeOfEscapes (row_of state step).tests
+unfolding set_addr_tests and_perm_tests seal_tests unseal_tests
+row_free state (Move target source recorded) none = tt
+row_free state (ClearTag target source recorded) none = tt
+row_free state (SetBounds target source length recorded) none = absurd cc
+row_free state (SetBoundsExact target source length recorded) none = absurd cc
+row_free state (SetAddr target source address recorded) none = where_tagged (state source).tag _ ((λ e. cc), ((λ e. cc), tt))
+row_free state (AndPerm target source mask recorded) none = where_tagged (state source).tag _ ((λ e. cc), tt)
+row_free state (Seal target source authority recorded) none =
+    ((λ e. cc), ((λ e. cc), ((λ e. cc), ((λ e. cc), ((λ e. cc), ((λ e. cc), ((λ e. cc), tt)))))))
+row_free state (Unseal target source authority recorded) none =
+    ((λ e. cc), ((λ e. cc), ((λ e. cc), ((λ e. cc), ((λ e. cc), ((λ e. cc), tt))))))
+row_free state (LoadCap target authority offset recorded) none = access_free (state authority) LoadCapability offset 16
+row_free state (StoreCap source authority offset) none = access_free (state authority) (StoreCapability (state source)) offset 16
+row_free state (Load authority offset size value) none = access_free (state authority) LoadData offset size
+row_free state (Store authority offset size value) none = access_free (state authority) StoreData offset size
+
+cleared_free : (access : Option Access) (row : Row) → FreeOfEscapes row.tests → FreeOfEscapes (clear_row access row).tests
+cleared_free None row free = tt
+cleared_free (Some access) row free = free
+
+free_by : (rules : Rules) (row : Row) → FreeOfEscapes row.tests → FreeOfEscapes (row_by rules row).tests
+free_by One row free = free
+free_by TwoStrict row free = free
+free_by TwoClear row free = cleared_free row.access row free
+
+never : (old new : Held) (step : Step) (result : Result (Unit {0}) StepEnd) → asked_by step ≡ None → EndsIn old step result new
+    → (result ≡ Err (Refused BoundsEscape)) ↔ ((old.rules ≢ TwoClear) × ⊥)
+never old new step result none ends = (
+  λ h. absurd (not_first _ (free_by old.rules (row_of (state_of old) step) (row_free (state_of old) step none)) (first_escapes old step (answers old new step result ends h))),
+  λ beyond. absurd beyond.1,
+)
 
 -- a step's answer for its bounds
 pub escape_exact : (old new : Held) (step : Step) (result : Result (Unit {0}) StepEnd) → IsStepInRange step → IsSoundState (state_of old) → EndsIn old step result new
-    → EscapesExactly old.rules (state_of old) step result
+    → (result ≡ Err (Refused BoundsEscape)) ↔ Escapes old.rules (state_of old) step
 escape_exact old new (SetBounds target source length recorded) result range sound ends =
     narrowed old new (SetBounds target source length recorded) source length false result
     (ap (λ (row : Row). row.tests) (row_by-operation old.rules target source recorded _ _)) range.2 sound ends
 escape_exact old new (SetBoundsExact target source length recorded) result range sound ends =
     narrowed old new (SetBoundsExact target source length recorded) source length true result
     (ap (λ (row : Row). row.tests) (row_by-operation old.rules target source recorded _ _)) range.2 sound ends
-escape_exact old new step result range sound ends = tt
+escape_exact old new (Move target source recorded) result range sound ends = never old new (Move target source recorded) result refl ends
+escape_exact old new (ClearTag target source recorded) result range sound ends = never old new (ClearTag target source recorded) result refl ends
+escape_exact old new (SetAddr target source address recorded) result range sound ends = never old new (SetAddr target source address recorded) result refl ends
+escape_exact old new (AndPerm target source mask recorded) result range sound ends = never old new (AndPerm target source mask recorded) result refl ends
+escape_exact old new (Seal target source authority recorded) result range sound ends = never old new (Seal target source authority recorded) result refl ends
+escape_exact old new (Unseal target source authority recorded) result range sound ends = never old new (Unseal target source authority recorded) result refl ends
+escape_exact old new (LoadCap target authority offset recorded) result range sound ends = never old new (LoadCap target authority offset recorded) result refl ends
+escape_exact old new (StoreCap source authority offset) result range sound ends = never old new (StoreCap source authority offset) result refl ends
+escape_exact old new (Load authority offset size value) result range sound ends = never old new (Load authority offset size value) result refl ends
+escape_exact old new (Store authority offset size value) result range sound ends = never old new (Store authority offset size value) result refl ends
+
+put_there : (state : State) (key : ℕ) (cap : Cap) → put state key cap key ≡ cap
+put_there state key cap = ap (λ (b : Bool). if b then cap else state key) (eq-eqb key key refl)
+
+-- the tag of new bounds in clear mode
+clears_by : (old : Held) (target source length : ℕ) (recorded : Cap) (new : State) → length < 2 ^ 64 → IsSoundState (state_of old)
+    → Leads old.rules (state_of old) (SetBounds target source length recorded) new → ClearsBeyond old.rules (state_of old) (SetBounds target source length recorded) new
+clears_by old target source length recorded new fits sound leads mode held unsealed =
+    let state = state_of old in
+    let row = row_of state (SetBounds target source length recorded) in
+    let made = clear_result (set_bounds_tests (state source) length false) (set_bounds_result (state source) length) in
+    let after : new ≡ put state target made = leads.after ∙ ap (λ (rules : Rules). state_with state (row_by rules row).writes) mode in
+    let is : new target ≡ made = ap (λ (s : State). s target) after ∙ put_there state target made in
+    untagged_where_beyond (state source) length false (new target) fits is refl held unsealed (sound source held)
+
+pub clears_exactly : (old new : Held) (step : Step) (result : Result (Unit {0}) StepEnd) → IsStepInRange step → IsSoundState (state_of old) → EndsIn old step result new
+    → OnOk result (ClearsBeyond old.rules (state_of old) step (state_of new))
+clears_exactly old new (SetBounds target source length recorded) (Ok done) range sound ends =
+    clears_by old target source length recorded (state_of new) range.2 sound ends.leads
+clears_exactly old new (Move target source recorded) (Ok done) range sound ends = tt
+clears_exactly old new (ClearTag target source recorded) (Ok done) range sound ends = tt
+clears_exactly old new (SetBoundsExact target source length recorded) (Ok done) range sound ends = tt
+clears_exactly old new (SetAddr target source address recorded) (Ok done) range sound ends = tt
+clears_exactly old new (AndPerm target source mask recorded) (Ok done) range sound ends = tt
+clears_exactly old new (Seal target source authority recorded) (Ok done) range sound ends = tt
+clears_exactly old new (Unseal target source authority recorded) (Ok done) range sound ends = tt
+clears_exactly old new (LoadCap target authority offset recorded) (Ok done) range sound ends = tt
+clears_exactly old new (StoreCap source authority offset) (Ok done) range sound ends = tt
+clears_exactly old new (Load authority offset size value) (Ok done) range sound ends = tt
+clears_exactly old new (Store authority offset size value) (Ok done) range sound ends = tt
+clears_exactly old new step (Err end) range sound ends = tt
 
 -- what a step that is made leaves of authority
 pub step_within : (old new : Held) (step : Step) (result : Result (Unit {0}) StepEnd) → IsStepInRange step → IsSoundState (state_of old) → EndsIn old step result new

@@ -1,14 +1,11 @@
--- When a step that sets bounds is refused for them.
-use Rattle.std.specs.Prelude.{◌≡◌, ◌≢◌, ◌↔◌, ℕ, ◌+◌, Option, Some, None, IfSome, IsTrue, IsFalse, Result, Err}
+-- When a step that sets bounds is refused for them, or loses its tag.
+use Rattle.std.specs.Prelude.{◌≡◌, ◌≢◌, ◌↔◌, ℕ, ◌+◌, Option, Some, None, IsTrue, IsFalse}
 use Rattle.cap_word.specs.declared.word.Cap.{Cap}
 use Rattle.cap_word.specs.Fields.{address_of}
 use Rattle.cap_bounds.specs.Bounds.{base_of, top_of, IsInside}
 use Rattle.cap_log.specs.declared.lines.Step.{Step}
 use Rattle.cap_log.specs.declared.lines.Step.TheVariants.{SetBounds, SetBoundsExact}
 use Rattle.cap_ops.specs.Permissions.{is_sealed}
-use Rattle.cap_machine.specs.declared.refusal.Refusal.TheVariants.{BoundsEscape}
-use Rattle.cap_machine.specs.declared.ends.StepEnd.{StepEnd}
-use Rattle.cap_machine.specs.declared.ends.StepEnd.TheVariants.{Refused}
 use Rattle.cap_machine.specs.declared.rules.Rules.{Rules}
 use Rattle.cap_machine.specs.declared.rules.Rules.TheVariants.{TwoClear}
 use Rattle.cap_machine.specs.States.{State}
@@ -23,9 +20,18 @@ asked_by step = None
 abbrev pub HasRoomFor : Cap → ℕ → Type 0
 HasRoomFor cap length = IsInside (address_of cap.word.0) (address_of cap.word.0 + length) (base_of cap.word.0) (top_of cap.word.0)
 
--- a step that sets bounds of a tagged, unsealed source answers BoundsEscape exactly where the bounds that it asks for, before any
--- rounding, do not lie inside the source's: the test of CSetBounds (UCAM-CL-TR-987); in clear mode it never does
-abbrev pub EscapesExactly : Rules → State → Step → Result (Unit {0}) StepEnd → Type 0
-EscapesExactly rules state step result =
-    IfSome (asked_by step) (λ asked. IsTrue (state asked.0).tag → IsFalse (is_sealed (state asked.0).word.0)
-    → (result ≡ Err (Refused BoundsEscape)) ↔ ((rules ≢ TwoClear) × (HasRoomFor (state asked.0) asked.1 → ⊥)))
+-- the bounds that are asked for, before any rounding, do not lie inside those of a tagged, unsealed source
+abbrev pub AsksBeyond : State → Option (ℕ × ℕ) → Type 0
+AsksBeyond state None = ⊥
+AsksBeyond state (Some asked) =
+    IsTrue (state asked.0).tag × IsFalse (is_sealed (state asked.0).word.0) × (HasRoomFor (state asked.0) asked.1 → ⊥)
+
+-- a step is refused for its bounds: by strict rules, where it asks for bounds beyond its source's (the test of CSetBounds, UCAM-CL-TR-987)
+abbrev pub Escapes : Rules → State → Step → Type 0
+Escapes rules state step = (rules ≢ TwoClear) × AsksBeyond state (asked_by step)
+
+-- in clear mode, new bounds of a tagged, unsealed source that may be rounded lose its tag exactly where they do not lie inside the source's
+abbrev pub ClearsBeyond : Rules → State → Step → State → Type 0
+ClearsBeyond rules old (SetBounds target source length recorded) new =
+    rules ≡ TwoClear → IsTrue (old source).tag → IsFalse (is_sealed (old source).word.0) → IsFalse (new target).tag ↔ (HasRoomFor (old source) length → ⊥)
+ClearsBeyond rules old step new = Unit {0}

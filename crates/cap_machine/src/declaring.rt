@@ -27,7 +27,8 @@ use tagmem::{NoMemory, TaggedStore};
 impl<M: TaggedStore> Machine<M> {
     /// Puts a root, tagged, at its place, and counts it. It is refused for the first of these that holds:
     /// its place has a capability with a tag already (`PlaceTaken`), its word is not sound
-    /// (`UnsoundRoot`), there are 4,096 roots, or it names a granule beyond 65,536 (`LimitPassed`).
+    /// (`UnsoundRoot`), there are 4,096 roots, or it names a granule beyond those that the rules allow
+    /// (`LimitPassed`).
     /// `NoMemory` comes only at a granule named for the first time. After an error nothing has changed.
     pub fn declare(&mut self, place: Place, word: Word) -> Result<(), StepEnd>
         requires { IsPlace place }

@@ -25,7 +25,7 @@ use cap_word::Cap;
 
 pub(crate) fn set_bounds_by(rules: Rules, source: Cap, length: u64, exact: bool) -> Result<Cap, OpFault>
     ensures outcome { EndsBy rules (set_bounds_tests source length exact) (set_bounds_result source length) result }
-    ensures lawful { IfOk result (λ cap. StaysWithin cap source) }
+    ensures stays_within { IfOk result (λ cap. StaysWithin cap source) }
 {
     match rules {
         Rules::TwoClear => Ok(set_bounds_clear(source, length, exact)),
@@ -35,7 +35,7 @@ pub(crate) fn set_bounds_by(rules: Rules, source: Cap, length: u64, exact: bool)
 
 pub(crate) fn set_addr_by(rules: Rules, source: Cap, address: u64) -> Result<Cap, OpFault>
     ensures outcome { EndsBy rules (set_addr_tests source address) (set_addr_result source address) result }
-    ensures lawful { IfOk result (λ cap. StaysWithin cap source) }
+    ensures stays_within { IfOk result (λ cap. StaysWithin cap source) }
 {
     match rules {
         Rules::TwoClear => Ok(set_addr_clear(source, address)),
@@ -45,7 +45,7 @@ pub(crate) fn set_addr_by(rules: Rules, source: Cap, address: u64) -> Result<Cap
 
 pub(crate) fn and_perm_by(rules: Rules, source: Cap, mask: u64) -> Result<Cap, OpFault>
     ensures outcome { EndsBy rules (and_perm_tests source) (and_perm_result source mask) result }
-    ensures lawful { IfOk result (λ cap. StaysWithin cap source) }
+    ensures stays_within { IfOk result (λ cap. StaysWithin cap source) }
 {
     match rules {
         Rules::TwoClear => Ok(and_perm_clear(source, mask)),
@@ -55,7 +55,7 @@ pub(crate) fn and_perm_by(rules: Rules, source: Cap, mask: u64) -> Result<Cap, O
 
 pub(crate) fn seal_by(rules: Rules, source: Cap, authority: Cap) -> Result<Cap, OpFault>
     ensures outcome { EndsBy rules (seal_tests source authority) (seal_result source authority) result }
-    ensures lawful { IfOk result (λ cap. StaysWithin cap source) }
+    ensures stays_within { IfOk result (λ cap. StaysWithin cap source) }
 {
     match rules {
         Rules::TwoClear => Ok(seal_clear(source, authority)),
@@ -65,7 +65,7 @@ pub(crate) fn seal_by(rules: Rules, source: Cap, authority: Cap) -> Result<Cap, 
 
 pub(crate) fn unseal_by(rules: Rules, source: Cap, authority: Cap) -> Result<Cap, OpFault>
     ensures outcome { EndsBy rules (unseal_tests source authority) (unseal_result source authority) result }
-    ensures lawful { IfOk result (λ cap. StaysWithin cap source) }
+    ensures stays_within { IfOk result (λ cap. StaysWithin cap source) }
 {
     match rules {
         Rules::TwoClear => Ok(unseal_clear(source, authority)),

@@ -1,6 +1,6 @@
 //! Making steps.
 
-ghost use Rattle.std.specs.Prelude.{◌≡◌, ◌<◌, ◌≤◌, ◌^◌, ◌/◌, ◌%◌, ◌+◌, ◌*◌, ◌||◌, ◌⊎◌, ◌≤ℤ◌, pos, neg_ℤ, nat_le, MatchResult, OnOk, IfOk, IfErr, Ok, Err, None, Some, true, false};
+ghost use Rattle.std.specs.Prelude.{◌≡◌, ◌↔◌, ◌<◌, ◌≤◌, ◌^◌, ◌/◌, ◌%◌, ◌+◌, ◌*◌, ◌||◌, ◌⊎◌, ◌≤ℤ◌, pos, neg_ℤ, nat_le, MatchResult, OnOk, IfOk, IfErr, Ok, Err, None, Some, true, false};
 ghost use Rattle.cap_ops.specs.Tests.{first_of};
 ghost use Rattle.cap_ops.specs.Accesses.{
   access_address,
@@ -12,7 +12,7 @@ ghost use Rattle.cap_log.specs.Lines.{IsDataSize, IsOffset, IsStepInRange};
 ghost use Rattle.cap_machine.specs.States.{granule_key};
 ghost use Rattle.cap_machine.specs.Steps.{is_same_cap};
 ghost use Rattle.cap_machine.specs.Parents.{IsSoundCap, StaysWithinParents};
-ghost use Rattle.cap_machine.specs.Escapes.{EscapesExactly};
+ghost use Rattle.cap_machine.specs.Escapes.{ClearsBeyond, Escapes};
 ghost use Rattle.cap_machine.specs.Refusals.{refusal_of};
 ghost use Rattle.cap_machine.specs.Helds.{
   EndsAccess,
@@ -37,22 +37,26 @@ use tagmem::TaggedStore;
 impl<M: TaggedStore> Machine<M> {
     /// Makes a step and counts it. It is refused for the first of these that holds: the tests of its
     /// operation or access, in their order; the log records another result or value than the machine's
-    /// (`WrongResult`); there are 4,294,967,295 steps, or it names a granule beyond 65,536
-    /// (`LimitPassed`). `NoMemory` comes only at a granule named for the first time. After an error
+    /// (`WrongResult`); there are 4,294,967,295 steps, or it names a granule beyond those that the rules
+    /// allow (`LimitPassed`). In clear mode the tests of an operation on registers refuse nothing: its result
+    /// loses its tag where one holds. `NoMemory` comes only at a granule named for the first time. After an error
     /// nothing has changed.
     ///
     /// A step keeps every tagged word sound, and each tagged capability after it lies within what the place
-    /// held before that it comes from. `setbounds` and `setboundsexact` of a tagged, unsealed source are
-    /// refused by `BoundsEscape` exactly where the bounds that they ask for, before any rounding, do not lie
-    /// inside the source's, which is the test of the instruction CSetBounds.
+    /// held before that it comes from. By strict rules a step is refused by `BoundsEscape` exactly where it
+    /// sets bounds of a tagged, unsealed source and those that it asks for, before any rounding, do not lie
+    /// inside the source's, which is the test of the instruction CSetBounds. In clear mode no step is, and
+    /// `setbounds` of such a source loses its tag exactly there.
     pub fn step(&mut self, step: &Step) -> Result<(), StepEnd>
         requires { IsStepInRange step.now }
         ensures outcome { MatchResult result
             (λ _. Makes (held_of M.contents self.old) step.now (held_of M.contents self.new))
             (λ end. EndsStep (held_of M.contents self.old) step.now end (held_of M.contents self.new)) }
-        ensures lawful { OnOk result
+        ensures stays_within { OnOk result
             (StaysWithinParents (state_of (held_of M.contents self.old)) step.now (state_of (held_of M.contents self.new))) }
-        ensures escape { EscapesExactly self.old.rules (state_of (held_of M.contents self.old)) step.now result }
+        ensures escape { (result ≡ Err (StepEnd.Refused Refusal.BoundsEscape)) ↔ Escapes self.old.rules (state_of (held_of M.contents self.old)) step.now }
+        ensures clears { OnOk result
+            (ClearsBeyond self.old.rules (state_of (held_of M.contents self.old)) step.now (state_of (held_of M.contents self.new))) }
     {
         self.make(step)
     }

@@ -1,12 +1,16 @@
 -- The results of clear mode.
-use Rattle.std.proofs.Common.{◌≡◌, Bool, List, Some, None, Option, is_some, Result, Ok, Err, refl, sym, ap, subst, ◌∙◌}
+use Rattle.std.proofs.Common.{◌≡◌, ◌↔◌, ℕ, ◌+◌, ◌^◌, ◌<◌, true, false, Bool, List, Some, None, Option, is_some, Result, Ok, Err, refl, sym, ap, subst, ◌∙◌}
 use Rattle.std.specs.Bool.{if◌then◌else◌}
 use Rattle.std.proofs.lemmas.Bool.{false≢true}
 use Rattle.cap_word.specs.declared.word.Cap.{Cap}
+use Rattle.cap_word.specs.Fields.{address_of}
+use Rattle.cap_bounds.specs.Bounds.{IsInside, IsSound, base_of, top_of}
 use Rattle.cap_ops.specs.declared.faults.OpFault.{OpFault}
 use Rattle.cap_ops.specs.Authority.{StaysWithin}
-use Rattle.cap_ops.specs.Operations.{Clears, clear_result, cleared}
+use Rattle.cap_ops.specs.Operations.{Clears, IsStrictWhereTagged, clear_result, cleared, set_bounds_tests, set_bounds_result}
+use Rattle.cap_ops.specs.Permissions.{is_sealed}
 use Rattle.cap_ops.specs.Tests.{first_of}
+use Rattle.cap_ops.proofs.NarrowingLemmas.{first_escapes, inside_passes}
 use Rattle.cap_ops.proofs.TestLemmas.{EndsWith}
 
 -- what has no tag stays within anything
@@ -36,3 +40,30 @@ pub clear_result-outcome : (outcome : Result Cap OpFault) (tests : List (Bool ×
     → made ≡ clear_result tests result
 clear_result-outcome (Ok cap) tests result made ends clears = clears ∙ ends.1 ∙ sym (clear_result-none tests result ends.0)
 clear_result-outcome (Err fault) tests result made ends clears = clears ∙ sym (clear_result-some tests result fault ends)
+
+-- what has a tag in clear mode is the strict result
+pub strict_where_tagged : (tests : List (Bool × OpFault)) (result made : Cap) → made ≡ clear_result tests result → IsStrictWhereTagged tests result made
+strict_where_tagged tests result made is =
+    elim (first_of tests) as (λ o. first_of tests ≡ o → IsStrictWhereTagged tests result made) [
+      | None ↦ λ free. λ held. (free, is ∙ clear_result-none tests result free)
+      | Some fault ↦ λ found. λ held. absurd (false≢true (sym (ap (λ (cap : Cap). cap.tag) (is ∙ clear_result-some tests result fault found)) ∙ held))
+    ] refl
+
+set_bounds_tag : (source : Cap) (length : ℕ) → (set_bounds_result source length).tag ≡ source.tag
+unfolding set_bounds_result
+set_bounds_tag source length = refl
+
+-- new bounds of a tagged, unsealed source lose its tag exactly where the requested ones do not lie inside its own
+pub untagged_where_beyond : (source : Cap) (length : ℕ) (exact : Bool) (made : Cap) → length < 2 ^ 64
+    → made ≡ clear_result (set_bounds_tests source length exact) (set_bounds_result source length)
+    → exact ≡ false → source.tag ≡ true → is_sealed source.word.0 ≡ false → IsSound source.word.0
+    → (made.tag ≡ false) ↔ (IsInside (address_of source.word.0) (address_of source.word.0 + length) (base_of source.word.0) (top_of source.word.0) → ⊥)
+untagged_where_beyond source length exact made fits is inexact tagged unsealed sound =
+    let tests = set_bounds_tests source length exact in
+    let result = set_bounds_result source length in
+    let tag_of = λ (cap : Cap). cap.tag in (
+      λ lost inside.
+          let same = is ∙ clear_result-none tests result (inside_passes source length exact fits tagged unsealed sound inexact inside) in
+          false≢true (sym lost ∙ ap tag_of same ∙ set_bounds_tag source length ∙ tagged),
+      λ outside. ap tag_of (is ∙ clear_result-some tests result _ (first_escapes source length exact fits tagged unsealed sound outside)),
+    )

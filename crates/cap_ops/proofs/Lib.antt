@@ -7,3 +7,4 @@ pub mod PermissionLemmas
 pub mod ReplacedFields
 pub mod TestLemmas
 pub mod WithinLemmas
+mod ResultLemmas

@@ -70,6 +70,25 @@ escapes_since true false false rounds t u h = refl
 escapes_since true true covered rounds t u h = cc
 escapes_since false seal covered rounds t u h = cc
 
+held_since : (tagged seal covered rounds : Bool) → first_fault tagged seal covered rounds ≡ Some BoundsEscape → (tagged ≡ true) × (seal ≡ false)
+unfolding first_fault
+held_since true false covered rounds h = (refl, refl)
+held_since true true covered rounds h = cc
+held_since false seal covered rounds h = cc
+
+-- only a tagged, unsealed source meets that test
+pub BoundsEscape-source : (source : Cap) (length : ℕ) (exact : Bool) → first_of (set_bounds_tests source length exact) ≡ Some BoundsEscape
+    → (source.tag ≡ true) × (is_sealed source.word.0 ≡ false)
+BoundsEscape-source source length exact h = held_since source.tag (is_sealed source.word.0) _ _ (sym (first_of-set_bounds source length exact) ∙ h)
+
+passes_since : (tagged seal covered rounds : Bool) → tagged ≡ true → seal ≡ false → covered ≡ true → rounds ≡ false → first_fault tagged seal covered rounds ≡ None
+unfolding first_fault
+passes_since true false true false t u h k = refl
+passes_since true false true true t u h k = cc
+passes_since true false false rounds t u h k = cc
+passes_since true true covered rounds t u h k = cc
+passes_since false seal covered rounds t u h k = cc
+
 escaped_since : (tagged seal covered rounds : Bool) → first_fault tagged seal covered rounds ≡ Some BoundsEscape → covered ≡ false
 unfolding first_fault
 escaped_since true false true true h = cc
@@ -87,12 +106,22 @@ module _ (source : Cap) (length : ℕ) (exact : Bool) (fits : length < 2 ^ 64) (
       let lost = escaped_since source.tag (is_sealed w) _ (exact && not (is_exact base length)) (sym (first_of-set_bounds source length exact) ∙ h) in
       both_ways _ lost (covers-inside w (rounded_base base length) (rounded_top base length) (IsInside-rounded w base length fits sound inside))
 
-  first_escapes : (IsInside (address_of source.word.0) (address_of source.word.0 + length) (base_of source.word.0) (top_of source.word.0) → ⊥) → first_of (set_bounds_tests source length exact) ≡ Some BoundsEscape
+  pub first_escapes : (IsInside (address_of source.word.0) (address_of source.word.0 + length) (base_of source.word.0) (top_of source.word.0) → ⊥) → first_of (set_bounds_tests source length exact) ≡ Some BoundsEscape
   first_escapes outside =
       let w = source.word.0 in
       let base = address_of w in
       let lost = false_from_ne_true (covers w (rounded_base base length) (rounded_top base length)) (λ h. outside (IsInside-requested base length (base_of w) (top_of w) (IsInside-covers w _ _ h))) in
       first_of-set_bounds source length exact ∙ escapes_since source.tag (is_sealed w) _ (exact && not (is_exact base length)) tagged unsealed lost
+
+  -- requested bounds inside the source's pass, where they may be rounded
+  pub inside_passes : exact ≡ false → IsInside (address_of source.word.0) (address_of source.word.0 + length) (base_of source.word.0) (top_of source.word.0)
+      → first_of (set_bounds_tests source length exact) ≡ None
+  inside_passes inexact inside =
+      let w = source.word.0 in
+      let base = address_of w in
+      let kept = covers-inside w (rounded_base base length) (rounded_top base length) (IsInside-rounded w base length fits sound inside) in
+      first_of-set_bounds source length exact
+      ∙ passes_since source.tag (is_sealed w) _ (exact && not (is_exact base length)) tagged unsealed kept (ap (λ (b : Bool). b && not (is_exact base length)) inexact)
 
 pub BoundsEscape-exact : (source : Cap) (length : ℕ) (exact : Bool) (result : Result Cap OpFault) → length < 2 ^ 64 → EndsWith result (set_bounds_tests source length exact) (set_bounds_result source length)
     → source.tag ≡ true → is_sealed source.word.0 ≡ false → IsSound source.word.0

@@ -5,7 +5,7 @@ use Rattle.cap_word.specs.declared.word.Cap.{Cap}
 use Rattle.cap_bounds.specs.Bounds.{base_of, top_of, IsInside}
 use Rattle.cap_ops.specs.declared.faults.OpFault.{OpFault}
 use Rattle.cap_ops.specs.Operations.{covers, on_tagged}
-use Rattle.cap_ops.specs.Tests.{answered_by, first_of}
+use Rattle.cap_ops.specs.Tests.{first_of}
 
 -- no test of a list holds
 abbrev pub NoneHold : {F : Type 0} → List (Bool × F) → Type 0
@@ -58,14 +58,3 @@ pub first_of-append_some : {F : Type 0} (xs ys : List (Bool × F)) (fault : F) �
 first_of-append_some [] ys fault h = cc
 first_of-append_some ((true, other) ∷ xs) ys fault h = h
 first_of-append_some ((false, other) ∷ xs) ys fault h = first_of-append_some xs ys fault h
-
--- other answers beside the tests change nothing else
-pub first_of-answered_none : {F G : Type 0} (f : F → G) (tests : List (Bool × F)) → first_of tests ≡ None → first_of (answered_by f tests) ≡ None
-first_of-answered_none f [] h = refl
-first_of-answered_none f ((true, fault) ∷ tests) h = cc
-first_of-answered_none f ((false, fault) ∷ tests) h = first_of-answered_none f tests h
-
-pub first_of-answered_some : {F G : Type 0} (f : F → G) (tests : List (Bool × F)) (fault : F) → first_of tests ≡ Some fault → first_of (answered_by f tests) ≡ Some (f fault)
-first_of-answered_some f [] fault h = cc
-first_of-answered_some f ((true, other) ∷ tests) fault h = let e : other ≡ fault = cc in ap (λ x. Some (f x)) e
-first_of-answered_some f ((false, other) ∷ tests) fault h = first_of-answered_some f tests fault h

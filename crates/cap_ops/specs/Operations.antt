@@ -2,7 +2,7 @@
 -- (UCAM-CL-TR-987, the descriptions of CSetBounds, CSetBoundsExact, CSetAddr, CAndPerm, CSeal, CUnseal and
 -- CClearTag for CHERI-RISC-V). The order of the tests, and that an untagged source meets none where no
 -- authority is needed, are this profile's own.
-use Rattle.std.specs.Prelude.{ℕ, ◌+◌, ◌*◌, ◌/◌, ◌%◌, ◌^◌, Bool, false, not, ◌&&◌, ◌==◌, nat_lt, nat_le, List, [], ◌∷◌, ◌++◌, if◌then◌else◌, is_some, bit_and, ◌≡◌, Result, MatchResult}
+use Rattle.std.specs.Prelude.{ℕ, ◌+◌, ◌*◌, ◌/◌, ◌%◌, ◌^◌, Bool, false, not, ◌&&◌, ◌==◌, nat_lt, nat_le, List, [], ◌∷◌, ◌++◌, if◌then◌else◌, is_some, bit_and, ◌≡◌, IsTrue, None, Result, MatchResult}
 use Rattle.cap_word.specs.declared.word.Cap.{Cap}
 use Rattle.cap_word.specs.Fields.{address_of, bit_of, otype_of, perms_of}
 use Rattle.cap_bounds.specs.Bounds.{base_of, top_of}
@@ -24,6 +24,10 @@ cleared cap = record cap { tag = false }
 -- the result of an operation in clear mode: it loses its tag where a test holds
 abbrev pub clear_result : List (Bool × OpFault) → Cap → Cap
 clear_result tests result = if is_some (first_of tests) then cleared result else result
+
+-- what has a tag in clear mode is what the strict operation gives: no test holds, and it is that result
+abbrev pub IsStrictWhereTagged : List (Bool × OpFault) → Cap → Cap → Type 0
+IsStrictWhereTagged tests result made = IsTrue made.tag → (first_of tests ≡ None) × (made ≡ result)
 
 -- what a call gave, or where it refused the result without its tag
 abbrev pub Clears : Result Cap OpFault → Cap → Cap → Type 0

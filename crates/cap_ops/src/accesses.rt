@@ -125,7 +125,7 @@ pub fn may_access(authority: Cap, access: Access) -> Result<u64, OpFault>
 #[tactic(auto, unfolding(crate::specs::Accesses::loaded_result))]
 pub fn loaded(authority: Cap, stored: Cap) -> Cap
     ensures result_is { result ≡ loaded_result authority stored }
-    ensures lawful { StaysWithin result stored }
+    ensures stays_within { StaysWithin result stored }
 {
     Cap {
         tag: stored.tag && permits(authority.word, PERMIT_LOAD_CAPABILITY),

@@ -1,6 +1,7 @@
 //! New addresses.
 
 ghost use Rattle.std.specs.Prelude.{◌≡◌, ◌≢◌, ◌≤◌, ◌↔◌, None, Some, MatchResult, IfOk, IsFalse, IsTrue};
+ghost use Rattle.cap_word.specs.Fields.{address_of};
 ghost use Rattle.cap_bounds.specs.Bounds.{base_of, top_of};
 ghost use Rattle.cap_bounds.specs.Range.{IsRepresentable, with_address};
 ghost use Rattle.cap_ops.specs.Authority.{StaysWithin};
@@ -62,7 +63,8 @@ pub fn set_addr(source: Cap, address: u64) -> Result<Cap, OpFault>
     ensures outcome { MatchResult result
         (λ cap. (first_of (set_addr_tests source address) ≡ None) × (cap ≡ set_addr_result source address))
         (λ fault. first_of (set_addr_tests source address) ≡ Some fault) }
-    ensures lawful { IfOk result (λ cap. StaysWithin cap source) }
+    ensures moved_so { IfOk result (λ cap. (cap.tag ≡ source.tag) × (address_of cap.word.0 ≡ address)) }
+    ensures stays_within { IfOk result (λ cap. StaysWithin cap source) }
     ensures range { IsTrue source.tag → IsFalse (is_sealed source.word.0)
         → (result ≡ Err OpFault.NotRepresentable) ↔ (¬ IsRepresentable source.word.0 address) }
     ensures near { base_of source.word.0 ≤ address → address ≤ top_of source.word.0

@@ -1,9 +1,15 @@
-//! The operations in clear mode: where a test holds, the result loses its tag.
+//! The operations in clear mode, as hardware has it that clears tags instead of trapping (Morello and
+//! current CHERI-RISC-V do): each gives what the strict operation gives, and where that refuses, the
+//! same result without its tag.
 
-ghost use Rattle.std.specs.Prelude.{◌≡◌};
+ghost use Rattle.std.specs.Prelude.{◌≡◌, ◌+◌, ◌↔◌, IsFalse, IsTrue, false};
+ghost use Rattle.cap_word.specs.Fields.{address_of};
+ghost use Rattle.cap_bounds.specs.Bounds.{IsInside, IsSound, base_of, top_of};
 ghost use Rattle.cap_ops.specs.Authority.{StaysWithin};
+ghost use Rattle.cap_ops.specs.Permissions.{is_sealed};
 ghost use Rattle.cap_ops.specs.Operations.{
   Clears,
+  IsStrictWhereTagged,
   and_perm_result,
   and_perm_tests,
   clear_result,
@@ -34,42 +40,59 @@ fn or_cleared(outcome: Result<Cap, OpFault>, unchecked: Cap) -> Cap
     }
 }
 
-/// `set_bounds` in clear mode.
+/// [`set_bounds`] in clear mode. The source's bounds become the length from its address on, rounded; of a
+/// tagged source the result loses its tag where it is sealed, where the rounded bounds do not lie inside
+/// its own, and with `exact` where they were rounded.
 pub fn set_bounds_clear(source: Cap, length: u64, exact: bool) -> Cap
     ensures result_is { result ≡ clear_result (set_bounds_tests source length exact) (set_bounds_result source length) }
-    ensures lawful { StaysWithin result source }
+    ensures strict { IsStrictWhereTagged (set_bounds_tests source length exact) (set_bounds_result source length) result }
+    ensures stays_within { StaysWithin result source }
+    ensures escape { exact ≡ false → IsTrue source.tag → IsFalse (is_sealed source.word.0) → IsSound source.word.0
+        → IsFalse result.tag ↔ (¬ IsInside (address_of source.word.0)
+        (address_of source.word.0 + length) (base_of source.word.0) (top_of source.word.0)) }
 {
     or_cleared(set_bounds(source, length, exact), narrowed(source, length))
 }
 
-/// `set_addr` in clear mode.
+/// [`set_addr`] in clear mode. The source gets another address; a tagged one loses its tag where it is
+/// sealed, and where the address does not keep its bounds.
 pub fn set_addr_clear(source: Cap, address: u64) -> Cap
     ensures result_is { result ≡ clear_result (set_addr_tests source address) (set_addr_result source address) }
-    ensures lawful { StaysWithin result source }
+    ensures strict { IsStrictWhereTagged (set_addr_tests source address) (set_addr_result source address) result }
+    ensures stays_within { StaysWithin result source }
 {
     or_cleared(set_addr(source, address), moved(source, address))
 }
 
-/// `and_perm` in clear mode.
+/// [`and_perm`] in clear mode. The source keeps those of its permissions that the mask has too; a tagged
+/// one loses its tag where it is sealed.
 pub fn and_perm_clear(source: Cap, mask: u64) -> Cap
     ensures result_is { result ≡ clear_result (and_perm_tests source) (and_perm_result source mask) }
-    ensures lawful { StaysWithin result source }
+    ensures strict { IsStrictWhereTagged (and_perm_tests source) (and_perm_result source mask) result }
+    ensures stays_within { StaysWithin result source }
 {
     or_cleared(and_perm(source, mask), masked(source, mask))
 }
 
-/// `seal` in clear mode: the object type is the low 18 bits of the authority's address.
+/// [`seal`] in clear mode. The source gets the low 18 bits of the authority's address as its object type,
+/// whatever the authority is, and loses its tag where a test of sealing holds.
 pub fn seal_clear(source: Cap, authority: Cap) -> Cap
     ensures result_is { result ≡ clear_result (seal_tests source authority) (seal_result source authority) }
-    ensures lawful { StaysWithin result source }
+    ensures strict { IsStrictWhereTagged (seal_tests source authority) (seal_result source authority) result }
+    ensures stays_within { StaysWithin result source }
 {
     or_cleared(seal(source, authority), with_authority_type(source, authority))
 }
 
-/// `unseal` in clear mode.
+/// [`unseal`] in clear mode. The source becomes unsealed, Global only where the authority, tagged or not,
+/// is so too, and loses its tag where a test of unsealing holds.
 pub fn unseal_clear(source: Cap, authority: Cap) -> Cap
     ensures result_is { result ≡ clear_result (unseal_tests source authority) (unseal_result source authority) }
-    ensures lawful { StaysWithin result source }
+    ensures strict { IsStrictWhereTagged (unseal_tests source authority) (unseal_result source authority) result }
+    ensures stays_within { StaysWithin result source }
 {
     or_cleared(unseal(source, authority), without_type(source, authority))
 }
+
+#[cfg(test)]
+mod tests;

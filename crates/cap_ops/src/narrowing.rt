@@ -66,7 +66,7 @@ pub fn set_bounds(source: Cap, length: u64, exact: bool) -> Result<Cap, OpFault>
     ensures outcome { MatchResult result
         (λ cap. (first_of (set_bounds_tests source length exact) ≡ None) × (cap ≡ set_bounds_result source length))
         (λ fault. first_of (set_bounds_tests source length exact) ≡ Some fault) }
-    ensures lawful { IfOk result (λ cap. StaysWithin cap source) }
+    ensures stays_within { IfOk result (λ cap. StaysWithin cap source) }
     ensures escape { IsTrue source.tag → IsFalse (is_sealed source.word.0) → IsSound source.word.0
         → (result ≡ Err OpFault.BoundsEscape) ↔ (¬ IsInside (address_of source.word.0)
         (address_of source.word.0 + length) (base_of source.word.0) (top_of source.word.0)) }

@@ -30,7 +30,7 @@ fn field_of(view: u64) -> u16
 /// The capability without its tag (CClearTag).
 pub fn clear_tag(source: Cap) -> Cap
     ensures result_is { result ≡ cleared source }
-    ensures lawful { StaysWithin result source }
+    ensures stays_within { StaysWithin result source }
 {
     Cap {
         tag: false,
@@ -70,7 +70,7 @@ pub fn and_perm(source: Cap, mask: u64) -> Result<Cap, OpFault>
         (λ cap. (first_of (and_perm_tests source) ≡ None) × (cap ≡ and_perm_result source mask))
         (λ fault. first_of (and_perm_tests source) ≡ Some fault) }
     ensures view { IfOk result (λ cap. perm_view_of cap.word.0 ≡ bit_and (perm_view_of source.word.0) mask) }
-    ensures lawful { IfOk result (λ cap. StaysWithin cap source) }
+    ensures stays_within { IfOk result (λ cap. StaysWithin cap source) }
 {
     match and_perm_fault(source) {
         Some(fault) => Err(fault),

@@ -1,7 +1,7 @@
 //! Object types: sealing and unsealing.
 
-ghost use Rattle.std.specs.Prelude.{◌≡◌, ◌<◌, None, Some, MatchResult, IfOk};
-ghost use Rattle.cap_word.specs.Fields.{address_of};
+ghost use Rattle.std.specs.Prelude.{◌≡◌, ◌<◌, ◌&&◌, None, Some, MatchResult, IfOk, IsFalse, IsTrue};
+ghost use Rattle.cap_word.specs.Fields.{address_of, otype_of};
 ghost use Rattle.cap_ops.specs.Authority.{StaysWithin};
 ghost use Rattle.cap_ops.specs.Operations.{
   holds_address,
@@ -13,7 +13,7 @@ ghost use Rattle.cap_ops.specs.Operations.{
   unseal_result,
   unseal_tests,
 };
-ghost use Rattle.cap_ops.specs.Permissions.{is_sealed};
+ghost use Rattle.cap_ops.specs.Permissions.{global, has_permission, is_sealed};
 ghost use Rattle.cap_ops.specs.Tests.{first_of};
 
 use crate::bits::{
@@ -105,7 +105,9 @@ pub fn seal(source: Cap, authority: Cap) -> Result<Cap, OpFault>
     ensures outcome { MatchResult result
         (λ cap. (first_of (seal_tests source authority) ≡ None) × (cap ≡ seal_result source authority))
         (λ fault. first_of (seal_tests source authority) ≡ Some fault) }
-    ensures lawful { IfOk result (λ cap. StaysWithin cap source) }
+    ensures sealed_so { IfOk result (λ cap. IsTrue cap.tag × IsTrue (is_sealed cap.word.0)
+        × (otype_of cap.word.0 ≡ address_of authority.word.0) × (address_of cap.word.0 ≡ address_of source.word.0)) }
+    ensures stays_within { IfOk result (λ cap. StaysWithin cap source) }
 {
     match seal_fault(source, authority) {
         Some(fault) => Err(fault),
@@ -169,7 +171,10 @@ pub fn unseal(source: Cap, authority: Cap) -> Result<Cap, OpFault>
     ensures outcome { MatchResult result
         (λ cap. (first_of (unseal_tests source authority) ≡ None) × (cap ≡ unseal_result source authority))
         (λ fault. first_of (unseal_tests source authority) ≡ Some fault) }
-    ensures lawful { IfOk result (λ cap. StaysWithin cap source) }
+    ensures unsealed_so { IfOk result (λ cap. IsTrue cap.tag × IsFalse (is_sealed cap.word.0)
+        × (has_permission cap.word.0 global ≡ (has_permission source.word.0 global && has_permission authority.word.0 global))
+        × (address_of cap.word.0 ≡ address_of source.word.0)) }
+    ensures stays_within { IfOk result (λ cap. StaysWithin cap source) }
 {
     match unseal_fault(source, authority) {
         Some(fault) => Err(fault),

@@ -3,8 +3,11 @@ mod LogLemmas
 mod ProgressLemmas
 mod JudgeLemmas
 mod VersionLemmas
+mod SourceLemmas
 mod HeaderLemmas
 mod LineLemmas
 mod MemoryTexts
 mod SoundTests
 mod OperandLemmas
+mod DoingLemmas
+mod ShownLemmas

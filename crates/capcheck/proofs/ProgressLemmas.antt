@@ -75,12 +75,14 @@ naming-rules account (Some granule) = refl
 naming-roots : (account : Account) (granule : Option ℕ) → (naming account granule).roots ≡ account.roots
 naming-roots account None = refl
 naming-roots account (Some granule) = refl
+
 naming_roots : (old new : Held) (step : steps_module.Step) → Makes old step new → new.roots ≡ old.roots
 naming_roots old new step makes = ap (λ (a : Account). a.roots) makes.account ∙ naming-roots (account_of old) (named_by (row_in (account_of old) step))
 
 naming-steps : (account : Account) (granule : Option ℕ) → (naming account granule).steps ≡ account.steps
 naming-steps account None = refl
 naming-steps account (Some granule) = refl
+
 naming_steps : (old new : Held) (root : DeclaredRoot) → Declares old root.place root.word new → new.steps ≡ old.steps
 naming_steps old new root declares = ap (λ (a : Account). a.steps) declares.account ∙ naming-steps (account_of old) (granule_of root.place)
 

@@ -5,6 +5,7 @@ ghost use Rattle.tagmem.specs.Granules.{bytes_at, overwritten, HasRoom, IsStored
 ghost use Rattle.tagmem.specs.Listed.{contents_of, entry_of, IsRising, AllStored, IsAt, IsGapFor};
 ghost use Rattle.tagmem.specs.ListLaws.{AreStored-contents_of, len_fits};
 
+use crate::overwriting::overwrite;
 use crate::store::{NoMemory, TaggedStore};
 use std::alloc::Global;
 
@@ -97,15 +98,6 @@ impl ListStore {
             }
         }
     }
-}
-
-// Writes bytes into a granule's, from its byte `at` on.
-fn overwrite(granule: &mut [u8; 16], at: u8, bytes: &[u8])
-    requires { at + length bytes.now ≤ 16 }
-    ensures { granule.new ≡ overwritten granule.old at bytes.now }
-{
-    let from = at as usize;
-    granule[from..from + bytes.len()].copy_from_slice(bytes);
 }
 
 impl TaggedStore for ListStore {

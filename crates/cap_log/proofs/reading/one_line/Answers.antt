@@ -1,5 +1,11 @@
-use Rattle.cap_log.proofs.SpellingLemmas.{one_spelling}
+use Rattle.cap_log.proofs.SpellingLemmas.{one_spelling, spelling-plain, spelling-short}
 use Rattle.cap_log.proofs.reading.one_line.Goals as goal
 
-pub returns : goal.returns
-returns c = one_spelling
+pub returns-clause-one : goal.returns-clause-one
+returns-clause-one c = one_spelling
+
+pub returns-clause-plain : goal.returns-clause-plain
+returns-clause-plain c = spelling-plain
+
+pub returns-clause-short : goal.returns-clause-short
+returns-clause-short c = spelling-short

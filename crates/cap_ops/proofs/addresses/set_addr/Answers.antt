@@ -1,5 +1,6 @@
 use Rattle.std.proofs.Common.{◌^◌, ◌<◌, Ok, Err, ◌∙◌, sym, arith}
 use Rattle.cap_ops.proofs.AddressLemmas.{NotRepresentable-exact, NotRepresentable-near, StaysWithin-set_addr}
+use Rattle.cap_ops.proofs.ResultLemmas.{moved_so}
 use Rattle.cap_ops.proofs.WithinLemmas.{StaysWithin-same}
 use Rattle.cap_ops.proofs.addresses.set_addr.Goals as goal
 
@@ -13,8 +14,8 @@ returns-in-Some-clause-near c =
     let fits : c.args.address < 2 ^ 64 = omega arith in
     NotRepresentable-near c.args.source c.args.address (Err c.in-Some.fault) fits (sym c.set_addr_fault.ensures ∙ c.in-Some.is)
 
-pub returns-in-None-clause-lawful : goal.returns-in-None-clause-lawful
-returns-in-None-clause-lawful c =
+pub returns-in-None-clause-stays_within : goal.returns-in-None-clause-stays_within
+returns-in-None-clause-stays_within c =
     let fits : c.args.address < 2 ^ 64 = omega arith in
     StaysWithin-same c.moved.result _ c.args.source c.moved.ensures (StaysWithin-set_addr c.args.source c.args.address fits (sym c.set_addr_fault.ensures ∙ c.in-None.is))
 
@@ -22,3 +23,8 @@ pub returns-in-None-clause-range : goal.returns-in-None-clause-range
 returns-in-None-clause-range c =
     let fits : c.args.address < 2 ^ 64 = omega arith in
     NotRepresentable-exact c.args.source c.args.address (Ok c.moved.result) fits (sym c.set_addr_fault.ensures ∙ c.in-None.is, c.moved.ensures)
+
+pub returns-in-None-clause-moved_so : goal.returns-in-None-clause-moved_so
+returns-in-None-clause-moved_so c =
+    let fits : c.args.address < 2 ^ 64 = omega arith in
+    moved_so c.args.source c.args.address c.moved.result fits c.moved.ensures

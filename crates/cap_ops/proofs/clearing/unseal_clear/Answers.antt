@@ -1,7 +1,7 @@
 use Rattle.std.proofs.Common.{◌≡◌, ◌^◌, ◌<◌, subst, arith}
 use Rattle.cap_word.specs.declared.word.Cap.{Cap}
 use Rattle.cap_ops.specs.Operations.{Clears, unseal_tests, unseal_result}
-use Rattle.cap_ops.proofs.ClearLemmas.{StaysWithin-clear, clear_result-outcome}
+use Rattle.cap_ops.proofs.ClearLemmas.{StaysWithin-clear, clear_result-outcome, strict_where_tagged}
 use Rattle.cap_ops.proofs.Derivations.{StaysWithin-unseal}
 use Rattle.cap_ops.proofs.WithinLemmas.{StaysWithin-same}
 use Rattle.cap_ops.proofs.clearing.unseal_clear.Goals as goal
@@ -11,7 +11,10 @@ returns-clause-result_is c =
     clear_result-outcome c.unseal.result (unseal_tests c.args.source c.args.authority) (unseal_result c.args.source c.args.authority) c.or_cleared.result c.unseal.ensures.outcome
     (subst (λ (cap : Cap). Clears c.unseal.result cap c.or_cleared.result) c.without_type.ensures c.or_cleared.ensures)
 
-pub returns-clause-lawful : goal.returns-clause-lawful
-returns-clause-lawful c =
+pub returns-clause-stays_within : goal.returns-clause-stays_within
+returns-clause-stays_within c =
     StaysWithin-same c.or_cleared.result _ c.args.source (returns-clause-result_is c)
     (StaysWithin-clear (unseal_tests c.args.source c.args.authority) (unseal_result c.args.source c.args.authority) c.args.source (λ free. StaysWithin-unseal c.args.source c.args.authority))
+
+pub returns-clause-strict : goal.returns-clause-strict
+returns-clause-strict c = strict_where_tagged (unseal_tests c.args.source c.args.authority) (unseal_result c.args.source c.args.authority) c.or_cleared.result (returns-clause-result_is c)

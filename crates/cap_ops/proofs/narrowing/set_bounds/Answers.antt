@@ -16,8 +16,8 @@ pub returns-in-Ok-clause-outcome : goal.returns-in-Ok-clause-outcome
 returns-in-Ok-clause-outcome c =
     (c.in-Ok.ensures.0, set_bounds_result-made c.args.source c.with_bounds.result.0 c.args.length _ _ _ _ _ c.address.ensures c.in-Ok.ensures.1 c.with_bounds.ensures.word)
 
-pub returns-in-Ok-clause-lawful : goal.returns-in-Ok-clause-lawful
-returns-in-Ok-clause-lawful c =
+pub returns-in-Ok-clause-stays_within : goal.returns-in-Ok-clause-stays_within
+returns-in-Ok-clause-stays_within c =
     let source = c.args.source in
     let fits : c.args.length < 2 ^ 64 = omega arith in
     let result_is = set_bounds_result-made source c.with_bounds.result.0 c.args.length _ _ _ _ _ c.address.ensures c.in-Ok.ensures.1 c.with_bounds.ensures.word in

@@ -1,0 +1,40 @@
+//! Where bytes go.
+
+ghost use Rattle.std.specs.Prelude.{◌≡◌, ℕ, ◌≤◌, ◌<◌, List, [], ◌++◌, length, take, IfOk, OnOk, OnErr};
+ghost use Rattle.cap_log.specs.Streams.{next_count};
+
+pub mod failing;
+pub mod slices;
+pub mod writing;
+
+/// A sink that failed.
+#[derive(Clone, Copy, Debug, PartialEq, Eq)]
+pub struct PushFault;
+
+/// Where bytes go, a piece at a time.
+pub trait Sink {
+    /// The bytes that were taken between two moments of a sink.
+    ghost took: { Self → Self → List ℕ → Type 0 };
+
+    /// How many pushes failed, modulo 2^64.
+    ghost faults: { Self → ℕ };
+
+    /// Takes bytes from the front of the piece, and answers how many: at least one, unless the piece
+    /// is empty. A fault counts one more, and nothing was taken.
+    fn push(&mut self, piece: &[u8]) -> Result<usize, PushFault>
+        ensures fits { IfOk result (λ n. n ≤ length piece.now) }
+        ensures some { IfOk result (λ n. 0 < length piece.now → 0 < n) }
+        ensures bytes { IfOk result (λ n. took self.old self.new (take n piece.now)) }
+        ensures counted { OnOk result (faults self.new ≡ faults self.old) }
+        ensures nothing_taken { OnErr result (took self.old self.new []) }
+        ensures fault_counted { OnErr result (faults self.new ≡ next_count (faults self.old)) };
+
+    /// Nothing is taken where nothing is pushed.
+    ghost nothing: { (s : Self) → took s s [] };
+
+    /// What is taken in two calls in a row.
+    ghost joined: { (a b c : Self) (xs ys : List ℕ) → took a b xs → took b c ys → took a c (xs ++ ys) };
+}
+
+#[cfg(test)]
+mod tests;

@@ -1,0 +1,62 @@
+//! A sink of which one push fails.
+
+ghost use Rattle.std.specs.Prelude.{◌≡◌, ◌≢◌, ◌+◌, ◌-◌, ◌%◌, ◌^◌, ◌≤◌, ◌<◌, ℕ, List, [], ◌++◌, length, take, None, Some, option_map, IfOk, IsErr, OnOk, OnErr};
+ghost use Rattle.cap_log.specs.Streams.{next_count};
+ghost use Rattle.cap_log.specs.Failings.{own_faults};
+
+use crate::sinks::{PushFault, Sink};
+
+/// A sink of which one push fails, and all others are the inner one's.
+#[derive(Drop)]
+pub struct FailingSink<K: Sink> {
+    inner: K,
+    // How many pushes come before the one that fails. None once it has failed.
+    waits: Option<u64>,
+}
+
+impl<K: Sink> FailingSink<K> {
+    /// The inner sink, but for push number `at`, counted from 0: that one fails without asking it.
+    pub fn new(inner: K, at: u64) -> FailingSink<K>
+        ensures inner { result.inner ≡ inner }
+        ensures waits { result.waits ≡ Some at }
+    {
+        FailingSink {
+            inner,
+            waits: Some(at),
+        }
+    }
+}
+
+impl<K: Sink> Sink for FailingSink<K> {
+    ghost took = { λ a b xs. K.took a.inner b.inner xs };
+
+    ghost faults = { λ s. (K.faults s.inner + own_faults s.waits) % 2 ^ 64 };
+
+    ghost nothing = { λ s. K.nothing s.inner };
+
+    ghost joined = { λ a b c xs ys h k. K.joined a.inner b.inner c.inner xs ys h k };
+
+    fn push(&mut self, piece: &[u8]) -> Result<usize, PushFault>
+        ensures fits { IfOk result (λ n. n ≤ length piece.now) }
+        ensures some { IfOk result (λ n. 0 < length piece.now → 0 < n) }
+        ensures bytes { IfOk result (λ n. K.took self.old.inner self.new.inner (take n piece.now)) }
+        ensures counted { OnOk result ((K.faults self.new.inner + own_faults self.new.waits) % 2 ^ 64 ≡ (K.faults self.old.inner + own_faults self.old.waits) % 2 ^ 64) }
+        ensures nothing_taken { OnErr result (K.took self.old.inner self.new.inner []) }
+        ensures fault_counted { OnErr result ((K.faults self.new.inner + own_faults self.new.waits) % 2 ^ 64 ≡ next_count ((K.faults self.old.inner + own_faults self.old.waits) % 2 ^ 64)) }
+
+        // One push fails, and leaves the inner sink as it is. All others are passed on.
+        ensures failing { self.old.waits ≡ Some 0 → IsErr result × (self.new.inner ≡ self.old.inner) × (self.new.waits ≡ None) }
+        ensures waiting { self.old.waits ≢ Some 0 → self.new.waits ≡ option_map (λ n. n - 1) self.old.waits }
+        ensures inner_fault { OnErr result (self.old.waits ≢ Some 0 → K.faults self.new.inner ≡ next_count (K.faults self.old.inner)) }
+    {
+        match self.waits {
+            Some(0) => {
+                self.waits = None;
+                return Err(PushFault);
+            }
+            Some(count) => self.waits = Some(count - 1),
+            None => {}
+        }
+        self.inner.push(piece)
+    }
+}

@@ -1,0 +1,72 @@
+//! A sink over bytes in memory.
+
+ghost use Rattle.std.specs.Prelude.{◌≡◌, ◌≢◌, ℕ, ◌≤◌, List, [], ◌++◌, length, min, take, ◌<◌, ◌↔◌, IfOk, IsErr, OnOk, OnErr};
+ghost use Rattle.std.proofs.Common.{refl, ◌∙◌};
+ghost use Rattle.cap_log.specs.Streams.{next_count};
+ghost use Rattle.cap_log.specs.Written.{WritesInside-nothing, WritesInside-joined};
+
+use crate::sinks::{PushFault, Sink};
+
+/// A sink over bytes in memory: it takes what fits, and fails where nothing does.
+#[derive(Drop)]
+pub struct SliceSink<'a> {
+    room: &'a mut [u8],
+    taken: usize,
+    faults: u64,
+    ghost fits: { taken ≤ length room.now },
+}
+
+impl<'a> SliceSink<'a> {
+    /// Bytes go to the front of the slice. None were taken, and there were no faults.
+    pub fn new(room: &'a mut [u8]) -> SliceSink<'a>
+        ensures same_reference { result.room.ghost_name ≡ room.entry.ghost_name }
+        ensures room { result.room.now ≡ room.old }
+        ensures taken { result.taken ≡ 0 }
+        ensures faults { result.faults ≡ 0 }
+    {
+        SliceSink {
+            room,
+            taken: 0,
+            faults: 0,
+        }
+    }
+
+    /// How many bytes it took.
+    pub fn taken(&self) -> usize
+        ensures { result ≡ self.now.taken }
+    {
+        self.taken
+    }
+}
+
+impl<'a> Sink for SliceSink<'a> {
+    ghost use Rattle.cap_log.specs.Slices.{Took, room_left};
+
+    ghost took = { Took };
+
+    ghost faults = { λ s. s.faults };
+
+    ghost nothing = { λ s. (refl, WritesInside-nothing s.taken s.room.now s.fits) };
+
+    ghost joined = { λ a b c xs ys h k. (k.0 ∙ h.0, WritesInside-joined a.taken b.taken c.taken xs ys a.room.now b.room.now c.room.now h.1 k.1) };
+
+    fn push(&mut self, piece: &[u8]) -> Result<usize, PushFault>
+        ensures fits { IfOk result (λ n. n ≤ length piece.now) }
+        ensures some { IfOk result (λ n. 0 < length piece.now → 0 < n) }
+        ensures bytes { IfOk result (λ n. Took self.old self.new (take n piece.now)) }
+        ensures counted { OnOk result (self.new.faults ≡ self.old.faults) }
+        ensures nothing_taken { OnErr result (Took self.old self.new []) }
+        ensures fault_counted { OnErr result (self.new.faults ≡ next_count (self.old.faults)) }
+        ensures takes_what_fits { IfOk result (λ n. n ≡ min (length piece.now) (room_left self.old)) }
+        ensures fails_where_full { IsErr result ↔ ((room_left self.old ≡ 0) × (piece.now ≢ [])) }
+    {
+        let count = piece.len().min(self.room.len() - self.taken);
+        if count == 0 && !piece.is_empty() {
+            self.faults = self.faults.wrapping_add(1);
+            return Err(PushFault);
+        }
+        self.room[self.taken..self.taken + count].copy_from_slice(&piece[..count]);
+        self.taken += count;
+        Ok(count)
+    }
+}

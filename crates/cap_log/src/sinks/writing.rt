@@ -1,0 +1,50 @@
+//! A sink over a writer.
+
+ghost use Rattle.std.specs.Prelude.{◌≡◌, ◌++◌, List, ℕ};
+ghost use Rattle.std.proofs.Common.{refl, ◌∙◌};
+ghost use Rattle.std.specs.Io.KnownBytes.{Appends};
+ghost use Rattle.cap_log.specs.Known.{Appends-nothing, Appends-joined};
+
+use crate::sinks::{PushFault, Sink};
+use std::io::Write;
+
+/// A writer that is lent. Each error of the writer is a fault, and so is a write of no bytes.
+#[derive(Drop)]
+pub struct WriteSink<'a, W: Write> {
+    writer: &'a mut W,
+    faults: u64,
+}
+
+impl<'a, W: Write> WriteSink<'a, W> {
+    /// What is pushed goes to the writer. There were no faults.
+    pub fn new(writer: &'a mut W) -> WriteSink<'a, W>
+        ensures same_reference { result.writer.ghost_name ≡ writer.entry.ghost_name }
+        ensures writer { result.writer.now ≡ writer.old }
+        ensures faults { result.faults ≡ 0 }
+    {
+        WriteSink { writer, faults: 0 }
+    }
+}
+
+impl<'a, W: Write> Sink for WriteSink<'a, W> {
+    ghost took = { λ a b xs. (b.writer.ghost_name ≡ a.writer.ghost_name) × Appends (W.contents a.writer.now) (W.contents b.writer.now) xs };
+
+    ghost faults = { λ s. s.faults };
+
+    ghost nothing = { λ s. (refl, Appends-nothing (W.contents s.writer.now)) };
+
+    ghost joined = { λ a b c xs ys h k. (k.0 ∙ h.0, Appends-joined (W.contents a.writer.now) (W.contents b.writer.now) (W.contents c.writer.now) xs ys h.1 k.1) };
+
+    fn push(&mut self, piece: &[u8]) -> Result<usize, PushFault> {
+        if piece.is_empty() {
+            return Ok(0);
+        }
+        match self.writer.write(piece) {
+            Ok(0) | Err(_) => {
+                self.faults = self.faults.wrapping_add(1);
+                Err(PushFault)
+            }
+            Ok(count) => Ok(count),
+        }
+    }
+}

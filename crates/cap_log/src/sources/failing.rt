@@ -1,0 +1,69 @@
+//! A source of which one pull fails.
+
+ghost use Rattle.std.specs.Prelude.{◌≡◌, ◌≢◌, ◌+◌, ◌-◌, ◌%◌, ◌^◌, ◌≤◌, ℕ, List, [], ◌++◌, false, length, take, if◌then◌else◌, None, Some, option_map, IfOk, IsErr, OnOk, OnErr};
+ghost use Rattle.cap_log.specs.Streams.{is_end, next_count};
+ghost use Rattle.cap_log.specs.Failings.{own_faults};
+
+use crate::sources::{PullFault, Source};
+
+/// A source of which one pull fails, and all others are the inner one's.
+#[derive(Drop)]
+pub struct FailingSource<S: Source> {
+    inner: S,
+    // How many pulls come before the one that fails. None once it has failed.
+    waits: Option<u64>,
+    // Whether the last pull was the one that failed.
+    is_failed: bool,
+}
+
+impl<S: Source> FailingSource<S> {
+    /// The inner source, but for pull number `at`, counted from 0: that one fails without asking it.
+    pub fn new(inner: S, at: u64) -> FailingSource<S>
+        ensures inner { result.inner ≡ inner }
+        ensures waits { result.waits ≡ Some at }
+        ensures begins { result.is_failed ≡ false }
+    {
+        FailingSource {
+            inner,
+            waits: Some(at),
+            is_failed: false,
+        }
+    }
+}
+
+impl<S: Source> Source for FailingSource<S> {
+    ghost gave = { λ a b xs. S.gave a.inner b.inner xs };
+
+    ghost ended = { λ s. if s.is_failed then false else S.ended s.inner };
+
+    ghost faults = { λ s. (S.faults s.inner + own_faults s.waits) % 2 ^ 64 };
+
+    ghost nothing = { λ s. S.nothing s.inner };
+
+    ghost joined = { λ a b c xs ys h k. S.joined a.inner b.inner c.inner xs ys h k };
+
+    fn pull(&mut self, piece: &mut [u8]) -> Result<usize, PullFault>
+        ensures fits { IfOk result (λ n. n ≤ length piece.new) }
+        ensures bytes { IfOk result (λ n. S.gave self.old.inner self.new.inner (take n piece.new)) }
+        ensures end { IfOk result (λ n. (if self.new.is_failed then false else S.ended self.new.inner) ≡ is_end (length piece.new) n) }
+        ensures counted { OnOk result ((S.faults self.new.inner + own_faults self.new.waits) % 2 ^ 64 ≡ (S.faults self.old.inner + own_faults self.old.waits) % 2 ^ 64) }
+        ensures nothing_given { OnErr result (S.gave self.old.inner self.new.inner []) }
+        ensures no_end { OnErr result ((if self.new.is_failed then false else S.ended self.new.inner) ≡ false) }
+        ensures fault_counted { OnErr result ((S.faults self.new.inner + own_faults self.new.waits) % 2 ^ 64 ≡ next_count ((S.faults self.old.inner + own_faults self.old.waits) % 2 ^ 64)) }
+
+        // One pull fails, and leaves the inner source as it is. All others are passed on.
+        ensures failing { self.old.waits ≡ Some 0 → IsErr result × (self.new.inner ≡ self.old.inner) × (self.new.waits ≡ None) }
+        ensures waiting { self.old.waits ≢ Some 0 → self.new.waits ≡ option_map (λ n. n - 1) self.old.waits }
+        ensures inner_fault { OnErr result (self.old.waits ≢ Some 0 → S.faults self.new.inner ≡ next_count (S.faults self.old.inner)) }
+    {
+        self.is_failed = self.waits == Some(0);
+        if self.is_failed {
+            self.waits = None;
+            return Err(PullFault);
+        }
+        if let Some(count) = self.waits {
+            self.waits = Some(count - 1);
+        }
+        self.inner.pull(piece)
+    }
+}

@@ -1,0 +1,112 @@
+//! The lines of a source.
+
+ghost use Rattle.std.specs.Prelude.{◌≡◌, ◌≢◌, ℕ, ◌+◌, ◌<◌, ◌≤◌, List, [], ◌++◌, length, take, drop, true, false, None, Some, Ok, IfOk, OnOk, OnErr};
+ghost use Rattle.cap_log.specs.Front.{IsCut};
+ghost use Rattle.cap_log.specs.Streams.{next_count};
+ghost use Rattle.cap_log.specs.declared.fronts.Front.TheVariants.{Cut};
+ghost use Rattle.cap_log.specs.declared.nexts.Over.{Over};
+
+use crate::fronts::Front;
+use crate::fronts::finding::front;
+use crate::nexts::{Next, Over};
+use crate::sources::{PullFault, Source};
+use crate::window::Window;
+
+/// The lines of a source's bytes. It holds what was pulled and not yet lent.
+#[derive(Drop)]
+pub struct Lines {
+    window: Window,
+    over: Option<Over>,
+}
+
+impl Lines {
+    ghost use Rattle.std.specs.Borrow.{sem};
+    ghost use Rattle.std.specs.Io.BufRead.{Rests};
+    ghost use Rattle.cap_log.specs.contracts.taking.Lines.{the_row};
+    ghost use Rattle.cap_log.specs.Takings.{kept, over_of, Found, Answered, Again};
+
+    /// Nothing was pulled yet.
+    pub fn new() -> Lines
+        ensures kept { kept result ≡ [] }
+        ensures begins { over_of result ≡ None }
+    {
+        Lines {
+            window: Window::new(),
+            over: None,
+        }
+    }
+
+    /// The next line of the bytes that are kept followed by those that the source gives, or why there is
+    /// none: more than 95 bytes without a line feed, or the end of the source. After any other answer than
+    /// a line it answers the same from then on, without pulling.
+    pub fn next<S: Source>(&mut self, source: &mut S) -> Result<Next<'_>, PullFault>
+        ensures* answers { sem 𝓛 (Rests the_row self.entry (λ new.
+            (over_of self.old ≡ None → Answered S.gave S.ended source.old source.new (kept self.old) new result)
+            × Again source.old source.new self.old new result)) }
+        ensures counted { OnOk result (S.faults source.new ≡ S.faults source.old) }
+        ensures fault_counted { OnErr result (over_of self.old ≡ None → S.faults source.new ≡ next_count (S.faults source.old)) }
+
+        // What is kept is answered before anything is pulled.
+        ensures kept_first { (IsCut (kept self.old) → ⊥) → source.new ≡ source.old }
+    {
+        if let Some(over) = self.over {
+            return match over {
+                Over::Failed => Err(PullFault),
+                Over::TooLong => Ok(Next::LineTooLong),
+                Over::Truncated => Ok(Next::Truncated),
+                Over::Finished => Ok(Next::Finished),
+            };
+        }
+        match self.find(source) {
+            Err(PullFault) => {
+                self.over = Some(Over::Failed);
+                Err(PullFault)
+            }
+            Ok(Front::TooLong) => {
+                self.over = Some(Over::TooLong);
+                Ok(Next::LineTooLong)
+            }
+            Ok(Front::Cut) => {
+                if self.window.as_slice().is_empty() {
+                    self.over = Some(Over::Finished);
+                    Ok(Next::Finished)
+                } else {
+                    self.over = Some(Over::Truncated);
+                    Ok(Next::Truncated)
+                }
+            }
+            Ok(Front::Line(length)) => {
+                let start = self.window.start();
+                self.window.consume(length + 1);
+                Ok(Next::Line(self.window.before(start, length)))
+            }
+        }
+    }
+
+    // Finds the front of what is kept, pulling while that is cut.
+    fn find<S: Source>(&mut self, source: &mut S) -> Result<Front, PullFault>
+        ensures over { self.new.over ≡ self.old.over }
+        ensures ok { IfOk result (Found S.gave source.old source.new (kept self.old) (kept self.new)) }
+        ensures end { result ≡ Ok Cut → S.ended source.new ≡ true }
+        ensures counted { OnOk result (S.faults source.new ≡ S.faults source.old) }
+        ensures err { OnErr result (Found S.gave source.old source.new (kept self.old) (kept self.new) Cut) }
+        ensures no_end { OnErr result (S.ended source.new ≡ false) }
+        ensures fault_counted { OnErr result (S.faults source.new ≡ next_count (S.faults source.old)) }
+        ensures kept_first { (IsCut (kept self.old) → ⊥) → source.new ≡ source.old }
+    {
+        loop {
+            let found = front(self.window.as_slice());
+            if found != Front::Cut {
+                return Ok(found);
+            }
+            match self.window.fill(source) {
+                Ok(0) => return Ok(Front::Cut),
+                Ok(_) => {}
+                Err(PullFault) => return Err(PullFault),
+            }
+        }
+    }
+}
+
+#[cfg(test)]
+mod tests;

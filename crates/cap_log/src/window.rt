@@ -1,0 +1,88 @@
+//! A buffer in front of a source.
+
+ghost use Rattle.std.specs.Prelude.{◌≡◌, ℕ, ◌+◌, ◌<◌, ◌≤◌, List, [], ◌++◌, ◌==◌, false, length, take, drop, IfOk, OnOk, OnErr};
+ghost use Rattle.cap_log.specs.Streams.{next_count};
+
+use crate::sources::{PullFault, Source};
+
+pub(crate) const SIZE: usize = 16384;
+
+// The bytes from `start` to `end`, and room after them.
+#[derive(Drop)]
+pub(crate) struct Window {
+    bytes: [u8; SIZE],
+    start: usize,
+    end: usize,
+    ghost ordered: { start ≤ end },
+    ghost within: { end ≤ 16384 },
+}
+
+impl Window {
+    ghost use Rattle.cap_log.specs.Windows.{items, room};
+
+    pub(crate) fn new() -> Window
+        ensures { items result ≡ [] }
+    {
+        Window {
+            bytes: [0; SIZE],
+            start: 0,
+            end: 0,
+        }
+    }
+
+    pub(crate) fn as_slice(&self) -> &[u8]
+        ensures value { result.now ≡ items self.now }
+    {
+        &self.bytes[self.start..self.end]
+    }
+
+    // The first bytes of those held.
+    pub(crate) fn before(&self, start: usize, length: usize) -> &[u8]
+        requires { start + length ≤ 16384 }
+        ensures value { result.now ≡ take length (drop start self.now.bytes) }
+    {
+        &self.bytes[start..start + length]
+    }
+
+    pub(crate) fn start(&self) -> usize
+        ensures value { result ≡ self.now.start }
+        ensures bound { result + length (items self.now) ≤ 16384 }
+    {
+        self.start
+    }
+
+    pub(crate) fn consume(&mut self, count: usize)
+        requires { count ≤ length (items self.old) }
+        ensures items { items self.new ≡ drop count (items self.old) }
+        ensures bytes { self.new.bytes ≡ self.old.bytes }
+        ensures start { self.new.start ≡ self.old.start + count }
+    {
+        self.start += count;
+    }
+
+    fn move_to_front(&mut self)
+        ensures items { items self.new ≡ items self.old }
+        ensures room { room self.new + length (items self.new) ≡ 16384 }
+    {
+        let (start, end) = (self.start, self.end);
+        self.bytes.copy_within(start..end, 0);
+        self.start = 0;
+        self.end = end - start;
+    }
+
+    // Moves what is held to the front and pulls once behind it.
+    pub(crate) fn fill<S: Source>(&mut self, source: &mut S) -> Result<usize, PullFault>
+        requires { length (items self.old) < 16384 }
+        ensures ok { IfOk result (λ n. (more : List ℕ) × (length more ≡ n) × (items self.new ≡ items self.old ++ more)
+            × S.gave source.old source.new more × (S.ended source.new ≡ (n == 0))) }
+        ensures counted { OnOk result (S.faults source.new ≡ S.faults source.old) }
+        ensures err { OnErr result ((items self.new ≡ items self.old) × S.gave source.old source.new []
+            × (S.ended source.new ≡ false) × (S.faults source.new ≡ next_count (S.faults source.old))) }
+    {
+        self.move_to_front();
+        let end = self.end;
+        let count = source.pull(&mut self.bytes[end..])?;
+        self.end = end + count;
+        Ok(count)
+    }
+}
