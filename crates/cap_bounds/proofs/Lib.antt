@@ -12,3 +12,5 @@ pub mod SameFields
 pub mod Keeping
 pub mod LeastRounding
 pub mod ExactLengths
+pub mod SailDecodingLemmas
+pub mod SailRoundingLemmas

@@ -15,6 +15,7 @@ ghost use Rattle.cap_bounds.specs.Bounds.{
   top_at,
   top_of,
 };
+ghost use Rattle.cap_bounds.specs.SailDecoding.{sail_base, sail_top};
 
 use cap_word::{Fields, Word};
 
@@ -148,6 +149,10 @@ pub fn bounds(word: Word) -> Interval
     ensures top { result.top ≡ top_of word.0 }
     ensures relation { AreBounds word.0 result.base result.top }
     ensures top_fits { result.top < 2 ^ 65 }
+
+    // They are also those that the Sail model finds, by shifts, comparisons and corrections.
+    ensures model_base { result.base ≡ sail_base word.0 }
+    ensures model_top { result.top ≡ sail_top word.0 }
 {
     let Decoded { base, top, .. } = decode(word);
     Interval { base, top }

@@ -16,6 +16,7 @@ ghost use Rattle.cap_bounds.specs.Rounding.{
   rounded_t,
   rounded_top,
 };
+ghost use Rattle.cap_bounds.specs.SailRounding.{sail_b, sail_exact, sail_exponent, sail_ie, sail_t};
 
 use cap_word::Word;
 
@@ -166,6 +167,13 @@ pub fn round(base: u64, length: u64) -> Rounded
     ensures least { 4096 ≤ length → IsLeastExponent base length result.e }
     ensures rounded_down { 4096 ≤ length → result.base ≡ base / 2 ^ (result.e + 3) * 2 ^ (result.e + 3) }
     ensures rounded_up { 4096 ≤ length → result.top ≡ div_up (base + length) (2 ^ (result.e + 3)) * 2 ^ (result.e + 3) }
+
+    // The Sail model finds the same fields, by leading zeros, lost bits and one raise of the exponent.
+    ensures model_ie { result.ie ≡ sail_ie length }
+    ensures model_e { result.e ≡ sail_exponent base length }
+    ensures model_b { result.b ≡ sail_b base length }
+    ensures model_t { result.t ≡ sail_t base length }
+    ensures model_exact { result.exact ≡ sail_exact base length }
 {
     if length < FIRST_LONG {
         round_short(base, length)

@@ -1,14 +1,15 @@
 use super::*;
-use crate::plain::{HOSTILE_WORDS, hostile_word, plain_bounds};
+use crate::plain::{HOSTILE_WORDS, corrected_bounds, hostile_word, plain_bounds};
 use std::process::Abort;
 
-/// Asserts that the code answers as the definition.
+/// Asserts that the code answers as the definition, and as the Sail model's shifts and corrections.
 fn agrees(rt: &impl Abort, word: Word) {
     let plain = plain_bounds(word);
     let Interval { base, top } = bounds(word);
     assert_eq!(rt; i128::from(base), plain.base, "the base of {word:?}");
     assert_eq!(rt; top, plain.top.unsigned_abs(), "the top of {word:?}");
     assert_eq!(rt; sound(word), plain.sound, "the soundness of {word:?}");
+    assert_eq!(rt; (base, top), corrected_bounds(word), "the corrected bounds of {word:?}");
 }
 
 #[test]
