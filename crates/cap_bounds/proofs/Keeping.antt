@@ -4,11 +4,11 @@ use Rattle.std.proofs.Math.Nat.{div-add-mod, mod-lt, mod-eq_of_lt, mod-add-mod, 
 use Rattle.std.proofs.lemmas.Bool.{cases_lt}
 use Rattle.std.proofs.lemmas.Nat.{pow_pos}
 use Rattle.cap_word.specs.Fields.{b_of, t_of, ie_of, address_of}
-use Rattle.cap_bounds.specs.Bounds.{exponent_of, unit_of, window_size, span_at, raw_base_at, base_of, top_of, length_of}
+use Rattle.cap_bounds.specs.Bounds.{cut_exponent_of, unit_of, window_size, span_at, raw_base_at, base_of, top_of, length_of}
 use Rattle.cap_bounds.specs.Range.{KeepsBounds, IsRepresentable, with_address, window_start}
 use Rattle.cap_bounds.proofs.Residues.{mul-add-mod-mul}
 use Rattle.cap_bounds.proofs.Powers.{pow_le, size_is, size_divides, size_covers}
-use Rattle.cap_bounds.proofs.Decoded.{exponent-le, b_of-lt, start_at, start_at-le, start_at-gt, start_at-mod, raw_base_from_start, raw_base_at-ge, raw_top-lt, top_at-near, top_at-far, top_of-near, length_is}
+use Rattle.cap_bounds.proofs.Decoded.{exponent-le, b_of-lt, start_at, start_at-le, start_at-gt, start_at-mod, raw_base_from_start, raw_base_at-ge, raw_top-lt, top_at-corrected, top_at-uncorrected, top_of-corrected, length_is}
 use Rattle.cap_bounds.proofs.Mantissas.{span_at-lt}
 use Rattle.cap_bounds.proofs.SameFields.{base_of-with_address, top_of-with_address}
 
@@ -72,45 +72,45 @@ aligned-lt e b =
     omega (arith, size_is e, pow_pos e)
 
 -- the window's start, from its base: what the code computes
-pub start_from_base : (w : ℕ) → exponent_of w ≤ 50 → (base_of w + 2 ^ 64 - (2048 + b_of w % 2048) * unit_of w) % 2 ^ 64 ≡ window_start w % 2 ^ 64
+pub start_from_base : (w : ℕ) → cut_exponent_of w ≤ 50 → (base_of w + 2 ^ 64 - (2048 + b_of w % 2048) * unit_of w) % 2 ^ 64 ≡ window_start w % 2 ^ 64
 unfolding base_of window_start
 start_from_base w h =
-    let unit : 2 ^ exponent_of w ≤ 2 ^ 50 = pow_le (exponent_of w) 50 h in
-    let step : (2048 + b_of w % 2048) * 2 ^ exponent_of w ≤ 4096 * 2 ^ exponent_of w = mul-le-mul_right (2 ^ exponent_of w) (let f : 2048 + b_of w % 2048 ≤ 4096 = omega arith in f) in
-    omega (arith, raw_base_from_start (exponent_of w) (b_of w) (address_of w) (exponent-le w) (b_of-lt w))
+    let unit : 2 ^ cut_exponent_of w ≤ 2 ^ 50 = pow_le (cut_exponent_of w) 50 h in
+    let step : (2048 + b_of w % 2048) * 2 ^ cut_exponent_of w ≤ 4096 * 2 ^ cut_exponent_of w = mul-le-mul_right (2 ^ cut_exponent_of w) (let f : 2048 + b_of w % 2048 ≤ 4096 = omega arith in f) in
+    omega (arith, raw_base_from_start (cut_exponent_of w) (b_of w) (address_of w) (exponent-le w) (b_of-lt w))
 
 -- up to exponent 50 the bounds agree where the bases do
-module _ (w y : ℕ) (near : exponent_of w ≤ 50) (fits : y < 2 ^ 64) where
+module _ (w y : ℕ) (near : cut_exponent_of w ≤ 50) (fits : y < 2 ^ 64) where
   keeps-from_base : base_of (with_address w y) ≡ base_of w → KeepsBounds w y
   keeps-from_base h =
-      let raw = raw_base_at (exponent_of w) (b_of w) y in
-      (h, top_of-with_address w y fits ∙ top_at-near (exponent_of w) raw (length_of w) near ∙ ap (λ (k : ℕ). k + length_of w) (sym (base_of-with_address w y fits) ∙ h) ∙ sym (top_of-near w near))
+      let raw = raw_base_at (cut_exponent_of w) (b_of w) y in
+      (h, top_of-with_address w y fits ∙ top_at-corrected (cut_exponent_of w) raw (length_of w) near ∙ ap (λ (k : ℕ). k + length_of w) (sym (base_of-with_address w y fits) ∙ h) ∙ sym (top_of-corrected w near))
 
   -- and the bases where the windows' starts do
-  base-from_start : start_at (exponent_of w) (b_of w) y % 2 ^ 64 ≡ window_start w % 2 ^ 64 → base_of (with_address w y) ≡ base_of w
+  base-from_start : start_at (cut_exponent_of w) (b_of w) y % 2 ^ 64 ≡ window_start w % 2 ^ 64 → base_of (with_address w y) ≡ base_of w
   unfolding base_of window_start
   base-from_start h =
       omega (
         arith,
         base_of-with_address w y fits,
-        raw_base_from_start (exponent_of w) (b_of w) y (exponent-le w) (b_of-lt w),
-        raw_base_from_start (exponent_of w) (b_of w) (address_of w) (exponent-le w) (b_of-lt w),
+        raw_base_from_start (cut_exponent_of w) (b_of w) y (exponent-le w) (b_of-lt w),
+        raw_base_from_start (cut_exponent_of w) (b_of w) (address_of w) (exponent-le w) (b_of-lt w),
       )
 
-  start-from_base : base_of (with_address w y) ≡ base_of w → start_at (exponent_of w) (b_of w) y % 2 ^ 64 ≡ window_start w % 2 ^ 64
+  start-from_base : base_of (with_address w y) ≡ base_of w → start_at (cut_exponent_of w) (b_of w) y % 2 ^ 64 ≡ window_start w % 2 ^ 64
   unfolding base_of window_start
   start-from_base h =
       omega (
         arith,
         base_of-with_address w y fits,
-        raw_base_from_start (exponent_of w) (b_of w) y (exponent-le w) (b_of-lt w),
-        raw_base_from_start (exponent_of w) (b_of w) (address_of w) (exponent-le w) (b_of-lt w),
+        raw_base_from_start (cut_exponent_of w) (b_of w) y (exponent-le w) (b_of-lt w),
+        raw_base_from_start (cut_exponent_of w) (b_of w) (address_of w) (exponent-le w) (b_of-lt w),
       )
 
   keeps-from_near : (y + 2 ^ 64 - window_start w % 2 ^ 64) % 2 ^ 64 < window_size w → KeepsBounds w y
   unfolding window_start
   keeps-from_near h =
-      let e = exponent_of w in
+      let e = cut_exponent_of w in
       let b = b_of w in
       keeps-from_base (base-from_start (near-same (2 ^ (e + 14)) (2 ^ (50 - e)) (window_start w) (start_at e b y) ((b / 2 ^ 11 + 7) % 8 * 2 ^ 11 * 2 ^ e) y (pow_pos (50 - e)) (size_divides e near)
       (start_at-mod e b (address_of w) (exponent-le w) (b_of-lt w)) (start_at-mod e b y (exponent-le w) (b_of-lt w)) (aligned-lt e b) (start_at-le e b y (exponent-le w) (b_of-lt w)) (start_at-gt e b y (exponent-le w) (b_of-lt w)) h))
@@ -118,7 +118,7 @@ module _ (w y : ℕ) (near : exponent_of w ≤ 50) (fits : y < 2 ^ 64) where
   near-from_keeps : KeepsBounds w y → (y + 2 ^ 64 - window_start w % 2 ^ 64) % 2 ^ 64 < window_size w
   unfolding window_start
   near-from_keeps h =
-      let e = exponent_of w in
+      let e = cut_exponent_of w in
       let b = b_of w in
       same-near (2 ^ (e + 14)) (2 ^ (50 - e)) (window_start w) (start_at e b y) ((b / 2 ^ 11 + 7) % 8 * 2 ^ 11 * 2 ^ e) y (pow_pos (50 - e)) (size_divides e near)
       (start_at-mod e b (address_of w) (exponent-le w) (b_of-lt w)) (start_at-mod e b y (exponent-le w) (b_of-lt w)) (aligned-lt e b) (start_at-le e b y (exponent-le w) (b_of-lt w)) (start_at-gt e b y (exponent-le w) (b_of-lt w)) (start-from_base h.0)
@@ -133,29 +133,29 @@ raw-far e b a h =
     let q : turn * (2 ^ (e - 51) * 2 ^ 65) + b * 2 ^ e ≡ turn * 2 ^ (e - 51) * 2 ^ 65 + b * 2 ^ e = omega arith in
     ap (λ (k : ℕ). k % 2 ^ 65) (p ∙ ap (λ (k : ℕ). turn * k + b * 2 ^ e) whole ∙ q) ∙ (let r : (turn * 2 ^ (e - 51) * 2 ^ 65 + b * 2 ^ e) % 2 ^ 65 ≡ b * 2 ^ e % 2 ^ 65 = omega arith in r)
 
-keeps-far : (w y : ℕ) → 51 ≤ exponent_of w → y < 2 ^ 64 → KeepsBounds w y
+keeps-far : (w y : ℕ) → 51 ≤ cut_exponent_of w → y < 2 ^ 64 → KeepsBounds w y
 unfolding base_of top_of
 keeps-far w y h fits =
-    let e = exponent_of w in
+    let e = cut_exponent_of w in
     let b = b_of w in
     let same : raw_base_at e b y % 2 ^ 65 ≡ raw_base_at e b (address_of w) % 2 ^ 65 = raw-far e b y h ∙ sym (raw-far e b (address_of w) h) in
     let top : (raw_base_at e b y + length_of w) % 2 ^ 65 ≡ (raw_base_at e b (address_of w) + length_of w) % 2 ^ 65 = omega arith in (
       base_of-with_address w y fits ∙ (let r : raw_base_at e b y % 2 ^ 64 ≡ raw_base_at e b (address_of w) % 2 ^ 64 = omega arith in r),
-      top_of-with_address w y fits ∙ top_at-far e (raw_base_at e b y) (length_of w) h ∙ top ∙ sym (top_at-far e (raw_base_at e b (address_of w)) (length_of w) h),
+      top_of-with_address w y fits ∙ top_at-uncorrected e (raw_base_at e b y) (length_of w) h ∙ top ∙ sym (top_at-uncorrected e (raw_base_at e b (address_of w)) (length_of w) h),
     )
 
 -- from exponent 50 on every address keeps the bounds
-pub KeepsBounds-always : (w y : ℕ) → 50 ≤ exponent_of w → y < 2 ^ 64 → KeepsBounds w y
-KeepsBounds-always w y h fits = elim (cases_lt 50 (exponent_of w)) [
+pub KeepsBounds-always : (w y : ℕ) → 50 ≤ cut_exponent_of w → y < 2 ^ 64 → KeepsBounds w y
+KeepsBounds-always w y h fits = elim (cases_lt 50 (cut_exponent_of w)) [
   | inl far ↦ keeps-far w y far fits
   | inr near ↦
-      let size : 2 ^ 64 ≤ window_size w = pow_le 64 (exponent_of w + 14) (omega arith) in
+      let size : 2 ^ 64 ≤ window_size w = pow_le 64 (cut_exponent_of w + 14) (omega arith) in
       keeps-from_near w y near fits (omega arith)
 ]
 
 -- an address keeps the bounds exactly in the representable range
 pub KeepsBounds-from_range : (w y : ℕ) → y < 2 ^ 64 → IsRepresentable w y → KeepsBounds w y
-KeepsBounds-from_range w y fits h = elim (cases_lt (exponent_of w) 50) [
+KeepsBounds-from_range w y fits h = elim (cases_lt (cut_exponent_of w) 50) [
   | inl near ↦ keeps-from_near w y (omega arith) fits (h near)
   | inr far ↦ KeepsBounds-always w y far fits
 ]
@@ -164,9 +164,9 @@ pub IsRepresentable-from_keeps : (w y : ℕ) → y < 2 ^ 64 → KeepsBounds w y 
 IsRepresentable-from_keeps w y fits h near = near-from_keeps w y (omega arith) fits h
 
 -- up to exponent 49 some address does not keep the bounds
-pub KeepsBounds-not_always : (w : ℕ) → exponent_of w < 50 → ((y : ℕ) → y < 2 ^ 64 → KeepsBounds w y) → ⊥
+pub KeepsBounds-not_always : (w : ℕ) → cut_exponent_of w < 50 → ((y : ℕ) → y < 2 ^ 64 → KeepsBounds w y) → ⊥
 KeepsBounds-not_always w near h =
-    let size : window_size w ≤ 2 ^ 63 = pow_le (exponent_of w + 14) 63 (omega arith) in
+    let size : window_size w ≤ 2 ^ 63 = pow_le (cut_exponent_of w + 14) 63 (omega arith) in
     let y = (window_start w % 2 ^ 64 + window_size w) % 2 ^ 64 in
     let fits : y < 2 ^ 64 = omega arith in
     omega (arith, IsRepresentable-from_keeps w y fits (h y fits) near)
@@ -177,19 +177,19 @@ margin x raw length start size low high base top base_is top_is from below fits 
     omega arith
 
 -- so do the addresses from 2 ^ 11 units below the base to 2 ^ 12 units above the top, 2 ^ 64 higher
-margins-near : (w x : ℕ) → exponent_of w < 50 → base_of w + 2 ^ 64 ≤ x + 2 ^ 11 * unit_of w → x ≤ top_of w + 2 ^ 64 + 2 ^ 12 * unit_of w → (x % 2 ^ 64 + 2 ^ 64 - window_start w % 2 ^ 64) % 2 ^ 64 < window_size w
+margins-near : (w x : ℕ) → cut_exponent_of w < 50 → base_of w + 2 ^ 64 ≤ x + 2 ^ 11 * unit_of w → x ≤ top_of w + 2 ^ 64 + 2 ^ 12 * unit_of w → (x % 2 ^ 64 + 2 ^ 64 - window_start w % 2 ^ 64) % 2 ^ 64 < window_size w
 unfolding base_of window_start
 margins-near w x near from below =
-    let e = exponent_of w in
+    let e = cut_exponent_of w in
     let d = span_at (b_of w) (t_of w) (ie_of w) in
     let room : raw_base_at e (b_of w) (address_of w) + d * 2 ^ e + 2 ^ 12 * 2 ^ e < start_at e (b_of w) (address_of w) + 2 ^ (e + 14) =
     raw_top-lt e (b_of w) (address_of w) (exponent-le w) (b_of-lt w) d (span_at-lt (b_of w) (t_of w) (ie_of w)) in
-    margin x (raw_base_at e (b_of w) (address_of w)) (length_of w) (start_at e (b_of w) (address_of w)) (2 ^ (e + 14)) (2 ^ 11 * 2 ^ e) (2 ^ 12 * 2 ^ e) (base_of w) (top_of w) refl (top_of-near w (omega arith))
+    margin x (raw_base_at e (b_of w) (address_of w)) (length_of w) (start_at e (b_of w) (address_of w)) (2 ^ (e + 14)) (2 ^ 11 * 2 ^ e) (2 ^ 12 * 2 ^ e) (base_of w) (top_of w) refl (top_of-corrected w (omega arith))
     (raw_base_at-ge e (b_of w) (address_of w) (exponent-le w) (b_of-lt w)) (subst (λ (k : ℕ). raw_base_at e (b_of w) (address_of w) + k + 2 ^ 12 * 2 ^ e < start_at e (b_of w) (address_of w) + 2 ^ (e + 14)) (sym (length_is w)) room)
     (pow_le (e + 14) 64 (omega arith)) from below
 
 pub KeepsBounds-margins : (w x : ℕ) → base_of w + 2 ^ 64 ≤ x + 2 ^ 11 * unit_of w → x ≤ top_of w + 2 ^ 64 + 2 ^ 12 * unit_of w → KeepsBounds w (x % 2 ^ 64)
-KeepsBounds-margins w x from below = elim (cases_lt (exponent_of w) 50) [
+KeepsBounds-margins w x from below = elim (cases_lt (cut_exponent_of w) 50) [
   | inl near ↦ KeepsBounds-from_range w (x % 2 ^ 64) (omega arith) (λ _. margins-near w x near from below)
   | inr far ↦ KeepsBounds-always w (x % 2 ^ 64) far (omega arith)
 ]
@@ -201,18 +201,18 @@ start_shifted raw e b h =
     let step : (2048 + b % 2048) * 2 ^ e ≤ 4096 * 2 ^ e = mul-le-mul_right (2 ^ e) (let f : 2048 + b % 2048 ≤ 4096 = omega arith in f) in
     omega arith
 
-pub start_coded : (w raw e b a : ℕ) → e ≤ 50 → e ≡ exponent_of w → b ≡ b_of w → a ≡ address_of w → raw ≡ raw_base_at e b a → (raw % 2 ^ 64 + 2 ^ 64 - (2048 + b % 2048) * 2 ^ e) % 2 ^ 64 ≡ window_start w % 2 ^ 64
+pub start_coded : (w raw e b a : ℕ) → e ≤ 50 → e ≡ cut_exponent_of w → b ≡ b_of w → a ≡ address_of w → raw ≡ raw_base_at e b a → (raw % 2 ^ 64 + 2 ^ 64 - (2048 + b % 2048) * 2 ^ e) % 2 ^ 64 ≡ window_start w % 2 ^ 64
 unfolding base_of
 start_coded w raw e b a h e_is b_is a_is raw_is =
-    let same : raw ≡ raw_base_at (exponent_of w) (b_of w) (address_of w) =
-    raw_is ∙ ap (λ (x : ℕ). raw_base_at x b a) e_is ∙ ap (λ (x : ℕ). raw_base_at (exponent_of w) x a) b_is ∙ ap (λ (x : ℕ). raw_base_at (exponent_of w) (b_of w) x) a_is in
+    let same : raw ≡ raw_base_at (cut_exponent_of w) (b_of w) (address_of w) =
+    raw_is ∙ ap (λ (x : ℕ). raw_base_at x b a) e_is ∙ ap (λ (x : ℕ). raw_base_at (cut_exponent_of w) x a) b_is ∙ ap (λ (x : ℕ). raw_base_at (cut_exponent_of w) (b_of w) x) a_is in
     ap (λ (x : ℕ). (x % 2 ^ 64 + 2 ^ 64 - (2048 + b % 2048) * 2 ^ e) % 2 ^ 64) same
     ∙ ap (λ (x : ℕ). (base_of w + 2 ^ 64 - (2048 + x % 2048) * 2 ^ e) % 2 ^ 64) b_is
     ∙ ap (λ (x : ℕ). (base_of w + 2 ^ 64 - (2048 + b_of w % 2048) * 2 ^ x) % 2 ^ 64) e_is
     ∙ start_from_base w (subst (λ (x : ℕ). x ≤ 50) e_is h)
 
 -- the range by its start and its size
-pub KeepsBounds-exact : (w start size y : ℕ) → exponent_of w < 50 → y < 2 ^ 64 → start ≡ window_start w % 2 ^ 64 → size ≡ window_size w → (KeepsBounds w y → (y + 2 ^ 64 - start) % 2 ^ 64 < size) × ((y + 2 ^ 64 - start) % 2 ^ 64 < size → KeepsBounds w y)
+pub KeepsBounds-exact : (w start size y : ℕ) → cut_exponent_of w < 50 → y < 2 ^ 64 → start ≡ window_start w % 2 ^ 64 → size ≡ window_size w → (KeepsBounds w y → (y + 2 ^ 64 - start) % 2 ^ 64 < size) × ((y + 2 ^ 64 - start) % 2 ^ 64 < size → KeepsBounds w y)
 KeepsBounds-exact w start size y near fits start_is size_is = (
   λ k. subst (λ (x : ℕ). (y + 2 ^ 64 - start) % 2 ^ 64 < x) (sym size_is) (subst (λ (x : ℕ). (y + 2 ^ 64 - x) % 2 ^ 64 < window_size w) (sym start_is) (IsRepresentable-from_keeps w y fits k near)),
   λ h. KeepsBounds-from_range w y fits (λ _. subst (λ (x : ℕ). (y + 2 ^ 64 - x) % 2 ^ 64 < window_size w) start_is (subst (λ (x : ℕ). (y + 2 ^ 64 - start) % 2 ^ 64 < x) size_is h)),

@@ -4,7 +4,7 @@ use Rattle.std.proofs.Math.Nat.{mul-le-mul_right, le-div_iff_mul-le, mul_assoc}
 use Rattle.std.proofs.lemmas.Bool.{cases_lt, cases_Bool}
 use Rattle.std.proofs.lemmas.Nat.{pow_pos}
 use Rattle.cap_word.specs.Fields.{ie_of, e_of, b_of, t_of, address_of, b_field, t_field}
-use Rattle.cap_bounds.specs.Bounds.{IsSound, IsInside, exponent_of, span_at, raw_base_at, base_of, top_of, length_of}
+use Rattle.cap_bounds.specs.Bounds.{IsSound, IsInside, cut_exponent_of, span_at, raw_base_at, base_of, top_of, length_of}
 use Rattle.cap_bounds.specs.Rounding.{div_up, units_of, IsLeastExponent, rounded_exponent, rounded_base, rounded_top}
 use Rattle.cap_bounds.proofs.Residues.{mul-mod-mul}
 use Rattle.cap_bounds.proofs.Powers.{pow_split, grain_is}
@@ -19,9 +19,9 @@ length-short : (w : ℕ) → ie_of w ≡ false → length_of w < 4096
 unfolding e_from
 length-short w h =
     let e_is : e_of w ≡ 0 = ap (λ (x : Bool). e_from x (t_field w) (b_field w)) h in
-    let exponent : exponent_of w ≡ 0 = ap (λ (x : ℕ). min x 52) e_is in
+    let exponent : cut_exponent_of w ≡ 0 = ap (λ (x : ℕ). min x 52) e_is in
     let length : length_of w ≡ span_at (b_of w) (t_of w) false * 1 =
-    length_is w ∙ ap (λ (x : Bool). span_at (b_of w) (t_of w) x * 2 ^ exponent_of w) h ∙ ap (λ (x : ℕ). span_at (b_of w) (t_of w) false * 2 ^ x) exponent in
+    length_is w ∙ ap (λ (x : Bool). span_at (b_of w) (t_of w) x * 2 ^ cut_exponent_of w) h ∙ ap (λ (x : ℕ). span_at (b_of w) (t_of w) false * 2 ^ x) exponent in
     omega arith
 
 -- with IE, B and the span are multiples of 8
@@ -47,18 +47,18 @@ grains_of-lt : (w : ℕ) → grains_of w < 1024
 unfolding grains_of
 grains_of-lt w = eighths-lt (b_of w) (t_of w)
 
-length-grains : (w : ℕ) → ie_of w ≡ true → length_of w ≡ grains_of w * 2 ^ (exponent_of w + 3)
+length-grains : (w : ℕ) → ie_of w ≡ true → length_of w ≡ grains_of w * 2 ^ (cut_exponent_of w + 3)
 unfolding grains_of
 length-grains w h =
-    length_is w ∙ ap (λ (x : Bool). span_at (b_of w) (t_of w) x * 2 ^ exponent_of w) h
-    ∙ ap (λ (x : ℕ). x * 2 ^ exponent_of w) (eighths (b_of w) (t_of w) (b-aligned w h) (t-aligned w h) (b_of-lt w))
-    ∙ mul_assoc (span_at (b_of w) (t_of w) true / 8) 8 (2 ^ exponent_of w) ∙ ap (λ (x : ℕ). span_at (b_of w) (t_of w) true / 8 * x) (sym (grain_is (exponent_of w)))
+    length_is w ∙ ap (λ (x : Bool). span_at (b_of w) (t_of w) x * 2 ^ cut_exponent_of w) h
+    ∙ ap (λ (x : ℕ). x * 2 ^ cut_exponent_of w) (eighths (b_of w) (t_of w) (b-aligned w h) (t-aligned w h) (b_of-lt w))
+    ∙ mul_assoc (span_at (b_of w) (t_of w) true / 8) 8 (2 ^ cut_exponent_of w) ∙ ap (λ (x : ℕ). span_at (b_of w) (t_of w) true / 8 * x) (sym (grain_is (cut_exponent_of w)))
 
 -- with IE the base is a multiple of the grain
-base-grains : (w : ℕ) → ie_of w ≡ true → (k : ℕ) × (base_of w ≡ k * 2 ^ (exponent_of w + 3))
+base-grains : (w : ℕ) → ie_of w ≡ true → (k : ℕ) × (base_of w ≡ k * 2 ^ (cut_exponent_of w + 3))
 unfolding base_of raw_base_at
 base-grains w h =
-    let e = exponent_of w in
+    let e = cut_exponent_of w in
     let b = b_of w in
     let turn = ((address_of w + 2 ^ 66) / 2 ^ (e + 11) + 1 - b / 2 ^ 11) / 8 in
     let whole : 2 ^ 64 ≡ 2 ^ (61 - e) * 2 ^ (e + 3) = pow_split 64 (61 - e) (e + 3) (omega (arith, exponent-le w)) in
@@ -109,15 +109,15 @@ module _ (b l start count top_e : ℕ) (long : 4096 ≤ l) (fits : l < 2 ^ 64) (
 
 inside-long : (w b l : ℕ) → 4096 ≤ l → l < 2 ^ 64 → ie_of w ≡ true → IsSound w → base_of w ≤ b → b + l ≤ top_of w → IsInside (rounded_base b l) (rounded_top b l) (base_of w) (top_of w)
 inside-long w b l long fits ie sound low high =
-    let v = 2 ^ (exponent_of w + 3) in
+    let v = 2 ^ (cut_exponent_of w + 3) in
     let k = base-grains w ie in
     let base_is : base_of w ≡ k.0 * v = k.1 in
     let length : length_of w ≡ grains_of w * v = length-grains w ie in
     let sum : (k.0 + grains_of w) * v ≡ k.0 * v + grains_of w * v = omega arith in
     let top_is : top_of w ≡ (k.0 + grains_of w) * v = omega (arith, sound.0) in
     let few : grains_of w < 1024 = grains_of-lt w in (
-      omega (arith, low-contained b l k.0 (grains_of w) (exponent_of w) long fits few (omega arith) (omega arith)),
-      omega (arith, high-contained b l k.0 (grains_of w) (exponent_of w) long fits few (omega arith) (omega arith)),
+      omega (arith, low-contained b l k.0 (grains_of w) (cut_exponent_of w) long fits few (omega arith) (omega arith)),
+      omega (arith, high-contained b l k.0 (grains_of w) (cut_exponent_of w) long fits few (omega arith) (omega arith)),
     )
 
 -- a sound word that contains a request contains the rounded request

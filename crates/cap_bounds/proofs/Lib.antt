@@ -14,3 +14,4 @@ pub mod LeastRounding
 pub mod ExactLengths
 pub mod SailDecodingLemmas
 pub mod SailRoundingLemmas
+pub mod SoundTests

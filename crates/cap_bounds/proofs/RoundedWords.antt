@@ -4,12 +4,12 @@ use Rattle.std.proofs.Math.Nat.{min-eq_left, mul-le-mul_right, lt_of_mul-lt-mul_
 use Rattle.std.proofs.lemmas.Nat.{pow_pos}
 use Rattle.std.proofs.lemmas.Bool.{cases_lt}
 use Rattle.cap_word.specs.Fields.{ie_of, b_of, t_of, address_of}
-use Rattle.cap_bounds.specs.Bounds.{IsResidue, IsSound, exponent_of, span_at, raw_base_at, top_at, base_of, top_of, length_of}
+use Rattle.cap_bounds.specs.Bounds.{IsResidue, IsSound, cut_exponent_of, span_at, raw_base_at, top_at, base_of, top_of, length_of}
 use Rattle.cap_bounds.specs.Rounding.{div_up, units_of, IsLeastExponent, HasRounding, bounded_word, rounded_word, rounded_ie, rounded_exponent, rounded_base, rounded_top, rounded_b, rounded_t}
 use Rattle.cap_bounds.proofs.Residues.{IsResidue-unique, mul-mod-mul}
 use Rattle.cap_bounds.proofs.Windows.{eighth_of}
 use Rattle.cap_bounds.proofs.Powers.{pow_split, grain_is}
-use Rattle.cap_bounds.proofs.Decoded.{start_at, start_at-le, start_at-gt, raw_base_at-residue, top_at-near, top_at-far, decoded_base, decoded_length, decoded_top}
+use Rattle.cap_bounds.proofs.Decoded.{start_at, start_at-le, start_at-gt, raw_base_at-residue, top_at-corrected, top_at-uncorrected, decoded_base, decoded_length, decoded_top}
 use Rattle.cap_bounds.proofs.Units.{covered-ge, covered-lt, many, down-le, down-gt, down-le-up}
 use Rattle.cap_bounds.proofs.LeastExponents.{IsLeastExponent-rounded, rounded_exponent-short, rounded_exponent-le}
 use Rattle.cap_bounds.proofs.Roundings.{grain_of, rounded_base-short, rounded_top-short, rounded_ie-short, rounded_ie-long, rounded_base-long, rounded_top-long, rounded_base-le, rounded_top-ge, rounded_top-le, in_units, short_b, short_t}
@@ -82,14 +82,14 @@ pub record HasBounds (w base length top : ℕ) : Type 0 where
 module _ (w : ℕ) (ie : Bool) (e b t a base length top : ℕ) (a_fits : a < 2 ^ 64) (f : AreFields ie e b t) (he : e ≤ 52) (raw_is : raw_base_at e b a ≡ base + 2 ^ 66) (length_is : span_at b (t % 2 ^ 12) ie * 2 ^ e ≡ length) (sum : base + length ≡ top) (fits : base < 2 ^ 64) (within : top ≤ 2 ^ 64) where
   top_whole : top_at e (base + 2 ^ 66) length ≡ top
   top_whole = elim (cases_lt 50 e) [
-    | inl far ↦ top_at-far e (base + 2 ^ 66) length far ∙ (let r : (base + 2 ^ 66 + length) % 2 ^ 65 ≡ top = omega arith in r)
-    | inr near ↦ top_at-near e (base + 2 ^ 66) length near ∙ (let r : (base + 2 ^ 66) % 2 ^ 64 + length ≡ top = omega arith in r)
+    | inl far ↦ top_at-uncorrected e (base + 2 ^ 66) length far ∙ (let r : (base + 2 ^ 66 + length) % 2 ^ 65 ≡ top = omega arith in r)
+    | inr near ↦ top_at-corrected e (base + 2 ^ 66) length near ∙ (let r : (base + 2 ^ 66) % 2 ^ 64 + length ≡ top = omega arith in r)
   ]
 
   pub HasBounds-bounded_word : HasBounds (bounded_word w ie e b t a) base length top
   HasBounds-bounded_word =
       let v = bounded_word w ie e b t a in
-      let e_is : e ≡ exponent_of v = sym (ap (λ (x : ℕ). min x 52) (e_of-bounded_word w ie e b t a a_fits f) ∙ min-eq_left he) in
+      let e_is : e ≡ cut_exponent_of v = sym (ap (λ (x : ℕ). min x 52) (e_of-bounded_word w ie e b t a a_fits f) ∙ min-eq_left he) in
       let b_is : b ≡ b_of v = sym (b_of-bounded_word w ie e b t a a_fits f) in
       let t_is : t % 2 ^ 12 ≡ t_of v = sym (t_of-bounded_word w ie e b t a a_fits f) in
       let ie_is : ie ≡ ie_of v = sym (ie_of-bounded_word w ie e b t a a_fits f) in

@@ -5,11 +5,11 @@ use Rattle.std.proofs.lemmas.Nat.{pow_pos, shr-shr}
 use Rattle.std.proofs.lemmas.Bool.{cases_lt}
 use Rattle.std.proofs.lemmas.Bool.Decides.{nat_tests}
 use Rattle.cap_word.specs.Fields.{ie_of, b_of, t_of, address_of}
-use Rattle.cap_bounds.specs.Bounds.{span_at, exponent_of, unit_of, raw_base_at, length_of, base_of, top_of}
+use Rattle.cap_bounds.specs.Bounds.{span_at, cut_exponent_of, unit_of, raw_base_at, length_of, base_of, top_of}
 use Rattle.cap_bounds.specs.SailDecoding.{below_bit, sail_mantissa, sail_a3, sail_a_top, sail_high_three, sail_r3, sail_bound, sail_corrected_top, sail_base_65, sail_base, sail_top}
 use Rattle.cap_bounds.proofs.Powers.{pow_split}
 use Rattle.cap_bounds.proofs.Mantissas.{span_at-lt}
-use Rattle.cap_bounds.proofs.Decoded.{exponent-le, b_of-lt, t_of-lt, length_is, length_of-lt, top_at-near, top_at-far}
+use Rattle.cap_bounds.proofs.Decoded.{exponent-le, b_of-lt, t_of-lt, length_is, length_of-lt, top_at-corrected, top_at-uncorrected}
 
 -- the bit of a comparison x < y
 abbrev IsBelowBit : ℕ → ℕ → ℕ → Type 0
@@ -45,11 +45,11 @@ carry-is b d b_hi t_hi h k p q = elim p [
 ]
 
 -- inverting bit 64 takes the top to the first one above the base
-corrected-near : (e raw length : ℕ) → e ≤ 50 → length < 2 ^ 63 → sail_corrected_top e (raw % 2 ^ 65) ((raw + length) % 2 ^ 65) ≡ raw % 2 ^ 64 + length
-corrected-near e raw length h k = grind (arith, nat_tests)
+sail_corrected_top-low : (e raw length : ℕ) → e ≤ 50 → length < 2 ^ 63 → sail_corrected_top e (raw % 2 ^ 65) ((raw + length) % 2 ^ 65) ≡ raw % 2 ^ 64 + length
+sail_corrected_top-low e raw length h k = grind (arith, nat_tests)
 
-corrected-far : (e base top : ℕ) → 51 ≤ e → sail_corrected_top e base top ≡ top
-corrected-far e base top h = grind (arith, nat_tests)
+sail_corrected_top-high : (e base top : ℕ) → 51 ≤ e → sail_corrected_top e base top ≡ top
+sail_corrected_top-high e base top h = grind (arith, nat_tests)
 
 -- two multiples of a unit u that differ by multiples of 2 ^ 78 units and of m units, of which each is a
 -- multiple of 2 ^ 65
@@ -98,18 +98,18 @@ module _ (e b address : ℕ) (he : e ≤ 52) (hb : b < 2 ^ 14) where
 
 -- the raw base of a word
 abbrev raw_of : ℕ → ℕ
-raw_of w = raw_base_at (exponent_of w) (b_of w) (address_of w)
+raw_of w = raw_base_at (cut_exponent_of w) (b_of w) (address_of w)
 
 sail_base_65-is : (w : ℕ) → sail_base_65 w ≡ raw_of w % 2 ^ 65
 sail_base_65-is w =
     let b : b_of w ≡ (b_of w + 0) % 2 ^ 14 = omega (arith, b_of-lt w) in
-    ap (λ (x : ℕ). sail_bound (exponent_of w) (b_of w) (address_of w) x) b
-    ∙ sail_bound_is (exponent_of w) (b_of w) (address_of w) (exponent-le w) (b_of-lt w) 0 (omega arith) ∙ (let f : (raw_of w + 0 * unit_of w) % 2 ^ 65 ≡ raw_of w % 2 ^ 65 = omega arith in f)
+    ap (λ (x : ℕ). sail_bound (cut_exponent_of w) (b_of w) (address_of w) x) b
+    ∙ sail_bound_is (cut_exponent_of w) (b_of w) (address_of w) (exponent-le w) (b_of-lt w) 0 (omega arith) ∙ (let f : (raw_of w + 0 * unit_of w) % 2 ^ 65 ≡ raw_of w % 2 ^ 65 = omega arith in f)
 
-sail_top_65-is : (w : ℕ) → sail_bound (exponent_of w) (b_of w) (address_of w) (sail_mantissa (b_of w) (t_of w) (ie_of w)) ≡ (raw_of w + length_of w) % 2 ^ 65
+sail_top_65-is : (w : ℕ) → sail_bound (cut_exponent_of w) (b_of w) (address_of w) (sail_mantissa (b_of w) (t_of w) (ie_of w)) ≡ (raw_of w + length_of w) % 2 ^ 65
 sail_top_65-is w =
     rw (sail_mantissa-is (b_of w) (t_of w) (ie_of w) (b_of-lt w) (t_of-lt w), length_is w)
-    (sail_bound_is (exponent_of w) (b_of w) (address_of w) (exponent-le w) (b_of-lt w) (span_at (b_of w) (t_of w) (ie_of w)) (span_at-lt (b_of w) (t_of w) (ie_of w)))
+    (sail_bound_is (cut_exponent_of w) (b_of w) (address_of w) (exponent-le w) (b_of-lt w) (span_at (b_of w) (t_of w) (ie_of w)) (span_at-lt (b_of w) (t_of w) (ie_of w)))
 
 pub sail_base-is : (w : ℕ) → sail_base w ≡ base_of w
 unfolding sail_base base_of
@@ -119,7 +119,7 @@ pub sail_top-is : (w : ℕ) → sail_top w ≡ top_of w
 unfolding sail_top top_of
 sail_top-is w =
     rw (sail_base_65-is w, sail_top_65-is w)
-    (elim (cases_lt 50 (exponent_of w)) [
-      | inl far ↦ corrected-far (exponent_of w) (raw_of w % 2 ^ 65) ((raw_of w + length_of w) % 2 ^ 65) far ∙ sym (top_at-far (exponent_of w) (raw_of w) (length_of w) far)
-      | inr near ↦ corrected-near (exponent_of w) (raw_of w) (length_of w) near (length_of-lt w near) ∙ sym (top_at-near (exponent_of w) (raw_of w) (length_of w) near)
+    (elim (cases_lt 50 (cut_exponent_of w)) [
+      | inl far ↦ sail_corrected_top-high (cut_exponent_of w) (raw_of w % 2 ^ 65) ((raw_of w + length_of w) % 2 ^ 65) far ∙ sym (top_at-uncorrected (cut_exponent_of w) (raw_of w) (length_of w) far)
+      | inr near ↦ sail_corrected_top-low (cut_exponent_of w) (raw_of w) (length_of w) near (length_of-lt w near) ∙ sym (top_at-corrected (cut_exponent_of w) (raw_of w) (length_of w) near)
     ])

@@ -17,7 +17,8 @@ pub record IsLeastExponent (base length e : ℕ) : Type 0 where
   pub fits : units_of base length e < 1024
   pub least : (k : ℕ) → k < e → 1024 ≤ units_of base length k
 
--- the first of count exponents from e on at which a request covers less than 1024 units, else the next
+-- closed form of the least exponent: the first of count exponents from e on at which a request covers less
+-- than 1024 units, else the next; `round` ties it to `IsLeastExponent`
 unfoldable pub first_exponent : ℕ → ℕ → ℕ → ℕ → ℕ
 first_exponent base length zero e = e
 first_exponent base length (suc count) e = if nat_lt (units_of base length e) 1024 then e else first_exponent base length count (suc e)

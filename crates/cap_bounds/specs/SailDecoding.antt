@@ -4,7 +4,7 @@
 -- bounds of this project are those of a window: that these steps find them is a law, proved on `bounds`.
 use Rattle.std.specs.Prelude.{ℕ, ◌+◌, ◌-◌, ◌*◌, ◌/◌, ◌%◌, ◌^◌, Bool, nat_lt, ◌&&◌, if◌then◌else◌}
 use Rattle.cap_word.specs.Fields.{bit_of, ie_of, b_of, t_of, address_of}
-use Rattle.cap_bounds.specs.Bounds.{exponent_of}
+use Rattle.cap_bounds.specs.Bounds.{cut_exponent_of}
 
 -- 1 where x is below y, else 0
 unfoldable pub below_bit : ℕ → ℕ → ℕ
@@ -52,7 +52,7 @@ sail_corrected_top e base top = if nat_lt e 51 && sail_too_far base top then (to
 
 -- the base that the model decodes of a word, before it is cut to 64 bits
 abbrev pub sail_base_65 : ℕ → ℕ
-sail_base_65 w = sail_bound (exponent_of w) (b_of w) (address_of w) (b_of w)
+sail_base_65 w = sail_bound (cut_exponent_of w) (b_of w) (address_of w) (b_of w)
 
 -- the base that the model decodes of a word
 unfoldable pub sail_base : ℕ → ℕ
@@ -60,4 +60,4 @@ sail_base w = sail_base_65 w % 2 ^ 64
 
 -- the top that the model decodes of a word
 unfoldable pub sail_top : ℕ → ℕ
-sail_top w = sail_corrected_top (exponent_of w) (sail_base_65 w) (sail_bound (exponent_of w) (b_of w) (address_of w) (sail_mantissa (b_of w) (t_of w) (ie_of w)))
+sail_top w = sail_corrected_top (cut_exponent_of w) (sail_base_65 w) (sail_bound (cut_exponent_of w) (b_of w) (address_of w) (sail_mantissa (b_of w) (t_of w) (ie_of w)))

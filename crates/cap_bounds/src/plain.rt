@@ -68,7 +68,10 @@ pub(crate) fn corrected_bounds(word: Word) -> (u64, u128) {
     let fields = split(word);
     let e = u32::from(fields.e).min(52);
     let carry = u16::from(fields.t < fields.b & 0xfff);
-    let t_high = (fields.b >> 12).wrapping_add(carry).wrapping_add(u16::from(fields.ie)) & 3;
+    let t_high = (fields.b >> 12)
+        .wrapping_add(carry)
+        .wrapping_add(u16::from(fields.ie))
+        & 3;
     let t = (t_high << 12) | fields.t;
 
     let address = u128::from(fields.address);
@@ -77,14 +80,20 @@ pub(crate) fn corrected_bounds(word: Word) -> (u64, u128) {
     let a_hi = u128::from(a3 < r3);
     let bound = |mantissa: u16| {
         let mantissa_hi = u128::from(u128::from(mantissa >> 11) < r3);
-        let a_top = (address >> (e + 14)).wrapping_add(mantissa_hi).wrapping_sub(a_hi);
+        let a_top = (address >> (e + 14))
+            .wrapping_add(mantissa_hi)
+            .wrapping_sub(a_hi);
         ((a_top.wrapping_shl(14) | u128::from(mantissa)).wrapping_shl(e)) & 0x1_ffff_ffff_ffff_ffff
     };
 
     let base = bound(fields.b);
     let top = bound(t);
     let apart = (top >> 63).wrapping_sub((base >> 63) & 1) & 3;
-    let corrected = if e < 51 && apart > 1 { top ^ (1 << 64) } else { top };
+    let corrected = if e < 51 && apart > 1 {
+        top ^ (1 << 64)
+    } else {
+        top
+    };
     ((base & 0xffff_ffff_ffff_ffff) as u64, corrected)
 }
 
