@@ -1,6 +1,36 @@
 -- The rounding that Sail makes of a request is that of the least exponent.
 use lib.Count.{count_leading_zeros}
-use Rattle.std.proofs.Common.{◌≡◌, ℕ, suc, ◌+◌, ◌-◌, ◌*◌, ◌/◌, ◌%◌, ◌^◌, ◌<◌, ◌≤◌, Bool, true, false, nat_lt, ◌&&◌, ◌||◌, ◌==◌, ◌↔◌, IsTrue, not, refl, sym, ap, ◌∙◌, inl, inr, arith, subst}
+use Rattle.std.proofs.Common.{
+  ◌≡◌,
+  ℕ,
+  suc,
+  ◌+◌,
+  ◌-◌,
+  ◌*◌,
+  ◌/◌,
+  ◌%◌,
+  ◌^◌,
+  ◌<◌,
+  ◌≤◌,
+  Bool,
+  true,
+  false,
+  nat_lt,
+  ◌&&◌,
+  ◌||◌,
+  ◌==◌,
+  ◌↔◌,
+  IsTrue,
+  not,
+  refl,
+  sym,
+  ap,
+  ◌∙◌,
+  inl,
+  inr,
+  arith,
+  subst,
+}
 use Rattle.std.proofs.Math.Nat.{div-add-mod, le_of_mul-le-mul_right, lt_of_mul-lt-mul_right}
 use Rattle.std.proofs.Math.Bool.{or-false}
 use Rattle.std.proofs.lemmas.Nat.{mod_below, pow_pos, mod-pow-add, leading_top}
@@ -8,18 +38,45 @@ use Rattle.std.proofs.lemmas.Bool.{cases_lt}
 use Rattle.std.proofs.lemmas.Bool.Decides.{nat_tests}
 use Rattle.cap_word.specs.Fields.{bit_of}
 use Rattle.cap_bounds.specs.Rounding.{div_up, units_of, IsLeastExponent, rounded_ie, rounded_exponent, rounded_b, rounded_t, IsExact}
-use Rattle.cap_bounds.specs.SailRounding.{sail_first_e, sail_ie, sail_lost, sail_b_ie, sail_t_ie, sail_inc_e, sail_lost_base, sail_lost_top, sail_last_e, sail_exponent, sail_b, sail_t, sail_exact}
+use Rattle.cap_bounds.specs.SailRounding.{
+  sail_first_e,
+  sail_ie,
+  sail_lost,
+  sail_b_ie,
+  sail_t_ie,
+  sail_inc_e,
+  sail_lost_base,
+  sail_lost_top,
+  sail_last_e,
+  sail_exponent,
+  sail_b,
+  sail_t,
+  sail_exact,
+}
 use Rattle.cap_bounds.proofs.Powers.{pow_split, pow_le}
 use Rattle.cap_bounds.proofs.Units.{div_up-ge, div_up-le, down-le, down-gt, down-le-up, few}
 use Rattle.cap_bounds.proofs.LeastExponents.{IsLeastExponent-start, IsLeastExponent-raised, rounded_exponent-short}
-use Rattle.cap_bounds.proofs.Roundings.{rounded_base-short, rounded_top-short, rounded_ie-short, rounded_ie-long, exponent_is, rounded_base_is, rounded_top_is, long_b, long_t, short_b, short_t}
+use Rattle.cap_bounds.proofs.Roundings.{
+  rounded_base-short,
+  rounded_top-short,
+  rounded_ie-short,
+  rounded_ie-long,
+  exponent_is,
+  rounded_base_is,
+  rounded_top_is,
+  long_b,
+  long_t,
+  short_b,
+  short_t,
+}
 
 -- a quotient rounded up is one more just where there is a rest
 div_up-whole : (n v : ℕ) → 0 < v → n % v ≡ 0 → div_up n v ≡ n / v
 div_up-whole n v pos h =
     let e : v * (n / v) + n % v ≡ n = div-add-mod n v in
     let f : div_up n v ≤ n / v = div_up-le n v (n / v) pos (omega arith) in
-    let g : n / v ≤ div_up n v = le_of_mul-le-mul_right {m = n / v} {n = div_up n v} {k = v} (omega (arith, down-le n v, div_up-ge n v pos)) pos in
+    let g : n / v ≤ div_up n v = le_of_mul-le-mul_right {m = n / v} {n = div_up n v} {k = v}
+    (omega (arith, down-le n v, div_up-ge n v pos)) pos in
     omega arith
 
 div_up-rest : (n v : ℕ) → 0 < v → 0 < n % v → div_up n v ≡ n / v + 1
@@ -45,12 +102,16 @@ any_bit v r p q s pos h k e = elim (cases_lt 0 p) [
 ]
 
 -- the lowest bit of what is not lost is lost at the next e
-lost-grown : (e n q : ℕ) (inc : Bool) → (n % 2 ^ (e + 3) ≡ 0 → q % 2 ≡ n / 2 ^ (e + 3) % 2) → (sail_lost e n || (inc && q % 2 == 1)) ≡ sail_lost (e + bit_of inc) n
+lost-grown : (e n q : ℕ) (inc : Bool) → (n % 2 ^ (e + 3) ≡ 0 → q % 2 ≡ n / 2 ^ (e + 3) % 2)
+    → (sail_lost e n || (inc && q % 2 == 1)) ≡ sail_lost (e + bit_of inc) n
 unfolding sail_lost
 lost-grown e n q true h =
-    let more : n % 2 ^ (e + 1 + 3) ≡ n / 2 ^ (e + 3) % 2 * 2 ^ (e + 3) + n % 2 ^ (e + 3) = ap (λ (x : ℕ). n % 2 ^ x) (let f : e + 1 + 3 ≡ 1 + (e + 3) = omega arith in f) ∙ mod-pow-add n 1 (e + 3) in
+    let more : n % 2 ^ (e + 1 + 3)
+    ≡ n / 2 ^ (e + 3) % 2 * 2 ^ (e + 3) + n % 2 ^ (e + 3) = ap (λ (x : ℕ). n % 2 ^ x)
+    (let f : e + 1 + 3 ≡ 1 + (e + 3) = omega arith in f) ∙ mod-pow-add n 1 (e + 3) in
     any_bit (2 ^ (e + 3)) (n % 2 ^ (e + 3)) (n / 2 ^ (e + 3) % 2) (q % 2) (n % 2 ^ (e + 1 + 3)) (pow_pos (e + 3)) (omega arith) h more
-lost-grown e n q false h = or-false (nat_lt 0 (n % 2 ^ (e + 3))) ∙ ap (λ (x : ℕ). nat_lt 0 (n % 2 ^ (x + 3))) (let f : e ≡ e + 0 = omega arith in f)
+lost-grown e n q false h = or-false (nat_lt 0 (n % 2 ^ (e + 3)))
+    ∙ ap (λ (x : ℕ). nat_lt 0 (n % 2 ^ (x + 3))) (let f : e ≡ e + 0 = omega arith in f)
 
 -- what is lost is what is lost at the last e
 lost_base-is : (e b top : ℕ) → sail_lost_base e b top ≡ sail_lost (sail_last_e e b top) b
@@ -58,7 +119,8 @@ lost_base-is e b top = lost-grown e b (sail_b_ie e b) (sail_inc_e e b top) (λ _
 
 lost_top-is : (e b top : ℕ) → sail_lost_top e b top ≡ sail_lost (sail_last_e e b top) top
 unfolding sail_lost
-lost_top-is e b top = lost-grown e top (sail_t_ie e top (sail_lost e top)) (sail_inc_e e b top) (λ h. grind (arith, nat_tests, t_ie-is e top))
+lost_top-is e b top = lost-grown e top (sail_t_ie e top (sail_lost e top)) (sail_inc_e e b top)
+    (λ h. grind (arith, nat_tests, t_ie-is e top))
 
 -- the difference in eleven bits
 bit_ten : (lo hi : ℕ) → lo ≤ hi → hi - lo < 2048 → (hi % 2 ^ 11 + 2 ^ 11 - lo % 2 ^ 11) % 2 ^ 11 / 2 ^ 10 ≡ (hi - lo) / 1024
@@ -75,7 +137,9 @@ module _ (b l e : ℕ) (high : l < 2 ^ (e + 13)) where
   unfolding sail_inc_e
   inc_e-is =
       ap (λ (x : ℕ). (x + 2 ^ 11 - sail_b_ie e b) % 2 ^ 11 / 2 ^ 10 == 1) (t_ie-is e (b + l))
-      ∙ ap (λ (x : ℕ). x == 1) (bit_ten (b / 2 ^ (e + 3)) (div_up (b + l) (2 ^ (e + 3))) (down-le-up b l (2 ^ (e + 3)) (pow_pos (e + 3))) (omega (arith, units-lt)))
+      ∙ ap (λ (x : ℕ). x == 1)
+      (bit_ten (b / 2 ^ (e + 3)) (div_up (b + l) (2 ^ (e + 3))) (down-le-up b l (2 ^ (e + 3)) (pow_pos (e + 3)))
+      (omega (arith, units-lt)))
 
   inc_e-not : units_of b l e < 1024 → sail_inc_e e b (b + l) ≡ false
   inc_e-not h = inc_e-is ∙ ap (λ (x : ℕ). x == 1) (let f : units_of b l e / 1024 ≡ 0 = omega arith in f)
@@ -85,8 +149,11 @@ module _ (b l e : ℕ) (high : l < 2 ^ (e + 13)) where
 
   last-is : e ≤ 51 → 2 ^ (e + 12) ≤ l → IsLeastExponent b l (sail_last_e e b (b + l))
   last-is he low = elim (cases_lt (units_of b l e) 1024) [
-    | inl h ↦ subst (λ (x : ℕ). IsLeastExponent b l x) (sym (ap (λ (x : Bool). e + bit_of x) (inc_e-not h) ∙ (let f : e + 0 ≡ e = omega arith in f))) (IsLeastExponent-start b l e (omega arith) low h)
-    | inr h ↦ subst (λ (x : ℕ). IsLeastExponent b l x) (sym (ap (λ (x : Bool). e + bit_of x) (inc_e-so h))) (IsLeastExponent-raised b l e (omega arith) low high h)
+    | inl h ↦ subst (λ (x : ℕ). IsLeastExponent b l x)
+        (sym (ap (λ (x : Bool). e + bit_of x) (inc_e-not h) ∙ (let f : e + 0 ≡ e = omega arith in f)))
+        (IsLeastExponent-start b l e (omega arith) low h)
+    | inr h ↦ subst (λ (x : ℕ). IsLeastExponent b l x) (sym (ap (λ (x : Bool). e + bit_of x) (inc_e-so h)))
+        (IsLeastExponent-raised b l e (omega arith) low high h)
   ]
 
 -- e at first is the height of the length's highest bit, above bit 12
@@ -100,13 +167,16 @@ start-high l j h = omega arith
 
 start-is : (l : ℕ) → 4096 ≤ l → l < 2 ^ 64 → (sail_first_e l ≤ 51) × (2 ^ (sail_first_e l + 12) ≤ l) × (l < 2 ^ (sail_first_e l + 13))
 start-is l h k = elim (cases_lt l 8192) [
-  | inl low ↦ subst (λ (x : ℕ). (x ≤ 51) × (2 ^ (x + 12) ≤ l) × (l < 2 ^ (x + 13))) (sym (start-low l low)) (omega arith, omega arith, omega arith)
+  | inl low ↦ subst (λ (x : ℕ). (x ≤ 51) × (2 ^ (x + 12) ≤ l) × (l < 2 ^ (x + 13))) (sym (start-low l low))
+      (omega arith, omega arith, omega arith)
   | inr high ↦
       let t = leading_top 52 (l / 2 ^ 13) (omega arith) (omega arith) in
       let below : 2 ^ (suc t.0 + 12) ≡ 2 ^ t.0 * 2 ^ 13 = pow_split (suc t.0 + 12) t.0 13 (omega arith) in
       let above : 2 ^ (suc t.0 + 13) ≡ 2 ^ suc t.0 * 2 ^ 13 = pow_split (suc t.0 + 13) (suc t.0) 13 (omega arith) in
-      let fits : suc t.0 ≤ 51 = elim (cases_lt 51 (suc t.0)) [ inl m ↦ absurd (omega (arith, t.2, pow_le 51 t.0 (omega arith))) | inr m ↦ m ] in
-      subst (λ (x : ℕ). (x ≤ 51) × (2 ^ (x + 12) ≤ l) × (l < 2 ^ (x + 13))) (sym (start-high l t.0 t.1)) (fits, omega (arith, t.2), omega (arith, t.3))
+      let fits : suc t.0 ≤ 51 = elim
+      (cases_lt 51 (suc t.0)) [ inl m ↦ absurd (omega (arith, t.2, pow_le 51 t.0 (omega arith))) | inr m ↦ m ] in
+      subst (λ (x : ℕ). (x ≤ 51) × (2 ^ (x + 12) ≤ l) × (l < 2 ^ (x + 13))) (sym (start-high l t.0 t.1))
+      (fits, omega (arith, t.2), omega (arith, t.3))
 ]
 
 sail_ie-short : (l : ℕ) → l < 4096 → sail_ie l ≡ false
@@ -139,7 +209,8 @@ up-whole : (n v : ℕ) → 0 < v → (div_up n v * v ≡ n) ↔ (n % v ≡ 0)
 up-whole n v pos =
     let e : v * (n / v) + n % v ≡ n = div-add-mod n v in (
       λ h. elim (cases_lt 0 (n % v)) [
-        | inl rest ↦ let f : div_up n v * v ≡ (n / v + 1) * v = ap (λ (x : ℕ). x * v) (div_up-rest n v pos rest) in absurd (omega (arith, mod_below n v pos))
+        | inl rest ↦ let f : div_up n v * v
+            ≡ (n / v + 1) * v = ap (λ (x : ℕ). x * v) (div_up-rest n v pos rest) in absurd (omega (arith, mod_below n v pos))
         | inr none ↦ omega arith
       ],
       λ h. let f : div_up n v * v ≡ n / v * v = ap (λ (x : ℕ). x * v) (div_up-whole n v pos h) in omega arith,
@@ -184,7 +255,8 @@ module _ (b l : ℕ) (long : 4096 ≤ l) (b_fits : b < 2 ^ 64) (l_fits : l < 2 ^
 
   b-long : sail_b b l ≡ rounded_b b l
   unfolding sail_b
-  b-long = rw (sail_ie-long l long l_fits) (omega (arith, long_b b l last (b / 2 ^ (last + 3)) (div_up (b + l) (2 ^ (last + 3))) long b_fits l_fits least refl refl))
+  b-long = rw (sail_ie-long l long l_fits)
+      (omega (arith, long_b b l last (b / 2 ^ (last + 3)) (div_up (b + l) (2 ^ (last + 3))) long b_fits l_fits least refl refl))
 
   t-long : sail_t b l ≡ rounded_t b l
   unfolding sail_t
@@ -195,7 +267,13 @@ module _ (b l : ℕ) (long : 4096 ≤ l) (b_fits : b < 2 ^ 64) (l_fits : l < 2 ^
   exact-long : IsTrue (sail_exact b l) ↔ IsExact b l
   unfolding sail_exact sail_lost
   exact-long =
-      rw (sail_ie-long l long l_fits, lost_base-is (sail_first_e l) b (b + l), lost_top-is (sail_first_e l) b (b + l), rounded_base_is b l last long l_fits least, rounded_top_is b l last long l_fits least)
+      rw (
+        sail_ie-long l long l_fits,
+        lost_base-is (sail_first_e l) b (b + l),
+        lost_top-is (sail_first_e l) b (b + l),
+        rounded_base_is b l last long l_fits least,
+        rounded_top_is b l last long l_fits least,
+      )
       (neither (down-whole b (2 ^ (last + 3))) (up-whole (b + l) (2 ^ (last + 3)) (pow_pos (last + 3))))
 
 module _ (b l : ℕ) (b_fits : b < 2 ^ 64) (l_fits : l < 2 ^ 64) where

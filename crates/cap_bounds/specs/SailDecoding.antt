@@ -60,4 +60,5 @@ sail_base w = sail_base_65 w % 2 ^ 64
 
 -- the top that the model decodes of a word
 unfoldable pub sail_top : ℕ → ℕ
-sail_top w = sail_corrected_top (cut_exponent_of w) (sail_base_65 w) (sail_bound (cut_exponent_of w) (b_of w) (address_of w) (sail_mantissa (b_of w) (t_of w) (ie_of w)))
+sail_top w = sail_corrected_top (cut_exponent_of w) (sail_base_65 w)
+    (sail_bound (cut_exponent_of w) (b_of w) (address_of w) (sail_mantissa (b_of w) (t_of w) (ie_of w)))

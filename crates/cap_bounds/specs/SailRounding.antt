@@ -49,7 +49,8 @@ sail_exponent base length = if sail_ie length then sail_last_e (sail_first_e len
 
 -- B: B_ie at the last e and three zeros, or fourteen bits of the base
 unfoldable pub sail_b : ℕ → ℕ → ℕ
-sail_b base length = if sail_ie length then sail_b_ie (sail_last_e (sail_first_e length) base (base + length)) base * 2 ^ 3 else base % 2 ^ 14
+sail_b base length = if sail_ie length then sail_b_ie
+    (sail_last_e (sail_first_e length) base (base + length)) base * 2 ^ 3 else base % 2 ^ 14
 
 -- T: T_ie at the last e and three zeros, or fourteen bits of the top
 unfoldable pub sail_t : ℕ → ℕ → ℕ

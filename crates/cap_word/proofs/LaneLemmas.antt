@@ -1,5 +1,40 @@
 -- Lanes that were computed one by one from the bytes, and what their mask says.
-use Rattle.std.proofs.Common.{◌≡◌, ℕ, suc, zero, ◌+◌, ◌-◌, ◌*◌, ◌/◌, ◌%◌, ◌^◌, ◌<◌, Bool, true, false, not, ◌||◌, cond, eqb, ltb, List, [], ◌∷◌, ◌++◌, map, length, get_or, replicate, Fits, w8, refl, sym, ap, ◌∙◌, arith}
+use Rattle.std.proofs.Common.{
+  ◌≡◌,
+  ℕ,
+  suc,
+  zero,
+  ◌+◌,
+  ◌-◌,
+  ◌*◌,
+  ◌/◌,
+  ◌%◌,
+  ◌^◌,
+  ◌<◌,
+  Bool,
+  true,
+  false,
+  not,
+  ◌||◌,
+  cond,
+  eqb,
+  ltb,
+  List,
+  [],
+  ◌∷◌,
+  ◌++◌,
+  map,
+  length,
+  get_or,
+  replicate,
+  Fits,
+  w8,
+  refl,
+  sym,
+  ap,
+  ◌∙◌,
+  arith,
+}
 use Rattle.std.proofs.lemmas.Bool.{agree_below, agree_below_at, eqb-true, false≢true, eq-eqb, not-false, lt-ltb, ltb-true}
 use Rattle.std.proofs.lemmas.List.{get_or-map, length-map, get_or_append_left}
 use Rattle.hex.specs.Hex.{encode_with, encode_lower}
@@ -15,7 +50,8 @@ below_256 : (v : List ℕ) → (length v ≡ 16) × Each1 (Fits w8) v → (i : �
 below_256 v fits i lt = (Each1-get_or (Fits w8) v i 0 (omega arith) fits.1).fits
 
 -- a choice lane by lane
-pub sel_of_maps : (p : ℕ → Bool) (f g : ℕ → ℕ) (v : List ℕ) {ms : List Bool} {xs ys : List ℕ} → ms ≡ map p v → xs ≡ map f v → ys ≡ map g v → sel_l ms xs ys ≡ map (λ x. cond (p x) (f x) (g x)) v
+pub sel_of_maps : (p : ℕ → Bool) (f g : ℕ → ℕ) (v : List ℕ) {ms : List Bool} {xs ys : List ℕ} → ms ≡ map p v → xs ≡ map f v → ys ≡ map g v
+    → sel_l ms xs ys ≡ map (λ x. cond (p x) (f x) (g x)) v
 sel_of_maps p f g v em ex ey = rw (em, ex, ey) (chosen p f g v) where
   chosen : (p : ℕ → Bool) (f g : ℕ → ℕ) (v : List ℕ) → sel_l (map p v) (map f v) (map g v) ≡ map (λ x. cond (p x) (f x) (g x)) v
   chosen p f g [] = refl
@@ -58,7 +94,8 @@ none_masked p (x ∷ v) h (suc i) lt =
 
 -- a text whose pairs are the digits of bytes is their text
 pub spelled : (bs text : List ℕ) → length text ≡ 2 * length bs
-    → ((j : ℕ) → j < length bs → (get_or text (2 * j) 0 ≡ hex_digit (get_or bs j 0 / 16)) × (get_or text (2 * j + 1) 0 ≡ hex_digit (get_or bs j 0 % 16)))
+    → ((j : ℕ) → j < length bs
+    → (get_or text (2 * j) 0 ≡ hex_digit (get_or bs j 0 / 16)) × (get_or text (2 * j + 1) 0 ≡ hex_digit (get_or bs j 0 % 16)))
     → text ≡ encode_lower bs
 unfolding encode_with
 spelled [] [] long h = refl
@@ -109,14 +146,16 @@ module _ (less sub add : ℕ → ℕ → ℕ) (zero ten a six more other : ℕ) 
 
   lanes-is : lanes ≡ map lane v
   lanes-is =
-      sel_of_maps (λ x. top 7 (less (sub x zero) ten)) (λ x. sub x zero) (λ x. cond (top 7 (less (sub x a) six)) (add (sub x a) more) other) v
+      sel_of_maps (λ x. top 7 (less (sub x zero) ten)) (λ x. sub x zero)
+      (λ x. cond (top 7 (less (sub x a) six)) (add (sub x a) more) other) v
       (test-is zero ten) (from-is zero) letters-is
 
   pub lane_at : agree_below (λ b. not (ltb (lane b) 16) || eqb b (hex_digit (lane b))) (λ _. true) 256 ≡ true
       → agree_below (λ d. eqb (lane (hex_digit d)) d) (λ _. true) 16 ≡ true
       → (i : ℕ) → i < 16 → IsLaneOf (get_or v i 0) (get_or lanes i 0)
   lane_at bytes digits i lt =
-      let at : get_or lanes i 0 ≡ lane (get_or v i 0) = ap (λ (l : List ℕ). get_or l i 0) lanes-is ∙ get_or-map lane v i 0 0 (omega arith) in
+      let at : get_or lanes i 0 ≡ lane (get_or v i 0) = ap (λ (l : List ℕ). get_or l i 0) lanes-is
+      ∙ get_or-map lane v i 0 0 (omega arith) in
       rw at (lane_of lane bytes digits (get_or v i 0) (below_256 v fits i lt))
 
 -- the mask of the lanes that are 16 or more
@@ -130,18 +169,24 @@ module _ (v : List ℕ) (fits : (length v ≡ 16) × Each1 (Fits w8) v) (le : �
   mask-is : mask ≡ mask_l (map (λ x. top 7 (le 16 x)) v)
   mask-is =
       let each = ap (map (top 7)) (zip2_splat_left le 16 16 v sixteen) ∙ map-map (top 7) (λ x. le 16 x) v in
-      ap (λ l. mask_l l % 2 ^ 64) each ∙ mask_l-mod (map (λ x. top 7 (le 16 x)) v) 64 (omega (arith, length-map v (λ x. top 7 (le 16 x)), sixteen))
+      ap (λ l. mask_l l % 2 ^ 64) each
+      ∙ mask_l-mod (map (λ x. top 7 (le 16 x)) v) 64 (omega (arith, length-map v (λ x. top 7 (le 16 x)), sixteen))
 
-  at : agree_below (λ x. top 7 (le 16 x)) (λ x. not (ltb x 16)) 256 ≡ true → (i : ℕ) → i < 16 → top 7 (le 16 (get_or v i 0)) ≡ not (ltb (get_or v i 0) 16)
+  at : agree_below (λ x. top 7 (le 16 x)) (λ x. not (ltb x 16)) 256 ≡ true → (i : ℕ) → i < 16
+      → top 7 (le 16 (get_or v i 0)) ≡ not (ltb (get_or v i 0) 16)
   at test i lt = agree_below_at (λ x. top 7 (le 16 x)) (λ x. not (ltb x 16)) 256 (get_or v i 0) test (below_256 v fits i lt)
 
-  pub all_low : agree_below (λ x. top 7 (le 16 x)) (λ x. not (ltb x 16)) 256 ≡ true → eqb mask 0 ≡ true → (i : ℕ) → i < 16 → get_or v i 0 < 16
+  pub all_low : agree_below (λ x. top 7 (le 16 x)) (λ x. not (ltb x 16)) 256 ≡ true → eqb mask 0 ≡ true → (i : ℕ) → i < 16
+      → get_or v i 0 < 16
   all_low test none i lt =
-      ltb-true (get_or v i 0) 16 (not-false _ (sym (at test i lt) ∙ none_masked (λ x. top 7 (le 16 x)) v (sym mask-is ∙ eqb-true mask 0 none) i (omega arith)))
+      ltb-true (get_or v i 0) 16
+      (not-false _ (sym (at test i lt) ∙ none_masked (λ x. top 7 (le 16 x)) v (sym mask-is ∙ eqb-true mask 0 none) i (omega arith)))
 
-  pub not_all_low : agree_below (λ x. top 7 (le 16 x)) (λ x. not (ltb x 16)) 256 ≡ true → eqb mask 0 ≡ false → ((i : ℕ) → i < 16 → get_or v i 0 < 16) → ⊥
+  pub not_all_low : agree_below (λ x. top 7 (le 16 x)) (λ x. not (ltb x 16)) 256 ≡ true → eqb mask 0 ≡ false
+      → ((i : ℕ) → i < 16 → get_or v i 0 < 16) → ⊥
   not_all_low test some low =
-      let none = mask-is ∙ mask_none (λ x. top 7 (le 16 x)) v (λ i lt. at test i (omega arith) ∙ ap not (lt-ltb (get_or v i 0) 16 (low i (omega arith)))) in
+      let none = mask-is ∙ mask_none (λ x. top 7 (le 16 x)) v
+      (λ i lt. at test i (omega arith) ∙ ap not (lt-ltb (get_or v i 0) 16 (low i (omega arith)))) in
       false≢true (sym some ∙ eq-eqb mask 0 none)
 
 -- a byte of two digits
@@ -158,7 +203,8 @@ abbrev pair : List ℕ → ℕ → ℕ → ℕ
 pair v i j = bit_or (get_or (v ++ v) i 0 * 16 % 256) (get_or (v ++ v) j 0)
 
 pub pairs_at : (v : List ℕ) → length v ≡ 16 → ((k : ℕ) → k < 16 → get_or v k 0 < 16) → (j : ℕ) → j < 8
-    → get_or (pair v 0 1 ∷ pair v 2 3 ∷ pair v 4 5 ∷ pair v 6 7 ∷ pair v 8 9 ∷ pair v 10 11 ∷ pair v 12 13 ∷ pair v 14 15 ∷ []) j 0 ≡ 16 * get_or v (2 * j) 0 + get_or v (2 * j + 1) 0
+    → get_or (pair v 0 1 ∷ pair v 2 3 ∷ pair v 4 5 ∷ pair v 6 7 ∷ pair v 8 9 ∷ pair v 10 11 ∷ pair v 12 13 ∷ pair v 14 15 ∷ []) j 0
+    ≡ 16 * get_or v (2 * j) 0 + get_or v (2 * j + 1) 0
 pairs_at v long low zero lt = paired v 0 1 long low (omega arith) (omega arith)
 pairs_at v long low (suc zero) lt = paired v 2 3 long low (omega arith) (omega arith)
 pairs_at v long low (suc (suc zero)) lt = paired v 4 5 long low (omega arith) (omega arith)
@@ -170,7 +216,8 @@ pairs_at v long low (suc (suc (suc (suc (suc (suc (suc zero))))))) lt = paired v
 pairs_at v long low (suc (suc (suc (suc (suc (suc (suc (suc j)))))))) lt = absurd (omega arith)
 
 -- the two digits of a byte
-pub pair_spelled : (x y v w b : ℕ) → IsLaneOf x v → IsLaneOf y w → v < 16 → w < 16 → b ≡ 16 * v + w → (x ≡ hex_digit (b / 16)) × (y ≡ hex_digit (b % 16))
+pub pair_spelled : (x y v w b : ℕ) → IsLaneOf x v → IsLaneOf y w → v < 16 → w < 16 → b ≡ 16 * v + w
+    → (x ≡ hex_digit (b / 16)) × (y ≡ hex_digit (b % 16))
 pair_spelled x y v w b first second high low e =
     let q : b / 16 ≡ v = omega arith in
     let r : b % 16 ≡ w = omega arith in

@@ -1,5 +1,38 @@
 -- Hexadecimal digits name one number, are just the bytes `0` to `9` and `a` to `f`, and can be put side by side.
-use Rattle.std.proofs.Common.{◌≡◌, ℕ, zero, suc, ◌+◌, ◌-◌, ◌*◌, ◌/◌, ◌%◌, ◌^◌, ◌<◌, ◌≤◌, true, false, eqb, List, [], ◌∷◌, ◌++◌, length, take, drop, sym, ap, ◌∙◌, refl, inl, inr, arith, subst, length-append, append-nil}
+use Rattle.std.proofs.Common.{
+  ◌≡◌,
+  ℕ,
+  zero,
+  suc,
+  ◌+◌,
+  ◌-◌,
+  ◌*◌,
+  ◌/◌,
+  ◌%◌,
+  ◌^◌,
+  ◌<◌,
+  ◌≤◌,
+  true,
+  false,
+  eqb,
+  List,
+  [],
+  ◌∷◌,
+  ◌++◌,
+  length,
+  take,
+  drop,
+  sym,
+  ap,
+  ◌∙◌,
+  refl,
+  inl,
+  inr,
+  arith,
+  subst,
+  length-append,
+  append-nil,
+}
 use Rattle.std.specs.Prelude.{All}
 use Rattle.std.specs.Char.{digit_value}
 use Rattle.std.proofs.Math.Nat as nat
@@ -12,7 +45,8 @@ use Rattle.cap_word.proofs.DigitLemmas.{hex_digits-suc, length-hex_digits}
 
 -- the value of a digit
 digit_value-hex_digit : (d : ℕ) → d < 16 → digit_value (hex_digit d) ≡ d
-digit_value-hex_digit d lt = eqb-true (digit_value (hex_digit d)) d (agree_below_at (λ d. eqb (digit_value (hex_digit d)) d) (λ _. true) 16 d refl lt)
+digit_value-hex_digit d lt = eqb-true (digit_value (hex_digit d)) d
+    (agree_below_at (λ d. eqb (digit_value (hex_digit d)) d) (λ _. true) 16 d refl lt)
 
 -- the digits below a place, and the digit at it
 place_and_rest : (p q r d m n t : ℕ) → n ≡ p * q + m → q ≡ 16 * r + d → t ≡ n - r * (p * 16) → t ≡ m + p * d
@@ -35,8 +69,10 @@ same_rest (suc k) m n e =
     let rest : hex_digits k m ≡ hex_digits k n = cc in
     let first : hex_digit (m / 16 ^ k % 16) ≡ hex_digit (n / 16 ^ k % 16) = cc in
     let below = same_rest k m n rest in
-    let digit = sym (digit_value-hex_digit (m / 16 ^ k % 16) (omega arith)) ∙ ap digit_value first ∙ digit_value-hex_digit (n / 16 ^ k % 16) (omega arith) in
-    mod-next k m ∙ (ap (λ (x : ℕ). x + 16 ^ k * (m / 16 ^ k % 16)) below ∙ ap (λ (d : ℕ). n % 16 ^ k + 16 ^ k * d) digit) ∙ sym (mod-next k n)
+    let digit = sym (digit_value-hex_digit (m / 16 ^ k % 16) (omega arith)) ∙ ap digit_value first
+    ∙ digit_value-hex_digit (n / 16 ^ k % 16) (omega arith) in
+    mod-next k m ∙ (ap (λ (x : ℕ). x + 16 ^ k * (m / 16 ^ k % 16)) below ∙ ap (λ (d : ℕ). n % 16 ^ k + 16 ^ k * d) digit)
+    ∙ sym (mod-next k n)
 
 -- two numbers of k digits with the same digits are one
 pub hex_digits-same : (k m n : ℕ) → m < 16 ^ k → n < 16 ^ k → hex_digits k m ≡ hex_digits k n → m ≡ n
@@ -75,7 +111,8 @@ hex_digits-joined zero m h l small =
 hex_digits-joined (suc k) m h l small =
     let count : suc k + m ≡ suc (k + m) = omega arith in
     let power : 16 ^ (k + m) ≡ 16 ^ m * 16 ^ k = nat-turned (16 ^ k) (16 ^ m) (pow-add 16 k m) in
-    let quotient : (h * 16 ^ m + l) / 16 ^ m / 16 ^ k ≡ (h * 16 ^ m + l) / (16 ^ m * 16 ^ k) = nat.div-div-eq-div-mul (h * 16 ^ m + l) (16 ^ m) (16 ^ k) in
+    let quotient : (h * 16 ^ m + l) / 16 ^ m / 16 ^ k
+    ≡ (h * 16 ^ m + l) / (16 ^ m * 16 ^ k) = nat.div-div-eq-div-mul (h * 16 ^ m + l) (16 ^ m) (16 ^ k) in
     let first : (h * 16 ^ m + l) / 16 ^ (k + m) ≡ h / 16 ^ k =
     ap (λ (p : ℕ). (h * 16 ^ m + l) / p) power ∙ sym quotient ∙ ap (λ (q : ℕ). q / 16 ^ k) (div-mul-add h (16 ^ m) l small) in
     rw (count, hex_digits-suc (k + m) (h * 16 ^ m + l), first, hex_digits-joined k m h l small) refl
@@ -85,7 +122,8 @@ hex_digit-decimal : (d : ℕ) → d < 10 → hex_digit d ≡ 48 + d
 hex_digit-decimal d lt = eqb-true (hex_digit d) (48 + d) (agree_below_at (λ d. eqb (hex_digit d) (48 + d)) (λ _. true) 10 d refl lt)
 
 hex_digit-letter : (d : ℕ) → d < 6 → hex_digit (10 + d) ≡ 97 + d
-hex_digit-letter d lt = eqb-true (hex_digit (10 + d)) (97 + d) (agree_below_at (λ d. eqb (hex_digit (10 + d)) (97 + d)) (λ _. true) 6 d refl lt)
+hex_digit-letter d lt = eqb-true (hex_digit (10 + d)) (97 + d)
+    (agree_below_at (λ d. eqb (hex_digit (10 + d)) (97 + d)) (λ _. true) 6 d refl lt)
 
 IsHexDigit-hex_digit : (d : ℕ) → d < 16 → IsHexDigit (hex_digit d)
 IsHexDigit-hex_digit d lt = elim (cases_lt d 10) [
@@ -100,8 +138,18 @@ IsHexDigit-hex_digit d lt = elim (cases_lt d 10) [
 -- a byte that is a digit is that of some value
 digit_of : (byte : ℕ) → IsHexDigit byte → (d : ℕ) × (d < 16) × (byte ≡ hex_digit d)
 digit_of byte is = elim is [
-  | inl h ↦ (byte - 48, omega arith, (let e : 48 + (byte - 48) ≡ byte = omega arith in sym e) ∙ sym (hex_digit-decimal (byte - 48) (omega arith)))
-  | inr h ↦ (10 + (byte - 97), omega arith, (let e : 97 + (byte - 97) ≡ byte = omega arith in sym e) ∙ sym (hex_digit-letter (byte - 97) (omega arith)))
+  | inl h ↦ (
+    byte - 48,
+    omega arith,
+    (let e : 48 + (byte - 48) ≡ byte = omega arith in sym e)
+        ∙ sym (hex_digit-decimal (byte - 48) (omega arith)),
+  )
+  | inr h ↦ (
+    10 + (byte - 97),
+    omega arith,
+    (let e : 97 + (byte - 97) ≡ byte = omega arith in sym e)
+        ∙ sym (hex_digit-letter (byte - 97) (omega arith)),
+  )
 ]
 
 -- the digits of a number are digits
@@ -126,8 +174,13 @@ number_from (x ∷ xs) all =
     let fits : first.0 * p + rest.0 < 16 ^ suc (length xs) = omega (arith, rest.1) in
     let high : (first.0 * p + rest.0) / p % 16 ≡ first.0 = omega (arith, div-mul-add first.0 p rest.0 rest.1, first.1) in
     let one : first.0 * p + rest.0 ≡ first.0 * (p * 1) + rest.0 = grind arith in
-    let low : hex_digits (length xs) (first.0 * p + rest.0) ≡ hex_digits (length xs) rest.0 = ap (hex_digits (length xs)) one ∙ hex_digits-low (length xs) 1 first.0 rest.0 in
-    (first.0 * p + rest.0, fits, ap (λ y. y ∷ xs) (first.2 ∙ ap hex_digit (sym high)) ∙ ap (λ ys. hex_digit ((first.0 * p + rest.0) / p % 16) ∷ ys) (rest.2 ∙ sym low))
+    let low : hex_digits (length xs) (first.0 * p + rest.0) ≡ hex_digits (length xs) rest.0 = ap (hex_digits (length xs)) one
+    ∙ hex_digits-low (length xs) 1 first.0 rest.0 in (
+      first.0 * p + rest.0,
+      fits,
+      ap (λ y. y ∷ xs) (first.2 ∙ ap hex_digit (sym high))
+          ∙ ap (λ ys. hex_digit ((first.0 * p + rest.0) / p % 16) ∷ ys) (rest.2 ∙ sym low),
+    )
 
 -- where a text is the digits of no number, it is no digits
 pub not_digits : (k : ℕ) (text : List ℕ) → ((n : ℕ) → n < 16 ^ k → text ≡ hex_digits k n → ⊥) → AreHexDigits k text → ⊥
@@ -137,10 +190,12 @@ not_digits k text none are =
 
 -- the parts of a text that begins with the digits of a number
 pub take-hex_digits : (k n : ℕ) (rest : List ℕ) → take k (hex_digits k n ++ rest) ≡ hex_digits k n
-take-hex_digits k n rest = ap (λ (l : ℕ). take l (hex_digits k n ++ rest)) (sym (length-hex_digits k n)) ∙ take-append_seam (hex_digits k n) rest
+take-hex_digits k n rest = ap (λ (l : ℕ). take l (hex_digits k n ++ rest)) (sym (length-hex_digits k n))
+    ∙ take-append_seam (hex_digits k n) rest
 
 pub drop-hex_digits : (k n : ℕ) (rest : List ℕ) → drop k (hex_digits k n ++ rest) ≡ rest
-drop-hex_digits k n rest = ap (λ (l : ℕ). drop l (hex_digits k n ++ rest)) (sym (length-hex_digits k n)) ∙ drop-append_seam (hex_digits k n) rest
+drop-hex_digits k n rest = ap (λ (l : ℕ). drop l (hex_digits k n ++ rest)) (sym (length-hex_digits k n))
+    ∙ drop-append_seam (hex_digits k n) rest
 
 -- the halves of thirty-two digits
 pub hex_digits-halves : (n : ℕ) → hex_digits 32 n ≡ hex_digits 16 (n / 2 ^ 64) ++ hex_digits 16 (n % 2 ^ 64)

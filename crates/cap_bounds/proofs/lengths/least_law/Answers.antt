@@ -5,8 +5,10 @@ use Rattle.cap_bounds.proofs.lengths.least_law.Goals as goal
 
 requested : goal.returns-clause-requested
 requested c = (
-  λ t. let h = c.contains.ensures.0 t in (omega (arith, c.bounds.ensures.base, h.0), omega (arith, c.bounds.ensures.top, c.requested_top.ensures.value, h.1)),
-  λ h. c.contains.ensures.1 (omega (arith, c.bounds.ensures.base, h.0), omega (arith, c.bounds.ensures.top, c.requested_top.ensures.value, h.1)),
+  λ t. let h = c.contains.ensures.0 t in
+      (omega (arith, c.bounds.ensures.base, h.0), omega (arith, c.bounds.ensures.top, c.requested_top.ensures.value, h.1)),
+  λ h. c.contains.ensures.1
+      (omega (arith, c.bounds.ensures.base, h.0), omega (arith, c.bounds.ensures.top, c.requested_top.ensures.value, h.1)),
 )
 
 pub returns-clause-requested : goal.returns-clause-requested

@@ -7,7 +7,15 @@ use Rattle.cap_bounds.proofs.rounding.with_bounds.Goals as goal
 
 -- a rounding's fields are fields of a word
 fields : (r : Rounded) → AreFields r.ie r.e r.b r.t
-fields r = record { e_fits = omega (arith, r.e_fits); b_fits = r.b_fits; t_fits = r.t_fits; no_exponent = r.no_exponent; b_aligned = r.b_aligned; t_aligned = r.t_aligned }
+fields r = record {
+  e_fits = omega
+      (arith, r.e_fits);
+  b_fits = r.b_fits;
+  t_fits = r.t_fits;
+  no_exponent = r.no_exponent;
+  b_aligned = r.b_aligned;
+  t_aligned = r.t_aligned;
+}
 
 pub returns-clause-ie : goal.returns-clause-ie
 returns-clause-ie c =

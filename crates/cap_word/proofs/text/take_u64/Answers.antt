@@ -17,5 +17,6 @@ returns-in_err-number-clause-none c = rw c.from_residual-in_err-number.ensures (
 
 pub returns-clause-some : goal.returns-clause-some
 returns-clause-some c =
-    sym (take-append-drop 16 c.args.bytes.now) ∙ ap (λ a. a ++ drop 16 c.args.bytes.now) (sym c.in_ok-digits.ensures.cases.0 ∙ c.in_ok-number.ensures.some)
+    sym (take-append-drop 16 c.args.bytes.now)
+    ∙ ap (λ a. a ++ drop 16 c.args.bytes.now) (sym c.in_ok-digits.ensures.cases.0 ∙ c.in_ok-number.ensures.some)
     ∙ ap (λ b. hex_digits 16 c.in_ok-number.number ++ b) (sym c.in_ok-digits.ensures.cases.1)
