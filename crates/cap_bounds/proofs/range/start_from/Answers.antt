@@ -5,6 +5,7 @@ use Rattle.cap_bounds.proofs.range.start_from.Goals as goal
 
 pub returns : goal.returns
 returns c =
-    ap (λ (x : ℕ). (x + (2 ^ 64 - (2048 + bit_and c.args.b 2047) * 2 ^ c.args.exponent % 2 ^ 64)) % 2 ^ 64) (and_mask c.args.raw_base 64)
-    ∙ ap (λ (x : ℕ). (c.args.raw_base % 2 ^ 64 + (2 ^ 64 - (2048 + x) * 2 ^ c.args.exponent % 2 ^ 64)) % 2 ^ 64) (and_mask c.args.b 11)
-    ∙ start_shifted c.args.raw_base c.args.exponent c.args.b c.requires
+    ap (λ (x : ℕ). (x + (2 ^ 64 - (2048 + bit_and c.args.b 2047) * 2 ^ c.args.cut_exponent % 2 ^ 64)) % 2 ^ 64)
+    (and_mask c.args.raw_base 64)
+    ∙ ap (λ (x : ℕ). (c.args.raw_base % 2 ^ 64 + (2 ^ 64 - (2048 + x) * 2 ^ c.args.cut_exponent % 2 ^ 64)) % 2 ^ 64) (and_mask c.args.b 11)
+    ∙ start_shifted c.args.raw_base c.args.cut_exponent c.args.b c.requires
