@@ -1,5 +1,6 @@
 #!/bin/sh
-# Writes a log of a million steps: sh bench/million.sh moves|memory|mixed [STEPS]
+# Writes a log of version 1 with a million steps, or STEPS: sh bench/million.sh moves|memory|mixed [STEPS]
+# It can be judged from a pipe: sh bench/million.sh moves 10000000 | crates/capcheck/out/capcheck judge
 #
 # moves   copies c1 to each other register in turn
 # memory  stores and loads a capability, and stores and loads eight bytes, granule after granule
