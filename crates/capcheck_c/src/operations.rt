@@ -1,7 +1,7 @@
 //! The operations on capabilities, each with the number of its refusal.
 
-ghost use Rattle.std.specs.Prelude.{◌≡◌, ◌≢◌, ◌≤◌, ◌+◌, ◌↔◌, MatchResult, IsFalse, IsTrue, bit_and};
-ghost use Rattle.cap_word.specs.Fields.{address_of};
+ghost use Rattle.std.specs.Prelude.{◌≡◌, ◌≢◌, ◌≤◌, ◌+◌, ◌&&◌, ◌↔◌, MatchResult, IsFalse, IsTrue, bit_and};
+ghost use Rattle.cap_word.specs.Fields.{address_of, otype_of};
 ghost use Rattle.cap_bounds.specs.Bounds.{IsInside, IsSound, base_of, top_of};
 ghost use Rattle.cap_bounds.specs.Range.{IsRepresentable};
 ghost use Rattle.cap_ops.specs.Accesses.{loaded_result};
@@ -19,9 +19,9 @@ ghost use Rattle.cap_ops.specs.Operations.{
   unseal_result,
   unseal_tests,
 };
-ghost use Rattle.cap_ops.specs.Permissions.{is_sealed, perm_view_of};
+ghost use Rattle.cap_ops.specs.Permissions.{global, has_permission, is_sealed, perm_view_of};
 ghost use Rattle.capcheck_c.specs.Answers.{Answers};
-ghost use Rattle.capcheck_c.specs.Passed.{cap_of, no_cap, whole_of};
+ghost use Rattle.capcheck_c.specs.Passed.{cap_of, is_set, no_cap, whole_of};
 
 use crate::halves::{given, taken};
 use crate::values::{Capability, Made};
@@ -64,7 +64,7 @@ fn made_from(outcome: Result<Cap, OpFault>) -> Made
 pub extern "C" fn capcheck_set_bounds(source: Capability, length: u64, exact: bool) -> Made
     ensures outcome { Answers (set_bounds_tests (cap_of source) length exact) (set_bounds_result (cap_of source) length) result }
     ensures tag { result.cap.tag ≤ 1 }
-    ensures lawful { StaysWithin (cap_of result.cap) (cap_of source) }
+    ensures stays_within { StaysWithin (cap_of result.cap) (cap_of source) }
     ensures escape { source.tag ≢ 0 → IsFalse (is_sealed (whole_of source.word)) → IsSound (whole_of source.word)
         → ((result.refusal ≡ 11) ↔ (¬ IsInside (address_of (whole_of source.word))
         (address_of (whole_of source.word) + length) (base_of (whole_of source.word)) (top_of (whole_of source.word)))) }
@@ -77,7 +77,9 @@ pub extern "C" fn capcheck_set_bounds(source: Capability, length: u64, exact: bo
 pub extern "C" fn capcheck_set_addr(source: Capability, address: u64) -> Made
     ensures outcome { Answers (set_addr_tests (cap_of source) address) (set_addr_result (cap_of source) address) result }
     ensures tag { result.cap.tag ≤ 1 }
-    ensures lawful { StaysWithin (cap_of result.cap) (cap_of source) }
+    ensures moved_so { result.refusal ≡ 0 → ((cap_of result.cap).tag ≡ is_set source.tag)
+        × (address_of (whole_of result.cap.word) ≡ address) }
+    ensures stays_within { StaysWithin (cap_of result.cap) (cap_of source) }
     ensures range { source.tag ≢ 0 → IsFalse (is_sealed (whole_of source.word))
         → ((result.refusal ≡ 13) ↔ (¬ IsRepresentable (whole_of source.word) address)) }
     ensures near { base_of (whole_of source.word) ≤ address → address ≤ top_of (whole_of source.word)
@@ -93,7 +95,7 @@ pub extern "C" fn capcheck_and_perm(source: Capability, mask: u64) -> Made
     ensures tag { result.cap.tag ≤ 1 }
     ensures view { result.refusal ≡ 0
         → perm_view_of (whole_of result.cap.word) ≡ bit_and (perm_view_of (whole_of source.word)) mask }
-    ensures lawful { StaysWithin (cap_of result.cap) (cap_of source) }
+    ensures stays_within { StaysWithin (cap_of result.cap) (cap_of source) }
 {
     made_from(and_perm(taken(source), mask))
 }
@@ -103,7 +105,10 @@ pub extern "C" fn capcheck_and_perm(source: Capability, mask: u64) -> Made
 pub extern "C" fn capcheck_seal(source: Capability, authority: Capability) -> Made
     ensures outcome { Answers (seal_tests (cap_of source) (cap_of authority)) (seal_result (cap_of source) (cap_of authority)) result }
     ensures tag { result.cap.tag ≤ 1 }
-    ensures lawful { StaysWithin (cap_of result.cap) (cap_of source) }
+    ensures sealed_so { result.refusal ≡ 0 → (result.cap.tag ≡ 1) × IsTrue (is_sealed (whole_of result.cap.word))
+        × (otype_of (whole_of result.cap.word) ≡ address_of (whole_of authority.word))
+        × (address_of (whole_of result.cap.word) ≡ address_of (whole_of source.word)) }
+    ensures stays_within { StaysWithin (cap_of result.cap) (cap_of source) }
 {
     made_from(seal(taken(source), taken(authority)))
 }
@@ -113,7 +118,11 @@ pub extern "C" fn capcheck_seal(source: Capability, authority: Capability) -> Ma
 pub extern "C" fn capcheck_unseal(source: Capability, authority: Capability) -> Made
     ensures outcome { Answers (unseal_tests (cap_of source) (cap_of authority)) (unseal_result (cap_of source) (cap_of authority)) result }
     ensures tag { result.cap.tag ≤ 1 }
-    ensures lawful { StaysWithin (cap_of result.cap) (cap_of source) }
+    ensures unsealed_so { result.refusal ≡ 0 → (result.cap.tag ≡ 1) × IsFalse (is_sealed (whole_of result.cap.word))
+        × (has_permission (whole_of result.cap.word) global
+        ≡ (has_permission (whole_of source.word) global && has_permission (whole_of authority.word) global))
+        × (address_of (whole_of result.cap.word) ≡ address_of (whole_of source.word)) }
+    ensures stays_within { StaysWithin (cap_of result.cap) (cap_of source) }
 {
     made_from(unseal(taken(source), taken(authority)))
 }
