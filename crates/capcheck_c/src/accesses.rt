@@ -60,7 +60,8 @@ fn access_from(authority: Capability, kind: Kind, offset: i64, size: u64) -> Acc
 }
 
 /// Whether an authority allows to load `size` bytes of data, 1, 2, 4 or 8, at an offset of -2048 to 2047
-/// from its address.
+/// from its address. Refused as the first of its tests that holds, 14 to 17 and 20, and as 255 where there is
+/// no such access.
 #[unsafe(no_mangle)]
 pub extern "C" fn capcheck_may_load(authority: Capability, offset: i64, size: u64) -> AccessAnswer
     ensures { AnswersAccess (cap_of authority) kind.LoadData offset size result }
@@ -69,7 +70,8 @@ pub extern "C" fn capcheck_may_load(authority: Capability, offset: i64, size: u6
 }
 
 /// Whether an authority allows to store `size` bytes of data, 1, 2, 4 or 8, at an offset of -2048 to 2047
-/// from its address.
+/// from its address. Refused as the first of its tests that holds, 14 to 17 and 20, and as 255 where there is
+/// no such access.
 #[unsafe(no_mangle)]
 pub extern "C" fn capcheck_may_store(authority: Capability, offset: i64, size: u64) -> AccessAnswer
     ensures { AnswersAccess (cap_of authority) kind.StoreData offset size result }
@@ -77,7 +79,8 @@ pub extern "C" fn capcheck_may_store(authority: Capability, offset: i64, size: u
     access_from(authority, Kind::StoreData, offset, size)
 }
 
-/// Whether an authority allows to load a capability at an offset of -2048 to 2047 from its address.
+/// Whether an authority allows to load a capability at an offset of -2048 to 2047 from its address. Refused
+/// as the first of its tests that holds, 14 to 17 and 20, and as 255 at any other offset.
 #[unsafe(no_mangle)]
 pub extern "C" fn capcheck_may_load_cap(authority: Capability, offset: i64) -> AccessAnswer
     ensures { AnswersAccess (cap_of authority) kind.LoadCap offset 16 result }
@@ -86,6 +89,7 @@ pub extern "C" fn capcheck_may_load_cap(authority: Capability, offset: i64) -> A
 }
 
 /// Whether an authority allows to store this capability at an offset of -2048 to 2047 from its address.
+/// Refused as the first of its tests that holds, 14 to 17 and 20 to 22, and as 255 at any other offset.
 #[unsafe(no_mangle)]
 pub extern "C" fn capcheck_may_store_cap(
     authority: Capability,

@@ -1,4 +1,7 @@
 //! The lines of steps that read and write memory.
+//!
+//! Each call answers how many bytes it wrote, the line feed with them, or 0 where a number is out of its
+//! range; then the buffer is as it was.
 
 ghost use Rattle.cap_log.specs.declared.lines.Line.TheVariants as line;
 ghost use Rattle.cap_log.specs.declared.lines.Step.TheVariants as step;

@@ -4,7 +4,6 @@ ghost use Rattle.std.specs.Prelude.{◌≡◌, ◌≢◌, ◌≤◌, ◌+◌, �
 ghost use Rattle.cap_word.specs.Fields.{address_of, otype_of};
 ghost use Rattle.cap_bounds.specs.Bounds.{IsInside, IsSound, base_of, top_of};
 ghost use Rattle.cap_bounds.specs.Range.{IsRepresentable};
-ghost use Rattle.cap_ops.specs.Accesses.{loaded_result};
 ghost use Rattle.cap_ops.specs.Authority.{StaysWithin};
 ghost use Rattle.cap_ops.specs.Faults.{number_of};
 ghost use Rattle.cap_ops.specs.Operations.{
@@ -60,6 +59,9 @@ fn made_from(outcome: Result<Cap, OpFault>) -> Made
 
 /// Narrows the source's bounds to the length from its address on, rounded; with `exact` only where nothing
 /// is rounded.
+///
+/// A tagged source is refused where it is sealed (10), then where the rounded bounds do not lie inside its
+/// own (11), then where they are to be exact and are not (12).
 #[unsafe(no_mangle)]
 pub extern "C" fn capcheck_set_bounds(source: Capability, length: u64, exact: bool) -> Made
     ensures outcome { Answers (set_bounds_tests (cap_of source) length exact) (set_bounds_result (cap_of source) length) result }
@@ -73,6 +75,9 @@ pub extern "C" fn capcheck_set_bounds(source: Capability, length: u64, exact: bo
 }
 
 /// Gives the source another address.
+///
+/// A tagged source is refused where it is sealed (10), and then where the address does not keep its bounds
+/// (13).
 #[unsafe(no_mangle)]
 pub extern "C" fn capcheck_set_addr(source: Capability, address: u64) -> Made
     ensures outcome { Answers (set_addr_tests (cap_of source) address) (set_addr_result (cap_of source) address) result }
@@ -88,7 +93,8 @@ pub extern "C" fn capcheck_set_addr(source: Capability, address: u64) -> Made
     made_from(set_addr(taken(source), address))
 }
 
-/// Takes permissions away: those of the view that the mask lacks.
+/// Takes permissions away: those of the view that the mask lacks. A tagged source that is sealed is
+/// refused (10).
 #[unsafe(no_mangle)]
 pub extern "C" fn capcheck_and_perm(source: Capability, mask: u64) -> Made
     ensures outcome { Answers (and_perm_tests (cap_of source)) (and_perm_result (cap_of source) mask) result }
@@ -101,6 +107,10 @@ pub extern "C" fn capcheck_and_perm(source: Capability, mask: u64) -> Made
 }
 
 /// Seals the source with the authority's address as its object type.
+///
+/// It is refused, in this order, where the authority is untagged (14), is sealed (15), lacks Seal (16), or
+/// does not hold its own address (17), where that address is above `0x3fffb` (18), and where the source is
+/// untagged (9) or sealed (10).
 #[unsafe(no_mangle)]
 pub extern "C" fn capcheck_seal(source: Capability, authority: Capability) -> Made
     ensures outcome { Answers (seal_tests (cap_of source) (cap_of authority)) (seal_result (cap_of source) (cap_of authority)) result }
@@ -114,6 +124,10 @@ pub extern "C" fn capcheck_seal(source: Capability, authority: Capability) -> Ma
 }
 
 /// Unseals the source, which is sealed with the authority's address.
+///
+/// It is refused, in this order, where the authority is untagged (14), is sealed (15), lacks Unseal (16),
+/// or does not hold its own address (17), and where the source is untagged (9) or has another object type
+/// or a reserved one (19).
 #[unsafe(no_mangle)]
 pub extern "C" fn capcheck_unseal(source: Capability, authority: Capability) -> Made
     ensures outcome { Answers (unseal_tests (cap_of source) (cap_of authority)) (unseal_result (cap_of source) (cap_of authority)) result }
