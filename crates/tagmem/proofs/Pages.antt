@@ -19,6 +19,10 @@ use Rattle.tagmem.specs.Granules.{Entry}
 use Rattle.tagmem.specs.Pages.{slots_of, with_slot, entries_from, entries_of, contents_of, number_at, IsPageAt, IsAbsent, IsDirectory}
 use Rattle.tagmem.proofs.Granules.{get-put}
 
+-- a page has 256 slots
+length-slots_of : (page : Page) → length (slots_of page) ≡ 256
+length-slots_of page = page.whole
+
 -- what a page says of a granule
 abbrev pub in_page : Page → ℕ → Option Entry
 in_page page q = cond (eqb page.number (q / 256)) (get_or (slots_of page) (q % 256) None) None
@@ -72,7 +76,7 @@ find-entries_from g (slot ∷ slots) q =
 in_slots-page : (page : Page) (q : ℕ) → in_slots (256 * page.number) (slots_of page) q ≡ in_page page q
 in_slots-page page q =
     let past : 256 * page.number + 256 ≤ q → get_or (slots_of page) (q - 256 * page.number) None ≡ None =
-    λ le. get_or-eq_default (slots_of page) None (let wide = page.whole in omega arith) in
+    λ le. get_or-eq_default (slots_of page) None (let wide = length-slots_of page in omega arith) in
     let own : page.number ≡ q / 256 → get_or (slots_of page) (q - 256 * page.number) None ≡ get_or (slots_of page) (q % 256) None =
     λ is. let same : q - 256 * page.number ≡ q % 256 = omega arith in ap (λ n. get_or (slots_of page) n None) same in
     grind (arith, nat_tests, past, own)
@@ -130,7 +134,7 @@ found_present (box ∷ boxes) q (suc place) d at only =
 in_page-set : (old new : Page) (g : ℕ) (entry : Entry) → old.number ≡ g / 256 → new.number ≡ g / 256
     → slots_of new ≡ set (slots_of old) (g % 256) (Some entry) → (q : ℕ) → in_page new q ≡ cond (eqb q g) (Some entry) (in_page old q)
 in_page-set old new g entry old_is new_is are q =
-    let inside : g % 256 < length (slots_of old) = let wide = old.whole in omega arith in
+    let inside : g % 256 < length (slots_of old) = let wide = length-slots_of old in omega arith in
     let changed = set (slots_of old) (g % 256) (Some entry) in
     let here : q % 256 ≡ g % 256 → get_or changed (q % 256) None ≡ Some entry =
     λ is. ap (λ n. get_or changed n None) is ∙ get_or-set_same (slots_of old) (g % 256) (Some entry) None inside in

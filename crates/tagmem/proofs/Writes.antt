@@ -75,7 +75,8 @@ module _ {Z : Type 0} (boxes : List (Box Page Z)) (directory : BTreeMap ℕ ℕ)
     -- the map has the write, and is else the same
     pub contents_of-write : contents_of (set boxes place (with_value box page)) ≡ with_write (contents_of boxes) g tag at bytes
     contents_of-write =
-        let was : bytes_in (slots_of box.value) (g % 256) ≡ bytes_at (contents_of boxes) g = ap (λ o. (unwrap_or o blank).1) (sym get_read) in
+        let was : bytes_in (slots_of box.value) (g % 256) ≡ bytes_at (contents_of boxes) g =
+        ap (λ o. (unwrap_or o blank).1) (sym get_read) in
         contents_of-set boxes directory read.known (with_value box page) box place g _ read.found (written.number ∙ number_read)
         (rw (← was, ← read.is) written.slots)
 
