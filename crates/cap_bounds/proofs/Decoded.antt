@@ -1,11 +1,12 @@
 -- The closed forms of a word's bounds are the one answer of the relation.
 use Rattle.std.proofs.Common.{◌≡◌, ℕ, ◌+◌, ◌-◌, ◌*◌, ◌/◌, ◌%◌, ◌^◌, ◌<◌, ◌≤◌, sym, ap, ◌∙◌, refl, inl, inr, arith, subst}
-use Rattle.std.proofs.Math.Nat.{min-le_right, div-le_self, mod-eq_of_lt}
+use Rattle.std.proofs.Math.Nat.{min-le_right}
 use Rattle.std.proofs.lemmas.Nat.{pow_pos, shl_whole, shl_below}
 use Rattle.std.proofs.lemmas.Bool.{cases_lt}
 use Rattle.std.proofs.lemmas.Bool.Decides.{nat_tests}
 use Rattle.cap_word.specs.Fields.{ie_of, e_of, b_of, t_of, address_of}
 use Rattle.cap_bounds.specs.Bounds.{
+  window_start_at,
   IsResidue,
   IsWindow,
   AreBounds,
@@ -22,17 +23,7 @@ use Rattle.cap_bounds.specs.Bounds.{
 }
 use Rattle.cap_bounds.specs.Range.{window_start}
 use Rattle.cap_bounds.proofs.Residues.{IsResidue-unique, same_residue}
-use Rattle.cap_bounds.proofs.Windows.{
-  eighth_of,
-  start_below,
-  end_above,
-  start_aligned,
-  raw_from_start,
-  raw_above,
-  raw_within,
-  raw_residue,
-  top_residue,
-}
+use Rattle.cap_bounds.proofs.Windows.{start_below, end_above, start_aligned, raw_from_start, raw_above, raw_within, raw_residue, top_residue}
 use Rattle.cap_bounds.proofs.Powers.{eighth_is, size_is, size-le, length-lt, pow_le}
 use Rattle.cap_bounds.proofs.Mantissas.{span_at-lt, mantissa_is, span_of-mantissa_of, IsMantissa-mantissa_of, IsMantissa-unique}
 
@@ -45,40 +36,38 @@ b_of-lt w = grind (arith, nat_tests)
 pub t_of-lt : (w : ℕ) → t_of w < 2 ^ 12
 t_of-lt w = grind (arith, nat_tests)
 
--- the start of the window, from the exponent, B and the address
-abbrev pub start_at : ℕ → ℕ → ℕ → ℕ
-start_at e b address = eighth_of b ((address + 2 ^ 66) / 2 ^ (e + 11)) * 2 ^ (e + 11)
-
-pub window_start_is : (w : ℕ) → window_start w ≡ start_at (cut_exponent_of w) (b_of w) (address_of w)
+pub window_start_coded : (w e b a : ℕ) → e ≡ cut_exponent_of w → b ≡ b_of w → a ≡ address_of w → window_start_at e b a ≡ window_start w
 unfolding window_start
-window_start_is w = refl
+window_start_coded w e b a e_is b_is a_is =
+    ap (λ (x : ℕ). window_start_at x b a) e_is ∙ ap (λ (x : ℕ). window_start_at (cut_exponent_of w) x a) b_is
+    ∙ ap (λ (x : ℕ). window_start_at (cut_exponent_of w) (b_of w) x) a_is
 
 module _ (e b a : ℕ) (he : e ≤ 52) (hb : b < 2 ^ 14) where
   high : 2 ^ (e + 14) ≤ a + 2 ^ 66
   high = omega (arith, size-le e he)
 
-  pub start_at-le : start_at e b a ≤ a + 2 ^ 66
-  start_at-le = start_below (2 ^ e) (2 ^ (e + 11)) (2 ^ (e + 14)) b (a + 2 ^ 66) (pow_pos e) (eighth_is e) (size_is e) hb high
+  pub window_start_at-le : window_start_at e b a ≤ a + 2 ^ 66
+  window_start_at-le = start_below (2 ^ e) (2 ^ (e + 11)) (2 ^ (e + 14)) b (a + 2 ^ 66) (pow_pos e) (eighth_is e) (size_is e) hb high
 
-  pub start_at-gt : a + 2 ^ 66 < start_at e b a + 2 ^ (e + 14)
-  start_at-gt = end_above (2 ^ e) (2 ^ (e + 11)) (2 ^ (e + 14)) b (a + 2 ^ 66) (pow_pos e) (eighth_is e) (size_is e) hb high
+  pub window_start_at-gt : a + 2 ^ 66 < window_start_at e b a + 2 ^ (e + 14)
+  window_start_at-gt = end_above (2 ^ e) (2 ^ (e + 11)) (2 ^ (e + 14)) b (a + 2 ^ 66) (pow_pos e) (eighth_is e) (size_is e) hb high
 
-  pub start_at-mod : start_at e b a % 2 ^ (e + 14) ≡ (b / 2 ^ 11 + 7) % 8 * 2 ^ 11 * 2 ^ e
-  start_at-mod = start_aligned (2 ^ e) (2 ^ (e + 11)) (2 ^ (e + 14)) b (a + 2 ^ 66) (pow_pos e) (eighth_is e) (size_is e) hb high
+  pub window_start_at-mod : window_start_at e b a % 2 ^ (e + 14) ≡ (b / 2 ^ 11 + 7) % 8 * 2 ^ 11 * 2 ^ e
+  window_start_at-mod = start_aligned (2 ^ e) (2 ^ (e + 11)) (2 ^ (e + 14)) b (a + 2 ^ 66) (pow_pos e) (eighth_is e) (size_is e) hb high
 
-  pub raw_base_from_start : raw_base_at e b a ≡ start_at e b a + (2048 + b % 2048) * 2 ^ e
+  pub raw_base_from_start : raw_base_at e b a ≡ window_start_at e b a + (2048 + b % 2048) * 2 ^ e
   unfolding raw_base_at
   raw_base_from_start = raw_from_start (2 ^ e) (2 ^ (e + 11)) (2 ^ (e + 14)) b (a + 2 ^ 66) (pow_pos e) (eighth_is e) (size_is e) hb high
 
-  pub raw_base_at-ge : start_at e b a + 2 ^ 11 * 2 ^ e ≤ raw_base_at e b a
+  pub raw_base_at-ge : window_start_at e b a + 2 ^ 11 * 2 ^ e ≤ raw_base_at e b a
   unfolding raw_base_at
   raw_base_at-ge = raw_above (2 ^ e) (2 ^ (e + 11)) (2 ^ (e + 14)) b (a + 2 ^ 66) (pow_pos e) (eighth_is e) (size_is e) hb high
 
-  pub raw_top-lt : (d : ℕ) → d < 2 ^ 13 → raw_base_at e b a + d * 2 ^ e + 2 ^ 12 * 2 ^ e < start_at e b a + 2 ^ (e + 14)
+  pub raw_top-lt : (d : ℕ) → d < 2 ^ 13 → raw_base_at e b a + d * 2 ^ e + 2 ^ 12 * 2 ^ e < window_start_at e b a + 2 ^ (e + 14)
   unfolding raw_base_at
   raw_top-lt d hd = raw_within (2 ^ e) (2 ^ (e + 11)) (2 ^ (e + 14)) b (a + 2 ^ 66) (pow_pos e) (eighth_is e) (size_is e) hb high d hd
 
-  pub raw_base_at-residue : IsResidue (start_at e b a) (2 ^ (e + 14)) (b * 2 ^ e) (raw_base_at e b a)
+  pub raw_base_at-residue : IsResidue (window_start_at e b a) (2 ^ (e + 14)) (b * 2 ^ e) (raw_base_at e b a)
   unfolding raw_base_at
   raw_base_at-residue = record {
     from = omega (arith, raw_base_at-ge);
@@ -87,7 +76,7 @@ module _ (e b a : ℕ) (he : e ≤ 52) (hb : b < 2 ^ 14) where
   }
 
   pub raw_top_at-residue : (d : ℕ) → d < 2 ^ 13
-      → IsResidue (start_at e b a) (2 ^ (e + 14)) ((b + d) % 2 ^ 14 * 2 ^ e) (raw_base_at e b a + d * 2 ^ e)
+      → IsResidue (window_start_at e b a) (2 ^ (e + 14)) ((b + d) % 2 ^ 14 * 2 ^ e) (raw_base_at e b a + d * 2 ^ e)
   unfolding raw_base_at
   raw_top_at-residue d hd = record {
     from = omega (arith, raw_base_at-ge);
@@ -111,9 +100,9 @@ length_is w = ap (λ (x : ℕ). x * unit_of w) (span_of-mantissa_of (b_of w) (t_
 pub IsWindow-window_start : (w : ℕ) → IsWindow w (window_start w)
 unfolding window_start
 IsWindow-window_start w = record {
-  begins = start_at-le (cut_exponent_of w) (b_of w) (address_of w) (exponent-le w) (b_of-lt w);
-  ends = start_at-gt (cut_exponent_of w) (b_of w) (address_of w) (exponent-le w) (b_of-lt w);
-  aligned = start_at-mod (cut_exponent_of w) (b_of w) (address_of w) (exponent-le w) (b_of-lt w);
+  begins = window_start_at-le (cut_exponent_of w) (b_of w) (address_of w) (exponent-le w) (b_of-lt w);
+  ends = window_start_at-gt (cut_exponent_of w) (b_of w) (address_of w) (exponent-le w) (b_of-lt w);
+  aligned = window_start_at-mod (cut_exponent_of w) (b_of w) (address_of w) (exponent-le w) (b_of-lt w);
 }
 
 pub IsWindow-unique : (w start : ℕ) → IsWindow w start → start ≡ window_start w
@@ -209,21 +198,7 @@ AreBounds-unique w base top h =
       ],
     )
 
--- a raw base needs 68 bits
-pub raw_base_at-lt : (e b a : ℕ) → e ≤ 52 → b < 2 ^ 14 → a < 2 ^ 64 → raw_base_at e b a < 2 ^ 68
-raw_base_at-lt e b a he hb ha = omega (arith, raw_top-lt e b a he hb 0 (omega arith), start_at-le e b a he hb, size-le e he)
-
 -- what the code computes: its shifts lose nothing
-pub raw_base_shifted : (e b a : ℕ) → e ≤ 52 → b < 2 ^ 14 → a < 2 ^ 64
-    → (((a + 2 ^ 66) / 2 ^ (e + 11) + 1 - b / 2048) / 8 * 16384 % 2 ^ 128 + b) * 2 ^ e % 2 ^ 128 ≡ raw_base_at e b a
-unfolding raw_base_at
-raw_base_shifted e b a he hb ha =
-    let eighth : (a + 2 ^ 66) / 2 ^ (e + 11) ≤ a + 2 ^ 66 = div-le_self (a + 2 ^ 66) (2 ^ (e + 11)) in
-    let turn : ((a + 2 ^ 66) / 2 ^ (e + 11) + 1 - b / 2048) / 8 * 16384 % 2 ^ 128
-    ≡ 2 ^ 14 * (((a + 2 ^ 66) / 2 ^ (e + 11) + 1 - b / 2048) / 8) = omega arith in
-    let small : raw_base_at e b a < 2 ^ 68 = raw_base_at-lt e b a he hb ha in
-    ap (λ (x : ℕ). (x + b) * 2 ^ e % 2 ^ 128) turn ∙ mod-eq_of_lt (omega arith)
-
 pub length_shifted : (e d : ℕ) → e ≤ 52 → d < 2 ^ 13 → d * 2 ^ e % 2 ^ 128 ≡ d * 2 ^ e
 length_shifted e d he hd = shl_whole d 13 e 128 hd (omega arith)
 

@@ -4,17 +4,26 @@ use Rattle.std.proofs.Math.Nat.{div-add-mod, mod-lt, mod-eq_of_lt, mod-add-mod, 
 use Rattle.std.proofs.lemmas.Bool.{cases_lt}
 use Rattle.std.proofs.lemmas.Nat.{pow_pos}
 use Rattle.cap_word.specs.Fields.{b_of, t_of, ie_of, address_of}
-use Rattle.cap_bounds.specs.Bounds.{cut_exponent_of, unit_of, window_size, span_at, raw_base_at, base_of, top_of, length_of}
+use Rattle.cap_bounds.specs.Bounds.{
+  window_start_at,
+  cut_exponent_of,
+  unit_of,
+  window_size,
+  span_at,
+  raw_base_at,
+  base_of,
+  top_of,
+  length_of,
+}
 use Rattle.cap_bounds.specs.Range.{KeepsBounds, IsRepresentable, with_address, window_start}
 use Rattle.cap_bounds.proofs.Residues.{mul-add-mod-mul}
 use Rattle.cap_bounds.proofs.Powers.{pow_le, size_is, size_divides, size_covers}
 use Rattle.cap_bounds.proofs.Decoded.{
   exponent-le,
   b_of-lt,
-  start_at,
-  start_at-le,
-  start_at-gt,
-  start_at-mod,
+  window_start_at-le,
+  window_start_at-gt,
+  window_start_at-mod,
   raw_base_from_start,
   raw_base_at-ge,
   raw_top-lt,
@@ -90,16 +99,6 @@ aligned-lt e b =
     (let f : (b / 2 ^ 11 + 7) % 8 * 2 ^ 11 ≤ 14336 = omega arith in f) in
     omega (arith, size_is e, pow_pos e)
 
--- the window's start, from its base: what the code computes
-pub start_from_base : (w : ℕ) → cut_exponent_of w ≤ 50
-    → (base_of w + 2 ^ 64 - (2048 + b_of w % 2048) * unit_of w) % 2 ^ 64 ≡ window_start w % 2 ^ 64
-unfolding base_of window_start
-start_from_base w h =
-    let unit : 2 ^ cut_exponent_of w ≤ 2 ^ 50 = pow_le (cut_exponent_of w) 50 h in
-    let step : (2048 + b_of w % 2048) * 2 ^ cut_exponent_of w ≤ 4096 * 2 ^ cut_exponent_of w = mul-le-mul_right (2 ^ cut_exponent_of w)
-    (let f : 2048 + b_of w % 2048 ≤ 4096 = omega arith in f) in
-    omega (arith, raw_base_from_start (cut_exponent_of w) (b_of w) (address_of w) (exponent-le w) (b_of-lt w))
-
 -- up to exponent 50 the bounds agree where the bases do
 module _ (w y : ℕ) (near : cut_exponent_of w ≤ 50) (fits : y < 2 ^ 64) where
   keeps-from_base : base_of (with_address w y) ≡ base_of w → KeepsBounds w y
@@ -111,7 +110,8 @@ module _ (w y : ℕ) (near : cut_exponent_of w ≤ 50) (fits : y < 2 ^ 64) where
       )
 
   -- and the bases where the windows' starts do
-  base-from_start : start_at (cut_exponent_of w) (b_of w) y % 2 ^ 64 ≡ window_start w % 2 ^ 64 → base_of (with_address w y) ≡ base_of w
+  base-from_start : window_start_at (cut_exponent_of w) (b_of w) y % 2 ^ 64 ≡ window_start w % 2 ^ 64
+      → base_of (with_address w y) ≡ base_of w
   unfolding base_of window_start
   base-from_start h =
       omega (
@@ -121,7 +121,8 @@ module _ (w y : ℕ) (near : cut_exponent_of w ≤ 50) (fits : y < 2 ^ 64) where
         raw_base_from_start (cut_exponent_of w) (b_of w) (address_of w) (exponent-le w) (b_of-lt w),
       )
 
-  start-from_base : base_of (with_address w y) ≡ base_of w → start_at (cut_exponent_of w) (b_of w) y % 2 ^ 64 ≡ window_start w % 2 ^ 64
+  start-from_base : base_of (with_address w y) ≡ base_of w
+      → window_start_at (cut_exponent_of w) (b_of w) y % 2 ^ 64 ≡ window_start w % 2 ^ 64
   unfolding base_of window_start
   start-from_base h =
       omega (
@@ -137,20 +138,22 @@ module _ (w y : ℕ) (near : cut_exponent_of w ≤ 50) (fits : y < 2 ^ 64) where
       let e = cut_exponent_of w in
       let b = b_of w in
       keeps-from_base (base-from_start
-      (near-same (2 ^ (e + 14)) (2 ^ (50 - e)) (window_start w) (start_at e b y) ((b / 2 ^ 11 + 7) % 8 * 2 ^ 11 * 2 ^ e) y
+      (near-same (2 ^ (e + 14)) (2 ^ (50 - e)) (window_start w) (window_start_at e b y) ((b / 2 ^ 11 + 7) % 8 * 2 ^ 11 * 2 ^ e) y
       (pow_pos (50 - e)) (size_divides e near)
-      (start_at-mod e b (address_of w) (exponent-le w) (b_of-lt w)) (start_at-mod e b y (exponent-le w) (b_of-lt w)) (aligned-lt e b)
-      (start_at-le e b y (exponent-le w) (b_of-lt w)) (start_at-gt e b y (exponent-le w) (b_of-lt w)) h))
+      (window_start_at-mod e b (address_of w) (exponent-le w) (b_of-lt w)) (window_start_at-mod e b y (exponent-le w) (b_of-lt w))
+      (aligned-lt e b)
+      (window_start_at-le e b y (exponent-le w) (b_of-lt w)) (window_start_at-gt e b y (exponent-le w) (b_of-lt w)) h))
 
   near-from_keeps : KeepsBounds w y → (y + 2 ^ 64 - window_start w % 2 ^ 64) % 2 ^ 64 < window_size w
   unfolding window_start
   near-from_keeps h =
       let e = cut_exponent_of w in
       let b = b_of w in
-      same-near (2 ^ (e + 14)) (2 ^ (50 - e)) (window_start w) (start_at e b y) ((b / 2 ^ 11 + 7) % 8 * 2 ^ 11 * 2 ^ e) y
+      same-near (2 ^ (e + 14)) (2 ^ (50 - e)) (window_start w) (window_start_at e b y) ((b / 2 ^ 11 + 7) % 8 * 2 ^ 11 * 2 ^ e) y
       (pow_pos (50 - e)) (size_divides e near)
-      (start_at-mod e b (address_of w) (exponent-le w) (b_of-lt w)) (start_at-mod e b y (exponent-le w) (b_of-lt w)) (aligned-lt e b)
-      (start_at-le e b y (exponent-le w) (b_of-lt w)) (start_at-gt e b y (exponent-le w) (b_of-lt w)) (start-from_base h.0)
+      (window_start_at-mod e b (address_of w) (exponent-le w) (b_of-lt w)) (window_start_at-mod e b y (exponent-le w) (b_of-lt w))
+      (aligned-lt e b)
+      (window_start_at-le e b y (exponent-le w) (b_of-lt w)) (window_start_at-gt e b y (exponent-le w) (b_of-lt w)) (start-from_base h.0)
 
 -- from exponent 51 on the address drops out
 raw-far : (e b a : ℕ) → 51 ≤ e → raw_base_at e b a % 2 ^ 65 ≡ b * 2 ^ e % 2 ^ 65
@@ -216,12 +219,15 @@ unfolding base_of window_start
 margins-near w x near from below =
     let e = cut_exponent_of w in
     let d = span_at (b_of w) (t_of w) (ie_of w) in
-    let room : raw_base_at e (b_of w) (address_of w) + d * 2 ^ e + 2 ^ 12 * 2 ^ e < start_at e (b_of w) (address_of w) + 2 ^ (e + 14) =
+    let room : raw_base_at e (b_of w) (address_of w) + d * 2 ^ e + 2 ^ 12 * 2 ^ e < window_start_at e (b_of w) (address_of w) + 2 ^
+    (e + 14) =
     raw_top-lt e (b_of w) (address_of w) (exponent-le w) (b_of-lt w) d (span_at-lt (b_of w) (t_of w) (ie_of w)) in
-    margin x (raw_base_at e (b_of w) (address_of w)) (length_of w) (start_at e (b_of w) (address_of w)) (2 ^ (e + 14)) (2 ^ 11 * 2 ^ e)
+    margin x (raw_base_at e (b_of w) (address_of w)) (length_of w) (window_start_at e (b_of w) (address_of w)) (2 ^ (e + 14))
+    (2 ^ 11 * 2 ^ e)
     (2 ^ 12 * 2 ^ e) (base_of w) (top_of w) refl (top_of-corrected w (omega arith))
     (raw_base_at-ge e (b_of w) (address_of w) (exponent-le w) (b_of-lt w))
-    (subst (λ (k : ℕ). raw_base_at e (b_of w) (address_of w) + k + 2 ^ 12 * 2 ^ e < start_at e (b_of w) (address_of w) + 2 ^ (e + 14))
+    (subst (λ (k : ℕ). raw_base_at e (b_of w) (address_of w) + k + 2 ^ 12 * 2 ^ e < window_start_at e (b_of w) (address_of w) + 2 ^
+    (e + 14))
     (sym (length_is w)) room)
     (pow_le (e + 14) 64 (omega arith)) from below
 
@@ -231,26 +237,6 @@ KeepsBounds-margins w x from below = elim (cases_lt (cut_exponent_of w) 50) [
   | inl near ↦ KeepsBounds-from_range w (x % 2 ^ 64) (omega arith) (λ _. margins-near w x near from below)
   | inr far ↦ KeepsBounds-always w (x % 2 ^ 64) far (omega arith)
 ]
-
--- what the code computes of the window's start
-pub start_shifted : (raw e b : ℕ) → e < 50
-    → (raw % 2 ^ 64 + (2 ^ 64 - (2048 + b % 2048) * 2 ^ e % 2 ^ 64)) % 2 ^ 64 ≡ (raw % 2 ^ 64 + 2 ^ 64 - (2048 + b % 2048) * 2 ^ e) % 2 ^ 64
-start_shifted raw e b h =
-    let unit : 2 ^ e ≤ 2 ^ 50 = pow_le e 50 (omega arith) in
-    let step : (2048 + b % 2048) * 2 ^ e ≤ 4096 * 2 ^ e = mul-le-mul_right (2 ^ e) (let f : 2048 + b % 2048 ≤ 4096 = omega arith in f) in
-    omega arith
-
-pub start_coded : (w raw e b a : ℕ) → e ≤ 50 → e ≡ cut_exponent_of w → b ≡ b_of w → a ≡ address_of w → raw ≡ raw_base_at e b a
-    → (raw % 2 ^ 64 + 2 ^ 64 - (2048 + b % 2048) * 2 ^ e) % 2 ^ 64 ≡ window_start w % 2 ^ 64
-unfolding base_of
-start_coded w raw e b a h e_is b_is a_is raw_is =
-    let same : raw ≡ raw_base_at (cut_exponent_of w) (b_of w) (address_of w) =
-    raw_is ∙ ap (λ (x : ℕ). raw_base_at x b a) e_is ∙ ap (λ (x : ℕ). raw_base_at (cut_exponent_of w) x a) b_is
-    ∙ ap (λ (x : ℕ). raw_base_at (cut_exponent_of w) (b_of w) x) a_is in
-    ap (λ (x : ℕ). (x % 2 ^ 64 + 2 ^ 64 - (2048 + b % 2048) * 2 ^ e) % 2 ^ 64) same
-    ∙ ap (λ (x : ℕ). (base_of w + 2 ^ 64 - (2048 + x % 2048) * 2 ^ e) % 2 ^ 64) b_is
-    ∙ ap (λ (x : ℕ). (base_of w + 2 ^ 64 - (2048 + b_of w % 2048) * 2 ^ x) % 2 ^ 64) e_is
-    ∙ start_from_base w (subst (λ (x : ℕ). x ≤ 50) e_is h)
 
 -- the range by its start and its size
 pub KeepsBounds-exact : (w start size y : ℕ) → cut_exponent_of w < 50 → y < 2 ^ 64 → start ≡ window_start w % 2 ^ 64

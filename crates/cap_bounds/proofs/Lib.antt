@@ -15,3 +15,4 @@ pub mod ExactLengths
 pub mod SailDecodingLemmas
 pub mod SailRoundingLemmas
 pub mod SoundTests
+pub mod WrappedBounds

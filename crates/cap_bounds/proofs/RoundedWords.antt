@@ -28,7 +28,18 @@ use Rattle.std.proofs.Math.Nat.{min-eq_left, mul-le-mul_right, lt_of_mul-lt-mul_
 use Rattle.std.proofs.lemmas.Nat.{pow_pos}
 use Rattle.std.proofs.lemmas.Bool.{cases_lt}
 use Rattle.cap_word.specs.Fields.{ie_of, b_of, t_of, address_of}
-use Rattle.cap_bounds.specs.Bounds.{IsResidue, IsSound, cut_exponent_of, span_at, raw_base_at, top_at, base_of, top_of, length_of}
+use Rattle.cap_bounds.specs.Bounds.{
+  window_start_at,
+  IsResidue,
+  IsSound,
+  cut_exponent_of,
+  span_at,
+  raw_base_at,
+  top_at,
+  base_of,
+  top_of,
+  length_of,
+}
 use Rattle.cap_bounds.specs.Rounding.{
   div_up,
   units_of,
@@ -47,9 +58,8 @@ use Rattle.cap_bounds.proofs.Residues.{IsResidue-unique, mul-mod-mul}
 use Rattle.cap_bounds.proofs.Windows.{eighth_of}
 use Rattle.cap_bounds.proofs.Powers.{pow_split, grain_is}
 use Rattle.cap_bounds.proofs.Decoded.{
-  start_at,
-  start_at-le,
-  start_at-gt,
+  window_start_at-le,
+  window_start_at-gt,
   raw_base_at-residue,
   top_at-corrected,
   top_at-uncorrected,
@@ -97,8 +107,9 @@ units-ge b l (suc e) h least =
     lt_of_mul-lt-mul_right (2 ^ (suc e + 3)) {m = 511} {n = units_of b l (suc e)} more
 
 -- the raw base is the number of the window that is congruent to B units
-raw_base_at_is : (e b a y : ℕ) → e ≤ 52 → b < 2 ^ 14 → IsResidue (start_at e b a) (2 ^ (e + 14)) (b * 2 ^ e) y → raw_base_at e b a ≡ y
-raw_base_at_is e b a y he hb h = IsResidue-unique (start_at e b a) (2 ^ (e + 14)) (b * 2 ^ e) (raw_base_at e b a) y
+raw_base_at_is : (e b a y : ℕ) → e ≤ 52 → b < 2 ^ 14 → IsResidue (window_start_at e b a) (2 ^ (e + 14)) (b * 2 ^ e) y
+    → raw_base_at e b a ≡ y
+raw_base_at_is e b a y he hb h = IsResidue-unique (window_start_at e b a) (2 ^ (e + 14)) (b * 2 ^ e) (raw_base_at e b a) y
     (raw_base_at-residue e b a he hb) h
 
 -- at exponent 0 a base is its own raw base
@@ -106,8 +117,8 @@ raw_base_at-short : (a : ℕ) → raw_base_at 0 (a % 2 ^ 14) a ≡ a + 2 ^ 66
 raw_base_at-short a =
     raw_base_at_is 0 (a % 2 ^ 14) a (a + 2 ^ 66) (omega arith) (omega arith)
     (record {
-      from = start_at-le 0 (a % 2 ^ 14) a (omega arith) (omega arith);
-      below = start_at-gt 0 (a % 2 ^ 14) a (omega arith)
+      from = window_start_at-le 0 (a % 2 ^ 14) a (omega arith) (omega arith);
+      below = window_start_at-gt 0 (a % 2 ^ 14) a (omega arith)
           (omega arith);
       congruent = omega arith;
     })
@@ -121,7 +132,7 @@ module _ (e k a : ℕ) (he : e ≤ 52) (low : k * 2 ^ (e + 3) ≤ a) (high : a <
       let r : 2 ^ (63 - e) * 2 ^ (e + 3) ≡ 2048 * 2 ^ (52 - e) * 2 ^ (e + 3) = ap (λ (x : ℕ). x * 2 ^ (e + 3)) q in
       omega arith
 
-  from-grain : start_at e (8 * k % 2 ^ 14) a ≤ k * 2 ^ (e + 3) + 2 ^ 66
+  from-grain : window_start_at e (8 * k % 2 ^ 14) a ≤ k * 2 ^ (e + 3) + 2 ^ 66
   from-grain =
       let b = 8 * k % 2 ^ 14 in
       let n = eighth_of b ((a + 2 ^ 66) / 2 ^ (e + 11)) in
@@ -129,7 +140,7 @@ module _ (e k a : ℕ) (he : e ≤ 52) (low : k * 2 ^ (e + 3) ≤ a) (high : a <
       let whole : n * 2 ^ (e + 11) ≡ 256 * n * 2 ^ (e + 3) = ap (λ (x : ℕ). n * x) eighth
       ∙ (let f : n * (256 * 2 ^ (e + 3)) ≡ 256 * n * 2 ^ (e + 3) = omega arith in f) in
       let below : 256 * n * 2 ^ (e + 3) < suc (k + 2048 * 2 ^ (52 - e)) * 2 ^ (e + 3) = omega
-      (arith, shifted, start_at-le e b a he (omega arith)) in
+      (arith, shifted, window_start_at-le e b a he (omega arith)) in
       let steps : 256 * n < suc (k + 2048 * 2 ^ (52 - e)) = lt_of_mul-lt-mul_right
       (2 ^ (e + 3)) {m = 256 * n} {n = suc (k + 2048 * 2 ^ (52 - e))} below in
       let up : 256 * n * 2 ^ (e + 3) ≤ (k + 2048 * 2 ^ (52 - e)) * 2 ^ (e + 3) = mul-le-mul_right (2 ^ (e + 3))
@@ -151,7 +162,12 @@ module _ (e k a : ℕ) (he : e ≤ 52) (low : k * 2 ^ (e + 3) ≤ a) (high : a <
   raw_base_at-grain : raw_base_at e (8 * k % 2 ^ 14) a ≡ k * 2 ^ (e + 3) + 2 ^ 66
   raw_base_at-grain =
       raw_base_at_is e (8 * k % 2 ^ 14) a (k * 2 ^ (e + 3) + 2 ^ 66) he (omega arith)
-      (record { from = from-grain; below = omega (arith, start_at-gt e (8 * k % 2 ^ 14) a he (omega arith)); congruent = congruent-grain })
+      (record {
+        from = from-grain;
+        below = omega
+            (arith, window_start_at-gt e (8 * k % 2 ^ 14) a he (omega arith));
+        congruent = congruent-grain;
+      })
 
 -- the bounds and the length of a word
 pub record HasBounds (w base length top : ℕ) : Type 0 where

@@ -11,13 +11,13 @@ turn_of b a = (a + 1 - b / 2048) / 8
 abbrev pub eighth_of : ℕ → ℕ → ℕ
 eighth_of b a = 8 * turn_of b a + b / 2048 - 1
 
-eighth-le : (b a : ℕ) → b < 16384 → 8 ≤ a → eighth_of b a ≤ a
+pub eighth-le : (b a : ℕ) → b < 16384 → 8 ≤ a → eighth_of b a ≤ a
 eighth-le b a h k = omega arith
 
-eighth-gt : (b a : ℕ) → b < 16384 → 8 ≤ a → a < eighth_of b a + 8
+pub eighth-gt : (b a : ℕ) → b < 16384 → 8 ≤ a → a < eighth_of b a + 8
 eighth-gt b a h k = omega arith
 
-eighth-mod : (b a : ℕ) → b < 16384 → 8 ≤ a → eighth_of b a % 8 ≡ (b / 2048 + 7) % 8
+pub eighth-mod : (b a : ℕ) → b < 16384 → 8 ≤ a → eighth_of b a % 8 ≡ (b / 2048 + 7) % 8
 eighth-mod b a h k = omega arith
 
 eighth-turn : (b a : ℕ) → b < 16384 → 8 ≤ a → 16384 * turn_of b a + b ≡ 2048 * eighth_of b a + (2048 + b % 2048)

@@ -69,6 +69,13 @@ pub record AreBounds (w base top : ℕ) : Type 0 where
   pub corrected_top : cut_exponent_of w ≤ 50 → IsResidue base (2 ^ 64) raw_top top
   pub uncorrected_top : 51 ≤ cut_exponent_of w → top ≡ raw_top % 2 ^ 65
 
+-- closed form of where the window of an address starts, 2 ^ 66 higher, from the cut exponent, B and the
+-- address: `reach` ties it to `IsWindow`
+abbrev pub window_start_at : ℕ → ℕ → ℕ → ℕ
+window_start_at e b address =
+    let windows = ((address + 2 ^ 66) / 2 ^ (e + 11) + 1 - b / 2 ^ 11) / 8 in
+    (8 * windows + b / 2 ^ 11 - 1) * 2 ^ (e + 11)
+
 -- closed form of the raw base, from the cut exponent, B and the address; `bounds` ties it to `AreBounds`
 unfoldable pub raw_base_at : ℕ → ℕ → ℕ → ℕ
 raw_base_at e b address = (2 ^ 14 * (((address + 2 ^ 66) / 2 ^ (e + 11) + 1 - b / 2 ^ 11) / 8) + b) * 2 ^ e

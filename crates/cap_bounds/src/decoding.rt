@@ -1,6 +1,6 @@
 //! The bounds that a word has.
 
-ghost use Rattle.std.specs.Prelude.{◌≡◌, ◌<◌, ◌≤◌, ◌+◌, ◌*◌, ◌^◌, ◌↔◌, ℕ, IsTrue};
+ghost use Rattle.std.specs.Prelude.{◌≡◌, ◌<◌, ◌≤◌, ◌+◌, ◌*◌, ◌%◌, ◌^◌, ◌↔◌, ℕ, IsTrue};
 ghost use Rattle.cap_word.specs.Fields.{b_of, ie_of, t_of};
 ghost use Rattle.cap_bounds.specs.Bounds.{
   AreBounds,
@@ -13,8 +13,8 @@ ghost use Rattle.cap_bounds.specs.Bounds.{
   mantissa_of,
   raw_base_at,
   span_at,
-  top_at,
   top_of,
+  window_start_at,
 };
 ghost use Rattle.cap_bounds.specs.SailDecoding.{sail_base, sail_top};
 
@@ -100,22 +100,42 @@ pub(crate) fn scale_of(word: Word) -> Scale
     }
 }
 
-/// The raw base in the window of an address, 2^66 higher.
+/// The start of the window of an address, modulo 2^64.
 #[inline(always)]
-pub(crate) fn raw_base(cut_exponent: u32, b: u64, address: u64) -> u128
+pub(crate) fn window_from(cut_exponent: u32, b: u64, address: u64) -> u64
     requires exponent_fits { cut_exponent ≤ 52 }
     requires b_fits { b < 2 ^ 14 }
-    ensures value { result ≡ raw_base_at cut_exponent b address }
-    ensures small { result < 2 ^ 68 }
+    ensures { result ≡ window_start_at cut_exponent b address % 2 ^ 64 }
 {
-    // The address in eighths of a window, and the windows that lie whole below that of the raw base.
-    let eighths = (u128::from(address) + (1 << 66)) >> (cut_exponent + 11);
-    let windows = (eighths + 1 - u128::from(b >> 11)) >> 3;
-    ((windows << 14) + u128::from(b)) << cut_exponent
+    // In units, of which the window has 2^14.
+    let units = address >> cut_exponent;
+    let start = (((b >> 11) + 7) & 7) << 11;
+    let above_start = units.wrapping_sub(start) & 0x3fff;
+    units.wrapping_sub(above_start) << cut_exponent
+}
+
+/// The base of a word: B lies 2^11 units and its low eleven bits above the window's start.
+#[inline(always)]
+fn base_from(cut_exponent: u32, b: u64, address: u64) -> u64
+    requires exponent_fits { cut_exponent ≤ 52 }
+    requires b_fits { b < 2 ^ 14 }
+    ensures { result ≡ raw_base_at cut_exponent b address % 2 ^ 64 }
+{
+    let above_start = (0x800 + (b & 0x7ff)) << cut_exponent;
+    window_from(cut_exponent, b, address).wrapping_add(above_start)
+}
+
+/// The top from the cut exponent 51 on, where it hangs on no address: it is cut to 65 bits.
+fn uncorrected_top(cut_exponent: u32, b: u64, span: u64) -> u128
+    requires exponent_fits { cut_exponent ≤ 52 }
+    requires b_fits { b < 2 ^ 14 }
+    requires span_fits { span < 2 ^ 13 }
+    ensures { result ≡ (b + span) * 2 ^ cut_exponent % 2 ^ 65 }
+{
+    (u128::from(b + span) << cut_exponent) & 0x1_ffff_ffff_ffff_ffff
 }
 
 /// A length: its units, scaled by the cut exponent.
-#[inline(always)]
 fn scaled(cut_exponent: u32, units: u64) -> u128
     requires exponent_fits { cut_exponent ≤ 52 }
     requires units_fit { units < 2 ^ 13 }
@@ -125,18 +145,15 @@ fn scaled(cut_exponent: u32, units: u64) -> u128
     u128::from(units) << cut_exponent
 }
 
-/// The top of a word: up to the cut exponent 50 it follows the base, and from 51 on it is cut to 65 bits.
+/// A length up to the cut exponent 50, where it needs 63 bits.
 #[inline(always)]
-fn top_from(cut_exponent: u32, raw_base: u128, length: u128) -> u128
-    requires raw_base_fits { raw_base < 2 ^ 68 }
-    requires length_fits { length < 2 ^ 65 }
-    ensures { result ≡ top_at cut_exponent raw_base length }
+fn scaled_short(cut_exponent: u32, units: u64) -> u64
+    requires exponent_fits { cut_exponent ≤ 50 }
+    requires units_fit { units < 2 ^ 13 }
+    ensures value { result ≡ units * 2 ^ cut_exponent }
+    ensures small { result < 2 ^ 63 }
 {
-    if cut_exponent <= LAST_CORRECTED_EXPONENT {
-        (raw_base & 0xffff_ffff_ffff_ffff) + length
-    } else {
-        (raw_base + length) & 0x1_ffff_ffff_ffff_ffff
-    }
+    units << cut_exponent
 }
 
 /// Base, top and length of a word.
@@ -147,7 +164,7 @@ struct Decoded {
     length: u128,
 }
 
-/// Decodes a word.
+/// Decodes a word: up to the cut exponent 50 the top follows the base.
 #[inline(always)]
 fn decode(word: Word) -> Decoded
     ensures base { result.base ≡ base_of word.0 }
@@ -160,12 +177,20 @@ fn decode(word: Word) -> Decoded
         b,
         span,
     } = scale_of(word);
-    let raw = raw_base(cut_exponent, b, word.address());
-    let length = scaled(cut_exponent, span);
-    Decoded {
-        base: (raw & 0xffff_ffff_ffff_ffff) as u64,
-        top: top_from(cut_exponent, raw, length),
-        length,
+    let base = base_from(cut_exponent, b, word.address());
+    if cut_exponent <= LAST_CORRECTED_EXPONENT {
+        let length = u128::from(scaled_short(cut_exponent, span));
+        Decoded {
+            base,
+            top: u128::from(base) + length,
+            length,
+        }
+    } else {
+        Decoded {
+            base,
+            top: uncorrected_top(cut_exponent, b, span),
+            length: scaled(cut_exponent, span),
+        }
     }
 }
 

@@ -4,20 +4,12 @@ ghost use Rattle.std.specs.Prelude.{◌≡◌, ◌<◌, ◌≤◌, ◌+◌, ◌-
 ghost use Rattle.cap_bounds.specs.Bounds.{IsWindow, base_of, cut_exponent_of, top_of, unit_of, window_size};
 ghost use Rattle.cap_bounds.specs.Range.{KeepsBounds, window_start};
 
-use crate::decoding::{Scale, raw_base, scale_of};
+use crate::decoding::{Scale, scale_of, window_from};
 use cap_word::Word;
 
 /// From this cut exponent on the window is the whole address space or more, and every address keeps the
 /// bounds.
 const WHOLE_EXPONENT: u32 = 50;
-
-/// The start of a word's window, modulo 2^64.
-fn start_from(raw_base: u128, cut_exponent: u32, b: u64) -> u64
-    requires { cut_exponent < 50 }
-    ensures { result ≡ (raw_base % 2 ^ 64 + 2 ^ 64 - (2048 + b % 2048) * 2 ^ cut_exponent) % 2 ^ 64 }
-{
-    ((raw_base & 0xffff_ffff_ffff_ffff) as u64).wrapping_sub((2048 + (b & 0x7ff)) << cut_exponent)
-}
 
 /// A word's representable range, as its start and its size: an address keeps the word's bounds exactly
 /// where it is less than the size above the start, modulo 2^64. `None` is the answer exactly where every
@@ -47,7 +39,7 @@ pub fn reach(word: Word) -> Option<(u64, u64)>
     if cut_exponent >= WHOLE_EXPONENT {
         return None;
     }
-    let start = start_from(raw_base(cut_exponent, b, word.address()), cut_exponent, b);
+    let start = window_from(cut_exponent, b, word.address());
     Some((start, 1 << (cut_exponent + 14)))
 }
 

@@ -182,7 +182,8 @@ pub fn round(base: u64, length: u64) -> Rounded
     }
 }
 
-/// Replaces the fields that bounds are made of.
+/// Replaces the fields that bounds are made of. It stands apart from [`with_bounds`], whose other clauses are
+/// proved from these.
 fn replace_bounds(word: Word, rounded: &Rounded, address: u64) -> Word
     ensures word { result.0 ≡ bounded_word word.0 rounded.now.ie rounded.now.e rounded.now.b rounded.now.t address }
     ensures kept { result.0 / 2 ^ 91 ≡ word.0 / 2 ^ 91 }

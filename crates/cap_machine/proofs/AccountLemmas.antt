@@ -3,14 +3,14 @@ use Rattle.std.proofs.Common.{◌≡◌, ℕ, ◌+◌, ◌<◌, ◌≤◌, Bool,
 use Rattle.std.specs.Bool.{if◌then◌else◌}
 use Rattle.std.proofs.lemmas.Bool.{false≢true, and_from, or_from, le-leb, lt-leb}
 use Rattle.cap_word.specs.declared.word.Word.{Word}
-use Rattle.cap_bounds.specs.Bounds.{IsSound}
+use Rattle.cap_bounds.specs.Bounds.{IsSound, is_sound}
 use Rattle.cap_log.specs.declared.lines.Place.{Place}
 use Rattle.cap_log.specs.declared.lines.Step.{Step}
 use Rattle.cap_ops.specs.Tests.{first_of}
 use Rattle.cap_ops.proofs.TestLemmas.{NoneHold}
 use Rattle.cap_machine.specs.States.{State, key_of}
 use Rattle.cap_machine.specs.Steps.{Leads, is_recorded}
-use Rattle.cap_machine.specs.Accounts.{Account, most_roots, most_granules, most_steps, granule_of, named_by, row_in, passes_granules, naming, with_root, with_step, is_sound, root_tests, step_tests}
+use Rattle.cap_machine.specs.Accounts.{Account, most_roots, most_granules, most_steps, granule_of, named_by, row_in, passes_granules, naming, with_root, with_step, root_tests, step_tests}
 use Rattle.cap_machine.proofs.MadeLemmas.{first_mapped-none, ending}
 
 -- an account grows into another by so many roots and steps: its rules stay, and no granule that was named is taken away

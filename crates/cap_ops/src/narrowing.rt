@@ -85,7 +85,7 @@ pub(crate) fn narrowed(source: Cap, length: u64) -> Cap
     let rounded = rounding_of(source.word, length);
     Cap {
         tag: source.tag,
-        word: with_bounds(source.word, &rounded, address(source.word)),
+        word: with_bounds(source.word, &rounded, source.word.address()),
     }
 }
 

@@ -15,7 +15,7 @@ perms_of w = w / 2 ^ 112 % 2 ^ 16
 abbrev pub reserved_of : ℕ → ℕ
 reserved_of w = w / 2 ^ 110 % 2 ^ 2
 
--- bit 109: the flag
+-- bit 109: the capability-mode flag
 abbrev pub flag_of : ℕ → Bool
 flag_of w = w / 2 ^ 109 % 2 == 1
 

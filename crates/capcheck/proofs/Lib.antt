@@ -8,7 +8,6 @@ mod SourceLemmas
 mod HeaderLemmas
 mod LineLemmas
 mod MemoryTexts
-mod SoundTests
 mod OperandLemmas
 mod DoingLemmas
 mod ShownLemmas

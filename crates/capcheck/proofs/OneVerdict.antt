@@ -26,6 +26,7 @@ use Rattle.capcheck.proofs.OneReading.{Stage, Unread, Versioned, Within, Ended, 
 
 -- Distinct roots, and the state that they make
 
+-- the numbers of the roots' places
 abbrev keys : List DeclaredRoot → List ℕ
 keys roots = map (λ (root : DeclaredRoot). key_of root.place) roots
 
@@ -79,6 +80,7 @@ formed One line one = one
 formed TwoStrict line one = refl
 formed TwoClear line one = refl
 
+-- sound roots at distinct places are read, where their account keeps to the limits
 roots_read : (rules_are : Rules) (account : Account) (roots : List DeclaredRoot) → account.rules ≡ rules_are → account.steps ≡ 0
     → IsDistinct nat_eq (keys roots) → AreFree account.state roots → AllByRecursion (λ (root : DeclaredRoot). IsSound root.word.0) roots
     → account.roots + length roots ≤ most_roots → (after_roots account roots).granules ≤ most_granules rules_are
@@ -98,6 +100,7 @@ roots_read rules_are account (root ∷ roots) same none distinct free sound few_
           sound.1 (omega arith) few_granules,
     )
 
+-- and so are steps that have a run from its state
 steps_read : (rules_are : Rules) (account : Account) (steps : List steps_module.Step) (states : List State) → account.rules ≡ rules_are
     → IsRun rules_are account.state steps states → account.steps + length steps ≤ most_steps
     → (after_steps account steps).granules ≤ most_granules rules_are
@@ -168,6 +171,7 @@ record Reading (bytes : List ℕ) (verdict : Verdict) : Type 0 where
   accepted : IsAccepted beginning
   answers : Answers (stage_of beginning) rest (length (lines_of beginning) + 1) verdict
 
+-- a first fault is an answer at the stage behind its beginning
 refused : (beginning : Beginning) (rest : List ℕ) (number line : ℕ) (refusal : Refusal) → line ≡ number → Refuses beginning rest refusal
     → Answers (stage_of beginning) rest number (No line refusal)
 refused Nothing rest number line refusal is refuses = (is, refuses)
@@ -175,6 +179,7 @@ refused NoMode rest number line refusal is refuses = (is, refuses)
 refused (Body rules_are roots steps) rest number line refusal is refuses = (is, refuses)
 refused (Whole rules_are roots steps) rest number line refusal is refuses = (is, refuses)
 
+-- each verdict comes from a reading
 read : (bytes : List ℕ) (verdict : Verdict) → IsVerdict bytes verdict → Reading bytes verdict
 read bytes (Yes steps roots) is =
     let counts = account_after-grows is.rules is.roots is.steps in

@@ -1,10 +1,10 @@
 -- What the operations and the tests of accesses answer to C (this profile's own).
-use Rattle.std.specs.Prelude.{◌≡◌, ◌≢◌, ℕ, ◌+◌, ◌-◌, Bool, ℤ, pos, neg_ℤ, ◌≤ℤ◌, List, [], ◌∷◌, ◌++◌, length, replicate, codes, MatchOption, IsTrue}
+use Rattle.std.specs.Prelude.{◌≡◌, ◌↔◌, ℕ, ◌+◌, ◌-◌, ◌%◌, ◌≤◌, Bool, ℤ, pos, neg_ℤ, ◌≤ℤ◌, List, ◌++◌, length, replicate, codes, MatchOption, IsTrue}
 use Rattle.cap_word.specs.declared.word.Cap.{Cap}
 use Rattle.cap_ops.specs.declared.faults.OpFault.{OpFault}
 use Rattle.cap_ops.specs.declared.faults.OpFault.TheVariants.{SourceUntagged, SourceSealed, BoundsEscape, NotExact, NotRepresentable, AuthorityUntagged, AuthoritySealed, AuthorityPermission, AuthorityBounds, TypeOutOfRange, TypeMismatch, Misaligned, StoreCapPermission, StoreLocalPermission}
 use Rattle.cap_ops.specs.declared.kinds.Kind.{Kind}
-use Rattle.cap_ops.specs.Accesses.{access_address, access_tests}
+use Rattle.cap_ops.specs.Accesses.{IsAllowed, access_address, access_tests, permission_for}
 use Rattle.cap_ops.specs.Faults.{number_of}
 use Rattle.cap_ops.specs.Sizes.{size_fits}
 use Rattle.cap_ops.specs.Tests.{first_of}
@@ -24,17 +24,21 @@ Answers tests result made =
 abbrev pub IsAccess : Kind → ℤ → ℕ → Type 0
 IsAccess kind offset size = (neg_ℤ (pos 2048) ≤ℤ offset) × (offset ≤ℤ pos 2047) × IsTrue (size_fits kind size)
 
--- what the test of an access answers: its address and 0 where no test holds, else 0 and the number of the
--- first test that holds
-abbrev pub AnswersAccess : Cap → Kind → ℤ → ℕ → AccessAnswer → Type 0
-AnswersAccess authority kind offset size answer =
-    MatchOption (first_of (access_tests authority kind offset size))
-    ((answer.refusal ≡ 0) × (answer.address ≡ access_address authority.word.0 offset))
-    (λ fault. (answer.refusal ≡ number_of fault) × (answer.address ≡ 0))
-
 -- the refusal of an access whose offset or size no access of its kind has
 abbrev pub bad_argument : ℕ
 bad_argument = 255
+
+-- what the test of an access answers: its address and 0 where no test holds, else 0 and the number of the
+-- first test that holds; an access that is let through is in the authority's bounds, has its permission, is
+-- aligned, and lies in one granule; and what is no access is refused with a number of its own
+pub record AnswersAccess (authority : Cap) (kind : Kind) (offset : ℤ) (size : ℕ) (answer : AccessAnswer) : Type 0 where
+  pub outcome : IsAccess kind offset size → MatchOption (first_of (access_tests authority kind offset size))
+      ((answer.refusal ≡ 0) × (answer.address ≡ access_address authority.word.0 offset))
+      (λ fault. (answer.refusal ≡ number_of fault) × (answer.address ≡ 0))
+  pub allowed : answer.refusal ≡ 0 → IsAllowed authority.word.0 answer.address size (permission_for kind)
+  pub in_one_granule : answer.refusal ≡ 0 → answer.address % 16 + size ≤ 16
+  pub bad : (answer.refusal ≡ bad_argument) ↔ (¬ IsAccess kind offset size)
+  pub zero : ¬ IsAccess kind offset size → answer.address ≡ 0
 
 -- the name of a refusal, as the variant is spelled
 abbrev pub name_of : OpFault → List ℕ

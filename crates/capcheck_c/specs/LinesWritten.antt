@@ -1,6 +1,6 @@
 -- What writing a line into a buffer gives (this profile's own).
 use Rattle.std.specs.Prelude.{◌≡◌, ℕ, ◌+◌, ◌-◌, ◌≤◌, Bool, true, false, List, [], ◌∷◌, ◌++◌, length, take, drop}
-use Rattle.cap_log.specs.Lines.{Spells, spelling}
+use Rattle.cap_log.specs.Lines.{IsInRange, Spells, spelling}
 use Rattle.cap_log.specs.declared.lines.Line.{Line}
 use Rattle.cap_log.specs.declared.lines.Mode.{Mode}
 use Rattle.cap_log.specs.declared.lines.Mode.TheVariants.{Strict, Clear}
@@ -19,3 +19,10 @@ pub record IsLineAt (line : Line) (old new : List ℕ) (count : ℕ) : Type 0 wh
   pub rest : drop count new ≡ drop count old
   pub spells : Spells (take (count - 1) new) line
   pub reads_back : (other : Line) → Spells (take (count - 1) new) other → other ≡ line
+
+-- what the call that writes a line answers: the line, where its numbers are in range, and its length; else
+-- 0, and the buffer is as it was
+pub record AnswersLine (line : Line) (old new : List ℕ) (count : ℕ) : Type 0 where
+  pub written : IsInRange line → IsLineAt line old new count
+  pub none : ¬ IsInRange line → count ≡ 0
+  pub kept : ¬ IsInRange line → new ≡ old

@@ -1,10 +1,13 @@
 //! What always gives a capability: the operations in clear mode, where a refused result loses its tag,
 //! and what a load gives.
 
-ghost use Rattle.std.specs.Prelude.{◌≡◌, ◌≤◌};
+ghost use Rattle.std.specs.Prelude.{◌≡◌, ◌≢◌, ◌≤◌, ◌+◌, ◌↔◌, IsFalse, false};
+ghost use Rattle.cap_word.specs.Fields.{address_of};
+ghost use Rattle.cap_bounds.specs.Bounds.{IsInside, IsSound, base_of, top_of};
 ghost use Rattle.cap_ops.specs.Accesses.{loaded_result};
 ghost use Rattle.cap_ops.specs.Authority.{StaysWithin};
 ghost use Rattle.cap_ops.specs.Operations.{
+  IsStrictWhereTagged,
   and_perm_result,
   and_perm_tests,
   clear_result,
@@ -35,9 +38,15 @@ pub extern "C" fn capcheck_set_bounds_clear(
     length: u64,
     exact: bool,
 ) -> Capability
-    ensures result_is { cap_of result ≡ clear_result (set_bounds_tests (cap_of source) length exact) (set_bounds_result (cap_of source) length) }
+    ensures result_is { cap_of result
+        ≡ clear_result (set_bounds_tests (cap_of source) length exact) (set_bounds_result (cap_of source) length) }
+    ensures strict { IsStrictWhereTagged (set_bounds_tests (cap_of source) length exact) (set_bounds_result (cap_of source) length)
+        (cap_of result) }
     ensures tag { result.tag ≤ 1 }
-    ensures lawful { StaysWithin (cap_of result) (cap_of source) }
+    ensures stays_within { StaysWithin (cap_of result) (cap_of source) }
+    ensures escape { exact ≡ false → source.tag ≢ 0 → IsFalse (is_sealed (whole_of source.word)) → IsSound (whole_of source.word)
+        → ((result.tag ≡ 0) ↔ (¬ IsInside (address_of (whole_of source.word))
+        (address_of (whole_of source.word) + length) (base_of (whole_of source.word)) (top_of (whole_of source.word)))) }
 {
     given(set_bounds_clear(taken(source), length, exact))
 }
@@ -45,9 +54,12 @@ pub extern "C" fn capcheck_set_bounds_clear(
 /// [`capcheck_set_addr`](crate::operations::capcheck_set_addr) in clear mode.
 #[unsafe(no_mangle)]
 pub extern "C" fn capcheck_set_addr_clear(source: Capability, address: u64) -> Capability
-    ensures result_is { cap_of result ≡ clear_result (set_addr_tests (cap_of source) address) (set_addr_result (cap_of source) address) }
+    ensures result_is { cap_of result
+        ≡ clear_result (set_addr_tests (cap_of source) address) (set_addr_result (cap_of source) address) }
+    ensures strict { IsStrictWhereTagged (set_addr_tests (cap_of source) address) (set_addr_result (cap_of source) address)
+        (cap_of result) }
     ensures tag { result.tag ≤ 1 }
-    ensures lawful { StaysWithin (cap_of result) (cap_of source) }
+    ensures stays_within { StaysWithin (cap_of result) (cap_of source) }
 {
     given(set_addr_clear(taken(source), address))
 }
@@ -55,9 +67,12 @@ pub extern "C" fn capcheck_set_addr_clear(source: Capability, address: u64) -> C
 /// [`capcheck_and_perm`](crate::operations::capcheck_and_perm) in clear mode.
 #[unsafe(no_mangle)]
 pub extern "C" fn capcheck_and_perm_clear(source: Capability, mask: u64) -> Capability
-    ensures result_is { cap_of result ≡ clear_result (and_perm_tests (cap_of source)) (and_perm_result (cap_of source) mask) }
+    ensures result_is { cap_of result
+        ≡ clear_result (and_perm_tests (cap_of source)) (and_perm_result (cap_of source) mask) }
+    ensures strict { IsStrictWhereTagged (and_perm_tests (cap_of source)) (and_perm_result (cap_of source) mask)
+        (cap_of result) }
     ensures tag { result.tag ≤ 1 }
-    ensures lawful { StaysWithin (cap_of result) (cap_of source) }
+    ensures stays_within { StaysWithin (cap_of result) (cap_of source) }
 {
     given(and_perm_clear(taken(source), mask))
 }
@@ -66,9 +81,12 @@ pub extern "C" fn capcheck_and_perm_clear(source: Capability, mask: u64) -> Capa
 /// the authority's address.
 #[unsafe(no_mangle)]
 pub extern "C" fn capcheck_seal_clear(source: Capability, authority: Capability) -> Capability
-    ensures result_is { cap_of result ≡ clear_result (seal_tests (cap_of source) (cap_of authority)) (seal_result (cap_of source) (cap_of authority)) }
+    ensures result_is { cap_of result
+        ≡ clear_result (seal_tests (cap_of source) (cap_of authority)) (seal_result (cap_of source) (cap_of authority)) }
+    ensures strict { IsStrictWhereTagged (seal_tests (cap_of source) (cap_of authority)) (seal_result (cap_of source) (cap_of authority))
+        (cap_of result) }
     ensures tag { result.tag ≤ 1 }
-    ensures lawful { StaysWithin (cap_of result) (cap_of source) }
+    ensures stays_within { StaysWithin (cap_of result) (cap_of source) }
 {
     given(seal_clear(taken(source), taken(authority)))
 }
@@ -76,9 +94,12 @@ pub extern "C" fn capcheck_seal_clear(source: Capability, authority: Capability)
 /// [`capcheck_unseal`](crate::operations::capcheck_unseal) in clear mode.
 #[unsafe(no_mangle)]
 pub extern "C" fn capcheck_unseal_clear(source: Capability, authority: Capability) -> Capability
-    ensures result_is { cap_of result ≡ clear_result (unseal_tests (cap_of source) (cap_of authority)) (unseal_result (cap_of source) (cap_of authority)) }
+    ensures result_is { cap_of result
+        ≡ clear_result (unseal_tests (cap_of source) (cap_of authority)) (unseal_result (cap_of source) (cap_of authority)) }
+    ensures strict { IsStrictWhereTagged (unseal_tests (cap_of source) (cap_of authority)) (unseal_result (cap_of source) (cap_of authority))
+        (cap_of result) }
     ensures tag { result.tag ≤ 1 }
-    ensures lawful { StaysWithin (cap_of result) (cap_of source) }
+    ensures stays_within { StaysWithin (cap_of result) (cap_of source) }
 {
     given(unseal_clear(taken(source), taken(authority)))
 }
@@ -88,7 +109,7 @@ pub extern "C" fn capcheck_unseal_clear(source: Capability, authority: Capabilit
 pub extern "C" fn capcheck_clear_tag(source: Capability) -> Capability
     ensures result_is { cap_of result ≡ cleared (cap_of source) }
     ensures tag { result.tag ≤ 1 }
-    ensures lawful { StaysWithin (cap_of result) (cap_of source) }
+    ensures stays_within { StaysWithin (cap_of result) (cap_of source) }
 {
     given(clear_tag(taken(source)))
 }
@@ -98,7 +119,7 @@ pub extern "C" fn capcheck_clear_tag(source: Capability) -> Capability
 pub extern "C" fn capcheck_loaded(authority: Capability, stored: Capability) -> Capability
     ensures result_is { cap_of result ≡ loaded_result (cap_of authority) (cap_of stored) }
     ensures tag { result.tag ≤ 1 }
-    ensures lawful { StaysWithin (cap_of result) (cap_of stored) }
+    ensures stays_within { StaysWithin (cap_of result) (cap_of stored) }
 {
     given(loaded(taken(authority), taken(stored)))
 }

@@ -1,10 +1,12 @@
 //! The lines at the beginning and the end of a log.
+//!
+//! Each call answers how many bytes it wrote, the line feed with them, or 0 where a number is out of its
+//! range; then the buffer is as it was.
 
 ghost use Rattle.std.specs.Prelude.{◌≡◌, ◌/◌, ◌%◌};
-ghost use Rattle.cap_log.specs.Lines.{IsInRange};
 ghost use Rattle.cap_log.specs.declared.lines.Line.TheVariants as line;
 ghost use Rattle.cap_log.specs.declared.lines.Place.TheVariants as place;
-ghost use Rattle.capcheck_c.specs.LinesWritten.{IsLineAt, mode_of};
+ghost use Rattle.capcheck_c.specs.LinesWritten.{AnswersLine, IsLineAt, mode_of};
 ghost use Rattle.capcheck_c.specs.Passed.{whole_of};
 
 use crate::halves::word_of;
@@ -16,10 +18,7 @@ use cap_log::{Line, Mode, Place};
 /// Writes a version line into the buffer: 1 or 2.
 #[unsafe(no_mangle)]
 pub extern "C" fn capcheck_line_version(buffer: &mut [u8; 96], version: u64) -> usize
-    ensures written { IsInRange (line.Version version)
-        → IsLineAt (line.Version version) buffer.old buffer.new result }
-    ensures refused { ¬ IsInRange (line.Version version)
-        → (result ≡ 0) × (buffer.new ≡ buffer.old) }
+    ensures { AnswersLine (line.Version version) buffer.old buffer.new result }
 {
     let Some(version) = version_of(version) else {
         return 0;
@@ -39,10 +38,7 @@ pub extern "C" fn capcheck_line_mode(buffer: &mut [u8; 96], clear: bool) -> usiz
 /// Writes the line of a root in a register, 1 to 31, into the buffer.
 #[unsafe(no_mangle)]
 pub extern "C" fn capcheck_line_root(buffer: &mut [u8; 96], register: u64, word: Halves) -> usize
-    ensures written { IsInRange (line.Root (place.Register register) (record { 0 = whole_of word }))
-        → IsLineAt (line.Root (place.Register register) (record { 0 = whole_of word })) buffer.old buffer.new result }
-    ensures refused { ¬ IsInRange (line.Root (place.Register register) (record { 0 = whole_of word }))
-        → (result ≡ 0) × (buffer.new ≡ buffer.old) }
+    ensures { AnswersLine (line.Root (place.Register register) (record { 0 = whole_of word })) buffer.old buffer.new result }
 {
     let Some(register) = target_of(register) else {
         return 0;
@@ -69,10 +65,7 @@ pub extern "C" fn capcheck_line_root_at(buffer: &mut [u8; 96], address: u64, wor
 /// Writes the end line with the number of step lines, below 2^32, into the buffer.
 #[unsafe(no_mangle)]
 pub extern "C" fn capcheck_line_end(buffer: &mut [u8; 96], steps: u64) -> usize
-    ensures written { IsInRange (line.End steps)
-        → IsLineAt (line.End steps) buffer.old buffer.new result }
-    ensures refused { ¬ IsInRange (line.End steps)
-        → (result ≡ 0) × (buffer.new ≡ buffer.old) }
+    ensures { AnswersLine (line.End steps) buffer.old buffer.new result }
 {
     let Some(steps) = step_count_of(steps) else {
         return 0;

@@ -1,10 +1,11 @@
 //! The lines of steps that read and write memory.
+//!
+//! Each call answers how many bytes it wrote, the line feed with them, or 0 where a number is out of its
+//! range; then the buffer is as it was.
 
-ghost use Rattle.std.specs.Prelude.{◌≡◌};
-ghost use Rattle.cap_log.specs.Lines.{IsInRange};
 ghost use Rattle.cap_log.specs.declared.lines.Line.TheVariants as line;
 ghost use Rattle.cap_log.specs.declared.lines.Step.TheVariants as step;
-ghost use Rattle.capcheck_c.specs.LinesWritten.{IsLineAt};
+ghost use Rattle.capcheck_c.specs.LinesWritten.{AnswersLine};
 ghost use Rattle.capcheck_c.specs.Passed.{cap_of};
 
 use crate::halves::taken;
@@ -22,10 +23,7 @@ pub extern "C" fn capcheck_line_lc(
     offset: i64,
     recorded: Capability,
 ) -> usize
-    ensures written { IsInRange (line.Step (step.LoadCap target authority offset (cap_of recorded)))
-        → IsLineAt (line.Step (step.LoadCap target authority offset (cap_of recorded))) buffer.old buffer.new result }
-    ensures refused { ¬ IsInRange (line.Step (step.LoadCap target authority offset (cap_of recorded)))
-        → (result ≡ 0) × (buffer.new ≡ buffer.old) }
+    ensures { AnswersLine (line.Step (step.LoadCap target authority offset (cap_of recorded))) buffer.old buffer.new result }
 {
     let Some(target) = target_of(target) else {
         return 0;
@@ -53,10 +51,7 @@ pub extern "C" fn capcheck_line_sc(
     authority: u64,
     offset: i64,
 ) -> usize
-    ensures written { IsInRange (line.Step (step.StoreCap source authority offset))
-        → IsLineAt (line.Step (step.StoreCap source authority offset)) buffer.old buffer.new result }
-    ensures refused { ¬ IsInRange (line.Step (step.StoreCap source authority offset))
-        → (result ≡ 0) × (buffer.new ≡ buffer.old) }
+    ensures { AnswersLine (line.Step (step.StoreCap source authority offset)) buffer.old buffer.new result }
 {
     let Some(source) = register_of(source) else {
         return 0;
@@ -85,10 +80,7 @@ pub extern "C" fn capcheck_line_load(
     size: u64,
     value: u64,
 ) -> usize
-    ensures written { IsInRange (line.Step (step.Load authority offset size value))
-        → IsLineAt (line.Step (step.Load authority offset size value)) buffer.old buffer.new result }
-    ensures refused { ¬ IsInRange (line.Step (step.Load authority offset size value))
-        → (result ≡ 0) × (buffer.new ≡ buffer.old) }
+    ensures { AnswersLine (line.Step (step.Load authority offset size value)) buffer.old buffer.new result }
 {
     let Some(authority) = register_of(authority) else {
         return 0;
@@ -118,10 +110,7 @@ pub extern "C" fn capcheck_line_store(
     size: u64,
     value: u64,
 ) -> usize
-    ensures written { IsInRange (line.Step (step.Store authority offset size value))
-        → IsLineAt (line.Step (step.Store authority offset size value)) buffer.old buffer.new result }
-    ensures refused { ¬ IsInRange (line.Step (step.Store authority offset size value))
-        → (result ≡ 0) × (buffer.new ≡ buffer.old) }
+    ensures { AnswersLine (line.Step (step.Store authority offset size value)) buffer.old buffer.new result }
 {
     let Some(authority) = register_of(authority) else {
         return 0;

@@ -1,10 +1,11 @@
 //! The lines of steps that read and write registers.
+//!
+//! Each call answers how many bytes it wrote, the line feed with them, or 0 where a number is out of its
+//! range; then the buffer is as it was.
 
-ghost use Rattle.std.specs.Prelude.{◌≡◌};
-ghost use Rattle.cap_log.specs.Lines.{IsInRange};
 ghost use Rattle.cap_log.specs.declared.lines.Line.TheVariants as line;
 ghost use Rattle.cap_log.specs.declared.lines.Step.TheVariants as step;
-ghost use Rattle.capcheck_c.specs.LinesWritten.{IsLineAt};
+ghost use Rattle.capcheck_c.specs.LinesWritten.{AnswersLine};
 ghost use Rattle.capcheck_c.specs.Passed.{cap_of};
 
 use crate::halves::taken;
@@ -21,10 +22,7 @@ pub extern "C" fn capcheck_line_move(
     source: u64,
     recorded: Capability,
 ) -> usize
-    ensures written { IsInRange (line.Step (step.Move target source (cap_of recorded)))
-        → IsLineAt (line.Step (step.Move target source (cap_of recorded))) buffer.old buffer.new result }
-    ensures refused { ¬ IsInRange (line.Step (step.Move target source (cap_of recorded)))
-        → (result ≡ 0) × (buffer.new ≡ buffer.old) }
+    ensures { AnswersLine (line.Step (step.Move target source (cap_of recorded))) buffer.old buffer.new result }
 {
     let Some(target) = target_of(target) else {
         return 0;
@@ -48,10 +46,7 @@ pub extern "C" fn capcheck_line_cleartag(
     source: u64,
     recorded: Capability,
 ) -> usize
-    ensures written { IsInRange (line.Step (step.ClearTag target source (cap_of recorded)))
-        → IsLineAt (line.Step (step.ClearTag target source (cap_of recorded))) buffer.old buffer.new result }
-    ensures refused { ¬ IsInRange (line.Step (step.ClearTag target source (cap_of recorded)))
-        → (result ≡ 0) × (buffer.new ≡ buffer.old) }
+    ensures { AnswersLine (line.Step (step.ClearTag target source (cap_of recorded))) buffer.old buffer.new result }
 {
     let Some(target) = target_of(target) else {
         return 0;
@@ -76,10 +71,7 @@ pub extern "C" fn capcheck_line_setbounds(
     length: u64,
     recorded: Capability,
 ) -> usize
-    ensures written { IsInRange (line.Step (step.SetBounds target source length (cap_of recorded)))
-        → IsLineAt (line.Step (step.SetBounds target source length (cap_of recorded))) buffer.old buffer.new result }
-    ensures refused { ¬ IsInRange (line.Step (step.SetBounds target source length (cap_of recorded)))
-        → (result ≡ 0) × (buffer.new ≡ buffer.old) }
+    ensures { AnswersLine (line.Step (step.SetBounds target source length (cap_of recorded))) buffer.old buffer.new result }
 {
     let Some(target) = target_of(target) else {
         return 0;
@@ -105,10 +97,7 @@ pub extern "C" fn capcheck_line_setboundsexact(
     length: u64,
     recorded: Capability,
 ) -> usize
-    ensures written { IsInRange (line.Step (step.SetBoundsExact target source length (cap_of recorded)))
-        → IsLineAt (line.Step (step.SetBoundsExact target source length (cap_of recorded))) buffer.old buffer.new result }
-    ensures refused { ¬ IsInRange (line.Step (step.SetBoundsExact target source length (cap_of recorded)))
-        → (result ≡ 0) × (buffer.new ≡ buffer.old) }
+    ensures { AnswersLine (line.Step (step.SetBoundsExact target source length (cap_of recorded))) buffer.old buffer.new result }
 {
     let Some(target) = target_of(target) else {
         return 0;
@@ -134,10 +123,7 @@ pub extern "C" fn capcheck_line_setaddr(
     address: u64,
     recorded: Capability,
 ) -> usize
-    ensures written { IsInRange (line.Step (step.SetAddr target source address (cap_of recorded)))
-        → IsLineAt (line.Step (step.SetAddr target source address (cap_of recorded))) buffer.old buffer.new result }
-    ensures refused { ¬ IsInRange (line.Step (step.SetAddr target source address (cap_of recorded)))
-        → (result ≡ 0) × (buffer.new ≡ buffer.old) }
+    ensures { AnswersLine (line.Step (step.SetAddr target source address (cap_of recorded))) buffer.old buffer.new result }
 {
     let Some(target) = target_of(target) else {
         return 0;
@@ -163,10 +149,7 @@ pub extern "C" fn capcheck_line_andperm(
     mask: u64,
     recorded: Capability,
 ) -> usize
-    ensures written { IsInRange (line.Step (step.AndPerm target source mask (cap_of recorded)))
-        → IsLineAt (line.Step (step.AndPerm target source mask (cap_of recorded))) buffer.old buffer.new result }
-    ensures refused { ¬ IsInRange (line.Step (step.AndPerm target source mask (cap_of recorded)))
-        → (result ≡ 0) × (buffer.new ≡ buffer.old) }
+    ensures { AnswersLine (line.Step (step.AndPerm target source mask (cap_of recorded))) buffer.old buffer.new result }
 {
     let Some(target) = target_of(target) else {
         return 0;
@@ -192,10 +175,7 @@ pub extern "C" fn capcheck_line_seal(
     authority: u64,
     recorded: Capability,
 ) -> usize
-    ensures written { IsInRange (line.Step (step.Seal target source authority (cap_of recorded)))
-        → IsLineAt (line.Step (step.Seal target source authority (cap_of recorded))) buffer.old buffer.new result }
-    ensures refused { ¬ IsInRange (line.Step (step.Seal target source authority (cap_of recorded)))
-        → (result ≡ 0) × (buffer.new ≡ buffer.old) }
+    ensures { AnswersLine (line.Step (step.Seal target source authority (cap_of recorded))) buffer.old buffer.new result }
 {
     let Some(target) = target_of(target) else {
         return 0;
@@ -224,10 +204,7 @@ pub extern "C" fn capcheck_line_unseal(
     authority: u64,
     recorded: Capability,
 ) -> usize
-    ensures written { IsInRange (line.Step (step.Unseal target source authority (cap_of recorded)))
-        → IsLineAt (line.Step (step.Unseal target source authority (cap_of recorded))) buffer.old buffer.new result }
-    ensures refused { ¬ IsInRange (line.Step (step.Unseal target source authority (cap_of recorded)))
-        → (result ≡ 0) × (buffer.new ≡ buffer.old) }
+    ensures { AnswersLine (line.Step (step.Unseal target source authority (cap_of recorded))) buffer.old buffer.new result }
 {
     let Some(target) = target_of(target) else {
         return 0;

@@ -2,8 +2,8 @@ use Rattle.std.proofs.Common.{ℕ, ◌≡◌, ◌+◌, ◌*◌, ◌%◌, ◌^◌
 use Rattle.std.proofs.lemmas.Nat.{one_shl}
 use Rattle.std.proofs.lemmas.Bool.{false≢true}
 use Rattle.cap_bounds.specs.Bounds.{cut_exponent_of}
-use Rattle.cap_bounds.proofs.Decoded.{IsWindow-window_start, IsWindow-unique}
-use Rattle.cap_bounds.proofs.Keeping.{KeepsBounds-always, KeepsBounds-not_always, KeepsBounds-margins, KeepsBounds-exact, start_coded}
+use Rattle.cap_bounds.proofs.Decoded.{IsWindow-window_start, IsWindow-unique, window_start_coded}
+use Rattle.cap_bounds.proofs.Keeping.{KeepsBounds-always, KeepsBounds-not_always, KeepsBounds-margins, KeepsBounds-exact}
 use Rattle.cap_bounds.proofs.range.reach.Goals as goal
 
 pub returns-then-cut_exponent-ge-WHOLE_EXPONENT-clause-every : goal.returns-then-cut_exponent-ge-WHOLE_EXPONENT-clause-every
@@ -41,10 +41,10 @@ returns-clause-window c = IsWindow-window_start c.args.word.0
 
 start : goal.returns-clause-start
 start c =
-    c.start_from-start.ensures
-    ∙ start_coded c.args.word.0 c.raw_base.result c.scale_of-cut_exponent.result.cut_exponent c.scale_of-cut_exponent.result.b _
-    (omega (arith, c.if-cut_exponent-ge-WHOLE_EXPONENT.false)) c.scale_of-cut_exponent.ensures.cut_exponent
-    c.scale_of-cut_exponent.ensures.b c.address.ensures c.raw_base.ensures.value
+    c.window_from-start.ensures
+    ∙ ap (λ (x : ℕ). x % 2 ^ 64)
+    (window_start_coded c.args.word.0 c.scale_of-cut_exponent.result.cut_exponent c.scale_of-cut_exponent.result.b c.address.result
+    c.scale_of-cut_exponent.ensures.cut_exponent c.scale_of-cut_exponent.ensures.b c.address.ensures)
 
 pub returns-clause-start : goal.returns-clause-start
 returns-clause-start c = start c
@@ -53,7 +53,7 @@ pub returns-clause-exact : goal.returns-clause-exact
 returns-clause-exact c = λ address fits.
     let e = c.scale_of-cut_exponent.result.cut_exponent in
     let below : e < 50 = c.if-cut_exponent-ge-WHOLE_EXPONENT.false in
-    KeepsBounds-exact c.args.word.0 c.start_from-start.result (1 * 2 ^ (e + 14) % 2 ^ 64) address
+    KeepsBounds-exact c.args.word.0 c.window_from-start.result (1 * 2 ^ (e + 14) % 2 ^ 64) address
     (near c.args.word.0 e c.scale_of-cut_exponent.ensures.cut_exponent below) fits (start c)
     (one_shl (e + 14) 64 (omega arith) ∙ ap (λ (x : ℕ). 2 ^ (x + 14)) c.scale_of-cut_exponent.ensures.cut_exponent)
 
