@@ -1,5 +1,5 @@
 -- The front of some bytes: a line that a line feed ends, more than a line may have, or less than a line.
-use Rattle.std.specs.Prelude.{◌≡◌, ◌≢◌, ℕ, ◌+◌, ◌<◌, ◌≤◌, List, ◌∷◌, ◌++◌, length, take, drop, All}
+use Rattle.std.specs.Prelude.{◌≡◌, ◌≢◌, ℕ, ◌+◌, ◌<◌, ◌≤◌, ◌⊎◌, List, ◌∷◌, ◌++◌, length, take, drop, All}
 use Rattle.cap_log.specs.declared.fronts.Front.{Front}
 use Rattle.cap_log.specs.declared.fronts.Front.TheVariants.{Line, TooLong, Cut}
 
@@ -20,6 +20,13 @@ IsTooLong bytes = (96 ≤ length bytes) × HasNoFeed (take 96 bytes)
 -- the bytes end before a line does (this profile's own)
 abbrev pub IsCut : List ℕ → Type 0
 IsCut bytes = (length bytes ≤ 95) × HasNoFeed bytes
+
+-- the front is too long, or cut, or a whole line of which a fact holds; each with what is said there (this profile's own)
+abbrev pub FrontIs : List ℕ → Type 0 → Type 0 → (List ℕ → Type 0) → Type 0
+FrontIs bytes AtTooLong AtCut AtLine =
+    (IsTooLong bytes × AtTooLong)
+    ⊎ (IsCut bytes × AtCut)
+    ⊎ ((line : List ℕ) × (rest : List ℕ) × IsLine bytes line rest × AtLine line)
 
 -- which of the three a front is; a line is named by its length (this profile's own)
 abbrev pub IsFront : List ℕ → Front → Type 0

@@ -14,3 +14,5 @@ mod ShownLemmas
 mod BeginningLemmas
 mod OneReading
 mod OneVerdict
+mod VectorLemmas
+mod VectorFileLemmas

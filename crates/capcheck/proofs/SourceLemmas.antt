@@ -47,14 +47,14 @@ at_more bytes rest more held now line here = record {
   line_is = here.line_is;
 }
 
-IsLine-more : (bytes line rest more : List ℕ) → IsLine bytes line rest → IsLine (bytes ++ more) line (rest ++ more)
+pub IsLine-more : (bytes line rest more : List ℕ) → IsLine bytes line rest → IsLine (bytes ++ more) line (rest ++ more)
 IsLine-more bytes line rest more h = record {
   whole = ap (λ (l : List ℕ). l ++ more) h.whole ∙ append_assoc line (10 ∷ rest) more;
   one = h.one;
   short = h.short;
 }
 
-IsTooLong-more : (bytes more : List ℕ) → IsTooLong bytes → IsTooLong (bytes ++ more)
+pub IsTooLong-more : (bytes more : List ℕ) → IsTooLong bytes → IsTooLong (bytes ++ more)
 IsTooLong-more bytes more h = (
   omega (arith, h.0, length-append bytes more),
   subst HasNoFeed (sym (take-append-le 96 bytes more h.0)) h.1,

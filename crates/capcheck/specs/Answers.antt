@@ -3,12 +3,15 @@ use Rattle.std.specs.Prelude.{◌≡◌, ℕ, List, Option, Some, None, IfSome}
 use Rattle.cap_bounds.specs.declared.rounding.Rounded.{Rounded}
 use Rattle.cap_bounds.specs.Rounding.{rounded_base, rounded_top, rounded_ie, rounded_exponent}
 use Rattle.capcheck.specs.declared.words.Order.{Order}
-use Rattle.capcheck.specs.declared.words.Order.TheVariants.{Explain, Round, Judge}
+use Rattle.capcheck.specs.declared.words.Order.TheVariants.{Explain, Round, Judge, Vectors}
 use Rattle.capcheck.specs.declared.verdict.Verdict.{Verdict}
 use Rattle.capcheck.specs.declared.verdict.Verdict.TheVariants.{Yes, No}
+use Rattle.capcheck.specs.declared.vectors.VectorVerdict.{VectorVerdict}
+use Rattle.capcheck.specs.declared.vectors.VectorVerdict.TheVariants.{Pass, Fail}
 use Rattle.capcheck.specs.Operands.{SpellsWord, SpellsRequest}
 use Rattle.capcheck.specs.ExplainLines.{explain_lines}
 use Rattle.capcheck.specs.RoundLines.{round_lines}
+use Rattle.capcheck.specs.VectorFiles.{IsVectorVerdict, vector_line}
 use Rattle.capcheck.specs.VerdictLines.{verdict_line}
 use Rattle.capcheck.specs.Verdicts.{IsVerdict}
 
@@ -16,6 +19,11 @@ use Rattle.capcheck.specs.Verdicts.{IsVerdict}
 abbrev pub verdict_status : Verdict → ℕ
 verdict_status (Yes steps roots) = 0
 verdict_status (No line refusal) = 1
+
+-- the exit status of a verdict on a vector file
+abbrev pub vector_status : VectorVerdict → ℕ
+vector_status (Pass lines) = 0
+vector_status (Fail line) = 1
 
 -- the bytes of an input, where they are known
 abbrev pub known_bytes : {R : Type 0} → (R → Option (List ℕ)) → Option R → Option (List ℕ)
@@ -38,6 +46,11 @@ pub record ShowsRounding (base_word length_word text : List ℕ) : Type 0 where
   pub rounding : IsRounding rounded base length
   pub text_is : text ≡ round_lines rounded
 
+-- the text is the line of the verdict on an input as a vector file, and the status is the verdict's
+abbrev pub ShowsCheck : Option (List ℕ) → List ℕ → ℕ → Type 0
+ShowsCheck input text status =
+    (verdict : VectorVerdict) × IfSome input (λ bytes. IsVectorVerdict bytes verdict) × (text ≡ vector_line verdict) × (status ≡ vector_status verdict)
+
 -- the text that an order prints, and its status
 abbrev pub Prints : Option Order → Option (List ℕ) → List ℕ → ℕ → Type 0
 Prints None input text status = ⊥
@@ -45,3 +58,4 @@ Prints (Some (Explain memory tag hex)) input text status = (w : ℕ) × SpellsWo
 Prints (Some (Round base_word length_word)) input text status = ShowsRounding base_word.now length_word.now text × (status ≡ 0)
 Prints (Some (Judge file)) input text status =
     (verdict : Verdict) × IfSome input (λ bytes. IsVerdict bytes verdict) × (text ≡ verdict_line verdict) × (status ≡ verdict_status verdict)
+Prints (Some (Vectors file)) input text status = ShowsCheck input text status

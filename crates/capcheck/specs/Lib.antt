@@ -3,6 +3,8 @@ pub mod Headers
 pub mod Progresses
 pub mod VerdictLines
 pub mod TextLines
+pub mod Vectors
+pub mod VectorFiles
 pub mod RoundLines
 pub mod ExplainLines
 pub mod Verdicts

@@ -8,7 +8,7 @@ use Rattle.cap_log.specs.declared.lines.Mode as modes_module
 use Rattle.cap_log.specs.declared.lines.Mode.TheVariants.{Strict, Clear}
 use Rattle.cap_log.specs.declared.lines.Step as steps_module
 use Rattle.cap_log.specs.Lines.{spelling, IsInRange, Spells}
-use Rattle.cap_log.specs.Front.{IsLine, IsTooLong, IsCut}
+use Rattle.cap_log.specs.Front.{FrontIs}
 use Rattle.cap_ops.specs.Tests.{first_of}
 use Rattle.cap_machine.specs.declared.refusal.Refusal.{Refusal}
 use Rattle.cap_machine.specs.declared.refusal.Refusal.TheVariants.{BadHeader, LineTooLong, BadLine, Misplaced, Truncated, WrongCount, BadMode}
@@ -122,9 +122,7 @@ RefusesWhole (Whole rules roots steps) bytes refusal = ⊥
 -- what follows a beginning is refused: its front is too long, or cut, or a whole line that is refused
 abbrev pub RefusesFront : Beginning → List ℕ → Refusal → Type 0
 RefusesFront beginning rest refusal =
-    (IsTooLong rest × (refusal ≡ LineTooLong))
-    ⊎ (IsCut rest × (refusal ≡ Truncated))
-    ⊎ ((line : List ℕ) × (more : List ℕ) × IsLine rest line more × RefusesWhole beginning line refusal)
+    FrontIs rest (refusal ≡ LineTooLong) (refusal ≡ Truncated) (λ line. RefusesWhole beginning line refusal)
 
 -- what follows a beginning is refused; after the end line any byte is misplaced
 abbrev pub Refuses : Beginning → List ℕ → Refusal → Type 0

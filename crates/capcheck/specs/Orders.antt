@@ -1,7 +1,7 @@
 -- What the words after the program's name ask for.
 use Rattle.std.specs.Prelude.{◌≡◌, ℕ, Bool, true, false, not, ◌==◌, List, [], ◌∷◌, ◌++◌, codes, IsTrue, Some, None}
 use Rattle.capcheck.specs.declared.words.Order.{Order}
-use Rattle.capcheck.specs.declared.words.Order.TheVariants.{Explain, Round, Judge}
+use Rattle.capcheck.specs.declared.words.Order.TheVariants.{Explain, Round, Judge, Vectors}
 
 -- whether a word is an operand and no option: it doesn't begin with a minus sign (this profile's own)
 abbrev pub is_operand : List ℕ → Bool
@@ -21,3 +21,4 @@ Asks words (Round base length) =
     (words ≡ codes "round" ∷ base.now ∷ length.now ∷ []) × IsTrue (is_operand base.now) × IsTrue (is_operand length.now)
 Asks words (Judge None) = words ≡ codes "judge" ∷ []
 Asks words (Judge (Some file)) = (words ≡ codes "judge" ∷ file.now ∷ []) × IsTrue (is_operand file.now)
+Asks words (Vectors file) = (words ≡ codes "vectors" ∷ file.now ∷ []) × IsTrue (is_operand file.now)

@@ -120,7 +120,7 @@ fn type_name(otype: u32) -> &'static str
 }
 
 // The bytes of a word in memory, in order of address: two digits for each.
-fn memory_text(word: Word) -> [u8; 32]
+pub(crate) fn memory_text(word: Word) -> [u8; 32]
     ensures { result ≡ bytes_text (memory_of word.0) }
 {
     let mut text = [0u8; 32];

@@ -1,14 +1,16 @@
-//! Explains CHERI capabilities, rounds requests for bounds, and judges logs of what a program did with
-//! capabilities.
+//! Explains CHERI capabilities, rounds requests for bounds, judges logs of what a program did with
+//! capabilities, and checks vector files.
 #![tactic(auto)]
 
 mod buffers;
+mod checking;
 pub mod explain_lines;
 pub mod faults;
 pub mod headers;
 mod inputs;
 pub mod judging;
 pub mod laws;
+mod outputs;
 mod progress;
 pub mod reporting;
 pub mod round_lines;
@@ -16,6 +18,7 @@ pub mod running;
 #[cfg(test)]
 mod tests;
 mod text_lines;
+pub mod vectors;
 pub mod verdict;
 pub mod verdict_lines;
 pub mod words;
@@ -68,6 +71,10 @@ fn answer(rt: &HostRuntime) -> Result<u8, AllocError> {
     let order = read_words(words.as_slice());
     Ok(match order {
         Some(Order::Judge { file: Some(path) }) => {
+            let input = File::open(rt, path).ok();
+            run(rt.alloc(), order, input, &mut rt.stdout(), &mut rt.stderr())
+        }
+        Some(Order::Vectors { file: path }) => {
             let input = File::open(rt, path).ok();
             run(rt.alloc(), order, input, &mut rt.stdout(), &mut rt.stderr())
         }

@@ -9,7 +9,9 @@ ghost use Rattle.capcheck.specs.declared.words.Order.TheVariants.{Explain, Judge
 
 use crate::explain_lines::explain_text;
 use crate::faults::Fault;
+use crate::checking::check_input;
 use crate::inputs::judge_reader;
+use crate::outputs::is_written;
 use crate::round_lines::round_text;
 use crate::words::Order;
 use crate::words::operands::{read_capability, read_request};
@@ -66,6 +68,7 @@ fn follow<R: Read + Drop, O: Write>(
         Some(Order::Explain { memory, tag, hex }) => show_explanation(memory, tag, hex, out),
         Some(Order::Round { base, length }) => show_rounding(base, length, out),
         Some(Order::Judge { file: _ }) => judge_input(alloc, input, out),
+        Some(Order::Vectors { file: _ }) => check_input(input, out),
     }
 }
 
@@ -130,11 +133,4 @@ fn show<O: Write>(text: &[u8], out: &mut O) -> Result<u8, Fault>
     } else {
         Err(Fault::Write)
     }
-}
-
-// Writes a text, and answers whether it and what stood before it were handed on.
-fn is_written<O: Write>(text: &[u8], out: &mut O) -> bool
-    ensures { result ≡ true → Appends (O.contents out.old) (O.contents out.new) text.now }
-{
-    out.write_all(text).is_ok() && out.flush().is_ok()
 }

@@ -27,4 +27,9 @@ pub enum Order<'a> {
         /// The file's name, which does not begin with `-`.
         file: Option<&'a str>,
     },
+    /// `vectors FILE`: check a vector file.
+    Vectors {
+        /// The file's name, which does not begin with `-`.
+        file: &'a str,
+    },
 }

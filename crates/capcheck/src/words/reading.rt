@@ -19,6 +19,8 @@ pub fn read_words<'a>(words: &[&'a str]) -> Option<Order<'a>>
         read_round(operands)
     } else if *command == "judge" {
         read_judge(operands)
+    } else if *command == "vectors" {
+        read_vectors(operands)
     } else {
         None
     }
@@ -98,6 +100,17 @@ fn read_judge<'a>(operands: &[&'a str]) -> Option<Order<'a>>
                 None
             }
         }
+        _ => None,
+    }
+}
+
+// Reads the words after `vectors`.
+fn read_vectors<'a>(operands: &[&'a str]) -> Option<Order<'a>>
+    ensures some { IfSome result (λ order. Asks (codes "vectors" ∷ map (λ word. word.now) operands.now) order) }
+    ensures none { IfNone result ((order : Order) → Asks (codes "vectors" ∷ map (λ word. word.now) operands.now) order → ⊥) }
+{
+    match operands {
+        [file] if is_operand(file) => Some(Order::Vectors { file: *file }),
         _ => None,
     }
 }
