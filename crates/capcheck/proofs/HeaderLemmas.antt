@@ -1,66 +1,95 @@
 -- The header of a log, read.
-use Rattle.std.proofs.Common.{◌≡◌, ◌≢◌, ℕ, ◌+◌, ◌-◌, ◌<◌, ◌≤◌, inl, inr, false, List, [], ◌∷◌, ◌++◌, length, take, drop, refl, sym, ap, ◌∙◌, append-nil, append_assoc, length-drop, arith, Some, None, Option, IfSome, IfNone, Bool}
+use Rattle.std.proofs.Common.{◌≡◌, ◌≢◌, ℕ, ◌+◌, inl, inr, false, List, [], ◌∷◌, ◌++◌, length, refl, sym, ap, subst, ◌∙◌, append-nil, append_assoc, arith, Ok, None, Result}
+use Rattle.std.proofs.lemmas.Bool.{false≢true}
 use Rattle.cap_log.specs.declared.lines.Line.{Line}
-use Rattle.cap_log.specs.declared.lines.Line.TheVariants as lines
+use Rattle.cap_log.specs.declared.lines.Line.TheVariants as line_kinds
 use Rattle.cap_log.specs.declared.lines.Mode.{Mode}
 use Rattle.cap_log.specs.declared.lines.Mode.TheVariants as modes
-use Rattle.cap_log.specs.Lines.{Spells, spelling, IsVersion}
+use Rattle.cap_log.specs.Lines.{Spells, spelling}
 use Rattle.cap_log.specs.Front.{IsLine}
 use Rattle.cap_log.proofs.SpellingLemmas.{one_spelling}
-use Rattle.std.proofs.lemmas.Bool.{false≢true}
-use Rattle.std.proofs.Math.Seq.{take-length}
-use Rattle.cap_machine.specs.declared.refusal.Refusal.{Refusal}
-use Rattle.cap_machine.specs.declared.refusal.Refusal.TheVariants.{BadHeader, BadMode}
+use Rattle.cap_log.specs.Takings.{Answered, kept, over_of}
+use Rattle.cap_log.specs.declared.nexts.Next.{Next}
+use Rattle.cap_log.specs.declared.sources.PullFault.{PullFault}
+use Rattle.cap_log.specs.declared.taking.Lines.{Lines}
+use Rattle.cap_log.specs.declared.nexts.Next.TheVariants as nexts
 use Rattle.cap_machine.specs.declared.rules.Rules.{Rules}
 use Rattle.cap_machine.specs.declared.rules.Rules.TheVariants.{One, TwoStrict, TwoClear}
 use Rattle.cap_machine.specs.Helds.{Held}
-use Rattle.capcheck.specs.Logs.{Beginning, Nothing, NoMode, Body, RefusesFront, RefusesWhole, IsFirstFault, header_lines, lines_of, text_of, has_form, SpellsBy}
-use Rattle.capcheck.specs.Headers.{HasHeader, IsFrontFault, rules_of}
+use Rattle.capcheck.specs.Logs.{Beginning, Nothing, NoMode, Body, header_lines, lines_of, text_of, has_form, SpellsBy}
+use Rattle.capcheck.specs.Headers.{ReadsHeader, rules_of}
+use Rattle.capcheck.specs.declared.verdict.Verdict.{Verdict}
+use Rattle.capcheck.specs.declared.verdict.JudgeFault.{JudgeFault}
+use Rattle.capcheck.specs.Judgings.{IsBehind, Judged}
 use Rattle.capcheck.specs.Progresses.{StandsFor, IsAt}
-
--- a front that is too long or cut
-pub front_fault : (beginning : Beginning) (rest : List ℕ) (refusal : Refusal) → IsFrontFault rest refusal → RefusesFront beginning rest refusal
-front_fault beginning rest refusal (inl long) = inl long
-front_fault beginning rest refusal (inr cut) = inr (inl cut)
-
--- the first line is at fault
-pub first_fault : (bytes : List ℕ) (refusal : Refusal) → RefusesFront Nothing bytes refusal → IsFirstFault bytes 1 refusal
-first_fault bytes refusal refused =
-    record { beginning = Nothing; rest = bytes; bytes_are = refl; accepted = tt; number_is = refl; refused = refused }
-
-one_line_text : (line : Line) (rest : List ℕ) → text_of (line ∷ []) ++ rest ≡ spelling line ++ 10 ∷ rest
-one_line_text line rest = simp (append_assoc, append-nil)
-
--- a line that is read is the only one
-pub only_line : (bytes : List ℕ) (a b : Line) → Spells bytes a → Spells bytes b → a ≡ b
-only_line bytes a b spells other = one_spelling bytes a b spells other
+use Rattle.capcheck.proofs.JudgeLemmas.{text_push}
+use Rattle.capcheck.proofs.SourceLemmas.{Meets, meets}
 
 -- a line that is read and has no form is no line by the rules
 pub no_form : (rules_are : Rules) (bytes : List ℕ) (line : Line) → Spells bytes line → has_form rules_are line ≡ false → (other : Line) → SpellsBy rules_are bytes other → ⊥
 no_form rules_are bytes line spells formless other by =
     false≢true (sym formless ∙ ap (has_form rules_are) (one_spelling bytes line other spells by.0) ∙ by.1)
 
--- the second line, after the version line of version 2
-pub second_fault : (bytes text rest : List ℕ) (refusal : Refusal) → IsLine bytes text rest → Spells text (lines.Version 2) → RefusesFront NoMode rest refusal → IsFirstFault bytes 2 refusal
-second_fault bytes text rest refusal whole spells refused = record {
-  beginning = NoMode;
-  rest = rest;
-  bytes_are = whole.whole ∙ ap (λ (t : List ℕ). t ++ 10 ∷ rest) spells.1 ∙ sym (one_line_text (lines.Version 2) rest);
-  accepted = tt;
-  number_is = refl;
-  refused = refused;
-}
+-- at the version line
+pub at_version : {S : Type 0} (gave : S → S → List ℕ → Type 0) (ended : S → _) (old new : S) (before : List ℕ) (lines : Lines) (answer shown : Result Next PullFault)
+    → ((x y z : S) (xs ys : List ℕ) → gave x y xs → gave y z ys → gave x z (xs ++ ys)) → gave old old [] → before ≡ []
+    → Answered gave ended old new before lines answer → answer ≡ shown → Meets gave ended old new Nothing lines shown
+at_version gave ended old new before lines answer shown joined nothing none answered same =
+    meets gave ended old old new Nothing before lines answer shown joined ([], nothing, record { bytes_are = sym none; accepted = tt }) answered same
 
--- what is left of some bytes, as a slice
-pub tail_slice : (n : ℕ) (bytes : List ℕ) → take (length bytes - n) (drop n bytes) ≡ drop n bytes
-tail_slice n bytes = ap (λ (k : ℕ). take k (drop n bytes)) (sym (length-drop n bytes)) ∙ take-length (drop n bytes)
+-- one line more behind a beginning
+one_more : {S : Type 0} {gave : S → S → List ℕ → Type 0} {ended : S → _} {old new : S} {lines : Lines} (beginning : Beginning) (line : Line) (text : _)
+    → (m : Meets gave ended old new beginning lines (Ok (nexts.Line text))) → text.now ≡ spelling line → m.given ≡ text_of (lines_of beginning ++ line ∷ []) ++ kept lines
+one_more {S} {gave} {ended} {old} {new} {lines} beginning line text m spelled =
+    m.here.bytes_are
+    ∙ ap (λ (r : List ℕ). text_of (lines_of beginning) ++ r) (m.next.0.whole ∙ ap (λ (t : List ℕ). t ++ 10 ∷ kept lines) spelled)
+    ∙ sym (text_push (lines_of beginning) line (kept lines))
+
+-- a version that is not 1 is 2
+version_two : (text : List ℕ) (version : ℕ) → Spells text (line_kinds.Version version) → version ≢ 1 → Spells text (line_kinds.Version 2)
+version_two text version spells other = elim (spells.0) [
+  | inl one ↦ absurd (other one)
+  | inr two ↦ subst (λ (v : ℕ). Spells text (line_kinds.Version v)) two spells
+]
+
+-- at the mode line
+pub at_mode : {S : Type 0} (gave : S → S → List ℕ → Type 0) (ended : S → _) (a b c : S) (first second : Lines) (text : _) (version : ℕ) (answer shown : Result Next PullFault)
+    → ((x y z : S) (xs ys : List ℕ) → gave x y xs → gave y z ys → gave x z (xs ++ ys)) → Meets gave ended a b Nothing first (Ok (nexts.Line text))
+    → Spells text.now (line_kinds.Version version) → version ≢ 1 → (over_of first ≡ None → Answered gave ended b c (kept first) second answer) → answer ≡ shown
+    → Meets gave ended a c NoMode second shown
+at_mode gave ended a b c first second text version answer shown joined m spells other answered same =
+    let two = version_two text.now version spells other in
+    let here : IsBehind m.given NoMode (kept first) = record { bytes_are = one_more Nothing (line_kinds.Version 2) text m two.1; accepted = tt } in
+    meets gave ended a b c NoMode (kept first) second answer shown joined (m.given, m.gives, here) (answered m.next.1) same
+
+-- behind the header of version 1
+pub read_one : {S : Type 0} {gave : S → S → List ℕ → Type 0} {ended : S → _} {old new : S} {lines : Lines} (text : _)
+    → Meets gave ended old new Nothing lines (Ok (nexts.Line text)) → Spells text.now (line_kinds.Version 1) → ReadsHeader gave old new lines One
+read_one text m spells = record { given = m.given; gives = m.gives; text = one_more Nothing (line_kinds.Version 1) text m spells.1; more = m.next.1 }
+
+-- behind the header of version 2
+pub read_two : {S : Type 0} {gave : S → S → List ℕ → Type 0} {ended : S → _} {old new : S} {lines : Lines} (text : _) (mode : Mode)
+    → Meets gave ended old new NoMode lines (Ok (nexts.Line text)) → Spells text.now (line_kinds.Mode mode) → ReadsHeader gave old new lines (rules_of mode)
+read_two text modes.Strict m spells = record { given = m.given; gives = m.gives; text = one_more NoMode (line_kinds.Mode modes.Strict) text m spells.1; more = m.next.1 }
+read_two text modes.Clear m spells = record { given = m.given; gives = m.gives; text = one_more NoMode (line_kinds.Mode modes.Clear) text m spells.1; more = m.next.1 }
+
+-- an answer is what it was shown to be
+pub as_shown : {S : Type 0} (gave : S → S → List ℕ → Type 0) (ended : S → _) (old new : S) (result shown : Result Verdict JudgeFault) → result ≡ shown
+    → Judged gave ended old new shown → Judged gave ended old new result
+as_shown gave ended old new result shown is judged = subst (λ (r : Result Verdict JudgeFault). Judged gave ended old new r) (sym is) judged
 
 -- the judge is behind a header
-pub at_body : (bytes : List ℕ) (rules_are : Rules) (size lines_read : ℕ) (held : Held) (now : Bool) → HasHeader bytes rules_are size lines_read → StandsFor held now (Body rules_are [] [])
-    → IsAt bytes held now (drop size bytes) (lines_read + 1)
-at_body bytes rules_are size lines_read held now header stands = record {
-  beginning = Body rules_are [] [];
-  stands = stands;
-  bytes_are = header.text ∙ ap (λ (ls : List Line). text_of ls ++ drop size bytes) (sym (append-nil (header_lines rules_are)));
-  line_is = let n = header.lines_are in let e = ap length (append-nil (header_lines rules_are)) in omega arith;
-}
+pub at_body : {S : Type 0} (gave : S → S → List ℕ → Type 0) (old new : S) (lines_are : Lines) (rules_are : Rules) (held : Held) (now : _) (line : ℕ)
+    → ReadsHeader gave old new lines_are rules_are → StandsFor held now (Body rules_are [] []) → line ≡ length (header_lines rules_are) + 1
+    → (given : List ℕ) × gave old new given × IsAt given held now (kept lines_are) line
+at_body gave old new lines_are rules_are held now line header stands number =
+    let same = append-nil (header_lines rules_are) in (
+      header.given,
+      header.gives,
+      record {
+        beginning = Body rules_are [] [];
+        stands = stands;
+        bytes_are = header.text ∙ ap (λ (ls : List Line). text_of ls ++ kept lines_are) (sym same);
+        line_is = number ∙ ap (λ (n : ℕ). n + 1) (ap length (sym same));
+      },
+    )

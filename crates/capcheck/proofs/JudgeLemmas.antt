@@ -1,5 +1,5 @@
 -- Where the judge is, and what it may answer there.
-use Rattle.std.proofs.Common.{◌≡◌, ◌≢◌, ℕ, zero, suc, ◌+◌, inl, inr, Bool, true, false, List, [], ◌∷◌, ◌++◌, length, map, refl, sym, ap, subst, ◌∙◌, append-nil, append_assoc, arith, Result, Ok, Err, IsOk, IfOk, IfErr, MatchResult}
+use Rattle.std.proofs.Common.{◌≡◌, ◌≢◌, ℕ, zero, suc, ◌+◌, ◌<◌, ◌^◌, inl, inr, Bool, true, false, List, [], ◌∷◌, ◌++◌, length, map, refl, sym, ap, subst, ◌∙◌, append-nil, append_assoc, arith, Result, Ok, Err, IsOk, IfOk, IfErr, MatchResult}
 use Rattle.std.specs.List.{AllByRecursion}
 use Rattle.std.proofs.lemmas.Grind.{flat_map-append}
 use Rattle.std.proofs.lemmas.Bool.{false≢true}
@@ -27,10 +27,11 @@ use Rattle.capcheck.specs.declared.verdict.Verdict.{Verdict}
 use Rattle.capcheck.specs.declared.verdict.Verdict.TheVariants.{Yes, No}
 use Rattle.capcheck.specs.declared.verdict.JudgeFault.{JudgeFault}
 use Rattle.capcheck.specs.declared.verdict.JudgeFault.TheVariants as faults
-use Rattle.capcheck.specs.Logs.{Beginning, Nothing, NoMode, Body, Whole, header_lines, lines_of, text_of, account_after, IsAccepted, RefusesFront, Refuses, IsFirstFault, WantsMemory, MayLackMemory, NamesNoGranules, named_by_line}
+use Rattle.capcheck.specs.Logs.{Beginning, Nothing, NoMode, Body, Whole, header_lines, body_lines, lines_of, text_of, account_after, IsAccepted, RefusesFront, Refuses, IsFirstFault, WantsMemory, MayLackMemory, NamesNoGranules, named_by_line}
 use Rattle.capcheck.specs.Verdicts.{answer_at, IsVerdict, IsYes, IsGuarded, GuardsAuthority, IsFault}
+use Rattle.capcheck.specs.Judgings.{IsBehind}
 use Rattle.capcheck.specs.Progresses.{StandsFor, GoesOn, EndsNext, IsAt}
-use Rattle.capcheck.proofs.LogLemmas.{length-push}
+use Rattle.capcheck.proofs.LogLemmas.{AllByRecursion-append, length-push}
 
 -- one line more
 pub text_push : (lines : List Line) (line : Line) (rest : List ℕ)
@@ -55,6 +56,13 @@ goes_on bytes rest text more old new was now line here whole on =
       line_is = omega (arith, here.line_is, ap length next.2, length-push (lines_of here.beginning) on.0);
     }
 
+-- a beginning that goes on: it has no end line
+abbrev pub IsUnended : Beginning → Type 0
+IsUnended Nothing = Unit {0}
+IsUnended NoMode = Unit {0}
+IsUnended (Body rules_are roots steps) = Unit {0}
+IsUnended (Whole rules_are roots steps) = ⊥
+
 -- what the progress stands for is accepted
 accepted : (beginning : Beginning) (held : Held) (now : Bool) → StandsFor held now beginning → IsAccepted beginning
 accepted Nothing held now stands = tt
@@ -62,37 +70,35 @@ accepted NoMode held now stands = tt
 accepted (Body rules_are roots steps) held now stands = stands.1.runs
 accepted (Whole rules_are roots steps) held now stands = stands.1.runs
 
--- the line where the judge is can be refused by its front
-front_refused : (beginning : Beginning) (held : Held) (now : Bool) (rest : List ℕ) (refusal : Refusal) → StandsFor held now beginning → now ≡ false
-    → RefusesFront beginning rest refusal → Refuses beginning rest refusal
-front_refused Nothing held now rest refusal stands unended refused = refused
-front_refused NoMode held now rest refusal stands unended refused = refused
-front_refused (Body rules_are roots steps) held now rest refusal stands unended refused = refused
-front_refused (Whole rules_are roots steps) held now rest refusal stands unended refused = absurd (false≢true (sym unended ∙ stands.0))
+unended : (beginning : Beginning) (held : Held) (now : Bool) → StandsFor held now beginning → now ≡ false → IsUnended beginning
+unended Nothing held now stands is = tt
+unended NoMode held now stands is = tt
+unended (Body rules_are roots steps) held now stands is = tt
+unended (Whole rules_are roots steps) held now stands is = absurd (false≢true (sym is ∙ stands.0))
 
-pub refused_here : (bytes rest : List ℕ) (held : Held) (now : Bool) (line : ℕ) (refusal : Refusal) (here : IsAt bytes held now rest line) → now ≡ false
-    → RefusesFront here.beginning rest refusal → IsFirstFault bytes line refusal
-refused_here bytes rest held now line refusal here unended refused = record {
-  beginning = here.beginning;
+pub behind : (bytes rest : List ℕ) (held : Held) (now : Bool) (line : ℕ) (here : IsAt bytes held now rest line) → IsBehind bytes here.beginning rest
+behind bytes rest held now line here = record { bytes_are = here.bytes_are; accepted = accepted here.beginning held now here.stands }
+
+pub unended_here : (bytes rest : List ℕ) (held : Held) (now : Bool) (line : ℕ) (here : IsAt bytes held now rest line) → now ≡ false → IsUnended here.beginning
+unended_here bytes rest held now line here is = unended here.beginning held now here.stands is
+
+-- the line behind a beginning can be refused by its front
+front_refused : (beginning : Beginning) (rest : List ℕ) (refusal : Refusal) → IsUnended beginning → RefusesFront beginning rest refusal → Refuses beginning rest refusal
+front_refused Nothing rest refusal unended refused = refused
+front_refused NoMode rest refusal unended refused = refused
+front_refused (Body rules_are roots steps) rest refusal unended refused = refused
+front_refused (Whole rules_are roots steps) rest refusal unended refused = absurd unended
+
+pub refused_behind : (bytes rest : List ℕ) (beginning : Beginning) (line : ℕ) (refusal : Refusal) → IsBehind bytes beginning rest → line ≡ length (lines_of beginning) + 1
+    → IsUnended beginning → RefusesFront beginning rest refusal → IsFirstFault bytes line refusal
+refused_behind bytes rest beginning line refusal here number unended refused = record {
+  beginning = beginning;
   rest = rest;
   bytes_are = here.bytes_are;
-  accepted = accepted here.beginning held now here.stands;
-  number_is = here.line_is;
-  refused = front_refused here.beginning held now rest refusal here.stands unended refused;
+  accepted = here.accepted;
+  number_is = number;
+  refused = front_refused beginning rest refusal unended refused;
 }
-
-pub too_long : (bytes rest : List ℕ) (held : Held) (now : Bool) (line : ℕ) → IsAt bytes held now rest line → now ≡ false → IsTooLong rest
-    → IsFirstFault bytes line LineTooLong
-too_long bytes rest held now line here unended front = refused_here bytes rest held now line LineTooLong here unended (inl (front, refl))
-
-pub cut : (bytes rest : List ℕ) (held : Held) (now : Bool) (line : ℕ) → IsAt bytes held now rest line → now ≡ false → IsCut rest
-    → IsFirstFault bytes line Truncated
-cut bytes rest held now line here unended front = refused_here bytes rest held now line Truncated here unended (inr (inl (front, refl)))
-
-pub line_refused : (bytes rest text more : List ℕ) (held : Held) (now : Bool) (line : ℕ) (refusal : Refusal) → IsAt bytes held now rest line → now ≡ false
-    → IsLine rest text more → EndsNext held now text (Refused refusal) → IsFirstFault bytes line refusal
-line_refused bytes rest text more held now line refusal here unended whole refused =
-    refused_here bytes rest held now line refusal here unended (inr (inr (text, more, whole, refused here.beginning here.stands)))
 
 -- a line that wants memory
 pub wants_memory : (bytes rest text more : List ℕ) (held : Held) (now : Bool) (line : ℕ) → IsAt bytes held now rest line
@@ -120,9 +126,20 @@ wants_none (Body rules_are roots steps) text wants none =
     not_new account (named_by_line account wants.line) (none wants.line account wants.spelled.0) wants.first
 wants_none (Whole rules_are roots steps) text wants none = wants
 
-no_lack : (bytes : List ℕ) → NamesNoGranules bytes → MayLackMemory bytes → ⊥
+-- the lines of an accepted beginning are in range
+in_range : (beginning : Beginning) → IsAccepted beginning → AllByRecursion IsInRange (lines_of beginning)
+in_range Nothing accepted = tt
+in_range NoMode accepted = (inr refl, tt)
+in_range (Body rules_are roots steps) accepted = accepted.grammar
+in_range (Whole rules_are roots steps) accepted =
+    let few = accepted.few_steps in
+    let end : length steps < 2 ^ 32 = omega arith in
+    AllByRecursion-append IsInRange (body_lines rules_are roots steps) (lines.End (length steps) ∷ []) accepted.grammar (end, tt)
+
+pub no_lack : (bytes : List ℕ) → NamesNoGranules bytes → MayLackMemory bytes → ⊥
 no_lack bytes none lack =
-    wants_none lack.beginning lack.line lack.wants (λ line account spelled. none (lines_of lack.beginning) lack.line lack.more line account lack.bytes_are spelled)
+    wants_none lack.beginning lack.line lack.wants
+    (λ line account spelled. none (lines_of lack.beginning) lack.line lack.more line account (in_range lack.beginning lack.accepted) lack.bytes_are spelled)
 
 -- a log without lines that name granules has a verdict
 pub answered : (bytes : List ℕ) (result : Result Verdict JudgeFault) → IfErr result (IsFault bytes) → NamesNoGranules bytes → IsOk result
@@ -168,20 +185,20 @@ misplaced bytes rest held now line here ended more = record {
 }
 
 -- the steps of lines in range are in range
-steps_in_range : (roots : List DeclaredRoot) (made : List Step)
+pub steps_in_range : (roots : List DeclaredRoot) (made : List Step)
     → AllByRecursion IsInRange (map (λ (root : DeclaredRoot). lines.Root root.place root.word) roots ++ map lines.Step made) → AllByRecursion IsStepInRange made
 steps_in_range [] [] h = tt
 steps_in_range [] (step ∷ made) h = (h.0, steps_in_range [] made h.1)
 steps_in_range (root ∷ roots) made h = steps_in_range roots made h.1
 
 -- sound roots, one by one
-are_sound : (roots : List DeclaredRoot) → AllByRecursion (λ (root : DeclaredRoot). IsSound root.word.0) roots → AreSound roots
+pub are_sound : (roots : List DeclaredRoot) → AllByRecursion (λ (root : DeclaredRoot). IsSound root.word.0) roots → AreSound roots
 are_sound [] all root there = absurd (omega (arith, there.1))
 are_sound (first ∷ roots) all root (zero, below, is) = subst (λ (r : DeclaredRoot). IsSound r.word.0) is all.0
 are_sound (first ∷ roots) all root (suc place, below, is) = are_sound roots all.1 root (place, omega arith, is)
 
 -- what holds of each line of a log holds of those behind its header
-behind_header : (rules_are : Rules) (lines : List Line) → AllByRecursion IsInRange (header_lines rules_are ++ lines) → AllByRecursion IsInRange lines
+pub behind_header : (rules_are : Rules) (lines : List Line) → AllByRecursion IsInRange (header_lines rules_are ++ lines) → AllByRecursion IsInRange lines
 behind_header One lines all = all.1
 behind_header TwoStrict lines all = all.1.1
 behind_header TwoClear lines all = all.1.1
@@ -201,30 +218,10 @@ guarded grows inside bytes = record {
       inside rules_are roots made states (are_sound roots runs.sound) (steps_in_range roots made (behind_header rules_are _ runs.grammar)) run;
 }
 
-guards : (bytes : List ℕ) → IsGuarded bytes → (verdict : Verdict) → GuardsAuthority bytes verdict
+pub guards : (bytes : List ℕ) → IsGuarded bytes → (verdict : Verdict) → GuardsAuthority bytes verdict
 guards bytes all (Yes steps roots) = all
 guards bytes all (No line refusal) = tt
-
-half_ok : (answer : Result Verdict JudgeFault) (P : Verdict → Type 0) (Q : JudgeFault → Type 0) → MatchResult answer P Q → IfOk answer P
-half_ok (Ok verdict) P Q both = both
-half_ok (Err fault) P Q both = tt
-
-half_err : (answer : Result Verdict JudgeFault) (P : Verdict → Type 0) (Q : JudgeFault → Type 0) → MatchResult answer P Q → IfErr answer Q
-half_err (Ok verdict) P Q both = tt
-half_err (Err fault) P Q both = both
 
 pub guards_all : (bytes : List ℕ) → IsGuarded bytes → (result : Result Verdict JudgeFault) → IfOk result (GuardsAuthority bytes)
 guards_all bytes all (Ok verdict) = guards bytes all verdict
 guards_all bytes all (Err fault) = tt
-
--- a line that is not taken
-pub line_ended : (bytes rest text more : List ℕ) (held : Held) (now : Bool) (line : ℕ) (end : StepEnd) → IsAt bytes held now rest line → now ≡ false
-    → IsLine rest text more → EndsNext held now text end → MatchResult (answer_at line end) (IsVerdict bytes) (IsFault bytes)
-line_ended bytes rest text more held now line (Refused refusal) here unended whole ends = line_refused bytes rest text more held now line refusal here unended whole ends
-line_ended bytes rest text more held now line NoMemory here unended whole ends = wants_memory bytes rest text more held now line here whole ends
-
-pub ok_half : (result answer : Result Verdict JudgeFault) (P : Verdict → Type 0) (Q : JudgeFault → Type 0) → result ≡ answer → MatchResult answer P Q → IfOk result P
-ok_half result answer P Q same both = subst (λ (r : Result Verdict JudgeFault). IfOk r P) (sym same) (half_ok answer P Q both)
-
-pub err_half : (result answer : Result Verdict JudgeFault) (P : Verdict → Type 0) (Q : JudgeFault → Type 0) → result ≡ answer → MatchResult answer P Q → IfErr result Q
-err_half result answer P Q same both = subst (λ (r : Result Verdict JudgeFault). IfErr r Q) (sym same) (half_err answer P Q both)

@@ -1,10 +1,9 @@
--- What the header of a log says.
-use Rattle.std.specs.Prelude.{◌≡◌, ℕ, ◌≤◌, ◌⊎◌, List, ◌++◌, length, drop}
+-- What the header of a log says, and where a judge is behind it (this profile's own).
+use Rattle.std.specs.Prelude.{◌≡◌, ℕ, ◌==◌, if◌then◌else◌, List, [], ◌++◌, None}
 use Rattle.cap_log.specs.declared.lines.Mode as modes_module
 use Rattle.cap_log.specs.declared.lines.Mode.TheVariants.{Strict, Clear}
-use Rattle.cap_log.specs.Front.{IsTooLong, IsCut}
-use Rattle.cap_machine.specs.declared.refusal.Refusal.{Refusal}
-use Rattle.cap_machine.specs.declared.refusal.Refusal.TheVariants.{LineTooLong, Truncated}
+use Rattle.cap_log.specs.declared.taking.Lines.{Lines}
+use Rattle.cap_log.specs.Takings.{kept, over_of}
 use Rattle.cap_machine.specs.declared.rules.Rules.{Rules}
 use Rattle.cap_machine.specs.declared.rules.Rules.TheVariants.{TwoStrict, TwoClear}
 use Rattle.capcheck.specs.Logs.{header_lines, text_of}
@@ -14,13 +13,9 @@ abbrev pub rules_of : modes_module.Mode → Rules
 rules_of Strict = TwoStrict
 rules_of Clear = TwoClear
 
--- the bytes begin with the header of these rules, so many bytes and so many lines
-pub record HasHeader (bytes : List ℕ) (rules_are : Rules) (size lines : ℕ) : Type 0 where
-  pub inside : size ≤ length bytes
-  pub text : bytes ≡ text_of (header_lines rules_are) ++ drop size bytes
-  pub few : lines ≤ size
-  pub lines_are : lines ≡ length (header_lines rules_are)
-
--- a line's front is too long, or cut
-abbrev pub IsFrontFault : List ℕ → Refusal → Type 0
-IsFrontFault bytes refusal = (IsTooLong bytes × (refusal ≡ LineTooLong)) ⊎ (IsCut bytes × (refusal ≡ Truncated))
+-- the bytes that the source gave in the call are the header of these rules, and what the lines kept
+pub record ReadsHeader {S : Type 0} (gave : S → S → List ℕ → Type 0) (old new : S) (lines : Lines) (rules : Rules) : Type 0 where
+  pub given : List ℕ
+  pub gives : gave old new given
+  pub text : given ≡ text_of (header_lines rules) ++ kept lines
+  pub more : over_of lines ≡ None

@@ -6,6 +6,10 @@ pub mod TextLines
 pub mod RoundLines
 pub mod ExplainLines
 pub mod Verdicts
+pub mod Judgings
+pub mod Reports
 pub mod Orders
 pub mod Operands
 pub mod Statuses
+pub mod Answers
+pub mod Doings

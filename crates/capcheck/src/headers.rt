@@ -1,77 +1,75 @@
 //! The header of a log: its version line, and for version 2 its mode line.
 
-ghost use Rattle.std.specs.Prelude.{◌≡◌, ◌≤◌, ◌<◌, ◌+◌, ◌++◌, ℕ, length, take, drop, MatchResult, IfSome, IfNone};
-ghost use Rattle.cap_log.specs.Front.{IsLine};
+ghost use Rattle.std.specs.Prelude.{◌≡◌, ◌≢◌, ◌+◌, ℕ, [], length, Ok, Err, None, MatchResult, IfSome, IfNone};
 ghost use Rattle.cap_log.specs.Lines.{Spells};
 ghost use Rattle.cap_log.specs.declared.lines.Line.TheVariants as lines;
 ghost use Rattle.cap_log.specs.declared.lines.Mode.{Mode as ModeNamed};
-ghost use Rattle.capcheck.specs.Headers.{HasHeader, IsFrontFault, rules_of};
-ghost use Rattle.capcheck.specs.Verdicts.{IsVerdict};
+ghost use Rattle.cap_log.specs.Streams.{next_count};
+ghost use Rattle.cap_log.specs.Takings.{kept, over_of};
+ghost use Rattle.capcheck.specs.Headers.{ReadsHeader, rules_of};
+ghost use Rattle.capcheck.specs.Judgings.{Judged};
+ghost use Rattle.capcheck.specs.Logs.{header_lines};
+ghost use Rattle.capcheck.specs.declared.verdict.JudgeFault.TheVariants.{Pull};
+ghost use Rattle.capcheck.specs.declared.verdict.Verdict.TheVariants.{No};
 
-use crate::verdict::Verdict;
-use cap_log::{Front, Line, Mode, front, read_line};
+use crate::verdict::{JudgeFault, Verdict};
+use cap_log::{Line, Lines, Mode, Next, PullFault, Source, read_line};
 use cap_machine::{Refusal, Rules};
 
-/// The header of a log: the rules that it says, how many bytes it has, and how many lines.
-#[derive(Clone, Copy, Debug)]
-pub struct Header {
-    pub rules: Rules,
-    pub length: usize,
-    pub lines: u64,
-}
-
-/// Reads the header of a log, or answers the verdict that its first fault makes.
-pub fn read_header(bytes: &[u8]) -> Result<Header, Verdict>
-    ensures { MatchResult result
-        (λ header. HasHeader bytes.now header.rules header.length header.lines)
-        (IsVerdict bytes.now) }
+/// Reads the header of a log from lines that were not begun, or gives the answer that its first fault
+/// makes.
+pub fn read_header<S: Source>(
+    source: &mut S,
+    lines: &mut Lines,
+) -> Result<Rules, Result<Verdict, JudgeFault>>
+    requires fresh { kept lines.old ≡ [] }
+    requires begun { over_of lines.old ≡ None }
+    ensures read { MatchResult result
+        (λ rules. ReadsHeader S.gave source.old source.new lines.new rules)
+        (λ answer. Judged S.gave S.ended source.old source.new answer) }
+    ensures counted { result ≢ Err (Err Pull) → S.faults source.new ≡ S.faults source.old }
+    ensures fault_counted { result ≡ Err (Err Pull) → S.faults source.new ≡ next_count (S.faults source.old) }
 {
-    match whole_line(bytes) {
-        Err(refusal) => Err(Verdict::No { line: 1, refusal }),
-        Ok(length) => match version_of(&bytes[..length]) {
-            Some(version) => {
-                if version == 1 {
-                    Ok(Header {
-                        rules: Rules::One,
-                        length: length + 1,
-                        lines: 1,
-                    })
-                } else {
-                    read_mode(bytes, length)
-                }
-            }
-            None => Err(Verdict::No {
-                line: 1,
-                refusal: Refusal::BadHeader,
-            }),
+    let version = match lines.next(source) {
+        Ok(Next::Line(text)) => version_of(text),
+        Ok(Next::LineTooLong) => return Err(no_at(1, Refusal::LineTooLong)),
+        Ok(Next::Truncated) => return Err(no_at(1, Refusal::Truncated)),
+        Ok(Next::Finished) => return Err(no_at(1, Refusal::Truncated)),
+        Err(PullFault) => return Err(Err(JudgeFault::Pull)),
+    };
+    let Some(version) = version else {
+        return Err(no_at(1, Refusal::BadHeader));
+    };
+    if version == 1 {
+        return Ok(Rules::One);
+    }
+    match lines.next(source) {
+        Ok(Next::Line(text)) => match mode_of(text) {
+            Some(mode) => Ok(rules_of(mode)),
+            None => Err(no_at(2, Refusal::BadMode)),
         },
+        Ok(Next::LineTooLong) => Err(no_at(2, Refusal::LineTooLong)),
+        Ok(Next::Truncated) => Err(no_at(2, Refusal::Truncated)),
+        Ok(Next::Finished) => Err(no_at(2, Refusal::Truncated)),
+        Err(PullFault) => Err(Err(JudgeFault::Pull)),
     }
 }
 
-// Reads the mode line, behind a first line of so many bytes.
-fn read_mode(bytes: &[u8], first: usize) -> Result<Header, Verdict>
-    requires inside { first < length bytes.now }
-    requires line { IsLine bytes.now (take first bytes.now) (drop (first + 1) bytes.now) }
-    requires version { Spells (take first bytes.now) (lines.Version 2) }
-    ensures { MatchResult result
-        (λ header. HasHeader bytes.now header.rules header.length header.lines)
-        (IsVerdict bytes.now) }
+/// The number of the first line behind the header.
+pub fn first_line(rules: Rules) -> u64
+    ensures { result ≡ length (header_lines rules) + 1 }
 {
-    let rest = &bytes[first + 1..];
-    match whole_line(rest) {
-        Err(refusal) => Err(Verdict::No { line: 2, refusal }),
-        Ok(length) => match mode_of(&rest[..length]) {
-            Some(mode) => Ok(Header {
-                rules: rules_of(mode),
-                length: first + 1 + (length + 1),
-                lines: 2,
-            }),
-            None => Err(Verdict::No {
-                line: 2,
-                refusal: Refusal::BadMode,
-            }),
-        },
+    match rules {
+        Rules::One => 2,
+        Rules::TwoStrict | Rules::TwoClear => 3,
     }
+}
+
+// The answer that a fault on a line makes.
+fn no_at(line: u64, refusal: Refusal) -> Result<Verdict, JudgeFault>
+    ensures { result ≡ Ok (No line refusal) }
+{
+    Ok(Verdict::No { line, refusal })
 }
 
 // The version that a line says.
@@ -109,18 +107,5 @@ fn rules_of(mode: Mode) -> Rules
     match mode {
         Mode::Strict => Rules::TwoStrict,
         Mode::Clear => Rules::TwoClear,
-    }
-}
-
-// The length of the line that some bytes begin with.
-fn whole_line(bytes: &[u8]) -> Result<usize, Refusal>
-    ensures { MatchResult result
-        (λ n. (n < length bytes.now) × IsLine bytes.now (take n bytes.now) (drop (n + 1) bytes.now))
-        (IsFrontFault bytes.now) }
-{
-    match front(bytes) {
-        Front::Line(length) => Ok(length),
-        Front::TooLong => Err(Refusal::LineTooLong),
-        Front::Cut => Err(Refusal::Truncated),
     }
 }

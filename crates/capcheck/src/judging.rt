@@ -1,19 +1,21 @@
 //! The judge: whether bytes are a log whose steps have a run, and if not, which line is the first fault.
 
-ghost use Rattle.std.specs.Prelude.{◌≡◌, ℕ, ◌+◌, ◌≤◌, length, List, IsOk, IfOk, IfErr, true, false};
+ghost use Rattle.std.specs.Prelude.{◌≡◌, ◌≢◌, Err, IsOk, IfOk, IfErr};
 ghost use Rattle.std.specs.FinMap as map;
 ghost use Rattle.cap_machine.specs.Helds.{held_of};
+ghost use Rattle.cap_log.specs.Streams.{next_count};
 ghost use Rattle.capcheck.specs.Logs.{NamesNoGranules};
-ghost use Rattle.capcheck.specs.Verdicts.{GuardsAuthority, IsFault, IsVerdict, answer_at};
-ghost use Rattle.capcheck.specs.Progresses.{IsAt};
+ghost use Rattle.capcheck.specs.Verdicts.{EscapesExactly, GuardsAuthority, IsFault, IsVerdict, answer_at};
+ghost use Rattle.capcheck.specs.Judgings.{Judged, finished, refusal_in};
+ghost use Rattle.capcheck.specs.declared.verdict.JudgeFault.TheVariants.{Pull};
 
-use crate::headers::read_header;
+use crate::headers::{first_line, read_header};
 use crate::progress::Progress;
 use crate::verdict::{JudgeFault, Verdict};
-use cap_log::{Front, front};
+use cap_log::{Lines, Next, PullFault, SliceSource, Source};
 use cap_machine::{Refusal, StepEnd};
 use std::alloc::Global;
-use tagmem::{ListStore, TaggedStore};
+use tagmem::{PageStore, TaggedStore};
 
 /// Judges the bytes of a log. It is `Yes` exactly for a log whose steps have a run from its roots, and
 /// otherwise `No` with the first fault. Memory is taken only where a line names a granule for the first
@@ -25,90 +27,89 @@ pub fn judge_bytes(alloc: Global, bytes: &[u8]) -> Result<Verdict, JudgeFault>
     // permissions among those of the one root that it descends from, and each access lies inside them.
     ensures authority { IfOk result (GuardsAuthority bytes.now) }
 
+    // A no names `BoundsEscape` exactly where its line is a step that asks, by strict rules, for bounds beyond
+    // those of its tagged, unsealed source, before any rounding.
+    ensures escape { IfOk result (EscapesExactly bytes.now) }
+
     // There is no verdict only where a line that no test refuses names a granule for the first time.
     ensures fault { IfErr result (IsFault bytes.now) }
     ensures answers { NamesNoGranules bytes.now → IsOk result }
 {
-    judge_over(ListStore::new(alloc), bytes)
+    judge(alloc, &mut SliceSource::new(bytes, &[]))
 }
 
-// Judges the bytes of a log with a machine over an empty store.
-fn judge_over<M: TaggedStore>(memory: M, bytes: &[u8]) -> Result<Verdict, JudgeFault>
+/// Judges the bytes that a source gives, each line as soon as it is there. It is `Yes` exactly where they
+/// are a log whose steps have a run from its roots and the source has ended, and otherwise `No` with the
+/// first fault: where the source has not ended, whatever bytes follow.
+///
+/// `Pull` comes only where the source failed; then the whole lines that it gave begin a log, and less than
+/// a line follows them. Memory is taken only where a line names a granule for the first time; `NoMemory`
+/// comes only there. It returns for a source without end too, since the limits bound the lines of a log.
+pub fn judge<S: Source>(alloc: Global, source: &mut S) -> Result<Verdict, JudgeFault>
+    ensures judged { Judged S.gave S.ended source.old source.new result }
+
+    // A fault of the source ends the call, and nothing else counts one.
+    ensures counted { result ≢ Err Pull → S.faults source.new ≡ S.faults source.old }
+    ensures fault_counted { result ≡ Err Pull → S.faults source.new ≡ next_count (S.faults source.old) }
+{
+    judge_in(source, PageStore::new(alloc))
+}
+
+/// Judges as [`judge`] does, with the granules in a store that is empty.
+pub fn judge_in<S: Source, M: TaggedStore>(source: &mut S, memory: M) -> Result<Verdict, JudgeFault>
     requires { map.len (M.contents memory) ≡ 0 }
-    ensures verdict { IfOk result (IsVerdict bytes.now) }
-    ensures fault { IfErr result (IsFault bytes.now) }
-    ensures answers { NamesNoGranules bytes.now → IsOk result }
+    ensures judged { Judged S.gave S.ended source.old source.new result }
+    ensures counted { result ≢ Err Pull → S.faults source.new ≡ S.faults source.old }
+    ensures fault_counted { result ≡ Err Pull → S.faults source.new ≡ next_count (S.faults source.old) }
 {
-    match read_header(bytes) {
-        Err(verdict) => Ok(verdict),
-        Ok(header) => {
-            let progress = Progress::new(memory, header.rules);
-            let rest = &bytes[header.length..];
-            judge_body(progress, bytes, rest, header.lines + 1)
-        }
-    }
-}
-
-// Judges what follows the header, from the line with this number on.
-fn judge_body<M: TaggedStore>(
-    progress: Progress<M>,
-    bytes: &[u8],
-    rest: &[u8],
-    line: u64,
-) -> Result<Verdict, JudgeFault>
-    requires here { IsAt bytes.now (held_of M.contents progress.machine) progress.ended rest.now line }
-    requires few { line + length rest.now ≤ length bytes.now + 1 }
-    ensures verdict { IfOk result (IsVerdict bytes.now) }
-    ensures fault { IfErr result (IsFault bytes.now) }
-    ensures answers { NamesNoGranules bytes.now → IsOk result }
-{
-    let mut progress = progress;
-    let mut rest = rest;
-    let mut line = line;
+    let mut lines = Lines::new();
+    let rules = match read_header(source, &mut lines) {
+        Ok(rules) => rules,
+        Err(answer) => return answer,
+    };
+    let mut progress = Progress::new(memory, rules);
+    let mut line = first_line(rules);
     'lines: loop {
-        if progress.ended {
-            return Ok(end_verdict(&progress, rest, line));
-        }
-        match front(rest) {
-            Front::TooLong => {
-                return Ok(Verdict::No {
-                    line,
-                    refusal: Refusal::LineTooLong,
-                });
+        match lines.next(source) {
+            Err(PullFault) => return Err(JudgeFault::Pull),
+            Ok(Next::Finished) => return Ok(finished_verdict(&progress, line)),
+            Ok(Next::Truncated) => return Ok(refused(line, progress.ended, Refusal::Truncated)),
+            Ok(Next::LineTooLong) => {
+                return Ok(refused(line, progress.ended, Refusal::LineTooLong));
             }
-            Front::Cut => {
-                return Ok(Verdict::No {
-                    line,
-                    refusal: Refusal::Truncated,
-                });
-            }
-            Front::Line(length) => {
-                if let Err(end) = progress.take_line(&rest[..length]) {
+            Ok(Next::Line(text)) => {
+                if progress.ended {
+                    return Ok(refused(line, true, Refusal::Misplaced));
+                }
+                if let Err(end) = progress.take_line(text) {
                     return answer_at(line, end);
                 }
-                rest = &rest[length + 1..];
                 line += 1;
             }
         }
     }
 }
 
-// The verdict after the end line: any byte that follows is misplaced.
-fn end_verdict<M: TaggedStore>(progress: &Progress<M>, rest: &[u8], line: u64) -> Verdict
-    requires { progress.now.ended ≡ true }
-    ensures { (bytes : List ℕ) → IsAt bytes (held_of M.contents progress.now.machine) progress.now.ended rest.now line → IsVerdict bytes result }
+// The verdict where the bytes end at a line's start.
+fn finished_verdict<M: TaggedStore>(progress: &Progress<M>, line: u64) -> Verdict
+    ensures { result ≡ finished (held_of M.contents progress.now.machine) progress.now.ended line }
 {
-    if rest.is_empty() {
+    if progress.ended {
         Verdict::Yes {
             steps: progress.machine.steps(),
             roots: progress.machine.roots(),
         }
     } else {
-        Verdict::No {
-            line,
-            refusal: Refusal::Misplaced,
-        }
+        refused(line, false, Refusal::Truncated)
     }
+}
+
+// The verdict on a line at fault: after the end line it is misplaced, whatever it is.
+fn refused(line: u64, ended: bool, refusal: Refusal) -> Verdict
+    ensures { result ≡ refusal_in line ended refusal }
+{
+    let refusal = if ended { Refusal::Misplaced } else { refusal };
+    Verdict::No { line, refusal }
 }
 
 // What a line that is not taken makes the answer.

@@ -2,18 +2,20 @@
 //! capabilities.
 #![tactic(auto)]
 
-pub mod buffers;
+mod buffers;
 pub mod explain_lines;
 pub mod faults;
 pub mod headers;
+mod inputs;
 pub mod judging;
 pub mod laws;
-pub mod progress;
+mod progress;
+pub mod reporting;
 pub mod round_lines;
 pub mod running;
 #[cfg(test)]
 mod tests;
-pub mod text_lines;
+mod text_lines;
 pub mod verdict;
 pub mod verdict_lines;
 pub mod words;

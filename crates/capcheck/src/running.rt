@@ -1,21 +1,21 @@
 //! What the program does with an order: its texts and its exit status.
 
-ghost use Rattle.std.specs.Prelude.{◌≡◌, ◌≤◌, ◌↔◌, IfOk, IfErr, Some};
+ghost use Rattle.std.specs.Prelude.{◌≡◌, ◌≤◌, ◌↔◌, ℕ, List, IfOk, IfErr, OnOk, None, Some, true};
+ghost use Rattle.std.specs.Io.KnownBytes.{Appends, Keeps};
+ghost use Rattle.capcheck.specs.Answers.{Prints, known_bytes};
 ghost use Rattle.capcheck.specs.Operands.{IsFaulty};
 ghost use Rattle.capcheck.specs.Statuses.{exit_status, status_of};
-ghost use Rattle.capcheck.specs.declared.words.Order.TheVariants.{Explain, Round};
+ghost use Rattle.capcheck.specs.declared.words.Order.TheVariants.{Explain, Judge, Round};
 
 use crate::explain_lines::explain_text;
 use crate::faults::Fault;
-use crate::judging::judge_bytes;
+use crate::inputs::judge_reader;
 use crate::round_lines::round_text;
-use crate::verdict::{JudgeFault, Verdict};
-use crate::verdict_lines::verdict_text;
 use crate::words::Order;
 use crate::words::operands::{read_capability, read_request};
 use cap_bounds::round;
 use std::alloc::Global;
-use std::io::{ErrorKind, Read, Write};
+use std::io::{Read, Write};
 
 /// Does what an order says, and answers the exit status: 0 for yes or shown, 1 for no, 2 where there is
 /// no order or it has an operand that cannot be followed, and 3 where the input, the output or the memory
@@ -30,15 +30,16 @@ pub fn run<R: Read + Drop, O: Write, F: Write>(
     faults: &mut F,
 ) -> u8
     ensures range { result ≤ 3 }
+
+    // At status 0 and 1 the output gained just the text that belongs to the order and the known bytes of the
+    // input, and nothing went to `faults`; at status 2 the output kept what it had.
+    ensures printed { result ≤ 1 → (text : List ℕ) × Prints order.entry (known_bytes R.remaining input) text result
+        × Appends (O.contents out.old) (O.contents out.new) text }
     ensures asked { (result ≡ 2) ↔ IsFaulty order.entry }
+    ensures silent { result ≤ 1 → Keeps (F.contents faults.old) (F.contents faults.new) }
+    ensures kept { result ≡ 2 → Keeps (O.contents out.old) (O.contents out.new) }
 {
-    let done = match order {
-        None => Err(Fault::BadWords),
-        Some(Order::Explain { memory, tag, hex }) => show_explanation(memory, tag, hex, out),
-        Some(Order::Round { base, length }) => show_rounding(base, length, out),
-        Some(Order::Judge { file: _ }) => judge_input(alloc, input, out),
-    };
-    match done {
+    match follow(alloc, order, input, out) {
         Ok(status) => status,
         Err(fault) => {
             let _told = faults.write_all(fault.text().as_bytes());
@@ -47,7 +48,28 @@ pub fn run<R: Read + Drop, O: Write, F: Write>(
     }
 }
 
-// Reads the input whole, judges it and writes the verdict.
+// Follows an order: writes its text, and answers the status that goes with it.
+fn follow<R: Read + Drop, O: Write>(
+    alloc: Global,
+    order: Option<Order<'_>>,
+    input: Option<R>,
+    out: &mut O,
+) -> Result<u8, Fault>
+    ensures ok { IfOk result (λ status. status ≤ 1) }
+    ensures asked { (exit_status result ≡ 2) ↔ IsFaulty order.entry }
+    ensures printed { IfOk result (λ status. (text : List ℕ) × Prints order.entry (known_bytes R.remaining input) text status
+        × Appends (O.contents out.old) (O.contents out.new) text) }
+    ensures kept { exit_status result ≡ 2 → Keeps (O.contents out.old) (O.contents out.new) }
+{
+    match order {
+        None => Err(Fault::BadWords),
+        Some(Order::Explain { memory, tag, hex }) => show_explanation(memory, tag, hex, out),
+        Some(Order::Round { base, length }) => show_rounding(base, length, out),
+        Some(Order::Judge { file: _ }) => judge_input(alloc, input, out),
+    }
+}
+
+// Judges the input, and writes the line of the verdict.
 fn judge_input<R: Read + Drop, O: Write>(
     alloc: Global,
     input: Option<R>,
@@ -55,41 +77,12 @@ fn judge_input<R: Read + Drop, O: Write>(
 ) -> Result<u8, Fault>
     ensures ok { IfOk result (λ status. status ≤ 1) }
     ensures err { IfErr result (λ fault. status_of fault ≡ 3) }
+    ensures printed { IfOk result (λ status. (text : List ℕ) × Prints (Some (Judge None)) (known_bytes R.remaining input) text status
+        × Appends (O.contents out.old) (O.contents out.new) text) }
 {
-    let Some(mut reader) = input else {
-        return Err(Fault::Read);
-    };
-    let mut bytes = Vec::new(alloc);
-    if let Err(error) = reader.read_to_end(&mut bytes) {
-        return Err(if error.kind() == ErrorKind::OutOfMemory {
-            Fault::NoMemory
-        } else {
-            Fault::Read
-        });
-    }
-    match judge_bytes(alloc, bytes.as_slice()) {
-        Ok(verdict) => write_verdict(&verdict, out),
-        Err(JudgeFault::Pull) => Err(Fault::Read),
-        Err(JudgeFault::NoMemory) => Err(Fault::NoMemory),
-    }
-}
-
-// Writes the line of a verdict, and answers the status that goes with it.
-fn write_verdict<O: Write>(verdict: &Verdict, out: &mut O) -> Result<u8, Fault>
-    ensures ok { IfOk result (λ status. status ≤ 1) }
-    ensures err { IfErr result (λ fault. status_of fault ≡ 3) }
-{
-    let mut text = [0u8; 64];
-    let length = verdict_text(verdict, &mut text);
-    if !is_written(&text[..length], out) {
-        return Err(Fault::Write);
-    }
-    match verdict {
-        Verdict::Yes { steps: _, roots: _ } => Ok(0),
-        Verdict::No {
-            line: _,
-            refusal: _,
-        } => Ok(1),
+    match input {
+        Some(reader) => judge_reader(alloc, reader, out),
+        None => Err(Fault::Read),
     }
 }
 
@@ -97,6 +90,9 @@ fn write_verdict<O: Write>(verdict: &Verdict, out: &mut O) -> Result<u8, Fault>
 fn show_explanation<O: Write>(memory: bool, tag: bool, hex: &str, out: &mut O) -> Result<u8, Fault>
     ensures ok { IfOk result (λ status. status ≡ 0) }
     ensures asked { (exit_status result ≡ 2) ↔ IsFaulty (Some (Explain memory tag hex.entry)) }
+    ensures printed { IfOk result (λ status. (text : List ℕ) × Prints (Some (Explain memory tag hex.entry)) None text status
+        × Appends (O.contents out.old) (O.contents out.new) text) }
+    ensures kept { exit_status result ≡ 2 → Keeps (O.contents out.old) (O.contents out.new) }
 {
     let Some(word) = read_capability(hex, memory) else {
         return Err(Fault::BadWord);
@@ -110,6 +106,9 @@ fn show_explanation<O: Write>(memory: bool, tag: bool, hex: &str, out: &mut O) -
 fn show_rounding<O: Write>(base: &str, length: &str, out: &mut O) -> Result<u8, Fault>
     ensures ok { IfOk result (λ status. status ≡ 0) }
     ensures asked { (exit_status result ≡ 2) ↔ IsFaulty (Some (Round base.entry length.entry)) }
+    ensures printed { IfOk result (λ status. (text : List ℕ) × Prints (Some (Round base.entry length.entry)) None text status
+        × Appends (O.contents out.old) (O.contents out.new) text) }
+    ensures kept { exit_status result ≡ 2 → Keeps (O.contents out.old) (O.contents out.new) }
 {
     let request = match read_request(base, length) {
         Ok(request) => request,
@@ -124,6 +123,7 @@ fn show_rounding<O: Write>(base: &str, length: &str, out: &mut O) -> Result<u8, 
 fn show<O: Write>(text: &[u8], out: &mut O) -> Result<u8, Fault>
     ensures ok { IfOk result (λ status. status ≡ 0) }
     ensures err { IfErr result (λ fault. status_of fault ≡ 3) }
+    ensures written { OnOk result (Appends (O.contents out.old) (O.contents out.new) text.now) }
 {
     if is_written(text, out) {
         Ok(0)
@@ -133,6 +133,8 @@ fn show<O: Write>(text: &[u8], out: &mut O) -> Result<u8, Fault>
 }
 
 // Writes a text, and answers whether it and what stood before it were handed on.
-fn is_written<O: Write>(text: &[u8], out: &mut O) -> bool {
+fn is_written<O: Write>(text: &[u8], out: &mut O) -> bool
+    ensures { result ≡ true → Appends (O.contents out.old) (O.contents out.new) text.now }
+{
     out.write_all(text).is_ok() && out.flush().is_ok()
 }

@@ -29,3 +29,14 @@ pub enum JudgeFault {
     /// There was no memory for a granule that the log names for the first time.
     NoMemory,
 }
+
+/// Why a judge that writes its verdict did not, or not all of it.
+#[derive(Debug, Clone, Copy, PartialEq, Eq)]
+pub enum JudgeToFault {
+    /// The source of the bytes failed.
+    Pull,
+    /// There was no memory for a granule that the log names for the first time.
+    NoMemory,
+    /// The sink failed.
+    Push,
+}

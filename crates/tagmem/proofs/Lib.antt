@@ -1,3 +1,6 @@
 pub mod Granules
+mod Directories
 mod Listed
+mod Pages
 mod Places
+mod Writes

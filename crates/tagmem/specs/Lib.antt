@@ -1,3 +1,4 @@
 pub mod Granules
 pub mod Listed
 pub mod ListLaws
+pub mod Pages

@@ -2,9 +2,13 @@
 #![tactic(auto)]
 
 mod list_store;
+mod overwriting;
+mod page;
+mod page_store;
 mod store;
 
 pub use crate::list_store::ListStore;
+pub use crate::page_store::PageStore;
 pub use crate::store::{NoMemory, TaggedStore};
 
 #[cfg(test)]

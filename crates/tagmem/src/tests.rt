@@ -5,7 +5,7 @@
 // time.
 ghost use Rattle.std.specs.Prelude.{◌+◌, ◌^◌, ◌<◌, ◌≤◌, length};
 
-use crate::{ListStore, TaggedStore};
+use crate::{ListStore, PageStore, TaggedStore};
 use std::process::Abort;
 
 const SLOTS: usize = 48;
@@ -180,4 +180,108 @@ fn a_list_writes_over_zeros(rt: HostRuntime) {
 #[test]
 fn a_list_agrees_with_a_plain_list(rt: HostRuntime) {
     agrees_with_a_plain_list(&rt, &mut ListStore::new(rt.alloc()));
+}
+
+// A put into a page that is there is never refused, whichever allocation after those of the page is.
+#[test]
+fn a_page_that_is_there_takes_no_memory(rt: HostRuntime) {
+    let store = &mut PageStore::new(rt.alloc());
+    put_cap(&rt, store, 0, true, [7; 16]);
+    for granule in 1..256 {
+        assert!(rt; store.count() < u32::MAX);
+        assert_eq!(rt; store.put_cap(granule, true, [9; 16]), Ok(()));
+    }
+    assert!(rt; store.count() < u32::MAX);
+    assert_eq!(rt; store.put_bytes(0, 15, &[8]), Ok(()));
+    assert_eq!(rt; store.count(), 256);
+}
+
+// Pages whose numbers have the low bits of others' are told apart, and so are more pages than are
+// remembered.
+#[test]
+fn pages_are_found_by_their_whole_numbers(rt: HostRuntime) {
+    let store = &mut PageStore::new(rt.alloc());
+    for number in 0..1100 {
+        assert_eq!(rt; store.get(256 * number), None);
+        put_cap(
+            &rt,
+            store,
+            256 * number,
+            true,
+            bytes_from((number / 8) as u8),
+        );
+    }
+    for number in 0..1100 {
+        assert_eq!(rt;
+            store.get(256 * number),
+            Some((true, bytes_from((number / 8) as u8)))
+        );
+        assert_eq!(rt; store.get(256 * number + 1), None);
+        assert_eq!(rt; store.get(256 * (number + 2048)), None);
+    }
+    assert_eq!(rt; store.count(), 1100);
+}
+
+// The ends of pages that lie beside one another, have the same low bits, or end memory.
+fn end_of_page(choice: u32) -> u64
+    ensures { result < 2 ^ 60 }
+{
+    let number = match choice % 8 {
+        0 => 0,
+        1 => 1,
+        2 => 1023,
+        3 => 1024,
+        4 => 2048,
+        5 => 1 << 51,
+        6 => (1 << 51) + 1024,
+        _ => (1 << 52) - 1,
+    };
+    let slot = match choice / 8 % 4 {
+        0 => 0,
+        1 => 1,
+        2 => 254,
+        _ => 255,
+    };
+    256 * number + slot
+}
+
+#[test]
+fn a_list_and_pages_agree(rt: HostRuntime) {
+    let list = &mut ListStore::new(rt.alloc());
+    let pages = &mut PageStore::new(rt.alloc());
+    let mut random: u32 = 1;
+    for _ in 0..1000 {
+        random = random.wrapping_mul(1664525).wrapping_add(1013904223);
+        let granule = end_of_page(random >> 20);
+        let read = end_of_page(random >> 15);
+        let at = (random >> 28) as u8;
+        let bytes = bytes_from(((random >> 12) & 0xff) as u8);
+        if random & 0x80000 == 0 {
+            let tag = random & 0x40000 == 0;
+            put_cap(&rt, list, granule, tag, bytes);
+            put_cap(&rt, pages, granule, tag, bytes);
+        } else {
+            let written = &bytes[..16 - at as usize];
+            put_bytes(&rt, list, granule, at, written);
+            put_bytes(&rt, pages, granule, at, written);
+        }
+        assert_eq!(rt; pages.get(granule), list.get(granule));
+        assert_eq!(rt; pages.get(read), list.get(read));
+        assert_eq!(rt; pages.count(), list.count());
+    }
+}
+
+#[test]
+fn pages_count_each_granule_once(rt: HostRuntime) {
+    counts_each_granule_once(&rt, &mut PageStore::new(rt.alloc()));
+}
+
+#[test]
+fn pages_write_over_zeros(rt: HostRuntime) {
+    writes_over_zeros(&rt, &mut PageStore::new(rt.alloc()));
+}
+
+#[test]
+fn pages_agree_with_a_plain_list(rt: HostRuntime) {
+    agrees_with_a_plain_list(&rt, &mut PageStore::new(rt.alloc()));
 }

@@ -1,14 +1,28 @@
-use Rattle.std.proofs.Common.{ap, ◌∙◌}
-use Rattle.std.specs.FinMap.{len, len-empty}
-use Rattle.std.specs.Ordering.{nat_cmp}
-use Rattle.tagmem.specs.Granules.{Entry}
+use Rattle.std.proofs.Common.{◌≡◌, ◌≢◌, Err, Ok, IfOk, IfErr, ◌∙◌, sym, arith, rules}
 use Rattle.cap_machine.proofs.AuthorityLemmas.{one_root}
 use Rattle.cap_machine.proofs.AccessLemmas.{lie_inside}
-use Rattle.capcheck.proofs.JudgeLemmas.{guarded, guards_all}
+use Rattle.capcheck.specs.Verdicts.{IsVerdict, IsFault}
+use Rattle.capcheck.proofs.JudgeLemmas.{guarded, guards_all, answered}
+use Rattle.capcheck.proofs.SourceLemmas.{escape_of, of_all}
 use Rattle.capcheck.proofs.judging.judge_bytes.Goals as goal
 
-pub judge_over-requires : goal.judge_over-requires
-judge_over-requires c = ap len c.new.ensures ∙ len-empty nat_cmp Entry
+both : (c : goal.After-judge) → IfOk c.judge.result (IsVerdict c.args.bytes.now) × IfErr c.judge.result (IsFault c.args.bytes.now)
+both c =
+    let judged = c.judge.ensures.judged in
+    of_all c.args.bytes.now judged.given c.judge.new.source.rest.now c.judge.new.source.is_ended c.judge.result (search rules) c.judge.new.source.all_given judged.answer
+    (λ e. let grew = c.judge.ensures.fault_counted e in omega (arith, grew))
+
+pub returns-clause-verdict : goal.returns-clause-verdict
+returns-clause-verdict c = (both c).0
+
+pub returns-clause-fault : goal.returns-clause-fault
+returns-clause-fault c = (both c).1
 
 pub returns-clause-authority : goal.returns-clause-authority
-returns-clause-authority c = guards_all c.args.bytes.now (guarded one_root lie_inside c.args.bytes.now) c.judge_over.result
+returns-clause-authority c = guards_all c.args.bytes.now (guarded one_root lie_inside c.args.bytes.now) c.judge.result
+
+pub returns-clause-answers : goal.returns-clause-answers
+returns-clause-answers c = answered c.args.bytes.now c.judge.result (both c).1
+
+pub returns-clause-escape : goal.returns-clause-escape
+returns-clause-escape c = escape_of c.args.bytes.now c.judge.result

@@ -1,0 +1,276 @@
+-- The judge over a source: where it is, and what it may answer there.
+use Rattle.std.proofs.Common.{◌≡◌, ◌≢◌, ℕ, ◌+◌, ◌≤◌, inl, inr, Bool, true, false, List, [], ◌∷◌, ◌++◌, length, take, map, refl, sym, ap, subst, ◌∙◌, append-nil, append_assoc, arith, Result, Ok, Err, IfOk, IfErr}
+use Rattle.std.proofs.lemmas.Bool.{false≢true}
+use Rattle.std.proofs.lemmas.List.{length-append, length-map, take-append-le}
+use Rattle.std.proofs.lemmas.List.Elements.{All-nil}
+use Rattle.cap_log.specs.declared.lines.Line.TheVariants as lines
+use Rattle.cap_log.specs.Front.{HasNoFeed, IsLine, IsTooLong, IsCut}
+use Rattle.cap_log.specs.Takings.{IsNext, Answered, kept, over_of}
+use Rattle.cap_log.specs.declared.taking.Lines.{Lines}
+use Rattle.cap_log.specs.declared.nexts.Next.{Next}
+use Rattle.cap_log.specs.declared.nexts.Next.TheVariants as nexts
+use Rattle.cap_log.specs.declared.sources.PullFault.{PullFault}
+use Rattle.cap_machine.specs.declared.refusal.Refusal.{Refusal}
+use Rattle.cap_machine.specs.declared.refusal.Refusal.TheVariants.{LineTooLong, Truncated, Misplaced}
+use Rattle.cap_machine.specs.declared.ends.StepEnd.{StepEnd}
+use Rattle.cap_machine.specs.declared.ends.StepEnd.TheVariants.{Refused}
+use Rattle.cap_machine.specs.declared.ends.StepEnd.TheVariants as ends
+use Rattle.cap_machine.specs.declared.rules.Rules.{Rules}
+use Rattle.cap_machine.specs.declared.rules.Rules.TheVariants.{One, TwoStrict, TwoClear}
+use Rattle.cap_machine.specs.States.{DeclaredRoot}
+use Rattle.cap_machine.specs.Helds.{Held}
+use Rattle.cap_machine.proofs.AuthorityLemmas.{one_root}
+use Rattle.cap_machine.proofs.AccessLemmas.{lie_inside}
+use Rattle.capcheck.specs.declared.verdict.Verdict.{Verdict}
+use Rattle.capcheck.specs.declared.verdict.Verdict.TheVariants.{Yes, No}
+use Rattle.capcheck.specs.declared.verdict.JudgeFault.{JudgeFault}
+use Rattle.capcheck.specs.declared.verdict.JudgeFault.TheVariants.{Pull, NoMemory}
+use Rattle.capcheck.specs.Logs.{Beginning, Nothing, NoMode, Body, Whole, header_lines, body_lines, lines_of, text_of, IsAccepted, RefusesFront, RefusesWhole, IsFirstFault, MayLackMemory}
+use Rattle.capcheck.specs.Verdicts.{answer_at, EscapesExactly, IsVerdict, IsFault}
+use Rattle.capcheck.specs.Progresses.{StandsFor, EndsNext, IsAt}
+use Rattle.capcheck.specs.Judgings.{IsVerdictOf, IsBehind, BeginsLog, IsFaultOf, IsAnswerOf, Judged, refusal_in, finished}
+use Rattle.capcheck.proofs.EscapeLaws.{escapes_exactly}
+use Rattle.capcheck.proofs.JudgeLemmas.{IsUnended, behind, unended_here, refused_behind, wants_memory, misplaced, yes, guarded, guards, no_lack}
+
+-- more bytes behind all
+behind_more : (bytes rest more : List ℕ) (beginning : Beginning) → IsBehind bytes beginning rest → IsBehind (bytes ++ more) beginning (rest ++ more)
+behind_more bytes rest more beginning here = record {
+  bytes_are = ap (λ (l : List ℕ). l ++ more) here.bytes_are ∙ append_assoc (text_of (lines_of beginning)) rest more;
+  accepted = here.accepted;
+}
+
+at_more : (bytes rest more : List ℕ) (held : Held) (now : Bool) (line : ℕ) → IsAt bytes held now rest line → IsAt (bytes ++ more) held now (rest ++ more) line
+at_more bytes rest more held now line here = record {
+  beginning = here.beginning;
+  stands = here.stands;
+  bytes_are = ap (λ (l : List ℕ). l ++ more) here.bytes_are ∙ append_assoc (text_of (lines_of here.beginning)) rest more;
+  line_is = here.line_is;
+}
+
+IsLine-more : (bytes line rest more : List ℕ) → IsLine bytes line rest → IsLine (bytes ++ more) line (rest ++ more)
+IsLine-more bytes line rest more h = record {
+  whole = ap (λ (l : List ℕ). l ++ more) h.whole ∙ append_assoc line (10 ∷ rest) more;
+  one = h.one;
+  short = h.short;
+}
+
+IsTooLong-more : (bytes more : List ℕ) → IsTooLong bytes → IsTooLong (bytes ++ more)
+IsTooLong-more bytes more h = (
+  omega (arith, h.0, length-append bytes more),
+  subst HasNoFeed (sym (take-append-le 96 bytes more h.0)) h.1,
+)
+
+some-more : (bytes more : List ℕ) → bytes ≢ [] → bytes ++ more ≢ []
+some-more [] more some = absurd (some refl)
+some-more (b ∷ bytes) more some = λ e. cc
+
+long_some : (bytes : List ℕ) → IsTooLong bytes → bytes ≢ []
+long_some [] long = λ e. omega (arith, long.0)
+long_some (b ∷ bytes) long = λ e. cc
+
+line_some : (rest text left : List ℕ) → IsLine rest text left → rest ≢ []
+line_some rest text left is =
+    λ none. let long : length (text ++ 10 ∷ left) ≡ 0 = ap length (sym is.whole ∙ none) in omega (arith, length-append text (10 ∷ left), long)
+
+nothing_cut : (rest : List ℕ) → rest ≡ [] → IsCut rest
+nothing_cut rest none = subst IsCut (sym none) (omega arith, All-nil (λ b. b ≢ 10))
+
+-- a no that stands whatever follows
+no_stands : (bytes : List ℕ) (ended : Bool) (line : ℕ) (refusal : Refusal) → ((more : List ℕ) → IsFirstFault (bytes ++ more) line refusal) → IsVerdictOf bytes ended (No line refusal)
+no_stands bytes true line refusal all = subst (λ (b : List ℕ). IsFirstFault b line refusal) (append-nil bytes) (all [])
+no_stands bytes false line refusal all = all
+
+-- behind an accepted beginning, before an answer of the next call, with what that says
+pub record Meets {S : Type 0} (gave : S → S → List ℕ → Type 0) (ended : S → Bool) (old new : S) (beginning : Beginning) (lines : Lines) (answer : Result Next PullFault) : Type 0 where
+  pub given : List ℕ
+  pub gives : gave old new given
+  pub rest : List ℕ
+  pub here : IsBehind given beginning rest
+  pub next : IsNext rest (ended new) (kept lines) (over_of lines) answer
+
+pub meets : {S : Type 0} (gave : S → S → List ℕ → Type 0) (ended : S → Bool) (a b c : S) (beginning : Beginning) (before : List ℕ) (lines : Lines) (answer shown : Result Next PullFault)
+    → ((x y z : S) (xs ys : List ℕ) → gave x y xs → gave y z ys → gave x z (xs ++ ys)) → ((given : List ℕ) × gave a b given × IsBehind given beginning before)
+    → Answered gave ended b c before lines answer → answer ≡ shown → Meets gave ended a c beginning lines shown
+meets gave ended a b c beginning before lines answer shown joined so_far answered same = record {
+  given = so_far.0 ++ answered.given;
+  gives = joined a b c so_far.0 answered.given so_far.1 answered.gives;
+  rest = before ++ answered.given;
+  here = behind_more so_far.0 before answered.given beginning so_far.2;
+  next = subst (IsNext (before ++ answered.given) (ended c) (kept lines) (over_of lines)) same answered.answers;
+}
+
+-- the same where the progress stands
+pub meets_at : {S : Type 0} (gave : S → S → List ℕ → Type 0) (ended : S → Bool) (a b c : S) (held : Held) (now : Bool) (line : ℕ) (before : List ℕ) (lines : Lines) (answer shown : Result Next PullFault)
+    → ((x y z : S) (xs ys : List ℕ) → gave x y xs → gave y z ys → gave x z (xs ++ ys)) → (so_far : (given : List ℕ) × gave a b given × IsAt given held now before line)
+    → Answered gave ended b c before lines answer → answer ≡ shown → Meets gave ended a c so_far.2.beginning lines shown
+meets_at gave ended a b c held now line before lines answer shown joined so_far answered same =
+    meets gave ended a b c so_far.2.beginning before lines answer shown joined (so_far.0, so_far.1, behind so_far.0 before held now line so_far.2) answered same
+
+pub at_met : {S : Type 0} {gave : S → S → List ℕ → Type 0} {ended : S → Bool} {old new : S} {lines : Lines} {shown : Result Next PullFault} (given before : List ℕ) (held : Held) (now : Bool) (line : ℕ)
+    (here : IsAt given held now before line) (m : Meets gave ended old new here.beginning lines shown) → IsAt m.given held now m.rest line
+at_met given before held now line here m = record { beginning = here.beginning; stands = here.stands; bytes_are = m.here.bytes_are; line_is = here.line_is }
+
+pub judged_ok : {S : Type 0} (gave : S → S → List ℕ → Type 0) (ended : S → Bool) (old new : S) (given : List ℕ) (verdict : Verdict) → gave old new given
+    → IsVerdictOf given (ended new) verdict → Judged gave ended old new (Ok verdict)
+judged_ok gave ended old new given verdict gives is = record {
+  given = given;
+  gives = gives;
+  answer = record { verdict = is; authority = guards given (guarded one_root lie_inside given) verdict; escape = λ more. escapes_exactly (given ++ more) verdict; fault = tt; answers = λ none e. cc };
+}
+
+judged_pull : {S : Type 0} (gave : S → S → List ℕ → Type 0) (ended : S → Bool) (old new : S) (given : List ℕ) → gave old new given
+    → BeginsLog given → Judged gave ended old new (Err Pull)
+judged_pull gave ended old new given gives is = record {
+  given = given;
+  gives = gives;
+  answer = record { verdict = tt; authority = tt; escape = tt; fault = is; answers = λ none e. cc };
+}
+
+judged_memory : {S : Type 0} (gave : S → S → List ℕ → Type 0) (ended : S → Bool) (old new : S) (given : List ℕ) → gave old new given
+    → MayLackMemory given → Judged gave ended old new (Err NoMemory)
+judged_memory gave ended old new given gives lack = record {
+  given = given;
+  gives = gives;
+  answer = record { verdict = tt; authority = tt; escape = tt; fault = lack; answers = λ none e. no_lack given none lack };
+}
+
+module _ {S : Type 0} {gave : S → S → List ℕ → Type 0} {ended : S → Bool} {old new : S} {lines : Lines} (beginning : Beginning) (line : ℕ) where
+  -- the source failed
+  pub pulled : {fault : PullFault} → Meets gave ended old new beginning lines (Err fault) → Judged gave ended old new (Err Pull)
+  pulled m = judged_pull gave ended old new m.given m.gives (record { beginning = beginning; rest = m.rest; behind = m.here; cut = m.next.0 })
+
+  -- the line is refused whatever follows
+  refused_met : {shown : Result Next PullFault} (refusal : Refusal) (m : Meets gave ended old new beginning lines shown) → line ≡ length (lines_of beginning) + 1 → IsUnended beginning
+      → ((more : List ℕ) → RefusesFront beginning (m.rest ++ more) refusal) → Judged gave ended old new (Ok (No line refusal))
+  refused_met refusal m number unended all =
+      judged_ok gave ended old new m.given (No line refusal) m.gives
+      (no_stands m.given (ended new) line refusal
+      (λ more. refused_behind (m.given ++ more) (m.rest ++ more) beginning line refusal (behind_more m.given m.rest more beginning m.here) number unended (all more)))
+
+  pub too_long_met : Meets gave ended old new beginning lines (Ok nexts.LineTooLong) → line ≡ length (lines_of beginning) + 1 → IsUnended beginning → Judged gave ended old new (Ok (No line LineTooLong))
+  too_long_met m number unended = refused_met LineTooLong m number unended (λ more. inl (IsTooLong-more m.rest more m.next.0, refl))
+
+  pub line_met : (text : _) (refusal : Refusal) → Meets gave ended old new beginning lines (Ok (nexts.Line text)) → line ≡ length (lines_of beginning) + 1 → IsUnended beginning
+      → RefusesWhole beginning text.now refusal → Judged gave ended old new (Ok (No line refusal))
+  line_met text refusal m number unended refused =
+      refused_met refusal m number unended (λ more. inr (inr (text.now, kept lines ++ more, IsLine-more m.rest text.now (kept lines) more m.next.0, refused)))
+
+  cut_met : {shown : Result Next PullFault} (m : Meets gave ended old new beginning lines shown) → line ≡ length (lines_of beginning) + 1 → IsUnended beginning → IsCut m.rest → ended new ≡ true
+      → Judged gave ended old new (Ok (No line Truncated))
+  cut_met m number unended is end =
+      judged_ok gave ended old new m.given (No line Truncated) m.gives
+      (subst (λ (b : Bool). IsVerdictOf m.given b (No line Truncated)) (sym end) (refused_behind m.given m.rest beginning line Truncated m.here number unended (inr (inl (is, refl)))))
+
+  pub truncated_met : Meets gave ended old new beginning lines (Ok nexts.Truncated) → line ≡ length (lines_of beginning) + 1 → IsUnended beginning → Judged gave ended old new (Ok (No line Truncated))
+  truncated_met m number unended = cut_met m number unended m.next.0 m.next.2
+
+  pub finished_met : Meets gave ended old new beginning lines (Ok nexts.Finished) → line ≡ length (lines_of beginning) + 1 → IsUnended beginning → Judged gave ended old new (Ok (No line Truncated))
+  finished_met m number unended = cut_met m number unended (nothing_cut m.rest m.next.0) m.next.1
+
+module _ {S : Type 0} {gave : S → S → List ℕ → Type 0} {ended : S → Bool} {old new : S} {lines : Lines} (given before : List ℕ) (held : Held) (line : ℕ) where
+  misplaced_met : {shown : Result Next PullFault} (now : Bool) (here : IsAt given held now before line) (m : Meets gave ended old new here.beginning lines shown) → now ≡ true → m.rest ≢ []
+      → Judged gave ended old new (Ok (No line Misplaced))
+  misplaced_met now here m end some =
+      judged_ok gave ended old new m.given (No line Misplaced) m.gives
+      (no_stands m.given (ended new) line Misplaced
+      (λ more. misplaced (m.given ++ more) (m.rest ++ more) held now line (at_more m.given m.rest more held now line (at_met given before held now line here m)) end (some-more m.rest more some)))
+
+  -- by whether the end line has come
+  pub too_long_at : (now : Bool) (here : IsAt given held now before line) → Meets gave ended old new here.beginning lines (Ok nexts.LineTooLong)
+      → Judged gave ended old new (Ok (refusal_in line now LineTooLong))
+  too_long_at false here m = too_long_met here.beginning line m here.line_is (unended_here given before held false line here refl)
+  too_long_at true here m = misplaced_met true here m refl (long_some m.rest m.next.0)
+
+  pub truncated_at : (now : Bool) (here : IsAt given held now before line) → Meets gave ended old new here.beginning lines (Ok nexts.Truncated)
+      → Judged gave ended old new (Ok (refusal_in line now Truncated))
+  truncated_at false here m = truncated_met here.beginning line m here.line_is (unended_here given before held false line here refl)
+  truncated_at true here m = misplaced_met true here m refl m.next.1
+
+  pub finished_at : (now : Bool) (here : IsAt given held now before line) → Meets gave ended old new here.beginning lines (Ok nexts.Finished)
+      → Judged gave ended old new (Ok (finished held now line))
+  finished_at false here m = finished_met here.beginning line m here.line_is (unended_here given before held false line here refl)
+  finished_at true here m =
+      let at_end = subst (λ (r : List ℕ). IsAt m.given held true r line) m.next.0 (at_met given before held true line here m) in
+      judged_ok gave ended old new m.given (Yes held.steps held.roots) m.gives
+      (subst (λ (b : Bool). IsVerdictOf m.given b (Yes held.steps held.roots)) (sym m.next.1) (yes m.given held true line at_end refl))
+
+  -- a line after the end line
+  pub after_end : (text : _) (now : Bool) (here : IsAt given held now before line) → Meets gave ended old new here.beginning lines (Ok (nexts.Line text)) → now ≡ true
+      → Judged gave ended old new (Ok (No line Misplaced))
+  after_end text now here m end = misplaced_met now here m end (line_some m.rest text.now (kept lines) m.next.0)
+
+  -- a line that is not taken
+  pub line_ended : (text : _) (now : Bool) (end : StepEnd) (here : IsAt given held now before line) → Meets gave ended old new here.beginning lines (Ok (nexts.Line text)) → now ≡ false
+      → EndsNext held now text.now end → Judged gave ended old new (answer_at line end)
+  line_ended text now (Refused refusal) here m unended refused =
+      line_met here.beginning line text refusal m here.line_is (unended_here given before held now line here unended) (refused here.beginning here.stands)
+  line_ended text now ends.NoMemory here m unended wants =
+      judged_memory gave ended old new m.given m.gives
+      (wants_memory m.given m.rest text.now (kept lines) held now line (at_met given before held now line here m) m.next.0 wants)
+
+-- there are no more lines than the limits allow
+few_header : (rules_are : Rules) → length (header_lines rules_are) ≤ 2
+few_header One = omega arith
+few_header TwoStrict = omega arith
+few_header TwoClear = omega arith
+
+few_body : (rules_are : Rules) (roots : List DeclaredRoot) (steps : List _)
+    → length (body_lines rules_are roots steps) ≡ length (header_lines rules_are) + (length roots + length steps)
+few_body rules_are roots steps =
+    let root_line = λ (root : DeclaredRoot). lines.Root root.place root.word in
+    omega (
+      arith,
+      length-append (header_lines rules_are) (map root_line roots ++ map lines.Step steps),
+      length-append (map root_line roots) (map lines.Step steps),
+      length-map roots root_line,
+      length-map steps lines.Step,
+    )
+
+few_lines : (beginning : Beginning) → IsAccepted beginning → length (lines_of beginning) ≤ 4294971394
+few_lines Nothing accepted = omega arith
+few_lines NoMode accepted = omega arith
+few_lines (Body rules_are roots steps) accepted = omega (arith, accepted.few_roots, accepted.few_steps, few_header rules_are, few_body rules_are roots steps)
+few_lines (Whole rules_are roots steps) accepted =
+    omega (
+      arith,
+      accepted.few_roots,
+      accepted.few_steps,
+      few_header rules_are,
+      few_body rules_are roots steps,
+      length-append (body_lines rules_are roots steps) (lines.End (length steps) ∷ []),
+    )
+
+pub few_at : (bytes : List ℕ) (held : Held) (now : Bool) (rest : List ℕ) (line : ℕ) → IsAt bytes held now rest line → line ≤ 4294971395
+few_at bytes held now rest line here =
+    let is = behind bytes rest held now line here in omega (arith, here.line_is, few_lines here.beginning is.accepted)
+
+lack-more : (bytes more : List ℕ) → MayLackMemory bytes → MayLackMemory (bytes ++ more)
+lack-more bytes more lack = record {
+  beginning = lack.beginning;
+  line = lack.line;
+  more = lack.more ++ more;
+  bytes_are = ap (λ (l : List ℕ). l ++ more) lack.bytes_are ∙ simp (append_assoc);
+  accepted = lack.accepted;
+  wants = lack.wants;
+}
+
+whole_verdict : (given rest : List ℕ) (ended : Bool) (verdict : Verdict) → (ended ≡ true → rest ≡ []) → IsVerdictOf given ended verdict → IsVerdict (given ++ rest) verdict
+whole_verdict given rest true verdict end is = subst (λ (b : List ℕ). IsVerdict b verdict) (sym (ap (λ (r : List ℕ). given ++ r) (end refl) ∙ append-nil given)) is
+whole_verdict given rest false (Yes steps roots) end is = absurd is
+whole_verdict given rest false (No line refusal) end is = is rest
+
+whole_answer : (given rest : List ℕ) (ended : Bool) (result : Result Verdict JudgeFault) → (ended ≡ true → rest ≡ []) → IsAnswerOf given ended result → result ≢ Err Pull
+    → IfOk result (IsVerdict (given ++ rest)) × IfErr result (IsFault (given ++ rest))
+whole_answer given rest ended (Ok verdict) end answer no_pull = (whole_verdict given rest ended verdict end answer.verdict, tt)
+whole_answer given rest ended (Err Pull) end answer no_pull = absurd (no_pull refl)
+whole_answer given rest ended (Err NoMemory) end answer no_pull = (tt, lack-more given rest answer.fault)
+
+-- what an answer for bytes given out of all bytes says of all
+pub of_all : (bytes given rest : List ℕ) (ended : Bool) (result : Result Verdict JudgeFault) → bytes ≡ given ++ rest → (ended ≡ true → rest ≡ []) → IsAnswerOf given ended result
+    → result ≢ Err Pull → IfOk result (IsVerdict bytes) × IfErr result (IsFault bytes)
+of_all bytes given rest ended result are end answer no_pull =
+    subst (λ (b : List ℕ). IfOk result (IsVerdict b) × IfErr result (IsFault b)) (sym are) (whole_answer given rest ended result end answer no_pull)
+
+pub escape_of : (bytes : List ℕ) (result : Result Verdict JudgeFault) → IfOk result (EscapesExactly bytes)
+escape_of bytes (Ok verdict) = escapes_exactly bytes verdict
+escape_of bytes (Err fault) = tt

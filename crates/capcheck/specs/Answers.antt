@@ -1,0 +1,47 @@
+-- What the program prints for an order, and the status that goes with it (this profile's own).
+use Rattle.std.specs.Prelude.{◌≡◌, ℕ, List, Option, Some, None, IfSome}
+use Rattle.cap_bounds.specs.declared.rounding.Rounded.{Rounded}
+use Rattle.cap_bounds.specs.Rounding.{rounded_base, rounded_top, rounded_ie, rounded_exponent}
+use Rattle.capcheck.specs.declared.words.Order.{Order}
+use Rattle.capcheck.specs.declared.words.Order.TheVariants.{Explain, Round, Judge}
+use Rattle.capcheck.specs.declared.verdict.Verdict.{Verdict}
+use Rattle.capcheck.specs.declared.verdict.Verdict.TheVariants.{Yes, No}
+use Rattle.capcheck.specs.Operands.{SpellsWord, SpellsRequest}
+use Rattle.capcheck.specs.ExplainLines.{explain_lines}
+use Rattle.capcheck.specs.RoundLines.{round_lines}
+use Rattle.capcheck.specs.VerdictLines.{verdict_line}
+use Rattle.capcheck.specs.Verdicts.{IsVerdict}
+
+-- the exit status of a verdict
+abbrev pub verdict_status : Verdict → ℕ
+verdict_status (Yes steps roots) = 0
+verdict_status (No line refusal) = 1
+
+-- the bytes of an input, where they are known
+abbrev pub known_bytes : {R : Type 0} → (R → Option (List ℕ)) → Option R → Option (List ℕ)
+known_bytes remaining None = None
+known_bytes remaining (Some reader) = remaining reader
+
+-- a rounding is that of a request
+pub record IsRounding (rounded : Rounded) (base length : ℕ) : Type 0 where
+  pub base_is : rounded.base ≡ rounded_base base length
+  pub top_is : rounded.top ≡ rounded_top base length
+  pub ie_is : rounded.ie ≡ rounded_ie length
+  pub e_is : rounded.e ≡ rounded_exponent base length
+
+-- two words spell a request, and the text is that of its rounding
+pub record ShowsRounding (base_word length_word text : List ℕ) : Type 0 where
+  pub base : ℕ
+  pub length : ℕ
+  pub rounded : Rounded
+  pub spelled : SpellsRequest base_word length_word base length
+  pub rounding : IsRounding rounded base length
+  pub text_is : text ≡ round_lines rounded
+
+-- the text that an order prints, and its status
+abbrev pub Prints : Option Order → Option (List ℕ) → List ℕ → ℕ → Type 0
+Prints None input text status = ⊥
+Prints (Some (Explain memory tag hex)) input text status = (w : ℕ) × SpellsWord memory hex.now w × (text ≡ explain_lines w tag) × (status ≡ 0)
+Prints (Some (Round base_word length_word)) input text status = ShowsRounding base_word.now length_word.now text × (status ≡ 0)
+Prints (Some (Judge file)) input text status =
+    (verdict : Verdict) × IfSome input (λ bytes. IsVerdict bytes verdict) × (text ≡ verdict_line verdict) × (status ≡ verdict_status verdict)

@@ -1,0 +1,59 @@
+//! Judging an input and writing the verdict.
+
+ghost use Rattle.std.specs.Prelude.{◌≡◌};
+ghost use Rattle.std.specs.Io.KnownBytes.{Appends};
+ghost use Rattle.capcheck.specs.Answers.{verdict_status};
+ghost use Rattle.capcheck.specs.Doings.{IsInputDone};
+ghost use Rattle.capcheck.specs.Reports.{Reported};
+
+use crate::faults::Fault;
+use crate::reporting::judge_to;
+use crate::verdict::{JudgeToFault, Verdict};
+use cap_log::{ReadSource, Source, WriteSink};
+use std::alloc::Global;
+use std::io::{Read, Write};
+
+/// Judges what a reader gives, writes the line of the verdict, and answers the status that goes with it.
+/// An error of the reader, want of memory and an error of the writer are faults.
+pub fn judge_reader<R: Read + Drop, O: Write>(
+    alloc: Global,
+    reader: R,
+    out: &mut O,
+) -> Result<u8, Fault>
+    ensures done { IsInputDone (R.remaining reader) (O.contents out.old) (O.contents out.new) result }
+{
+    let mut source = ReadSource::new(reader);
+    match report(alloc, &mut source, out) {
+        Ok(verdict) => match out.flush() {
+            Ok(()) => Ok(verdict_status(&verdict)),
+            Err(_) => Err(Fault::Write),
+        },
+        Err(JudgeToFault::Pull) => Err(Fault::Read),
+        Err(JudgeToFault::NoMemory) => Err(Fault::NoMemory),
+        Err(JudgeToFault::Push) => Err(Fault::Write),
+    }
+}
+
+// Judges a source and writes the verdict.
+fn report<S: Source, O: Write>(
+    alloc: Global,
+    source: &mut S,
+    out: &mut O,
+) -> Result<Verdict, JudgeToFault>
+    ensures reported { Reported S.gave S.ended (λ a b xs. Appends (O.contents a) (O.contents b) xs) source.old source.new out.old out.new result }
+{
+    judge_to(alloc, source, &mut WriteSink::new(out))
+}
+
+// The status that goes with a verdict.
+fn verdict_status(verdict: &Verdict) -> u8
+    ensures { result ≡ verdict_status verdict.now }
+{
+    match verdict {
+        Verdict::Yes { steps: _, roots: _ } => 0,
+        Verdict::No {
+            line: _,
+            refusal: _,
+        } => 1,
+    }
+}

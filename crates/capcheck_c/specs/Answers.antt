@@ -1,0 +1,62 @@
+-- What the operations and the tests of accesses answer to C (this profile's own).
+use Rattle.std.specs.Prelude.{◌≡◌, ◌↔◌, ℕ, ◌+◌, ◌-◌, ◌%◌, ◌≤◌, Bool, ℤ, pos, neg_ℤ, ◌≤ℤ◌, List, ◌++◌, length, replicate, codes, MatchOption, IsTrue}
+use Rattle.cap_word.specs.declared.word.Cap.{Cap}
+use Rattle.cap_ops.specs.declared.faults.OpFault.{OpFault}
+use Rattle.cap_ops.specs.declared.faults.OpFault.TheVariants.{SourceUntagged, SourceSealed, BoundsEscape, NotExact, NotRepresentable, AuthorityUntagged, AuthoritySealed, AuthorityPermission, AuthorityBounds, TypeOutOfRange, TypeMismatch, Misaligned, StoreCapPermission, StoreLocalPermission}
+use Rattle.cap_ops.specs.declared.kinds.Kind.{Kind}
+use Rattle.cap_ops.specs.Accesses.{IsAllowed, access_address, access_tests, permission_for}
+use Rattle.cap_ops.specs.Faults.{number_of}
+use Rattle.cap_ops.specs.Sizes.{size_fits}
+use Rattle.cap_ops.specs.Tests.{first_of}
+use Rattle.capcheck_c.specs.Passed.{cap_of, no_cap}
+use Rattle.capcheck_c.specs.declared.values.AccessAnswer.{AccessAnswer}
+use Rattle.capcheck_c.specs.declared.values.Made.{Made}
+
+-- what an operation with these tests and this result answers: the result and 0 where no test holds, else
+-- NULL without a tag and the number of the first test that holds
+abbrev pub Answers : List (Bool × OpFault) → Cap → Made → Type 0
+Answers tests result made =
+    MatchOption (first_of tests)
+    ((made.refusal ≡ 0) × (cap_of made.cap ≡ result))
+    (λ fault. (made.refusal ≡ number_of fault) × (cap_of made.cap ≡ no_cap))
+
+-- an access of a kind has such offsets and sizes
+abbrev pub IsAccess : Kind → ℤ → ℕ → Type 0
+IsAccess kind offset size = (neg_ℤ (pos 2048) ≤ℤ offset) × (offset ≤ℤ pos 2047) × IsTrue (size_fits kind size)
+
+-- the refusal of an access whose offset or size no access of its kind has
+abbrev pub bad_argument : ℕ
+bad_argument = 255
+
+-- what the test of an access answers: its address and 0 where no test holds, else 0 and the number of the
+-- first test that holds; an access that is let through is in the authority's bounds, has its permission, is
+-- aligned, and lies in one granule; and what is no access is refused with a number of its own
+pub record AnswersAccess (authority : Cap) (kind : Kind) (offset : ℤ) (size : ℕ) (answer : AccessAnswer) : Type 0 where
+  pub outcome : IsAccess kind offset size → MatchOption (first_of (access_tests authority kind offset size))
+      ((answer.refusal ≡ 0) × (answer.address ≡ access_address authority.word.0 offset))
+      (λ fault. (answer.refusal ≡ number_of fault) × (answer.address ≡ 0))
+  pub allowed : answer.refusal ≡ 0 → IsAllowed authority.word.0 answer.address size (permission_for kind)
+  pub in_one_granule : answer.refusal ≡ 0 → answer.address % 16 + size ≤ 16
+  pub bad : (answer.refusal ≡ bad_argument) ↔ (¬ IsAccess kind offset size)
+  pub zero : ¬ IsAccess kind offset size → answer.address ≡ 0
+
+-- the name of a refusal, as the variant is spelled
+abbrev pub name_of : OpFault → List ℕ
+name_of SourceUntagged = codes "SourceUntagged"
+name_of SourceSealed = codes "SourceSealed"
+name_of BoundsEscape = codes "BoundsEscape"
+name_of NotExact = codes "NotExact"
+name_of NotRepresentable = codes "NotRepresentable"
+name_of AuthorityUntagged = codes "AuthorityUntagged"
+name_of AuthoritySealed = codes "AuthoritySealed"
+name_of AuthorityPermission = codes "AuthorityPermission"
+name_of AuthorityBounds = codes "AuthorityBounds"
+name_of TypeOutOfRange = codes "TypeOutOfRange"
+name_of TypeMismatch = codes "TypeMismatch"
+name_of Misaligned = codes "Misaligned"
+name_of StoreCapPermission = codes "StoreCapPermission"
+name_of StoreLocalPermission = codes "StoreLocalPermission"
+
+-- 24 bytes that hold a text as a C string: the text, and bytes 0 behind it
+abbrev pub c_string : List ℕ → List ℕ
+c_string text = text ++ replicate (24 - length text) 0

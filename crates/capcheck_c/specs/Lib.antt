@@ -1,0 +1,4 @@
+pub mod Answers
+pub mod LinesWritten
+pub mod Passed
+pub mod WordFields

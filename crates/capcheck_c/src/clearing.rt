@@ -1,0 +1,142 @@
+//! What always gives a capability: the operations in clear mode, where a refused result loses its tag,
+//! and what a load gives.
+
+ghost use Rattle.std.specs.Prelude.{◌≡◌, ◌≢◌, ◌≤◌, ◌+◌, ◌↔◌, IsFalse, false};
+ghost use Rattle.cap_word.specs.Fields.{address_of};
+ghost use Rattle.cap_bounds.specs.Bounds.{IsInside, IsSound, base_of, top_of};
+ghost use Rattle.cap_ops.specs.Accesses.{loaded_result};
+ghost use Rattle.cap_ops.specs.Authority.{StaysWithin};
+ghost use Rattle.cap_ops.specs.Operations.{
+  IsStrictWhereTagged,
+  and_perm_result,
+  and_perm_tests,
+  clear_result,
+  cleared,
+  seal_result,
+  seal_tests,
+  set_addr_result,
+  set_addr_tests,
+  set_bounds_result,
+  set_bounds_tests,
+  unseal_result,
+  unseal_tests,
+};
+ghost use Rattle.cap_ops.specs.Permissions.{is_sealed, perm_view_of};
+ghost use Rattle.capcheck_c.specs.Passed.{cap_of, whole_of};
+
+use crate::halves::{given, taken, word_of};
+use crate::values::{Capability, Halves};
+use cap_ops::{
+    and_perm_clear, clear_tag, loaded, perm_view, seal_clear, sealed, set_addr_clear,
+    set_bounds_clear, unseal_clear,
+};
+
+/// [`capcheck_set_bounds`](crate::operations::capcheck_set_bounds) in clear mode.
+#[unsafe(no_mangle)]
+pub extern "C" fn capcheck_set_bounds_clear(
+    source: Capability,
+    length: u64,
+    exact: bool,
+) -> Capability
+    ensures result_is { cap_of result
+        ≡ clear_result (set_bounds_tests (cap_of source) length exact) (set_bounds_result (cap_of source) length) }
+    ensures strict { IsStrictWhereTagged (set_bounds_tests (cap_of source) length exact) (set_bounds_result (cap_of source) length)
+        (cap_of result) }
+    ensures tag { result.tag ≤ 1 }
+    ensures stays_within { StaysWithin (cap_of result) (cap_of source) }
+    ensures escape { exact ≡ false → source.tag ≢ 0 → IsFalse (is_sealed (whole_of source.word)) → IsSound (whole_of source.word)
+        → ((result.tag ≡ 0) ↔ (¬ IsInside (address_of (whole_of source.word))
+        (address_of (whole_of source.word) + length) (base_of (whole_of source.word)) (top_of (whole_of source.word)))) }
+{
+    given(set_bounds_clear(taken(source), length, exact))
+}
+
+/// [`capcheck_set_addr`](crate::operations::capcheck_set_addr) in clear mode.
+#[unsafe(no_mangle)]
+pub extern "C" fn capcheck_set_addr_clear(source: Capability, address: u64) -> Capability
+    ensures result_is { cap_of result
+        ≡ clear_result (set_addr_tests (cap_of source) address) (set_addr_result (cap_of source) address) }
+    ensures strict { IsStrictWhereTagged (set_addr_tests (cap_of source) address) (set_addr_result (cap_of source) address)
+        (cap_of result) }
+    ensures tag { result.tag ≤ 1 }
+    ensures stays_within { StaysWithin (cap_of result) (cap_of source) }
+{
+    given(set_addr_clear(taken(source), address))
+}
+
+/// [`capcheck_and_perm`](crate::operations::capcheck_and_perm) in clear mode.
+#[unsafe(no_mangle)]
+pub extern "C" fn capcheck_and_perm_clear(source: Capability, mask: u64) -> Capability
+    ensures result_is { cap_of result
+        ≡ clear_result (and_perm_tests (cap_of source)) (and_perm_result (cap_of source) mask) }
+    ensures strict { IsStrictWhereTagged (and_perm_tests (cap_of source)) (and_perm_result (cap_of source) mask)
+        (cap_of result) }
+    ensures tag { result.tag ≤ 1 }
+    ensures stays_within { StaysWithin (cap_of result) (cap_of source) }
+{
+    given(and_perm_clear(taken(source), mask))
+}
+
+/// [`capcheck_seal`](crate::operations::capcheck_seal) in clear mode: the object type is the low 18 bits of
+/// the authority's address.
+#[unsafe(no_mangle)]
+pub extern "C" fn capcheck_seal_clear(source: Capability, authority: Capability) -> Capability
+    ensures result_is { cap_of result
+        ≡ clear_result (seal_tests (cap_of source) (cap_of authority)) (seal_result (cap_of source) (cap_of authority)) }
+    ensures strict { IsStrictWhereTagged (seal_tests (cap_of source) (cap_of authority)) (seal_result (cap_of source) (cap_of authority))
+        (cap_of result) }
+    ensures tag { result.tag ≤ 1 }
+    ensures stays_within { StaysWithin (cap_of result) (cap_of source) }
+{
+    given(seal_clear(taken(source), taken(authority)))
+}
+
+/// [`capcheck_unseal`](crate::operations::capcheck_unseal) in clear mode.
+#[unsafe(no_mangle)]
+pub extern "C" fn capcheck_unseal_clear(source: Capability, authority: Capability) -> Capability
+    ensures result_is { cap_of result
+        ≡ clear_result (unseal_tests (cap_of source) (cap_of authority)) (unseal_result (cap_of source) (cap_of authority)) }
+    ensures strict { IsStrictWhereTagged (unseal_tests (cap_of source) (cap_of authority)) (unseal_result (cap_of source) (cap_of authority))
+        (cap_of result) }
+    ensures tag { result.tag ≤ 1 }
+    ensures stays_within { StaysWithin (cap_of result) (cap_of source) }
+{
+    given(unseal_clear(taken(source), taken(authority)))
+}
+
+/// The capability without its tag.
+#[unsafe(no_mangle)]
+pub extern "C" fn capcheck_clear_tag(source: Capability) -> Capability
+    ensures result_is { cap_of result ≡ cleared (cap_of source) }
+    ensures tag { result.tag ≤ 1 }
+    ensures stays_within { StaysWithin (cap_of result) (cap_of source) }
+{
+    given(clear_tag(taken(source)))
+}
+
+/// What a load of a stored capability gives: its tag goes where the authority lacks Load Capability.
+#[unsafe(no_mangle)]
+pub extern "C" fn capcheck_loaded(authority: Capability, stored: Capability) -> Capability
+    ensures result_is { cap_of result ≡ loaded_result (cap_of authority) (cap_of stored) }
+    ensures tag { result.tag ≤ 1 }
+    ensures stays_within { StaysWithin (cap_of result) (cap_of stored) }
+{
+    given(loaded(taken(authority), taken(stored)))
+}
+
+/// Whether a word is sealed: its object type is not `0x3ffff`.
+#[unsafe(no_mangle)]
+pub extern "C" fn capcheck_sealed(word: Halves) -> bool
+    ensures { result ≡ is_sealed (whole_of word) }
+{
+    sealed(word_of(word))
+}
+
+/// The permissions in the architectural view: bits 0 to 11 as in the word's field, and the four for users
+/// at bits 15 to 18.
+#[unsafe(no_mangle)]
+pub extern "C" fn capcheck_perm_view(word: Halves) -> u32
+    ensures { result ≡ perm_view_of (whole_of word) }
+{
+    perm_view(word_of(word))
+}

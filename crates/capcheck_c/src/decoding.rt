@@ -1,0 +1,46 @@
+//! The bounds that a word has.
+
+ghost use Rattle.std.specs.Prelude.{◌≡◌, ◌<◌, ◌^◌, ◌↔◌, IsTrue};
+ghost use Rattle.cap_bounds.specs.Bounds.{AreBounds, IsSound, base_of, length_of, top_of};
+ghost use Rattle.capcheck_c.specs.Passed.{whole_of};
+
+use crate::halves::{halves_of, word_of};
+use crate::values::{Bounds, Halves};
+use cap_bounds::{bounds, sound};
+
+/// The bounds of a word, for all 2^128 of them.
+#[unsafe(no_mangle)]
+pub extern "C" fn capcheck_decode(word: Halves) -> Bounds
+    ensures base { result.base ≡ base_of (whole_of word) }
+    ensures top { whole_of result.top ≡ top_of (whole_of word) }
+    ensures relation { AreBounds (whole_of word) result.base (whole_of result.top) }
+    ensures top_fits { whole_of result.top < 2 ^ 65 }
+{
+    let interval = bounds(word_of(word));
+    Bounds {
+        base: interval.base,
+        top: halves_of(interval.top),
+    }
+}
+
+/// Whether a word is sound: its top is its base plus its length, and is at most 2^64.
+#[unsafe(no_mangle)]
+pub extern "C" fn capcheck_sound(word: Halves) -> bool
+    ensures { IsTrue result ↔ IsSound (whole_of word) }
+{
+    sound(word_of(word))
+}
+
+/// The length of a sound word, its top less its base, at most 2^64; 0 for a word that isn't sound.
+#[unsafe(no_mangle)]
+pub extern "C" fn capcheck_length(word: Halves) -> Halves
+    ensures sound { IsSound (whole_of word) → whole_of result ≡ length_of (whole_of word) }
+    ensures unsound { ¬ IsSound (whole_of word) → whole_of result ≡ 0 }
+{
+    let word = word_of(word);
+    if !sound(word) {
+        return halves_of(0);
+    }
+    let interval = bounds(word);
+    halves_of(interval.top.saturating_sub(u128::from(interval.base)))
+}

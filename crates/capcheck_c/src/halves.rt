@@ -1,0 +1,54 @@
+//! What C passes, made into words and capabilities, and back.
+
+ghost use Rattle.std.specs.Prelude.{◌≡◌, ◌≤◌};
+ghost use Rattle.capcheck_c.specs.Passed.{cap_of, whole_of};
+
+use crate::values::{Capability, Halves};
+use cap_word::{Cap, Word};
+
+/// The number that two halves make.
+#[tactic(auto, unfolding(crate::specs::Passed::whole_of))]
+pub(crate) fn whole(halves: Halves) -> u128
+    ensures { result ≡ whole_of halves }
+{
+    (u128::from(halves.high) << 64) + u128::from(halves.low)
+}
+
+/// The halves of a number.
+#[tactic(auto, unfolding(crate::specs::Passed::whole_of))]
+pub(crate) fn halves_of(number: u128) -> Halves
+    ensures { whole_of result ≡ number }
+{
+    Halves {
+        high: (number >> 64) as u64,
+        low: (number & 0xffff_ffff_ffff_ffff) as u64,
+    }
+}
+
+/// The word that two halves make.
+pub(crate) fn word_of(halves: Halves) -> Word
+    ensures { result.0 ≡ whole_of halves }
+{
+    Word(whole(halves))
+}
+
+/// A capability that C passes.
+pub(crate) fn taken(passed: Capability) -> Cap
+    ensures { result ≡ cap_of passed }
+{
+    Cap {
+        tag: passed.tag != 0,
+        word: word_of(passed.word),
+    }
+}
+
+/// A capability as C gets it.
+pub(crate) fn given(cap: Cap) -> Capability
+    ensures cap { cap_of result ≡ cap }
+    ensures tag { result.tag ≤ 1 }
+{
+    Capability {
+        word: halves_of(cap.word.0),
+        tag: u8::from(cap.tag),
+    }
+}

@@ -1,0 +1,131 @@
+//! The lines of steps that read and write memory.
+//!
+//! Each call answers how many bytes it wrote, the line feed with them, or 0 where a number is out of its
+//! range; then the buffer is as it was.
+
+ghost use Rattle.cap_log.specs.declared.lines.Line.TheVariants as line;
+ghost use Rattle.cap_log.specs.declared.lines.Step.TheVariants as step;
+ghost use Rattle.capcheck_c.specs.LinesWritten.{AnswersLine};
+ghost use Rattle.capcheck_c.specs.Passed.{cap_of};
+
+use crate::halves::taken;
+use crate::ranges::{offset_of, register_of, size_of, target_of};
+use crate::values::Capability;
+use crate::written::put_line;
+use cap_log::{Line, Step};
+
+/// Writes the line of a step `lc` into the buffer.
+#[unsafe(no_mangle)]
+pub extern "C" fn capcheck_line_lc(
+    buffer: &mut [u8; 96],
+    target: u64,
+    authority: u64,
+    offset: i64,
+    recorded: Capability,
+) -> usize
+    ensures { AnswersLine (line.Step (step.LoadCap target authority offset (cap_of recorded))) buffer.old buffer.new result }
+{
+    let Some(target) = target_of(target) else {
+        return 0;
+    };
+    let Some(authority) = register_of(authority) else {
+        return 0;
+    };
+    let Some(offset) = offset_of(offset) else {
+        return 0;
+    };
+    let step = Step::LoadCap {
+        target,
+        authority,
+        offset,
+        result: taken(recorded),
+    };
+    put_line(&Line::Step(step), buffer)
+}
+
+/// Writes the line of a step `sc` into the buffer.
+#[unsafe(no_mangle)]
+pub extern "C" fn capcheck_line_sc(
+    buffer: &mut [u8; 96],
+    source: u64,
+    authority: u64,
+    offset: i64,
+) -> usize
+    ensures { AnswersLine (line.Step (step.StoreCap source authority offset)) buffer.old buffer.new result }
+{
+    let Some(source) = register_of(source) else {
+        return 0;
+    };
+    let Some(authority) = register_of(authority) else {
+        return 0;
+    };
+    let Some(offset) = offset_of(offset) else {
+        return 0;
+    };
+    let step = Step::StoreCap {
+        source,
+        authority,
+        offset,
+    };
+    put_line(&Line::Step(step), buffer)
+}
+
+/// Writes the line of a step `load` into the buffer: `size` is 1, 2, 4 or 8, and `value` is below
+/// 256^size.
+#[unsafe(no_mangle)]
+pub extern "C" fn capcheck_line_load(
+    buffer: &mut [u8; 96],
+    authority: u64,
+    offset: i64,
+    size: u64,
+    value: u64,
+) -> usize
+    ensures { AnswersLine (line.Step (step.Load authority offset size value)) buffer.old buffer.new result }
+{
+    let Some(authority) = register_of(authority) else {
+        return 0;
+    };
+    let Some(offset) = offset_of(offset) else {
+        return 0;
+    };
+    let Some(size) = size_of(size, value) else {
+        return 0;
+    };
+    let step = Step::Load {
+        authority,
+        offset,
+        size,
+        value,
+    };
+    put_line(&Line::Step(step), buffer)
+}
+
+/// Writes the line of a step `store` into the buffer: `size` is 1, 2, 4 or 8, and `value` is below
+/// 256^size.
+#[unsafe(no_mangle)]
+pub extern "C" fn capcheck_line_store(
+    buffer: &mut [u8; 96],
+    authority: u64,
+    offset: i64,
+    size: u64,
+    value: u64,
+) -> usize
+    ensures { AnswersLine (line.Step (step.Store authority offset size value)) buffer.old buffer.new result }
+{
+    let Some(authority) = register_of(authority) else {
+        return 0;
+    };
+    let Some(offset) = offset_of(offset) else {
+        return 0;
+    };
+    let Some(size) = size_of(size, value) else {
+        return 0;
+    };
+    let step = Step::Store {
+        authority,
+        offset,
+        size,
+        value,
+    };
+    put_line(&Line::Step(step), buffer)
+}

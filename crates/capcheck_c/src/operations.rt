@@ -1,0 +1,142 @@
+//! The operations on capabilities, each with the number of its refusal.
+
+ghost use Rattle.std.specs.Prelude.{◌≡◌, ◌≢◌, ◌≤◌, ◌+◌, ◌&&◌, ◌↔◌, MatchResult, IsFalse, IsTrue, bit_and};
+ghost use Rattle.cap_word.specs.Fields.{address_of, otype_of};
+ghost use Rattle.cap_bounds.specs.Bounds.{IsInside, IsSound, base_of, top_of};
+ghost use Rattle.cap_bounds.specs.Range.{IsRepresentable};
+ghost use Rattle.cap_ops.specs.Authority.{StaysWithin};
+ghost use Rattle.cap_ops.specs.Faults.{number_of};
+ghost use Rattle.cap_ops.specs.Operations.{
+  and_perm_result,
+  and_perm_tests,
+  seal_result,
+  seal_tests,
+  set_addr_result,
+  set_addr_tests,
+  set_bounds_result,
+  set_bounds_tests,
+  unseal_result,
+  unseal_tests,
+};
+ghost use Rattle.cap_ops.specs.Permissions.{global, has_permission, is_sealed, perm_view_of};
+ghost use Rattle.capcheck_c.specs.Answers.{Answers};
+ghost use Rattle.capcheck_c.specs.Passed.{cap_of, is_set, no_cap, whole_of};
+
+use crate::halves::{given, taken};
+use crate::values::{Capability, Made};
+use cap_ops::{OpFault, and_perm, seal, set_addr, set_bounds, unseal};
+use cap_word::{Cap, null};
+
+/// NULL without a tag.
+fn no_capability() -> Capability
+    ensures cap { cap_of result ≡ no_cap }
+    ensures tag { result.tag ≤ 1 }
+{
+    given(Cap {
+        tag: false,
+        word: null(),
+    })
+}
+
+/// An operation's outcome as C gets it.
+fn made_from(outcome: Result<Cap, OpFault>) -> Made
+    ensures outcome { MatchResult outcome
+        (λ cap. (result.refusal ≡ 0) × (cap_of result.cap ≡ cap))
+        (λ fault. (result.refusal ≡ number_of fault) × (cap_of result.cap ≡ no_cap)) }
+    ensures tag { result.cap.tag ≤ 1 }
+{
+    match outcome {
+        Ok(cap) => Made {
+            cap: given(cap),
+            refusal: 0,
+        },
+        Err(fault) => Made {
+            cap: no_capability(),
+            refusal: fault.number(),
+        },
+    }
+}
+
+/// Narrows the source's bounds to the length from its address on, rounded; with `exact` only where nothing
+/// is rounded.
+///
+/// A tagged source is refused where it is sealed (10), then where the rounded bounds do not lie inside its
+/// own (11), then where they are to be exact and are not (12).
+#[unsafe(no_mangle)]
+pub extern "C" fn capcheck_set_bounds(source: Capability, length: u64, exact: bool) -> Made
+    ensures outcome { Answers (set_bounds_tests (cap_of source) length exact) (set_bounds_result (cap_of source) length) result }
+    ensures tag { result.cap.tag ≤ 1 }
+    ensures stays_within { StaysWithin (cap_of result.cap) (cap_of source) }
+    ensures escape { source.tag ≢ 0 → IsFalse (is_sealed (whole_of source.word)) → IsSound (whole_of source.word)
+        → ((result.refusal ≡ 11) ↔ (¬ IsInside (address_of (whole_of source.word))
+        (address_of (whole_of source.word) + length) (base_of (whole_of source.word)) (top_of (whole_of source.word)))) }
+{
+    made_from(set_bounds(taken(source), length, exact))
+}
+
+/// Gives the source another address.
+///
+/// A tagged source is refused where it is sealed (10), and then where the address does not keep its bounds
+/// (13).
+#[unsafe(no_mangle)]
+pub extern "C" fn capcheck_set_addr(source: Capability, address: u64) -> Made
+    ensures outcome { Answers (set_addr_tests (cap_of source) address) (set_addr_result (cap_of source) address) result }
+    ensures tag { result.cap.tag ≤ 1 }
+    ensures moved_so { result.refusal ≡ 0 → ((cap_of result.cap).tag ≡ is_set source.tag)
+        × (address_of (whole_of result.cap.word) ≡ address) }
+    ensures stays_within { StaysWithin (cap_of result.cap) (cap_of source) }
+    ensures range { source.tag ≢ 0 → IsFalse (is_sealed (whole_of source.word))
+        → ((result.refusal ≡ 13) ↔ (¬ IsRepresentable (whole_of source.word) address)) }
+    ensures near { base_of (whole_of source.word) ≤ address → address ≤ top_of (whole_of source.word)
+        → result.refusal ≢ 13 }
+{
+    made_from(set_addr(taken(source), address))
+}
+
+/// Takes permissions away: those of the view that the mask lacks. A tagged source that is sealed is
+/// refused (10).
+#[unsafe(no_mangle)]
+pub extern "C" fn capcheck_and_perm(source: Capability, mask: u64) -> Made
+    ensures outcome { Answers (and_perm_tests (cap_of source)) (and_perm_result (cap_of source) mask) result }
+    ensures tag { result.cap.tag ≤ 1 }
+    ensures view { result.refusal ≡ 0
+        → perm_view_of (whole_of result.cap.word) ≡ bit_and (perm_view_of (whole_of source.word)) mask }
+    ensures stays_within { StaysWithin (cap_of result.cap) (cap_of source) }
+{
+    made_from(and_perm(taken(source), mask))
+}
+
+/// Seals the source with the authority's address as its object type.
+///
+/// It is refused, in this order, where the authority is untagged (14), is sealed (15), lacks Seal (16), or
+/// does not hold its own address (17), where that address is above `0x3fffb` (18), and where the source is
+/// untagged (9) or sealed (10).
+#[unsafe(no_mangle)]
+pub extern "C" fn capcheck_seal(source: Capability, authority: Capability) -> Made
+    ensures outcome { Answers (seal_tests (cap_of source) (cap_of authority)) (seal_result (cap_of source) (cap_of authority)) result }
+    ensures tag { result.cap.tag ≤ 1 }
+    ensures sealed_so { result.refusal ≡ 0 → (result.cap.tag ≡ 1) × IsTrue (is_sealed (whole_of result.cap.word))
+        × (otype_of (whole_of result.cap.word) ≡ address_of (whole_of authority.word))
+        × (address_of (whole_of result.cap.word) ≡ address_of (whole_of source.word)) }
+    ensures stays_within { StaysWithin (cap_of result.cap) (cap_of source) }
+{
+    made_from(seal(taken(source), taken(authority)))
+}
+
+/// Unseals the source, which is sealed with the authority's address.
+///
+/// It is refused, in this order, where the authority is untagged (14), is sealed (15), lacks Unseal (16),
+/// or does not hold its own address (17), and where the source is untagged (9) or has another object type
+/// or a reserved one (19).
+#[unsafe(no_mangle)]
+pub extern "C" fn capcheck_unseal(source: Capability, authority: Capability) -> Made
+    ensures outcome { Answers (unseal_tests (cap_of source) (cap_of authority)) (unseal_result (cap_of source) (cap_of authority)) result }
+    ensures tag { result.cap.tag ≤ 1 }
+    ensures unsealed_so { result.refusal ≡ 0 → (result.cap.tag ≡ 1) × IsFalse (is_sealed (whole_of result.cap.word))
+        × (has_permission (whole_of result.cap.word) global
+        ≡ (has_permission (whole_of source.word) global && has_permission (whole_of authority.word) global))
+        × (address_of (whole_of result.cap.word) ≡ address_of (whole_of source.word)) }
+    ensures stays_within { StaysWithin (cap_of result.cap) (cap_of source) }
+{
+    made_from(unseal(taken(source), taken(authority)))
+}

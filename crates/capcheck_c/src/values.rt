@@ -1,0 +1,134 @@
+//! What passes between C and the library: structs of plain numbers.
+
+/// A number of 128 bits as its two halves: a word in the register layout, or a number of more than 64
+/// bits (in C `capcheck_word` and `capcheck_wide`).
+#[repr(C)]
+#[derive(Debug, Clone, Copy, PartialEq, Eq)]
+pub struct Halves {
+    /// Bits 127 to 64.
+    pub high: u64,
+    /// Bits 63 to 0.
+    pub low: u64,
+}
+
+/// A capability (in C `capcheck_cap`).
+#[repr(C)]
+#[derive(Debug, Clone, Copy, PartialEq, Eq)]
+pub struct Capability {
+    /// Its word.
+    pub word: Halves,
+    /// Its tag: any number but 0 is one, and 1 in results.
+    pub tag: u8,
+}
+
+/// The fields of a word (in C `capcheck_fields`).
+#[repr(C)]
+#[derive(Debug, Clone, Copy, PartialEq, Eq)]
+pub struct WordFields {
+    /// The address.
+    pub address: u64,
+    /// The object type, below 2^18.
+    pub otype: u32,
+    /// The permissions.
+    pub perms: u16,
+    /// B, below 2^14.
+    pub b: u16,
+    /// The low twelve bits of T, below 2^12.
+    pub t: u16,
+    /// The exponent E, below 64; 0 without `ie`.
+    pub e: u8,
+    /// Whether the exponent stands in the word: any number but 0 is so, and 1 in results.
+    pub ie: u8,
+    /// The flag: any number but 0 is set, and 1 in results.
+    pub flag: u8,
+    /// The two reserved bits, below 4.
+    pub reserved: u8,
+}
+
+/// A word, or none (in C `capcheck_optional_word`).
+#[repr(C)]
+#[derive(Debug, Clone, Copy, PartialEq, Eq)]
+pub struct OptionalWord {
+    /// The word; 0 where there is none.
+    pub word: Halves,
+    /// 1 where there is a word, else 0.
+    pub present: u8,
+}
+
+/// The text of a word (in C `capcheck_word_text`).
+#[repr(C)]
+#[derive(Debug, Clone, Copy, PartialEq, Eq)]
+pub struct WordText {
+    /// 32 digits and a byte 0.
+    pub digits: [u8; 33],
+}
+
+/// The bounds of a word (in C `capcheck_bounds`).
+#[repr(C)]
+#[derive(Debug, Clone, Copy, PartialEq, Eq)]
+pub struct Bounds {
+    /// The lowest address.
+    pub base: u64,
+    /// The address after the highest one.
+    pub top: Halves,
+}
+
+/// The rounding of a request (in C `capcheck_rounded`).
+#[repr(C)]
+#[derive(Debug, Clone, Copy, PartialEq, Eq)]
+pub struct RoundedRequest {
+    /// The requested base, rounded down.
+    pub base: u64,
+    /// The requested top, rounded up, at most 2^65.
+    pub top: Halves,
+    /// B: the base in units of 2^e, modulo 2^14.
+    pub b: u16,
+    /// T: the top in units of 2^e, modulo 2^14.
+    pub t: u16,
+    /// The exponent, at most 52.
+    pub e: u8,
+    /// 1 where the exponent stands in the word, from a length of 4096 on, else 0.
+    pub ie: u8,
+    /// 1 where both bounds are the requested ones, else 0.
+    pub exact: u8,
+}
+
+/// The addresses that keep a word's bounds (in C `capcheck_range`).
+#[repr(C)]
+#[derive(Debug, Clone, Copy, PartialEq, Eq)]
+pub struct AddressRange {
+    /// The first address; 0 where every address keeps the bounds.
+    pub start: u64,
+    /// How many there are; 0 where every address keeps the bounds.
+    pub size: u64,
+    /// 1 where every address keeps the bounds, else 0.
+    pub every: u8,
+}
+
+/// What an operation answers (in C `capcheck_made`).
+#[repr(C)]
+#[derive(Debug, Clone, Copy, PartialEq, Eq)]
+pub struct Made {
+    /// The result; NULL without a tag where the operation is refused.
+    pub cap: Capability,
+    /// 0, or the number of the refusal.
+    pub refusal: u8,
+}
+
+/// What the test of an access answers (in C `capcheck_access`).
+#[repr(C)]
+#[derive(Debug, Clone, Copy, PartialEq, Eq)]
+pub struct AccessAnswer {
+    /// The address of the access; 0 where it is refused.
+    pub address: u64,
+    /// 0, or the number of the refusal.
+    pub refusal: u8,
+}
+
+/// The name of a refusal (in C `capcheck_name`).
+#[repr(C)]
+#[derive(Debug, Clone, Copy, PartialEq, Eq)]
+pub struct RefusalName {
+    /// The name, and bytes 0 behind it.
+    pub text: [u8; 24],
+}

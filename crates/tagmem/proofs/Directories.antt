@@ -1,0 +1,123 @@
+-- What becomes of a directory as pages change and are added.
+use Rattle.std.proofs.Common.{◌≡◌, ℕ, ◌+◌, ◌*◌, ◌<◌, true, false, cond, eqb, List, [], ◌∷◌, ◌++◌, length, get_or, set, map, Some, None}
+use Rattle.std.proofs.Common.{Option, suc, sym, refl, ap, subst, ◌∙◌, arith}
+use Rattle.std.specs.Prelude.{Box}
+use Rattle.std.specs.Ordering.{nat_cmp}
+use Rattle.std.specs.Cmp.{unsigned_tied}
+use Rattle.std.specs.Map.{lookup}
+use Rattle.std.specs.BTreeMap as tree
+use Rattle.std.specs.BTreeMap.{BTreeMap, Updates}
+use Rattle.std.proofs.lemmas.Bool.{eqb-true}
+use Rattle.std.proofs.lemmas.Bool.Decides.{nat_tests}
+use Rattle.std.proofs.lemmas.Option.{none-some, same_Some}
+use Rattle.std.proofs.lemmas.List.{get_or-map, length-map, length-append, map-append, get_or_append_left, get_or_push}
+use Rattle.std.proofs.Math.ListN.{length-set}
+use Rattle.std.proofs.Math.Seq.{map-set_same}
+use Rattle.tagmem.specs.declared.page.Page.{Page}
+use Rattle.tagmem.specs.Granules.{Entry}
+use Rattle.tagmem.specs.Pages.{slots_of, with_slot, entries_from, entries_of, number_at, IsPageAt, IsAbsent, IsDirectory}
+
+-- the number of the page in a box
+abbrev number_of : {Z : Type 0} → Box Page Z → ℕ
+number_of box = box.value.number
+
+-- no pages have an empty directory
+pub IsDirectory-empty : {Z : Type 0} (directory : BTreeMap ℕ ℕ) → directory.entries ≡ [] → IsDirectory {Z = Z} [] directory
+IsDirectory-empty directory empty = record {
+  has = λ i lt. absurd (omega arith);
+  right = λ n i is. absurd (none-some i (sym (ap (lookup (tree.is_at (nat_cmp n))) empty) ∙ is));
+}
+
+-- one that has the same entries is one too
+pub IsDirectory-same : {Z : Type 0} (boxes : List (Box Page Z)) (old new : BTreeMap ℕ ℕ) → new.entries ≡ old.entries
+    → IsDirectory boxes old → IsDirectory boxes new
+IsDirectory-same boxes old new same known =
+    let alike : (q : ℕ) → tree.get nat_cmp new q ≡ tree.get nat_cmp old q = λ q. ap (lookup (tree.is_at (nat_cmp q))) same in
+    record { has = λ i lt. alike _ ∙ known.has i lt; right = λ n i is. known.right n i (sym (alike n) ∙ is) }
+
+-- a page in the place of another of its number keeps it
+pub IsDirectory-set : {Z : Type 0} (boxes : List (Box Page Z)) (directory : BTreeMap ℕ ℕ) (new : Box Page Z) (place : ℕ)
+    → IsPageAt boxes new.value.number place → IsDirectory boxes directory → IsDirectory (set boxes place new) directory
+IsDirectory-set boxes directory new place at known =
+    let same : map number_of (set boxes place new) ≡ map number_of boxes =
+    map-set_same number_of boxes place new new (sym at.has_number ∙ get_or-map number_of boxes place new 0 at.in_range) in
+    let long : length (set boxes place new) ≡ length boxes = length-set boxes place new in
+    let number_is : (i : ℕ) → number_at (set boxes place new) i ≡ number_at boxes i = λ i. ap (λ ns. get_or ns i 0) same in
+    record {
+      has = λ i lt. ap (tree.get nat_cmp directory) (number_is i) ∙ known.has i (omega (arith, long));
+      right = λ n i is.
+          let was = known.right n i is in
+          record { in_range = omega (arith, long, was.in_range); has_number = number_is i ∙ was.has_number };
+    }
+
+-- a page more, at a place behind the others
+module _ {Z : Type 0} (boxes : List (Box Page Z)) (box : Box Page Z) (number place : ℕ)
+    (its_number : box.value.number ≡ number) (last : place ≡ length boxes) where
+  length-push : length (boxes ++ box ∷ []) ≡ length boxes + 1
+  length-push = length-append boxes (box ∷ [])
+
+  numbers : map number_of (boxes ++ box ∷ []) ≡ map number_of boxes ++ box.value.number ∷ []
+  numbers = map-append number_of boxes (box ∷ [])
+
+  number_at-last : number_at (boxes ++ box ∷ []) place ≡ number
+  number_at-last =
+      let many : length (map number_of boxes) ≡ place = length-map boxes number_of ∙ sym last in
+      ap (λ ns. get_or ns place 0) numbers ∙ get_or_push _ box.value.number 0 place many ∙ its_number
+
+  number_at-before : (i : ℕ) → i < length boxes → number_at (boxes ++ box ∷ []) i ≡ number_at boxes i
+  number_at-before i lt =
+      let many : length (map number_of boxes) ≡ length boxes = length-map boxes number_of in
+      ap (λ ns. get_or ns i 0) numbers ∙ get_or_append_left (map number_of boxes) (box.value.number ∷ []) 0 i (omega arith)
+
+  -- is there
+  pub IsPageAt-push : IsPageAt (boxes ++ box ∷ []) number place
+  IsPageAt-push = record { in_range = omega (arith, length-push, last); has_number = number_at-last }
+
+  -- and a directory with its place is one of the pages with it
+  pub IsDirectory-push : (old new : BTreeMap ℕ ℕ) → IsAbsent boxes number → IsDirectory boxes old
+      → Updates nat_cmp old new number (Some place) → IsDirectory (boxes ++ box ∷ []) new
+  IsDirectory-push old new absent known updates = record { has = has; right = right }
+    where
+      told : (q : ℕ) → tree.get nat_cmp new q ≡ cond (eqb number q) (Some place) (tree.get nat_cmp old q)
+      told q = updates.0 q ∙ ap (λ b. cond b (Some place) (tree.get nat_cmp old q)) (unsigned_tied number q)
+
+      told_own : (q : ℕ) → eqb number q ≡ true → tree.get nat_cmp new q ≡ Some place
+      told_own q same = told q ∙ ap (λ b. cond b (Some place) (tree.get nat_cmp old q)) same
+
+      told_other : (q : ℕ) → eqb number q ≡ false → tree.get nat_cmp new q ≡ tree.get nat_cmp old q
+      told_other q differs = told q ∙ ap (λ b. cond b (Some place) (tree.get nat_cmp old q)) differs
+
+      has : (i : ℕ) → i < length (boxes ++ box ∷ []) → tree.get nat_cmp new (number_at (boxes ++ box ∷ []) i) ≡ Some i
+      has i lt =
+          elim (eqb number (number_at (boxes ++ box ∷ []) i))
+          as (λ b. eqb number (number_at (boxes ++ box ∷ []) i) ≡ b → tree.get nat_cmp new (number_at (boxes ++ box ∷ []) i) ≡ Some i) [
+            | true ↦ λ same. told_own _ same ∙ ap Some (grind (arith, length-push, last, absent i, number_at-before i, eqb-true _ _ same))
+            | false ↦ λ differs.
+                let before : i < length boxes = grind (arith, nat_tests, length-push, last, number_at-last) in
+                told_other _ differs ∙ ap (tree.get nat_cmp old) (number_at-before i before) ∙ known.has i before
+          ] refl
+
+      right : (n i : ℕ) → tree.get nat_cmp new n ≡ Some i → IsPageAt (boxes ++ box ∷ []) n i
+      right n i is =
+          elim (eqb number n) as (λ b. eqb number n ≡ b → IsPageAt (boxes ++ box ∷ []) n i) [
+            | true ↦ λ same.
+                let here : place ≡ i = same_Some _ _ (sym (told_own n same) ∙ is) in
+                subst (λ k. IsPageAt (boxes ++ box ∷ []) n k) here
+                (subst (λ m. IsPageAt (boxes ++ box ∷ []) m place) (eqb-true _ _ same) IsPageAt-push)
+            | false ↦ λ differs.
+                let was : IsPageAt boxes n i = known.right n i (sym (told_other n differs) ∙ is) in
+                let below = was.in_range in
+                record { in_range = omega (arith, length-push, below); has_number = number_at-before i below ∙ was.has_number }
+          ] refl
+
+entries_from-none : (g : ℕ) (slots : List (Option Entry)) → ((i : ℕ) → get_or slots i None ≡ None) → entries_from g slots ≡ []
+entries_from-none g [] none = refl
+entries_from-none g (slot ∷ slots) none =
+    ap (λ s. with_slot g s (entries_from (suc g) slots)) (none 0) ∙ entries_from-none (suc g) slots (λ i. none (suc i))
+
+-- a page of which no granule was put adds no entry
+pub entries_of-push : {Z : Type 0} (boxes : List (Box Page Z)) (box : Box Page Z) → ((i : ℕ) → get_or (slots_of box.value) i None ≡ None)
+    → entries_of (boxes ++ box ∷ []) ≡ entries_of boxes
+entries_of-push [] box none = ap (λ es. es ++ []) (entries_from-none (256 * box.value.number) (slots_of box.value) none)
+entries_of-push (first ∷ boxes) box none =
+    ap (λ es. entries_from (256 * first.value.number) (slots_of first.value) ++ es) (entries_of-push boxes box none)

@@ -1,0 +1,194 @@
+-- What pages have at a granule, and what a put in one of them does.
+use Rattle.std.proofs.Common.{◌≡◌, ℕ, zero, suc, ◌+◌, ◌-◌, ◌*◌, ◌/◌, ◌%◌, ◌<◌, ◌≤◌, ◌≢◌, Bool, true, false, cond, eqb, leb}
+use Rattle.std.proofs.Common.{List, [], ◌∷◌, ◌++◌, length, get_or, set, Option, Some, None, sym, refl, ap, ◌∙◌, arith}
+use Rattle.std.specs.Prelude.{Box}
+use Rattle.std.specs.Ordering.{nat_cmp, eq_by_cmp}
+use Rattle.std.specs.Cmp.{nat_cmp_total, unsigned_tied}
+use Rattle.std.specs.Option.{option_or}
+use Rattle.std.specs.FinMap as map
+use Rattle.std.specs.FinMap.{find, get-from_entries, nat_cmp-IsAntisymmetric, same_map}
+use Rattle.std.specs.BTreeMap as tree
+use Rattle.std.specs.BTreeMap.{BTreeMap}
+use Rattle.std.proofs.lemmas.Bool.{eqb-true}
+use Rattle.std.proofs.lemmas.Bool.Decides.{nat_tests}
+use Rattle.std.proofs.lemmas.Option.{none-some, same_Some}
+use Rattle.std.proofs.lemmas.List.{get_or-set_same, get_or-set_other}
+use Rattle.std.proofs.Math.ListN.{get_or-eq_default}
+use Rattle.tagmem.specs.declared.page.Page.{Page}
+use Rattle.tagmem.specs.Granules.{Entry}
+use Rattle.tagmem.specs.Pages.{slots_of, with_slot, entries_from, entries_of, contents_of, number_at, IsPageAt, IsAbsent, IsDirectory}
+use Rattle.tagmem.proofs.Granules.{get-put}
+
+-- what a page says of a granule
+abbrev pub in_page : Page → ℕ → Option Entry
+in_page page q = cond (eqb page.number (q / 256)) (get_or (slots_of page) (q % 256) None) None
+
+-- what the first page that has a granule says
+abbrev pub found : {Z : Type 0} → List (Box Page Z) → ℕ → Option Entry
+found [] q = None
+found (box ∷ boxes) q = option_or (in_page box.value q) (found boxes q)
+
+option_or-None : (slot : Option Entry) → option_or slot None ≡ slot
+option_or-None None = refl
+option_or-None (Some entry) = refl
+
+find-append : (xs ys : List (ℕ × Entry)) (q : ℕ) → find nat_cmp q (xs ++ ys) ≡ option_or (find nat_cmp q xs) (find nat_cmp q ys)
+find-append [] ys q = refl
+find-append (x ∷ xs) ys q =
+    elim (eq_by_cmp nat_cmp q x.0)
+    as (λ b. cond b (Some x.1) (find nat_cmp q (xs ++ ys)) ≡ option_or (cond b (Some x.1) (find nat_cmp q xs)) (find nat_cmp q ys)) [
+      | true ↦ refl
+      | false ↦ find-append xs ys q
+    ]
+
+find-with_slot : (g : ℕ) (slot : Option Entry) (rest : List (ℕ × Entry)) (q : ℕ)
+    → find nat_cmp q (with_slot g slot rest) ≡ cond (eqb q g) (option_or slot (find nat_cmp q rest)) (find nat_cmp q rest)
+find-with_slot g None rest q =
+    elim (eqb q g) as (λ b. find nat_cmp q rest ≡ cond b (find nat_cmp q rest) (find nat_cmp q rest)) [ true ↦ refl | false ↦ refl ]
+find-with_slot g (Some entry) rest q = ap (λ b. cond b (Some entry) (find nat_cmp q rest)) (unsigned_tied q g)
+
+-- what slots, the first of which is granule g's, say of a granule
+abbrev in_slots : ℕ → List (Option Entry) → ℕ → Option Entry
+in_slots g slots q = cond (leb g q) (get_or slots (q - g) None) None
+
+-- a slot before others
+module _ (g q : ℕ) (slot : Option Entry) (slots : List (Option Entry)) where
+  at_first : q ≡ g → get_or (slot ∷ slots) (q - g) None ≡ slot
+  at_first same = let none : q - g ≡ zero = omega arith in ap (λ n. get_or (slot ∷ slots) n None) none
+
+  at_later : g < q → get_or (slot ∷ slots) (q - g) None ≡ get_or slots (q - suc g) None
+  at_later above = let one : q - g ≡ suc (q - suc g) = omega arith in ap (λ n. get_or (slot ∷ slots) n None) one
+
+  in_slots-cons : cond (eqb q g) (option_or slot (in_slots (suc g) slots q)) (in_slots (suc g) slots q) ≡ in_slots g (slot ∷ slots) q
+  in_slots-cons = grind (arith, nat_tests, at_first, at_later, option_or-None slot)
+
+find-entries_from : (g : ℕ) (slots : List (Option Entry)) (q : ℕ) → find nat_cmp q (entries_from g slots) ≡ in_slots g slots q
+find-entries_from g [] q = elim (leb g q) as (λ b. find nat_cmp q (entries_from g []) ≡ cond b None None) [ true ↦ refl | false ↦ refl ]
+find-entries_from g (slot ∷ slots) q =
+    find-with_slot g slot _ q ∙ ap (λ o. cond (eqb q g) (option_or slot o) o) (find-entries_from (suc g) slots q)
+    ∙ in_slots-cons g q slot slots
+
+-- a page has the 256 granules from 256 times its number on
+in_slots-page : (page : Page) (q : ℕ) → in_slots (256 * page.number) (slots_of page) q ≡ in_page page q
+in_slots-page page q =
+    let past : 256 * page.number + 256 ≤ q → get_or (slots_of page) (q - 256 * page.number) None ≡ None =
+    λ le. get_or-eq_default (slots_of page) None (let wide = page.whole in omega arith) in
+    let own : page.number ≡ q / 256 → get_or (slots_of page) (q - 256 * page.number) None ≡ get_or (slots_of page) (q % 256) None =
+    λ is. let same : q - 256 * page.number ≡ q % 256 = omega arith in ap (λ n. get_or (slots_of page) n None) same in
+    grind (arith, nat_tests, past, own)
+
+find-entries_of : {Z : Type 0} (boxes : List (Box Page Z)) (q : ℕ) → find nat_cmp q (entries_of boxes) ≡ found boxes q
+find-entries_of [] q = refl
+find-entries_of (box ∷ boxes) q =
+    find-append _ (entries_of boxes) q ∙ ap (λ o. option_or o (find nat_cmp q (entries_of boxes)))
+    (find-entries_from (256 * box.value.number) (slots_of box.value) q ∙ in_slots-page box.value q)
+    ∙ ap (option_or (in_page box.value q)) (find-entries_of boxes q)
+
+-- the map has what is found
+get-contents_of : {Z : Type 0} (boxes : List (Box Page Z)) (q : ℕ) → map.get (contents_of boxes) q ≡ found boxes q
+get-contents_of boxes q = get-from_entries nat_cmp_total (entries_of boxes) q ∙ find-entries_of boxes q
+
+-- no page before a place has the number
+abbrev NoneBefore : {Z : Type 0} → List (Box Page Z) → ℕ → ℕ → Type 0
+NoneBefore boxes number place = (i : ℕ) → i < place → number_at boxes i ≢ number
+
+-- the same in the pages after the first
+module _ {Z : Type 0} (box : Box Page Z) (boxes : List (Box Page Z)) (number place : ℕ) where
+  none_in_tail : NoneBefore (box ∷ boxes) number (suc place) → NoneBefore boxes number place
+  none_in_tail none i lt = none (suc i) (omega arith)
+
+  at_in_tail : IsPageAt (box ∷ boxes) number (suc place) → IsPageAt boxes number place
+  at_in_tail at = record { in_range = omega (arith, at.in_range); has_number = at.has_number }
+
+-- a page says nothing of another page's granules
+in_page-other : (page : Page) (q : ℕ) → page.number ≢ q / 256 → in_page page q ≡ None
+in_page-other page q differs = grind (arith, nat_tests)
+
+in_page-own : (page : Page) (q : ℕ) → page.number ≡ q / 256 → in_page page q ≡ get_or (slots_of page) (q % 256) None
+in_page-own page q same = grind (arith, nat_tests)
+
+-- nothing is found of a granule whose page is absent
+found_absent : {Z : Type 0} (boxes : List (Box Page Z)) (q : ℕ) → IsAbsent boxes (q / 256) → found boxes q ≡ None
+found_absent [] q absent = refl
+found_absent (box ∷ boxes) q absent =
+    rw (in_page-other box.value q (absent 0 (omega arith))) (found_absent boxes q (none_in_tail box boxes _ _ absent))
+
+-- what is found of a granule is what its page says, where no other has its number
+found_present : {Z : Type 0} (boxes : List (Box Page Z)) (q place : ℕ) (d : Box Page Z) → IsPageAt boxes (q / 256) place
+    → ((i : ℕ) → i < length boxes → number_at boxes i ≡ q / 256 → i ≡ place)
+    → found boxes q ≡ get_or (slots_of (get_or boxes place d).value) (q % 256) None
+found_present [] q place d at only = absurd (omega (arith, at.in_range))
+found_present (box ∷ boxes) q zero d at only =
+    let rest = found_absent boxes q (λ i lt is. omega (arith, only (suc i) (omega arith) is)) in
+    rw (rest, in_page-own box.value q at.has_number) (option_or-None _)
+found_present (box ∷ boxes) q (suc place) d at only =
+    let first : box.value.number ≢ q / 256 = λ is. omega (arith, only 0 (omega arith) is) in
+    let later = found_present boxes q place d (at_in_tail box boxes _ _ at) (λ i lt is. omega (arith, only (suc i) (omega arith) is)) in
+    rw (in_page-other box.value q first) later
+
+-- a page that differs from another in one slot says the same of every granule but one
+in_page-set : (old new : Page) (g : ℕ) (entry : Entry) → old.number ≡ g / 256 → new.number ≡ g / 256
+    → slots_of new ≡ set (slots_of old) (g % 256) (Some entry) → (q : ℕ) → in_page new q ≡ cond (eqb q g) (Some entry) (in_page old q)
+in_page-set old new g entry old_is new_is are q =
+    let inside : g % 256 < length (slots_of old) = let wide = old.whole in omega arith in
+    let changed = set (slots_of old) (g % 256) (Some entry) in
+    let here : q % 256 ≡ g % 256 → get_or changed (q % 256) None ≡ Some entry =
+    λ is. ap (λ n. get_or changed n None) is ∙ get_or-set_same (slots_of old) (g % 256) (Some entry) None inside in
+    let there : q % 256 ≢ g % 256 → get_or changed (q % 256) None ≡ get_or (slots_of old) (q % 256) None =
+    λ differs. get_or-set_other (slots_of old) (g % 256) (q % 256) (Some entry) None differs in
+    ap (λ slots. cond (eqb new.number (q / 256)) (get_or slots (q % 256) None) None) are ∙ grind (arith, nat_tests, here, there)
+
+option_or-cond : (b : Bool) (entry : Entry) (first rest : Option Entry)
+    → option_or (cond b (Some entry) first) rest ≡ cond b (Some entry) (option_or first rest)
+option_or-cond true entry first rest = refl
+option_or-cond false entry first rest = refl
+
+-- the same of pages, one of which is changed
+found-set : {Z : Type 0} (boxes : List (Box Page Z)) (new d : Box Page Z) (place g : ℕ) (entry : Entry) → IsPageAt boxes (g / 256) place
+    → NoneBefore boxes (g / 256) place → new.value.number ≡ g / 256
+    → slots_of new.value ≡ set (slots_of (get_or boxes place d).value) (g % 256) (Some entry)
+    → (q : ℕ) → found (set boxes place new) q ≡ cond (eqb q g) (Some entry) (found boxes q)
+found-set [] new d place g entry at none number are q = absurd (omega (arith, at.in_range))
+found-set (box ∷ boxes) new d zero g entry at none number are q =
+    ap (λ o. option_or o (found boxes q)) (in_page-set box.value new.value g entry at.has_number number are q)
+    ∙ option_or-cond (eqb q g) entry (in_page box.value q) (found boxes q)
+found-set (box ∷ boxes) new d (suc place) g entry at none number are q =
+    let later = found-set boxes new d place g entry (at_in_tail box boxes _ _ at) (none_in_tail box boxes _ _ none) number are q in
+    rw later (by_test (eqb q g) refl (in_page-other box.value g (none 0 (omega arith))))
+  where
+    by_test : (b : Bool) → eqb q g ≡ b → in_page box.value g ≡ None
+        → option_or (in_page box.value q) (cond b (Some entry) (found boxes q))
+        ≡ cond b (Some entry) (option_or (in_page box.value q) (found boxes q))
+    by_test false is other = refl
+    by_test true is other = rw (ap (in_page box.value) (eqb-true q g is) ∙ other) refl
+
+-- where a directory tells of pages
+module _ {Z : Type 0} (boxes : List (Box Page Z)) (directory : BTreeMap ℕ ℕ) (known : IsDirectory boxes directory) where
+  -- each number has one place at most
+  one_place : (number place i : ℕ) → IsPageAt boxes number place → i < length boxes → number_at boxes i ≡ number → i ≡ place
+  one_place number place i at lt is =
+      same_Some i place (sym (known.has i lt) ∙ ap (tree.get nat_cmp directory) (is ∙ sym at.has_number) ∙ known.has place at.in_range)
+
+  -- a number that it doesn't have is absent
+  pub absent_from_none : (number : ℕ) → tree.get nat_cmp directory number ≡ None → IsAbsent boxes number
+  absent_from_none number none i lt is = none-some i (sym none ∙ ap (tree.get nat_cmp directory) (sym is) ∙ known.has i lt)
+
+  -- what stands in a granule is what its page says
+  pub get_present : (q place : ℕ) (d : Box Page Z) → IsPageAt boxes (q / 256) place
+      → map.get (contents_of boxes) q ≡ get_or (slots_of (get_or boxes place d).value) (q % 256) None
+  get_present q place d at = get-contents_of boxes q ∙ found_present boxes q place d at (λ i lt is. one_place _ place i at lt is)
+
+  -- a put in its page changes that granule alone
+  pub contents_of-set : (new d : Box Page Z) (place g : ℕ) (entry : Entry) → IsPageAt boxes (g / 256) place → new.value.number ≡ g / 256
+      → slots_of new.value ≡ set (slots_of (get_or boxes place d).value) (g % 256) (Some entry)
+      → contents_of (set boxes place new) ≡ map.insert (contents_of boxes) g entry
+  contents_of-set new d place g entry at number are = same_map nat_cmp_total nat_cmp-IsAntisymmetric _ _ (λ q.
+      get-contents_of (set boxes place new) q ∙ found-set boxes new d place g entry at none number are q
+      ∙ ap (cond (eqb q g) (Some entry)) (sym (get-contents_of boxes q)) ∙ sym (get-put (contents_of boxes) g entry q))
+    where
+      none : NoneBefore boxes (g / 256) place
+      none i lt is = omega (arith, one_place _ place i at (omega (arith, at.in_range)) is)
+
+-- a granule whose page is absent was never put
+pub get_absent : {Z : Type 0} (boxes : List (Box Page Z)) (q : ℕ) → IsAbsent boxes (q / 256) → map.get (contents_of boxes) q ≡ None
+get_absent boxes q absent = get-contents_of boxes q ∙ found_absent boxes q absent

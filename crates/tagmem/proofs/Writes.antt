@@ -1,0 +1,93 @@
+-- A write inside a granule whose page is there.
+use Rattle.std.proofs.Common.{◌≡◌, ℕ, ◌+◌, ◌/◌, ◌%◌, ◌^◌, ◌<◌, ◌≤◌, Bool, true, false, cond, eqb, List, length, get_or, set, All}
+use Rattle.std.proofs.Common.{Option, Some, None, unwrap_or, is_some, is_none, sym, refl, ap, subst, ◌∙◌, arith}
+use Rattle.std.specs.Prelude.{Box}
+use mir.Val.{bool_byte}
+use Rattle.std.specs.Box.{with_value}
+use Rattle.std.specs.FinMap as map
+use Rattle.std.specs.BTreeMap.{BTreeMap}
+use Rattle.std.proofs.lemmas.Bool.{eqb-true}
+use Rattle.std.proofs.lemmas.List.{get_or-map}
+use Rattle.std.proofs.lemmas.Option.{same_Some}
+use Rattle.tagmem.specs.declared.page.Page.{Page}
+use Rattle.tagmem.specs.Granules.{Entry, Granules, blank, entry_at, bytes_at, overwritten, with_write, HasRoom, IsStored, AreStored}
+use Rattle.tagmem.specs.Pages.{slots_of, bytes_in, contents_of, IsPageAt, IsDirectory}
+use Rattle.tagmem.proofs.Granules.{get-put, len-put, IsStored-overwritten, IsStored-entry_at}
+use Rattle.tagmem.proofs.Pages.{get_present, contents_of-set}
+use Rattle.tagmem.proofs.Directories.{IsDirectory-set}
+
+-- a put keeps each entry a granule's
+AreStored-put : (old : Granules) (g : ℕ) (entry : Entry) → IsStored g entry → AreStored old → AreStored (map.insert old g entry)
+AreStored-put old g entry here there q e at =
+    elim (eqb q g) as (λ b. eqb q g ≡ b → IsStored q e) [
+      | true ↦ λ same.
+          let is = same_Some entry e (sym (ap (λ b. cond b (Some entry) (map.get old q)) same) ∙ sym (get-put old g entry q) ∙ at) in
+          subst (λ n. IsStored n e) (sym (eqb-true q g same)) (subst (IsStored g) is here)
+      | false ↦ λ differs. there q e (sym (ap (λ b. cond b (Some entry) (map.get old q)) differs) ∙ sym (get-put old g entry q) ∙ at)
+    ] refl
+
+-- where nothing stood there is one entry more, and room for it
+one_more : (o : Option Entry) (n : ℕ) → cond (is_some o) n (n + 1) ≡ n + bool_byte (is_none o)
+one_more None n = refl
+one_more (Some entry) n = omega arith
+
+room_for_one : (o : Option Entry) (n : ℕ) → n < 2 ^ 32 → (o ≡ None → n < 4294967295) → n + bool_byte (is_none o) < 2 ^ 32
+room_for_one None n small room = omega (arith, room refl)
+room_for_one (Some entry) n small room = omega arith
+
+-- a box was read at the place of a granule's page
+pub record IsRead {Z : Type 0} (boxes : List (Box Page Z)) (directory : BTreeMap ℕ ℕ) (place g : ℕ) (box : Box Page Z) : Type 0 where
+  pub known : IsDirectory boxes directory
+  pub found : IsPageAt boxes (g / 256) place
+  pub is : box ≡ get_or boxes place box
+
+-- a page has a write in one slot, and is else the same
+pub record IsWritten (old new : Page) (slot : ℕ) (tag : Bool) (at : ℕ) (bytes : List ℕ) : Type 0 where
+  pub number : new.number ≡ old.number
+  pub slots : slots_of new ≡ set (slots_of old) slot (Some (tag, overwritten (bytes_in (slots_of old) slot) at bytes))
+
+module _ {Z : Type 0} (boxes : List (Box Page Z)) (directory : BTreeMap ℕ ℕ) (place g : ℕ) (box : Box Page Z)
+    (read : IsRead boxes directory place g box) where
+  -- what stood in the granule
+  get_read : map.get (contents_of boxes) g ≡ get_or (slots_of box.value) (g % 256) None
+  get_read =
+      get_present boxes directory read.known g place box read.found
+      ∙ ap (λ (b : Box Page Z). get_or (slots_of b.value) (g % 256) None) (sym read.is)
+
+  number_read : box.value.number ≡ g / 256
+  number_read =
+      ap (λ (b : Box Page Z). b.value.number) read.is
+      ∙ sym (get_or-map (λ (b : Box Page Z). b.value.number) boxes place box 0 read.found.in_range) ∙ read.found.has_number
+
+  -- there is room for one more entry where none stood there
+  pub len_fits : map.len (contents_of boxes) < 2 ^ 32 → HasRoom (contents_of boxes) g
+      → map.len (contents_of boxes) + bool_byte (is_none (get_or (slots_of box.value) (g % 256) None)) < 2 ^ 32
+  len_fits small room =
+      subst (λ o. map.len (contents_of boxes) + bool_byte (is_none o) < 2 ^ 32) get_read
+      (room_for_one (map.get (contents_of boxes) g) _ small room)
+
+  module _ (page : Page) (tag : Bool) (at : ℕ) (bytes : List ℕ) (written : IsWritten box.value page (g % 256) tag at bytes) where
+    pub IsDirectory-write : IsDirectory (set boxes place (with_value box page)) directory
+    IsDirectory-write =
+        IsDirectory-set boxes directory (with_value box page) place
+        (subst (λ n. IsPageAt boxes n place) (sym (written.number ∙ number_read)) read.found) read.known
+
+    -- the map has the write, and is else the same
+    pub contents_of-write : contents_of (set boxes place (with_value box page)) ≡ with_write (contents_of boxes) g tag at bytes
+    contents_of-write =
+        let was : bytes_in (slots_of box.value) (g % 256) ≡ bytes_at (contents_of boxes) g = ap (λ o. (unwrap_or o blank).1) (sym get_read) in
+        contents_of-set boxes directory read.known (with_value box page) box place g _ read.found (written.number ∙ number_read)
+        (rw (← was, ← read.is) written.slots)
+
+    pub AreStored-write : g < 2 ^ 60 → at + length bytes ≤ 16 → All (λ byte. byte < 256) bytes → AreStored (contents_of boxes)
+        → AreStored (contents_of (set boxes place (with_value box page)))
+    AreStored-write in_memory inside fits stored =
+        let stood = IsStored-entry_at (contents_of boxes) stored g in_memory in
+        let stands = IsStored-overwritten g (entry_at (contents_of boxes) g) tag at bytes stood inside fits in
+        rw contents_of-write (AreStored-put (contents_of boxes) g _ stands stored)
+
+    pub len-write : map.len (contents_of (set boxes place (with_value box page)))
+        ≡ map.len (contents_of boxes) + bool_byte (is_none (get_or (slots_of box.value) (g % 256) None))
+    len-write =
+        ap map.len contents_of-write ∙ len-put (contents_of boxes) g _ ∙ one_more (map.get (contents_of boxes) g) _
+        ∙ ap (λ o. map.len (contents_of boxes) + bool_byte (is_none o)) get_read

@@ -1,0 +1,17 @@
+use Rattle.std.proofs.Common.{sym, ◌∙◌, arith}
+use Rattle.std.specs.FinMap as map
+use Rattle.std.specs.Ordering.{nat_cmp}
+use Rattle.std.proofs.lemmas.Option.{none-some}
+use Rattle.tagmem.specs.Granules.{Entry}
+use Rattle.tagmem.proofs.Directories.{IsDirectory-empty}
+use Rattle.tagmem.proofs.page_store.PageStore.new.Goals as goal
+
+pub invariant_of-result : goal.invariant_of-result
+invariant_of-result c =
+    let empty = map.len-empty nat_cmp Entry in
+    rw c.new.ensures.items (record {
+      known = IsDirectory-empty c.new-2.result c.new-2.ensures.empty;
+      stored = λ g entry is. absurd (none-some entry (sym (map.get-empty nat_cmp g) ∙ is));
+      counted = omega (arith, empty);
+      fits = omega (arith, empty);
+    })

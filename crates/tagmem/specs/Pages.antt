@@ -1,0 +1,54 @@
+-- The pages that a `PageStore` keeps, and the map that they are. All of it is this profile's own.
+use Rattle.std.specs.Prelude.{◌≡◌, ℕ, suc, ◌*◌, ◌<◌, ◌≢◌, List, [], ◌∷◌, ◌++◌, length, map}
+use Rattle.std.specs.Prelude.{Option, Some, None, unwrap_or, Box, slice_index, slice_index_or}
+use Rattle.std.specs.Ordering.{nat_cmp}
+use Rattle.std.specs.BTreeMap as tree
+use Rattle.std.specs.BTreeMap.{BTreeMap}
+use Rattle.std.specs.FinMap.{from_entries}
+use Rattle.tagmem.specs.declared.page.Page.{Page}
+use Rattle.tagmem.specs.Granules.{Entry, Granules, blank}
+
+-- what stands in each granule of a page, where it was put: all that is said of how a page keeps it
+abbrev pub slots_of : Page → List (Option Entry)
+slots_of page = page.slots
+
+-- the bytes of a slot, put or not
+abbrev pub bytes_in : List (Option Entry) → ℕ → List ℕ
+bytes_in slots slot = let entry = unwrap_or (slice_index_or slots slot None) blank in entry.1
+
+-- a granule's entry before others, where it was put
+abbrev pub with_slot : ℕ → Option Entry → List (ℕ × Entry) → List (ℕ × Entry)
+with_slot granule None rest = rest
+with_slot granule (Some entry) rest = (granule, entry) ∷ rest
+
+-- the entries of slots, the first of which is a granule's
+abbrev pub entries_from : ℕ → List (Option Entry) → List (ℕ × Entry)
+entries_from granule [] = []
+entries_from granule (slot ∷ slots) = with_slot granule slot (entries_from (suc granule) slots)
+
+-- the entries of pages: page n has the 256 granules from 256 * n on
+abbrev pub entries_of : {Z : Type 0} → List (Box Page Z) → List (ℕ × Entry)
+entries_of [] = []
+entries_of (box ∷ boxes) = entries_from (256 * box.value.number) (slots_of box.value) ++ entries_of boxes
+
+-- the map that pages are
+abbrev pub contents_of : {Z : Type 0} → List (Box Page Z) → Granules
+contents_of boxes = from_entries (entries_of boxes)
+
+-- the number of the page at a place
+abbrev pub number_at : {Z : Type 0} → List (Box Page Z) → ℕ → ℕ
+number_at boxes place = slice_index (map (λ box. box.value.number) boxes) place
+
+-- the page at a place has the number
+pub record IsPageAt {Z : Type 0} (boxes : List (Box Page Z)) (number place : ℕ) : Type 0 where
+  pub in_range : place < length boxes
+  pub has_number : number_at boxes place ≡ number
+
+-- no page has the number
+abbrev pub IsAbsent : {Z : Type 0} → List (Box Page Z) → ℕ → Type 0
+IsAbsent boxes number = (place : ℕ) → place < length boxes → number_at boxes place ≢ number
+
+-- a directory says of each number where its page is, and of no other
+pub record IsDirectory {Z : Type 0} (boxes : List (Box Page Z)) (directory : BTreeMap ℕ ℕ) : Type 0 where
+  pub has : (place : ℕ) → place < length boxes → tree.get nat_cmp directory (number_at boxes place) ≡ Some place
+  pub right : (number place : ℕ) → tree.get nat_cmp directory number ≡ Some place → IsPageAt boxes number place

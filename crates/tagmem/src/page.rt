@@ -1,0 +1,54 @@
+//! A page: 256 granules that stand side by side.
+ghost use Rattle.std.specs.Prelude.{◌≡◌, ◌+◌, ◌≤◌, ℕ, length, is_none, None, Some, slice_index_or, slice_set};
+ghost use Rattle.tagmem.specs.Granules.{overwritten};
+
+use crate::overwriting::overwrite;
+
+// Page `number` has the granules from `256 * number` on, and what stands in each that was put.
+#[derive(Drop)]
+pub(crate) struct Page {
+    pub(crate) number: u64,
+    slots: [Option<(bool, [u8; 16])>; 256],
+    ghost whole: { length slots ≡ 256 },
+}
+
+impl Page {
+    ghost use Rattle.tagmem.specs.Pages.{slots_of, bytes_in};
+
+    // A page of which no granule was put.
+    pub(crate) fn new(number: u64) -> Page
+        ensures number { result.number ≡ number }
+        ensures slots { (i : ℕ) → slice_index_or (slots_of result) i None ≡ None }
+    {
+        Page {
+            number,
+            slots: [None; 256],
+        }
+    }
+
+    // What stands in a granule.
+    pub(crate) fn get(&self, slot: u8) -> Option<(bool, [u8; 16])>
+        ensures { result ≡ slice_index_or (slots_of self.now) slot None }
+    {
+        self.slots[slot as usize]
+    }
+
+    // Writes bytes inside a granule from its byte `at` on, over zeros where it was never put, and
+    // sets its tag. Says whether it was never put.
+    pub(crate) fn put(&mut self, slot: u8, tag: bool, at: u8, bytes: &[u8]) -> bool
+        requires { at + length bytes.now ≤ 16 }
+        ensures first { result ≡ is_none (slice_index_or (slots_of self.old) slot None) }
+        ensures number { self.new.number ≡ self.old.number }
+        ensures slots { let old = slots_of self.old in
+            slots_of self.new ≡ slice_set old slot (Some (tag, overwritten (bytes_in old slot) at bytes.now)) }
+    {
+        let old = self.slots[slot as usize];
+        let mut written = match old {
+            Some(entry) => entry.1,
+            None => [0; 16],
+        };
+        overwrite(&mut written, at, bytes);
+        self.slots[slot as usize] = Some((tag, written));
+        old.is_none()
+    }
+}

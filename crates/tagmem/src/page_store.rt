@@ -1,0 +1,147 @@
+//! A store that keeps its entries in pages.
+ghost use Rattle.std.specs.Prelude.{◌≡◌, ◌^◌, ◌<◌, ◌+◌, ◌≤◌, ◌/◌, length, None, MatchOption, IfOk, OnOk, OnErr};
+ghost use Rattle.std.specs.FinMap as map;
+ghost use Rattle.tagmem.specs.Granules.{with_write, AreStored, HasRoom};
+ghost use Rattle.tagmem.specs.Pages.{contents_of, IsDirectory, IsPageAt, IsAbsent};
+
+use crate::page::Page;
+use crate::store::{NoMemory, TaggedStore};
+use std::alloc::Global;
+use std::array;
+use std::cell::Cell;
+use std::collections::BTreeMap;
+
+// How many places are remembered.
+const REMEMBERED: usize = 1024;
+
+/// A store that keeps its entries in pages of 256 granules. A put into a page that is there takes no
+/// memory, and a put that needs a new page changes nothing before it has all its memory.
+#[derive(Drop)]
+pub struct PageStore {
+    pages: Vec<Box<Page>>,
+    // Where each page is, by its number.
+    directory: BTreeMap<u64, usize>,
+    // Where pages were last found, by the low bits of their numbers. Each is tested when it is used,
+    // so any places do.
+    remembered: [Cell<usize>; REMEMBERED],
+    count: u32,
+    ghost known: { IsDirectory pages.items directory },
+    ghost stored: { AreStored (contents_of pages.items) },
+    ghost counted: { count ≡ map.len (contents_of pages.items) },
+    ghost fits: { map.len (contents_of pages.items) < 2 ^ 32 },
+}
+
+impl PageStore {
+    /// An empty store. It takes no memory.
+    pub fn new(alloc: Global) -> PageStore
+        ensures { ⟦<PageStore as TaggedStore>⟧.contents result ≡ map.empty }
+    {
+        PageStore {
+            pages: Vec::new(alloc),
+            directory: BTreeMap::new(alloc),
+            remembered: array::from_fn(|_| Cell::new(0)),
+            count: 0,
+        }
+    }
+
+    // Where a page is.
+    fn place(&self, number: u64) -> Option<usize>
+        ensures { MatchOption result (IsAbsent self.now.pages.items number) (IsPageAt self.now.pages.items number) }
+    {
+        let remembered = &self.remembered[(number % REMEMBERED as u64) as usize];
+        let last = remembered.get();
+        if let Some(page) = self.pages.get(last)
+            && page.number == number
+        {
+            return Some(last);
+        }
+        match self.directory.get(&number) {
+            Some(place) => {
+                remembered.set(*place);
+                Some(*place)
+            }
+            None => None,
+        }
+    }
+
+    // Adds a page of which no granule was put, and says where it is.
+    fn add_page(&mut self, number: u64) -> Result<usize, NoMemory>
+        requires { IsAbsent self.old.pages.items number }
+        ensures place { IfOk result (IsPageAt self.new.pages.items number) }
+        ensures contents { contents_of self.new.pages.items ≡ contents_of self.old.pages.items }
+    {
+        let alloc = *self.pages.allocator();
+        let Ok(page) = Box::new(alloc, Page::new(number)) else {
+            return Err(NoMemory);
+        };
+        let Ok(()) = self.pages.reserve(1) else {
+            return Err(NoMemory);
+        };
+        let place = self.pages.len();
+        let Ok(_) = self.directory.insert(number, place) else {
+            return Err(NoMemory);
+        };
+        self.pages.push_reserved(page);
+        Ok(place)
+    }
+
+    // Writes bytes inside a granule of a page that is there, and counts it where it was never put.
+    fn write(&mut self, place: usize, granule: u64, tag: bool, at: u8, bytes: &[u8])
+        requires in_memory { granule < 2 ^ 60 }
+        requires found { IsPageAt self.old.pages.items (granule / 256) place }
+        requires inside { at + length bytes.now ≤ 16 }
+        requires room { HasRoom (contents_of self.old.pages.items) granule }
+        ensures { contents_of self.new.pages.items
+            ≡ with_write (contents_of self.old.pages.items) granule tag at bytes.now }
+    {
+        let page = &mut self.pages[place];
+        let first = page.put((granule % 256) as u8, tag, at, bytes);
+        self.count += u32::from(first);
+    }
+
+    // Writes bytes inside a granule from its byte `at` on, over zeros where it was never put, and
+    // sets its tag.
+    fn put(&mut self, granule: u64, tag: bool, at: u8, bytes: &[u8]) -> Result<(), NoMemory>
+        requires in_memory { granule < 2 ^ 60 }
+        requires inside { at + length bytes.now ≤ 16 }
+        requires room { HasRoom (contents_of self.old.pages.items) granule }
+        ensures ok { OnOk result (contents_of self.new.pages.items
+            ≡ with_write (contents_of self.old.pages.items) granule tag at bytes.now) }
+        ensures err { OnErr result (contents_of self.new.pages.items ≡ contents_of self.old.pages.items) }
+        ensures only_new { OnErr result (map.get (contents_of self.old.pages.items) granule ≡ None) }
+    {
+        let place = match self.place(granule / 256) {
+            Some(place) => place,
+            None => self.add_page(granule / 256)?,
+        };
+        self.write(place, granule, tag, at, bytes);
+        Ok(())
+    }
+}
+
+impl TaggedStore for PageStore {
+    ghost contents = { λ s. contents_of s.pages.items };
+
+    ghost are_stored = { λ s. s.stored };
+
+    ghost count_fits = { λ s. s.fits };
+
+    fn get(&self, granule: u64) -> Option<(bool, [u8; 16])> {
+        match self.place(granule / 256) {
+            Some(place) => self.pages[place].get((granule % 256) as u8),
+            None => None,
+        }
+    }
+
+    fn put_cap(&mut self, granule: u64, tag: bool, bytes: [u8; 16]) -> Result<(), NoMemory> {
+        self.put(granule, tag, 0, &bytes)
+    }
+
+    fn put_bytes(&mut self, granule: u64, at: u8, bytes: &[u8]) -> Result<(), NoMemory> {
+        self.put(granule, false, at, bytes)
+    }
+
+    fn count(&self) -> u32 {
+        self.count
+    }
+}

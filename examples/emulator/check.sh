@@ -1,0 +1,46 @@
+#!/usr/bin/env bash
+# Builds the library for C, the header's test and this example, and judges what the example writes, in both
+# forms. It prints the two verdicts, and ends with status 0, where they are as wanted.
+#
+# CAPCHECK names a built capcheck; without it, this builds one too.
+set -eu
+cd "$(dirname "$0")/../.."
+work=$(mktemp -d)
+trap 'rm -rf "$work"' EXIT
+
+# Runs a command, and shows what it says only where it fails.
+quietly() {
+    "$@" > "$work/said" 2>&1 || { cat "$work/said" >&2; echo "check.sh: failed: $*" >&2; exit 1; }
+}
+
+# Judges the example's log, in the form that the words say, and compares the verdict and the status.
+judged() {
+    local verdict status=0
+    "$work/emulator" ${3:+"$3"} > "$work/log" 2> "$work/complaints" || { echo "check.sh: emulator ${3:-} failed" >&2; exit 1; }
+    verdict=$("$judge" judge "$work/log") || status=$?
+    echo "$verdict"
+    [ "$verdict" = "$1" ] && [ "$status" = "$2" ] || { echo "check.sh: wanted $1, status $2, and got status $status" >&2; exit 1; }
+}
+
+(cd crates/capcheck_c && quietly rt lib)
+judge=${CAPCHECK:-}
+if [ -z "$judge" ]; then
+    (cd crates/capcheck && quietly rt run -- judge ../../examples/moves.log)
+    judge=crates/capcheck/out/capcheck
+fi
+
+library=crates/capcheck_c/out/libcapcheck_c.a
+strict='-Wall -Wextra -Werror -pedantic -O2 -Iinclude'
+quietly ${CC:-cc} -std=c99 $strict examples/emulator/emulator.c $library -o "$work/emulator"
+quietly ${CC:-cc} -std=c99 $strict examples/emulator/calls.c $library -o "$work/calls"
+quietly "$work/calls"
+
+# The same calls from C++, where there is a compiler for it.
+if command -v "${CXX:-c++}" > "$work/found"; then
+    quietly ${CXX:-c++} -std=c++11 $strict -x c++ examples/emulator/calls.c -x none $library -o "$work/calls"
+    quietly "$work/calls"
+fi
+
+judged 'yes 27 1' 0
+judged 'no 12 12 NotExact' 1 --bug
+grep -qx 'emulator: line 12: NotExact' "$work/complaints" || { echo 'check.sh: the emulator names another line' >&2; exit 1; }

@@ -1,0 +1,197 @@
+/*
+ * A toy machine with an allocator on it, over the proved library. It derives a heap from one root, hands
+ * out objects, keeps their capabilities in a table in memory, uses them and frees one, and writes the log
+ * of all this to standard output:
+ *
+ *     emulator | capcheck judge          says yes
+ *     emulator --bug | capcheck judge    names the line at which the allocator forgot a rounding
+ *
+ * The machine has no traps: where the library refuses a step, it says so on standard error, and goes on
+ * with the word that the step would have made, as a wrong emulator does.
+ */
+#include <capcheck.h>
+
+#include <stdio.h>
+#include <stdlib.h>
+#include <string.h>
+
+enum {
+    ROOT = 1, /* registers: the root, the heap, the table of objects, an object, and one more */
+    HEAP = 2,
+    TABLE = 3,
+    OBJECT = 4,
+    OTHER = 5,
+    HEAP_BASE = 0x100000,
+    HEAP_SIZE = 0x100000,
+    HEAP_END = HEAP_BASE + HEAP_SIZE,
+    TABLE_SIZE = 256,
+    GRANULE = 16
+};
+
+static const uint64_t OBJECT_PERMISSIONS = CAPCHECK_GLOBAL | CAPCHECK_LOAD | CAPCHECK_STORE |
+                                           CAPCHECK_LOAD_CAPABILITY | CAPCHECK_STORE_CAPABILITY;
+
+/* ---- The machine: registers, tagged memory from HEAP_BASE on, and the log ---- */
+
+static capcheck_cap registers[32];
+static uint8_t memory[HEAP_SIZE];
+static uint8_t tags[HEAP_SIZE / GRANULE];
+static char line[CAPCHECK_LINE_SIZE];
+static uint64_t lines;
+
+static void write_line(size_t length) {
+    if (length == 0 || fwrite(line, 1, length, stdout) != length) {
+        fprintf(stderr, "emulator: line %llu can't be written\n", (unsigned long long)lines + 1);
+        exit(2);
+    }
+    lines++;
+}
+
+static void complain(uint8_t refusal) {
+    fprintf(stderr, "emulator: line %llu: %s\n", (unsigned long long)lines + 1,
+            capcheck_refusal_name(refusal).text);
+}
+
+static void set_address(unsigned target, unsigned source, uint64_t address) {
+    capcheck_made made = capcheck_set_addr(registers[source], address);
+    if (made.refusal != CAPCHECK_NOT_REFUSED) {
+        complain(made.refusal);
+        made.cap = registers[source];
+        made.cap.word.low = address;
+    }
+    registers[target] = made.cap;
+    write_line(capcheck_line_setaddr(line, target, source, address, made.cap));
+}
+
+static void set_bounds_exact(unsigned target, unsigned source, uint64_t length) {
+    capcheck_made made = capcheck_set_bounds(registers[source], length, true);
+    if (made.refusal != CAPCHECK_NOT_REFUSED) {
+        complain(made.refusal);
+        made.cap = registers[source];
+        made.cap.word = capcheck_with_bounds(made.cap.word, made.cap.word.low, length);
+    }
+    registers[target] = made.cap;
+    write_line(capcheck_line_setboundsexact(line, target, source, length, made.cap));
+}
+
+static void and_permissions(unsigned target, unsigned source, uint64_t mask) {
+    capcheck_made made = capcheck_and_perm(registers[source], mask);
+    if (made.refusal != CAPCHECK_NOT_REFUSED) {
+        complain(made.refusal);
+        made.cap = capcheck_and_perm_clear(registers[source], mask);
+    }
+    registers[target] = made.cap;
+    write_line(capcheck_line_andperm(line, target, source, mask, made.cap));
+}
+
+/* The place of an access in memory, which all authorities of this program stay inside. */
+static uint64_t place_of(capcheck_access access, int64_t offset, unsigned authority) {
+    if (access.refusal != CAPCHECK_NOT_REFUSED) {
+        complain(access.refusal);
+        access.address = registers[authority].word.low + (uint64_t)offset;
+    }
+    if (access.address < HEAP_BASE || access.address - HEAP_BASE > HEAP_SIZE - GRANULE) {
+        fprintf(stderr, "emulator: no memory there\n");
+        exit(2);
+    }
+    return access.address - HEAP_BASE;
+}
+
+static void store_capability(unsigned source, unsigned authority, int64_t offset) {
+    capcheck_cap stored = registers[source];
+    uint64_t place = place_of(capcheck_may_store_cap(registers[authority], offset, stored), offset, authority);
+    capcheck_to_memory(stored.word, memory + place);
+    tags[place / GRANULE] = stored.tag;
+    write_line(capcheck_line_sc(line, source, authority, offset));
+}
+
+static void load_capability(unsigned target, unsigned authority, int64_t offset) {
+    uint64_t place = place_of(capcheck_may_load_cap(registers[authority], offset), offset, authority);
+    capcheck_cap stored;
+    stored.word = capcheck_from_memory(memory + place);
+    stored.tag = tags[place / GRANULE];
+    registers[target] = capcheck_loaded(registers[authority], stored);
+    write_line(capcheck_line_lc(line, target, authority, offset, registers[target]));
+}
+
+static void store_number(unsigned authority, int64_t offset, uint64_t value) {
+    uint64_t place = place_of(capcheck_may_store(registers[authority], offset, 8), offset, authority);
+    for (unsigned i = 0; i < 8; i++)
+        memory[place + i] = (uint8_t)(value >> (8 * i));
+    tags[place / GRANULE] = 0;
+    write_line(capcheck_line_store(line, authority, offset, 8, value));
+}
+
+static uint64_t load_number(unsigned authority, int64_t offset) {
+    uint64_t place = place_of(capcheck_may_load(registers[authority], offset, 8), offset, authority);
+    uint64_t value = 0;
+    for (unsigned i = 0; i < 8; i++)
+        value |= (uint64_t)memory[place + i] << (8 * i);
+    write_line(capcheck_line_load(line, authority, offset, 8, value));
+    return value;
+}
+
+/* ---- The allocator: objects one after another, each with bounds of its own and no others ---- */
+
+static uint64_t next_free = HEAP_BASE + TABLE_SIZE;
+static unsigned objects;
+
+/* Puts a new object of `size` bytes into a register, and its capability into the table. */
+static void allocate(unsigned target, uint64_t size, bool forgets_rounding) {
+    capcheck_wide length = capcheck_round_length(size);
+    uint64_t mask = capcheck_align_mask(size);
+    uint64_t base = (next_free + ~mask) & mask;
+    if (forgets_rounding)
+        length.low = size;
+    if (length.high != 0 || base < next_free || base > HEAP_END || HEAP_END - base < length.low) {
+        fprintf(stderr, "emulator: no room for %llu bytes\n", (unsigned long long)size);
+        exit(2);
+    }
+    set_address(target, HEAP, base);
+    set_bounds_exact(target, target, length.low);
+    and_permissions(target, target, OBJECT_PERMISSIONS);
+    next_free = base + length.low;
+    store_capability(target, TABLE, GRANULE * (int64_t)objects++);
+}
+
+int main(int argc, char **argv) {
+    static const uint64_t sizes[] = {24, 100000, 5000, 1};
+    bool bug = argc == 2 && strcmp(argv[1], "--bug") == 0;
+    if (argc > 1 && !bug) {
+        fprintf(stderr, "usage: emulator [--bug]\n");
+        return 2;
+    }
+    write_line(capcheck_line_version(line, 2));
+    write_line(capcheck_line_mode(line, false));
+
+    /* The root is what a machine has at its start: all permissions, the whole address space. */
+    capcheck_fields fields = capcheck_split(capcheck_null());
+    fields.perms = 0xffff;
+    registers[ROOT].word = capcheck_join(fields).word;
+    registers[ROOT].tag = 1;
+    write_line(capcheck_line_root(line, ROOT, registers[ROOT].word));
+    uint64_t header = lines;
+
+    set_address(HEAP, ROOT, HEAP_BASE);
+    set_bounds_exact(HEAP, HEAP, HEAP_SIZE);
+    set_bounds_exact(TABLE, HEAP, TABLE_SIZE);
+    for (unsigned i = 0; i < sizeof sizes / sizeof sizes[0]; i++)
+        allocate(OBJECT, sizes[i], bug && i == 1);
+
+    /* The objects are used through the table. */
+    load_capability(OBJECT, TABLE, GRANULE);
+    store_number(OBJECT, 0, 0x0123456789abcdef);
+    load_capability(OTHER, TABLE, 0);
+    store_capability(OBJECT, OTHER, 0);
+    load_capability(OBJECT, OTHER, 0);
+    if (load_number(OBJECT, 0) != 0x0123456789abcdef)
+        return 2;
+
+    /* Freed: data over its place in the table clear the tag. */
+    store_number(TABLE, 3 * GRANULE, 0);
+    load_capability(OBJECT, TABLE, 3 * GRANULE);
+    if (registers[OBJECT].tag != 0)
+        return 2;
+    write_line(capcheck_line_end(line, lines - header));
+    return fflush(stdout) == 0 ? 0 : 2;
+}
