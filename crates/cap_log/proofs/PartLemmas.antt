@@ -201,3 +201,8 @@ pub no_place : (end : ℕ) (bytes : List ℕ) → pointwise eqb (take 1 bytes) (
 no_place end bytes other none (Register n) rest begins = none n rest begins
 no_place end bytes other none (Granule n) rest begins =
     false≢true (sym other ∙ ap (λ (bs : List ℕ). pointwise eqb (take 1 bs) (64 ∷ [])) begins.1)
+
+-- a flag is one digit
+pub tag-long : (tag : Bool) → length (tag_spelling tag) ≡ 1
+tag-long true = refl
+tag-long false = refl

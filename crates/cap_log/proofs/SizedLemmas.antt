@@ -149,3 +149,25 @@ sized_room at i j size value gap old first second one two room =
     let same = length-Writes at i (decimal size) old first one (omega arith) in
     let same' = length-Writes i j gap first second two (omega arith) in
     omega arith
+
+-- seventeen digits behind fifteen zeros
+pub wide_text : (digits new : List ℕ) (end : ℕ) → Writes 15 digits (replicate 32 48) new end → length digits ≡ 17 → new ≡ replicate 15 48 ++ digits
+wide_text digits new end writes long =
+    let ends = writes.ends in
+    let all : end ≡ 32 = omega arith in
+    let back : drop {A = ℕ} end (replicate 32 48) ≡ [] = drop_all end (replicate 32 48) (omega (arith, length-replicate {A = ℕ} 32 48)) in
+    writes.whole ∙ (ap (λ (xs : List ℕ). xs ++ (digits ++ drop end (replicate 32 48))) (take-replicate 15 32 48 (omega arith))
+    ∙ (ap (λ (xs : List ℕ). replicate 15 48 ++ (digits ++ xs)) back ∙ ap (λ (xs : List ℕ). replicate 15 48 ++ xs) (append-nil digits)))
+
+pub wide_read : (digits text : List ℕ) (n : ℕ) → text ≡ replicate 15 48 ++ digits → n < 2 ^ 128 → text ≡ hex_digits 32 n → (n < 2 ^ 68) × (digits ≡ hex_digits 17 n)
+wide_read digits text n zeros small read =
+    let whole : replicate 15 48 ++ digits ≡ hex_digits (15 + 17) n = sym zeros ∙ read in
+    let behind = ap (λ (bs : List ℕ). drop 15 bs) whole in (
+      zeros_small 15 17 n digits small whole,
+      sym (drop_at (replicate 15 48) digits 15 (length-replicate {A = ℕ} 15 48)) ∙ behind ∙ drop-hex_digits 15 17 n,
+    )
+
+pub no_wide_read : (digits text : List ℕ) → text ≡ replicate 15 48 ++ digits → ((n : ℕ) → n < 2 ^ 128 → text ≡ hex_digits 32 n → ⊥)
+    → (n : ℕ) → n < 2 ^ 68 → digits ≡ hex_digits 17 n → ⊥
+no_wide_read digits text zeros none n small e =
+    none n (omega arith) (zeros ∙ ap (λ (bs : List ℕ). replicate 15 48 ++ bs) e ∙ sym (hex_digits-zeros 15 17 n small))

@@ -1,5 +1,5 @@
 -- What a reader of a part of a line answers and a writer writes, and the parts themselves. All of it is this profile's own.
-use Rattle.std.specs.Prelude.{◌≡◌, ◌≢◌, ℕ, ◌+◌, ◌*◌, ◌≤◌, List, [], ◌∷◌, ◌++◌, length, take, drop, Option, Some, None, All, codes, decimal}
+use Rattle.std.specs.Prelude.{◌≡◌, ◌≢◌, ℕ, ◌+◌, ◌*◌, ◌^◌, ◌<◌, ◌≤◌, List, [], ◌∷◌, ◌++◌, length, take, drop, Option, Some, None, All, codes, decimal}
 use Rattle.std.specs.List.{join_with_byte}
 use Rattle.cap_word.specs.Digits.{hex_digits}
 use Rattle.cap_word.specs.declared.word.Cap.{Cap}
@@ -42,6 +42,18 @@ spaced first second pair = first pair.0 ++ 32 ∷ second pair.1
 pub record IsCutAt (end : ℕ) (bytes word rest : List ℕ) : Type 0 where
   pub whole : bytes ≡ word ++ end ∷ rest
   pub one : Lacks end word
+
+-- every value is in range
+abbrev pub IsAny : {A : Type 0} → A → Type 0
+IsAny a = Unit {0}
+
+-- an equals sign
+abbrev pub equals_spelling : {A : Type 0} → A → List ℕ
+equals_spelling a = codes "="
+
+-- a number of seventeen hexadecimal digits
+abbrev pub IsWideNumber : ℕ → Type 0
+IsWideNumber n = n < 2 ^ 68
 
 -- the result at the end of a step
 abbrev pub result_spelling : Cap → List ℕ

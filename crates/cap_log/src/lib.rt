@@ -5,6 +5,10 @@
 //! some bytes spell, [`take_line`] takes one with its line feed from the front of some bytes, [`write_line`] writes a line's one spelling, and [`front`] finds the line that
 //! some bytes begin with.
 //!
+//! The parts of a line are [`Part`]s: each takes itself from the front of some bytes, with the byte
+//! that ends it, and two with a space between them are one. [`Equals`], [`Flag`], [`Count`], [`Number`],
+//! [`WideNumber`] and `cap_word`'s `Word` serve other files of lines too.
+//!
 //! A [`Source`] gives bytes a piece at a time, and [`Lines`] are the lines of what it gives, however
 //! it is cut. A [`Sink`] takes bytes a piece at a time, and [`push_all`] pushes a whole text. Nothing
 //! here takes memory.
@@ -28,6 +32,10 @@ pub use crate::fronts::Front;
 pub use crate::fronts::finding::front;
 pub use crate::lines::{Line, Mode, Place, Step};
 pub use crate::nexts::Next;
+pub use crate::parts::decimals::Count;
+pub use crate::parts::hexadecimals::{Number, WideNumber};
+pub use crate::parts::signs::{Equals, Flag};
+pub use crate::parts::{Part, Single};
 pub use crate::pushing::push_all;
 pub use crate::reading::{one_line, read_line, take_line};
 pub use crate::sinks::failing::FailingSink;

@@ -9,6 +9,7 @@ pub mod hexadecimals;
 pub mod offsets;
 pub mod registers;
 pub mod results;
+pub mod signs;
 pub mod sized;
 
 use crate::parts::cutting::put;
@@ -58,3 +59,6 @@ impl<A: Single, B: Part> Part for (A, B) {
         self.1.write(buffer, next)
     }
 }
+
+#[cfg(test)]
+mod tests;

@@ -3,16 +3,17 @@
 ghost use Rattle.std.specs.Prelude.{◌≡◌, ◌+◌, ◌<◌, ◌≤◌, ◌^◌, length, IfSome, IfNone, decimal};
 ghost use Rattle.std.specs.Str.Parse.{AllDigits, digits_value};
 ghost use Rattle.cap_log.specs.Parts.{Reads, Writes};
+ghost use Rattle.cap_log.specs.Spaceless.{decimal-spaceless};
 
-use crate::parts::Part;
 use crate::parts::cutting::{put, split_end};
+use crate::parts::{Part, Single};
 use itoa::Buffer;
 
 /// The most digits that a number below 2^32 has.
 const DECIMAL_DIGITS: usize = 10;
 
 /// A decimal number, with no sign and no leading zero.
-#[derive(Clone, Copy)]
+#[derive(Clone, Copy, Debug, PartialEq, Eq)]
 pub struct Count(pub u32);
 
 impl Part for Count {
@@ -29,6 +30,10 @@ impl Part for Count {
     fn write(&self, buffer: &mut [u8], at: usize) -> usize {
         write_decimal(buffer, at, self.0)
     }
+}
+
+impl Single for Count {
+    ghost spaceless = { λ count fits. decimal-spaceless count.0 fits };
 }
 
 /// Reads a decimal number below 2^32, with no sign and no leading zero.

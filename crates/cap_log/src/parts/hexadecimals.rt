@@ -1,17 +1,17 @@
-//! Numbers of 64 bits, in sixteen hexadecimal digits.
+//! Numbers in sixteen or seventeen hexadecimal digits.
 
-ghost use Rattle.std.specs.Prelude.{◌+◌, ◌≤◌, length};
+ghost use Rattle.std.specs.Prelude.{◌≡◌, ◌+◌, ◌≤◌, length};
 ghost use Rattle.cap_word.specs.Digits.{hex_digits};
 ghost use Rattle.cap_log.specs.Lines.{IsNumber};
-ghost use Rattle.cap_log.specs.Parts.{Writes};
-ghost use Rattle.cap_log.specs.Spaceless.{number-spaceless};
+ghost use Rattle.cap_log.specs.Parts.{IsWideNumber, Reads, Writes};
+ghost use Rattle.cap_log.specs.Spaceless.{digits-spaceless, number-spaceless};
 
 use crate::parts::cutting::{put, split_fixed};
 use crate::parts::{Part, Single};
-use cap_word::{Word, read_u64, word_text};
+use cap_word::{Word, read_u64, read_word, word_text};
 
 /// A length, an address or a mask: sixteen hexadecimal digits.
-#[derive(Clone, Copy)]
+#[derive(Clone, Copy, Debug, PartialEq, Eq)]
 pub struct Number(pub u64);
 
 impl Part for Number {
@@ -34,20 +34,55 @@ impl Single for Number {
     ghost spaceless = { λ number fits. number-spaceless number.0 };
 }
 
+/// The end of an interval, which may pass 64 bits: seventeen hexadecimal digits.
+#[derive(Clone, Copy, Debug, PartialEq, Eq)]
+pub struct WideNumber(pub u128);
+
+impl Part for WideNumber {
+    ghost fits = { λ number. IsWideNumber number.0 };
+
+    ghost spelled = { λ number. hex_digits 17 number.0 };
+
+    fn take(bytes: &[u8], end: u8) -> Option<(WideNumber, &[u8])> {
+        let (digits, rest) = split_fixed(bytes, 17, end)?;
+        let number = read_wide(digits)?;
+        Some((WideNumber(number), rest))
+    }
+
+    fn write(&self, buffer: &mut [u8], at: usize) -> usize {
+        write_digits(buffer, at, self.0, 17)
+    }
+}
+
+impl Single for WideNumber {
+    ghost spaceless = { λ number fits. digits-spaceless 17 number.0 };
+}
+
+// Reads a number from seventeen digits.
+fn read_wide(digits: &[u8]) -> Option<u128>
+    requires { length digits.now ≡ 17 }
+    ensures { Reads IsWideNumber (hex_digits 17) digits.now result }
+{
+    let mut text = [b'0'; 32];
+    put(&mut text, 15, digits);
+    let word = read_word(&text)?;
+    Some(word.0)
+}
+
 /// Writes a number in sixteen hexadecimal digits.
 pub fn write_number(buffer: &mut [u8], at: usize, number: u64) -> usize
     requires { at + 16 ≤ length buffer.old }
     ensures { Writes at (hex_digits 16 number) buffer.old buffer.new result }
 {
-    write_digits(buffer, at, number, 16)
+    write_digits(buffer, at, u128::from(number), 16)
 }
 
 /// Writes the last digits of a number, so many.
-pub fn write_digits(buffer: &mut [u8], at: usize, number: u64, count: usize) -> usize
+pub fn write_digits(buffer: &mut [u8], at: usize, number: u128, count: usize) -> usize
     requires few { count ≤ 32 }
     requires room { at + count ≤ length buffer.old }
     ensures { Writes at (hex_digits count number) buffer.old buffer.new result }
 {
-    let text = word_text(Word(u128::from(number)));
+    let text = word_text(Word(number));
     put(buffer, at, &text[32 - count..])
 }

@@ -3,9 +3,10 @@
 ghost use Rattle.cap_word.specs.Digits.{hex_digits};
 ghost use Rattle.cap_log.specs.Lines.{IsWordNumber};
 ghost use Rattle.cap_log.specs.Parts.{result_spelling};
+ghost use Rattle.cap_log.specs.Spaceless.{digits-spaceless};
 
-use crate::parts::Part;
 use crate::parts::cutting::{put, split_fixed};
+use crate::parts::{Part, Single};
 use cap_word::{Cap, Word, read_word, word_text};
 
 impl Part for Word {
@@ -22,6 +23,10 @@ impl Part for Word {
     fn write(&self, buffer: &mut [u8], at: usize) -> usize {
         put(buffer, at, &word_text(*self))
     }
+}
+
+impl Single for Word {
+    ghost spaceless = { λ word fits. digits-spaceless 32 word.0 };
 }
 
 /// The result that a step records, at its end: `= `, a tag and a word.

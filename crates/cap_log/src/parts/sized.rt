@@ -35,7 +35,12 @@ impl Part for Loaded {
     fn write(&self, buffer: &mut [u8], at: usize) -> usize {
         let next = write_decimal(buffer, at, u32::from(self.size));
         let digits = put(buffer, next, b" = ");
-        write_digits(buffer, digits, self.value, 2 * usize::from(self.size))
+        write_digits(
+            buffer,
+            digits,
+            u128::from(self.value),
+            2 * usize::from(self.size),
+        )
     }
 }
 
@@ -62,7 +67,12 @@ impl Part for Stored {
     fn write(&self, buffer: &mut [u8], at: usize) -> usize {
         let next = write_decimal(buffer, at, u32::from(self.size));
         let digits = put(buffer, next, b" ");
-        write_digits(buffer, digits, self.value, 2 * usize::from(self.size))
+        write_digits(
+            buffer,
+            digits,
+            u128::from(self.value),
+            2 * usize::from(self.size),
+        )
     }
 }
 

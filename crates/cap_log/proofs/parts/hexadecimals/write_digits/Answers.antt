@@ -6,5 +6,4 @@ use Rattle.cap_log.proofs.parts.hexadecimals.write_digits.Goals as goal
 
 pub returns : goal.returns
 returns c =
-    let text = c.word_text-text.ensures ∙ ap (λ (n : ℕ). hex_digits 32 n) c.from.ensures in
-    subst (λ (bs : List ℕ). Writes c.args.at bs c.args.buffer.now c.put.new.buffer c.put.result) (last_digits c.args.count c.args.number _ c.requires.few text) c.put.ensures
+    subst (λ (bs : List ℕ). Writes c.args.at bs c.args.buffer.now c.put.new.buffer c.put.result) (last_digits c.args.count c.args.number _ c.requires.few c.word_text-text.ensures) c.put.ensures
