@@ -1,10 +1,17 @@
 #!/bin/sh
-# Writes a log of a million steps: sh bench/million.sh moves|memory|mixed [STEPS]
+# Writes a log of version 1 with a million steps, or STEPS:
+# sh bench/million.sh moves|memory|mixed|up|down|random|thirty [STEPS]
+# It can be judged from a pipe: sh bench/million.sh moves 10000000 | crates/capcheck/out/capcheck judge
 #
 # moves   copies c1 to each other register in turn
 # memory  stores and loads a capability, and stores and loads eight bytes, granule after granule
 # mixed   all of these and changes of addresses, permissions and tags, over 65,000 granules
-kind=${1:?moves, memory or mixed}
+#
+# The others are hostile to a store of granules:
+#
+# up, down, random   stores a capability in 65,536 granules that lie 4096 bytes apart, in that order
+# thirty             stores and loads eight bytes through thirty registers in turn, 4 MB apart
+kind=${1:?moves, memory, mixed, up, down, random or thirty}
 exec awk -v kind="$kind" -v steps="${2:-1000000}" '
 function memory(i,   offset) {
     offset = (int(i / 4) * 16) % 4096 - 2048
@@ -24,6 +31,21 @@ function mixed(i,   address) {
     if (i % 8 == 6) return "andperm c6 c5 0000000000000004 = 1 00041ffffc018004" address
     return "cleartag c7 c2 = 0 ffff1ffffc018004" address
 }
+function far(i,   place, address) {
+    place = int(i / 2) % 65536
+    if (kind == "down") place = 65535 - place
+    if (kind == "random") place = place * 40503 % 65536
+    address = sprintf("%016x", 4096 * place)
+    if (i % 2 == 0) return "setaddr c2 c1 " address " = 1 ffff1ffffc018004" address
+    return "sc c1 c2 0"
+}
+function thirty(i,   register, address) {
+    register = "c" (2 + i % 30)
+    address = sprintf("%016x", 4194304 * (i % 30))
+    if (i < 30) return "setaddr " register " c1 " address " = 1 ffff1ffffc018004" address
+    if (int(i / 30) % 2 == 1) return "store " register " 0 8 0123456789abcdef"
+    return "load " register " 0 8 = 0123456789abcdef"
+}
 BEGIN {
     root = "ffff1ffffc0180040000000000000000"
     print "capcheck 1"
@@ -31,7 +53,9 @@ BEGIN {
     for (i = 0; i < steps; i++) {
         if (kind == "moves") print "move c" (2 + i % 30) " c1 = 1 " root
         else if (kind == "memory") print memory(i)
-        else print mixed(i)
+        else if (kind == "mixed") print mixed(i)
+        else if (kind == "thirty") print thirty(i)
+        else print far(i)
     }
     print "end " steps
 }'

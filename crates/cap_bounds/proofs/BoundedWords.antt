@@ -12,11 +12,13 @@ pub record AreFields (ie : Bool) (e b t : ℕ) : Type 0 where
   pub b_aligned : ie ≡ true → b % 8 ≡ 0
   pub t_aligned : ie ≡ true → t % 8 ≡ 0
 
-pub address_of-bounded_word : (w : ℕ) (ie : Bool) (e b t a : ℕ) → a < 2 ^ 64 → AreFields ie e b t → address_of (bounded_word w ie e b t a) ≡ a
+pub address_of-bounded_word : (w : ℕ) (ie : Bool) (e b t a : ℕ) → a < 2 ^ 64 → AreFields ie e b t
+    → address_of (bounded_word w ie e b t a) ≡ a
 address_of-bounded_word w true e b t a h f = omega arith
 address_of-bounded_word w false e b t a h f = omega arith
 
-t_field-bounded_word : (w : ℕ) (ie : Bool) (e b t a : ℕ) → a < 2 ^ 64 → AreFields ie e b t → t_field (bounded_word w ie e b t a) ≡ t % 2 ^ 12 + e / 8
+t_field-bounded_word : (w : ℕ) (ie : Bool) (e b t a : ℕ) → a < 2 ^ 64 → AreFields ie e b t
+    → t_field (bounded_word w ie e b t a) ≡ t % 2 ^ 12 + e / 8
 t_field-bounded_word w true e b t a h f = omega (arith, f.e_fits, f.b_fits, f.b_aligned refl, f.t_aligned refl)
 t_field-bounded_word w false e b t a h f = omega (arith, f.b_fits, f.no_exponent refl)
 
@@ -58,7 +60,8 @@ module _ (w : ℕ) (ie : Bool) (e b t a : ℕ) (fits : a < 2 ^ 64) (f : AreField
   pub e_of-bounded_word : e_of (bounded_word w ie e b t a) ≡ e
   unfolding e_from
   e_of-bounded_word =
-      ap (λ (x : Bool). e_from x (t_field (bounded_word w ie e b t a)) (b_field (bounded_word w ie e b t a))) (ie_of-bounded_word w ie e b t a fits f)
+      ap (λ (x : Bool). e_from x (t_field (bounded_word w ie e b t a)) (b_field (bounded_word w ie e b t a)))
+      (ie_of-bounded_word w ie e b t a fits f)
       ∙ ap (λ (x : ℕ). e_from ie x (b_field (bounded_word w ie e b t a))) (t_field-bounded_word w ie e b t a fits f)
       ∙ ap (λ (x : ℕ). e_from ie (t % 2 ^ 12 + e / 8) x) (b_field-bounded_word w ie e b t a fits f) ∙ e_at ie e b t f
 
@@ -75,6 +78,7 @@ module _ (w : ℕ) (ie : Bool) (e b t a : ℕ) (fits : a < 2 ^ 64) (f : AreField
       ∙ ap (λ (x : ℕ). cut_from ie x) (t_field-bounded_word w ie e b t a fits f) ∙ t_at ie e b t f
 
 -- the bits above those of the bounds are kept
-pub above-bounded_word : (w : ℕ) (ie : Bool) (e b t a : ℕ) → a < 2 ^ 64 → AreFields ie e b t → bounded_word w ie e b t a / 2 ^ 91 ≡ w / 2 ^ 91
+pub above-bounded_word : (w : ℕ) (ie : Bool) (e b t a : ℕ) → a < 2 ^ 64 → AreFields ie e b t
+    → bounded_word w ie e b t a / 2 ^ 91 ≡ w / 2 ^ 91
 above-bounded_word w true e b t a h f = omega (arith, f.e_fits, f.b_fits, f.b_aligned refl, f.t_aligned refl)
 above-bounded_word w false e b t a h f = omega (arith, f.no_exponent refl, f.b_fits)

@@ -1,18 +1,33 @@
 -- The closed forms of a word's bounds are the one answer of the relation.
 use Rattle.std.proofs.Common.{◌≡◌, ℕ, ◌+◌, ◌-◌, ◌*◌, ◌/◌, ◌%◌, ◌^◌, ◌<◌, ◌≤◌, sym, ap, ◌∙◌, refl, inl, inr, arith, subst}
-use Rattle.std.proofs.Math.Nat.{min-le_right, div-le_self, mod-eq_of_lt}
+use Rattle.std.proofs.Math.Nat.{min-le_right}
 use Rattle.std.proofs.lemmas.Nat.{pow_pos, shl_whole, shl_below}
 use Rattle.std.proofs.lemmas.Bool.{cases_lt}
 use Rattle.std.proofs.lemmas.Bool.Decides.{nat_tests}
 use Rattle.cap_word.specs.Fields.{ie_of, e_of, b_of, t_of, address_of}
-use Rattle.cap_bounds.specs.Bounds.{IsResidue, IsWindow, AreBounds, span_at, mantissa_of, exponent_of, unit_of, window_size, raw_base_at, top_at, length_of, base_of, top_of}
+use Rattle.cap_bounds.specs.Bounds.{
+  window_start_at,
+  IsResidue,
+  IsWindow,
+  AreBounds,
+  span_at,
+  mantissa_of,
+  cut_exponent_of,
+  unit_of,
+  window_size,
+  raw_base_at,
+  top_at,
+  length_of,
+  base_of,
+  top_of,
+}
 use Rattle.cap_bounds.specs.Range.{window_start}
 use Rattle.cap_bounds.proofs.Residues.{IsResidue-unique, same_residue}
-use Rattle.cap_bounds.proofs.Windows.{eighth_of, start_below, end_above, start_aligned, raw_from_start, raw_above, raw_within, raw_residue, top_residue}
+use Rattle.cap_bounds.proofs.Windows.{start_below, end_above, start_aligned, raw_from_start, raw_above, raw_within, raw_residue, top_residue}
 use Rattle.cap_bounds.proofs.Powers.{eighth_is, size_is, size-le, length-lt, pow_le}
 use Rattle.cap_bounds.proofs.Mantissas.{span_at-lt, mantissa_is, span_of-mantissa_of, IsMantissa-mantissa_of, IsMantissa-unique}
 
-pub exponent-le : (w : ℕ) → exponent_of w ≤ 52
+pub exponent-le : (w : ℕ) → cut_exponent_of w ≤ 52
 exponent-le w = min-le_right (e_of w) 52
 
 pub b_of-lt : (w : ℕ) → b_of w < 2 ^ 14
@@ -21,40 +36,38 @@ b_of-lt w = grind (arith, nat_tests)
 pub t_of-lt : (w : ℕ) → t_of w < 2 ^ 12
 t_of-lt w = grind (arith, nat_tests)
 
--- the start of the window, from the exponent, B and the address
-abbrev pub start_at : ℕ → ℕ → ℕ → ℕ
-start_at e b address = eighth_of b ((address + 2 ^ 66) / 2 ^ (e + 11)) * 2 ^ (e + 11)
-
-pub window_start_is : (w : ℕ) → window_start w ≡ start_at (exponent_of w) (b_of w) (address_of w)
+pub window_start_coded : (w e b a : ℕ) → e ≡ cut_exponent_of w → b ≡ b_of w → a ≡ address_of w → window_start_at e b a ≡ window_start w
 unfolding window_start
-window_start_is w = refl
+window_start_coded w e b a e_is b_is a_is =
+    ap (λ (x : ℕ). window_start_at x b a) e_is ∙ ap (λ (x : ℕ). window_start_at (cut_exponent_of w) x a) b_is
+    ∙ ap (λ (x : ℕ). window_start_at (cut_exponent_of w) (b_of w) x) a_is
 
 module _ (e b a : ℕ) (he : e ≤ 52) (hb : b < 2 ^ 14) where
   high : 2 ^ (e + 14) ≤ a + 2 ^ 66
   high = omega (arith, size-le e he)
 
-  pub start_at-le : start_at e b a ≤ a + 2 ^ 66
-  start_at-le = start_below (2 ^ e) (2 ^ (e + 11)) (2 ^ (e + 14)) b (a + 2 ^ 66) (pow_pos e) (eighth_is e) (size_is e) hb high
+  pub window_start_at-le : window_start_at e b a ≤ a + 2 ^ 66
+  window_start_at-le = start_below (2 ^ e) (2 ^ (e + 11)) (2 ^ (e + 14)) b (a + 2 ^ 66) (pow_pos e) (eighth_is e) (size_is e) hb high
 
-  pub start_at-gt : a + 2 ^ 66 < start_at e b a + 2 ^ (e + 14)
-  start_at-gt = end_above (2 ^ e) (2 ^ (e + 11)) (2 ^ (e + 14)) b (a + 2 ^ 66) (pow_pos e) (eighth_is e) (size_is e) hb high
+  pub window_start_at-gt : a + 2 ^ 66 < window_start_at e b a + 2 ^ (e + 14)
+  window_start_at-gt = end_above (2 ^ e) (2 ^ (e + 11)) (2 ^ (e + 14)) b (a + 2 ^ 66) (pow_pos e) (eighth_is e) (size_is e) hb high
 
-  pub start_at-mod : start_at e b a % 2 ^ (e + 14) ≡ (b / 2 ^ 11 + 7) % 8 * 2 ^ 11 * 2 ^ e
-  start_at-mod = start_aligned (2 ^ e) (2 ^ (e + 11)) (2 ^ (e + 14)) b (a + 2 ^ 66) (pow_pos e) (eighth_is e) (size_is e) hb high
+  pub window_start_at-mod : window_start_at e b a % 2 ^ (e + 14) ≡ (b / 2 ^ 11 + 7) % 8 * 2 ^ 11 * 2 ^ e
+  window_start_at-mod = start_aligned (2 ^ e) (2 ^ (e + 11)) (2 ^ (e + 14)) b (a + 2 ^ 66) (pow_pos e) (eighth_is e) (size_is e) hb high
 
-  pub raw_base_from_start : raw_base_at e b a ≡ start_at e b a + (2048 + b % 2048) * 2 ^ e
+  pub raw_base_from_start : raw_base_at e b a ≡ window_start_at e b a + (2048 + b % 2048) * 2 ^ e
   unfolding raw_base_at
   raw_base_from_start = raw_from_start (2 ^ e) (2 ^ (e + 11)) (2 ^ (e + 14)) b (a + 2 ^ 66) (pow_pos e) (eighth_is e) (size_is e) hb high
 
-  pub raw_base_at-ge : start_at e b a + 2 ^ 11 * 2 ^ e ≤ raw_base_at e b a
+  pub raw_base_at-ge : window_start_at e b a + 2 ^ 11 * 2 ^ e ≤ raw_base_at e b a
   unfolding raw_base_at
   raw_base_at-ge = raw_above (2 ^ e) (2 ^ (e + 11)) (2 ^ (e + 14)) b (a + 2 ^ 66) (pow_pos e) (eighth_is e) (size_is e) hb high
 
-  pub raw_top-lt : (d : ℕ) → d < 2 ^ 13 → raw_base_at e b a + d * 2 ^ e + 2 ^ 12 * 2 ^ e < start_at e b a + 2 ^ (e + 14)
+  pub raw_top-lt : (d : ℕ) → d < 2 ^ 13 → raw_base_at e b a + d * 2 ^ e + 2 ^ 12 * 2 ^ e < window_start_at e b a + 2 ^ (e + 14)
   unfolding raw_base_at
   raw_top-lt d hd = raw_within (2 ^ e) (2 ^ (e + 11)) (2 ^ (e + 14)) b (a + 2 ^ 66) (pow_pos e) (eighth_is e) (size_is e) hb high d hd
 
-  pub raw_base_at-residue : IsResidue (start_at e b a) (2 ^ (e + 14)) (b * 2 ^ e) (raw_base_at e b a)
+  pub raw_base_at-residue : IsResidue (window_start_at e b a) (2 ^ (e + 14)) (b * 2 ^ e) (raw_base_at e b a)
   unfolding raw_base_at
   raw_base_at-residue = record {
     from = omega (arith, raw_base_at-ge);
@@ -62,7 +75,8 @@ module _ (e b a : ℕ) (he : e ≤ 52) (hb : b < 2 ^ 14) where
     congruent = raw_residue (2 ^ e) (2 ^ (e + 11)) (2 ^ (e + 14)) b (a + 2 ^ 66) (pow_pos e) (eighth_is e) (size_is e) hb high b;
   }
 
-  pub raw_top_at-residue : (d : ℕ) → d < 2 ^ 13 → IsResidue (start_at e b a) (2 ^ (e + 14)) ((b + d) % 2 ^ 14 * 2 ^ e) (raw_base_at e b a + d * 2 ^ e)
+  pub raw_top_at-residue : (d : ℕ) → d < 2 ^ 13
+      → IsResidue (window_start_at e b a) (2 ^ (e + 14)) ((b + d) % 2 ^ 14 * 2 ^ e) (raw_base_at e b a + d * 2 ^ e)
   unfolding raw_base_at
   raw_top_at-residue d hd = record {
     from = omega (arith, raw_base_at-ge);
@@ -70,13 +84,13 @@ module _ (e b a : ℕ) (he : e ≤ 52) (hb : b < 2 ^ 14) where
     congruent = top_residue (2 ^ e) (2 ^ (e + 11)) (2 ^ (e + 14)) b (a + 2 ^ 66) (pow_pos e) (eighth_is e) (size_is e) hb high d;
   }
 
-pub top_at-near : (e raw length : ℕ) → e ≤ 50 → top_at e raw length ≡ raw % 2 ^ 64 + length
+pub top_at-corrected : (e raw length : ℕ) → e ≤ 50 → top_at e raw length ≡ raw % 2 ^ 64 + length
 unfolding top_at
-top_at-near e raw length h = grind (arith, nat_tests)
+top_at-corrected e raw length h = grind (arith, nat_tests)
 
-pub top_at-far : (e raw length : ℕ) → 51 ≤ e → top_at e raw length ≡ (raw + length) % 2 ^ 65
+pub top_at-uncorrected : (e raw length : ℕ) → 51 ≤ e → top_at e raw length ≡ (raw + length) % 2 ^ 65
 unfolding top_at
-top_at-far e raw length h = grind (arith, nat_tests)
+top_at-uncorrected e raw length h = grind (arith, nat_tests)
 
 -- the length of a word is its span in units
 pub length_is : (w : ℕ) → length_of w ≡ span_at (b_of w) (t_of w) (ie_of w) * unit_of w
@@ -86,56 +100,62 @@ length_is w = ap (λ (x : ℕ). x * unit_of w) (span_of-mantissa_of (b_of w) (t_
 pub IsWindow-window_start : (w : ℕ) → IsWindow w (window_start w)
 unfolding window_start
 IsWindow-window_start w = record {
-  begins = start_at-le (exponent_of w) (b_of w) (address_of w) (exponent-le w) (b_of-lt w);
-  ends = start_at-gt (exponent_of w) (b_of w) (address_of w) (exponent-le w) (b_of-lt w);
-  aligned = start_at-mod (exponent_of w) (b_of w) (address_of w) (exponent-le w) (b_of-lt w);
+  begins = window_start_at-le (cut_exponent_of w) (b_of w) (address_of w) (exponent-le w) (b_of-lt w);
+  ends = window_start_at-gt (cut_exponent_of w) (b_of w) (address_of w) (exponent-le w) (b_of-lt w);
+  aligned = window_start_at-mod (cut_exponent_of w) (b_of w) (address_of w) (exponent-le w) (b_of-lt w);
 }
 
 pub IsWindow-unique : (w start : ℕ) → IsWindow w start → start ≡ window_start w
 IsWindow-unique w start h =
     let g = IsWindow-window_start w in
-    let size : 0 < window_size w = pow_pos (exponent_of w + 14) in
+    let size : 0 < window_size w = pow_pos (cut_exponent_of w + 14) in
     same_residue (window_size w) start (window_start w) (address_of w + 2 ^ 66 + 1 - window_size w) (h.aligned ∙ sym g.aligned)
     (omega (arith, h.ends)) (omega (arith, h.begins)) (omega (arith, g.ends)) (omega (arith, g.begins))
 
 -- the raw top of a word, in closed form
 abbrev raw_top_of : ℕ → ℕ
-raw_top_of w = raw_base_at (exponent_of w) (b_of w) (address_of w) + span_at (b_of w) (t_of w) (ie_of w) * unit_of w
+raw_top_of w = raw_base_at (cut_exponent_of w) (b_of w) (address_of w) + span_at (b_of w) (t_of w) (ie_of w) * unit_of w
 
-raw_base_of-residue : (w : ℕ) → IsResidue (window_start w) (window_size w) (b_of w * unit_of w) (raw_base_at (exponent_of w) (b_of w) (address_of w))
+raw_base_of-residue : (w : ℕ)
+    → IsResidue (window_start w) (window_size w) (b_of w * unit_of w) (raw_base_at (cut_exponent_of w) (b_of w) (address_of w))
 unfolding window_start
-raw_base_of-residue w = raw_base_at-residue (exponent_of w) (b_of w) (address_of w) (exponent-le w) (b_of-lt w)
+raw_base_of-residue w = raw_base_at-residue (cut_exponent_of w) (b_of w) (address_of w) (exponent-le w) (b_of-lt w)
 
-raw_top_of-residue : (w : ℕ) → IsResidue (window_start w) (window_size w) (mantissa_of (b_of w) (t_of w) (ie_of w) * unit_of w) (raw_top_of w)
+raw_top_of-residue : (w : ℕ)
+    → IsResidue (window_start w) (window_size w) (mantissa_of (b_of w) (t_of w) (ie_of w) * unit_of w) (raw_top_of w)
 unfolding window_start
 raw_top_of-residue w =
-    subst (λ (x : ℕ). IsResidue (window_start w) (window_size w) (x * unit_of w) (raw_top_of w)) (sym (mantissa_is (b_of w) (t_of w) (ie_of w)))
-    (raw_top_at-residue (exponent_of w) (b_of w) (address_of w) (exponent-le w) (b_of-lt w) (span_at (b_of w) (t_of w) (ie_of w)) (span_at-lt (b_of w) (t_of w) (ie_of w)))
+    subst (λ (x : ℕ). IsResidue (window_start w) (window_size w) (x * unit_of w) (raw_top_of w))
+    (sym (mantissa_is (b_of w) (t_of w) (ie_of w)))
+    (raw_top_at-residue (cut_exponent_of w) (b_of w) (address_of w) (exponent-le w) (b_of-lt w) (span_at (b_of w) (t_of w) (ie_of w))
+    (span_at-lt (b_of w) (t_of w) (ie_of w)))
 
 -- the top of a word follows its base up to exponent 50
-pub top_of-near : (w : ℕ) → exponent_of w ≤ 50 → top_of w ≡ base_of w + length_of w
+pub top_of-corrected : (w : ℕ) → cut_exponent_of w ≤ 50 → top_of w ≡ base_of w + length_of w
 unfolding top_of base_of
-top_of-near w h = top_at-near (exponent_of w) (raw_base_at (exponent_of w) (b_of w) (address_of w)) (length_of w) h
+top_of-corrected w h = top_at-corrected (cut_exponent_of w) (raw_base_at (cut_exponent_of w) (b_of w) (address_of w)) (length_of w) h
 
 -- and is the raw top cut to 65 bits from exponent 51 on
-top_of-far : (w : ℕ) → 51 ≤ exponent_of w → top_of w ≡ raw_top_of w % 2 ^ 65
+top_of-uncorrected : (w : ℕ) → 51 ≤ cut_exponent_of w → top_of w ≡ raw_top_of w % 2 ^ 65
 unfolding top_of
-top_of-far w h =
-    top_at-far (exponent_of w) (raw_base_at (exponent_of w) (b_of w) (address_of w)) (length_of w) h
-    ∙ ap (λ (x : ℕ). (raw_base_at (exponent_of w) (b_of w) (address_of w) + x) % 2 ^ 65) (length_is w)
+top_of-uncorrected w h =
+    top_at-uncorrected (cut_exponent_of w) (raw_base_at (cut_exponent_of w) (b_of w) (address_of w)) (length_of w) h
+    ∙ ap (λ (x : ℕ). (raw_base_at (cut_exponent_of w) (b_of w) (address_of w) + x) % 2 ^ 65) (length_is w)
 
-pub length_of-lt : (w : ℕ) → exponent_of w ≤ 50 → length_of w < 2 ^ 63
-length_of-lt w h = omega (arith, length_is w, length-lt (exponent_of w) (span_at (b_of w) (t_of w) (ie_of w)) h (span_at-lt (b_of w) (t_of w) (ie_of w)))
+pub length_of-lt : (w : ℕ) → cut_exponent_of w ≤ 50 → length_of w < 2 ^ 63
+length_of-lt w h = omega
+    (arith, length_is w, length-lt (cut_exponent_of w) (span_at (b_of w) (t_of w) (ie_of w)) h (span_at-lt (b_of w) (t_of w) (ie_of w)))
 
 top_near : (raw length : ℕ) → length < 2 ^ 63 → IsResidue (raw % 2 ^ 64) (2 ^ 64) (raw + length) (raw % 2 ^ 64 + length)
 top_near raw length h = record { from = omega arith; below = omega arith; congruent = omega arith }
 
-top_of-residue : (w : ℕ) → exponent_of w ≤ 50 → IsResidue (base_of w) (2 ^ 64) (raw_top_of w) (top_of w)
+top_of-residue : (w : ℕ) → cut_exponent_of w ≤ 50 → IsResidue (base_of w) (2 ^ 64) (raw_top_of w) (top_of w)
 unfolding base_of
 top_of-residue w h =
-    subst (λ (x : ℕ). IsResidue (base_of w) (2 ^ 64) (raw_top_of w) x) (sym (top_of-near w h))
-    (subst (λ (x : ℕ). IsResidue (base_of w) (2 ^ 64) (raw_base_at (exponent_of w) (b_of w) (address_of w) + x) (base_of w + length_of w)) (length_is w)
-    (top_near (raw_base_at (exponent_of w) (b_of w) (address_of w)) (length_of w) (length_of-lt w h)))
+    subst (λ (x : ℕ). IsResidue (base_of w) (2 ^ 64) (raw_top_of w) x) (sym (top_of-corrected w h))
+    (subst (λ (x : ℕ). IsResidue (base_of w) (2 ^ 64) (raw_base_at (cut_exponent_of w) (b_of w) (address_of w) + x)
+    (base_of w + length_of w)) (length_is w)
+    (top_near (raw_base_at (cut_exponent_of w) (b_of w) (address_of w)) (length_of w) (length_of-lt w h)))
 
 -- the bounds of a word are the closed forms
 pub AreBounds-exists : (w : ℕ) → AreBounds w (base_of w) (top_of w)
@@ -143,60 +163,53 @@ unfolding base_of
 AreBounds-exists w = record {
   mantissa = mantissa_of (b_of w) (t_of w) (ie_of w);
   start = window_start w;
-  raw_base = raw_base_at (exponent_of w) (b_of w) (address_of w);
+  raw_base = raw_base_at (cut_exponent_of w) (b_of w) (address_of w);
   raw_top = raw_top_of w;
   mantissa_is = IsMantissa-mantissa_of (b_of w) (t_of w) (ie_of w) (b_of-lt w) (t_of-lt w);
   window = IsWindow-window_start w;
   raw_base_is = raw_base_of-residue w;
   raw_top_is = raw_top_of-residue w;
   base_is = refl;
-  near_top = top_of-residue w;
-  far_top = top_of-far w;
+  corrected_top = top_of-residue w;
+  uncorrected_top = top_of-uncorrected w;
 }
 
 -- and no others
 pub AreBounds-unique : (w base top : ℕ) → AreBounds w base top → (base ≡ base_of w) × (top ≡ top_of w)
 unfolding base_of
 AreBounds-unique w base top h =
-    let mantissa : h.mantissa ≡ mantissa_of (b_of w) (t_of w) (ie_of w) = IsMantissa-unique (b_of w) (t_of w) (ie_of w) h.mantissa (b_of-lt w) h.mantissa_is in
+    let mantissa : h.mantissa
+    ≡ mantissa_of (b_of w) (t_of w) (ie_of w) = IsMantissa-unique (b_of w) (t_of w) (ie_of w) h.mantissa (b_of-lt w) h.mantissa_is in
     let start : h.start ≡ window_start w = IsWindow-unique w h.start h.window in
-    let raw_base : h.raw_base ≡ raw_base_at (exponent_of w) (b_of w) (address_of w) =
-    IsResidue-unique (window_start w) (window_size w) (b_of w * unit_of w) h.raw_base _ (subst (λ (x : ℕ). IsResidue x (window_size w) (b_of w * unit_of w) h.raw_base) start h.raw_base_is) (raw_base_of-residue w) in
+    let raw_base : h.raw_base ≡ raw_base_at (cut_exponent_of w) (b_of w) (address_of w) =
+    IsResidue-unique (window_start w) (window_size w) (b_of w * unit_of w) h.raw_base _
+    (subst (λ (x : ℕ). IsResidue x (window_size w) (b_of w * unit_of w) h.raw_base) start h.raw_base_is) (raw_base_of-residue w) in
     let raw_top : h.raw_top ≡ raw_top_of w =
     IsResidue-unique (window_start w) (window_size w) (mantissa_of (b_of w) (t_of w) (ie_of w) * unit_of w) h.raw_top _
     (subst (λ (x : ℕ). IsResidue x (window_size w) (mantissa_of (b_of w) (t_of w) (ie_of w) * unit_of w) h.raw_top) start
     (subst (λ (x : ℕ). IsResidue h.start (window_size w) (x * unit_of w) h.raw_top) mantissa h.raw_top_is)) (raw_top_of-residue w) in
     let base_is : base ≡ base_of w = h.base_is ∙ ap (λ (x : ℕ). x % 2 ^ 64) raw_base in (
       base_is,
-      elim (cases_lt 50 (exponent_of w)) [
-        | inl far ↦ h.far_top far ∙ ap (λ (x : ℕ). x % 2 ^ 65) raw_top ∙ sym (top_of-far w far)
+      elim (cases_lt 50 (cut_exponent_of w)) [
+        | inl far ↦ h.uncorrected_top far ∙ ap (λ (x : ℕ). x % 2 ^ 65) raw_top ∙ sym (top_of-uncorrected w far)
         | inr near ↦ IsResidue-unique (base_of w) (2 ^ 64) (raw_top_of w) top (top_of w)
-            (subst (λ (x : ℕ). IsResidue x (2 ^ 64) (raw_top_of w) top) base_is (subst (λ (x : ℕ). IsResidue base (2 ^ 64) x top) raw_top (h.near_top near))) (top_of-residue w near)
+            (subst (λ (x : ℕ). IsResidue x (2 ^ 64) (raw_top_of w) top) base_is
+            (subst (λ (x : ℕ). IsResidue base (2 ^ 64) x top) raw_top (h.corrected_top near))) (top_of-residue w near)
       ],
     )
 
--- a raw base needs 68 bits
-pub raw_base_at-lt : (e b a : ℕ) → e ≤ 52 → b < 2 ^ 14 → a < 2 ^ 64 → raw_base_at e b a < 2 ^ 68
-raw_base_at-lt e b a he hb ha = omega (arith, raw_top-lt e b a he hb 0 (omega arith), start_at-le e b a he hb, size-le e he)
-
 -- what the code computes: its shifts lose nothing
-pub raw_base_shifted : (e b a : ℕ) → e ≤ 52 → b < 2 ^ 14 → a < 2 ^ 64 → (((a + 2 ^ 66) / 2 ^ (e + 11) + 1 - b / 2048) / 8 * 16384 % 2 ^ 128 + b) * 2 ^ e % 2 ^ 128 ≡ raw_base_at e b a
-unfolding raw_base_at
-raw_base_shifted e b a he hb ha =
-    let eighth : (a + 2 ^ 66) / 2 ^ (e + 11) ≤ a + 2 ^ 66 = div-le_self (a + 2 ^ 66) (2 ^ (e + 11)) in
-    let turn : ((a + 2 ^ 66) / 2 ^ (e + 11) + 1 - b / 2048) / 8 * 16384 % 2 ^ 128 ≡ 2 ^ 14 * (((a + 2 ^ 66) / 2 ^ (e + 11) + 1 - b / 2048) / 8) = omega arith in
-    let small : raw_base_at e b a < 2 ^ 68 = raw_base_at-lt e b a he hb ha in
-    ap (λ (x : ℕ). (x + b) * 2 ^ e % 2 ^ 128) turn ∙ mod-eq_of_lt (omega arith)
-
 pub length_shifted : (e d : ℕ) → e ≤ 52 → d < 2 ^ 13 → d * 2 ^ e % 2 ^ 128 ≡ d * 2 ^ e
 length_shifted e d he hd = shl_whole d 13 e 128 hd (omega arith)
 
 pub length_at-lt : (e d : ℕ) → e ≤ 52 → d < 2 ^ 13 → d * 2 ^ e < 2 ^ 65
 length_at-lt e d he hd = omega (arith, shl_below d 13 e hd, pow_le (13 + e) 65 (omega arith))
 
-module _ (w e b d a raw : ℕ) (e_is : e ≡ exponent_of w) (b_is : b ≡ b_of w) (d_is : d ≡ span_at (b_of w) (t_of w) (ie_of w)) (a_is : a ≡ address_of w) (raw_is : raw ≡ raw_base_at e b a) where
-  raw_of : raw ≡ raw_base_at (exponent_of w) (b_of w) (address_of w)
-  raw_of = raw_is ∙ ap (λ (x : ℕ). raw_base_at x b a) e_is ∙ ap (λ (x : ℕ). raw_base_at (exponent_of w) x a) b_is ∙ ap (λ (x : ℕ). raw_base_at (exponent_of w) (b_of w) x) a_is
+module _ (w e b d a raw : ℕ) (e_is : e ≡ cut_exponent_of w) (b_is : b ≡ b_of w) (d_is : d ≡ span_at (b_of w) (t_of w) (ie_of w))
+    (a_is : a ≡ address_of w) (raw_is : raw ≡ raw_base_at e b a) where
+  raw_of : raw ≡ raw_base_at (cut_exponent_of w) (b_of w) (address_of w)
+  raw_of = raw_is ∙ ap (λ (x : ℕ). raw_base_at x b a) e_is ∙ ap (λ (x : ℕ). raw_base_at (cut_exponent_of w) x a) b_is
+      ∙ ap (λ (x : ℕ). raw_base_at (cut_exponent_of w) (b_of w) x) a_is
 
   pub decoded_base : raw % 2 ^ 64 ≡ base_of w
   unfolding base_of
@@ -208,7 +221,8 @@ module _ (w e b d a raw : ℕ) (e_is : e ≡ exponent_of w) (b_is : b ≡ b_of w
   pub decoded_top : top_at e raw (d * 2 ^ e) ≡ top_of w
   unfolding top_of
   decoded_top =
-      ap (λ (x : ℕ). top_at e raw x) decoded_length ∙ ap (λ (x : ℕ). top_at x raw (length_of w)) e_is ∙ ap (λ (x : ℕ). top_at (exponent_of w) x (length_of w)) raw_of
+      ap (λ (x : ℕ). top_at e raw x) decoded_length ∙ ap (λ (x : ℕ). top_at x raw (length_of w)) e_is
+      ∙ ap (λ (x : ℕ). top_at (cut_exponent_of w) x (length_of w)) raw_of
 
 -- a base has 64 bits, and a top 65
 pub base_of-lt : (w : ℕ) → base_of w < 2 ^ 64
@@ -216,7 +230,7 @@ unfolding base_of
 base_of-lt w = omega arith
 
 pub top_of-lt : (w : ℕ) → top_of w < 2 ^ 65
-top_of-lt w = elim (cases_lt 50 (exponent_of w)) [
-  | inl far ↦ omega (arith, top_of-far w far)
-  | inr near ↦ omega (arith, top_of-near w near, base_of-lt w, length_of-lt w near)
+top_of-lt w = elim (cases_lt 50 (cut_exponent_of w)) [
+  | inl far ↦ omega (arith, top_of-uncorrected w far)
+  | inr near ↦ omega (arith, top_of-corrected w near, base_of-lt w, length_of-lt w near)
 ]

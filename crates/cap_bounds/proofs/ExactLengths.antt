@@ -1,6 +1,17 @@
 -- Which lengths need no rounding, and at which bases.
 use Rattle.std.proofs.Common.{◌≡◌, ℕ, ◌+◌, ◌-◌, ◌*◌, ◌/◌, ◌%◌, ◌^◌, ◌<◌, ◌≤◌, sym, ap, ◌∙◌, inl, inr, arith, subst}
-use Rattle.std.proofs.Math.Nat.{mul-le-mul_right, le_of_mul-le-mul_right, mul_assoc, mul-mod_left, mul-div_cancel, div-add-mod, mod-one, mul-le-mul_left, zero-add, zero-div}
+use Rattle.std.proofs.Math.Nat.{
+  mul-le-mul_right,
+  le_of_mul-le-mul_right,
+  mul_assoc,
+  mul-mod_left,
+  mul-div_cancel,
+  div-add-mod,
+  mod-one,
+  mul-le-mul_left,
+  zero-add,
+  zero-div,
+}
 use Rattle.std.proofs.lemmas.Bool.{cases_lt}
 use Rattle.std.proofs.lemmas.Bool.Decides.{nat_tests}
 use Rattle.std.proofs.lemmas.Nat.{pow_pos}
@@ -9,7 +20,15 @@ use Rattle.cap_bounds.specs.Rounding.{div_up, units_of, IsLeastExponent, IsExact
 use Rattle.cap_bounds.proofs.Powers.{pow_split, pow_le}
 use Rattle.cap_bounds.proofs.Units.{div_up-ge, div_up-le, down-le-up, covered-ge}
 use Rattle.cap_bounds.proofs.LeastExponents.{IsLeastExponent-rounded, rounded_exponent-le}
-use Rattle.cap_bounds.proofs.Roundings.{grain_of, rounded_base-short, rounded_top-short, rounded_base-long, rounded_top-long, rounded_top-ge, rounded_top-le}
+use Rattle.cap_bounds.proofs.Roundings.{
+  grain_of,
+  rounded_base-short,
+  rounded_top-short,
+  rounded_base-long,
+  rounded_top-long,
+  rounded_top-ge,
+  rounded_top-le,
+}
 
 pub alignment-short : (n : ℕ) → n < 4096 → alignment_of n ≡ 1
 unfolding alignment_of
@@ -31,10 +50,12 @@ up-multiple k v pos =
 
 -- a multiple of 2 ^ (d + 3) is one of 2 ^ (e + 3), for e up to d
 finer-multiple : (k d e : ℕ) → e ≤ d → k * 2 ^ (d + 3) ≡ k * 2 ^ (d - e) * 2 ^ (e + 3)
-finer-multiple k d e h = ap (λ (x : ℕ). k * x) (pow_split (d + 3) (d - e) (e + 3) (omega arith)) ∙ sym (mul_assoc k (2 ^ (d - e)) (2 ^ (e + 3)))
+finer-multiple k d e h = ap (λ (x : ℕ). k * x) (pow_split (d + 3) (d - e) (e + 3) (omega arith))
+    ∙ sym (mul_assoc k (2 ^ (d - e)) (2 ^ (e + 3)))
 
 -- the start and the length of a request of less than 1024 grains: it is exact
-exact-grains : (start count d : ℕ) → d ≤ 52 → count < 1024 → 4096 ≤ count * 2 ^ (d + 3) → count * 2 ^ (d + 3) < 2 ^ 64 → IsExact (start * 2 ^ (d + 3)) (count * 2 ^ (d + 3))
+exact-grains : (start count d : ℕ) → d ≤ 52 → count < 1024 → 4096 ≤ count * 2 ^ (d + 3) → count * 2 ^ (d + 3) < 2 ^ 64
+    → IsExact (start * 2 ^ (d + 3)) (count * 2 ^ (d + 3))
 exact-grains start count d within few long fits =
     let v = 2 ^ (d + 3) in
     let b = start * v in
@@ -50,8 +71,10 @@ exact-grains start count d within few long fits =
     let g : 0 < 2 ^ (e + 3) = pow_pos (e + 3) in
     let b_is : b ≡ start * 2 ^ (d - e) * 2 ^ (e + 3) = finer-multiple start d e finer in
     let t_is : b + l ≡ (start + count) * 2 ^ (d - e) * 2 ^ (e + 3) = sum ∙ finer-multiple (start + count) d e finer in (
-      rounded_base-long b l long ∙ ap (λ (x : ℕ). x / 2 ^ (e + 3) * 2 ^ (e + 3)) b_is ∙ down-multiple (start * 2 ^ (d - e)) (2 ^ (e + 3)) g ∙ sym b_is,
-      rounded_top-long b l long ∙ ap (λ (x : ℕ). div_up x (2 ^ (e + 3)) * 2 ^ (e + 3)) t_is ∙ ap (λ (x : ℕ). x * 2 ^ (e + 3)) (up-multiple ((start + count) * 2 ^ (d - e)) (2 ^ (e + 3)) g) ∙ sym t_is,
+      rounded_base-long b l long ∙ ap (λ (x : ℕ). x / 2 ^ (e + 3) * 2 ^ (e + 3)) b_is
+          ∙ down-multiple (start * 2 ^ (d - e)) (2 ^ (e + 3)) g ∙ sym b_is,
+      rounded_top-long b l long ∙ ap (λ (x : ℕ). div_up x (2 ^ (e + 3)) * 2 ^ (e + 3)) t_is
+          ∙ ap (λ (x : ℕ). x * 2 ^ (e + 3)) (up-multiple ((start + count) * 2 ^ (d - e)) (2 ^ (e + 3)) g) ∙ sym t_is,
     )
 
 -- a long length n, its grains at base 0
@@ -71,7 +94,9 @@ module _ (n : ℕ) (long : 4096 ≤ n) (fits : n < 2 ^ 64) where
       let b_is : b ≡ b / v * v = omega (arith, div-add-mod b v) in
       let k = div_up (0 + n) v in
       let above : 4096 ≤ k * v = omega (arith, rounded_top-ge 0 n, top-grains) in
-      subst (λ (x : ℕ). IsExact b x) (sym top-grains) (subst (λ (x : ℕ). IsExact x (k * v)) (sym b_is) (exact-grains (b / v) k (rounded_exponent 0 n) zero-least.within count-lt above (omega (arith, top-grains))))
+      subst (λ (x : ℕ). IsExact b x) (sym top-grains)
+      (subst (λ (x : ℕ). IsExact x (k * v)) (sym b_is)
+      (exact-grains (b / v) k (rounded_exponent 0 n) zero-least.within count-lt above (omega (arith, top-grains))))
 
   -- a length from n on that is exact is a multiple of the grain, and so is its base
   module _ (b l : ℕ) (from : n ≤ l) (l_fits : l < 2 ^ 64) (exact : IsExact b l) where
@@ -83,7 +108,8 @@ module _ (n : ℕ) (long : 4096 ≤ n) (fits : n < 2 ^ 64) where
       | inl below ↦
           let v = grain_of b l in
           let units : l ≤ (div_up (b + l) v - b / v) * v = covered-ge b l v (pow_pos (rounded_exponent b l + 3)) in
-          let up : div_up (0 + n) v ≤ div_up (b + l) v - b / v = div_up-le (0 + n) v (div_up (b + l) v - b / v) (pow_pos (rounded_exponent b l + 3)) (omega arith) in
+          let up : div_up (0 + n) v ≤ div_up (b + l) v - b / v = div_up-le (0 + n) v (div_up (b + l) v - b / v)
+          (pow_pos (rounded_exponent b l + 3)) (omega arith) in
           absurd (omega (arith, zero-least.least (rounded_exponent b l) below, l-least.fits))
       | inr p ↦ p
     ]
@@ -92,7 +118,8 @@ module _ (n : ℕ) (long : 4096 ≤ n) (fits : n < 2 ^ 64) where
     base-multiple =
         let v = grain_of b l in
         let b_is : b ≡ b / v * v = sym exact.0 ∙ rounded_base-long b l (omega arith) in
-        ap (λ (x : ℕ). x % grain_of 0 n) (b_is ∙ finer-multiple (b / v) (rounded_exponent b l) (rounded_exponent 0 n) coarser) ∙ mul-mod_left (b / v * 2 ^ (rounded_exponent b l - rounded_exponent 0 n)) (grain_of 0 n)
+        ap (λ (x : ℕ). x % grain_of 0 n) (b_is ∙ finer-multiple (b / v) (rounded_exponent b l) (rounded_exponent 0 n) coarser)
+        ∙ mul-mod_left (b / v * 2 ^ (rounded_exponent b l - rounded_exponent 0 n)) (grain_of 0 n)
 
     length-at-least : rounded_top 0 n ≤ l
     length-at-least =
@@ -101,11 +128,14 @@ module _ (n : ℕ) (long : 4096 ≤ n) (fits : n < 2 ^ 64) where
         let t_is : b + l ≡ div_up (b + l) v * v = sym exact.1 ∙ rounded_top-long b l (omega arith) in
         let order : b / v ≤ div_up (b + l) v = down-le-up b l v (pow_pos (rounded_exponent b l + 3)) in
         let m = div_up (b + l) v - b / v in
-        let split : (b / v + m) * v ≡ div_up (b + l) v * v = ap (λ (x : ℕ). x * v) (let f : b / v + m ≡ div_up (b + l) v = omega arith in f) in
+        let split : (b / v + m) * v
+        ≡ div_up (b + l) v * v = ap (λ (x : ℕ). x * v) (let f : b / v + m ≡ div_up (b + l) v = omega arith in f) in
         let l_is : l ≡ m * v = omega arith in
-        let fine : m * v ≡ m * 2 ^ (rounded_exponent b l - rounded_exponent 0 n) * grain_of 0 n = finer-multiple m (rounded_exponent b l) (rounded_exponent 0 n) coarser in
+        let fine : m * v ≡ m * 2 ^ (rounded_exponent b l - rounded_exponent 0 n) * grain_of 0 n = finer-multiple m (rounded_exponent b l)
+        (rounded_exponent 0 n) coarser in
         let count = m * 2 ^ (rounded_exponent b l - rounded_exponent 0 n) in
-        let up : div_up (0 + n) (grain_of 0 n) ≤ count = div_up-le (0 + n) (grain_of 0 n) count (pow_pos (rounded_exponent 0 n + 3)) (omega arith) in
+        let up : div_up (0 + n) (grain_of 0 n) ≤ count = div_up-le (0 + n) (grain_of 0 n) count (pow_pos (rounded_exponent 0 n + 3))
+        (omega arith) in
         let whole : div_up (0 + n) (grain_of 0 n) * grain_of 0 n ≤ count * grain_of 0 n = mul-le-mul_right (grain_of 0 n) up in
         omega (arith, top-grains)
 
@@ -113,7 +143,8 @@ module _ (n : ℕ) (long : 4096 ≤ n) (fits : n < 2 ^ 64) where
   past-long full = elim (cases_lt (rounded_exponent 0 n) 52) [
     | inl below ↦
         let v : grain_of 0 n ≤ 2 ^ 54 = pow_le (rounded_exponent 0 n + 3) 54 (omega arith) in
-        let p : div_up (0 + n) (grain_of 0 n) * grain_of 0 n ≤ div_up (0 + n) (grain_of 0 n) * 2 ^ 54 = mul-le-mul_left (div_up (0 + n) (grain_of 0 n)) v in
+        let p : div_up (0 + n) (grain_of 0 n) * grain_of 0 n ≤ div_up (0 + n) (grain_of 0 n) * 2 ^ 54 = mul-le-mul_left
+        (div_up (0 + n) (grain_of 0 n)) v in
         absurd (omega (arith, top-grains, count-lt))
     | inr at ↦ ap (λ (x : ℕ). 2 ^ (x + 3)) (let e : rounded_exponent 0 n ≡ 52 = omega (arith, zero-least.within) in e)
   ]

@@ -4,11 +4,34 @@ use Rattle.std.proofs.Math.Nat.{div-add-mod, mod-lt, mod-eq_of_lt, mod-add-mod, 
 use Rattle.std.proofs.lemmas.Bool.{cases_lt}
 use Rattle.std.proofs.lemmas.Nat.{pow_pos}
 use Rattle.cap_word.specs.Fields.{b_of, t_of, ie_of, address_of}
-use Rattle.cap_bounds.specs.Bounds.{exponent_of, unit_of, window_size, span_at, raw_base_at, base_of, top_of, length_of}
+use Rattle.cap_bounds.specs.Bounds.{
+  window_start_at,
+  cut_exponent_of,
+  unit_of,
+  window_size,
+  span_at,
+  raw_base_at,
+  base_of,
+  top_of,
+  length_of,
+}
 use Rattle.cap_bounds.specs.Range.{KeepsBounds, IsRepresentable, with_address, window_start}
 use Rattle.cap_bounds.proofs.Residues.{mul-add-mod-mul}
 use Rattle.cap_bounds.proofs.Powers.{pow_le, size_is, size_divides, size_covers}
-use Rattle.cap_bounds.proofs.Decoded.{exponent-le, b_of-lt, start_at, start_at-le, start_at-gt, start_at-mod, raw_base_from_start, raw_base_at-ge, raw_top-lt, top_at-near, top_at-far, top_of-near, length_is}
+use Rattle.cap_bounds.proofs.Decoded.{
+  exponent-le,
+  b_of-lt,
+  window_start_at-le,
+  window_start_at-gt,
+  window_start_at-mod,
+  raw_base_from_start,
+  raw_base_at-ge,
+  raw_top-lt,
+  top_at-corrected,
+  top_at-uncorrected,
+  top_of-corrected,
+  length_is,
+}
 use Rattle.cap_bounds.proofs.Mantissas.{span_at-lt}
 use Rattle.cap_bounds.proofs.SameFields.{base_of-with_address, top_of-with_address}
 
@@ -26,7 +49,8 @@ mod-zero-sub x r n h e =
     ap (λ (k : ℕ). k % n) f ∙ mul-mod_right n (suc (x / n))
 
 -- windows of size s, of which n make 2 ^ 64: start and other begin windows, and y lies in the other
-module _ (s n start other rest y : ℕ) (n_pos : 0 < n) (whole : 2 ^ 64 ≡ n * s) (start_rest : start % s ≡ rest) (other_rest : other % s ≡ rest) (below : rest < s) (low : other ≤ y + 2 ^ 66) (high : y + 2 ^ 66 < other + s) where
+module _ (s n start other rest y : ℕ) (n_pos : 0 < n) (whole : 2 ^ 64 ≡ n * s) (start_rest : start % s ≡ rest)
+    (other_rest : other % s ≡ rest) (below : rest < s) (low : other ≤ y + 2 ^ 66) (high : y + 2 ^ 66 < other + s) where
   start-mod : start % 2 ^ 64 ≡ start / s % n * s + rest
   start-mod =
       let d : start ≡ start / s * s + rest = omega (arith, div-add-mod start s) in
@@ -42,11 +66,13 @@ module _ (s n start other rest y : ℕ) (n_pos : 0 < n) (whole : 2 ^ 64 ≡ n * 
       let turn : start / s % n < n = mod-lt (start / s) n_pos in
       let d : other / s * s + rest ≡ other = omega (arith, div-add-mod other s) in
       let split : (other / s + n - start / s % n) * s + start / s % n * s ≡ other / s * s + n * s =
-      (let p : (other / s + n - start / s % n) * s + start / s % n * s ≡ (other / s + n - start / s % n + start / s % n) * s = omega arith in p)
+      (let p : (other / s + n - start / s % n) * s + start / s % n * s
+      ≡ (other / s + n - start / s % n + start / s % n) * s = omega arith in p)
       ∙ ap (λ (k : ℕ). k * s) (let q : other / s + n - start / s % n + start / s % n ≡ other / s + n = omega arith in q)
       ∙ (let r : (other / s + n) * s ≡ other / s * s + n * s = omega arith in r) in
       let lifted : (y + 2 ^ 64 - start % 2 ^ 64) % 2 ^ 64 ≡ (y + 2 ^ 66 + 2 ^ 64 - start % 2 ^ 64) % 2 ^ 64 = omega arith in
-      let apart : y + 2 ^ 66 + 2 ^ 64 - start % 2 ^ 64 ≡ (other / s + n - start / s % n) * s + (y + 2 ^ 66 - other) = omega (arith, start-mod) in
+      let apart : y + 2 ^ 66 + 2 ^ 64 - start % 2 ^ 64
+      ≡ (other / s + n - start / s % n) * s + (y + 2 ^ 66 - other) = omega (arith, start-mod) in
       lifted ∙ ap (λ (k : ℕ). k % 2 ^ 64) apart ∙ ap (λ (k : ℕ). ((other / s + n - start / s % n) * s + (y + 2 ^ 66 - other)) % k) whole
       ∙ mul-add-mod-mul (other / s + n - start / s % n) s n (y + 2 ^ 66 - other) n_pos (omega arith)
 
@@ -55,7 +81,8 @@ module _ (s n start other rest y : ℕ) (n_pos : 0 < n) (whole : 2 ^ 64 ≡ n * 
   near-same h =
       let turn : start / s % n < n = mod-lt (start / s) n_pos in
       let none : (other / s + n - start / s % n) % n ≡ 0 = elim (cases_lt 0 ((other / s + n - start / s % n) % n)) [
-        | inl more ↦ let p : 1 * s ≤ (other / s + n - start / s % n) % n * s = mul-le-mul_right s more in absurd (omega (arith, distance-is))
+        | inl more ↦ let p : 1 * s ≤ (other / s + n - start / s % n) % n * s = mul-le-mul_right s more in absurd
+            (omega (arith, distance-is))
         | inr lowest ↦ omega arith
       ] in
       other-mod ∙ ap (λ (k : ℕ). k * s + rest) (sub-mod-zero (other / s) (start / s % n) n turn none) ∙ sym start-mod
@@ -68,60 +95,65 @@ module _ (s n start other rest y : ℕ) (n_pos : 0 < n) (whole : 2 ^ 64 ≡ n * 
 -- a rest of the window's start: it is below the window's size
 aligned-lt : (e b : ℕ) → (b / 2 ^ 11 + 7) % 8 * 2 ^ 11 * 2 ^ e < 2 ^ (e + 14)
 aligned-lt e b =
-    let h : (b / 2 ^ 11 + 7) % 8 * 2 ^ 11 * 2 ^ e ≤ 14336 * 2 ^ e = mul-le-mul_right (2 ^ e) (let f : (b / 2 ^ 11 + 7) % 8 * 2 ^ 11 ≤ 14336 = omega arith in f) in
+    let h : (b / 2 ^ 11 + 7) % 8 * 2 ^ 11 * 2 ^ e ≤ 14336 * 2 ^ e = mul-le-mul_right (2 ^ e)
+    (let f : (b / 2 ^ 11 + 7) % 8 * 2 ^ 11 ≤ 14336 = omega arith in f) in
     omega (arith, size_is e, pow_pos e)
 
--- the window's start, from its base: what the code computes
-pub start_from_base : (w : ℕ) → exponent_of w ≤ 50 → (base_of w + 2 ^ 64 - (2048 + b_of w % 2048) * unit_of w) % 2 ^ 64 ≡ window_start w % 2 ^ 64
-unfolding base_of window_start
-start_from_base w h =
-    let unit : 2 ^ exponent_of w ≤ 2 ^ 50 = pow_le (exponent_of w) 50 h in
-    let step : (2048 + b_of w % 2048) * 2 ^ exponent_of w ≤ 4096 * 2 ^ exponent_of w = mul-le-mul_right (2 ^ exponent_of w) (let f : 2048 + b_of w % 2048 ≤ 4096 = omega arith in f) in
-    omega (arith, raw_base_from_start (exponent_of w) (b_of w) (address_of w) (exponent-le w) (b_of-lt w))
-
 -- up to exponent 50 the bounds agree where the bases do
-module _ (w y : ℕ) (near : exponent_of w ≤ 50) (fits : y < 2 ^ 64) where
+module _ (w y : ℕ) (near : cut_exponent_of w ≤ 50) (fits : y < 2 ^ 64) where
   keeps-from_base : base_of (with_address w y) ≡ base_of w → KeepsBounds w y
   keeps-from_base h =
-      let raw = raw_base_at (exponent_of w) (b_of w) y in
-      (h, top_of-with_address w y fits ∙ top_at-near (exponent_of w) raw (length_of w) near ∙ ap (λ (k : ℕ). k + length_of w) (sym (base_of-with_address w y fits) ∙ h) ∙ sym (top_of-near w near))
+      let raw = raw_base_at (cut_exponent_of w) (b_of w) y in (
+        h,
+        top_of-with_address w y fits ∙ top_at-corrected (cut_exponent_of w) raw (length_of w) near
+            ∙ ap (λ (k : ℕ). k + length_of w) (sym (base_of-with_address w y fits) ∙ h) ∙ sym (top_of-corrected w near),
+      )
 
   -- and the bases where the windows' starts do
-  base-from_start : start_at (exponent_of w) (b_of w) y % 2 ^ 64 ≡ window_start w % 2 ^ 64 → base_of (with_address w y) ≡ base_of w
+  base-from_start : window_start_at (cut_exponent_of w) (b_of w) y % 2 ^ 64 ≡ window_start w % 2 ^ 64
+      → base_of (with_address w y) ≡ base_of w
   unfolding base_of window_start
   base-from_start h =
       omega (
         arith,
         base_of-with_address w y fits,
-        raw_base_from_start (exponent_of w) (b_of w) y (exponent-le w) (b_of-lt w),
-        raw_base_from_start (exponent_of w) (b_of w) (address_of w) (exponent-le w) (b_of-lt w),
+        raw_base_from_start (cut_exponent_of w) (b_of w) y (exponent-le w) (b_of-lt w),
+        raw_base_from_start (cut_exponent_of w) (b_of w) (address_of w) (exponent-le w) (b_of-lt w),
       )
 
-  start-from_base : base_of (with_address w y) ≡ base_of w → start_at (exponent_of w) (b_of w) y % 2 ^ 64 ≡ window_start w % 2 ^ 64
+  start-from_base : base_of (with_address w y) ≡ base_of w
+      → window_start_at (cut_exponent_of w) (b_of w) y % 2 ^ 64 ≡ window_start w % 2 ^ 64
   unfolding base_of window_start
   start-from_base h =
       omega (
         arith,
         base_of-with_address w y fits,
-        raw_base_from_start (exponent_of w) (b_of w) y (exponent-le w) (b_of-lt w),
-        raw_base_from_start (exponent_of w) (b_of w) (address_of w) (exponent-le w) (b_of-lt w),
+        raw_base_from_start (cut_exponent_of w) (b_of w) y (exponent-le w) (b_of-lt w),
+        raw_base_from_start (cut_exponent_of w) (b_of w) (address_of w) (exponent-le w) (b_of-lt w),
       )
 
   keeps-from_near : (y + 2 ^ 64 - window_start w % 2 ^ 64) % 2 ^ 64 < window_size w → KeepsBounds w y
   unfolding window_start
   keeps-from_near h =
-      let e = exponent_of w in
+      let e = cut_exponent_of w in
       let b = b_of w in
-      keeps-from_base (base-from_start (near-same (2 ^ (e + 14)) (2 ^ (50 - e)) (window_start w) (start_at e b y) ((b / 2 ^ 11 + 7) % 8 * 2 ^ 11 * 2 ^ e) y (pow_pos (50 - e)) (size_divides e near)
-      (start_at-mod e b (address_of w) (exponent-le w) (b_of-lt w)) (start_at-mod e b y (exponent-le w) (b_of-lt w)) (aligned-lt e b) (start_at-le e b y (exponent-le w) (b_of-lt w)) (start_at-gt e b y (exponent-le w) (b_of-lt w)) h))
+      keeps-from_base (base-from_start
+      (near-same (2 ^ (e + 14)) (2 ^ (50 - e)) (window_start w) (window_start_at e b y) ((b / 2 ^ 11 + 7) % 8 * 2 ^ 11 * 2 ^ e) y
+      (pow_pos (50 - e)) (size_divides e near)
+      (window_start_at-mod e b (address_of w) (exponent-le w) (b_of-lt w)) (window_start_at-mod e b y (exponent-le w) (b_of-lt w))
+      (aligned-lt e b)
+      (window_start_at-le e b y (exponent-le w) (b_of-lt w)) (window_start_at-gt e b y (exponent-le w) (b_of-lt w)) h))
 
   near-from_keeps : KeepsBounds w y → (y + 2 ^ 64 - window_start w % 2 ^ 64) % 2 ^ 64 < window_size w
   unfolding window_start
   near-from_keeps h =
-      let e = exponent_of w in
+      let e = cut_exponent_of w in
       let b = b_of w in
-      same-near (2 ^ (e + 14)) (2 ^ (50 - e)) (window_start w) (start_at e b y) ((b / 2 ^ 11 + 7) % 8 * 2 ^ 11 * 2 ^ e) y (pow_pos (50 - e)) (size_divides e near)
-      (start_at-mod e b (address_of w) (exponent-le w) (b_of-lt w)) (start_at-mod e b y (exponent-le w) (b_of-lt w)) (aligned-lt e b) (start_at-le e b y (exponent-le w) (b_of-lt w)) (start_at-gt e b y (exponent-le w) (b_of-lt w)) (start-from_base h.0)
+      same-near (2 ^ (e + 14)) (2 ^ (50 - e)) (window_start w) (window_start_at e b y) ((b / 2 ^ 11 + 7) % 8 * 2 ^ 11 * 2 ^ e) y
+      (pow_pos (50 - e)) (size_divides e near)
+      (window_start_at-mod e b (address_of w) (exponent-le w) (b_of-lt w)) (window_start_at-mod e b y (exponent-le w) (b_of-lt w))
+      (aligned-lt e b)
+      (window_start_at-le e b y (exponent-le w) (b_of-lt w)) (window_start_at-gt e b y (exponent-le w) (b_of-lt w)) (start-from_base h.0)
 
 -- from exponent 51 on the address drops out
 raw-far : (e b a : ℕ) → 51 ≤ e → raw_base_at e b a % 2 ^ 65 ≡ b * 2 ^ e % 2 ^ 65
@@ -131,31 +163,34 @@ raw-far e b a h =
     let whole : 16384 * 2 ^ e ≡ 2 ^ (e - 51) * 2 ^ 65 = sym (size_is e) ∙ size_covers e h in
     let p : (2 ^ 14 * turn + b) * 2 ^ e ≡ turn * (16384 * 2 ^ e) + b * 2 ^ e = omega arith in
     let q : turn * (2 ^ (e - 51) * 2 ^ 65) + b * 2 ^ e ≡ turn * 2 ^ (e - 51) * 2 ^ 65 + b * 2 ^ e = omega arith in
-    ap (λ (k : ℕ). k % 2 ^ 65) (p ∙ ap (λ (k : ℕ). turn * k + b * 2 ^ e) whole ∙ q) ∙ (let r : (turn * 2 ^ (e - 51) * 2 ^ 65 + b * 2 ^ e) % 2 ^ 65 ≡ b * 2 ^ e % 2 ^ 65 = omega arith in r)
+    ap (λ (k : ℕ). k % 2 ^ 65) (p ∙ ap (λ (k : ℕ). turn * k + b * 2 ^ e) whole ∙ q)
+    ∙ (let r : (turn * 2 ^ (e - 51) * 2 ^ 65 + b * 2 ^ e) % 2 ^ 65 ≡ b * 2 ^ e % 2 ^ 65 = omega arith in r)
 
-keeps-far : (w y : ℕ) → 51 ≤ exponent_of w → y < 2 ^ 64 → KeepsBounds w y
+keeps-far : (w y : ℕ) → 51 ≤ cut_exponent_of w → y < 2 ^ 64 → KeepsBounds w y
 unfolding base_of top_of
 keeps-far w y h fits =
-    let e = exponent_of w in
+    let e = cut_exponent_of w in
     let b = b_of w in
-    let same : raw_base_at e b y % 2 ^ 65 ≡ raw_base_at e b (address_of w) % 2 ^ 65 = raw-far e b y h ∙ sym (raw-far e b (address_of w) h) in
+    let same : raw_base_at e b y % 2 ^ 65 ≡ raw_base_at e b (address_of w) % 2 ^ 65 = raw-far e b y h
+    ∙ sym (raw-far e b (address_of w) h) in
     let top : (raw_base_at e b y + length_of w) % 2 ^ 65 ≡ (raw_base_at e b (address_of w) + length_of w) % 2 ^ 65 = omega arith in (
       base_of-with_address w y fits ∙ (let r : raw_base_at e b y % 2 ^ 64 ≡ raw_base_at e b (address_of w) % 2 ^ 64 = omega arith in r),
-      top_of-with_address w y fits ∙ top_at-far e (raw_base_at e b y) (length_of w) h ∙ top ∙ sym (top_at-far e (raw_base_at e b (address_of w)) (length_of w) h),
+      top_of-with_address w y fits ∙ top_at-uncorrected e (raw_base_at e b y) (length_of w) h ∙ top
+          ∙ sym (top_at-uncorrected e (raw_base_at e b (address_of w)) (length_of w) h),
     )
 
 -- from exponent 50 on every address keeps the bounds
-pub KeepsBounds-always : (w y : ℕ) → 50 ≤ exponent_of w → y < 2 ^ 64 → KeepsBounds w y
-KeepsBounds-always w y h fits = elim (cases_lt 50 (exponent_of w)) [
+pub KeepsBounds-always : (w y : ℕ) → 50 ≤ cut_exponent_of w → y < 2 ^ 64 → KeepsBounds w y
+KeepsBounds-always w y h fits = elim (cases_lt 50 (cut_exponent_of w)) [
   | inl far ↦ keeps-far w y far fits
   | inr near ↦
-      let size : 2 ^ 64 ≤ window_size w = pow_le 64 (exponent_of w + 14) (omega arith) in
+      let size : 2 ^ 64 ≤ window_size w = pow_le 64 (cut_exponent_of w + 14) (omega arith) in
       keeps-from_near w y near fits (omega arith)
 ]
 
 -- an address keeps the bounds exactly in the representable range
 pub KeepsBounds-from_range : (w y : ℕ) → y < 2 ^ 64 → IsRepresentable w y → KeepsBounds w y
-KeepsBounds-from_range w y fits h = elim (cases_lt (exponent_of w) 50) [
+KeepsBounds-from_range w y fits h = elim (cases_lt (cut_exponent_of w) 50) [
   | inl near ↦ keeps-from_near w y (omega arith) fits (h near)
   | inr far ↦ KeepsBounds-always w y far fits
 ]
@@ -164,58 +199,55 @@ pub IsRepresentable-from_keeps : (w y : ℕ) → y < 2 ^ 64 → KeepsBounds w y 
 IsRepresentable-from_keeps w y fits h near = near-from_keeps w y (omega arith) fits h
 
 -- up to exponent 49 some address does not keep the bounds
-pub KeepsBounds-not_always : (w : ℕ) → exponent_of w < 50 → ((y : ℕ) → y < 2 ^ 64 → KeepsBounds w y) → ⊥
+pub KeepsBounds-not_always : (w : ℕ) → cut_exponent_of w < 50 → ((y : ℕ) → y < 2 ^ 64 → KeepsBounds w y) → ⊥
 KeepsBounds-not_always w near h =
-    let size : window_size w ≤ 2 ^ 63 = pow_le (exponent_of w + 14) 63 (omega arith) in
+    let size : window_size w ≤ 2 ^ 63 = pow_le (cut_exponent_of w + 14) 63 (omega arith) in
     let y = (window_start w % 2 ^ 64 + window_size w) % 2 ^ 64 in
     let fits : y < 2 ^ 64 = omega arith in
     omega (arith, IsRepresentable-from_keeps w y fits (h y fits) near)
 
-margin : (x raw length start size low high base top : ℕ) → base ≡ raw % 2 ^ 64 → top ≡ base + length → start + low ≤ raw → raw + length + high < start + size → size ≤ 2 ^ 64 → base + 2 ^ 64 ≤ x + low → x ≤ top + 2 ^ 64 + high
+margin : (x raw length start size low high base top : ℕ) → base ≡ raw % 2 ^ 64 → top ≡ base + length → start + low ≤ raw
+    → raw + length + high < start + size → size ≤ 2 ^ 64 → base + 2 ^ 64 ≤ x + low → x ≤ top + 2 ^ 64 + high
     → (x % 2 ^ 64 + 2 ^ 64 - start % 2 ^ 64) % 2 ^ 64 < size
 margin x raw length start size low high base top base_is top_is from below fits x_from x_below =
     omega arith
 
 -- so do the addresses from 2 ^ 11 units below the base to 2 ^ 12 units above the top, 2 ^ 64 higher
-margins-near : (w x : ℕ) → exponent_of w < 50 → base_of w + 2 ^ 64 ≤ x + 2 ^ 11 * unit_of w → x ≤ top_of w + 2 ^ 64 + 2 ^ 12 * unit_of w → (x % 2 ^ 64 + 2 ^ 64 - window_start w % 2 ^ 64) % 2 ^ 64 < window_size w
+margins-near : (w x : ℕ) → cut_exponent_of w < 50 → base_of w + 2 ^ 64 ≤ x + 2 ^ 11 * unit_of w
+    → x ≤ top_of w + 2 ^ 64 + 2 ^ 12 * unit_of w → (x % 2 ^ 64 + 2 ^ 64 - window_start w % 2 ^ 64) % 2 ^ 64 < window_size w
 unfolding base_of window_start
 margins-near w x near from below =
-    let e = exponent_of w in
+    let e = cut_exponent_of w in
     let d = span_at (b_of w) (t_of w) (ie_of w) in
-    let room : raw_base_at e (b_of w) (address_of w) + d * 2 ^ e + 2 ^ 12 * 2 ^ e < start_at e (b_of w) (address_of w) + 2 ^ (e + 14) =
+    let room : raw_base_at e (b_of w) (address_of w) + d * 2 ^ e + 2 ^ 12 * 2 ^ e < window_start_at e (b_of w) (address_of w) + 2 ^
+    (e + 14) =
     raw_top-lt e (b_of w) (address_of w) (exponent-le w) (b_of-lt w) d (span_at-lt (b_of w) (t_of w) (ie_of w)) in
-    margin x (raw_base_at e (b_of w) (address_of w)) (length_of w) (start_at e (b_of w) (address_of w)) (2 ^ (e + 14)) (2 ^ 11 * 2 ^ e) (2 ^ 12 * 2 ^ e) (base_of w) (top_of w) refl (top_of-near w (omega arith))
-    (raw_base_at-ge e (b_of w) (address_of w) (exponent-le w) (b_of-lt w)) (subst (λ (k : ℕ). raw_base_at e (b_of w) (address_of w) + k + 2 ^ 12 * 2 ^ e < start_at e (b_of w) (address_of w) + 2 ^ (e + 14)) (sym (length_is w)) room)
+    margin x (raw_base_at e (b_of w) (address_of w)) (length_of w) (window_start_at e (b_of w) (address_of w)) (2 ^ (e + 14))
+    (2 ^ 11 * 2 ^ e)
+    (2 ^ 12 * 2 ^ e) (base_of w) (top_of w) refl (top_of-corrected w (omega arith))
+    (raw_base_at-ge e (b_of w) (address_of w) (exponent-le w) (b_of-lt w))
+    (subst (λ (k : ℕ). raw_base_at e (b_of w) (address_of w) + k + 2 ^ 12 * 2 ^ e < window_start_at e (b_of w) (address_of w) + 2 ^
+    (e + 14))
+    (sym (length_is w)) room)
     (pow_le (e + 14) 64 (omega arith)) from below
 
-pub KeepsBounds-margins : (w x : ℕ) → base_of w + 2 ^ 64 ≤ x + 2 ^ 11 * unit_of w → x ≤ top_of w + 2 ^ 64 + 2 ^ 12 * unit_of w → KeepsBounds w (x % 2 ^ 64)
-KeepsBounds-margins w x from below = elim (cases_lt (exponent_of w) 50) [
+pub KeepsBounds-margins : (w x : ℕ) → base_of w + 2 ^ 64 ≤ x + 2 ^ 11 * unit_of w → x ≤ top_of w + 2 ^ 64 + 2 ^ 12 * unit_of w
+    → KeepsBounds w (x % 2 ^ 64)
+KeepsBounds-margins w x from below = elim (cases_lt (cut_exponent_of w) 50) [
   | inl near ↦ KeepsBounds-from_range w (x % 2 ^ 64) (omega arith) (λ _. margins-near w x near from below)
   | inr far ↦ KeepsBounds-always w (x % 2 ^ 64) far (omega arith)
 ]
 
--- what the code computes of the window's start
-pub start_shifted : (raw e b : ℕ) → e < 50 → (raw % 2 ^ 64 + (2 ^ 64 - (2048 + b % 2048) * 2 ^ e % 2 ^ 64)) % 2 ^ 64 ≡ (raw % 2 ^ 64 + 2 ^ 64 - (2048 + b % 2048) * 2 ^ e) % 2 ^ 64
-start_shifted raw e b h =
-    let unit : 2 ^ e ≤ 2 ^ 50 = pow_le e 50 (omega arith) in
-    let step : (2048 + b % 2048) * 2 ^ e ≤ 4096 * 2 ^ e = mul-le-mul_right (2 ^ e) (let f : 2048 + b % 2048 ≤ 4096 = omega arith in f) in
-    omega arith
-
-pub start_coded : (w raw e b a : ℕ) → e ≤ 50 → e ≡ exponent_of w → b ≡ b_of w → a ≡ address_of w → raw ≡ raw_base_at e b a → (raw % 2 ^ 64 + 2 ^ 64 - (2048 + b % 2048) * 2 ^ e) % 2 ^ 64 ≡ window_start w % 2 ^ 64
-unfolding base_of
-start_coded w raw e b a h e_is b_is a_is raw_is =
-    let same : raw ≡ raw_base_at (exponent_of w) (b_of w) (address_of w) =
-    raw_is ∙ ap (λ (x : ℕ). raw_base_at x b a) e_is ∙ ap (λ (x : ℕ). raw_base_at (exponent_of w) x a) b_is ∙ ap (λ (x : ℕ). raw_base_at (exponent_of w) (b_of w) x) a_is in
-    ap (λ (x : ℕ). (x % 2 ^ 64 + 2 ^ 64 - (2048 + b % 2048) * 2 ^ e) % 2 ^ 64) same
-    ∙ ap (λ (x : ℕ). (base_of w + 2 ^ 64 - (2048 + x % 2048) * 2 ^ e) % 2 ^ 64) b_is
-    ∙ ap (λ (x : ℕ). (base_of w + 2 ^ 64 - (2048 + b_of w % 2048) * 2 ^ x) % 2 ^ 64) e_is
-    ∙ start_from_base w (subst (λ (x : ℕ). x ≤ 50) e_is h)
-
 -- the range by its start and its size
-pub KeepsBounds-exact : (w start size y : ℕ) → exponent_of w < 50 → y < 2 ^ 64 → start ≡ window_start w % 2 ^ 64 → size ≡ window_size w → (KeepsBounds w y → (y + 2 ^ 64 - start) % 2 ^ 64 < size) × ((y + 2 ^ 64 - start) % 2 ^ 64 < size → KeepsBounds w y)
+pub KeepsBounds-exact : (w start size y : ℕ) → cut_exponent_of w < 50 → y < 2 ^ 64 → start ≡ window_start w % 2 ^ 64
+    → size ≡ window_size w
+    → (KeepsBounds w y → (y + 2 ^ 64 - start) % 2 ^ 64 < size) × ((y + 2 ^ 64 - start) % 2 ^ 64 < size → KeepsBounds w y)
 KeepsBounds-exact w start size y near fits start_is size_is = (
-  λ k. subst (λ (x : ℕ). (y + 2 ^ 64 - start) % 2 ^ 64 < x) (sym size_is) (subst (λ (x : ℕ). (y + 2 ^ 64 - x) % 2 ^ 64 < window_size w) (sym start_is) (IsRepresentable-from_keeps w y fits k near)),
-  λ h. KeepsBounds-from_range w y fits (λ _. subst (λ (x : ℕ). (y + 2 ^ 64 - x) % 2 ^ 64 < window_size w) start_is (subst (λ (x : ℕ). (y + 2 ^ 64 - start) % 2 ^ 64 < x) size_is h)),
+  λ k. subst (λ (x : ℕ). (y + 2 ^ 64 - start) % 2 ^ 64 < x) (sym size_is)
+      (subst (λ (x : ℕ). (y + 2 ^ 64 - x) % 2 ^ 64 < window_size w) (sym start_is) (IsRepresentable-from_keeps w y fits k near)),
+  λ h. KeepsBounds-from_range w y fits
+      (λ _. subst (λ (x : ℕ). (y + 2 ^ 64 - x) % 2 ^ 64 < window_size w) start_is
+      (subst (λ (x : ℕ). (y + 2 ^ 64 - start) % 2 ^ 64 < x) size_is h)),
 )
 
 -- from its base to its top every address keeps a word's bounds

@@ -21,11 +21,14 @@ record IsFirst (b l r : ℕ) : Type 0 where
   fits : units_of b l r < 1024
   least : (k : ℕ) → k < r → 1024 ≤ units_of b l k
 
-first-is : (b l count e : ℕ) → ((k : ℕ) → k < e → 1024 ≤ units_of b l k) → units_of b l (e + count) < 1024 → (first_exponent b l count e ≤ e + count) × IsFirst b l (first_exponent b l count e)
+first-is : (b l count e : ℕ) → ((k : ℕ) → k < e → 1024 ≤ units_of b l k) → units_of b l (e + count) < 1024
+    → (first_exponent b l count e ≤ e + count) × IsFirst b l (first_exponent b l count e)
 unfolding first_exponent
-first-is b l zero e below h = (omega arith, record { fits = subst (λ (x : ℕ). units_of b l x < 1024) (let f : e + 0 ≡ e = omega arith in f) h; least = below })
+first-is b l zero e below h =
+    (omega arith, record { fits = subst (λ (x : ℕ). units_of b l x < 1024) (let f : e + 0 ≡ e = omega arith in f) h; least = below })
 first-is b l (suc count) e below h = elim (cases_lt (units_of b l e) 1024) [
-  | inl here ↦ subst (λ (x : ℕ). (x ≤ e + suc count) × IsFirst b l x) (sym (first-here b l count e here)) (omega arith, record { fits = here; least = below })
+  | inl here ↦ subst (λ (x : ℕ). (x ≤ e + suc count) × IsFirst b l x) (sym (first-here b l count e here))
+      (omega arith, record { fits = here; least = below })
   | inr later ↦
       let more : (k : ℕ) → k < suc e → 1024 ≤ units_of b l k = λ k p. elim (cases_order k e) [
         | inl same ↦ subst (λ (x : ℕ). 1024 ≤ units_of b l x) (sym same) later
@@ -53,7 +56,8 @@ rounded_exponent-long b l h = grind (arith, nat_tests)
 pub IsLeastExponent-rounded : (b l : ℕ) → 4096 ≤ l → l < 2 ^ 64 → IsLeastExponent b l (rounded_exponent b l)
 IsLeastExponent-rounded b l h k =
     let f = first-is b l 52 0 (λ j p. absurd (omega arith)) (units-at-52 b l k) in
-    subst (λ (x : ℕ). IsLeastExponent b l x) (sym (rounded_exponent-long b l h)) (record { within = omega arith; fits = f.1.fits; least = f.1.least })
+    subst (λ (x : ℕ). IsLeastExponent b l x) (sym (rounded_exponent-long b l h))
+    (record { within = omega arith; fits = f.1.fits; least = f.1.least })
 
 -- two least exponents are one
 pub IsLeastExponent-unique : (b l d e : ℕ) → IsLeastExponent b l d → IsLeastExponent b l e → d ≡ e
@@ -89,7 +93,8 @@ IsLeastExponent-start b l e he h k =
     record { within = he; fits = k; least = λ j p. units-below b l e j (omega arith) p }
 
 -- and else one more
-pub IsLeastExponent-raised : (b l e : ℕ) → e < 52 → 2 ^ (e + 12) ≤ l → l < 2 ^ (e + 13) → 1024 ≤ units_of b l e → IsLeastExponent b l (e + 1)
+pub IsLeastExponent-raised : (b l e : ℕ) → e < 52 → 2 ^ (e + 12) ≤ l → l < 2 ^ (e + 13) → 1024 ≤ units_of b l e
+    → IsLeastExponent b l (e + 1)
 IsLeastExponent-raised b l e he h k p =
     let scale : 2 ^ (e + 12) ≡ 512 * 2 ^ (e + 3) = pow_split (e + 12) 9 (e + 3) (omega arith) in
     let next : 2 ^ (e + 13) ≡ 512 * 2 ^ (e + 1 + 3) = pow_split (e + 13) 9 (e + 1 + 3) (omega arith) in
@@ -100,7 +105,8 @@ IsLeastExponent-raised b l e he h k p =
     ] in
     record { within = omega arith; fits = units-few b l (e + 1) (omega arith); least = below }
 
-from-top : (l j z : ℕ) → 4096 ≤ l → z + suc j ≡ 64 → 2 ^ j ≤ l → l < 2 ^ suc j → (z ≤ 51) × (2 ^ (51 - z + 12) ≤ l) × (l < 2 ^ (51 - z + 13))
+from-top : (l j z : ℕ) → 4096 ≤ l → z + suc j ≡ 64 → 2 ^ j ≤ l → l < 2 ^ suc j
+    → (z ≤ 51) × (2 ^ (51 - z + 12) ≤ l) × (l < 2 ^ (51 - z + 13))
 from-top l j z h is low high =
     let big : 12 ≤ j = elim (cases_lt j 12) [ inl small ↦ absurd (omega (arith, pow_le (suc j) 12 small)) | inr p ↦ p ] in
     let a : 51 - z + 12 ≡ j = omega arith in
@@ -108,5 +114,6 @@ from-top l j z h is low high =
     (omega arith, subst (λ (x : ℕ). 2 ^ x ≤ l) (sym a) low, subst (λ (x : ℕ). l < 2 ^ x) (sym b) high)
 
 -- the exponent at which the code starts, by the leading zeros of the length
-pub start_is : (l : ℕ) → 4096 ≤ l → l < 2 ^ 64 → (count_leading_zeros 64 l ≤ 51) × (2 ^ (51 - count_leading_zeros 64 l + 12) ≤ l) × (l < 2 ^ (51 - count_leading_zeros 64 l + 13))
+pub start_is : (l : ℕ) → 4096 ≤ l → l < 2 ^ 64
+    → (count_leading_zeros 64 l ≤ 51) × (2 ^ (51 - count_leading_zeros 64 l + 12) ≤ l) × (l < 2 ^ (51 - count_leading_zeros 64 l + 13))
 start_is l h k = let t = leading_top 64 l (omega arith) k in from-top l t.0 (count_leading_zeros 64 l) h t.1 t.2 t.3

@@ -12,3 +12,7 @@ pub mod SameFields
 pub mod Keeping
 pub mod LeastRounding
 pub mod ExactLengths
+pub mod SailDecodingLemmas
+pub mod SailRoundingLemmas
+pub mod SoundTests
+pub mod WrappedBounds

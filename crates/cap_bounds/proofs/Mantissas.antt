@@ -18,8 +18,10 @@ span_of-mantissa_of b low false h = omega arith
 
 pub IsMantissa-mantissa_of : (b low : ℕ) (ie : Bool) → b < 2 ^ 14 → low < 2 ^ 12 → IsMantissa b low ie (mantissa_of b low ie)
 unfolding mantissa_of
-IsMantissa-mantissa_of b low true h k = record { fits = omega arith; low_bits = omega arith; span_from = omega arith; span_below = omega arith }
-IsMantissa-mantissa_of b low false h k = record { fits = omega arith; low_bits = omega arith; span_from = omega arith; span_below = omega arith }
+IsMantissa-mantissa_of b low true h k =
+    record { fits = omega arith; low_bits = omega arith; span_from = omega arith; span_below = omega arith }
+IsMantissa-mantissa_of b low false h k =
+    record { fits = omega arith; low_bits = omega arith; span_from = omega arith; span_below = omega arith }
 
 pub IsMantissa-unique : (b low : ℕ) (ie : Bool) (t : ℕ) → b < 2 ^ 14 → IsMantissa b low ie t → t ≡ mantissa_of b low ie
 unfolding mantissa_of

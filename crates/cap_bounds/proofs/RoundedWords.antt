@@ -1,19 +1,98 @@
 -- The word of a rounded request has exactly the rounded bounds, and is sound.
-use Rattle.std.proofs.Common.{◌≡◌, ℕ, zero, suc, ◌+◌, ◌-◌, ◌*◌, ◌/◌, ◌%◌, ◌^◌, ◌<◌, ◌≤◌, min, Bool, true, false, sym, ap, ◌∙◌, inl, inr, arith, subst}
+use Rattle.std.proofs.Common.{
+  ◌≡◌,
+  ℕ,
+  zero,
+  suc,
+  ◌+◌,
+  ◌-◌,
+  ◌*◌,
+  ◌/◌,
+  ◌%◌,
+  ◌^◌,
+  ◌<◌,
+  ◌≤◌,
+  min,
+  Bool,
+  true,
+  false,
+  sym,
+  ap,
+  ◌∙◌,
+  inl,
+  inr,
+  arith,
+  subst,
+}
 use Rattle.std.proofs.Math.Nat.{min-eq_left, mul-le-mul_right, lt_of_mul-lt-mul_right}
 use Rattle.std.proofs.lemmas.Nat.{pow_pos}
 use Rattle.std.proofs.lemmas.Bool.{cases_lt}
 use Rattle.cap_word.specs.Fields.{ie_of, b_of, t_of, address_of}
-use Rattle.cap_bounds.specs.Bounds.{IsResidue, IsSound, exponent_of, span_at, raw_base_at, top_at, base_of, top_of, length_of}
-use Rattle.cap_bounds.specs.Rounding.{div_up, units_of, IsLeastExponent, HasRounding, bounded_word, rounded_word, rounded_ie, rounded_exponent, rounded_base, rounded_top, rounded_b, rounded_t}
+use Rattle.cap_bounds.specs.Bounds.{
+  window_start_at,
+  IsResidue,
+  IsSound,
+  cut_exponent_of,
+  span_at,
+  raw_base_at,
+  top_at,
+  base_of,
+  top_of,
+  length_of,
+}
+use Rattle.cap_bounds.specs.Rounding.{
+  div_up,
+  units_of,
+  IsLeastExponent,
+  HasRounding,
+  bounded_word,
+  rounded_word,
+  rounded_ie,
+  rounded_exponent,
+  rounded_base,
+  rounded_top,
+  rounded_b,
+  rounded_t,
+}
 use Rattle.cap_bounds.proofs.Residues.{IsResidue-unique, mul-mod-mul}
 use Rattle.cap_bounds.proofs.Windows.{eighth_of}
 use Rattle.cap_bounds.proofs.Powers.{pow_split, grain_is}
-use Rattle.cap_bounds.proofs.Decoded.{start_at, start_at-le, start_at-gt, raw_base_at-residue, top_at-near, top_at-far, decoded_base, decoded_length, decoded_top}
+use Rattle.cap_bounds.proofs.Decoded.{
+  window_start_at-le,
+  window_start_at-gt,
+  raw_base_at-residue,
+  top_at-corrected,
+  top_at-uncorrected,
+  decoded_base,
+  decoded_length,
+  decoded_top,
+}
 use Rattle.cap_bounds.proofs.Units.{covered-ge, covered-lt, many, down-le, down-gt, down-le-up}
 use Rattle.cap_bounds.proofs.LeastExponents.{IsLeastExponent-rounded, rounded_exponent-short, rounded_exponent-le}
-use Rattle.cap_bounds.proofs.Roundings.{grain_of, rounded_base-short, rounded_top-short, rounded_ie-short, rounded_ie-long, rounded_base-long, rounded_top-long, rounded_base-le, rounded_top-ge, rounded_top-le, in_units, short_b, short_t}
-use Rattle.cap_bounds.proofs.BoundedWords.{AreFields, address_of-bounded_word, ie_of-bounded_word, e_of-bounded_word, b_of-bounded_word, t_of-bounded_word, above-bounded_word}
+use Rattle.cap_bounds.proofs.Roundings.{
+  grain_of,
+  rounded_base-short,
+  rounded_top-short,
+  rounded_ie-short,
+  rounded_ie-long,
+  rounded_base-long,
+  rounded_top-long,
+  rounded_base-le,
+  rounded_top-ge,
+  rounded_top-le,
+  in_units,
+  short_b,
+  short_t,
+}
+use Rattle.cap_bounds.proofs.BoundedWords.{
+  AreFields,
+  address_of-bounded_word,
+  ie_of-bounded_word,
+  e_of-bounded_word,
+  b_of-bounded_word,
+  t_of-bounded_word,
+  above-bounded_word,
+}
 
 -- a long request covers 512 units or more at its least exponent
 pub units-ge : (b l e : ℕ) → 4096 ≤ l → IsLeastExponent b l e → 512 ≤ units_of b l e
@@ -28,14 +107,21 @@ units-ge b l (suc e) h least =
     lt_of_mul-lt-mul_right (2 ^ (suc e + 3)) {m = 511} {n = units_of b l (suc e)} more
 
 -- the raw base is the number of the window that is congruent to B units
-raw_base_at_is : (e b a y : ℕ) → e ≤ 52 → b < 2 ^ 14 → IsResidue (start_at e b a) (2 ^ (e + 14)) (b * 2 ^ e) y → raw_base_at e b a ≡ y
-raw_base_at_is e b a y he hb h = IsResidue-unique (start_at e b a) (2 ^ (e + 14)) (b * 2 ^ e) (raw_base_at e b a) y (raw_base_at-residue e b a he hb) h
+raw_base_at_is : (e b a y : ℕ) → e ≤ 52 → b < 2 ^ 14 → IsResidue (window_start_at e b a) (2 ^ (e + 14)) (b * 2 ^ e) y
+    → raw_base_at e b a ≡ y
+raw_base_at_is e b a y he hb h = IsResidue-unique (window_start_at e b a) (2 ^ (e + 14)) (b * 2 ^ e) (raw_base_at e b a) y
+    (raw_base_at-residue e b a he hb) h
 
 -- at exponent 0 a base is its own raw base
 raw_base_at-short : (a : ℕ) → raw_base_at 0 (a % 2 ^ 14) a ≡ a + 2 ^ 66
 raw_base_at-short a =
     raw_base_at_is 0 (a % 2 ^ 14) a (a + 2 ^ 66) (omega arith) (omega arith)
-    (record { from = start_at-le 0 (a % 2 ^ 14) a (omega arith) (omega arith); below = start_at-gt 0 (a % 2 ^ 14) a (omega arith) (omega arith); congruent = omega arith })
+    (record {
+      from = window_start_at-le 0 (a % 2 ^ 14) a (omega arith) (omega arith);
+      below = window_start_at-gt 0 (a % 2 ^ 14) a (omega arith)
+          (omega arith);
+      congruent = omega arith;
+    })
 
 -- a multiple of a grain is the raw base of the addresses of that grain
 module _ (e k a : ℕ) (he : e ≤ 52) (low : k * 2 ^ (e + 3) ≤ a) (high : a < k * 2 ^ (e + 3) + 2 ^ (e + 3)) where
@@ -46,31 +132,42 @@ module _ (e k a : ℕ) (he : e ≤ 52) (low : k * 2 ^ (e + 3) ≤ a) (high : a <
       let r : 2 ^ (63 - e) * 2 ^ (e + 3) ≡ 2048 * 2 ^ (52 - e) * 2 ^ (e + 3) = ap (λ (x : ℕ). x * 2 ^ (e + 3)) q in
       omega arith
 
-  from-grain : start_at e (8 * k % 2 ^ 14) a ≤ k * 2 ^ (e + 3) + 2 ^ 66
+  from-grain : window_start_at e (8 * k % 2 ^ 14) a ≤ k * 2 ^ (e + 3) + 2 ^ 66
   from-grain =
       let b = 8 * k % 2 ^ 14 in
       let n = eighth_of b ((a + 2 ^ 66) / 2 ^ (e + 11)) in
       let eighth : 2 ^ (e + 11) ≡ 256 * 2 ^ (e + 3) = pow_split (e + 11) 8 (e + 3) (omega arith) in
-      let whole : n * 2 ^ (e + 11) ≡ 256 * n * 2 ^ (e + 3) = ap (λ (x : ℕ). n * x) eighth ∙ (let f : n * (256 * 2 ^ (e + 3)) ≡ 256 * n * 2 ^ (e + 3) = omega arith in f) in
-      let below : 256 * n * 2 ^ (e + 3) < suc (k + 2048 * 2 ^ (52 - e)) * 2 ^ (e + 3) = omega (arith, shifted, start_at-le e b a he (omega arith)) in
-      let steps : 256 * n < suc (k + 2048 * 2 ^ (52 - e)) = lt_of_mul-lt-mul_right (2 ^ (e + 3)) {m = 256 * n} {n = suc (k + 2048 * 2 ^ (52 - e))} below in
-      let up : 256 * n * 2 ^ (e + 3) ≤ (k + 2048 * 2 ^ (52 - e)) * 2 ^ (e + 3) = mul-le-mul_right (2 ^ (e + 3)) (let f : 256 * n ≤ k + 2048 * 2 ^ (52 - e) = omega arith in f) in
+      let whole : n * 2 ^ (e + 11) ≡ 256 * n * 2 ^ (e + 3) = ap (λ (x : ℕ). n * x) eighth
+      ∙ (let f : n * (256 * 2 ^ (e + 3)) ≡ 256 * n * 2 ^ (e + 3) = omega arith in f) in
+      let below : 256 * n * 2 ^ (e + 3) < suc (k + 2048 * 2 ^ (52 - e)) * 2 ^ (e + 3) = omega
+      (arith, shifted, window_start_at-le e b a he (omega arith)) in
+      let steps : 256 * n < suc (k + 2048 * 2 ^ (52 - e)) = lt_of_mul-lt-mul_right
+      (2 ^ (e + 3)) {m = 256 * n} {n = suc (k + 2048 * 2 ^ (52 - e))} below in
+      let up : 256 * n * 2 ^ (e + 3) ≤ (k + 2048 * 2 ^ (52 - e)) * 2 ^ (e + 3) = mul-le-mul_right (2 ^ (e + 3))
+      (let f : 256 * n ≤ k + 2048 * 2 ^ (52 - e) = omega arith in f) in
       omega (arith, shifted)
 
   congruent-grain : (k * 2 ^ (e + 3) + 2 ^ 66) % 2 ^ (e + 14) ≡ 8 * k % 2 ^ 14 * 2 ^ e % 2 ^ (e + 14)
   congruent-grain =
       let size : 2 ^ (e + 14) ≡ 2048 * 2 ^ (e + 3) = pow_split (e + 14) 11 (e + 3) (omega arith) in
       let units : 8 * k % 2 ^ 14 * 2 ^ e ≡ k % 2048 * 2 ^ (e + 3) =
-      ap (λ (x : ℕ). x * 2 ^ e) (let f : 8 * k % 2 ^ 14 ≡ k % 2048 * 8 = omega arith in f) ∙ (let g : k % 2048 * 8 * 2 ^ e ≡ k % 2048 * (8 * 2 ^ e) = omega arith in g) ∙ ap (λ (x : ℕ). k % 2048 * x) (sym (grain_is e)) in
+      ap (λ (x : ℕ). x * 2 ^ e) (let f : 8 * k % 2 ^ 14 ≡ k % 2048 * 8 = omega arith in f)
+      ∙ (let g : k % 2048 * 8 * 2 ^ e ≡ k % 2048 * (8 * 2 ^ e) = omega arith in g) ∙ ap (λ (x : ℕ). k % 2048 * x) (sym (grain_is e)) in
       let same : (k + 2048 * 2 ^ (52 - e)) % 2048 ≡ k % 2048 % 2048 = omega arith in
       ap (λ (x : ℕ). x % 2 ^ (e + 14)) shifted ∙ ap (λ (x : ℕ). (k + 2048 * 2 ^ (52 - e)) * 2 ^ (e + 3) % x) size
       ∙ mul-mod-mul (k + 2048 * 2 ^ (52 - e)) (2 ^ (e + 3)) 2048 (omega arith) (pow_pos (e + 3)) ∙ ap (λ (x : ℕ). x * 2 ^ (e + 3)) same
-      ∙ sym (mul-mod-mul (k % 2048) (2 ^ (e + 3)) 2048 (omega arith) (pow_pos (e + 3))) ∙ ap (λ (x : ℕ). k % 2048 * 2 ^ (e + 3) % x) (sym size) ∙ ap (λ (x : ℕ). x % 2 ^ (e + 14)) (sym units)
+      ∙ sym (mul-mod-mul (k % 2048) (2 ^ (e + 3)) 2048 (omega arith) (pow_pos (e + 3)))
+      ∙ ap (λ (x : ℕ). k % 2048 * 2 ^ (e + 3) % x) (sym size) ∙ ap (λ (x : ℕ). x % 2 ^ (e + 14)) (sym units)
 
   raw_base_at-grain : raw_base_at e (8 * k % 2 ^ 14) a ≡ k * 2 ^ (e + 3) + 2 ^ 66
   raw_base_at-grain =
       raw_base_at_is e (8 * k % 2 ^ 14) a (k * 2 ^ (e + 3) + 2 ^ 66) he (omega arith)
-      (record { from = from-grain; below = omega (arith, start_at-gt e (8 * k % 2 ^ 14) a he (omega arith)); congruent = congruent-grain })
+      (record {
+        from = from-grain;
+        below = omega
+            (arith, window_start_at-gt e (8 * k % 2 ^ 14) a he (omega arith));
+        congruent = congruent-grain;
+      })
 
 -- the bounds and the length of a word
 pub record HasBounds (w base length top : ℕ) : Type 0 where
@@ -79,39 +176,46 @@ pub record HasBounds (w base length top : ℕ) : Type 0 where
   pub top_is : top_of w ≡ top
 
 -- a word of these fields has the bounds that its raw base and its span give
-module _ (w : ℕ) (ie : Bool) (e b t a base length top : ℕ) (a_fits : a < 2 ^ 64) (f : AreFields ie e b t) (he : e ≤ 52) (raw_is : raw_base_at e b a ≡ base + 2 ^ 66) (length_is : span_at b (t % 2 ^ 12) ie * 2 ^ e ≡ length) (sum : base + length ≡ top) (fits : base < 2 ^ 64) (within : top ≤ 2 ^ 64) where
+module _ (w : ℕ) (ie : Bool) (e b t a base length top : ℕ) (a_fits : a < 2 ^ 64) (f : AreFields ie e b t) (he : e ≤ 52)
+    (raw_is : raw_base_at e b a ≡ base + 2 ^ 66) (length_is : span_at b (t % 2 ^ 12) ie * 2 ^ e ≡ length) (sum : base + length ≡ top)
+    (fits : base < 2 ^ 64) (within : top ≤ 2 ^ 64) where
   top_whole : top_at e (base + 2 ^ 66) length ≡ top
   top_whole = elim (cases_lt 50 e) [
-    | inl far ↦ top_at-far e (base + 2 ^ 66) length far ∙ (let r : (base + 2 ^ 66 + length) % 2 ^ 65 ≡ top = omega arith in r)
-    | inr near ↦ top_at-near e (base + 2 ^ 66) length near ∙ (let r : (base + 2 ^ 66) % 2 ^ 64 + length ≡ top = omega arith in r)
+    | inl far ↦ top_at-uncorrected e (base + 2 ^ 66) length far ∙ (let r : (base + 2 ^ 66 + length) % 2 ^ 65 ≡ top = omega arith in r)
+    | inr near ↦ top_at-corrected e (base + 2 ^ 66) length near ∙ (let r : (base + 2 ^ 66) % 2 ^ 64 + length ≡ top = omega arith in r)
   ]
 
   pub HasBounds-bounded_word : HasBounds (bounded_word w ie e b t a) base length top
   HasBounds-bounded_word =
       let v = bounded_word w ie e b t a in
-      let e_is : e ≡ exponent_of v = sym (ap (λ (x : ℕ). min x 52) (e_of-bounded_word w ie e b t a a_fits f) ∙ min-eq_left he) in
+      let e_is : e ≡ cut_exponent_of v = sym (ap (λ (x : ℕ). min x 52) (e_of-bounded_word w ie e b t a a_fits f) ∙ min-eq_left he) in
       let b_is : b ≡ b_of v = sym (b_of-bounded_word w ie e b t a a_fits f) in
       let t_is : t % 2 ^ 12 ≡ t_of v = sym (t_of-bounded_word w ie e b t a a_fits f) in
       let ie_is : ie ≡ ie_of v = sym (ie_of-bounded_word w ie e b t a a_fits f) in
       let a_is : a ≡ address_of v = sym (address_of-bounded_word w ie e b t a a_fits f) in
       let d_is : span_at b (t % 2 ^ 12) ie ≡ span_at (b_of v) (t_of v) (ie_of v) =
-      ap (λ (x : ℕ). span_at x (t % 2 ^ 12) ie) b_is ∙ ap (λ (x : ℕ). span_at (b_of v) x ie) t_is ∙ ap (λ (x : Bool). span_at (b_of v) (t_of v) x) ie_is in
+      ap (λ (x : ℕ). span_at x (t % 2 ^ 12) ie) b_is ∙ ap (λ (x : ℕ). span_at (b_of v) x ie) t_is
+      ∙ ap (λ (x : Bool). span_at (b_of v) (t_of v) x) ie_is in
       let raw = sym raw_is in
       record {
-        base_is = sym (decoded_base v e b (span_at b (t % 2 ^ 12) ie) a (base + 2 ^ 66) e_is b_is d_is a_is raw) ∙ (let r : (base + 2 ^ 66) % 2 ^ 64 ≡ base = omega arith in r);
+        base_is = sym (decoded_base v e b (span_at b (t % 2 ^ 12) ie) a (base + 2 ^ 66) e_is b_is d_is a_is raw)
+            ∙ (let r : (base + 2 ^ 66) % 2 ^ 64 ≡ base = omega arith in r);
         length_is = sym (decoded_length v e b (span_at b (t % 2 ^ 12) ie) a (base + 2 ^ 66) e_is b_is d_is a_is raw) ∙ length_is;
         top_is =
-            sym (decoded_top v e b (span_at b (t % 2 ^ 12) ie) a (base + 2 ^ 66) e_is b_is d_is a_is raw) ∙ ap (λ (x : ℕ). top_at e (base + 2 ^ 66) x) length_is ∙ top_whole;
+            sym (decoded_top v e b (span_at b (t % 2 ^ 12) ie) a (base + 2 ^ 66) e_is b_is d_is a_is raw)
+            ∙ ap (λ (x : ℕ). top_at e (base + 2 ^ 66) x) length_is ∙ top_whole;
       }
 
 -- B and T of a long request
 pub rounded_b-long : (b l : ℕ) → 4096 ≤ l → rounded_b b l ≡ 8 * (b / grain_of b l) % 2 ^ 14
 rounded_b-long b l h =
-    ap (λ (x : ℕ). x / 2 ^ rounded_exponent b l % 2 ^ 14) (rounded_base-long b l h) ∙ ap (λ (x : ℕ). x % 2 ^ 14) (in_units (b / grain_of b l) (rounded_exponent b l))
+    ap (λ (x : ℕ). x / 2 ^ rounded_exponent b l % 2 ^ 14) (rounded_base-long b l h)
+    ∙ ap (λ (x : ℕ). x % 2 ^ 14) (in_units (b / grain_of b l) (rounded_exponent b l))
 
 pub rounded_t-long : (b l : ℕ) → 4096 ≤ l → rounded_t b l ≡ 8 * div_up (b + l) (grain_of b l) % 2 ^ 14
 rounded_t-long b l h =
-    ap (λ (x : ℕ). x / 2 ^ rounded_exponent b l % 2 ^ 14) (rounded_top-long b l h) ∙ ap (λ (x : ℕ). x % 2 ^ 14) (in_units (div_up (b + l) (grain_of b l)) (rounded_exponent b l))
+    ap (λ (x : ℕ). x / 2 ^ rounded_exponent b l % 2 ^ 14) (rounded_top-long b l h)
+    ∙ ap (λ (x : ℕ). x % 2 ^ 14) (in_units (div_up (b + l) (grain_of b l)) (rounded_exponent b l))
 
 -- the fields of a rounding are fields of a word
 pub AreFields-rounded : (b l : ℕ) → l < 2 ^ 64 → AreFields (rounded_ie l) (rounded_exponent b l) (rounded_b b l) (rounded_t b l)
@@ -136,27 +240,32 @@ AreFields-rounded b l fits = record {
 span-short : (b l : ℕ) → l < 4096 → span_at (b % 2 ^ 14) ((b + l) % 2 ^ 14 % 2 ^ 12) false * 2 ^ 0 ≡ l
 span-short b l h = omega arith
 
-span-long : (lo hi units : ℕ) → lo + units ≡ hi → 512 ≤ units → units < 1024 → span_at (8 * lo % 2 ^ 14) (8 * hi % 2 ^ 14 % 2 ^ 12) true ≡ 8 * units
+span-long : (lo hi units : ℕ) → lo + units ≡ hi → 512 ≤ units → units < 1024
+    → span_at (8 * lo % 2 ^ 14) (8 * hi % 2 ^ 14 % 2 ^ 12) true ≡ 8 * units
 span-long lo hi units sum from below = omega arith
 
 -- a short request
-HasBounds-short : (w b l : ℕ) → l < 4096 → b < 2 ^ 64 → b + l ≤ 2 ^ 64 → HasBounds (rounded_word w b l) (rounded_base b l) l (rounded_top b l)
+HasBounds-short : (w b l : ℕ) → l < 4096 → b < 2 ^ 64 → b + l ≤ 2 ^ 64
+    → HasBounds (rounded_word w b l) (rounded_base b l) l (rounded_top b l)
 HasBounds-short w b l short fits within =
     let e_is : rounded_exponent b l ≡ 0 = rounded_exponent-short b l short in
     let base_is : rounded_base b l ≡ b = rounded_base-short b l short in
     let top_is : rounded_top b l ≡ b + l = rounded_top-short b l short in
     let raw : raw_base_at (rounded_exponent b l) (rounded_b b l) b ≡ rounded_base b l + 2 ^ 66 =
-    ap (λ (x : ℕ). raw_base_at x (rounded_b b l) b) e_is ∙ ap (λ (x : ℕ). raw_base_at 0 x b) (sym (short_b b l short)) ∙ raw_base_at-short b ∙ ap (λ (x : ℕ). x + 2 ^ 66) (sym base_is) in
+    ap (λ (x : ℕ). raw_base_at x (rounded_b b l) b) e_is ∙ ap (λ (x : ℕ). raw_base_at 0 x b) (sym (short_b b l short))
+    ∙ raw_base_at-short b ∙ ap (λ (x : ℕ). x + 2 ^ 66) (sym base_is) in
     let span : span_at (rounded_b b l) (rounded_t b l % 2 ^ 12) (rounded_ie l) * 2 ^ rounded_exponent b l ≡ l =
     ap (λ (x : ℕ). span_at (rounded_b b l) (rounded_t b l % 2 ^ 12) (rounded_ie l) * 2 ^ x) e_is
     ∙ ap (λ (x : Bool). span_at (rounded_b b l) (rounded_t b l % 2 ^ 12) x * 2 ^ 0) (rounded_ie-short l short)
     ∙ ap (λ (x : ℕ). span_at x (rounded_t b l % 2 ^ 12) false * 2 ^ 0) (sym (short_b b l short))
     ∙ ap (λ (x : ℕ). span_at (b % 2 ^ 14) (x % 2 ^ 12) false * 2 ^ 0) (sym (short_t b l short)) ∙ span-short b l short in
-    HasBounds-bounded_word w (rounded_ie l) (rounded_exponent b l) (rounded_b b l) (rounded_t b l) b (rounded_base b l) l (rounded_top b l) fits
+    HasBounds-bounded_word w (rounded_ie l) (rounded_exponent b l) (rounded_b b l) (rounded_t b l) b (rounded_base b l) l
+    (rounded_top b l) fits
     (AreFields-rounded b l (omega arith)) (omega arith) raw span (omega arith) (omega arith) (omega arith)
 
 -- a long one
-HasBounds-long : (w b l : ℕ) → 4096 ≤ l → l < 2 ^ 64 → b < 2 ^ 64 → b + l ≤ 2 ^ 64 → HasBounds (rounded_word w b l) (rounded_base b l) (rounded_top b l - rounded_base b l) (rounded_top b l)
+HasBounds-long : (w b l : ℕ) → 4096 ≤ l → l < 2 ^ 64 → b < 2 ^ 64 → b + l ≤ 2 ^ 64
+    → HasBounds (rounded_word w b l) (rounded_base b l) (rounded_top b l - rounded_base b l) (rounded_top b l)
 HasBounds-long w b l long l_fits fits within =
     let e = rounded_exponent b l in
     let least = IsLeastExponent-rounded b l long l_fits in
@@ -168,16 +277,23 @@ HasBounds-long w b l long l_fits fits within =
     let sum : lo + (hi - lo) ≡ hi = omega arith in
     let raw : raw_base_at e (rounded_b b l) b ≡ rounded_base b l + 2 ^ 66 =
     ap (λ (x : ℕ). raw_base_at e x b) (rounded_b-long b l long)
-    ∙ raw_base_at-grain e lo b least.within (down-le b (grain_of b l)) (down-gt b (grain_of b l) (pow_pos (e + 3))) ∙ ap (λ (x : ℕ). x + 2 ^ 66) (sym base_is) in
-    let whole : lo * grain_of b l + (hi - lo) * grain_of b l ≡ hi * grain_of b l = (let r : lo * grain_of b l + (hi - lo) * grain_of b l ≡ (lo + (hi - lo)) * grain_of b l = omega arith in r) ∙ ap (λ (x : ℕ). x * grain_of b l) sum in
-    let scaled : 8 * (hi - lo) * 2 ^ e ≡ (hi - lo) * grain_of b l = (let r : 8 * (hi - lo) * 2 ^ e ≡ (hi - lo) * (8 * 2 ^ e) = omega arith in r) ∙ ap (λ (x : ℕ). (hi - lo) * x) (sym (grain_is e)) in
+    ∙ raw_base_at-grain e lo b least.within (down-le b (grain_of b l)) (down-gt b (grain_of b l) (pow_pos (e + 3)))
+    ∙ ap (λ (x : ℕ). x + 2 ^ 66) (sym base_is) in
+    let whole : lo * grain_of b l + (hi - lo) * grain_of b l
+    ≡ hi * grain_of b l = (let r : lo * grain_of b l + (hi - lo) * grain_of b l ≡ (lo + (hi - lo)) * grain_of b l = omega arith in r)
+    ∙ ap (λ (x : ℕ). x * grain_of b l) sum in
+    let scaled : 8 * (hi - lo) * 2 ^ e
+    ≡ (hi - lo) * grain_of b l = (let r : 8 * (hi - lo) * 2 ^ e ≡ (hi - lo) * (8 * 2 ^ e) = omega arith in r)
+    ∙ ap (λ (x : ℕ). (hi - lo) * x) (sym (grain_is e)) in
     let span : span_at (rounded_b b l) (rounded_t b l % 2 ^ 12) (rounded_ie l) * 2 ^ e ≡ rounded_top b l - rounded_base b l =
     ap (λ (x : Bool). span_at (rounded_b b l) (rounded_t b l % 2 ^ 12) x * 2 ^ e) (rounded_ie-long l long)
     ∙ ap (λ (x : ℕ). span_at x (rounded_t b l % 2 ^ 12) true * 2 ^ e) (rounded_b-long b l long)
     ∙ ap (λ (x : ℕ). span_at (8 * lo % 2 ^ 14) (x % 2 ^ 12) true * 2 ^ e) (rounded_t-long b l long)
     ∙ ap (λ (x : ℕ). x * 2 ^ e) (span-long lo hi (hi - lo) sum (units-ge b l e long least) least.fits) ∙ scaled ∙ omega arith in
-    HasBounds-bounded_word w (rounded_ie l) e (rounded_b b l) (rounded_t b l) b (rounded_base b l) (rounded_top b l - rounded_base b l) (rounded_top b l) fits
-    (AreFields-rounded b l l_fits) least.within raw span (omega arith) (omega (arith, rounded_base-le b l)) (rounded_top-le b l 64 l_fits (omega arith) within)
+    HasBounds-bounded_word w (rounded_ie l) e (rounded_b b l) (rounded_t b l) b (rounded_base b l) (rounded_top b l - rounded_base b l)
+    (rounded_top b l) fits
+    (AreFields-rounded b l l_fits) least.within raw span (omega arith) (omega (arith, rounded_base-le b l))
+    (rounded_top-le b l 64 l_fits (omega arith) within)
 
 -- the word of a rounded request has exactly the rounded bounds
 pub base_of-rounded_word : (w b l : ℕ) → b < 2 ^ 64 → l < 2 ^ 64 → b + l ≤ 2 ^ 64 → base_of (rounded_word w b l) ≡ rounded_base b l
@@ -192,34 +308,48 @@ top_of-rounded_word w b l fits l_fits within = elim (cases_lt l 4096) [
   | inr long ↦ (HasBounds-long w b l long l_fits fits within).top_is
 ]
 
-length_of-rounded_word : (w b l : ℕ) → b < 2 ^ 64 → l < 2 ^ 64 → b + l ≤ 2 ^ 64 → rounded_base b l + length_of (rounded_word w b l) ≡ rounded_top b l
+length_of-rounded_word : (w b l : ℕ) → b < 2 ^ 64 → l < 2 ^ 64 → b + l ≤ 2 ^ 64
+    → rounded_base b l + length_of (rounded_word w b l) ≡ rounded_top b l
 length_of-rounded_word w b l fits l_fits within = elim (cases_lt l 4096) [
-  | inl short ↦ omega (arith, (HasBounds-short w b l short fits within).length_is, rounded_base-short b l short, rounded_top-short b l short)
+  | inl short ↦ omega (
+    arith,
+    (HasBounds-short w b l short fits within).length_is,
+    rounded_base-short b l short,
+    rounded_top-short b l short,
+  )
   | inr long ↦ omega (arith, (HasBounds-long w b l long l_fits fits within).length_is, rounded_base-le b l, rounded_top-ge b l)
 ]
 
 -- and is sound
 pub IsSound-rounded_word : (w b l : ℕ) → b < 2 ^ 64 → l < 2 ^ 64 → b + l ≤ 2 ^ 64 → IsSound (rounded_word w b l)
 IsSound-rounded_word w b l fits l_fits within = (
-  ap (λ (x : ℕ). x + length_of (rounded_word w b l)) (base_of-rounded_word w b l fits l_fits within) ∙ length_of-rounded_word w b l fits l_fits within ∙ sym (top_of-rounded_word w b l fits l_fits within),
+  ap (λ (x : ℕ). x + length_of (rounded_word w b l)) (base_of-rounded_word w b l fits l_fits within)
+      ∙ length_of-rounded_word w b l fits l_fits within ∙ sym (top_of-rounded_word w b l fits l_fits within),
   subst (λ (x : ℕ). x ≤ 2 ^ 64) (sym (top_of-rounded_word w b l fits l_fits within)) (rounded_top-le b l 64 l_fits (omega arith) within),
 )
 
 -- the base, the top and the soundness of any word with the fields of a rounding, at the request's base
-pub decodes : (w v : ℕ) (ie : Bool) (e b t address base length : ℕ) → v ≡ bounded_word w ie e b t address → base < 2 ^ 64 → length < 2 ^ 64 → base + length ≤ 2 ^ 64 → address ≡ base → HasRounding ie e b t base length
+pub decodes : (w v : ℕ) (ie : Bool) (e b t address base length : ℕ) → v ≡ bounded_word w ie e b t address → base < 2 ^ 64
+    → length < 2 ^ 64 → base + length ≤ 2 ^ 64 → address ≡ base → HasRounding ie e b t base length
     → (base_of v ≡ rounded_base base length) × (top_of v ≡ rounded_top base length) × IsSound v
 decodes w v ie e b t address base length is fits l_fits within at r =
     let same : v ≡ rounded_word w base length =
     is ∙ ap (λ (x : Bool). bounded_word w x e b t address) r.0 ∙ ap (λ (x : ℕ). bounded_word w (rounded_ie length) x b t address) r.1
     ∙ ap (λ (x : ℕ). bounded_word w (rounded_ie length) (rounded_exponent base length) x t address) r.2
     ∙ ap (λ (x : ℕ). bounded_word w (rounded_ie length) (rounded_exponent base length) (rounded_b base length) x address) r.3
-    ∙ ap (λ (x : ℕ). bounded_word w (rounded_ie length) (rounded_exponent base length) (rounded_b base length) (rounded_t base length) x) at in
-    subst (λ (x : ℕ). (base_of x ≡ rounded_base base length) × (top_of x ≡ rounded_top base length) × IsSound x) (sym same)
-    (base_of-rounded_word w base length fits l_fits within, top_of-rounded_word w base length fits l_fits within, IsSound-rounded_word w base length fits l_fits within)
+    ∙ ap (λ (x : ℕ). bounded_word w (rounded_ie length) (rounded_exponent base length) (rounded_b base length)
+    (rounded_t base length) x) at in
+    subst (λ (x : ℕ). (base_of x ≡ rounded_base base length) × (top_of x ≡ rounded_top base length) × IsSound x) (sym same) (
+      base_of-rounded_word w base length fits l_fits within,
+      top_of-rounded_word w base length fits l_fits within,
+      IsSound-rounded_word w base length fits l_fits within,
+    )
 
 -- its address is the request's base, and the bits above those of the bounds are kept
 pub address_of-rounded_word : (w b l : ℕ) → b < 2 ^ 64 → l < 2 ^ 64 → address_of (rounded_word w b l) ≡ b
-address_of-rounded_word w b l fits l_fits = address_of-bounded_word w (rounded_ie l) (rounded_exponent b l) (rounded_b b l) (rounded_t b l) b fits (AreFields-rounded b l l_fits)
+address_of-rounded_word w b l fits l_fits = address_of-bounded_word w (rounded_ie l) (rounded_exponent b l) (rounded_b b l)
+    (rounded_t b l) b fits (AreFields-rounded b l l_fits)
 
 pub above-rounded_word : (w b l : ℕ) → b < 2 ^ 64 → l < 2 ^ 64 → rounded_word w b l / 2 ^ 91 ≡ w / 2 ^ 91
-above-rounded_word w b l fits l_fits = above-bounded_word w (rounded_ie l) (rounded_exponent b l) (rounded_b b l) (rounded_t b l) b fits (AreFields-rounded b l l_fits)
+above-rounded_word w b l fits l_fits = above-bounded_word w (rounded_ie l) (rounded_exponent b l) (rounded_b b l) (rounded_t b l) b fits
+    (AreFields-rounded b l l_fits)

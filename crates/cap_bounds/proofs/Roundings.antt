@@ -4,7 +4,16 @@ use Rattle.std.proofs.Math.Nat.{mul-le-mul_right, mul-div_cancel, mod-eq_of_lt, 
 use Rattle.std.proofs.lemmas.Nat.{pow_pos}
 use Rattle.std.proofs.lemmas.Bool.{cases_lt}
 use Rattle.std.proofs.lemmas.Bool.Decides.{nat_tests}
-use Rattle.cap_bounds.specs.Rounding.{div_up, IsLeastExponent, rounded_ie, rounded_exponent, rounded_base, rounded_top, rounded_b, rounded_t}
+use Rattle.cap_bounds.specs.Rounding.{
+  div_up,
+  IsLeastExponent,
+  rounded_ie,
+  rounded_exponent,
+  rounded_base,
+  rounded_top,
+  rounded_b,
+  rounded_t,
+}
 use Rattle.cap_bounds.proofs.Units.{div_up-ge, div_up-le, down-le}
 use Rattle.cap_bounds.proofs.LeastExponents.{IsLeastExponent-rounded, IsLeastExponent-unique, rounded_exponent-short, rounded_exponent-le}
 use Rattle.cap_bounds.proofs.Powers.{pow_split, grain_is}
@@ -71,14 +80,18 @@ rounded_top-le b l n fits big h = elim (cases_lt l 4096) [
   | inl short ↦ omega (arith, rounded_top-short b l short)
   | inr long ↦
       let e : rounded_exponent b l ≤ 52 = rounded_exponent-le b l fits in
-      let whole : 2 ^ n ≡ 2 ^ (n - (rounded_exponent b l + 3)) * grain_of b l = pow_split n (n - (rounded_exponent b l + 3)) (rounded_exponent b l + 3) (omega arith) in
-      let units : div_up (b + l) (grain_of b l) ≤ 2 ^ (n - (rounded_exponent b l + 3)) = div_up-le (b + l) (grain_of b l) (2 ^ (n - (rounded_exponent b l + 3))) (pow_pos (rounded_exponent b l + 3)) (omega arith) in
-      let top : div_up (b + l) (grain_of b l) * grain_of b l ≤ 2 ^ (n - (rounded_exponent b l + 3)) * grain_of b l = mul-le-mul_right (grain_of b l) units in
+      let whole : 2 ^ n ≡ 2 ^ (n - (rounded_exponent b l + 3)) * grain_of b l = pow_split n (n - (rounded_exponent b l + 3))
+      (rounded_exponent b l + 3) (omega arith) in
+      let units : div_up (b + l) (grain_of b l) ≤ 2 ^ (n - (rounded_exponent b l + 3)) = div_up-le (b + l) (grain_of b l)
+      (2 ^ (n - (rounded_exponent b l + 3))) (pow_pos (rounded_exponent b l + 3)) (omega arith) in
+      let top : div_up (b + l) (grain_of b l) * grain_of b l ≤ 2 ^ (n - (rounded_exponent b l + 3)) * grain_of b l = mul-le-mul_right
+      (grain_of b l) units in
       omega (arith, rounded_top-long b l long)
 ]
 
 -- what the code computes of a long request, from its ends in units
-module _ (b l e lo hi : ℕ) (long : 4096 ≤ l) (b_fits : b < 2 ^ 64) (l_fits : l < 2 ^ 64) (least : IsLeastExponent b l e) (lo_is : lo ≡ b / 2 ^ (e + 3)) (hi_is : hi ≡ div_up (b + l) (2 ^ (e + 3))) where
+module _ (b l e lo hi : ℕ) (long : 4096 ≤ l) (b_fits : b < 2 ^ 64) (l_fits : l < 2 ^ 64) (least : IsLeastExponent b l e)
+    (lo_is : lo ≡ b / 2 ^ (e + 3)) (hi_is : hi ≡ div_up (b + l) (2 ^ (e + 3))) where
   down : lo * 2 ^ (e + 3) ≡ rounded_base b l
   down = ap (λ (x : ℕ). x * 2 ^ (e + 3)) lo_is ∙ sym (rounded_base_is b l e long l_fits least)
 
@@ -96,19 +109,25 @@ module _ (b l e lo hi : ℕ) (long : 4096 ≤ l) (b_fits : b < 2 ^ 64) (l_fits :
 
   pub long_b : 8 * lo % 2 ^ 14 ≡ rounded_b b l
   long_b =
-      let units : rounded_base b l / 2 ^ rounded_exponent b l ≡ 8 * lo = ap (λ (x : ℕ). rounded_base b l / 2 ^ x) (exponent_is b l e long l_fits least) ∙ ap (λ (x : ℕ). x / 2 ^ e) (sym down) ∙ in_units lo e in
+      let units : rounded_base b l / 2 ^ rounded_exponent b l
+      ≡ 8 * lo = ap (λ (x : ℕ). rounded_base b l / 2 ^ x) (exponent_is b l e long l_fits least) ∙ ap (λ (x : ℕ). x / 2 ^ e) (sym down)
+      ∙ in_units lo e in
       ap (λ (x : ℕ). x % 2 ^ 14) (sym units)
 
   pub long_t : 8 * hi % 2 ^ 14 ≡ rounded_t b l
   long_t =
-      let units : rounded_top b l / 2 ^ rounded_exponent b l ≡ 8 * hi = ap (λ (x : ℕ). rounded_top b l / 2 ^ x) (exponent_is b l e long l_fits least) ∙ ap (λ (x : ℕ). x / 2 ^ e) (sym up) ∙ in_units hi e in
+      let units : rounded_top b l / 2 ^ rounded_exponent b l
+      ≡ 8 * hi = ap (λ (x : ℕ). rounded_top b l / 2 ^ x) (exponent_is b l e long l_fits least) ∙ ap (λ (x : ℕ). x / 2 ^ e) (sym up)
+      ∙ in_units hi e in
       ap (λ (x : ℕ). x % 2 ^ 14) (sym units)
 
 -- and of a short one
 pub short_b : (b l : ℕ) → l < 4096 → b % 2 ^ 14 ≡ rounded_b b l
 short_b b l h =
-    sym (ap (λ (x : ℕ). rounded_base b l / 2 ^ x % 2 ^ 14) (rounded_exponent-short b l h) ∙ ap (λ (x : ℕ). x / 2 ^ 0 % 2 ^ 14) (rounded_base-short b l h) ∙ ap (λ (x : ℕ). x % 2 ^ 14) (div-one b))
+    sym (ap (λ (x : ℕ). rounded_base b l / 2 ^ x % 2 ^ 14) (rounded_exponent-short b l h)
+    ∙ ap (λ (x : ℕ). x / 2 ^ 0 % 2 ^ 14) (rounded_base-short b l h) ∙ ap (λ (x : ℕ). x % 2 ^ 14) (div-one b))
 
 pub short_t : (b l : ℕ) → l < 4096 → (b + l) % 2 ^ 14 ≡ rounded_t b l
 short_t b l h =
-    sym (ap (λ (x : ℕ). rounded_top b l / 2 ^ x % 2 ^ 14) (rounded_exponent-short b l h) ∙ ap (λ (x : ℕ). x / 2 ^ 0 % 2 ^ 14) (rounded_top-short b l h) ∙ ap (λ (x : ℕ). x % 2 ^ 14) (div-one (b + l)))
+    sym (ap (λ (x : ℕ). rounded_top b l / 2 ^ x % 2 ^ 14) (rounded_exponent-short b l h)
+    ∙ ap (λ (x : ℕ). x / 2 ^ 0 % 2 ^ 14) (rounded_top-short b l h) ∙ ap (λ (x : ℕ). x % 2 ^ 14) (div-one (b + l)))

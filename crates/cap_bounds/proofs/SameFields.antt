@@ -2,7 +2,7 @@
 -- 2 ^ 91 alone: not on its permissions, reserved bits, flag or object type.
 use Rattle.std.proofs.Common.{◌≡◌, ℕ, ◌+◌, ◌*◌, ◌/◌, ◌%◌, ◌^◌, ◌<◌, ◌≤◌, min, Bool, ◌==◌, sym, ap, ◌∙◌, arith, subst}
 use Rattle.cap_word.specs.Fields.{ie_of, e_of, b_of, t_of, address_of, b_field, t_field}
-use Rattle.cap_bounds.specs.Bounds.{IsSound, exponent_of, span_at, raw_base_at, top_at, base_of, top_of, length_of}
+use Rattle.cap_bounds.specs.Bounds.{IsSound, cut_exponent_of, span_at, raw_base_at, top_at, base_of, top_of, length_of}
 use Rattle.cap_bounds.specs.Range.{KeepsBounds, with_address}
 use Rattle.cap_bounds.proofs.BoundedWords.{e_from, cut_from}
 use Rattle.cap_bounds.proofs.Decoded.{length_is}
@@ -20,7 +20,8 @@ module _ (v w : ℕ) (same : v / 2 ^ 64 % 2 ^ 27 ≡ w / 2 ^ 64 % 2 ^ 27) where
 
   pub e_of-same : e_of v ≡ e_of w
   unfolding e_from
-  e_of-same = ap (λ (x : Bool). e_from x (t_field v) (b_field v)) ie_of-same ∙ ap (λ (x : ℕ). e_from (ie_of w) x (b_field v)) t_same ∙ ap (λ (x : ℕ). e_from (ie_of w) (t_field w) x) b_same
+  e_of-same = ap (λ (x : Bool). e_from x (t_field v) (b_field v)) ie_of-same ∙ ap (λ (x : ℕ). e_from (ie_of w) x (b_field v)) t_same
+      ∙ ap (λ (x : ℕ). e_from (ie_of w) (t_field w) x) b_same
 
   pub b_of-same : b_of v ≡ b_of w
   unfolding cut_from
@@ -30,26 +31,30 @@ module _ (v w : ℕ) (same : v / 2 ^ 64 % 2 ^ 27 ≡ w / 2 ^ 64 % 2 ^ 27) where
   unfolding cut_from
   t_of-same = ap (λ (x : Bool). cut_from x (t_field v)) ie_of-same ∙ ap (λ (x : ℕ). cut_from (ie_of w) x) t_same
 
-  pub exponent_of-same : exponent_of v ≡ exponent_of w
-  exponent_of-same = ap (λ (x : ℕ). min x 52) e_of-same
+  pub cut_exponent_of-same : cut_exponent_of v ≡ cut_exponent_of w
+  cut_exponent_of-same = ap (λ (x : ℕ). min x 52) e_of-same
 
   pub length_of-same : length_of v ≡ length_of w
   length_of-same =
-      length_is v ∙ ap (λ (x : ℕ). span_at x (t_of v) (ie_of v) * 2 ^ exponent_of v) b_of-same ∙ ap (λ (x : ℕ). span_at (b_of w) x (ie_of v) * 2 ^ exponent_of v) t_of-same
-      ∙ ap (λ (x : Bool). span_at (b_of w) (t_of w) x * 2 ^ exponent_of v) ie_of-same ∙ ap (λ (x : ℕ). span_at (b_of w) (t_of w) (ie_of w) * 2 ^ x) exponent_of-same ∙ sym (length_is w)
+      length_is v ∙ ap (λ (x : ℕ). span_at x (t_of v) (ie_of v) * 2 ^ cut_exponent_of v) b_of-same
+      ∙ ap (λ (x : ℕ). span_at (b_of w) x (ie_of v) * 2 ^ cut_exponent_of v) t_of-same
+      ∙ ap (λ (x : Bool). span_at (b_of w) (t_of w) x * 2 ^ cut_exponent_of v) ie_of-same
+      ∙ ap (λ (x : ℕ). span_at (b_of w) (t_of w) (ie_of w) * 2 ^ x) cut_exponent_of-same ∙ sym (length_is w)
 
-  raw-same : raw_base_at (exponent_of v) (b_of v) (address_of v) ≡ raw_base_at (exponent_of w) (b_of w) (address_of v)
-  raw-same = ap (λ (x : ℕ). raw_base_at x (b_of v) (address_of v)) exponent_of-same ∙ ap (λ (x : ℕ). raw_base_at (exponent_of w) x (address_of v)) b_of-same
+  raw-same : raw_base_at (cut_exponent_of v) (b_of v) (address_of v) ≡ raw_base_at (cut_exponent_of w) (b_of w) (address_of v)
+  raw-same = ap (λ (x : ℕ). raw_base_at x (b_of v) (address_of v)) cut_exponent_of-same
+      ∙ ap (λ (x : ℕ). raw_base_at (cut_exponent_of w) x (address_of v)) b_of-same
 
-  pub base_of-same : base_of v ≡ raw_base_at (exponent_of w) (b_of w) (address_of v) % 2 ^ 64
+  pub base_of-same : base_of v ≡ raw_base_at (cut_exponent_of w) (b_of w) (address_of v) % 2 ^ 64
   unfolding base_of
   base_of-same = ap (λ (x : ℕ). x % 2 ^ 64) raw-same
 
-  pub top_of-same : top_of v ≡ top_at (exponent_of w) (raw_base_at (exponent_of w) (b_of w) (address_of v)) (length_of w)
+  pub top_of-same : top_of v ≡ top_at (cut_exponent_of w) (raw_base_at (cut_exponent_of w) (b_of w) (address_of v)) (length_of w)
   unfolding top_of
   top_of-same =
-      ap (λ (x : ℕ). top_at x (raw_base_at (exponent_of v) (b_of v) (address_of v)) (length_of v)) exponent_of-same ∙ ap (λ (x : ℕ). top_at (exponent_of w) x (length_of v)) raw-same
-      ∙ ap (λ (x : ℕ). top_at (exponent_of w) (raw_base_at (exponent_of w) (b_of w) (address_of v)) x) length_of-same
+      ap (λ (x : ℕ). top_at x (raw_base_at (cut_exponent_of v) (b_of v) (address_of v)) (length_of v)) cut_exponent_of-same
+      ∙ ap (λ (x : ℕ). top_at (cut_exponent_of w) x (length_of v)) raw-same
+      ∙ ap (λ (x : ℕ). top_at (cut_exponent_of w) (raw_base_at (cut_exponent_of w) (b_of w) (address_of v)) x) length_of-same
 
 -- two words that agree modulo 2 ^ 91
 module _ (v w : ℕ) (same : v % 2 ^ 91 ≡ w % 2 ^ 91) where
@@ -61,17 +66,22 @@ module _ (v w : ℕ) (same : v % 2 ^ 91 ≡ w % 2 ^ 91) where
 
   pub base_of-low : base_of v ≡ base_of w
   unfolding base_of
-  base_of-low = base_of-same v w middle ∙ ap (λ (x : ℕ). raw_base_at (exponent_of w) (b_of w) x % 2 ^ 64) address-same
+  base_of-low = base_of-same v w middle ∙ ap (λ (x : ℕ). raw_base_at (cut_exponent_of w) (b_of w) x % 2 ^ 64) address-same
 
   pub top_of-low : top_of v ≡ top_of w
   unfolding top_of
-  top_of-low = top_of-same v w middle ∙ ap (λ (x : ℕ). top_at (exponent_of w) (raw_base_at (exponent_of w) (b_of w) x) (length_of w)) address-same
+  top_of-low = top_of-same v w middle
+      ∙ ap (λ (x : ℕ). top_at (cut_exponent_of w) (raw_base_at (cut_exponent_of w) (b_of w) x) (length_of w)) address-same
 
   pub length_of-low : length_of v ≡ length_of w
   length_of-low = length_of-same v w middle
 
   pub IsSound-low : IsSound w → IsSound v
-  IsSound-low h = (ap (λ (x : ℕ). x + length_of v) base_of-low ∙ ap (λ (x : ℕ). base_of w + x) length_of-low ∙ h.0 ∙ sym top_of-low, subst (λ (x : ℕ). x ≤ 2 ^ 64) (sym top_of-low) h.1)
+  IsSound-low h = (
+    ap (λ (x : ℕ). x + length_of v) base_of-low ∙ ap (λ (x : ℕ). base_of w + x) length_of-low ∙ h.0
+        ∙ sym top_of-low,
+    subst (λ (x : ℕ). x ≤ 2 ^ 64) (sym top_of-low) h.1,
+  )
 
 -- a word with another address
 module _ (w a : ℕ) (fits : a < 2 ^ 64) where
@@ -84,11 +94,14 @@ module _ (w a : ℕ) (fits : a < 2 ^ 64) where
   pub length_of-with_address : length_of (with_address w a) ≡ length_of w
   length_of-with_address = length_of-same (with_address w a) w moved
 
-  pub base_of-with_address : base_of (with_address w a) ≡ raw_base_at (exponent_of w) (b_of w) a % 2 ^ 64
-  base_of-with_address = base_of-same (with_address w a) w moved ∙ ap (λ (x : ℕ). raw_base_at (exponent_of w) (b_of w) x % 2 ^ 64) address_of-with_address
+  pub base_of-with_address : base_of (with_address w a) ≡ raw_base_at (cut_exponent_of w) (b_of w) a % 2 ^ 64
+  base_of-with_address = base_of-same (with_address w a) w moved
+      ∙ ap (λ (x : ℕ). raw_base_at (cut_exponent_of w) (b_of w) x % 2 ^ 64) address_of-with_address
 
-  pub top_of-with_address : top_of (with_address w a) ≡ top_at (exponent_of w) (raw_base_at (exponent_of w) (b_of w) a) (length_of w)
-  top_of-with_address = top_of-same (with_address w a) w moved ∙ ap (λ (x : ℕ). top_at (exponent_of w) (raw_base_at (exponent_of w) (b_of w) x) (length_of w)) address_of-with_address
+  pub top_of-with_address : top_of (with_address w a)
+      ≡ top_at (cut_exponent_of w) (raw_base_at (cut_exponent_of w) (b_of w) a) (length_of w)
+  top_of-with_address = top_of-same (with_address w a) w moved
+      ∙ ap (λ (x : ℕ). top_at (cut_exponent_of w) (raw_base_at (cut_exponent_of w) (b_of w) x) (length_of w)) address_of-with_address
 
   -- an address that keeps the bounds keeps soundness
   pub IsSound-with_address : KeepsBounds w a → IsSound w → IsSound (with_address w a)

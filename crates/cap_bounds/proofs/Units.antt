@@ -33,12 +33,14 @@ down-le-up b l v pos =
 module _ (b l v : ℕ) (pos : 0 < v) where
   pub covered-ge : l ≤ (div_up (b + l) v - b / v) * v
   covered-ge =
-      let e : (b / v + (div_up (b + l) v - b / v)) * v ≡ div_up (b + l) v * v = ap (λ (x : ℕ). x * v) (omega (arith, down-le-up b l v pos)) in
+      let e : (b / v + (div_up (b + l) v - b / v)) * v
+      ≡ div_up (b + l) v * v = ap (λ (x : ℕ). x * v) (omega (arith, down-le-up b l v pos)) in
       omega (arith, down-le b v, div_up-ge (b + l) v pos)
 
   pub covered-lt : (div_up (b + l) v - b / v) * v < l + 2 * v
   covered-lt =
-      let e : (b / v + (div_up (b + l) v - b / v)) * v ≡ div_up (b + l) v * v = ap (λ (x : ℕ). x * v) (omega (arith, down-le-up b l v pos)) in
+      let e : (b / v + (div_up (b + l) v - b / v)) * v
+      ≡ div_up (b + l) v * v = ap (λ (x : ℕ). x * v) (omega (arith, down-le-up b l v pos)) in
       omega (arith, down-gt b v pos, div_up-lt (b + l) v pos)
 
   pub many : (n : ℕ) → n * v ≤ l → n ≤ div_up (b + l) v - b / v

@@ -11,13 +11,13 @@ turn_of b a = (a + 1 - b / 2048) / 8
 abbrev pub eighth_of : ℕ → ℕ → ℕ
 eighth_of b a = 8 * turn_of b a + b / 2048 - 1
 
-eighth-le : (b a : ℕ) → b < 16384 → 8 ≤ a → eighth_of b a ≤ a
+pub eighth-le : (b a : ℕ) → b < 16384 → 8 ≤ a → eighth_of b a ≤ a
 eighth-le b a h k = omega arith
 
-eighth-gt : (b a : ℕ) → b < 16384 → 8 ≤ a → a < eighth_of b a + 8
+pub eighth-gt : (b a : ℕ) → b < 16384 → 8 ≤ a → a < eighth_of b a + 8
 eighth-gt b a h k = omega arith
 
-eighth-mod : (b a : ℕ) → b < 16384 → 8 ≤ a → eighth_of b a % 8 ≡ (b / 2048 + 7) % 8
+pub eighth-mod : (b a : ℕ) → b < 16384 → 8 ≤ a → eighth_of b a % 8 ≡ (b / 2048 + 7) % 8
 eighth-mod b a h k = omega arith
 
 eighth-turn : (b a : ℕ) → b < 16384 → 8 ≤ a → 16384 * turn_of b a + b ≡ 2048 * eighth_of b a + (2048 + b % 2048)
@@ -35,25 +35,29 @@ module _ (u U s b a : ℕ) (pos : 0 < u) (U_is : U ≡ 2048 * u) (s_is : s ≡ 1
 
   pub end_above : a < eighth_of b (a / U) * U + s
   end_above =
-      let h : a < (eighth_of b (a / U) + 8) * U = (div-lt_iff_lt-mul {k = U} {x = a} {y = eighth_of b (a / U) + 8} pos_U).0 (eighth-gt b (a / U) small from_eight) in
+      let h : a < (eighth_of b (a / U) + 8) * U = (div-lt_iff_lt-mul {k = U} {x = a} {y = eighth_of b (a / U) + 8} pos_U).0
+      (eighth-gt b (a / U) small from_eight) in
       omega arith
 
   pub start_aligned : eighth_of b (a / U) * U % s ≡ (b / 2048 + 7) % 8 * 2048 * u
   start_aligned =
       let s_U : s ≡ 8 * U = omega arith in
-      ap (λ (x : ℕ). eighth_of b (a / U) * U % x) s_U ∙ mul-mod-mul (eighth_of b (a / U)) U 8 (omega arith) pos_U ∙ ap (λ (x : ℕ). x * U) (eighth-mod b (a / U) small from_eight)
+      ap (λ (x : ℕ). eighth_of b (a / U) * U % x) s_U ∙ mul-mod-mul (eighth_of b (a / U)) U 8 (omega arith) pos_U
+      ∙ ap (λ (x : ℕ). x * U) (eighth-mod b (a / U) small from_eight)
       ∙ ap (λ (x : ℕ). (b / 2048 + 7) % 8 * x) U_is ∙ sym (mul_assoc ((b / 2048 + 7) % 8) 2048 u)
 
   pub raw_from_start : (16384 * turn_of b (a / U) + b) * u ≡ eighth_of b (a / U) * U + (2048 + b % 2048) * u
   raw_from_start =
       ap (λ (x : ℕ). x * u) (eighth-turn b (a / U) small from_eight) ∙ add-mul (2048 * eighth_of b (a / U)) (2048 + b % 2048) u
-      ∙ (let e : 2048 * eighth_of b (a / U) * u + (2048 + b % 2048) * u ≡ eighth_of b (a / U) * (2048 * u) + (2048 + b % 2048) * u = omega arith in e)
+      ∙ (let e : 2048 * eighth_of b (a / U) * u + (2048 + b % 2048) * u
+      ≡ eighth_of b (a / U) * (2048 * u) + (2048 + b % 2048) * u = omega arith in e)
       ∙ ap (λ (x : ℕ). eighth_of b (a / U) * x + (2048 + b % 2048) * u) (sym U_is)
 
   pub raw_residue : (v : ℕ) → (16384 * turn_of b (a / U) + v) * u % s ≡ v * u % s
   raw_residue v =
       let e : (16384 * turn_of b (a / U) + v) % 16384 ≡ v % 16384 = omega arith in
-      ap (λ (x : ℕ). (16384 * turn_of b (a / U) + v) * u % x) s_is ∙ mul-mod-mul (16384 * turn_of b (a / U) + v) u 16384 (omega arith) pos ∙ ap (λ (x : ℕ). x * u) e
+      ap (λ (x : ℕ). (16384 * turn_of b (a / U) + v) * u % x) s_is ∙ mul-mod-mul (16384 * turn_of b (a / U) + v) u 16384 (omega arith) pos
+      ∙ ap (λ (x : ℕ). x * u) e
       ∙ sym (mul-mod-mul v u 16384 (omega arith) pos) ∙ ap (λ (x : ℕ). v * u % x) (sym s_is)
 
   pub raw_above : eighth_of b (a / U) * U + 2048 * u ≤ (16384 * turn_of b (a / U) + b) * u

@@ -3,7 +3,7 @@
 --
 -- A window may begin below 0, and so may what lies in it. All of these are given 2 ^ 66 higher, where
 -- they are natural numbers: 2 ^ 66 is a multiple of every window's size, of 2 ^ 65 and of 2 ^ 64.
-use Rattle.std.specs.Prelude.{◌≡◌, ℕ, ◌+◌, ◌-◌, ◌*◌, ◌/◌, ◌%◌, ◌^◌, ◌<◌, ◌≤◌, min, Bool, nat_le, if◌then◌else◌}
+use Rattle.std.specs.Prelude.{◌≡◌, ℕ, ◌+◌, ◌-◌, ◌*◌, ◌/◌, ◌%◌, ◌^◌, ◌<◌, ◌≤◌, min, Bool, ◌==◌, ◌&&◌, nat_le, if◌then◌else◌}
 use Rattle.cap_word.specs.Fields.{bit_of, ie_of, e_of, b_of, t_of, address_of}
 
 -- x is the number of low .. low + size - 1 that is congruent to value modulo size (this profile's own)
@@ -24,25 +24,25 @@ pub record IsMantissa (b low : ℕ) (ie : Bool) (t : ℕ) : Type 0 where
   pub span_from : 2 ^ 12 * bit_of ie ≤ span_of b t
   pub span_below : span_of b t < 2 ^ 12 * bit_of ie + 2 ^ 12
 
--- the span, from B, the low twelve bits of T and IE, in closed form
+-- closed form of the span, from B, the low twelve bits of T and IE; `mantissa` ties it to `IsMantissa`
 abbrev pub span_at : ℕ → ℕ → Bool → ℕ
 span_at b low ie = 2 ^ 12 * bit_of ie + (low + 2 ^ 14 - b) % 2 ^ 12
 
--- the mantissa T, from B, its low twelve bits and IE, in closed form
+-- closed form of the mantissa T, from B, its low twelve bits and IE; `mantissa` ties it to `IsMantissa`
 unfoldable pub mantissa_of : ℕ → ℕ → Bool → ℕ
 mantissa_of b low ie = (b + span_at b low ie) % 2 ^ 14
 
--- the exponent E of a word, cut at 52 (Sail CHERI-RISC-V: `cap_max_E`)
-abbrev pub exponent_of : ℕ → ℕ
-exponent_of w = min (e_of w) 52
+-- the cut exponent of a word: E as it stands there, or 52 where that is more (Sail CHERI-RISC-V: `cap_max_E`)
+abbrev pub cut_exponent_of : ℕ → ℕ
+cut_exponent_of w = min (e_of w) 52
 
--- the unit of B and T: 2 ^ E
+-- the unit of B and T: 2 to the cut exponent
 abbrev pub unit_of : ℕ → ℕ
-unit_of w = 2 ^ exponent_of w
+unit_of w = 2 ^ cut_exponent_of w
 
--- the size of a word's window: 2 ^ (E + 14)
+-- the size of a word's window: 2 ^ 14 units
 abbrev pub window_size : ℕ → ℕ
-window_size w = 2 ^ (exponent_of w + 14)
+window_size w = 2 ^ (cut_exponent_of w + 14)
 
 -- start begins the window of a word: the window holds the word's address, and begins at a number
 -- congruent to 2 ^ 11 units for each step of B's three high bits less one (UCAM-CL-TR-987, the
@@ -53,8 +53,9 @@ pub record IsWindow (w start : ℕ) : Type 0 where
   pub aligned : start % window_size w ≡ (b_of w / 2 ^ 11 + 7) % 8 * 2 ^ 11 * unit_of w
 
 -- base and top are the bounds of a word. The raw bounds are the numbers of the window congruent to B
--- and to T units. The base is cut to 64 bits; the top follows it within 2 ^ 64 or, from exponent 51
--- on, is cut to 65 bits (the last two cuts are this profile's own)
+-- and to T units. The base is cut to 64 bits. Up to the cut exponent 50 the top is corrected: it follows
+-- the base within 2 ^ 64. From 51 on it is not, and is cut to 65 bits (the cuts, and where the correction
+-- ends, are this profile's own)
 pub record AreBounds (w base top : ℕ) : Type 0 where
   pub mantissa : ℕ
   pub start : ℕ
@@ -65,14 +66,21 @@ pub record AreBounds (w base top : ℕ) : Type 0 where
   pub raw_base_is : IsResidue start (window_size w) (b_of w * unit_of w) raw_base
   pub raw_top_is : IsResidue start (window_size w) (mantissa * unit_of w) raw_top
   pub base_is : base ≡ raw_base % 2 ^ 64
-  pub near_top : exponent_of w ≤ 50 → IsResidue base (2 ^ 64) raw_top top
-  pub far_top : 51 ≤ exponent_of w → top ≡ raw_top % 2 ^ 65
+  pub corrected_top : cut_exponent_of w ≤ 50 → IsResidue base (2 ^ 64) raw_top top
+  pub uncorrected_top : 51 ≤ cut_exponent_of w → top ≡ raw_top % 2 ^ 65
 
--- the raw base, from the exponent, B and the address, in closed form
+-- closed form of where the window of an address starts, 2 ^ 66 higher, from the cut exponent, B and the
+-- address: `reach` ties it to `IsWindow`
+abbrev pub window_start_at : ℕ → ℕ → ℕ → ℕ
+window_start_at e b address =
+    let windows = ((address + 2 ^ 66) / 2 ^ (e + 11) + 1 - b / 2 ^ 11) / 8 in
+    (8 * windows + b / 2 ^ 11 - 1) * 2 ^ (e + 11)
+
+-- closed form of the raw base, from the cut exponent, B and the address; `bounds` ties it to `AreBounds`
 unfoldable pub raw_base_at : ℕ → ℕ → ℕ → ℕ
 raw_base_at e b address = (2 ^ 14 * (((address + 2 ^ 66) / 2 ^ (e + 11) + 1 - b / 2 ^ 11) / 8) + b) * 2 ^ e
 
--- the top, from the exponent, the raw base and the length, in closed form
+-- closed form of the top, from the cut exponent, the raw base and the length; `bounds` ties it to `AreBounds`
 unfoldable pub top_at : ℕ → ℕ → ℕ → ℕ
 top_at e raw_base length = if nat_le e 50 then raw_base % 2 ^ 64 + length else (raw_base + length) % 2 ^ 65
 
@@ -80,18 +88,22 @@ top_at e raw_base length = if nat_le e 50 then raw_base % 2 ^ 64 + length else (
 unfoldable pub length_of : ℕ → ℕ
 length_of w = span_of (b_of w) (mantissa_of (b_of w) (t_of w) (ie_of w)) * unit_of w
 
--- the base of a word
+-- the base of a word, of these closed forms; `bounds` ties it to `AreBounds`
 unfoldable pub base_of : ℕ → ℕ
-base_of w = raw_base_at (exponent_of w) (b_of w) (address_of w) % 2 ^ 64
+base_of w = raw_base_at (cut_exponent_of w) (b_of w) (address_of w) % 2 ^ 64
 
--- the top of a word
+-- the top of a word, of these closed forms; `bounds` ties it to `AreBounds`
 unfoldable pub top_of : ℕ → ℕ
-top_of w = top_at (exponent_of w) (raw_base_at (exponent_of w) (b_of w) (address_of w)) (length_of w)
+top_of w = top_at (cut_exponent_of w) (raw_base_at (cut_exponent_of w) (b_of w) (address_of w)) (length_of w)
 
 -- a word is sound: its top is its base plus its length, and lies in the address space (this
 -- profile's own)
 abbrev pub IsSound : ℕ → Type 0
 IsSound w = (base_of w + length_of w ≡ top_of w) × (top_of w ≤ 2 ^ 64)
+
+-- whether a word is sound, as a test (this profile's own)
+abbrev pub is_sound : ℕ → Bool
+is_sound w = base_of w + length_of w == top_of w && nat_le (top_of w) (2 ^ 64)
 
 -- the bounds of the first pair lie inside those of the second
 abbrev pub IsInside : ℕ → ℕ → ℕ → ℕ → Type 0

@@ -17,7 +17,8 @@ pub record IsLeastExponent (base length e : ℕ) : Type 0 where
   pub fits : units_of base length e < 1024
   pub least : (k : ℕ) → k < e → 1024 ≤ units_of base length k
 
--- the first of count exponents from e on at which a request covers less than 1024 units, else the next
+-- closed form of the least exponent: the first of count exponents from e on at which a request covers less
+-- than 1024 units, else the next; `round` ties it to `IsLeastExponent`
 unfoldable pub first_exponent : ℕ → ℕ → ℕ → ℕ → ℕ
 first_exponent base length zero e = e
 first_exponent base length (suc count) e = if nat_lt (units_of base length e) 1024 then e else first_exponent base length count (suc e)
@@ -36,7 +37,8 @@ rounded_base base length = let unit = 2 ^ (rounded_exponent base length + 3) in 
 
 -- the top of a request, rounded up: kept for a length below 4096
 unfoldable pub rounded_top : ℕ → ℕ → ℕ
-rounded_top base length = let unit = 2 ^ (rounded_exponent base length + 3) in if rounded_ie length then div_up (base + length) unit * unit else base + length
+rounded_top base length = let unit = 2 ^ (rounded_exponent base length + 3) in if rounded_ie length then div_up
+    (base + length) unit * unit else base + length
 
 -- B of a request: the rounded base in units of 2 ^ e, its low 14 bits
 abbrev pub rounded_b : ℕ → ℕ → ℕ
@@ -56,11 +58,13 @@ bounded_word w ie e b t address = w / 2 ^ 91 * 2 ^ 91 + bit_of ie * 2 ^ 90 + (t 
 
 -- a word with the rounding of a request, at the request's base
 abbrev pub rounded_word : ℕ → ℕ → ℕ → ℕ
-rounded_word w base length = bounded_word w (rounded_ie length) (rounded_exponent base length) (rounded_b base length) (rounded_t base length) base
+rounded_word w base length = bounded_word w (rounded_ie length) (rounded_exponent base length) (rounded_b base length)
+    (rounded_t base length) base
 
 -- IE, E, B and T are those of the rounding of a request
 abbrev pub HasRounding : Bool → ℕ → ℕ → ℕ → ℕ → ℕ → Type 0
-HasRounding ie e b t base length = (ie ≡ rounded_ie length) × (e ≡ rounded_exponent base length) × (b ≡ rounded_b base length) × (t ≡ rounded_t base length)
+HasRounding ie e b t base length = (ie ≡ rounded_ie length) × (e ≡ rounded_exponent base length) × (b ≡ rounded_b base length)
+    × (t ≡ rounded_t base length)
 
 -- the unit of which the bases at which a length is exact are multiples (this profile's own)
 unfoldable pub alignment_of : ℕ → ℕ

@@ -1,29 +1,31 @@
 //! The bounds that a word has.
 
-ghost use Rattle.std.specs.Prelude.{◌≡◌, ◌<◌, ◌≤◌, ◌+◌, ◌*◌, ◌^◌, ◌↔◌, ℕ, IsTrue};
+ghost use Rattle.std.specs.Prelude.{◌≡◌, ◌<◌, ◌≤◌, ◌+◌, ◌*◌, ◌%◌, ◌^◌, ◌↔◌, ℕ, IsTrue};
 ghost use Rattle.cap_word.specs.Fields.{b_of, ie_of, t_of};
 ghost use Rattle.cap_bounds.specs.Bounds.{
   AreBounds,
+  IsInside,
   IsMantissa,
   IsSound,
   base_of,
-  exponent_of,
+  cut_exponent_of,
   length_of,
   mantissa_of,
   raw_base_at,
   span_at,
-  top_at,
   top_of,
+  window_start_at,
 };
+ghost use Rattle.cap_bounds.specs.SailDecoding.{sail_base, sail_top};
 
-use cap_word::{Fields, Word};
+use cap_word::{Fields, Word, split};
 
-/// The greatest exponent: E is cut to it.
+/// The greatest cut exponent: a greater E counts as this one (Sail CHERI-RISC-V: `cap_max_E`).
 const MAX_EXPONENT: u32 = 52;
 
-/// Up to this exponent a top lies above its base, less than 2^64 above it; from the next on the top is
-/// cut to 65 bits.
-const NEAR_EXPONENT: u32 = 50;
+/// The last cut exponent at which the top is corrected: up to it a top follows its base, less than 2^64 above
+/// it, and from the next on it is cut to 65 bits.
+const LAST_CORRECTED_EXPONENT: u32 = 50;
 
 /// The bounds of a word: the addresses from `base` up to, but not with, `top`.
 ///
@@ -37,84 +39,121 @@ pub struct Interval {
     pub top: u128,
 }
 
+impl Interval {
+    /// Whether the bounds from a base up to a top lie inside these.
+    #[inline(always)]
+    pub fn contains(self, base: u64, top: u128) -> bool
+        ensures { IsTrue result ↔ IsInside base top self.base self.top }
+    {
+        self.base <= base && top <= self.top
+    }
+
+    /// Whether an address is one of these bounds: from the base up to, but not with, the top.
+    #[inline(always)]
+    pub fn holds(self, address: u64) -> bool
+        ensures { IsTrue result ↔ (self.base ≤ address) × (address < self.top) }
+    {
+        self.base <= address && u128::from(address) < self.top
+    }
+}
+
+/// How far T lies above B, modulo 2^14: IE, and below it twelve bits that the word's fields determine.
+#[inline(always)]
+fn span_from(fields: &Fields) -> u16
+    ensures value { result ≡ span_at fields.now.b fields.now.t fields.now.ie }
+    ensures fits { result < 2 ^ 13 }
+{
+    (u16::from(fields.ie) << 12) + ((fields.t + 0x4000 - fields.b) & 0xfff)
+}
+
 /// The mantissa T of the top, 14 bits: the word has the low twelve, and the two others follow from B and
 /// IE (Sail CHERI-RISC-V: `capBitsToCapability`).
 pub fn mantissa(fields: &Fields) -> u16
     ensures value { result ≡ mantissa_of fields.now.b fields.now.t fields.now.ie }
     ensures relation { IsMantissa fields.now.b fields.now.t fields.now.ie result }
+    ensures unique { (t : ℕ) → IsMantissa fields.now.b fields.now.t fields.now.ie t → t ≡ result }
 {
-    let span = (u16::from(fields.ie) << 12) + ((fields.t + 0x4000 - fields.b) & 0xfff);
-    (fields.b + span) & 0x3fff
+    (fields.b + span_from(fields)) & 0x3fff
 }
 
-/// What the bounds of a word come from, beside its address: the exponent, B, and the length in units.
+/// What the bounds of a word come from, beside its address: the cut exponent, B, and the length in units.
 #[derive(Clone, Copy)]
 pub(crate) struct Scale {
-    pub(crate) exponent: u32,
+    pub(crate) cut_exponent: u32,
     pub(crate) b: u64,
     pub(crate) span: u64,
 }
 
-/// The exponent, cut to 52, B, and T less B modulo 2^14.
+/// The cut exponent, B, and T less B modulo 2^14.
+#[inline(always)]
 pub(crate) fn scale_of(word: Word) -> Scale
-    ensures exponent { result.exponent ≡ exponent_of word.0 }
+    ensures cut_exponent { result.cut_exponent ≡ cut_exponent_of word.0 }
     ensures b { result.b ≡ b_of word.0 }
     ensures span { result.span ≡ span_at (b_of word.0) (t_of word.0) (ie_of word.0) }
     ensures span_fits { result.span < 2 ^ 13 }
 {
-    let high = (word.0 >> 64) as u64;
-    let ie = (high >> 26) & 1;
-    let t_field = (high >> 14) & 0xfff;
-    let b_field = high & 0x3fff;
-    let (e, b, t) = if ie == 1 {
-        (
-            ((t_field & 7) << 3) + (b_field & 7),
-            b_field & 0x3ff8,
-            t_field & 0xff8,
-        )
-    } else {
-        (0, b_field, t_field)
-    };
+    let fields = split(word);
     Scale {
-        exponent: (e as u32).min(MAX_EXPONENT),
-        b,
-        span: (ie << 12) + ((t + 0x4000 - b) & 0xfff),
+        cut_exponent: u32::from(fields.e).min(MAX_EXPONENT),
+        b: u64::from(fields.b),
+        span: u64::from(span_from(&fields)),
     }
 }
 
-/// The raw base in the window of an address, 2^66 higher.
-pub(crate) fn raw_base(exponent: u32, b: u64, address: u64) -> u128
-    requires exponent_fits { exponent ≤ 52 }
+/// The start of the window of an address, modulo 2^64.
+#[inline(always)]
+pub(crate) fn window_from(cut_exponent: u32, b: u64, address: u64) -> u64
+    requires exponent_fits { cut_exponent ≤ 52 }
     requires b_fits { b < 2 ^ 14 }
-    ensures value { result ≡ raw_base_at exponent b address }
-    ensures small { result < 2 ^ 68 }
+    ensures { result ≡ window_start_at cut_exponent b address % 2 ^ 64 }
 {
-    let eighth = (u128::from(address) + (1 << 66)) >> (exponent + 11);
-    let turn = (eighth + 1 - u128::from(b >> 11)) >> 3;
-    ((turn << 14) + u128::from(b)) << exponent
+    // In units, of which the window has 2^14.
+    let units = address >> cut_exponent;
+    let start = (((b >> 11) + 7) & 7) << 11;
+    let above_start = units.wrapping_sub(start) & 0x3fff;
+    units.wrapping_sub(above_start) << cut_exponent
 }
 
-/// A length: its units, scaled by the exponent.
-fn scaled(exponent: u32, units: u64) -> u128
-    requires exponent_fits { exponent ≤ 52 }
+/// The base of a word: B lies 2^11 units and its low eleven bits above the window's start.
+#[inline(always)]
+fn base_from(cut_exponent: u32, b: u64, address: u64) -> u64
+    requires exponent_fits { cut_exponent ≤ 52 }
+    requires b_fits { b < 2 ^ 14 }
+    ensures { result ≡ raw_base_at cut_exponent b address % 2 ^ 64 }
+{
+    let above_start = (0x800 + (b & 0x7ff)) << cut_exponent;
+    window_from(cut_exponent, b, address).wrapping_add(above_start)
+}
+
+/// The top from the cut exponent 51 on, where it hangs on no address: it is cut to 65 bits.
+fn uncorrected_top(cut_exponent: u32, b: u64, span: u64) -> u128
+    requires exponent_fits { cut_exponent ≤ 52 }
+    requires b_fits { b < 2 ^ 14 }
+    requires span_fits { span < 2 ^ 13 }
+    ensures { result ≡ (b + span) * 2 ^ cut_exponent % 2 ^ 65 }
+{
+    (u128::from(b + span) << cut_exponent) & 0x1_ffff_ffff_ffff_ffff
+}
+
+/// A length: its units, scaled by the cut exponent.
+fn scaled(cut_exponent: u32, units: u64) -> u128
+    requires exponent_fits { cut_exponent ≤ 52 }
     requires units_fit { units < 2 ^ 13 }
-    ensures value { result ≡ units * 2 ^ exponent }
+    ensures value { result ≡ units * 2 ^ cut_exponent }
     ensures small { result < 2 ^ 65 }
 {
-    u128::from(units) << exponent
+    u128::from(units) << cut_exponent
 }
 
-/// The top of a word: up to exponent 50 it follows the base, and from 51 on it is cut to 65 bits.
-fn top_from(exponent: u32, raw_base: u128, length: u128) -> u128
-    requires raw_base_fits { raw_base < 2 ^ 68 }
-    requires length_fits { length < 2 ^ 65 }
-    ensures { result ≡ top_at exponent raw_base length }
+/// A length up to the cut exponent 50, where it needs 63 bits.
+#[inline(always)]
+fn scaled_short(cut_exponent: u32, units: u64) -> u64
+    requires exponent_fits { cut_exponent ≤ 50 }
+    requires units_fit { units < 2 ^ 13 }
+    ensures value { result ≡ units * 2 ^ cut_exponent }
+    ensures small { result < 2 ^ 63 }
 {
-    if exponent <= NEAR_EXPONENT {
-        (raw_base & 0xffff_ffff_ffff_ffff) + length
-    } else {
-        (raw_base + length) & 0x1_ffff_ffff_ffff_ffff
-    }
+    units << cut_exponent
 }
 
 /// Base, top and length of a word.
@@ -125,20 +164,33 @@ struct Decoded {
     length: u128,
 }
 
-/// Decodes a word.
+/// Decodes a word: up to the cut exponent 50 the top follows the base.
+#[inline(always)]
 fn decode(word: Word) -> Decoded
     ensures base { result.base ≡ base_of word.0 }
     ensures top { result.top ≡ top_of word.0 }
     ensures length { result.length ≡ length_of word.0 }
     ensures small { result.length < 2 ^ 65 }
 {
-    let Scale { exponent, b, span } = scale_of(word);
-    let raw = raw_base(exponent, b, (word.0 & 0xffff_ffff_ffff_ffff) as u64);
-    let length = scaled(exponent, span);
-    Decoded {
-        base: (raw & 0xffff_ffff_ffff_ffff) as u64,
-        top: top_from(exponent, raw, length),
-        length,
+    let Scale {
+        cut_exponent,
+        b,
+        span,
+    } = scale_of(word);
+    let base = base_from(cut_exponent, b, word.address());
+    if cut_exponent <= LAST_CORRECTED_EXPONENT {
+        let length = u128::from(scaled_short(cut_exponent, span));
+        Decoded {
+            base,
+            top: u128::from(base) + length,
+            length,
+        }
+    } else {
+        Decoded {
+            base,
+            top: uncorrected_top(cut_exponent, b, span),
+            length: scaled(cut_exponent, span),
+        }
     }
 }
 
@@ -148,6 +200,10 @@ pub fn bounds(word: Word) -> Interval
     ensures top { result.top ≡ top_of word.0 }
     ensures relation { AreBounds word.0 result.base result.top }
     ensures top_fits { result.top < 2 ^ 65 }
+
+    // They are also those that the Sail model finds, by shifts, comparisons and corrections.
+    ensures model_base { result.base ≡ sail_base word.0 }
+    ensures model_top { result.top ≡ sail_top word.0 }
 {
     let Decoded { base, top, .. } = decode(word);
     Interval { base, top }

@@ -4,16 +4,9 @@ ghost use Rattle.std.specs.Prelude.{◌≡◌, ◌<◌, ◌≤◌, ◌+◌, ◌-
 ghost use Rattle.cap_bounds.specs.Bounds.{IsInside, IsSound, base_of, top_of};
 ghost use Rattle.cap_bounds.specs.Rounding.{IsExact, alignment_of, rounded_base, rounded_top};
 
-use crate::decoding::{Interval, bounds};
-use crate::rounding::{Rounded, round};
+use crate::decoding::bounds;
+use crate::rounding::{Rounded, requested_top, round};
 use cap_word::Word;
-
-/// Whether a request lies in an interval.
-fn contains(interval: Interval, base: u64, length: u64) -> bool
-    ensures { IsTrue result ↔ IsInside base (base + length) interval.base interval.top }
-{
-    interval.base <= base && u128::from(base) + u128::from(length) <= interval.top
-}
 
 /// Whether a request lies in the bounds of a sound word. That is exactly where the rounded request does:
 /// so rounding is least, and no sound word that contains a request has a base or a top that is closer to
@@ -23,7 +16,7 @@ pub fn least_law(word: Word, base: u64, length: u64) -> bool
     ensures requested { IsTrue result ↔ IsInside base (base + length) (base_of word.0) (top_of word.0) }
     ensures rounded { IsTrue result ↔ IsInside (rounded_base base length) (rounded_top base length) (base_of word.0) (top_of word.0) }
 {
-    contains(bounds(word), base, length)
+    bounds(word).contains(base, requested_top(base, length))
 }
 
 /// The least length from `length` on that is exact at base 0, or 2^64 where none is (this profile's
@@ -38,7 +31,8 @@ pub fn round_length(length: u64) -> u128
     round(0, length).top
 }
 
-/// All ones but for those below the alignment of a length.
+/// All ones but for those below the alignment of a length. It stands apart from [`align_mask`], whose other
+/// clauses are proved from this one.
 fn mask_of(length: u64) -> u64
     ensures { result + alignment_of length ≡ 2 ^ 64 }
 {

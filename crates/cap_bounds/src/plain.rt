@@ -1,4 +1,5 @@
-//! The definitions, step by step over signed integers, to run beside the code in tests.
+//! Two plain ways of decoding, to run beside the code in tests: the definitions, step by step over signed
+//! integers, and the Sail model's shifts, comparisons and corrections.
 
 use cap_word::{Fields, Word, split};
 
@@ -60,6 +61,42 @@ pub(crate) fn plain_bounds(word: Word) -> Plain {
     }
 }
 
+/// The bounds of a word by the Sail model's shifts, comparisons and corrections: the address is shifted, its
+/// three bits below the cut and those of B and of T are compared with B's less one, and what is put together
+/// of the address and of B or of T is moved by one window where the comparisons differ.
+pub(crate) fn corrected_bounds(word: Word) -> (u64, u128) {
+    let fields = split(word);
+    let e = u32::from(fields.e).min(52);
+    let carry = u16::from(fields.t < fields.b & 0xfff);
+    let t_high = (fields.b >> 12)
+        .wrapping_add(carry)
+        .wrapping_add(u16::from(fields.ie))
+        & 3;
+    let t = (t_high << 12) | fields.t;
+
+    let address = u128::from(fields.address);
+    let a3 = (address >> (e + 11)) & 7;
+    let r3 = u128::from((fields.b >> 11).wrapping_sub(1) & 7);
+    let a_hi = u128::from(a3 < r3);
+    let bound = |mantissa: u16| {
+        let mantissa_hi = u128::from(u128::from(mantissa >> 11) < r3);
+        let a_top = (address >> (e + 14))
+            .wrapping_add(mantissa_hi)
+            .wrapping_sub(a_hi);
+        ((a_top.wrapping_shl(14) | u128::from(mantissa)).wrapping_shl(e)) & 0x1_ffff_ffff_ffff_ffff
+    };
+
+    let base = bound(fields.b);
+    let top = bound(t);
+    let apart = (top >> 63).wrapping_sub((base >> 63) & 1) & 3;
+    let corrected = if e < 51 && apart > 1 {
+        top ^ (1 << 64)
+    } else {
+        top
+    };
+    ((base & 0xffff_ffff_ffff_ffff) as u64, corrected)
+}
+
 /// A word with another address.
 pub(crate) fn with_address(word: Word, address: u64) -> Word {
     Word(((word.0 >> 64) << 64) | u128::from(address))
@@ -72,17 +109,21 @@ pub(crate) fn plain_keeps(word: Word, address: u64) -> bool {
     old.base == new.base && old.top == new.top
 }
 
-/// A word for each exponent, B's high bits, the three address bits that the window hangs on, and four
-/// values of T. Of the index, the low six bits are the exponent.
+/// A word for each IE, each six bits of E, each of B's three highest bits, each of the three address bits
+/// that are compared with them, and each bit 11 of T, where the other bits of T, of B and of the address
+/// are all 0 or all 1. Of the index, the low six bits are E's.
 pub(crate) fn hostile_word(index: u32) -> Word {
     let n = u128::from(index);
+    let ones = |bit: u32, mask: u128| if (n >> bit) & 1 == 1 { mask } else { 0 };
     let e = n & 63;
-    let b_field = (((n >> 6) & 7) << 11) | (e & 7);
-    let t_low = if (n >> 13) & 1 == 1 { 0x7f8 } else { 0 };
-    let t_field = (((n >> 12) & 1) << 11) | t_low | (e >> 3);
-    let address = (((n >> 9) & 7) << ((e as u32).min(52) + 11)) & 0xffff_ffff_ffff_ffff;
-    Word((1 << 90) | (t_field << 78) | (b_field << 64) | address)
+    let b_field = (((n >> 6) & 7) << 11) | ones(14, 0x7f8) | (e & 7);
+    let t_field = (((n >> 12) & 1) << 11) | ones(13, 0x7f8) | (e >> 3);
+    let ie = ((n >> 16) & 1) ^ 1;
+    let shift = if ie == 1 { (e as u32).min(52) + 11 } else { 11 };
+    let others = ones(15, !(7 << shift));
+    let address = ((((n >> 9) & 7) << shift) | others) & 0xffff_ffff_ffff_ffff;
+    Word((ie << 90) | (t_field << 78) | (b_field << 64) | address)
 }
 
 /// How many words [`hostile_word`] has.
-pub(crate) const HOSTILE_WORDS: u32 = 1 << 14;
+pub(crate) const HOSTILE_WORDS: u32 = 1 << 17;

@@ -1,31 +1,24 @@
 //! The addresses that a word can be given without a change of its bounds.
 
 ghost use Rattle.std.specs.Prelude.{◌≡◌, ◌<◌, ◌≤◌, ◌+◌, ◌-◌, ◌*◌, ◌%◌, ◌^◌, ◌↔◌, ℕ, IsTrue, IsNone, IfSome};
-ghost use Rattle.cap_bounds.specs.Bounds.{IsWindow, base_of, exponent_of, top_of, unit_of, window_size};
+ghost use Rattle.cap_bounds.specs.Bounds.{IsWindow, base_of, cut_exponent_of, top_of, unit_of, window_size};
 ghost use Rattle.cap_bounds.specs.Range.{KeepsBounds, window_start};
 
-use crate::decoding::{Scale, raw_base, scale_of};
+use crate::decoding::{Scale, scale_of, window_from};
 use cap_word::Word;
 
-/// From this exponent on the window is the whole address space or more, and every address keeps the
+/// From this cut exponent on the window is the whole address space or more, and every address keeps the
 /// bounds.
 const WHOLE_EXPONENT: u32 = 50;
 
-/// The start of a word's window, modulo 2^64.
-fn start_from(raw_base: u128, exponent: u32, b: u64) -> u64
-    requires { exponent < 50 }
-    ensures { result ≡ (raw_base % 2 ^ 64 + 2 ^ 64 - (2048 + b % 2048) * 2 ^ exponent) % 2 ^ 64 }
-{
-    ((raw_base & 0xffff_ffff_ffff_ffff) as u64).wrapping_sub((2048 + (b & 0x7ff)) << exponent)
-}
-
 /// A word's representable range, as its start and its size: an address keeps the word's bounds exactly
 /// where it is less than the size above the start, modulo 2^64. `None` is the answer exactly where every
-/// address keeps them: from exponent 50 on (UCAM-CL-TR-987, the representable region).
+/// address keeps them: from the cut exponent 50 on (UCAM-CL-TR-987, the representable region).
 ///
-/// The range has 2^11 units of 2^E below the base, and 2^12 above the top.
+/// The range has at least 2^11 units below the base and 2^12 above the top, where a unit is 2 to the cut
+/// exponent.
 pub fn reach(word: Word) -> Option<(u64, u64)>
-    ensures none { IsNone result ↔ (50 ≤ exponent_of word.0) }
+    ensures none { IsNone result ↔ (50 ≤ cut_exponent_of word.0) }
     ensures every { IsNone result ↔ ((address : ℕ) → address < 2 ^ 64 → KeepsBounds word.0 address) }
     ensures window { IsWindow word.0 (window_start word.0) }
     ensures unique { (start : ℕ) → IsWindow word.0 start → start ≡ window_start word.0 }
@@ -38,16 +31,16 @@ pub fn reach(word: Word) -> Option<(u64, u64)>
     ensures margins { (address : ℕ) → base_of word.0 + 2 ^ 64 ≤ address + 2 ^ 11 * unit_of word.0
         → address ≤ top_of word.0 + 2 ^ 64 + 2 ^ 12 * unit_of word.0 → KeepsBounds word.0 (address % 2 ^ 64) }
 {
-    let Scale { exponent, b, .. } = scale_of(word);
-    if exponent >= WHOLE_EXPONENT {
+    let Scale {
+        cut_exponent,
+        b,
+        ..
+    } = scale_of(word);
+    if cut_exponent >= WHOLE_EXPONENT {
         return None;
     }
-    let start = start_from(
-        raw_base(exponent, b, (word.0 & 0xffff_ffff_ffff_ffff) as u64),
-        exponent,
-        b,
-    );
-    Some((start, 1 << (exponent + 14)))
+    let start = window_from(cut_exponent, b, word.address());
+    Some((start, 1 << (cut_exponent + 14)))
 }
 
 /// Whether the word with another address has the same base and top (CSetAddr's test, by the exact rule).

@@ -1,7 +1,7 @@
 //! A request for bounds, rounded to bounds that a word can have.
 
 ghost use Rattle.std.specs.Prelude.{◌≡◌, ◌<◌, ◌≤◌, ◌+◌, ◌*◌, ◌/◌, ◌%◌, ◌^◌, ◌↔◌, ℕ, IsTrue, true, false};
-ghost use Rattle.cap_word.specs.Fields.{address_of};
+ghost use Rattle.cap_word.specs.Fields.{address_of, b_of, e_of, ie_of, t_of};
 ghost use Rattle.cap_bounds.specs.Bounds.{IsSound, base_of, top_of};
 ghost use Rattle.cap_bounds.specs.Rounding.{
   HasRounding,
@@ -16,6 +16,7 @@ ghost use Rattle.cap_bounds.specs.Rounding.{
   rounded_t,
   rounded_top,
 };
+ghost use Rattle.cap_bounds.specs.SailRounding.{sail_b, sail_exact, sail_exponent, sail_ie, sail_t};
 
 use cap_word::Word;
 
@@ -49,7 +50,7 @@ pub struct Rounded {
 }
 
 /// The top that a request asks for.
-fn requested_top(base: u64, length: u64) -> u128
+pub(crate) fn requested_top(base: u64, length: u64) -> u128
     ensures value { result ≡ base + length }
     ensures small { result < 2 ^ 65 }
 {
@@ -166,6 +167,13 @@ pub fn round(base: u64, length: u64) -> Rounded
     ensures least { 4096 ≤ length → IsLeastExponent base length result.e }
     ensures rounded_down { 4096 ≤ length → result.base ≡ base / 2 ^ (result.e + 3) * 2 ^ (result.e + 3) }
     ensures rounded_up { 4096 ≤ length → result.top ≡ div_up (base + length) (2 ^ (result.e + 3)) * 2 ^ (result.e + 3) }
+
+    // The Sail model finds the same fields, by leading zeros, lost bits and one raise of the exponent.
+    ensures model_ie { result.ie ≡ sail_ie length }
+    ensures model_e { result.e ≡ sail_exponent base length }
+    ensures model_b { result.b ≡ sail_b base length }
+    ensures model_t { result.t ≡ sail_t base length }
+    ensures model_exact { result.exact ≡ sail_exact base length }
 {
     if length < FIRST_LONG {
         round_short(base, length)
@@ -174,7 +182,8 @@ pub fn round(base: u64, length: u64) -> Rounded
     }
 }
 
-/// Replaces the fields that bounds are made of.
+/// Replaces the fields that bounds are made of. It stands apart from [`with_bounds`], whose other clauses are
+/// proved from these.
 fn replace_bounds(word: Word, rounded: &Rounded, address: u64) -> Word
     ensures word { result.0 ≡ bounded_word word.0 rounded.now.ie rounded.now.e rounded.now.b rounded.now.t address }
     ensures kept { result.0 / 2 ^ 91 ≡ word.0 / 2 ^ 91 }
@@ -201,6 +210,12 @@ pub fn with_bounds(word: Word, rounded: &Rounded, address: u64) -> Word
     ensures word { result.0 ≡ bounded_word word.0 rounded.now.ie rounded.now.e rounded.now.b rounded.now.t address }
     ensures kept { result.0 / 2 ^ 91 ≡ word.0 / 2 ^ 91 }
     ensures address { address_of result.0 ≡ address }
+
+    // The fields of the result: those of the rounding, T's low twelve bits.
+    ensures ie { ie_of result.0 ≡ rounded.now.ie }
+    ensures e { e_of result.0 ≡ rounded.now.e }
+    ensures b { b_of result.0 ≡ rounded.now.b }
+    ensures t { t_of result.0 ≡ rounded.now.t % 2 ^ 12 }
 
     // What the word of a request decodes to.
     ensures decodes { (base length : ℕ) → base < 2 ^ 64 → length < 2 ^ 64 → base + length ≤ 2 ^ 64 → address ≡ base

@@ -6,18 +6,8 @@ use Rattle.std.specs.Cmp.Lexicographic.{pointwise}
 use Rattle.std.proofs.lemmas.Bool.{and_parts, not-true, eqb-false, eqb-true, false≢true}
 use Rattle.std.proofs.lemmas.List.{get_or_at, length-append}
 use Rattle.std.proofs.lemmas.List.Elements.{All-head, All-tail, All-cons, All-nil}
-use Rattle.cap_log.specs.Parts.{HasNoSpace, IsCutAt}
-
--- no byte of the list is c
-abbrev pub Lacks : ℕ → List ℕ → Type 0
-Lacks c bytes = All (λ b. b ≢ c) bytes
-
--- a test of a literal
-pub Lacks-by_test : (c : ℕ) (bytes : List ℕ) → list_all (λ b. not (eqb b c)) bytes ≡ true → Lacks c bytes
-Lacks-by_test c [] h = All-nil (λ b. b ≢ c)
-Lacks-by_test c (b ∷ bytes) h =
-    let both = and_parts (not (eqb b c)) (list_all (λ b. not (eqb b c)) bytes) h in
-    All-cons (λ b. b ≢ c) b bytes (eqb-false b c (not-true (eqb b c) both.0)) (Lacks-by_test c bytes both.1)
+use Rattle.cap_log.specs.Parts.{Lacks, HasNoSpace, IsCutAt}
+pub use Rattle.cap_log.specs.Spaceless.{Lacks-by_test}
 
 -- two cuts of one list are one
 pub same_cut : (c : ℕ) (a b x y : List ℕ) → Lacks c a → Lacks c b → a ++ c ∷ x ≡ b ++ c ∷ y → (a ≡ b) × (x ≡ y)
@@ -37,8 +27,9 @@ no_cut c bytes a x lacks e =
     lacks (length a) 0 (omega arith) (ap (λ (bs : List ℕ). get_or bs (length a) 0) e ∙ get_or_at a c x 0 (length a) refl)
 
 -- a word that is cut off, and any other cut of the same bytes
-pub same_word : {bytes word rest : List ℕ} → IsCutAt bytes word rest → (word' rest' : List ℕ) → HasNoSpace word' → bytes ≡ word' ++ 32 ∷ rest' → (word ≡ word') × (rest ≡ rest')
-same_word {bytes} {word} {rest} cut word' rest' lacks e = same_cut 32 word word' rest rest' cut.one lacks (sym cut.whole ∙ e)
+pub same_word : {end : ℕ} {bytes word rest : List ℕ} → IsCutAt end bytes word rest → (word' rest' : List ℕ) → Lacks end word' → bytes ≡ word' ++ end ∷ rest'
+    → (word ≡ word') × (rest ≡ rest')
+same_word {end} {bytes} {word} {rest} cut word' rest' lacks e = same_cut end word word' rest rest' cut.one lacks (sym cut.whole ∙ e)
 
 -- what stands behind a first byte
 pub stripped : (b : ℕ) (bytes rest : List ℕ) → pointwise eqb (take 1 bytes) (b ∷ []) ≡ true → rest ≡ drop 1 bytes → bytes ≡ b ∷ rest

@@ -4,17 +4,6 @@ use Rattle.std.specs.Char.{digit_value}
 use Rattle.std.proofs.Math.Nat as nat
 use Rattle.std.proofs.lemmas.List.Elements.{All-nil, All-cons, All-get_or}
 use Rattle.cap_word.specs.Digits.{hex_digit, hex_digits}
-use Rattle.cap_log.proofs.Cuts.{Lacks}
-
--- a byte that is no digit
-pub Lacks-hex_digits : (c k n : ℕ) → Lacks c (codes "0123456789abcdef") → Lacks c (hex_digits k n)
-unfolding hex_digits
-Lacks-hex_digits c zero n lacks = All-nil (λ b. b ≢ c)
-Lacks-hex_digits c (suc k) n lacks =
-    let digit : n / 16 ^ k % 16 < 16 = omega arith in
-    All-cons (λ b. b ≢ c) (hex_digit (n / 16 ^ k % 16)) (hex_digits k n)
-    (All-get_or (λ b. b ≢ c) (codes "0123456789abcdef") (n / 16 ^ k % 16) 0 digit lacks)
-    (Lacks-hex_digits c k n lacks)
 
 -- the value of a digit
 pub digit_value-hex_digit : (d : ℕ) → d < 16 → digit_value (hex_digit d) ≡ d

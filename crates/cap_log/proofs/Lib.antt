@@ -9,6 +9,7 @@ mod Shapes
 mod SizedLemmas
 mod SliceLemmas
 pub mod SpellingLemmas
+mod TakeLemmas
 mod TakingLemmas
 mod WindowLemmas
 mod WriteLemmas

@@ -3,8 +3,8 @@ use Rattle.std.proofs.Common.{◌≡◌, ◌≢◌, ℕ, ◌+◌, ◌≤◌, Lis
 use Rattle.std.proofs.lemmas.List.{length-append}
 use Rattle.std.proofs.lemmas.List.Elements.{All-append, All-cons}
 use Rattle.cap_log.specs.Front.{HasNoFeed}
-use Rattle.cap_log.specs.Parts.{HasNoSpace, IsCutAt, FitsBoth, spaced}
-use Rattle.cap_log.proofs.Cuts.{same_cut, no_cut, same_word}
+use Rattle.cap_log.specs.Parts.{HasNoSpace, FitsBoth, spaced}
+use Rattle.cap_log.proofs.Cuts.{same_cut}
 
 -- no spelling has a space
 abbrev pub Spaceless : {A : Type 0} → (A → Type 0) → (A → List ℕ) → Type 0
@@ -50,28 +50,3 @@ FitsBoth-operand P f m Q g n first second = record {
       let other = second.short a.1 fits.2 in
       omega arith;
 }
-
--- what was read of both parts is both
-pub both_read : {A B : Type 0} (P : A → Type 0) (f : A → List ℕ) (Q : B → Type 0) (g : B → List ℕ)
-    → {bytes word rest : List ℕ} → IsCutAt bytes word rest → (a : A) (b : B) → P a × (word ≡ f a) → Q b × (rest ≡ g b)
-    → FitsBoth P f Q (a, b) × (bytes ≡ spaced f g (a, b))
-both_read P f Q g {bytes} {word} {rest} cut a b first second = (
-  (first.0, subst HasNoSpace first.1 cut.one, second.0),
-  cut.whole ∙ (ap (λ (w : List ℕ). w ++ 32 ∷ rest) first.1 ∙ ap (λ (r : List ℕ). f a ++ 32 ∷ r) second.1),
-)
-
--- bytes without a space are no two parts
-pub no_parts : {A B : Type 0} (P : A → Type 0) (f : A → List ℕ) (Q : B → Type 0) (g : B → List ℕ) (bytes : List ℕ)
-    → HasNoSpace bytes → (a : A × B) → FitsBoth P f Q a → bytes ≡ spaced f g a → ⊥
-no_parts P f Q g bytes lacks a fits e = no_cut 32 bytes (f a.0) (g a.1) lacks e
-
--- where the first word is no such part, or the rest is none
-pub no_first : {A B : Type 0} (P : A → Type 0) (f : A → List ℕ) (Q : B → Type 0) (g : B → List ℕ)
-    → {bytes word rest : List ℕ} → IsCutAt bytes word rest → ((a : A) → P a → word ≡ f a → ⊥)
-    → (a : A × B) → FitsBoth P f Q a → bytes ≡ spaced f g a → ⊥
-no_first P f Q g cut none a fits e = none a.0 fits.0 (same_word cut (f a.0) (g a.1) fits.1 e).0
-
-pub no_second : {A B : Type 0} (P : A → Type 0) (f : A → List ℕ) (Q : B → Type 0) (g : B → List ℕ)
-    → {bytes word rest : List ℕ} → IsCutAt bytes word rest → ((b : B) → Q b → rest ≡ g b → ⊥)
-    → (a : A × B) → FitsBoth P f Q a → bytes ≡ spaced f g a → ⊥
-no_second P f Q g cut none a fits e = none a.1 fits.2 (same_word cut (f a.0) (g a.1) fits.1 e).1

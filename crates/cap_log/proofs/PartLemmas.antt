@@ -1,10 +1,12 @@
 -- The parts of a line, one by one: each value in range has one short spelling, without a line feed.
-use Rattle.std.proofs.Common.{◌≡◌, ◌≢◌, ℕ, suc, ◌+◌, ◌*◌, ◌%◌, ◌<◌, ◌≤◌, ◌^◌, ℤ, pos, negsuc, Bool, true, false, not, eqb, List, ◌∷◌, ◌++◌, length, get_or, drop, sym, ap, subst, ◌∙◌, refl, inl, inr, arith, decimal, codes}
+use Rattle.std.proofs.Common.{◌≡◌, ◌≢◌, ℕ, suc, ◌+◌, ◌*◌, ◌%◌, ◌<◌, ◌≤◌, ◌^◌, ℤ, pos, negsuc, Bool, true, false, not, eqb, List, [], ◌∷◌, ◌++◌, length, get_or, take, drop, sym, ap, subst, ◌∙◌, refl, inl, inr, arith, decimal, codes}
 use Rattle.std.specs.Fmt.{signed_decimal}
 use Rattle.std.specs.List.{list_all}
+use Rattle.std.specs.Cmp.Lexicographic.{pointwise}
+use Rattle.std.proofs.lemmas.Bool.{false≢true}
 use Rattle.std.proofs.lemmas.Fmt.{decimal_injective, decimal_is_IsNumeral, length-decimal-le, signed_decimal_injective}
 use Rattle.std.proofs.lemmas.Int.{ints}
-use Rattle.std.proofs.lemmas.List.{length-append}
+use Rattle.std.proofs.lemmas.List.{length-append, take_at}
 use Rattle.std.proofs.lemmas.List.Elements.{All-append, All-cons, All-from_get_or}
 use Rattle.std.proofs.lemmas.Str.Parse.{digit_at}
 use lib.Signed.{mag}
@@ -12,22 +14,14 @@ use Rattle.cap_word.specs.Digits.{hex_digits}
 use Rattle.cap_word.specs.declared.word.Cap.{Cap}
 use Rattle.cap_word.proofs.DigitLemmas.{length-hex_digits}
 use Rattle.cap_log.specs.Lines.{IsDataSize, IsDataValue, IsNumber, IsOffset, IsPlace, IsRegister, IsTarget, IsWordNumber, place_spelling, register_spelling, tag_spelling}
-use Rattle.cap_log.specs.Parts.{HasNoSpace, IsSized, loaded_spelling, result_spelling, stored_spelling}
+use Rattle.cap_log.specs.Parts.{Begins, BeginsWithNone, HasNoSpace, IsSized, loaded_spelling, result_spelling, stored_spelling}
 use Rattle.cap_log.specs.declared.lines.Place.{Place}
 use Rattle.cap_log.specs.declared.lines.Place.TheVariants.{Register, Granule}
-use Rattle.cap_log.proofs.Cuts.{Lacks, Lacks-by_test, same_cut}
-use Rattle.cap_log.proofs.HexText.{Lacks-hex_digits, hex_digits-same, pow_256}
+use Rattle.cap_log.specs.Parts.{Lacks}
+use Rattle.cap_log.proofs.Cuts.{Lacks-by_test, same_cut}
+use Rattle.cap_log.proofs.HexText.{hex_digits-same, pow_256}
 use Rattle.cap_log.proofs.OperandLemmas.{IsOperand}
-
--- a byte that is no digit
-pub Lacks-decimal : (c n : ℕ) → c < 48 → n < 2 ^ 64 → Lacks c (decimal n)
-Lacks-decimal c n low small =
-    All-from_get_or (λ b. b ≢ c) (decimal n) 0 (λ k below e.
-    let digit = digit_at (decimal n) k (decimal_is_IsNumeral n small).0.1 below in
-    omega (arith, digit.0))
-
-Lacks-hex : (c k n : ℕ) → list_all (λ b. not (eqb b c)) (codes "0123456789abcdef") ≡ true → Lacks c (hex_digits k n)
-Lacks-hex c k n other = Lacks-hex_digits c k n (Lacks-by_test c (codes "0123456789abcdef") other)
+pub use Rattle.cap_log.specs.Spaceless.{Lacks-decimal, Lacks-hex, Lacks-signed, number-spaceless, offset-mag, offset-spaceless, place-spaceless, register-spaceless}
 
 -- counts
 pub count-operand : IsOperand (λ n. n < 2 ^ 32) decimal 10
@@ -38,9 +32,6 @@ count-operand = record {
 }
 
 -- registers
-pub register-spaceless : (n : ℕ) → IsRegister n → HasNoSpace (register_spelling n)
-register-spaceless n small = All-cons (λ b. b ≢ 32) 99 (decimal n) (omega arith) (Lacks-decimal 32 n (omega arith) (omega arith))
-
 pub register-operand : IsOperand IsRegister register_spelling 3
 register-operand = record {
   one = λ m n small small' e. let digits : decimal m ≡ decimal n = cc in decimal_injective m n (omega arith) (omega arith) digits;
@@ -56,9 +47,6 @@ target-operand = record {
 }
 
 -- numbers of 64 bits
-pub number-spaceless : (n : ℕ) → HasNoSpace (hex_digits 16 n)
-number-spaceless n = Lacks-hex 32 16 n refl
-
 pub number-operand : IsOperand IsNumber (hex_digits 16) 16
 number-operand = record {
   one = λ m n small small' e. hex_digits-same 16 m n small small' e;
@@ -67,10 +55,6 @@ number-operand = record {
 }
 
 -- places
-pub place-spaceless : (a : Place) → IsPlace a → HasNoSpace (place_spelling a)
-place-spaceless (Register n) fits = register-spaceless n fits.1
-place-spaceless (Granule n) fits = All-cons (λ b. b ≢ 32) 64 (hex_digits 16 (16 * n)) (omega arith) (number-spaceless (16 * n))
-
 place-one : (a b : Place) → IsPlace a → IsPlace b → place_spelling a ≡ place_spelling b → a ≡ b
 place-one (Register m) (Register n) fits fits' e = ap Register (target-operand.one m n fits fits' e)
 place-one (Register m) (Granule n) fits fits' e = let h : ◌≡◌ {A = ℕ} 99 64 = ap (λ (bs : List ℕ). get_or bs 0 0) e in absurd (omega arith)
@@ -130,19 +114,6 @@ result-operand = record {
 }
 
 -- offsets
-offset-mag : (z : ℤ) → IsOffset z → mag z ≤ 2047
-offset-mag (pos n) fits = omega (arith, ints)
-offset-mag (negsuc n) fits = omega (arith, ints)
-
-Lacks-signed : (c : ℕ) (z : ℤ) → c < 45 → IsOffset z → Lacks c (signed_decimal z)
-Lacks-signed c (pos n) low fits = let small = offset-mag (pos n) fits in Lacks-decimal c n (omega arith) (omega arith)
-Lacks-signed c (negsuc n) low fits =
-    let small = offset-mag (negsuc n) fits in
-    All-cons (λ b. b ≢ c) 45 (decimal (suc n)) (omega arith) (Lacks-decimal c (suc n) (omega arith) (omega arith))
-
-pub offset-spaceless : (z : ℤ) → IsOffset z → HasNoSpace (signed_decimal z)
-offset-spaceless z fits = Lacks-signed 32 z (omega arith) fits
-
 offset-short : (z : ℤ) → IsOffset z → length (signed_decimal z) ≤ 5
 offset-short (pos n) fits = let small = offset-mag (pos n) fits in let short = length-decimal-le 4 n (omega arith) (omega arith) (omega arith) in omega arith
 offset-short (negsuc n) fits = let small = offset-mag (negsuc n) fits in let short = length-decimal-le 4 (suc n) (omega arith) (omega arith) (omega arith) in omega arith
@@ -210,9 +181,23 @@ stored-operand = record {
 }
 
 -- behind an @ stands the address of a granule
-pub no_granule : (address : ℕ) (digits : List ℕ) → address < 2 ^ 64 → digits ≡ hex_digits 16 address → (address % 16 ≡ 0 → ⊥)
-    → (a : Place) → IsPlace a → 64 ∷ digits ≡ place_spelling a → ⊥
-no_granule address digits small read other (Register n) fits e = let h : ◌≡◌ {A = ℕ} 64 99 = ap (λ (bs : List ℕ). get_or bs 0 0) e in absurd (omega arith)
-no_granule address digits small read other (Granule n) fits e =
-    let same = number-operand.one address (16 * n) small (omega arith) (sym read ∙ ap (λ (bs : List ℕ). drop 1 bs) e) in
+pub no_address : (end : ℕ) (digits : List ℕ) → BeginsWithNone IsNumber (hex_digits 16) end digits → BeginsWithNone IsPlace place_spelling end (64 ∷ digits)
+no_address end digits none (Register n) rest begins = let h : ◌≡◌ {A = ℕ} 64 99 = ap (λ (bs : List ℕ). get_or bs 0 0) begins.1 in absurd (omega arith)
+no_address end digits none (Granule n) rest begins = none (16 * n) rest (omega (arith, begins.0), ap (λ (bs : List ℕ). drop 1 bs) begins.1)
+
+pub no_granule : (end address : ℕ) (digits rest : List ℕ) → Begins IsNumber (hex_digits 16) end digits address rest → (address % 16 ≡ 0 → ⊥)
+    → BeginsWithNone IsPlace place_spelling end (64 ∷ digits)
+no_granule end address digits rest found other (Register n) rest' begins = let h : ◌≡◌ {A = ℕ} 64 99 = ap (λ (bs : List ℕ). get_or bs 0 0) begins.1 in absurd (omega arith)
+no_granule end address digits rest found other (Granule n) rest' begins =
+    let same = sym found.1 ∙ ap (λ (bs : List ℕ). drop 1 bs) begins.1 in
+    let text = sym (take_at (hex_digits 16 address) (end ∷ rest) 16 (length-hex_digits 16 address)) ∙ ap (λ (bs : List ℕ). take 16 bs) same
+    ∙ take_at (hex_digits 16 (16 * n)) (end ∷ rest') 16 (length-hex_digits 16 (16 * n)) in
+    let one = number-operand.one address (16 * n) found.0 (omega (arith, begins.0)) text in
     other (omega arith)
+
+-- and without an @, a register that is written
+pub no_place : (end : ℕ) (bytes : List ℕ) → pointwise eqb (take 1 bytes) (64 ∷ []) ≡ false → BeginsWithNone IsTarget register_spelling end bytes
+    → BeginsWithNone IsPlace place_spelling end bytes
+no_place end bytes other none (Register n) rest begins = none n rest begins
+no_place end bytes other none (Granule n) rest begins =
+    false≢true (sym other ∙ ap (λ (bs : List ℕ). pointwise eqb (take 1 bs) (64 ∷ [])) begins.1)

@@ -1,5 +1,5 @@
 -- Lines by their heads: what stands behind the head, and the line that head and operands make.
-use Rattle.std.proofs.Common.{◌≡◌, ◌≢◌, ℕ, ◌+◌, ◌<◌, ◌≤◌, ◌^◌, List, ◌∷◌, ◌++◌, length, sym, ap, subst, ◌∙◌, refl, arith, inl, inr, decimal, codes, lit≤, if◌then◌else◌, Option, Some, None, IfSome, IfNone}
+use Rattle.std.proofs.Common.{append_assoc, ◌≡◌, ◌≢◌, ℕ, ◌+◌, ◌<◌, ◌≤◌, ◌^◌, List, ◌∷◌, ◌++◌, length, sym, ap, subst, ◌∙◌, refl, arith, inl, inr, decimal, codes, lit≤, if◌then◌else◌, Option, Some, None, IfSome, IfNone}
 use Rattle.std.specs.Fmt.{signed_decimal}
 use Rattle.std.specs.Str.{bytes_eq}
 use Rattle.cap_word.specs.Digits.{hex_digits}
@@ -7,7 +7,7 @@ use Rattle.cap_word.specs.declared.word.Word.{Word}
 use Rattle.cap_log.specs.Front.{HasNoFeed}
 use Rattle.cap_log.specs.Heads.{IsHead, head_spelling}
 use Rattle.cap_log.specs.Lines.{IsInRange, IsMode, IsNumber, IsVersion, IsOffset, IsPlace, IsRegister, IsTarget, IsWordNumber, Spells, mode_spelling, version_spelling, place_spelling, register_spelling, spelling}
-use Rattle.cap_log.specs.Parts.{FitsBoth, Reads, HasNoSpace, IsCutAt, IsSized, loaded_spelling, result_spelling, spaced, stored_spelling}
+use Rattle.cap_log.specs.Parts.{Begins, BeginsWithNone, FitsBoth, HasNoSpace, IsSized, loaded_spelling, result_spelling, spaced, stored_spelling}
 use Rattle.cap_log.specs.declared.heads.Head.{Head}
 use Rattle.cap_log.specs.declared.heads.Head.TheVariants as head
 use Rattle.cap_log.specs.declared.heads.RegisterStep.TheVariants as registers
@@ -27,7 +27,8 @@ use Rattle.cap_log.specs.declared.parts.registers.Target.{Target}
 use Rattle.cap_log.specs.declared.parts.results.Recorded.{Recorded}
 use Rattle.cap_log.specs.declared.parts.sized.Loaded.{Loaded}
 use Rattle.cap_log.specs.declared.parts.sized.Stored.{Stored}
-use Rattle.cap_log.proofs.Cuts.{Lacks-by_test, no_cut, same_cut, same_word}
+use Rattle.cap_log.proofs.Cuts.{Lacks-by_test, same_cut}
+use Rattle.cap_log.specs.Spaceless.{Lacks-head, head-spaceless}
 use Rattle.cap_log.proofs.OperandLemmas.{FitsBoth-operand, IsOperand, longer, mapped}
 use Rattle.cap_log.proofs.PartLemmas.{count-operand, loaded-operand, number-operand, number-spaceless, offset-operand, offset-spaceless, place-operand, place-spaceless, register-operand, register-spaceless, result-operand, stored-operand, target-operand, word-operand}
 
@@ -281,41 +282,8 @@ spelling-made (head.Access access.Store) x = refl
 spelling-made head.End x = refl
 
 -- heads
-pub head-spaceless : (h : Head) → HasNoSpace (head_spelling h)
-head-spaceless head.Version = Lacks-by_test 32 (codes "capcheck") refl
-head-spaceless head.Mode = Lacks-by_test 32 (codes "mode") refl
-head-spaceless head.Root = Lacks-by_test 32 (codes "root") refl
-head-spaceless (head.Registers registers.Move) = Lacks-by_test 32 (codes "move") refl
-head-spaceless (head.Registers registers.ClearTag) = Lacks-by_test 32 (codes "cleartag") refl
-head-spaceless (head.Registers registers.Seal) = Lacks-by_test 32 (codes "seal") refl
-head-spaceless (head.Registers registers.Unseal) = Lacks-by_test 32 (codes "unseal") refl
-head-spaceless (head.Number number.SetBounds) = Lacks-by_test 32 (codes "setbounds") refl
-head-spaceless (head.Number number.SetBoundsExact) = Lacks-by_test 32 (codes "setboundsexact") refl
-head-spaceless (head.Number number.SetAddr) = Lacks-by_test 32 (codes "setaddr") refl
-head-spaceless (head.Number number.AndPerm) = Lacks-by_test 32 (codes "andperm") refl
-head-spaceless (head.Access access.LoadCap) = Lacks-by_test 32 (codes "lc") refl
-head-spaceless (head.Access access.StoreCap) = Lacks-by_test 32 (codes "sc") refl
-head-spaceless (head.Access access.Load) = Lacks-by_test 32 (codes "load") refl
-head-spaceless (head.Access access.Store) = Lacks-by_test 32 (codes "store") refl
-head-spaceless head.End = Lacks-by_test 32 (codes "end") refl
-
 head-plain : (h : Head) → IsHead h → HasNoFeed (head_spelling h)
-head-plain head.Version fits = Lacks-by_test 10 (codes "capcheck") refl
-head-plain head.Mode fits = Lacks-by_test 10 (codes "mode") refl
-head-plain head.Root fits = Lacks-by_test 10 (codes "root") refl
-head-plain (head.Registers registers.Move) fits = Lacks-by_test 10 (codes "move") refl
-head-plain (head.Registers registers.ClearTag) fits = Lacks-by_test 10 (codes "cleartag") refl
-head-plain (head.Registers registers.Seal) fits = Lacks-by_test 10 (codes "seal") refl
-head-plain (head.Registers registers.Unseal) fits = Lacks-by_test 10 (codes "unseal") refl
-head-plain (head.Number number.SetBounds) fits = Lacks-by_test 10 (codes "setbounds") refl
-head-plain (head.Number number.SetBoundsExact) fits = Lacks-by_test 10 (codes "setboundsexact") refl
-head-plain (head.Number number.SetAddr) fits = Lacks-by_test 10 (codes "setaddr") refl
-head-plain (head.Number number.AndPerm) fits = Lacks-by_test 10 (codes "andperm") refl
-head-plain (head.Access access.LoadCap) fits = Lacks-by_test 10 (codes "lc") refl
-head-plain (head.Access access.StoreCap) fits = Lacks-by_test 10 (codes "sc") refl
-head-plain (head.Access access.Load) fits = Lacks-by_test 10 (codes "load") refl
-head-plain (head.Access access.Store) fits = Lacks-by_test 10 (codes "store") refl
-head-plain head.End fits = Lacks-by_test 10 (codes "end") refl
+head-plain h fits = Lacks-head 10 h (omega arith)
 
 head-short : (h : Head) → IsHead h → length (head_spelling h) ≤ 14
 head-short head.Version fits = lit≤ tt
@@ -427,7 +395,7 @@ plain_version : (a : ℕ) → IsVersion a → HasNoFeed (version_spelling a)
 plain_version a (inl x) = subst (λ (n : ℕ). HasNoFeed (version_spelling n)) (sym x) (Lacks-by_test 10 (codes "1") refl)
 plain_version a (inr x) = subst (λ (n : ℕ). HasNoFeed (version_spelling n)) (sym x) (Lacks-by_test 10 (codes "2") refl)
 
-version-operand : IsOperand IsVersion version_spelling 1
+pub version-operand : IsOperand IsVersion version_spelling 1
 version-operand = record { one = one_version; plain = plain_version; short = λ a fits. lit≤ tt }
 
 one_mode : (a b : Mode) → mode_spelling a ≡ mode_spelling b → a ≡ b
@@ -444,7 +412,7 @@ short_mode : (a : Mode) → length (mode_spelling a) ≤ 6
 short_mode modes.Strict = lit≤ tt
 short_mode modes.Clear = lit≤ tt
 
-mode-operand : IsOperand IsMode mode_spelling 6
+pub mode-operand : IsOperand IsMode mode_spelling 6
 mode-operand = record { one = λ a b fits fits' e. one_mode a b e; plain = λ a fits. plain_mode a; short = λ a fits. short_mode a }
 
 pub shape : (h : Head) → IsOperand (Fits h) (spelled h) 80
@@ -462,32 +430,28 @@ shape (head.Access access.Load) = longer (FitsBoth FitsRegister register_text (F
 shape (head.Access access.Store) = longer (FitsBoth FitsRegister register_text (FitsBoth FitsOffset offset_text FitsStored)) (spaced register_text (spaced offset_text stored_text)) 28 80 (FitsBoth-operand FitsRegister register_text 3 (FitsBoth FitsOffset offset_text FitsStored) (spaced offset_text stored_text) 24 register_part (FitsBoth-operand FitsOffset offset_text 5 FitsStored stored_text 18 offset_part stored_part)) (lit≤ tt)
 shape head.End = longer FitsCount count_text 10 80 count_part (lit≤ tt)
 
--- what a head and operands spell
-pub reads-made : (h : Head) (x : Operands h) (rest : List ℕ) → Fits h x × (rest ≡ spelled h x) → IsInRange (made h x) × (head_spelling h ++ 32 ∷ rest ≡ spelling (made h x))
-reads-made h x rest read =
-    (in_range-made h x read.0, ap (λ (r : List ℕ). head_spelling h ++ 32 ∷ r) read.1 ∙ sym (spelling-made h x))
+-- a head and operands at the front of some bytes are their line
+pub takes-made : (h : Head) (x : Operands h) (bytes rest : List ℕ) → Begins (Fits h) (spelled h) 10 bytes x rest
+    → Begins IsInRange spelling 10 (head_spelling h ++ 32 ∷ bytes) (made h x) rest
+takes-made h x bytes rest begins = (
+  in_range-made h x begins.0,
+  ap (λ (bs : List ℕ). head_spelling h ++ 32 ∷ bs) begins.1 ∙ sym (append_assoc (head_spelling h) (32 ∷ spelled h x) (10 ∷ rest))
+      ∙ ap (λ (bs : List ℕ). bs ++ 10 ∷ rest) (sym (spelling-made h x)),
+)
 
--- bytes that have no cut spell no line
-pub no_words : (bytes : List ℕ) → HasNoSpace bytes → (l : Line) → Spells bytes l → ⊥
-no_words bytes lacks l spells = no_cut 32 bytes (head_spelling (head_of l)) (spelled (head_of l) (operands_of l)) lacks (spells.1 ∙ spelling-of l)
+-- the bytes of a line, cut behind its head
+head_cut : (l : Line) (bytes rest : List ℕ) → bytes ≡ spelling l ++ 10 ∷ rest → bytes ≡ head_spelling (head_of l) ++ 32 ∷ (spelled (head_of l) (operands_of l) ++ 10 ∷ rest)
+head_cut l bytes rest e =
+    e ∙ ap (λ (bs : List ℕ). bs ++ 10 ∷ rest) (spelling-of l) ∙ append_assoc (head_spelling (head_of l)) (32 ∷ spelled (head_of l) (operands_of l)) (10 ∷ rest)
 
--- nor do bytes whose first word is no head
-pub no_head : {bytes word rest : List ℕ} → IsCutAt bytes word rest → ((h : Head) → IsHead h → word ≡ head_spelling h → ⊥) → (l : Line) → Spells bytes l → ⊥
-no_head cut none l spells =
-    none (head_of l) tt (same_word cut (head_spelling (head_of l)) (spelled (head_of l) (operands_of l)) (head-spaceless (head_of l)) (spells.1 ∙ spelling-of l)).0
+-- bytes that begin with no head begin with no line
+pub no_head : (bytes : List ℕ) → BeginsWithNone IsHead head_spelling 32 bytes → BeginsWithNone IsInRange spelling 10 bytes
+no_head bytes none l rest begins = none (head_of l) (spelled (head_of l) (operands_of l) ++ 10 ∷ rest) (tt, head_cut l bytes rest begins.1)
 
 -- nor do a head and no operands for it
-pub no_operands : (h : Head) (rest : List ℕ) → ((x : Operands h) → Fits h x → rest ≡ spelled h x → ⊥) → (l : Line) → IsInRange l → head_spelling h ++ 32 ∷ rest ≡ spelling l → ⊥
-no_operands h rest none l fits e =
-    let parts = same_cut 32 (head_spelling h) (head_spelling (head_of l)) rest (spelled (head_of l) (operands_of l)) (head-spaceless h) (head-spaceless (head_of l)) (e ∙ spelling-of l) in
+pub no_operands : (h : Head) (bytes : List ℕ) → BeginsWithNone (Fits h) (spelled h) 10 bytes → BeginsWithNone IsInRange spelling 10 (head_spelling h ++ 32 ∷ bytes)
+no_operands h bytes none l rest begins =
+    let behind = spelled (head_of l) (operands_of l) ++ 10 ∷ rest in
+    let parts = same_cut 32 (head_spelling h) (head_spelling (head_of l)) bytes behind (head-spaceless h) (head-spaceless (head_of l)) (head_cut l (head_spelling h ++ 32 ∷ bytes) rest begins.1) in
     let same : h ≡ head_of l = head-operand.one h (head_of l) tt tt parts.0 in
-    subst (λ k. (x : Operands k) → Fits k x → rest ≡ spelled k x → ⊥) same none (operands_of l) (fits-of l fits) parts.1
-
--- what was read behind a head, as a line of all the bytes
-pub line_some : (bytes text : List ℕ) (r : Option Line) → bytes ≡ text → Reads IsInRange spelling text r → IfSome r (Spells bytes)
-line_some bytes text None e read = tt
-line_some bytes text (Some l) e read = (read.0, e ∙ read.1)
-
-pub line_none : (bytes text : List ℕ) (r : Option Line) → bytes ≡ text → Reads IsInRange spelling text r → IfNone r ((l : Line) → Spells bytes l → ⊥)
-line_none bytes text None e read = λ l spells. read l spells.0 (sym e ∙ spells.1)
-line_none bytes text (Some l) e read = tt
+    subst (λ k. BeginsWithNone (Fits k) (spelled k) 10 bytes → ⊥) (sym same) (λ none. none (operands_of l) rest (fits-of l begins.0, parts.1)) none

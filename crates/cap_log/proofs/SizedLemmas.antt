@@ -3,13 +3,13 @@ use Rattle.std.proofs.Common.{◌≡◌, ℕ, zero, suc, ◌+◌, ◌*◌, ◌-�
 use Rattle.std.proofs.Math.Nat as nat
 use Rattle.std.specs.Char.{digit_value}
 use borrow.Rule.Slice.PartMut.{put_mid}
-use Rattle.std.proofs.lemmas.List.{append-nil, drop_all, drop_at, length-append, length-drop, length-replicate, take-replicate, take_all}
-use Rattle.std.proofs.lemmas.Fmt.{decimal_injective}
+use Rattle.std.proofs.lemmas.List.{append-nil, append_assoc, drop_all, drop_at, length-append, length-drop, length-replicate, take-replicate, take_all}
+use Rattle.std.proofs.lemmas.Fmt.{decimal_digit, decimal_injective}
 use Rattle.cap_word.specs.Digits.{hex_digit, hex_digits}
 use Rattle.cap_word.proofs.DigitLemmas.{length-hex_digits}
 use Rattle.cap_log.specs.Lines.{IsDataSize, IsDataValue}
-use Rattle.cap_log.specs.Parts.{HasNoSpace, IsCutAt, IsSized, Writes, loaded_spelling, stored_spelling}
-use Rattle.cap_log.proofs.Cuts.{no_cut, same_word}
+use Rattle.cap_log.specs.Parts.{Begins, BeginsWithNone, IsSized, Writes, loaded_spelling, stored_spelling}
+use Rattle.cap_log.proofs.Cuts.{same_cut}
 use Rattle.cap_log.proofs.HexText.{digit_value-hex_digit, pow_256}
 use Rattle.cap_log.proofs.WriteLemmas.{length-Writes}
 use Rattle.cap_log.proofs.PartLemmas.{size-small, size-spaceless}
@@ -26,28 +26,30 @@ no_size m n small one two four eight fits e =
     sizes m n same one two four eight (inr (inr (inl e))) = four (same ∙ e)
     sizes m n same one two four eight (inr (inr (inr e))) = eight (same ∙ e)
 
--- bytes without a space are no size and value
-pub no_stored : (bytes : List ℕ) → HasNoSpace bytes → (size value : ℕ) → bytes ≡ stored_spelling size value → ⊥
-no_stored bytes lacks size value e = no_cut 32 bytes (decimal size) (hex_digits (2 * size) value) lacks e
+-- a size is one digit
+pub size-long : (n : ℕ) → IsDataSize n → length (decimal n) ≡ 1
+size-long n fits = ap length (decimal_digit n (omega (arith, size-small n fits)))
 
-pub no_loaded : (bytes : List ℕ) → HasNoSpace bytes → (size value : ℕ) → bytes ≡ loaded_spelling size value → ⊥
-no_loaded bytes lacks size value e = no_cut 32 bytes (decimal size) (61 ∷ 32 ∷ hex_digits (2 * size) value) lacks e
+-- the sizes at the front of the same bytes are one, and what stands behind them too
+pub same_size : (m n : ℕ) (bytes x y : List ℕ) → Begins IsDataSize decimal 32 bytes m x → Begins IsDataSize decimal 32 bytes n y → (m ≡ n) × (x ≡ y)
+same_size m n bytes x y h k =
+    let parts = same_cut 32 (decimal m) (decimal n) x y (size-spaceless m h.0) (size-spaceless n k.0) (sym h.1 ∙ k.1) in
+    (decimal_injective m n (omega (arith, size-small m h.0)) (omega (arith, size-small n k.0)) parts.0, parts.1)
 
--- what stands before and behind the space
-pub stored_parts : {bytes word rest : List ℕ} → IsCutAt bytes word rest → (size value : ℕ) → IsSized size value → bytes ≡ stored_spelling size value → (word ≡ decimal size) × (rest ≡ hex_digits (2 * size) value)
-stored_parts cut size value fits e = same_word cut (decimal size) (hex_digits (2 * size) value) (size-spaceless size fits.0) e
+-- the bytes of a load's or a store's end, cut behind its size
+pub loaded_cut : (size value end : ℕ) (bytes rest : List ℕ) → Begins (λ (v : ℕ). IsSized size v) (λ (v : ℕ). loaded_spelling size v) end bytes value rest
+    → Begins IsDataSize decimal 32 bytes size (61 ∷ 32 ∷ (hex_digits (2 * size) value ++ end ∷ rest))
+loaded_cut size value end bytes rest begins = (begins.0.0, begins.1 ∙ append_assoc (decimal size) (32 ∷ 61 ∷ 32 ∷ hex_digits (2 * size) value) (end ∷ rest))
 
-pub loaded_parts : {bytes word rest : List ℕ} → IsCutAt bytes word rest → (size value : ℕ) → IsSized size value → bytes ≡ loaded_spelling size value → (word ≡ decimal size) × (rest ≡ 61 ∷ 32 ∷ hex_digits (2 * size) value)
-loaded_parts cut size value fits e = same_word cut (decimal size) (61 ∷ 32 ∷ hex_digits (2 * size) value) (size-spaceless size fits.0) e
+pub stored_cut : (size value end : ℕ) (bytes rest : List ℕ) → Begins (λ (v : ℕ). IsSized size v) (λ (v : ℕ). stored_spelling size v) end bytes value rest
+    → Begins IsDataSize decimal 32 bytes size (hex_digits (2 * size) value ++ end ∷ rest)
+stored_cut size value end bytes rest begins = (begins.0.0, begins.1 ∙ append_assoc (decimal size) (32 ∷ hex_digits (2 * size) value) (end ∷ rest))
 
--- no value of the size that was read
-pub no_value : (m : ℕ) (word digits : List ℕ) → IsDataSize m × (word ≡ decimal m) → ((v : ℕ) → IsDataValue m v → digits ≡ hex_digits (2 * m) v → ⊥)
-    → (size value : ℕ) → IsSized size value → word ≡ decimal size → digits ≡ hex_digits (2 * size) value → ⊥
-no_value m word digits read none size value fits first second =
-    let small = size-small m read.0 in
-    let small' = size-small size fits.0 in
-    let same = decimal_injective m size (omega arith) (omega arith) (sym read.1 ∙ first) in
-    subst (λ (k : ℕ). (v : ℕ) → IsDataValue k v → digits ≡ hex_digits (2 * k) v → ⊥) same none value fits.1 second
+-- no value of the size that was taken
+pub no_sized : (m n value end : ℕ) (digits rest : List ℕ) → m ≡ n → BeginsWithNone (IsDataValue m) (hex_digits (2 * m)) end digits
+    → IsDataValue n value → digits ≡ hex_digits (2 * n) value ++ end ∷ rest → ⊥
+no_sized m n value end digits rest same none =
+    subst (λ (k : ℕ). IsDataValue k value → digits ≡ hex_digits (2 * k) value ++ end ∷ rest → ⊥) same (λ fits e. none value rest (fits, e))
 
 -- digits in front of others
 pub drop-hex_digits : (j k n : ℕ) → drop j (hex_digits (j + k) n) ≡ hex_digits k n

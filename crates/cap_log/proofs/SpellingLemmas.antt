@@ -1,15 +1,16 @@
 -- Spellings: bytes spell one line at most, and a spelling with its line feed is the line at the front of any bytes.
-use Rattle.std.proofs.Common.{◌≡◌, ◌≢◌, ℕ, ◌+◌, ◌≤◌, List, ◌∷◌, ◌++◌, length, sym, ap, subst, ◌∙◌, refl, arith}
-use Rattle.std.proofs.lemmas.List.{length-append}
+use Rattle.std.proofs.Common.{◌≡◌, ◌≢◌, ℕ, ◌+◌, ◌≤◌, List, [], ◌∷◌, ◌++◌, length, sym, ap, subst, ◌∙◌, refl, arith}
+use Rattle.std.proofs.lemmas.List.{append_cancel_right, length-append}
 use Rattle.std.proofs.lemmas.List.Elements.{All-append, All-cons}
 use Rattle.cap_log.specs.Front.{HasNoFeed, IsLine}
 use Rattle.cap_log.specs.Lines.{IsInRange, Spells, spelling}
 use Rattle.cap_log.specs.Heads.{IsHead, head_spelling}
-use Rattle.cap_log.specs.Parts.{FitsBoth, Writes}
+use Rattle.cap_log.specs.Parts.{Begins, BeginsWithNone, FitsBoth, Writes}
 use Rattle.cap_log.specs.declared.heads.Head.{Head}
 use Rattle.cap_log.specs.declared.lines.Line.{Line}
+use Rattle.cap_log.specs.Spaceless.{head-spaceless}
 use Rattle.cap_log.proofs.Cuts.{same_cut}
-use Rattle.cap_log.proofs.Shapes.{Fits, Operands, fits-of, head-operand, head-spaceless, head_of, made, made-of, operands_of, shape, spelled, spelling-of}
+use Rattle.cap_log.proofs.Shapes.{Fits, Operands, fits-of, head-operand, head_of, made, made-of, operands_of, shape, spelled, spelling-of}
 
 -- lines with one spelling are one
 same_made : (h k : Head) → h ≡ k → (x : Operands h) (y : Operands k) → Fits h x → Fits k y → spelled h x ≡ spelled k y → made h x ≡ made k y
@@ -50,3 +51,15 @@ line_room l fits n room =
 
 pub line_written : (l : Line) (old new : List ℕ) (end : ℕ) → Writes 0 (head_spelling (head_of l) ++ 32 ∷ spelled (head_of l) (operands_of l)) old new end → Writes 0 (spelling l) old new end
 line_written l old new end written = subst (λ (text : List ℕ). Writes 0 text old new end) (sym (spelling-of l)) written
+
+-- bytes with a line feed behind them: what stands at their front says what they spell
+pub fed_none : (bytes : List ℕ) → BeginsWithNone IsInRange spelling 10 (bytes ++ 10 ∷ []) → (l : Line) → Spells bytes l → ⊥
+fed_none bytes none l spells = none l [] (spells.0, ap (λ (b : List ℕ). b ++ 10 ∷ []) spells.1)
+
+pub fed_some : (bytes rest : List ℕ) (l : Line) → Begins IsInRange spelling 10 (bytes ++ 10 ∷ []) l rest → rest ≡ [] → Spells bytes l
+fed_some bytes rest l begins all = (begins.0, append_cancel_right bytes (spelling l) (10 ∷ []) (begins.1 ∙ ap (λ (r : List ℕ). spelling l ++ 10 ∷ r) all))
+
+pub fed_more : (bytes rest : List ℕ) (l : Line) → Begins IsInRange spelling 10 (bytes ++ 10 ∷ []) l rest → rest ≢ [] → (k : Line) → Spells bytes k → ⊥
+fed_more bytes rest l begins more k spells =
+    let e = ap (λ (b : List ℕ). b ++ 10 ∷ []) (sym spells.1) ∙ begins.1 in
+    more (sym (same_cut 10 (spelling k) (spelling l) [] rest (spelling-plain k spells.0) (spelling-plain l begins.0) e).1)

@@ -5,6 +5,7 @@ pub mod Known
 pub mod Lines
 pub mod Parts
 pub mod Slices
+pub mod Spaceless
 pub mod Streams
 pub mod Takings
 pub mod Windows

@@ -1,5 +1,5 @@
 -- What a reader of a part of a line answers and a writer writes, and the parts themselves. All of it is this profile's own.
-use Rattle.std.specs.Prelude.{◌≡◌, ◌≢◌, ℕ, ◌+◌, ◌*◌, List, [], ◌∷◌, ◌++◌, length, take, drop, Option, Some, None, All, codes, decimal}
+use Rattle.std.specs.Prelude.{◌≡◌, ◌≢◌, ℕ, ◌+◌, ◌*◌, ◌≤◌, List, [], ◌∷◌, ◌++◌, length, take, drop, Option, Some, None, All, codes, decimal}
 use Rattle.std.specs.List.{join_with_byte}
 use Rattle.cap_word.specs.Digits.{hex_digits}
 use Rattle.cap_word.specs.declared.word.Cap.{Cap}
@@ -10,9 +10,25 @@ abbrev pub Reads : {A : Type 0} → (A → Type 0) → (A → List ℕ) → List
 Reads {A} Fits spelled bytes None = (a : A) → Fits a → bytes ≡ spelled a → ⊥
 Reads {A} Fits spelled bytes (Some a) = Fits a × (bytes ≡ spelled a)
 
+-- no byte is this one
+abbrev pub Lacks : ℕ → List ℕ → Type 0
+Lacks c bytes = All (λ b. b ≢ c) bytes
+
 -- no byte is a space
 abbrev pub HasNoSpace : List ℕ → Type 0
-HasNoSpace bytes = All (λ b. b ≢ 32) bytes
+HasNoSpace bytes = Lacks 32 bytes
+
+-- a byte that ends a part: a space, or a control byte such as a line feed
+abbrev pub IsEnd : ℕ → Type 0
+IsEnd end = end ≤ 32
+
+-- the bytes are a value's spelling, the byte that ends it, and a rest
+abbrev pub Begins : {A : Type 0} → (A → Type 0) → (A → List ℕ) → ℕ → List ℕ → A → List ℕ → Type 0
+Begins Fits spelled end bytes value rest = Fits value × (bytes ≡ spelled value ++ end ∷ rest)
+
+-- no value in range stands at the front of the bytes with the byte that ends it
+abbrev pub BeginsWithNone : {A : Type 0} → (A → Type 0) → (A → List ℕ) → ℕ → List ℕ → Type 0
+BeginsWithNone {A} Fits spelled end bytes = (value : A) (rest : List ℕ) → Begins Fits spelled end bytes value rest → ⊥
 
 -- two parts, of which the first is one word, with a space between them
 abbrev pub FitsBoth : {A B : Type 0} → (A → Type 0) → (A → List ℕ) → (B → Type 0) → A × B → Type 0
@@ -22,10 +38,10 @@ FitsBoth P first Q pair = P pair.0 × HasNoSpace (first pair.0) × Q pair.1
 abbrev pub spaced : {A B : Type 0} → (A → List ℕ) → (B → List ℕ) → A × B → List ℕ
 spaced first second pair = first pair.0 ++ 32 ∷ second pair.1
 
--- the bytes are a word, a space and a rest
-pub record IsCutAt (bytes word rest : List ℕ) : Type 0 where
-  pub whole : bytes ≡ word ++ 32 ∷ rest
-  pub one : HasNoSpace word
+-- the bytes are a word, the first byte of a kind, and a rest
+pub record IsCutAt (end : ℕ) (bytes word rest : List ℕ) : Type 0 where
+  pub whole : bytes ≡ word ++ end ∷ rest
+  pub one : Lacks end word
 
 -- the result at the end of a step
 abbrev pub result_spelling : Cap → List ℕ

@@ -2,7 +2,7 @@
 //! and where the bytes come from and a text goes.
 //!
 //! A line is its words with a single space between each two. [`read_line`] answers the line that
-//! some bytes spell, [`write_line`] writes a line's one spelling, and [`front`] finds the line that
+//! some bytes spell, [`take_line`] takes one with its line feed from the front of some bytes, [`write_line`] writes a line's one spelling, and [`front`] finds the line that
 //! some bytes begin with.
 //!
 //! A [`Source`] gives bytes a piece at a time, and [`Lines`] are the lines of what it gives, however
@@ -29,7 +29,7 @@ pub use crate::fronts::finding::front;
 pub use crate::lines::{Line, Mode, Place, Step};
 pub use crate::nexts::Next;
 pub use crate::pushing::push_all;
-pub use crate::reading::{one_line, read_line};
+pub use crate::reading::{one_line, read_line, take_line};
 pub use crate::sinks::failing::FailingSink;
 pub use crate::sinks::slices::SliceSink;
 pub use crate::sinks::writing::WriteSink;

@@ -1,14 +1,15 @@
-//! What stands behind the first word of a line, one function for each kind of line.
+//! What stands behind the first word of a line, with its line feed: one function for each kind of line.
 
-ghost use Rattle.std.specs.Prelude.{◌∷◌, ◌++◌};
+ghost use Rattle.std.specs.Prelude.{◌∷◌, ◌++◌, IfSome, IfNone};
 ghost use Rattle.cap_log.specs.Heads.{head_spelling};
 ghost use Rattle.cap_log.specs.Lines.{IsInRange, IsMode, IsVersion, mode_spelling, spelling, version_spelling};
-ghost use Rattle.cap_log.specs.Parts.{Reads};
+ghost use Rattle.cap_log.specs.Parts.{Begins, BeginsWithNone, Reads};
 ghost use Rattle.cap_log.specs.declared.heads.Head.TheVariants as head;
 
 use crate::heads::{AccessStep, Head, NumberStep, RegisterStep};
 use crate::lines::{Line, Mode, Place, Step};
 use crate::parts::Part;
+use crate::parts::cutting::split_end;
 use crate::parts::decimals::Count;
 use crate::parts::hexadecimals::Number;
 use crate::parts::offsets::Offset;
@@ -29,43 +30,53 @@ type Numbered = (Target, (Register, (Number, Recorded)));
 /// A target, an authority, an offset and a result.
 type CapLoaded = (Target, (Register, (Offset, Recorded)));
 
+/// An authority, an offset, and what a load records.
+type DataLoaded = (Register, (Offset, Loaded));
+
+/// An authority, an offset, and what a store has.
+type DataStored = (Register, (Offset, Stored));
+
 /// A source, an authority and an offset.
 type CapStored = (Register, (Register, Offset));
 
-/// Reads the line with this head from what stands behind it.
-pub fn read_operands(head: Head, rest: &[u8]) -> Option<Line>
-    ensures { Reads IsInRange spelling (head_spelling head ++ 32 ∷ rest.now) result }
+/// Takes what stands behind a line's head and its space, with the line feed: the line, and what comes
+/// behind it.
+pub fn take_operands(head: Head, bytes: &[u8]) -> Option<(Line, &[u8])>
+    ensures some { IfSome result (λ p. Begins IsInRange spelling 10 (head_spelling head ++ 32 ∷ bytes.now) p.0 p.1.now) }
+    ensures none { IfNone result (BeginsWithNone IsInRange spelling 10 (head_spelling head ++ 32 ∷ bytes.now)) }
 {
     match head {
         Head::Version => {
-            let version = read_version(rest)?;
-            Some(Line::Version(version))
+            let (word, rest) = split_end(bytes, b'\n')?;
+            let version = read_version(word)?;
+            Some((Line::Version(version), rest))
         }
         Head::Mode => {
-            let mode = read_mode(rest)?;
-            Some(Line::Mode(mode))
+            let (word, rest) = split_end(bytes, b'\n')?;
+            let mode = read_mode(word)?;
+            Some((Line::Mode(mode), rest))
         }
         Head::Root => {
-            let (place, word) = <(Place, Word)>::read(rest)?;
-            Some(Line::Root(place, word))
+            let ((place, word), rest) = <(Place, Word)>::take(bytes, b'\n')?;
+            Some((Line::Root(place, word), rest))
         }
-        Head::Registers(kind) => read_register_step(kind, rest),
-        Head::Number(kind) => read_number_step(kind, rest),
-        Head::Access(kind) => read_access_step(kind, rest),
+        Head::Registers(kind) => take_register_step(kind, bytes),
+        Head::Number(kind) => take_number_step(kind, bytes),
+        Head::Access(kind) => take_access_step(kind, bytes),
         Head::End => {
-            let count = Count::read(rest)?;
-            Some(Line::End(count.0))
+            let (count, rest) = Count::take(bytes, b'\n')?;
+            Some((Line::End(count.0), rest))
         }
     }
 }
 
 // Reads the number of a version.
-fn read_version(rest: &[u8]) -> Option<u8>
-    ensures { Reads IsVersion version_spelling rest.now result }
+fn read_version(word: &[u8]) -> Option<u8>
+    ensures { Reads IsVersion version_spelling word.now result }
 {
-    if rest == b"1".as_slice() {
+    if word == b"1".as_slice() {
         Some(1)
-    } else if rest == b"2".as_slice() {
+    } else if word == b"2".as_slice() {
         Some(2)
     } else {
         None
@@ -73,12 +84,12 @@ fn read_version(rest: &[u8]) -> Option<u8>
 }
 
 // Reads the name of a mode.
-fn read_mode(rest: &[u8]) -> Option<Mode>
-    ensures { Reads IsMode mode_spelling rest.now result }
+fn read_mode(word: &[u8]) -> Option<Mode>
+    ensures { Reads IsMode mode_spelling word.now result }
 {
-    if rest == b"strict".as_slice() {
+    if word == b"strict".as_slice() {
         Some(Mode::Strict)
-    } else if rest == b"clear".as_slice() {
+    } else if word == b"clear".as_slice() {
         Some(Mode::Clear)
     } else {
         None
@@ -86,119 +97,158 @@ fn read_mode(rest: &[u8]) -> Option<Mode>
 }
 
 // A step whose operands are registers.
-fn read_register_step(kind: RegisterStep, rest: &[u8]) -> Option<Line>
-    ensures { Reads IsInRange spelling (head_spelling (head.Registers kind) ++ 32 ∷ rest.now) result }
+fn take_register_step(kind: RegisterStep, bytes: &[u8]) -> Option<(Line, &[u8])>
+    ensures some { IfSome result (λ p. Begins IsInRange spelling 10 (head_spelling (head.Registers kind) ++ 32 ∷ bytes.now) p.0 p.1.now) }
+    ensures none { IfNone result (BeginsWithNone IsInRange spelling 10 (head_spelling (head.Registers kind) ++ 32 ∷ bytes.now)) }
 {
     match kind {
         RegisterStep::Move => {
-            let (target, (source, recorded)) = Copied::read(rest)?;
-            Some(Line::Step(Step::Move {
-                target: target.0,
-                source: source.0,
-                result: recorded.0,
-            }))
+            let ((target, (source, recorded)), rest) = Copied::take(bytes, b'\n')?;
+            Some((
+                Line::Step(Step::Move {
+                    target: target.0,
+                    source: source.0,
+                    result: recorded.0,
+                }),
+                rest,
+            ))
         }
         RegisterStep::ClearTag => {
-            let (target, (source, recorded)) = Copied::read(rest)?;
-            Some(Line::Step(Step::ClearTag {
-                target: target.0,
-                source: source.0,
-                result: recorded.0,
-            }))
+            let ((target, (source, recorded)), rest) = Copied::take(bytes, b'\n')?;
+            Some((
+                Line::Step(Step::ClearTag {
+                    target: target.0,
+                    source: source.0,
+                    result: recorded.0,
+                }),
+                rest,
+            ))
         }
         RegisterStep::Seal => {
-            let (target, (source, (authority, recorded))) = Sealed::read(rest)?;
-            Some(Line::Step(Step::Seal {
-                target: target.0,
-                source: source.0,
-                authority: authority.0,
-                result: recorded.0,
-            }))
+            let ((target, (source, (authority, recorded))), rest) = Sealed::take(bytes, b'\n')?;
+            Some((
+                Line::Step(Step::Seal {
+                    target: target.0,
+                    source: source.0,
+                    authority: authority.0,
+                    result: recorded.0,
+                }),
+                rest,
+            ))
         }
         RegisterStep::Unseal => {
-            let (target, (source, (authority, recorded))) = Sealed::read(rest)?;
-            Some(Line::Step(Step::Unseal {
-                target: target.0,
-                source: source.0,
-                authority: authority.0,
-                result: recorded.0,
-            }))
+            let ((target, (source, (authority, recorded))), rest) = Sealed::take(bytes, b'\n')?;
+            Some((
+                Line::Step(Step::Unseal {
+                    target: target.0,
+                    source: source.0,
+                    authority: authority.0,
+                    result: recorded.0,
+                }),
+                rest,
+            ))
         }
     }
 }
 
 // A step whose operands are two registers and a number.
-fn read_number_step(kind: NumberStep, rest: &[u8]) -> Option<Line>
-    ensures { Reads IsInRange spelling (head_spelling (head.Number kind) ++ 32 ∷ rest.now) result }
+fn take_number_step(kind: NumberStep, bytes: &[u8]) -> Option<(Line, &[u8])>
+    ensures some { IfSome result (λ p. Begins IsInRange spelling 10 (head_spelling (head.Number kind) ++ 32 ∷ bytes.now) p.0 p.1.now) }
+    ensures none { IfNone result (BeginsWithNone IsInRange spelling 10 (head_spelling (head.Number kind) ++ 32 ∷ bytes.now)) }
 {
-    let (target, (source, (number, recorded))) = Numbered::read(rest)?;
+    let ((target, (source, (number, recorded))), rest) = Numbered::take(bytes, b'\n')?;
     match kind {
-        NumberStep::SetBounds => Some(Line::Step(Step::SetBounds {
-            target: target.0,
-            source: source.0,
-            length: number.0,
-            result: recorded.0,
-        })),
-        NumberStep::SetBoundsExact => Some(Line::Step(Step::SetBoundsExact {
-            target: target.0,
-            source: source.0,
-            length: number.0,
-            result: recorded.0,
-        })),
-        NumberStep::SetAddr => Some(Line::Step(Step::SetAddr {
-            target: target.0,
-            source: source.0,
-            address: number.0,
-            result: recorded.0,
-        })),
-        NumberStep::AndPerm => Some(Line::Step(Step::AndPerm {
-            target: target.0,
-            source: source.0,
-            mask: number.0,
-            result: recorded.0,
-        })),
+        NumberStep::SetBounds => Some((
+            Line::Step(Step::SetBounds {
+                target: target.0,
+                source: source.0,
+                length: number.0,
+                result: recorded.0,
+            }),
+            rest,
+        )),
+        NumberStep::SetBoundsExact => Some((
+            Line::Step(Step::SetBoundsExact {
+                target: target.0,
+                source: source.0,
+                length: number.0,
+                result: recorded.0,
+            }),
+            rest,
+        )),
+        NumberStep::SetAddr => Some((
+            Line::Step(Step::SetAddr {
+                target: target.0,
+                source: source.0,
+                address: number.0,
+                result: recorded.0,
+            }),
+            rest,
+        )),
+        NumberStep::AndPerm => Some((
+            Line::Step(Step::AndPerm {
+                target: target.0,
+                source: source.0,
+                mask: number.0,
+                result: recorded.0,
+            }),
+            rest,
+        )),
     }
 }
 
 // A step with an authority and an offset.
-fn read_access_step(kind: AccessStep, rest: &[u8]) -> Option<Line>
-    ensures { Reads IsInRange spelling (head_spelling (head.Access kind) ++ 32 ∷ rest.now) result }
+fn take_access_step(kind: AccessStep, bytes: &[u8]) -> Option<(Line, &[u8])>
+    ensures some { IfSome result (λ p. Begins IsInRange spelling 10 (head_spelling (head.Access kind) ++ 32 ∷ bytes.now) p.0 p.1.now) }
+    ensures none { IfNone result (BeginsWithNone IsInRange spelling 10 (head_spelling (head.Access kind) ++ 32 ∷ bytes.now)) }
 {
     match kind {
         AccessStep::LoadCap => {
-            let (target, (authority, (offset, recorded))) = CapLoaded::read(rest)?;
-            Some(Line::Step(Step::LoadCap {
-                target: target.0,
-                authority: authority.0,
-                offset: offset.0,
-                result: recorded.0,
-            }))
+            let ((target, (authority, (offset, recorded))), rest) = CapLoaded::take(bytes, b'\n')?;
+            Some((
+                Line::Step(Step::LoadCap {
+                    target: target.0,
+                    authority: authority.0,
+                    offset: offset.0,
+                    result: recorded.0,
+                }),
+                rest,
+            ))
         }
         AccessStep::StoreCap => {
-            let (source, (authority, offset)) = CapStored::read(rest)?;
-            Some(Line::Step(Step::StoreCap {
-                source: source.0,
-                authority: authority.0,
-                offset: offset.0,
-            }))
+            let ((source, (authority, offset)), rest) = CapStored::take(bytes, b'\n')?;
+            Some((
+                Line::Step(Step::StoreCap {
+                    source: source.0,
+                    authority: authority.0,
+                    offset: offset.0,
+                }),
+                rest,
+            ))
         }
         AccessStep::Load => {
-            let (authority, (offset, loaded)) = <(Register, (Offset, Loaded))>::read(rest)?;
-            Some(Line::Step(Step::Load {
-                authority: authority.0,
-                offset: offset.0,
-                size: loaded.size,
-                value: loaded.value,
-            }))
+            let ((authority, (offset, loaded)), rest) = DataLoaded::take(bytes, b'\n')?;
+            Some((
+                Line::Step(Step::Load {
+                    authority: authority.0,
+                    offset: offset.0,
+                    size: loaded.size,
+                    value: loaded.value,
+                }),
+                rest,
+            ))
         }
         AccessStep::Store => {
-            let (authority, (offset, stored)) = <(Register, (Offset, Stored))>::read(rest)?;
-            Some(Line::Step(Step::Store {
-                authority: authority.0,
-                offset: offset.0,
-                size: stored.size,
-                value: stored.value,
-            }))
+            let ((authority, (offset, stored)), rest) = DataStored::take(bytes, b'\n')?;
+            Some((
+                Line::Step(Step::Store {
+                    authority: authority.0,
+                    offset: offset.0,
+                    size: stored.size,
+                    value: stored.value,
+                }),
+                rest,
+            ))
         }
     }
 }

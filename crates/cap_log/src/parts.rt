@@ -1,7 +1,7 @@
-//! The parts of a line: each is read from its own bytes, and two are read with a space between them.
+//! The parts of a line: each takes itself from the front of some bytes, with the byte that ends it.
 
-ghost use Rattle.std.specs.Prelude.{ℕ, List, ◌+◌, ◌≤◌, length};
-ghost use Rattle.cap_log.specs.Parts.{FitsBoth, Reads, Writes, spaced};
+ghost use Rattle.std.specs.Prelude.{ℕ, List, ◌+◌, ◌≤◌, length, IfSome, IfNone};
+ghost use Rattle.cap_log.specs.Parts.{Begins, BeginsWithNone, FitsBoth, HasNoSpace, IsEnd, Writes, spaced};
 
 pub mod cutting;
 pub mod decimals;
@@ -11,7 +11,7 @@ pub mod registers;
 pub mod results;
 pub mod sized;
 
-use crate::parts::cutting::{put, split_word};
+use crate::parts::cutting::put;
 
 /// A part of a line: its values in range have one spelling each.
 pub trait Part: Copy {
@@ -21,9 +21,12 @@ pub trait Part: Copy {
     // A value's bytes.
     ghost spelled: { Self → List ℕ };
 
-    /// Reads the part from its bytes, all of them, or answers `None` where they spell none.
-    fn read(bytes: &[u8]) -> Option<Self>
-        ensures { Reads fits spelled bytes.now result };
+    /// Takes the part from the front of some bytes, with the byte that ends it: its value, and what
+    /// stands behind that byte. `None` where no value in range and this byte stand there.
+    fn take(bytes: &[u8], end: u8) -> Option<(Self, &[u8])>
+        requires { IsEnd end }
+        ensures some { IfSome result (λ p. Begins fits spelled end bytes.now p.0 p.1.now) }
+        ensures none { IfNone result (BeginsWithNone fits spelled end bytes.now) };
 
     /// Writes the part into the buffer from a place on, and answers where it ends.
     fn write(&self, buffer: &mut [u8], at: usize) -> usize
@@ -32,17 +35,21 @@ pub trait Part: Copy {
         ensures { Writes at (spelled self.now) buffer.old buffer.new result };
 }
 
-/// A word, a space, and what stands behind it.
-impl<A: Part, B: Part> Part for (A, B) {
-    ghost fits = { FitsBoth A.fits A.spelled B.fits };
+/// A part that is one word: no value's bytes have a space.
+pub trait Single: Part {
+    ghost spaceless: { (value : Self) → Self.Part.fits value → HasNoSpace (Self.Part.spelled value) };
+}
 
-    ghost spelled = { spaced A.spelled B.spelled };
+/// A word, a space, and another part.
+impl<A: Single, B: Part> Part for (A, B) {
+    ghost fits = { FitsBoth A.Part.fits A.Part.spelled B.fits };
 
-    fn read(bytes: &[u8]) -> Option<(A, B)> {
-        let (word, rest) = split_word(bytes)?;
-        let first = A::read(word)?;
-        let second = B::read(rest)?;
-        Some((first, second))
+    ghost spelled = { spaced A.Part.spelled B.spelled };
+
+    fn take(bytes: &[u8], end: u8) -> Option<((A, B), &[u8])> {
+        let (first, rest) = A::take(bytes, b' ')?;
+        let (second, rest) = B::take(rest, end)?;
+        Some(((first, second), rest))
     }
 
     fn write(&self, buffer: &mut [u8], at: usize) -> usize {

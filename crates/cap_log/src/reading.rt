@@ -3,13 +3,25 @@
 ghost use Rattle.std.specs.Prelude.{◌≡◌, ◌≤◌, ℕ, List, length, IfSome, IfNone};
 ghost use Rattle.cap_log.specs.Front.{HasNoFeed};
 ghost use Rattle.cap_log.specs.Lines.{IsInRange, Spells, spelling};
+ghost use Rattle.cap_log.specs.Parts.{Begins, BeginsWithNone};
 ghost use Rattle.cap_log.specs.declared.lines.Line.{Line};
 
+use crate::fronts::finding::LINE_LIMIT;
 use crate::heads::Head;
 use crate::lines::Line;
-use crate::operands::read_operands;
+use crate::operands::take_operands;
 use crate::parts::Part;
-use crate::parts::cutting::split_word;
+use crate::parts::cutting::put;
+
+/// Takes a line and its line feed from the front of some bytes: the line, and what comes behind it.
+/// `None` where no line and a line feed stand there.
+pub fn take_line(bytes: &[u8]) -> Option<(Line, &[u8])>
+    ensures some { IfSome result (λ p. Begins IsInRange spelling 10 bytes.now p.0 p.1.now) }
+    ensures none { IfNone result (BeginsWithNone IsInRange spelling 10 bytes.now) }
+{
+    let (head, rest) = Head::take(bytes, b' ')?;
+    take_operands(head, rest)
+}
 
 /// Reads a line from its bytes, without its line feed: the line that they spell, or `None` where
 /// they spell none.
@@ -17,9 +29,14 @@ pub fn read_line(bytes: &[u8]) -> Option<Line>
     ensures some { IfSome result (Spells bytes.now) }
     ensures none { IfNone result ((line : Line) → Spells bytes.now line → ⊥) }
 {
-    let (word, rest) = split_word(bytes)?;
-    let head = Head::read(word)?;
-    read_operands(head, rest)
+    if bytes.len() > LINE_LIMIT {
+        return None;
+    }
+    let mut text = [0; LINE_LIMIT + 1];
+    let length = put(&mut text, 0, bytes);
+    let end = put(&mut text, length, b"\n");
+    let (line, rest) = take_line(&text[..end])?;
+    if rest.is_empty() { Some(line) } else { None }
 }
 
 /// No two lines share a spelling: bytes spell one line at most. A spelling has no line feed and at

@@ -15,7 +15,7 @@ use Rattle.cap_ops.proofs.WithinLemmas.{IsWithin-refl, IsWithin-trans}
 use Rattle.cap_machine.specs.declared.rules.Rules.{Rules}
 use Rattle.cap_machine.specs.States.{State, DeclaredRoot, key_of, tagged, start}
 use Rattle.cap_machine.specs.Steps.{Leads, row_of, row_by, state_with}
-use Rattle.cap_machine.specs.Runs.{IsRun, state_at, hits, parent_in, parent_of, Descends, AuthorityNeverGrows, AreSound}
+use Rattle.cap_machine.specs.Runs.{IsRun, state_at, last_of, hits, parent_in, parent_of, Descends, AuthorityNeverGrows, AreSound}
 use Rattle.cap_machine.specs.Parents.{IsSoundState, ComesFrom}
 use Rattle.cap_machine.proofs.StepLemmas.{WritesWithin, writes_within_by, hits-row_by}
 
@@ -89,6 +89,14 @@ one_back rules old step new key range sound leads held =
 -- a step keeps each tagged capability sound
 pub sound_after : (rules : Rules) (old : State) (step : Step) (new : State) → IsStepInRange step → IsSoundState old → Leads rules old step new → IsSoundState new
 sound_after rules old step new range sound leads key held = let from = one_back rules old step new key range sound leads held in from.1.sound
+
+pub sound_along : (rules : Rules) (state : State) (steps : List Step) (states : List State) → AllByRecursion IsStepInRange steps → IsSoundState state
+    → IsRun rules state steps states → IsSoundState (last_of state states)
+sound_along rules state [] [] range sound run = sound
+sound_along rules state [] (next ∷ states) range sound run = absurd run
+sound_along rules state (step ∷ steps) [] range sound run = absurd run
+sound_along rules state (step ∷ steps) (next ∷ states) range sound run =
+    sound_along rules next steps states range.1 (sound_after rules state step next range.0 sound run.0) run.1
 
 -- the chain of parents of a tagged place leads back to a tagged place that it lies within
 pub record ChainsTo (state : State) (steps : List Step) (states : List State) (cap : Cap) (key from : ℕ) : Type 0 where

@@ -27,7 +27,7 @@ use Rattle.cap_machine.specs.declared.rules.Rules.{Rules}
 use Rattle.cap_machine.specs.declared.rules.Rules.TheVariants.{One, TwoStrict, TwoClear}
 use Rattle.cap_machine.specs.States.{State, put}
 use Rattle.cap_machine.specs.Steps.{Access, Leads, Row, clear_row, row_by, row_of, state_with}
-use Rattle.cap_machine.specs.Accounts.{row_in, step_tests}
+use Rattle.cap_machine.specs.Accounts.{Account, row_in, step_tests}
 use Rattle.cap_machine.specs.Helds.{Held, state_of, account_of, tests_by}
 use Rattle.cap_machine.specs.Parents.{IsSoundState, StaysWithinParents}
 use Rattle.cap_machine.specs.Escapes.{HasRoomFor, AsksBeyond, ClearsBeyond, Escapes, asked_by}
@@ -85,10 +85,10 @@ no_last_test true false h = cc
 no_last_test false limit h = cc
 
 -- the tests of a step begin with those of its operation
-first_escapes : (old : Held) (step : Step) → first_of (step_tests (account_of old) step) ≡ Some BoundsEscape
-    → first_of ((row_in (account_of old) step).tests) ≡ Some faults.BoundsEscape
-first_escapes old step h =
-    let tests = (row_in (account_of old) step).tests in
+first_escapes : (account : Account) (step : Step) → first_of (step_tests account step) ≡ Some BoundsEscape
+    → first_of ((row_in account step).tests) ≡ Some faults.BoundsEscape
+first_escapes account step h =
+    let tests = (row_in account step).tests in
     elim (first_of tests) as (λ o. first_of tests ≡ o → first_of tests ≡ Some faults.BoundsEscape) [
       | None ↦ λ is. absurd (no_last_test _ _ (sym (first_mapped-none tests _ is) ∙ h))
       | Some fault ↦ λ is. is ∙ ap (λ (f : OpFault). Some f) (only_escape fault (same_Some _ _ (sym (first_mapped-some tests _ fault is) ∙ h)))
@@ -126,15 +126,14 @@ asks TwoStrict state source length exact fits sound h =
     let is = BoundsEscape-source (state source) length exact h in
     ((λ e. cc), (is.0, is.1, (escapes (state source) length exact fits is.0 is.1 (sound source is.0)).0 h))
 
-narrowed : (old new : Held) (step : Step) (source length : ℕ) (exact : Bool) (result : Result (Unit {0}) StepEnd)
-    → (row_in (account_of old) step).tests ≡ tests_by old.rules (set_bounds_tests (state_of old source) length exact) → length < 2 ^ 64 → IsSoundState (state_of old) → EndsIn old step result new
-    → (result ≡ Err (Refused BoundsEscape)) ↔ ((old.rules ≢ TwoClear) × AsksBeyond (state_of old) (Some (source, length)))
-narrowed old new step source length exact result same fits sound ends = (
-  λ h. asks old.rules (state_of old) source length exact fits sound (sym (ap first_of same) ∙ first_escapes old step (answers old new step result ends h)),
+narrowed : (account : Account) (step : Step) (source length : ℕ) (exact : Bool)
+    → (row_in account step).tests ≡ tests_by account.rules (set_bounds_tests (account.state source) length exact) → length < 2 ^ 64 → IsSoundState account.state
+    → (first_of (step_tests account step) ≡ Some BoundsEscape) ↔ ((account.rules ≢ TwoClear) × AsksBeyond account.state (Some (source, length)))
+narrowed account step source length exact same fits sound = (
+  λ h. asks account.rules account.state source length exact fits sound (sym (ap first_of same) ∙ first_escapes account step h),
   λ beyond.
-      let by = escapes_by old.rules (state_of old source) length exact fits beyond.1.0 beyond.1.1 (sound source beyond.1.0) in
-      answered old new step result ends
-      (first_mapped-some ((row_in (account_of old) step).tests) _ faults.BoundsEscape (ap first_of same ∙ by.1 (beyond.0, beyond.1.2))),
+      let by = escapes_by account.rules (account.state source) length exact fits beyond.1.0 beyond.1.1 (sound source beyond.1.0) in
+      first_mapped-some ((row_in account step).tests) _ faults.BoundsEscape (ap first_of same ∙ by.1 (beyond.0, beyond.1.2)),
 )
 
 -- none of the tests is that of bounds
@@ -187,32 +186,37 @@ free_by One row free = free
 free_by TwoStrict row free = free
 free_by TwoClear row free = cleared_free row.access row free
 
-never : (old new : Held) (step : Step) (result : Result (Unit {0}) StepEnd) → asked_by step ≡ None → EndsIn old step result new
-    → (result ≡ Err (Refused BoundsEscape)) ↔ ((old.rules ≢ TwoClear) × ⊥)
-never old new step result none ends = (
-  λ h. absurd (not_first _ (free_by old.rules (row_of (state_of old) step) (row_free (state_of old) step none)) (first_escapes old step (answers old new step result ends h))),
+never : (account : Account) (step : Step) → asked_by step ≡ None
+    → (first_of (step_tests account step) ≡ Some BoundsEscape) ↔ ((account.rules ≢ TwoClear) × ⊥)
+never account step none = (
+  λ h. absurd (not_first _ (free_by account.rules (row_of account.state step) (row_free account.state step none)) (first_escapes account step h)),
   λ beyond. absurd beyond.1,
 )
+
+-- which steps are refused for their bounds, by the account before them
+pub escapes_first : (account : Account) (step : Step) → IsStepInRange step → IsSoundState account.state
+    → (first_of (step_tests account step) ≡ Some BoundsEscape) ↔ Escapes account.rules account.state step
+escapes_first account (SetBounds target source length recorded) range sound =
+    narrowed account (SetBounds target source length recorded) source length false (ap (λ (row : Row). row.tests) (row_by-operation account.rules target source recorded _ _)) range.2 sound
+escapes_first account (SetBoundsExact target source length recorded) range sound =
+    narrowed account (SetBoundsExact target source length recorded) source length true (ap (λ (row : Row). row.tests) (row_by-operation account.rules target source recorded _ _)) range.2 sound
+escapes_first account (Move target source recorded) range sound = never account (Move target source recorded) refl
+escapes_first account (ClearTag target source recorded) range sound = never account (ClearTag target source recorded) refl
+escapes_first account (SetAddr target source address recorded) range sound = never account (SetAddr target source address recorded) refl
+escapes_first account (AndPerm target source mask recorded) range sound = never account (AndPerm target source mask recorded) refl
+escapes_first account (Seal target source authority recorded) range sound = never account (Seal target source authority recorded) refl
+escapes_first account (Unseal target source authority recorded) range sound = never account (Unseal target source authority recorded) refl
+escapes_first account (LoadCap target authority offset recorded) range sound = never account (LoadCap target authority offset recorded) refl
+escapes_first account (StoreCap source authority offset) range sound = never account (StoreCap source authority offset) refl
+escapes_first account (Load authority offset size value) range sound = never account (Load authority offset size value) refl
+escapes_first account (Store authority offset size value) range sound = never account (Store authority offset size value) refl
 
 -- a step's answer for its bounds
 pub escape_exact : (old new : Held) (step : Step) (result : Result (Unit {0}) StepEnd) → IsStepInRange step → IsSoundState (state_of old) → EndsIn old step result new
     → (result ≡ Err (Refused BoundsEscape)) ↔ Escapes old.rules (state_of old) step
-escape_exact old new (SetBounds target source length recorded) result range sound ends =
-    narrowed old new (SetBounds target source length recorded) source length false result
-    (ap (λ (row : Row). row.tests) (row_by-operation old.rules target source recorded _ _)) range.2 sound ends
-escape_exact old new (SetBoundsExact target source length recorded) result range sound ends =
-    narrowed old new (SetBoundsExact target source length recorded) source length true result
-    (ap (λ (row : Row). row.tests) (row_by-operation old.rules target source recorded _ _)) range.2 sound ends
-escape_exact old new (Move target source recorded) result range sound ends = never old new (Move target source recorded) result refl ends
-escape_exact old new (ClearTag target source recorded) result range sound ends = never old new (ClearTag target source recorded) result refl ends
-escape_exact old new (SetAddr target source address recorded) result range sound ends = never old new (SetAddr target source address recorded) result refl ends
-escape_exact old new (AndPerm target source mask recorded) result range sound ends = never old new (AndPerm target source mask recorded) result refl ends
-escape_exact old new (Seal target source authority recorded) result range sound ends = never old new (Seal target source authority recorded) result refl ends
-escape_exact old new (Unseal target source authority recorded) result range sound ends = never old new (Unseal target source authority recorded) result refl ends
-escape_exact old new (LoadCap target authority offset recorded) result range sound ends = never old new (LoadCap target authority offset recorded) result refl ends
-escape_exact old new (StoreCap source authority offset) result range sound ends = never old new (StoreCap source authority offset) result refl ends
-escape_exact old new (Load authority offset size value) result range sound ends = never old new (Load authority offset size value) result refl ends
-escape_exact old new (Store authority offset size value) result range sound ends = never old new (Store authority offset size value) result refl ends
+escape_exact old new step result range sound ends =
+    let both = escapes_first (account_of old) step range sound in
+    (λ h. both.0 (answers old new step result ends h), λ beyond. answered old new step result ends (both.1 beyond))
 
 put_there : (state : State) (key : ℕ) (cap : Cap) → put state key cap key ≡ cap
 put_there state key cap = ap (λ (b : Bool). if b then cap else state key) (eq-eqb key key refl)

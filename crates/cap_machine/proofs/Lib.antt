@@ -1,3 +1,4 @@
+pub mod AccountLemmas
 mod StepLemmas
 pub mod AuthorityLemmas
 pub mod AccessLemmas
@@ -6,5 +7,5 @@ mod StateLemmas
 mod RootLemmas
 mod MadeLemmas
 mod SoundLemmas
-mod EscapeLemmas
+pub mod EscapeLemmas
 pub mod OriginLemmas

@@ -4,7 +4,7 @@ use Rattle.std.specs.Prelude.{ℕ, ◌+◌, ◌^◌, Bool, false, ◌==◌, ◌&
 use Rattle.cap_word.specs.declared.word.Word.{Word}
 use Rattle.cap_log.specs.declared.lines.Place.{Place}
 use Rattle.cap_log.specs.declared.lines.Step.{Step}
-use Rattle.cap_bounds.specs.Bounds.{base_of, length_of, top_of}
+use Rattle.cap_bounds.specs.Bounds.{is_sound}
 use Rattle.cap_ops.specs.declared.faults.OpFault.{OpFault}
 use Rattle.cap_machine.specs.declared.refusal.Refusal.{Refusal}
 use Rattle.cap_machine.specs.declared.refusal.Refusal.TheVariants.{PlaceTaken, UnsoundRoot, WrongResult, LimitPassed}
@@ -76,10 +76,6 @@ with_step account step =
     let row = row_in account step in
     let named = naming account (named_by row) in
     record named { state = state_with account.state row.writes; steps = account.steps + 1 }
-
--- whether a word is sound: its top is its base plus its length, and at most 2^64
-abbrev pub is_sound : ℕ → Bool
-is_sound w = base_of w + length_of w == top_of w && nat_le (top_of w) (2 ^ 64)
 
 -- the tests of a root, in order: its place has a tagged capability already, its word is not sound, a limit is passed
 abbrev pub root_tests : Account → Place → Word → List (Bool × Refusal)

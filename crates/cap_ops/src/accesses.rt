@@ -16,7 +16,7 @@ ghost use Rattle.cap_ops.specs.Tests.{first_of};
 
 use crate::bits::{
     GLOBAL, PERMIT_LOAD, PERMIT_LOAD_CAPABILITY, PERMIT_STORE, PERMIT_STORE_CAPABILITY,
-    PERMIT_STORE_LOCAL_CAPABILITY, address, permits,
+    PERMIT_STORE_LOCAL_CAPABILITY, permits,
 };
 use crate::faults::OpFault;
 use crate::kinds::Kind;
@@ -41,8 +41,7 @@ fn needed(kind: Kind) -> u32
 fn holds_bytes(word: Word, address: u64, size: u8) -> bool
     ensures { result ≡ covers word.0 address (address + size) }
 {
-    let interval = bounds(word);
-    interval.base <= address && u128::from(address) + u128::from(size) <= interval.top
+    bounds(word).contains(address, u128::from(address) + u128::from(size))
 }
 
 /// Whether an address is a multiple of the size of an access, which is a power of two.
@@ -75,7 +74,7 @@ fn stored_fault(authority: Word, kind: Kind) -> Option<OpFault>
 fn target_of(authority: Word, offset: i16) -> u64
     ensures { result ≡ access_address authority.0 offset }
 {
-    address(authority).wrapping_add_signed(i64::from(offset))
+    authority.address().wrapping_add_signed(i64::from(offset))
 }
 
 /// The first test that refuses an access at an address.

@@ -1,12 +1,12 @@
-//! Single fields and permissions of a word, by shifts and masks of its 128 bits.
+//! Single permissions of a word, and words with another field, by shifts and masks of the 128 bits.
 
 ghost use Rattle.std.specs.Prelude.{◌≡◌, ◌<◌, ◌^◌};
-ghost use Rattle.cap_word.specs.Fields.{address_of, otype_of, perms_of};
 ghost use Rattle.cap_ops.specs.Permissions.{has_permission, with_perms, with_type};
 
 use cap_word::Word;
 
-/// The numbers of the permissions that operations test, in the architectural view and in the field.
+// The numbers of the permissions that operations test, alike in the architectural view and in the field.
+
 pub(crate) const GLOBAL: u32 = 0;
 
 pub(crate) const PERMIT_LOAD: u32 = 2;
@@ -22,27 +22,6 @@ pub(crate) const PERMIT_STORE_LOCAL_CAPABILITY: u32 = 6;
 pub(crate) const PERMIT_SEAL: u32 = 7;
 
 pub(crate) const PERMIT_UNSEAL: u32 = 9;
-
-/// The address.
-pub(crate) fn address(word: Word) -> u64
-    ensures { result ≡ address_of word.0 }
-{
-    (word.0 & 0xffff_ffff_ffff_ffff) as u64
-}
-
-/// The object type.
-pub(crate) fn object_type(word: Word) -> u32
-    ensures { result ≡ otype_of word.0 }
-{
-    ((word.0 >> 91) & 0x3_ffff) as u32
-}
-
-/// The field of permissions.
-pub(crate) fn permissions(word: Word) -> u16
-    ensures { result ≡ perms_of word.0 }
-{
-    (word.0 >> 112) as u16
-}
 
 /// Whether a word has an architectural permission.
 pub(crate) fn permits(word: Word, permission: u32) -> bool

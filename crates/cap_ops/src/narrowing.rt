@@ -9,7 +9,6 @@ ghost use Rattle.cap_ops.specs.Operations.{covers, is_exact, set_bounds_result, 
 ghost use Rattle.cap_ops.specs.Permissions.{is_sealed};
 ghost use Rattle.cap_ops.specs.Tests.{first_of};
 
-use crate::bits::address;
 use crate::faults::OpFault;
 use crate::sealing::sealed;
 use cap_bounds::{Rounded, bounds, round, with_bounds};
@@ -20,8 +19,7 @@ use cap_word::{Cap, Word};
 fn covers_rounded(word: Word, rounded: &Rounded) -> bool
     ensures { result ≡ covers word.0 rounded.now.base rounded.now.top }
 {
-    let interval = bounds(word);
-    interval.base <= rounded.base && rounded.top <= interval.top
+    bounds(word).contains(rounded.base, rounded.top)
 }
 
 /// The rounding of the length from a word's address on.
@@ -31,7 +29,7 @@ fn rounding_of(word: Word, length: u64) -> Rounded
     ensures fields { HasRounding result.ie result.e result.b result.t (address_of word.0) length }
     ensures exact { result.exact ≡ is_exact (address_of word.0) length }
 {
-    round(address(word), length)
+    round(word.address(), length)
 }
 
 /// The rounding of the length from the source's address on, or the first test that refuses it.
@@ -75,7 +73,7 @@ pub fn set_bounds(source: Cap, length: u64, exact: bool) -> Result<Cap, OpFault>
         Err(fault) => Err(fault),
         Ok(rounded) => Ok(Cap {
             tag: source.tag,
-            word: with_bounds(source.word, &rounded, address(source.word)),
+            word: with_bounds(source.word, &rounded, source.word.address()),
         }),
     }
 }
@@ -87,7 +85,7 @@ pub(crate) fn narrowed(source: Cap, length: u64) -> Cap
     let rounded = rounding_of(source.word, length);
     Cap {
         tag: source.tag,
-        word: with_bounds(source.word, &rounded, address(source.word)),
+        word: with_bounds(source.word, &rounded, source.word.address()),
     }
 }
 

@@ -6,7 +6,7 @@ ghost use Rattle.cap_ops.specs.Operations.{and_perm_result, and_perm_tests, clea
 ghost use Rattle.cap_ops.specs.Permissions.{perm_view_of, perms_from_view};
 ghost use Rattle.cap_ops.specs.Tests.{first_of};
 
-use crate::bits::{permissions, replace_permissions};
+use crate::bits::replace_permissions;
 use crate::faults::OpFault;
 use crate::sealing::sealed;
 use cap_word::{Cap, Word};
@@ -16,7 +16,7 @@ use cap_word::{Cap, Word};
 pub fn perm_view(word: Word) -> u32
     ensures { result ≡ perm_view_of word.0 }
 {
-    let field = u32::from(permissions(word));
+    let field = u32::from(word.permissions());
     (field & 0xfff) + ((field >> 12) << 15)
 }
 
@@ -54,7 +54,7 @@ fn and_perm_fault(source: Cap) -> Option<OpFault>
 pub(crate) fn masked(source: Cap, mask: u64) -> Cap
     ensures { result ≡ and_perm_result source mask }
 {
-    let kept = permissions(source.word) & field_of(mask);
+    let kept = source.word.permissions() & field_of(mask);
     Cap {
         tag: source.tag,
         word: replace_permissions(source.word, kept),

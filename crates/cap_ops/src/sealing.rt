@@ -16,10 +16,7 @@ ghost use Rattle.cap_ops.specs.Operations.{
 ghost use Rattle.cap_ops.specs.Permissions.{global, has_permission, is_sealed};
 ghost use Rattle.cap_ops.specs.Tests.{first_of};
 
-use crate::bits::{
-    GLOBAL, PERMIT_SEAL, PERMIT_UNSEAL, address, object_type, permissions, permits,
-    replace_permissions, replace_type,
-};
+use crate::bits::{GLOBAL, PERMIT_SEAL, PERMIT_UNSEAL, permits, replace_permissions, replace_type};
 use crate::faults::OpFault;
 use cap_bounds::bounds;
 use cap_word::{Cap, Word};
@@ -35,7 +32,7 @@ const GREATEST_TYPE: u32 = 0x3_fffb;
 pub fn sealed(word: Word) -> bool
     ensures { result ≡ is_sealed word.0 }
 {
-    object_type(word) != UNSEALED_TYPE
+    word.object_type() != UNSEALED_TYPE
 }
 
 /// Whether an address lies in a word's bounds.
@@ -43,8 +40,7 @@ pub fn sealed(word: Word) -> bool
 fn holds(word: Word, address: u64) -> bool
     ensures { result ≡ holds_address word.0 address }
 {
-    let interval = bounds(word);
-    interval.base <= address && u128::from(address) < interval.top
+    bounds(word).holds(address)
 }
 
 /// The first test that refuses an authority for object types.
@@ -59,7 +55,7 @@ fn authority_fault(authority: Cap, permission: u32) -> Option<OpFault>
         Some(OpFault::AuthoritySealed)
     } else if !permits(word, permission) {
         Some(OpFault::AuthorityPermission)
-    } else if !holds(word, address(word)) {
+    } else if !holds(word, word.address()) {
         Some(OpFault::AuthorityBounds)
     } else {
         None
@@ -74,7 +70,7 @@ fn seal_fault(source: Cap, authority: Cap) -> Option<OpFault>
     if let Some(fault) = authority_fault(authority, PERMIT_SEAL) {
         return Some(fault);
     }
-    if address(authority.word) > u64::from(GREATEST_TYPE) {
+    if authority.word.address() > u64::from(GREATEST_TYPE) {
         Some(OpFault::TypeOutOfRange)
     } else if !source.tag {
         Some(OpFault::SourceUntagged)
@@ -90,7 +86,7 @@ fn seal_fault(source: Cap, authority: Cap) -> Option<OpFault>
 pub(crate) fn with_authority_type(source: Cap, authority: Cap) -> Cap
     ensures { result ≡ seal_result source authority }
 {
-    let object_type = (address(authority.word) & 0x3_ffff) as u32;
+    let object_type = (authority.word.address() & 0x3_ffff) as u32;
     Cap {
         tag: source.tag,
         word: replace_type(source.word, object_type),
@@ -120,7 +116,7 @@ pub fn seal(source: Cap, authority: Cap) -> Result<Cap, OpFault>
 fn sealed_with(word: Word, address: u64) -> bool
     ensures { result ≡ is_sealed_with word.0 address }
 {
-    let object_type = object_type(word);
+    let object_type = word.object_type();
     u64::from(object_type) == address && object_type <= GREATEST_TYPE
 }
 
@@ -134,7 +130,7 @@ fn unseal_fault(source: Cap, authority: Cap) -> Option<OpFault>
     }
     if !source.tag {
         Some(OpFault::SourceUntagged)
-    } else if !sealed_with(source.word, address(authority.word)) {
+    } else if !sealed_with(source.word, authority.word.address()) {
         Some(OpFault::TypeMismatch)
     } else {
         None
@@ -146,7 +142,7 @@ fn with_common_global(word: Word, other: Word) -> u16
     ensures { result ≡ perms_with_common_global word.0 other.0 }
 {
     let global = permits(word, GLOBAL) && permits(other, GLOBAL);
-    (permissions(word) & 0xfffe) + u16::from(global)
+    (word.permissions() & 0xfffe) + u16::from(global)
 }
 
 /// The source unsealed, and global only where the authority is.

@@ -1,5 +1,28 @@
 -- A word and its sixteen bytes in memory: each gives the other back.
-use Rattle.std.proofs.Common.{◌≡◌, ℕ, zero, suc, ◌+◌, ◌*◌, ◌/◌, ◌%◌, ◌^◌, ◌<◌, List, [], ◌∷◌, length, get_or, drop, sym, ap, ◌∙◌, refl, arith, lit<}
+use Rattle.std.proofs.Common.{
+  ◌≡◌,
+  ℕ,
+  zero,
+  suc,
+  ◌+◌,
+  ◌*◌,
+  ◌/◌,
+  ◌%◌,
+  ◌^◌,
+  ◌<◌,
+  List,
+  [],
+  ◌∷◌,
+  length,
+  get_or,
+  drop,
+  sym,
+  ap,
+  ◌∙◌,
+  refl,
+  arith,
+  lit<,
+}
 use Rattle.std.proofs.Math.Nat.{div-div-eq-div-mul, pow-suc, pow-zero, pow-succ', div-one}
 use Rattle.std.proofs.lemmas.Nat.{xor_lt, pow-add}
 use Rattle.std.proofs.lemmas.List.{at_drop_more, at_drop_all}
@@ -27,7 +50,8 @@ unfolding low_bytes
 low_first zero i n = refl
 low_first (suc k) i n =
     let next : n / 256 ^ i / 256 ≡ n / 256 ^ suc i = div-div-eq-div-mul n (256 ^ i) 256 ∙ ap (λ (x : ℕ). n / x) (sym (pow-suc 256 i)) in
-    ap (λ x. x ∷ bytes_low_first (suc i) k n) (byte_at_is i n) ∙ ap (λ x. n / 256 ^ i % 256 ∷ x) (low_first k (suc i) n ∙ ap (low_bytes k) (sym next))
+    ap (λ x. x ∷ bytes_low_first (suc i) k n) (byte_at_is i n)
+    ∙ ap (λ x. n / 256 ^ i % 256 ∷ x) (low_first k (suc i) n ∙ ap (low_bytes k) (sym next))
 
 pub to_le_bytes_is : (n : ℕ) → to_le_bytes w128 n ≡ low_bytes 16 n
 to_le_bytes_is n = low_first 16 0 n ∙ ap (low_bytes 16) (ap (λ (x : ℕ). n / x) (pow-zero 256) ∙ div-one n)
@@ -37,8 +61,10 @@ unfolding low_bytes
 get_or-low_bytes zero n i h = absurd (omega arith)
 get_or-low_bytes (suc k) n zero h = ap (λ (x : ℕ). x % 256) (sym (div-one n))
 get_or-low_bytes (suc k) n (suc i) h =
-    let e : 2 ^ (8 * suc i) ≡ 256 * 2 ^ (8 * i) = ap (λ (x : ℕ). 2 ^ x) (let f : 8 * suc i ≡ 8 + 8 * i = omega arith in f) ∙ pow-add 2 8 (8 * i) in
-    get_or-low_bytes k (n / 256) i (omega arith) ∙ ap (λ (x : ℕ). x % 256) (div-div-eq-div-mul n 256 (2 ^ (8 * i)) ∙ ap (λ (x : ℕ). n / x) (sym e))
+    let e : 2 ^ (8 * suc i) ≡ 256 * 2 ^ (8 * i) = ap (λ (x : ℕ). 2 ^ x) (let f : 8 * suc i ≡ 8 + 8 * i = omega arith in f)
+    ∙ pow-add 2 8 (8 * i) in
+    get_or-low_bytes k (n / 256) i (omega arith)
+    ∙ ap (λ (x : ℕ). x % 256) (div-div-eq-div-mul n 256 (2 ^ (8 * i)) ∙ ap (λ (x : ℕ). n / x) (sym e))
 
 pub number_of-low_bytes : (k n : ℕ) → n < 256 ^ k → number_of (low_bytes k n) ≡ n
 unfolding low_bytes number_of
@@ -55,9 +81,11 @@ low_bytes-number_of (x ∷ xs) h =
     let small : x < 256 = h 0 in
     let low : (x + 256 * number_of xs) % 256 ≡ x = omega arith in
     let high : (x + 256 * number_of xs) / 256 ≡ number_of xs = omega arith in
-    ap (λ y. y ∷ low_bytes (length xs) ((x + 256 * number_of xs) / 256)) low ∙ ap (λ y. x ∷ low_bytes (length xs) y) high ∙ ap (λ y. x ∷ y) (low_bytes-number_of xs (λ i. h (suc i)))
+    ap (λ y. y ∷ low_bytes (length xs) ((x + 256 * number_of xs) / 256)) low ∙ ap (λ y. x ∷ low_bytes (length xs) y) high
+    ∙ ap (λ y. x ∷ y) (low_bytes-number_of xs (λ i. h (suc i)))
 
-number_of_drop : (bytes : List ℕ) (i : ℕ) → i < length bytes → number_of (drop i bytes) ≡ get_or bytes i 0 + 256 * number_of (drop (i + 1) bytes)
+number_of_drop : (bytes : List ℕ) (i : ℕ) → i < length bytes
+    → number_of (drop i bytes) ≡ get_or bytes i 0 + 256 * number_of (drop (i + 1) bytes)
 unfolding number_of
 number_of_drop bytes i h = at_drop_more number_of bytes i 0 h
 
@@ -67,13 +95,71 @@ number_of_end bytes h = at_drop_all number_of bytes 16 (omega arith)
 
 pub from_le_bytes_is : (bytes : List ℕ) → length bytes ≡ 16 → from_le_bytes w128 bytes ≡ number_of bytes
 from_le_bytes_is bytes h =
-    let step : (i : ℕ) → i < 16 → number_of (drop i bytes) ≡ get_or bytes i 0 + 256 * number_of (drop (i + 1) bytes) = λ i p. number_of_drop bytes i (omega arith) in
-    omega (arith, step 0 (omega arith), step 1 (omega arith), step 2 (omega arith), step 3 (omega arith), step 4 (omega arith), step 5 (omega arith), step 6 (omega arith), step 7 (omega arith), step 8 (omega arith), step 9 (omega arith), step 10 (omega arith), step 11 (omega arith), step 12 (omega arith), step 13 (omega arith), step 14 (omega arith), step 15 (omega arith), number_of_end bytes h)
+    let step : (i : ℕ) → i < 16
+    → number_of (drop i bytes)
+    ≡ get_or bytes i 0 + 256 * number_of (drop (i + 1) bytes) = λ i p. number_of_drop bytes i (omega arith) in
+    omega (
+      arith,
+      step 0 (omega arith),
+      step 1 (omega arith),
+      step 2 (omega arith),
+      step 3 (omega arith),
+      step 4 (omega arith),
+      step 5 (omega arith),
+      step 6 (omega arith),
+      step 7 (omega arith),
+      step 8 (omega arith),
+      step 9 (omega arith),
+      step 10 (omega arith),
+      step 11 (omega arith),
+      step 12 (omega arith),
+      step 13 (omega arith),
+      step 14 (omega arith),
+      step 15 (omega arith),
+      number_of_end bytes h,
+    )
 
 pub number_of-lt : (bytes : List ℕ) → length bytes ≡ 16 → ((i : ℕ) → get_or bytes i 0 < 256) → number_of bytes < 2 ^ 128
 number_of-lt bytes h small =
-    let step : (i : ℕ) → i < 16 → number_of (drop i bytes) ≡ get_or bytes i 0 + 256 * number_of (drop (i + 1) bytes) = λ i p. number_of_drop bytes i (omega arith) in
-    omega (arith, step 0 (omega arith), step 1 (omega arith), step 2 (omega arith), step 3 (omega arith), step 4 (omega arith), step 5 (omega arith), step 6 (omega arith), step 7 (omega arith), step 8 (omega arith), step 9 (omega arith), step 10 (omega arith), step 11 (omega arith), step 12 (omega arith), step 13 (omega arith), step 14 (omega arith), step 15 (omega arith), number_of_end bytes h, small 0, small 1, small 2, small 3, small 4, small 5, small 6, small 7, small 8, small 9, small 10, small 11, small 12, small 13, small 14, small 15)
+    let step : (i : ℕ) → i < 16
+    → number_of (drop i bytes)
+    ≡ get_or bytes i 0 + 256 * number_of (drop (i + 1) bytes) = λ i p. number_of_drop bytes i (omega arith) in
+    omega (
+      arith,
+      step 0 (omega arith),
+      step 1 (omega arith),
+      step 2 (omega arith),
+      step 3 (omega arith),
+      step 4 (omega arith),
+      step 5 (omega arith),
+      step 6 (omega arith),
+      step 7 (omega arith),
+      step 8 (omega arith),
+      step 9 (omega arith),
+      step 10 (omega arith),
+      step 11 (omega arith),
+      step 12 (omega arith),
+      step 13 (omega arith),
+      step 14 (omega arith),
+      step 15 (omega arith),
+      number_of_end bytes h,
+      small 0,
+      small 1,
+      small 2,
+      small 3,
+      small 4,
+      small 5,
+      small 6,
+      small 7,
+      small 8,
+      small 9,
+      small 10,
+      small 11,
+      small 12,
+      small 13,
+      small 14,
+      small 15,
+    )
 
 -- a word's bytes hold the word
 pub stored_word-memory_of : (w : ℕ) → w < 2 ^ 128 → stored_word (memory_of w) ≡ w
@@ -83,9 +169,11 @@ stored_word-memory_of w h =
     ap (λ (x : ℕ). bit_xor x null_word) (number_of-low_bytes 16 (bit_xor w null_word) (omega arith)) ∙ xor_twice w null_word
 
 -- sixteen bytes are those of the word that they hold
-pub memory_of-stored_word : (bytes : List ℕ) → length bytes ≡ 16 → ((i : ℕ) → get_or bytes i 0 < 256) → memory_of (stored_word bytes) ≡ bytes
+pub memory_of-stored_word : (bytes : List ℕ) → length bytes ≡ 16 → ((i : ℕ) → get_or bytes i 0 < 256)
+    → memory_of (stored_word bytes) ≡ bytes
 memory_of-stored_word bytes h small =
-    ap (low_bytes 16) (xor_twice (number_of bytes) null_word) ∙ ap (λ (k : ℕ). low_bytes k (number_of bytes)) (sym h) ∙ low_bytes-number_of bytes small
+    ap (low_bytes 16) (xor_twice (number_of bytes) null_word) ∙ ap (λ (k : ℕ). low_bytes k (number_of bytes)) (sym h)
+    ∙ low_bytes-number_of bytes small
 
 -- sixteen bytes hold a word of 128 bits
 pub stored_word-lt : (bytes : List ℕ) → length bytes ≡ 16 → ((i : ℕ) → get_or bytes i 0 < 256) → stored_word bytes < 2 ^ 128

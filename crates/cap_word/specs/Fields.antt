@@ -15,7 +15,7 @@ perms_of w = w / 2 ^ 112 % 2 ^ 16
 abbrev pub reserved_of : ℕ → ℕ
 reserved_of w = w / 2 ^ 110 % 2 ^ 2
 
--- bit 109: the flag
+-- bit 109: the capability-mode flag
 abbrev pub flag_of : ℕ → Bool
 flag_of w = w / 2 ^ 109 % 2 == 1
 
@@ -55,4 +55,5 @@ t_of w = if ie_of w then t_field w / 8 * 8 else t_field w
 -- bits, address
 abbrev pub joined_word : ℕ → ℕ → Bool → ℕ → Bool → ℕ → ℕ → ℕ → ℕ → ℕ
 joined_word perms reserved flag otype ie e b t address =
-    perms * 2 ^ 112 + reserved * 2 ^ 110 + bit_of flag * 2 ^ 109 + otype * 2 ^ 91 + bit_of ie * 2 ^ 90 + (t + e / 8) * 2 ^ 78 + (b + e % 8) * 2 ^ 64 + address
+    perms * 2 ^ 112 + reserved * 2 ^ 110 + bit_of flag * 2 ^ 109 + otype * 2 ^ 91 + bit_of ie * 2 ^ 90 + (t + e / 8) * 2 ^ 78 +
+    (b + e % 8) * 2 ^ 64 + address

@@ -2,3 +2,4 @@ pub mod Fields
 pub mod Memory
 pub mod Word
 pub mod Digits
+pub mod Lanes

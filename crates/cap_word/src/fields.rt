@@ -12,7 +12,7 @@ pub struct Fields {
     pub perms: u16,
     /// The two reserved bits, kept as they are.
     pub reserved: u8,
-    /// The flag.
+    /// The capability-mode flag.
     pub flag: bool,
     /// The object type, 18 bits; `0x3ffff` is unsealed.
     pub otype: u32,

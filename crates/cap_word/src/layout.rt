@@ -17,7 +17,34 @@ ghost use Rattle.cap_word.specs.Fields.{
 use crate::fields::Fields;
 use crate::word::Word;
 
+impl Word {
+    /// The permissions: bits 0 to 11 architectural, 12 to 15 for users.
+    #[inline(always)]
+    pub fn permissions(self) -> u16
+        ensures { result ≡ perms_of self.0 }
+    {
+        (self.0 >> 112) as u16
+    }
+
+    /// The object type, 18 bits; `0x3ffff` is unsealed.
+    #[inline(always)]
+    pub fn object_type(self) -> u32
+        ensures { result ≡ otype_of self.0 }
+    {
+        ((self.0 >> 91) & 0x3_ffff) as u32
+    }
+
+    /// The address.
+    #[inline(always)]
+    pub fn address(self) -> u64
+        ensures { result ≡ address_of self.0 }
+    {
+        (self.0 & 0xffff_ffff_ffff_ffff) as u64
+    }
+}
+
 /// Takes a word apart. Every pattern of 128 bits has fields, and they join to the same pattern.
+#[inline(always)]
 pub fn split(word: Word) -> Fields
     ensures perms { result.perms ≡ perms_of word.0 }
     ensures reserved { result.reserved ≡ reserved_of word.0 }
@@ -44,15 +71,15 @@ pub fn split(word: Word) -> Fields
         (0, b_field, t_field)
     };
     Fields {
-        perms: (w >> 112) as u16,
+        perms: word.permissions(),
         reserved: ((w >> 110) & 3) as u8,
         flag: (w >> 109) & 1 == 1,
-        otype: ((w >> 91) & 0x3_ffff) as u32,
+        otype: word.object_type(),
         ie,
         e,
         b,
         t,
-        address: (w & 0xffff_ffff_ffff_ffff) as u64,
+        address: word.address(),
     }
 }
 
@@ -113,5 +140,13 @@ mod tests {
         assert_eq!(rt; fields.t, 0xff8);
         assert_eq!(rt; fields.address, 0x1000);
         assert_eq!(rt; join(&fields), word);
+    }
+
+    #[test]
+    fn single_fields_are_read(rt: HostRuntime) {
+        let word = Word(0xfffefdffffffd1230000000000001000);
+        assert_eq!(rt; word.permissions(), 0xfffe);
+        assert_eq!(rt; word.object_type(), 0x3bfff);
+        assert_eq!(rt; word.address(), 0x1000);
     }
 }

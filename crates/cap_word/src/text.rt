@@ -1,30 +1,39 @@
 //! Words and 64-bit numbers as text: a fixed number of lower-case hexadecimal digits.
 
-ghost use Rattle.std.specs.Prelude.{◌≡◌, ℕ, ◌<◌, ◌^◌, IfSome, IfNone};
-ghost use Rattle.cap_word.specs.Digits.{hex_digits};
+ghost use Rattle.std.specs.Prelude.{◌≡◌, ◌↔◌, ℕ, ◌<◌, ◌^◌, List, ◌++◌, Some, IsSome, IsSomeAnd, IfSome, IfNone};
+ghost use Rattle.cap_word.specs.Digits.{AreHexDigits, hex_digits};
 
+use crate::digits::read_sixteen;
 use crate::word::Word;
 
 #[cfg(test)]
 mod tests;
 
+/// Takes a word from the front of some bytes: its text, the 32 lower-case hexadecimal digits of its register
+/// layout, and what stands behind them. It is `None` where no such digits stand there.
+#[inline(always)]
+pub fn take_word(bytes: &[u8]) -> Option<(Word, &[u8])>
+    ensures some { IfSome result (λ p. bytes.now ≡ hex_digits 32 p.0.0 ++ p.1.now) }
+    ensures none { IfNone result ((n : ℕ) (rest : List ℕ) → n < 2 ^ 128 → bytes.now ≡ hex_digits 32 n ++ rest → ⊥) }
+{
+    let (high, rest) = take_u64(bytes)?;
+    let (low, rest) = take_u64(rest)?;
+    Some((Word((u128::from(high) << 64) + u128::from(low)), rest))
+}
+
 /// Reads a word from its text, the 32 lower-case hexadecimal digits of its register layout, most
 /// significant first. Anything else, an upper-case digit among them, is `None`.
+#[inline(always)]
 pub fn read_word(text: &[u8]) -> Option<Word>
     ensures some { IfSome result (λ word. text.now ≡ hex_digits 32 word.0) }
     ensures none { IfNone result ((n : ℕ) → n < 2 ^ 128 → text.now ≡ hex_digits 32 n → ⊥) }
+
+    // That is: 32 bytes, each of them `0` to `9` or `a` to `f`. The text of a word is read as this word.
+    ensures digits { IsSome result ↔ AreHexDigits 32 text.now }
+    ensures reads_back { (n : ℕ) → n < 2 ^ 128 → text.now ≡ hex_digits 32 n → IsSomeAnd result (λ word. word.0 ≡ n) }
 {
-    let mut bytes = [0u8; 16];
-    if hex::decode_to_slice(text, &mut bytes).is_err() {
-        return None;
-    }
-    let word = Word(u128::from_be_bytes(bytes));
-    let digits = word_text(word);
-    if digits.as_slice() == text {
-        Some(word)
-    } else {
-        None
-    }
+    let (word, rest) = take_word(text)?;
+    if rest.is_empty() { Some(word) } else { None }
 }
 
 /// The text of a word: the 32 lower-case hexadecimal digits of its register layout.
@@ -36,30 +45,29 @@ pub fn word_text(word: Word) -> [u8; 32]
     text
 }
 
+/// Takes a number of 64 bits from the front of some bytes: its sixteen lower-case hexadecimal digits, most
+/// significant first, and what stands behind them. It is `None` where no such digits stand there.
+#[inline(always)]
+pub fn take_u64(bytes: &[u8]) -> Option<(u64, &[u8])>
+    ensures some { IfSome result (λ p. bytes.now ≡ hex_digits 16 p.0 ++ p.1.now) }
+    ensures none { IfNone result ((n : ℕ) (rest : List ℕ) → n < 2 ^ 64 → bytes.now ≡ hex_digits 16 n ++ rest → ⊥) }
+{
+    let (digits, rest) = bytes.split_first_chunk::<16>()?;
+    let number = read_sixteen(digits)?;
+    Some((number, rest))
+}
+
 /// Reads a number of 64 bits from sixteen lower-case hexadecimal digits, most significant first.
 /// Anything else is `None`.
+#[inline(always)]
 pub fn read_u64(text: &[u8]) -> Option<u64>
     ensures some { IfSome result (λ n. text.now ≡ hex_digits 16 n) }
     ensures none { IfNone result ((n : ℕ) → n < 2 ^ 64 → text.now ≡ hex_digits 16 n → ⊥) }
-{
-    let mut bytes = [0u8; 8];
-    if hex::decode_to_slice(text, &mut bytes).is_err() {
-        return None;
-    }
-    let number = u64::from_be_bytes(bytes);
-    let digits = number_text(number);
-    if digits.as_slice() == text {
-        Some(number)
-    } else {
-        None
-    }
-}
 
-// The sixteen digits of a number.
-fn number_text(number: u64) -> [u8; 16]
-    ensures { result ≡ hex_digits 16 number }
+    // That is: sixteen bytes, each of them `0` to `9` or `a` to `f`. The digits of a number are read as it.
+    ensures digits { IsSome result ↔ AreHexDigits 16 text.now }
+    ensures reads_back { (n : ℕ) → n < 2 ^ 64 → text.now ≡ hex_digits 16 n → result ≡ Some n }
 {
-    let mut text = [0u8; 16];
-    let _written = hex::encode_to_slice(number.to_be_bytes(), &mut text);
-    text
+    let (number, rest) = take_u64(text)?;
+    if rest.is_empty() { Some(number) } else { None }
 }

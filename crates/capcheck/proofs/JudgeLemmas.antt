@@ -1,5 +1,5 @@
 -- Where the judge is, and what it may answer there.
-use Rattle.std.proofs.Common.{◌≡◌, ◌≢◌, ℕ, zero, suc, ◌+◌, inl, inr, Bool, true, false, List, [], ◌∷◌, ◌++◌, length, map, refl, sym, ap, subst, ◌∙◌, append-nil, append_assoc, arith, Result, Ok, Err, IsOk, IfOk, IfErr, MatchResult}
+use Rattle.std.proofs.Common.{◌≡◌, ◌≢◌, ℕ, zero, suc, ◌+◌, ◌<◌, ◌^◌, inl, inr, Bool, true, false, List, [], ◌∷◌, ◌++◌, length, map, refl, sym, ap, subst, ◌∙◌, append-nil, append_assoc, arith, Result, Ok, Err, IsOk, IfOk, IfErr, MatchResult}
 use Rattle.std.specs.List.{AllByRecursion}
 use Rattle.std.proofs.lemmas.Grind.{flat_map-append}
 use Rattle.std.proofs.lemmas.Bool.{false≢true}
@@ -27,11 +27,11 @@ use Rattle.capcheck.specs.declared.verdict.Verdict.{Verdict}
 use Rattle.capcheck.specs.declared.verdict.Verdict.TheVariants.{Yes, No}
 use Rattle.capcheck.specs.declared.verdict.JudgeFault.{JudgeFault}
 use Rattle.capcheck.specs.declared.verdict.JudgeFault.TheVariants as faults
-use Rattle.capcheck.specs.Logs.{Beginning, Nothing, NoMode, Body, Whole, header_lines, lines_of, text_of, account_after, IsAccepted, RefusesFront, Refuses, IsFirstFault, WantsMemory, MayLackMemory, NamesNoGranules, named_by_line}
+use Rattle.capcheck.specs.Logs.{Beginning, Nothing, NoMode, Body, Whole, header_lines, body_lines, lines_of, text_of, account_after, IsAccepted, RefusesFront, Refuses, IsFirstFault, WantsMemory, MayLackMemory, NamesNoGranules, named_by_line}
 use Rattle.capcheck.specs.Verdicts.{answer_at, IsVerdict, IsYes, IsGuarded, GuardsAuthority, IsFault}
 use Rattle.capcheck.specs.Judgings.{IsBehind}
 use Rattle.capcheck.specs.Progresses.{StandsFor, GoesOn, EndsNext, IsAt}
-use Rattle.capcheck.proofs.LogLemmas.{length-push}
+use Rattle.capcheck.proofs.LogLemmas.{AllByRecursion-append, length-push}
 
 -- one line more
 pub text_push : (lines : List Line) (line : Line) (rest : List ℕ)
@@ -126,9 +126,20 @@ wants_none (Body rules_are roots steps) text wants none =
     not_new account (named_by_line account wants.line) (none wants.line account wants.spelled.0) wants.first
 wants_none (Whole rules_are roots steps) text wants none = wants
 
+-- the lines of an accepted beginning are in range
+in_range : (beginning : Beginning) → IsAccepted beginning → AllByRecursion IsInRange (lines_of beginning)
+in_range Nothing accepted = tt
+in_range NoMode accepted = (inr refl, tt)
+in_range (Body rules_are roots steps) accepted = accepted.grammar
+in_range (Whole rules_are roots steps) accepted =
+    let few = accepted.few_steps in
+    let end : length steps < 2 ^ 32 = omega arith in
+    AllByRecursion-append IsInRange (body_lines rules_are roots steps) (lines.End (length steps) ∷ []) accepted.grammar (end, tt)
+
 pub no_lack : (bytes : List ℕ) → NamesNoGranules bytes → MayLackMemory bytes → ⊥
 no_lack bytes none lack =
-    wants_none lack.beginning lack.line lack.wants (λ line account spelled. none (lines_of lack.beginning) lack.line lack.more line account lack.bytes_are spelled)
+    wants_none lack.beginning lack.line lack.wants
+    (λ line account spelled. none (lines_of lack.beginning) lack.line lack.more line account (in_range lack.beginning lack.accepted) lack.bytes_are spelled)
 
 -- a log without lines that name granules has a verdict
 pub answered : (bytes : List ℕ) (result : Result Verdict JudgeFault) → IfErr result (IsFault bytes) → NamesNoGranules bytes → IsOk result
@@ -174,20 +185,20 @@ misplaced bytes rest held now line here ended more = record {
 }
 
 -- the steps of lines in range are in range
-steps_in_range : (roots : List DeclaredRoot) (made : List Step)
+pub steps_in_range : (roots : List DeclaredRoot) (made : List Step)
     → AllByRecursion IsInRange (map (λ (root : DeclaredRoot). lines.Root root.place root.word) roots ++ map lines.Step made) → AllByRecursion IsStepInRange made
 steps_in_range [] [] h = tt
 steps_in_range [] (step ∷ made) h = (h.0, steps_in_range [] made h.1)
 steps_in_range (root ∷ roots) made h = steps_in_range roots made h.1
 
 -- sound roots, one by one
-are_sound : (roots : List DeclaredRoot) → AllByRecursion (λ (root : DeclaredRoot). IsSound root.word.0) roots → AreSound roots
+pub are_sound : (roots : List DeclaredRoot) → AllByRecursion (λ (root : DeclaredRoot). IsSound root.word.0) roots → AreSound roots
 are_sound [] all root there = absurd (omega (arith, there.1))
 are_sound (first ∷ roots) all root (zero, below, is) = subst (λ (r : DeclaredRoot). IsSound r.word.0) is all.0
 are_sound (first ∷ roots) all root (suc place, below, is) = are_sound roots all.1 root (place, omega arith, is)
 
 -- what holds of each line of a log holds of those behind its header
-behind_header : (rules_are : Rules) (lines : List Line) → AllByRecursion IsInRange (header_lines rules_are ++ lines) → AllByRecursion IsInRange lines
+pub behind_header : (rules_are : Rules) (lines : List Line) → AllByRecursion IsInRange (header_lines rules_are ++ lines) → AllByRecursion IsInRange lines
 behind_header One lines all = all.1
 behind_header TwoStrict lines all = all.1.1
 behind_header TwoClear lines all = all.1.1

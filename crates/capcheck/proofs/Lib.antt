@@ -3,11 +3,14 @@ mod LogLemmas
 mod ProgressLemmas
 mod JudgeLemmas
 mod VersionLemmas
+mod EscapeLaws
 mod SourceLemmas
 mod HeaderLemmas
 mod LineLemmas
 mod MemoryTexts
-mod SoundTests
 mod OperandLemmas
 mod DoingLemmas
 mod ShownLemmas
+mod BeginningLemmas
+mod OneReading
+mod OneVerdict

@@ -5,7 +5,7 @@ use Rattle.std.specs.Bool.{if◌then◌else◌}
 use Rattle.std.specs.List.{AllByRecursion, IsDistinct}
 use Rattle.std.proofs.lemmas.Bool.{false≢true, eqb-true, lt-ltb, leb-true, leb-false, and_parts}
 use Rattle.std.proofs.lemmas.Option.{none-some}
-use Rattle.cap_bounds.specs.Bounds.{IsSound}
+use Rattle.cap_bounds.specs.Bounds.{IsSound, is_sound}
 use Rattle.cap_word.specs.declared.word.Word.{Word}
 use Rattle.cap_log.specs.declared.lines.Place.{Place}
 use Rattle.cap_log.specs.declared.lines.Line.{Line}
@@ -21,7 +21,7 @@ use Rattle.cap_machine.specs.declared.rules.Rules.{Rules}
 use Rattle.cap_machine.specs.declared.rules.Rules.TheVariants.{One, TwoStrict, TwoClear}
 use Rattle.cap_machine.specs.States.{State, DeclaredRoot, key_of, put, tagged, start}
 use Rattle.cap_machine.specs.Steps.{Leads, Row, is_recorded}
-use Rattle.cap_machine.specs.Accounts.{Account, no_account, most_roots, most_granules, most_steps, granule_of, named_by, row_in, is_new, passes_granules, naming, with_root, with_step, is_sound, root_tests, row_tests, as_line_test}
+use Rattle.cap_machine.specs.Accounts.{Account, no_account, most_roots, most_granules, most_steps, granule_of, named_by, row_in, is_new, passes_granules, naming, with_root, with_step, root_tests, row_tests, as_line_test}
 use Rattle.cap_machine.specs.Runs.{IsRun, last_of}
 use Rattle.cap_machine.specs.Helds.{Held, Makes, EndsStep, Takes as Declares, EndsRoot, state_of, account_of}
 use Rattle.capcheck.specs.Logs.{Beginning, Nothing, NoMode, Body, Whole, body_lines, after_roots, after_steps, account_after, RunsBy, SpellsBy, NamesFirst, RefusesWhole, WantsMemory, line_tests}

@@ -26,9 +26,10 @@ use Rattle.capcheck.specs.declared.verdict.Verdict.TheVariants.{Yes, No}
 use Rattle.capcheck.specs.declared.verdict.JudgeFault.{JudgeFault}
 use Rattle.capcheck.specs.declared.verdict.JudgeFault.TheVariants.{Pull, NoMemory}
 use Rattle.capcheck.specs.Logs.{Beginning, Nothing, NoMode, Body, Whole, header_lines, body_lines, lines_of, text_of, IsAccepted, RefusesFront, RefusesWhole, IsFirstFault, MayLackMemory}
-use Rattle.capcheck.specs.Verdicts.{answer_at, IsVerdict, IsFault}
+use Rattle.capcheck.specs.Verdicts.{answer_at, EscapesExactly, IsVerdict, IsFault}
 use Rattle.capcheck.specs.Progresses.{StandsFor, EndsNext, IsAt}
 use Rattle.capcheck.specs.Judgings.{IsVerdictOf, IsBehind, BeginsLog, IsFaultOf, IsAnswerOf, Judged, refusal_in, finished}
+use Rattle.capcheck.proofs.EscapeLaws.{escapes_exactly}
 use Rattle.capcheck.proofs.JudgeLemmas.{IsUnended, behind, unended_here, refused_behind, wants_memory, misplaced, yes, guarded, guards, no_lack}
 
 -- more bytes behind all
@@ -114,7 +115,7 @@ pub judged_ok : {S : Type 0} (gave : S → S → List ℕ → Type 0) (ended : S
 judged_ok gave ended old new given verdict gives is = record {
   given = given;
   gives = gives;
-  answer = record { verdict = is; authority = guards given (guarded one_root lie_inside given) verdict; fault = tt; answers = λ none e. cc };
+  answer = record { verdict = is; authority = guards given (guarded one_root lie_inside given) verdict; escape = λ more. escapes_exactly (given ++ more) verdict; fault = tt; answers = λ none e. cc };
 }
 
 judged_pull : {S : Type 0} (gave : S → S → List ℕ → Type 0) (ended : S → Bool) (old new : S) (given : List ℕ) → gave old new given
@@ -122,7 +123,7 @@ judged_pull : {S : Type 0} (gave : S → S → List ℕ → Type 0) (ended : S �
 judged_pull gave ended old new given gives is = record {
   given = given;
   gives = gives;
-  answer = record { verdict = tt; authority = tt; fault = is; answers = λ none e. cc };
+  answer = record { verdict = tt; authority = tt; escape = tt; fault = is; answers = λ none e. cc };
 }
 
 judged_memory : {S : Type 0} (gave : S → S → List ℕ → Type 0) (ended : S → Bool) (old new : S) (given : List ℕ) → gave old new given
@@ -130,7 +131,7 @@ judged_memory : {S : Type 0} (gave : S → S → List ℕ → Type 0) (ended : S
 judged_memory gave ended old new given gives lack = record {
   given = given;
   gives = gives;
-  answer = record { verdict = tt; authority = tt; fault = lack; answers = λ none e. no_lack given none lack };
+  answer = record { verdict = tt; authority = tt; escape = tt; fault = lack; answers = λ none e. no_lack given none lack };
 }
 
 module _ {S : Type 0} {gave : S → S → List ℕ → Type 0} {ended : S → Bool} {old new : S} {lines : Lines} (beginning : Beginning) (line : ℕ) where
@@ -269,3 +270,7 @@ pub of_all : (bytes given rest : List ℕ) (ended : Bool) (result : Result Verdi
     → result ≢ Err Pull → IfOk result (IsVerdict bytes) × IfErr result (IsFault bytes)
 of_all bytes given rest ended result are end answer no_pull =
     subst (λ (b : List ℕ). IfOk result (IsVerdict b) × IfErr result (IsFault b)) (sym are) (whole_answer given rest ended result end answer no_pull)
+
+pub escape_of : (bytes : List ℕ) (result : Result Verdict JudgeFault) → IfOk result (EscapesExactly bytes)
+escape_of bytes (Ok verdict) = escapes_exactly bytes verdict
+escape_of bytes (Err fault) = tt

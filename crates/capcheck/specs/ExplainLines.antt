@@ -3,7 +3,7 @@ use Rattle.std.specs.Prelude.{ℕ, ◌+◌, ◌^◌, Bool, ◌&&◌, ◌==◌, n
 use Rattle.cap_word.specs.Digits.{hex_digits}
 use Rattle.cap_word.specs.Fields.{bit_of, reserved_of, flag_of, otype_of, ie_of, e_of, b_of, t_of, address_of}
 use Rattle.cap_word.specs.Memory.{memory_of}
-use Rattle.cap_bounds.specs.Bounds.{mantissa_of, base_of, top_of, length_of}
+use Rattle.cap_bounds.specs.Bounds.{mantissa_of, base_of, top_of, is_sound}
 use Rattle.cap_ops.specs.Permissions.{perm_view_of, unsealed_type, greatest_type}
 use Rattle.capcheck.specs.TextLines.{text_line, yes_or_no, bytes_text}
 
@@ -13,11 +13,6 @@ type_name otype =
     if otype == unsealed_type then codes "unsealed"
     else if nat_lt greatest_type otype then codes "reserved"
     else codes "sealed"
-
--- whether a word is sound, as a test: its top is its base plus its length, and lies in the address space
--- (this profile's own)
-abbrev pub is_sound : ℕ → Bool
-is_sound w = (base_of w + length_of w == top_of w) && nat_le (top_of w) (2 ^ 64)
 
 -- the lines of the whole capability: the word, its bytes in memory in order of address, and the tag
 unfoldable pub word_lines : ℕ → Bool → List ℕ

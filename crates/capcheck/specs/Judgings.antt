@@ -9,7 +9,7 @@ use Rattle.capcheck.specs.declared.verdict.Verdict.TheVariants.{Yes, No}
 use Rattle.capcheck.specs.declared.verdict.JudgeFault.{JudgeFault}
 use Rattle.capcheck.specs.declared.verdict.JudgeFault.TheVariants.{Pull, NoMemory}
 use Rattle.capcheck.specs.Logs.{Beginning, lines_of, text_of, IsAccepted, IsFirstFault, MayLackMemory, NamesNoGranules}
-use Rattle.capcheck.specs.Verdicts.{IsVerdict, GuardsAuthority}
+use Rattle.capcheck.specs.Verdicts.{IsVerdict, EscapesExactly, GuardsAuthority}
 
 -- the verdict on these bytes, where their source has ended; where it has not, a no that stands whatever bytes follow
 abbrev pub IsVerdictOf : List ℕ → Bool → Verdict → Type 0
@@ -39,6 +39,7 @@ IsFaultOf bytes NoMemory = MayLackMemory bytes
 pub record IsAnswerOf (bytes : List ℕ) (ended : Bool) (result : Result Verdict JudgeFault) : Type 0 where
   pub verdict : IfOk result (IsVerdictOf bytes ended)
   pub authority : IfOk result (GuardsAuthority bytes)
+  pub escape : IfOk result (λ verdict. (more : List ℕ) → EscapesExactly (bytes ++ more) verdict)
   pub fault : IfErr result (IsFaultOf bytes)
   pub answers : NamesNoGranules bytes → result ≢ Err NoMemory
 

@@ -160,8 +160,8 @@ pub record MayLackMemory (bytes : List ℕ) : Type 0 where
   pub accepted : IsAccepted beginning
   pub wants : WantsMemory beginning line
 
--- no line of the bytes, after whole lines that have forms, names a granule, whatever the account is
+-- no line of the bytes, after whole lines in range, names a granule, whatever the account is
 abbrev pub NamesNoGranules : List ℕ → Type 0
 NamesNoGranules bytes =
-    (lines : List Line) (text more : List ℕ) (line : Line) (account : Account) → bytes ≡ text_of lines ++ text ++ 10 ∷ more → Spells text line
-    → named_by_line account line ≡ None
+    (lines : List Line) (text more : List ℕ) (line : Line) (account : Account) → AllByRecursion IsInRange lines
+    → bytes ≡ text_of lines ++ text ++ 10 ∷ more → Spells text line → named_by_line account line ≡ None

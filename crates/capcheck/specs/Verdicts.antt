@@ -1,9 +1,13 @@
 -- The verdict on some bytes.
-use Rattle.std.specs.Prelude.{◌≡◌, ◌≢◌, ℕ, List, ◌++◌, length, codes, Result, Ok, Err}
+use Rattle.std.specs.Prelude.{◌≡◌, ◌≢◌, ◌↔◌, ℕ, List, ◌++◌, length, codes, Result, Ok, Err}
 use Rattle.cap_machine.specs.declared.ends.StepEnd.{StepEnd}
 use Rattle.cap_machine.specs.declared.ends.StepEnd.TheVariants.{Refused}
 use Rattle.cap_machine.specs.declared.ends.StepEnd.TheVariants as ends
+use Rattle.cap_log.specs.declared.lines.Line.TheVariants.{Step as Stepping}
 use Rattle.cap_log.specs.declared.lines.Step.{Step}
+use Rattle.cap_log.specs.Front.{IsLine}
+use Rattle.cap_machine.specs.declared.refusal.Refusal.TheVariants.{BoundsEscape}
+use Rattle.cap_machine.specs.Escapes.{Escapes}
 use Rattle.cap_machine.specs.declared.rules.Rules.{Rules}
 use Rattle.cap_machine.specs.declared.rules.Rules.TheVariants.{One}
 use Rattle.cap_machine.specs.States.{State, DeclaredRoot, start}
@@ -12,7 +16,7 @@ use Rattle.capcheck.specs.declared.verdict.Verdict.{Verdict}
 use Rattle.capcheck.specs.declared.verdict.Verdict.TheVariants.{Yes, No}
 use Rattle.capcheck.specs.declared.verdict.JudgeFault.{JudgeFault}
 use Rattle.capcheck.specs.declared.verdict.JudgeFault.TheVariants.{Pull, NoMemory}
-use Rattle.capcheck.specs.Logs.{Beginning, Nothing, NoMode, Body, Whole, IsLogOf, IsFirstFault, MayLackMemory}
+use Rattle.capcheck.specs.Logs.{Beginning, Nothing, NoMode, Body, Whole, SpellsBy, account_after, IsLogOf, IsFirstFault, MayLackMemory}
 
 -- the bytes are a log of so many steps and roots, whose steps have a run
 pub record IsYes (bytes : List ℕ) (step_count root_count : ℕ) : Type 0 where
@@ -65,3 +69,17 @@ BeginsOne (Whole rules roots steps) = rules ≡ One
 abbrev pub IsByVersionOne : (bytes : List ℕ) (verdict : Verdict) → IsVerdict bytes verdict → Type 0
 IsByVersionOne bytes (Yes steps roots) log = log.rules ≡ One
 IsByVersionOne bytes (No line refusal) fault = BeginsOne fault.beginning
+
+-- the line at fault is a step that asks for bounds beyond those of its tagged, unsealed source, in what the log has led to
+abbrev pub FaultEscapes : Beginning → List ℕ → Type 0
+FaultEscapes Nothing rest = ⊥
+FaultEscapes NoMode rest = ⊥
+FaultEscapes (Body rules roots steps) rest =
+    let account = account_after rules roots steps in
+    (text : List ℕ) × (more : List ℕ) × (step : Step) × IsLine rest text more × SpellsBy account.rules text (Stepping step) × Escapes account.rules account.state step
+FaultEscapes (Whole rules roots steps) rest = ⊥
+
+-- a no names BoundsEscape exactly for such a line: the test of CSetBounds (UCAM-CL-TR-987)
+abbrev pub EscapesExactly : List ℕ → Verdict → Type 0
+EscapesExactly bytes (Yes steps roots) = Unit {0}
+EscapesExactly bytes (No line refusal) = (fault : IsFirstFault bytes line refusal) → (refusal ≡ BoundsEscape) ↔ FaultEscapes fault.beginning fault.rest

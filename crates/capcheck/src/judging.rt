@@ -5,7 +5,7 @@ ghost use Rattle.std.specs.FinMap as map;
 ghost use Rattle.cap_machine.specs.Helds.{held_of};
 ghost use Rattle.cap_log.specs.Streams.{next_count};
 ghost use Rattle.capcheck.specs.Logs.{NamesNoGranules};
-ghost use Rattle.capcheck.specs.Verdicts.{GuardsAuthority, IsFault, IsVerdict, answer_at};
+ghost use Rattle.capcheck.specs.Verdicts.{EscapesExactly, GuardsAuthority, IsFault, IsVerdict, answer_at};
 ghost use Rattle.capcheck.specs.Judgings.{Judged, finished, refusal_in};
 ghost use Rattle.capcheck.specs.declared.verdict.JudgeFault.TheVariants.{Pull};
 
@@ -26,6 +26,10 @@ pub fn judge_bytes(alloc: Global, bytes: &[u8]) -> Result<Verdict, JudgeFault>
     // After a yes, at every moment each tagged capability in a register or memory has bounds inside and
     // permissions among those of the one root that it descends from, and each access lies inside them.
     ensures authority { IfOk result (GuardsAuthority bytes.now) }
+
+    // A no names `BoundsEscape` exactly where its line is a step that asks, by strict rules, for bounds beyond
+    // those of its tagged, unsealed source, before any rounding.
+    ensures escape { IfOk result (EscapesExactly bytes.now) }
 
     // There is no verdict only where a line that no test refuses names a granule for the first time.
     ensures fault { IfErr result (IsFault bytes.now) }

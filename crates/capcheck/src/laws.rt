@@ -1,6 +1,6 @@
-//! A law about logs. Its function does nothing: what it says is its contract.
+//! Laws about logs. Their functions do nothing: what each says is its contract.
 
-ghost use Rattle.std.specs.Prelude.{ℕ, List};
+ghost use Rattle.std.specs.Prelude.{◌≡◌, ℕ, List};
 ghost use Rattle.capcheck.specs.declared.verdict.Verdict.{Verdict};
 ghost use Rattle.capcheck.specs.Verdicts.{IsByVersionOne, IsGuarded, IsOfVersionOne, IsVerdict};
 
@@ -16,4 +16,10 @@ pub fn logs_are_guarded()
 pub fn other_bytes_are_of_version_one()
     ensures { (bytes : List ℕ) (verdict : Verdict) → IsOfVersionOne bytes
         → (is : IsVerdict bytes verdict) → IsByVersionOne bytes verdict is }
+{}
+
+/// No bytes have two verdicts: none are both a log whose steps have a run and at fault in a line, a log has
+/// one number of steps and one of roots, and what is none has one first fault, with one refusal.
+pub fn one_verdict()
+    ensures { (bytes : List ℕ) (a b : Verdict) → IsVerdict bytes a → IsVerdict bytes b → a ≡ b }
 {}

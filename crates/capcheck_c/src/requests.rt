@@ -7,7 +7,7 @@ ghost use Rattle.cap_bounds.specs.Bounds.{
   IsSound,
   IsWindow,
   base_of,
-  exponent_of,
+  cut_exponent_of,
   top_of,
   unit_of,
   window_size,
@@ -116,7 +116,7 @@ pub extern "C" fn capcheck_least_law(word: Halves, base: u64, length: u64) -> bo
 #[unsafe(no_mangle)]
 pub extern "C" fn capcheck_reach(word: Halves) -> AddressRange
     ensures bit { result.every ≤ 1 }
-    ensures none { (result.every ≡ 1) ↔ (50 ≤ exponent_of (whole_of word)) }
+    ensures none { (result.every ≡ 1) ↔ (50 ≤ cut_exponent_of (whole_of word)) }
     ensures every { (result.every ≡ 1) ↔ ((address : ℕ) → address < 2 ^ 64 → KeepsBounds (whole_of word) address) }
     ensures window { IsWindow (whole_of word) (window_start (whole_of word)) }
     ensures unique { (start : ℕ) → IsWindow (whole_of word) start → start ≡ window_start (whole_of word) }

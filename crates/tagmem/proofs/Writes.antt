@@ -10,7 +10,7 @@ use Rattle.std.proofs.lemmas.Bool.{eqb-true}
 use Rattle.std.proofs.lemmas.List.{get_or-map}
 use Rattle.std.proofs.lemmas.Option.{same_Some}
 use Rattle.tagmem.specs.declared.page.Page.{Page}
-use Rattle.tagmem.specs.Granules.{Entry, Granules, blank, entry_at, bytes_at, overwritten, HasRoom, IsStored, AreStored}
+use Rattle.tagmem.specs.Granules.{Entry, Granules, blank, entry_at, bytes_at, overwritten, with_write, HasRoom, IsStored, AreStored}
 use Rattle.tagmem.specs.Pages.{slots_of, bytes_in, contents_of, IsPageAt, IsDirectory}
 use Rattle.tagmem.proofs.Granules.{get-put, len-put, IsStored-overwritten, IsStored-entry_at}
 use Rattle.tagmem.proofs.Pages.{get_present, contents_of-set}
@@ -73,11 +73,9 @@ module _ {Z : Type 0} (boxes : List (Box Page Z)) (directory : BTreeMap ℕ ℕ)
         (subst (λ n. IsPageAt boxes n place) (sym (written.number ∙ number_read)) read.found) read.known
 
     -- the map has the write, and is else the same
-    pub contents_of-write : contents_of (set boxes place (with_value box page))
-        ≡ map.insert (contents_of boxes) g (tag, overwritten (bytes_at (contents_of boxes) g) at bytes)
+    pub contents_of-write : contents_of (set boxes place (with_value box page)) ≡ with_write (contents_of boxes) g tag at bytes
     contents_of-write =
-        let was : bytes_in (slots_of box.value) (g % 256) ≡ bytes_at (contents_of boxes) g =
-        ap (λ o. (unwrap_or o blank).1) (sym get_read) in
+        let was : bytes_in (slots_of box.value) (g % 256) ≡ bytes_at (contents_of boxes) g = ap (λ o. (unwrap_or o blank).1) (sym get_read) in
         contents_of-set boxes directory read.known (with_value box page) box place g _ read.found (written.number ∙ number_read)
         (rw (← was, ← read.is) written.slots)
 

@@ -39,6 +39,10 @@ with_cap m granule tag bytes = insert m granule (tag, bytes)
 abbrev pub with_bytes : Granules → ℕ → ℕ → List ℕ → Granules
 with_bytes m granule from new = insert m granule (false, overwritten (bytes_at m granule) from new)
 
+-- the map after a write of bytes inside a granule, which sets its tag: its other bytes stay (this profile's own)
+abbrev pub with_write : Granules → ℕ → Bool → ℕ → List ℕ → Granules
+with_write m granule tag from new = insert m granule (tag, overwritten (bytes_at m granule) from new)
+
 -- the granule was put, or one more can be counted in 32 bits (this profile's own)
 abbrev pub HasRoom : Granules → ℕ → Type 0
 HasRoom m granule = get m granule ≡ None → len m < 4294967295

@@ -1,7 +1,7 @@
 //! A store that keeps its entries in a sorted list.
 ghost use Rattle.std.specs.Prelude.{◌≡◌, ◌^◌, ◌<◌, ◌+◌, ◌≤◌, length, None, vec_len, OnOk, OnErr, IfOk, IfErr};
 ghost use Rattle.std.specs.FinMap as map;
-ghost use Rattle.tagmem.specs.Granules.{bytes_at, overwritten, HasRoom, IsStored};
+ghost use Rattle.tagmem.specs.Granules.{with_write, HasRoom, IsStored};
 ghost use Rattle.tagmem.specs.Listed.{contents_of, entry_of, IsRising, AllStored, IsAt, IsGapFor};
 ghost use Rattle.tagmem.specs.ListLaws.{AreStored-contents_of, len_fits};
 
@@ -73,9 +73,8 @@ impl ListStore {
         requires in_memory { granule < 2 ^ 60 }
         requires inside { at + length bytes.now ≤ 16 }
         requires room { HasRoom (contents_of self.old.entries.items) granule }
-        ensures ok { let old = contents_of self.old.entries.items in
-            OnOk result (contents_of self.new.entries.items
-            ≡ map.insert old granule (tag, overwritten (bytes_at old granule) at bytes.now)) }
+        ensures ok { OnOk result (contents_of self.new.entries.items
+            ≡ with_write (contents_of self.old.entries.items) granule tag at bytes.now) }
         ensures err { OnErr result (self.new.entries.items ≡ self.old.entries.items) }
         ensures only_new { OnErr result (map.get (contents_of self.old.entries.items) granule ≡ None) }
     {

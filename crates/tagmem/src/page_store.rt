@@ -1,7 +1,7 @@
 //! A store that keeps its entries in pages.
 ghost use Rattle.std.specs.Prelude.{◌≡◌, ◌^◌, ◌<◌, ◌+◌, ◌≤◌, ◌/◌, length, None, MatchOption, IfOk, OnOk, OnErr};
 ghost use Rattle.std.specs.FinMap as map;
-ghost use Rattle.tagmem.specs.Granules.{AreStored, HasRoom, bytes_at, overwritten};
+ghost use Rattle.tagmem.specs.Granules.{with_write, AreStored, HasRoom};
 ghost use Rattle.tagmem.specs.Pages.{contents_of, IsDirectory, IsPageAt, IsAbsent};
 
 use crate::page::Page;
@@ -91,9 +91,8 @@ impl PageStore {
         requires found { IsPageAt self.old.pages.items (granule / 256) place }
         requires inside { at + length bytes.now ≤ 16 }
         requires room { HasRoom (contents_of self.old.pages.items) granule }
-        ensures { let old = contents_of self.old.pages.items in
-            contents_of self.new.pages.items
-            ≡ map.insert old granule (tag, overwritten (bytes_at old granule) at bytes.now) }
+        ensures { contents_of self.new.pages.items
+            ≡ with_write (contents_of self.old.pages.items) granule tag at bytes.now }
     {
         let page = &mut self.pages[place];
         let first = page.put((granule % 256) as u8, tag, at, bytes);
@@ -106,9 +105,8 @@ impl PageStore {
         requires in_memory { granule < 2 ^ 60 }
         requires inside { at + length bytes.now ≤ 16 }
         requires room { HasRoom (contents_of self.old.pages.items) granule }
-        ensures ok { let old = contents_of self.old.pages.items in
-            OnOk result (contents_of self.new.pages.items
-            ≡ map.insert old granule (tag, overwritten (bytes_at old granule) at bytes.now)) }
+        ensures ok { OnOk result (contents_of self.new.pages.items
+            ≡ with_write (contents_of self.old.pages.items) granule tag at bytes.now) }
         ensures err { OnErr result (contents_of self.new.pages.items ≡ contents_of self.old.pages.items) }
         ensures only_new { OnErr result (map.get (contents_of self.old.pages.items) granule ≡ None) }
     {

@@ -1,14 +1,19 @@
 use super::*;
-use crate::plain::{HOSTILE_WORDS, hostile_word, plain_bounds};
+use crate::plain::{HOSTILE_WORDS, corrected_bounds, hostile_word, plain_bounds};
 use std::process::Abort;
 
-/// Asserts that the code answers as the definition.
+/// Asserts that the code answers as the definition, and as the Sail model's shifts and corrections.
 fn agrees(rt: &impl Abort, word: Word) {
     let plain = plain_bounds(word);
     let Interval { base, top } = bounds(word);
     assert_eq!(rt; i128::from(base), plain.base, "the base of {word:?}");
     assert_eq!(rt; top, plain.top.unsigned_abs(), "the top of {word:?}");
     assert_eq!(rt; sound(word), plain.sound, "the soundness of {word:?}");
+    assert_eq!(rt;
+        (base, top),
+        corrected_bounds(word),
+        "the corrected bounds of {word:?}"
+    );
 }
 
 #[test]
@@ -109,5 +114,26 @@ fn given_mantissas(rt: HostRuntime) {
         (0xffff1ffffc01a0030000000000000000, 0x3000),
     ] {
         assert_eq!(rt; mantissa(&cap_word::split(Word(word))), t);
+    }
+}
+
+#[test]
+fn given_bounds_and_addresses_in_an_interval(rt: HostRuntime) {
+    let interval = bounds(Word(0xffff1ffffbffd0000000000000001000));
+    for (base, top, inside) in [
+        (0x1000, 0x1fff, true),
+        (0x1fff, 0x1fff, true),
+        (0xfff, 0x1fff, false),
+        (0x1000, 0x2000, false),
+    ] {
+        assert_eq!(rt; interval.contains(base, top), inside);
+    }
+    for (address, inside) in [
+        (0xfff, false),
+        (0x1000, true),
+        (0x1ffe, true),
+        (0x1fff, false),
+    ] {
+        assert_eq!(rt; interval.holds(address), inside);
     }
 }

@@ -21,9 +21,39 @@ fn plain_rounding(base: u64, length: u64) -> (u128, u128, u32) {
     (0, 0, 53)
 }
 
-/// Asserts that the code answers as the definition, and that the word of the rounding has its bounds.
+/// IE, e, B, T and exactness of a request by the Sail model's leading zeros, lost bits and one raise of e.
+fn counted_rounding(base: u64, length: u64) -> (bool, u32, u128, u128, bool) {
+    let low = u128::from(base);
+    let top = low.saturating_add(u128::from(length));
+    let first = 51u32.saturating_sub(length.leading_zeros());
+    if first == 0 && (length >> 12) & 1 == 0 {
+        return (false, 0, low & 0x3fff, top & 0x3fff, true);
+    }
+    let lost = |n: u128, e: u32| n & ((1 << (e + 3)) - 1) != 0;
+    let part = |n: u128, e: u32| (n >> (e + 3)) & 0x7ff;
+    let up = |e: u32, is_lost: bool| part(top, e).wrapping_add(u128::from(is_lost)) & 0x7ff;
+    let (mut e, mut b, mut t) = (first, part(low, first), up(first, lost(top, first)));
+    let (mut lost_base, mut lost_top) = (lost(low, e), lost(top, e));
+    if (t.wrapping_sub(b) >> 10) & 1 == 1 {
+        lost_base |= b & 1 == 1;
+        lost_top |= t & 1 == 1;
+        e = e.saturating_add(1);
+        b = part(low, e);
+        t = up(e, lost_top);
+    }
+    (true, e, b << 3, t << 3, !lost_base && !lost_top)
+}
+
+/// Asserts that the code answers as the definition and as the Sail model's steps, and that the word of the
+/// rounding has its bounds.
 fn agrees(rt: &impl Abort, base: u64, length: u64) {
     let rounded = round(base, length);
+    let (b, t) = (u128::from(rounded.b), u128::from(rounded.t));
+    assert_eq!(rt;
+        (rounded.ie, u32::from(rounded.e), b, t, rounded.exact),
+        counted_rounding(base, length),
+        "the fields of {base} and {length}"
+    );
     let (plain_base, plain_top, e) = plain_rounding(base, length);
     assert_eq!(rt;
         u128::from(rounded.base),

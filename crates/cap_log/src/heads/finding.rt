@@ -3,10 +3,11 @@
 ghost use Rattle.std.specs.Prelude.{◌≡◌};
 ghost use Rattle.cap_log.specs.Heads.{IsHead, head_spelling};
 ghost use Rattle.cap_log.specs.Parts.{Reads};
+ghost use Rattle.cap_log.specs.Spaceless.{head-spaceless};
 
 use crate::heads::{AccessStep, Head, NumberStep, RegisterStep};
-use crate::parts::Part;
-use crate::parts::cutting::put;
+use crate::parts::cutting::{put, split_end};
+use crate::parts::{Part, Single};
 
 // Reads the first word of a line.
 fn read_head(word: &[u8]) -> Option<Head>
@@ -54,13 +55,19 @@ impl Part for Head {
 
     ghost spelled = { head_spelling };
 
-    fn read(bytes: &[u8]) -> Option<Head> {
-        read_head(bytes)
+    fn take(bytes: &[u8], end: u8) -> Option<(Head, &[u8])> {
+        let (word, rest) = split_end(bytes, end)?;
+        let head = read_head(word)?;
+        Some((head, rest))
     }
 
     fn write(&self, buffer: &mut [u8], at: usize) -> usize {
         put(buffer, at, head_text(*self))
     }
+}
+
+impl Single for Head {
+    ghost spaceless = { λ head fits. head-spaceless head };
 }
 
 // The first word of a line.

@@ -1,19 +1,31 @@
-//! Words, the bytes before a space, and bytes put into a buffer.
+//! Words at the front of some bytes, and bytes put into a buffer.
 
-ghost use Rattle.std.specs.Prelude.{IfNone, IfSome, ◌+◌, ◌≤◌, length};
-ghost use Rattle.cap_log.specs.Parts.{HasNoSpace, IsCutAt, Writes};
+ghost use Rattle.std.specs.Prelude.{◌≡◌, ℕ, List, ◌∷◌, ◌++◌, IfNone, IfSome, ◌+◌, ◌≤◌, length};
+ghost use Rattle.cap_log.specs.Parts.{IsCutAt, Lacks, Writes};
 
-/// Cuts some bytes at their first space, or answers `None` where there is none.
-pub fn split_word(bytes: &[u8]) -> Option<(&[u8], &[u8])>
-    ensures some { IfSome result (λ parts. IsCutAt bytes.now parts.0.now parts.1.now) }
-    ensures none { IfNone result (HasNoSpace bytes.now) }
+/// Cuts some bytes at the first byte of a kind, or answers `None` where there is none.
+pub fn split_end(bytes: &[u8], end: u8) -> Option<(&[u8], &[u8])>
+    ensures some { IfSome result (λ parts. IsCutAt end bytes.now parts.0.now parts.1.now) }
+    ensures none { IfNone result (Lacks end bytes.now) }
 {
     for index in 0..bytes.len() {
-        if bytes[index] == b' ' {
+        if bytes[index] == end {
             return Some((&bytes[..index], &bytes[index + 1..]));
         }
     }
     None
+}
+
+/// Cuts off so many bytes and the byte behind them, or answers `None` where that is another byte or
+/// there are too few.
+pub fn split_fixed(bytes: &[u8], count: usize, end: u8) -> Option<(&[u8], &[u8])>
+    ensures some { IfSome result (λ parts. (length parts.0.now ≡ count) × (bytes.now ≡ parts.0.now ++ end ∷ parts.1.now)) }
+    ensures none { IfNone result ((word rest : List ℕ) → length word ≡ count → bytes.now ≡ word ++ end ∷ rest → ⊥) }
+{
+    if bytes.len() <= count || bytes[count] != end {
+        return None;
+    }
+    Some((&bytes[..count], &bytes[count + 1..]))
 }
 
 /// Puts a text into the buffer from a place on, and answers where it ends.

@@ -5,7 +5,7 @@ ghost use Rattle.std.specs.Str.Parse.{AllDigits, digits_value};
 ghost use Rattle.cap_log.specs.Parts.{Reads, Writes};
 
 use crate::parts::Part;
-use crate::parts::cutting::put;
+use crate::parts::cutting::{put, split_end};
 use itoa::Buffer;
 
 /// The most digits that a number below 2^32 has.
@@ -20,9 +20,10 @@ impl Part for Count {
 
     ghost spelled = { λ count. decimal count.0 };
 
-    fn read(bytes: &[u8]) -> Option<Count> {
-        let number = read_decimal(bytes)?;
-        Some(Count(number))
+    fn take(bytes: &[u8], end: u8) -> Option<(Count, &[u8])> {
+        let (word, rest) = split_end(bytes, end)?;
+        let number = read_decimal(word)?;
+        Some((Count(number), rest))
     }
 
     fn write(&self, buffer: &mut [u8], at: usize) -> usize {

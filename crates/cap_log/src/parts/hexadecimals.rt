@@ -4,9 +4,10 @@ ghost use Rattle.std.specs.Prelude.{◌+◌, ◌≤◌, length};
 ghost use Rattle.cap_word.specs.Digits.{hex_digits};
 ghost use Rattle.cap_log.specs.Lines.{IsNumber};
 ghost use Rattle.cap_log.specs.Parts.{Writes};
+ghost use Rattle.cap_log.specs.Spaceless.{number-spaceless};
 
-use crate::parts::Part;
-use crate::parts::cutting::put;
+use crate::parts::cutting::{put, split_fixed};
+use crate::parts::{Part, Single};
 use cap_word::{Word, read_u64, word_text};
 
 /// A length, an address or a mask: sixteen hexadecimal digits.
@@ -18,14 +19,19 @@ impl Part for Number {
 
     ghost spelled = { λ number. hex_digits 16 number.0 };
 
-    fn read(bytes: &[u8]) -> Option<Number> {
-        let number = read_u64(bytes)?;
-        Some(Number(number))
+    fn take(bytes: &[u8], end: u8) -> Option<(Number, &[u8])> {
+        let (digits, rest) = split_fixed(bytes, 16, end)?;
+        let number = read_u64(digits)?;
+        Some((Number(number), rest))
     }
 
     fn write(&self, buffer: &mut [u8], at: usize) -> usize {
         write_number(buffer, at, self.0)
     }
+}
+
+impl Single for Number {
+    ghost spaceless = { λ number fits. number-spaceless number.0 };
 }
 
 /// Writes a number in sixteen hexadecimal digits.

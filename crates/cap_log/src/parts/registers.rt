@@ -3,13 +3,13 @@
 ghost use Rattle.std.specs.Prelude.{◌+◌, ◌≤◌, length};
 ghost use Rattle.cap_log.specs.Lines.{IsPlace, IsRegister, IsTarget, place_spelling, register_spelling};
 ghost use Rattle.cap_log.specs.Parts.{Reads, Writes};
+ghost use Rattle.cap_log.specs.Spaceless.{place-spaceless, register-spaceless};
 
 use crate::lines::Place;
-use crate::parts::Part;
-use crate::parts::cutting::put;
+use crate::parts::cutting::{put, split_end};
 use crate::parts::decimals::{read_decimal, write_decimal};
-use crate::parts::hexadecimals::write_number;
-use cap_word::read_u64;
+use crate::parts::hexadecimals::{Number, write_number};
+use crate::parts::{Part, Single};
 
 /// A register that a step reads, `c0` to `c31`.
 #[derive(Clone, Copy)]
@@ -20,9 +20,10 @@ impl Part for Register {
 
     ghost spelled = { λ register. register_spelling register.0 };
 
-    fn read(bytes: &[u8]) -> Option<Register> {
-        let number = read_register(bytes)?;
-        Some(Register(number))
+    fn take(bytes: &[u8], end: u8) -> Option<(Register, &[u8])> {
+        let (word, rest) = split_end(bytes, end)?;
+        let number = read_register(word)?;
+        Some((Register(number), rest))
     }
 
     fn write(&self, buffer: &mut [u8], at: usize) -> usize {
@@ -39,9 +40,10 @@ impl Part for Target {
 
     ghost spelled = { λ target. register_spelling target.0 };
 
-    fn read(bytes: &[u8]) -> Option<Target> {
-        let number = read_target(bytes)?;
-        Some(Target(number))
+    fn take(bytes: &[u8], end: u8) -> Option<(Target, &[u8])> {
+        let (word, rest) = split_end(bytes, end)?;
+        let number = read_target(word)?;
+        Some((Target(number), rest))
     }
 
     fn write(&self, buffer: &mut [u8], at: usize) -> usize {
@@ -49,21 +51,33 @@ impl Part for Target {
     }
 }
 
+impl Single for Register {
+    ghost spaceless = { λ register fits. register-spaceless register.0 fits };
+}
+
+impl Single for Target {
+    ghost spaceless = { λ target fits. register-spaceless target.0 fits.1 };
+}
+
+impl Single for Place {
+    ghost spaceless = { place-spaceless };
+}
+
 impl Part for Place {
     ghost fits = { IsPlace };
 
     ghost spelled = { place_spelling };
 
-    fn read(bytes: &[u8]) -> Option<Place> {
+    fn take(bytes: &[u8], end: u8) -> Option<(Place, &[u8])> {
         if let Some(digits) = bytes.strip_prefix(b"@") {
-            let address = read_u64(digits)?;
-            if address % 16 == 0 {
-                return Some(Place::Granule(address / 16));
+            let (address, rest) = Number::take(digits, end)?;
+            if address.0 % 16 == 0 {
+                return Some((Place::Granule(address.0 / 16), rest));
             }
             return None;
         }
-        let number = read_target(bytes)?;
-        Some(Place::Register(number))
+        let (target, rest) = Target::take(bytes, end)?;
+        Some((Place::Register(target.0), rest))
     }
 
     fn write(&self, buffer: &mut [u8], at: usize) -> usize {

@@ -5,7 +5,7 @@ ghost use Rattle.cap_log.specs.Lines.{IsWordNumber};
 ghost use Rattle.cap_log.specs.Parts.{result_spelling};
 
 use crate::parts::Part;
-use crate::parts::cutting::put;
+use crate::parts::cutting::{put, split_fixed};
 use cap_word::{Cap, Word, read_word, word_text};
 
 impl Part for Word {
@@ -13,8 +13,10 @@ impl Part for Word {
 
     ghost spelled = { λ word. hex_digits 32 word.0 };
 
-    fn read(bytes: &[u8]) -> Option<Word> {
-        read_word(bytes)
+    fn take(bytes: &[u8], end: u8) -> Option<(Word, &[u8])> {
+        let (digits, rest) = split_fixed(bytes, 32, end)?;
+        let word = read_word(digits)?;
+        Some((word, rest))
     }
 
     fn write(&self, buffer: &mut [u8], at: usize) -> usize {
@@ -31,13 +33,14 @@ impl Part for Recorded {
 
     ghost spelled = { λ recorded. result_spelling recorded.0 };
 
-    fn read(bytes: &[u8]) -> Option<Recorded> {
+    fn take(bytes: &[u8], end: u8) -> Option<(Recorded, &[u8])> {
         if let Some(digits) = bytes.strip_prefix(b"= 1 ") {
-            let word = read_word(digits)?;
-            return Some(Recorded(Cap { tag: true, word }));
+            let (word, rest) = Word::take(digits, end)?;
+            return Some((Recorded(Cap { tag: true, word }), rest));
         }
-        let word = read_word(bytes.strip_prefix(b"= 0 ")?)?;
-        Some(Recorded(Cap { tag: false, word }))
+        let digits = bytes.strip_prefix(b"= 0 ")?;
+        let (word, rest) = Word::take(digits, end)?;
+        Some((Recorded(Cap { tag: false, word }), rest))
     }
 
     fn write(&self, buffer: &mut [u8], at: usize) -> usize {

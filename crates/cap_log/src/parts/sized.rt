@@ -1,12 +1,12 @@
 //! Values of 1, 2, 4 or 8 bytes: their size, and two hexadecimal digits for each byte.
 
-ghost use Rattle.std.specs.Prelude.{◌≡◌, ◌-◌, ◌*◌, ◌≤◌, ◌++◌, length, replicate, decimal};
+ghost use Rattle.std.specs.Prelude.{◌≡◌, ◌-◌, ◌*◌, ◌≤◌, ◌++◌, length, replicate, decimal, IfSome, IfNone};
 ghost use Rattle.cap_word.specs.Digits.{hex_digits};
 ghost use Rattle.cap_log.specs.Lines.{IsDataSize, IsDataValue};
-ghost use Rattle.cap_log.specs.Parts.{IsSized, Reads, loaded_spelling, stored_spelling};
+ghost use Rattle.cap_log.specs.Parts.{Begins, BeginsWithNone, IsSized, Reads, loaded_spelling, stored_spelling};
 
 use crate::parts::Part;
-use crate::parts::cutting::{put, split_word};
+use crate::parts::cutting::{put, split_fixed};
 use crate::parts::decimals::{read_decimal, write_decimal};
 use crate::parts::hexadecimals::write_digits;
 use cap_word::read_u64;
@@ -25,12 +25,11 @@ impl Part for Loaded {
 
     ghost spelled = { λ loaded. loaded_spelling loaded.size loaded.value };
 
-    fn read(bytes: &[u8]) -> Option<Loaded> {
-        let (word, rest) = split_word(bytes)?;
-        let size = read_size(word)?;
+    fn take(bytes: &[u8], end: u8) -> Option<(Loaded, &[u8])> {
+        let (size, rest) = take_size(bytes)?;
         let digits = rest.strip_prefix(b"= ")?;
-        let value = read_value(digits, size)?;
-        Some(Loaded { size, value })
+        let (value, rest) = take_value(digits, size, end)?;
+        Some((Loaded { size, value }, rest))
     }
 
     fn write(&self, buffer: &mut [u8], at: usize) -> usize {
@@ -54,11 +53,10 @@ impl Part for Stored {
 
     ghost spelled = { λ stored. stored_spelling stored.size stored.value };
 
-    fn read(bytes: &[u8]) -> Option<Stored> {
-        let (word, digits) = split_word(bytes)?;
-        let size = read_size(word)?;
-        let value = read_value(digits, size)?;
-        Some(Stored { size, value })
+    fn take(bytes: &[u8], end: u8) -> Option<(Stored, &[u8])> {
+        let (size, digits) = take_size(bytes)?;
+        let (value, rest) = take_value(digits, size, end)?;
+        Some((Stored { size, value }, rest))
     }
 
     fn write(&self, buffer: &mut [u8], at: usize) -> usize {
@@ -66,6 +64,27 @@ impl Part for Stored {
         let digits = put(buffer, next, b" ");
         write_digits(buffer, digits, self.value, 2 * usize::from(self.size))
     }
+}
+
+// Takes a size, 1, 2, 4 or 8, and a space.
+fn take_size(bytes: &[u8]) -> Option<(u8, &[u8])>
+    ensures some { IfSome result (λ p. Begins IsDataSize decimal 32 bytes.now p.0 p.1.now) }
+    ensures none { IfNone result (BeginsWithNone IsDataSize decimal 32 bytes.now) }
+{
+    let (digit, rest) = split_fixed(bytes, 1, b' ')?;
+    let size = read_size(digit)?;
+    Some((size, rest))
+}
+
+// Takes a value of so many bytes, two digits for each, and the byte that ends it.
+fn take_value(bytes: &[u8], size: u8, end: u8) -> Option<(u64, &[u8])>
+    requires { IsDataSize size }
+    ensures some { IfSome result (λ p. Begins (IsDataValue size) (hex_digits (2 * size)) end bytes.now p.0 p.1.now) }
+    ensures none { IfNone result (BeginsWithNone (IsDataValue size) (hex_digits (2 * size)) end bytes.now) }
+{
+    let (digits, rest) = split_fixed(bytes, 2 * usize::from(size), end)?;
+    let value = read_value(digits, size)?;
+    Some((value, rest))
 }
 
 // Reads a size, 1, 2, 4 or 8.

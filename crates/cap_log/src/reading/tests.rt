@@ -1,7 +1,7 @@
 //! Lines that are read, each form at the ends of its ranges, and texts that are no line.
 
-use super::read_line;
-use crate::lines::{Line, Place, Step};
+use super::{read_line, take_line};
+use crate::lines::{Line, Mode, Place, Step};
 use cap_word::{Cap, Word};
 use std::process::Abort;
 
@@ -32,6 +32,9 @@ fn refuses(rt: &impl Abort, bytes: &[u8]) {
 #[test]
 fn reads_versions_roots_and_ends(rt: HostRuntime) {
     reads(&rt, b"capcheck 1", Line::Version(1));
+    reads(&rt, b"capcheck 2", Line::Version(2));
+    reads(&rt, b"mode strict", Line::Mode(Mode::Strict));
+    reads(&rt, b"mode clear", Line::Mode(Mode::Clear));
     reads(
         &rt,
         b"root c1 ffff1ffffc0180040000000000000000",
@@ -213,7 +216,7 @@ fn refuses_other_numbers(rt: HostRuntime) {
     refuses(&rt, b"end +1");
     refuses(&rt, b"end ");
     refuses(&rt, b"end");
-    refuses(&rt, b"capcheck 2");
+    refuses(&rt, b"capcheck 3");
     refuses(&rt, b"root c0 ffff1ffffc0180040000000000000000");
     refuses(
         &rt,
@@ -244,4 +247,41 @@ fn refuses_other_accesses(rt: HostRuntime) {
     refuses(&rt, b"load c1 0 2 = 00");
     refuses(&rt, b"store c1 0 1 FF");
     refuses(&rt, b"store c1 0 1 = 00");
+}
+
+// The line at the front of these bytes, and what stands behind it.
+fn takes(rt: &impl Abort, bytes: &[u8], line: Line, behind: &[u8]) {
+    match take_line(bytes) {
+        Some((found, rest)) => {
+            assert_eq!(rt; found, line);
+            assert_eq!(rt; rest, behind);
+        }
+        None => assert!(rt; false),
+    }
+}
+
+#[test]
+fn takes_lines_from_the_front(rt: HostRuntime) {
+    takes(&rt, b"end 0\n", Line::End(0), b"");
+    takes(&rt, b"end 12\nend 3\n", Line::End(12), b"end 3\n");
+    takes(&rt, b"capcheck 2\n\n", Line::Version(2), b"\n");
+    takes(&rt, b"mode clear\nx", Line::Mode(Mode::Clear), b"x");
+    assert!(rt; take_line(b"").is_none());
+    assert!(rt; take_line(b"\n").is_none());
+    assert!(rt; take_line(b"end 0").is_none());
+    assert!(rt; take_line(b"end 0 \n").is_none());
+    assert!(rt; take_line(b"\nend 0\n").is_none());
+    assert!(rt; take_line(b"store c1 0 1 aa\r\n").is_none());
+    assert!(rt; take_line(b"store c1 0 1 aa0\n").is_none());
+    assert!(rt; take_line(b"store c1 0 1 a\naa\n").is_none());
+}
+
+#[test]
+fn refuses_line_feeds_and_long_lines(rt: HostRuntime) {
+    refuses(&rt, b"end 0\n");
+    refuses(&rt, b"end 0\nend 0");
+    refuses(&rt, b"end\n0");
+    refuses(&rt, &[b'x'; 95]);
+    refuses(&rt, &[b'x'; 96]);
+    refuses(&rt, &[b' '; 200]);
 }

@@ -1,26 +1,57 @@
-use Rattle.std.proofs.Common.{ℕ, ap, ◌∙◌}
-use Rattle.std.proofs.lemmas.Nat.{and_mask}
-use Rattle.cap_bounds.specs.Bounds.{top_at}
-use Rattle.cap_bounds.proofs.Decoded.{decoded_base, decoded_length, decoded_top}
+use Rattle.std.proofs.Common.{◌≡◌, ◌+◌, ◌*◌, ◌%◌, ◌^◌, sym, ◌∙◌, refl, arith}
+use Rattle.cap_bounds.specs.Bounds.{raw_base_at}
+use Rattle.cap_bounds.proofs.Decoded.{decoded_base, decoded_length, decoded_top, top_at-corrected}
+use Rattle.cap_bounds.proofs.WrappedBounds.{top_without_address}
 use Rattle.cap_bounds.proofs.decoding.decode.Goals as goal
 
-pub returns-clause-base : goal.returns-clause-base
-returns-clause-base c =
-    let s = c.scale_of-exponent in
-    and_mask c.raw_base-raw.result 64
-    ∙ decoded_base c.args.word.0 s.result.exponent s.result.b s.result.span _ c.raw_base-raw.result s.ensures.exponent s.ensures.b s.ensures.span (and_mask c.args.word.0 64) c.raw_base-raw.ensures.value
+pub returns-then-cut_exponent-le-LAST_CORRECTED_EXPONENT-clause-base : goal.returns-then-cut_exponent-le-LAST_CORRECTED_EXPONENT-clause-base
+returns-then-cut_exponent-le-LAST_CORRECTED_EXPONENT-clause-base c =
+    let s = c.scale_of-cut_exponent in
+    let raw = raw_base_at s.result.cut_exponent s.result.b c.address.result in
+    c.base_from-base.ensures
+    ∙ decoded_base c.args.word.0 s.result.cut_exponent s.result.b s.result.span c.address.result raw
+    s.ensures.cut_exponent s.ensures.b s.ensures.span c.address.ensures refl
 
-length : goal.returns-clause-length
-length c =
-    let s = c.scale_of-exponent in
-    c.scaled-length.ensures.value
-    ∙ decoded_length c.args.word.0 s.result.exponent s.result.b s.result.span _ c.raw_base-raw.result s.ensures.exponent s.ensures.b s.ensures.span (and_mask c.args.word.0 64) c.raw_base-raw.ensures.value
+pub returns-then-cut_exponent-le-LAST_CORRECTED_EXPONENT-clause-top : goal.returns-then-cut_exponent-le-LAST_CORRECTED_EXPONENT-clause-top
+returns-then-cut_exponent-le-LAST_CORRECTED_EXPONENT-clause-top c =
+    let s = c.scale_of-cut_exponent in
+    let raw = raw_base_at s.result.cut_exponent s.result.b c.address.result in
+    let length = s.result.span * 2 ^ s.result.cut_exponent in
+    let sum : c.from.result + c.from-length.result ≡ raw % 2 ^ 64 + length =
+    omega (arith, c.from.ensures, c.from-length.ensures, c.scaled_short.ensures.value, c.base_from-base.ensures) in
+    sum ∙ sym (top_at-corrected s.result.cut_exponent raw length c.if-cut_exponent-le-LAST_CORRECTED_EXPONENT.true)
+    ∙ decoded_top c.args.word.0 s.result.cut_exponent s.result.b s.result.span c.address.result raw
+    s.ensures.cut_exponent s.ensures.b s.ensures.span c.address.ensures refl
 
-pub returns-clause-top : goal.returns-clause-top
-returns-clause-top c =
-    let s = c.scale_of-exponent in
-    c.top_from.ensures ∙ ap (λ (x : ℕ). top_at s.result.exponent c.raw_base-raw.result x) c.scaled-length.ensures.value
-    ∙ decoded_top c.args.word.0 s.result.exponent s.result.b s.result.span _ c.raw_base-raw.result s.ensures.exponent s.ensures.b s.ensures.span (and_mask c.args.word.0 64) c.raw_base-raw.ensures.value
+pub returns-then-cut_exponent-le-LAST_CORRECTED_EXPONENT-clause-length : goal.returns-then-cut_exponent-le-LAST_CORRECTED_EXPONENT-clause-length
+returns-then-cut_exponent-le-LAST_CORRECTED_EXPONENT-clause-length c =
+    let s = c.scale_of-cut_exponent in
+    let raw = raw_base_at s.result.cut_exponent s.result.b c.address.result in
+    c.from-length.ensures ∙ c.scaled_short.ensures.value
+    ∙ decoded_length c.args.word.0 s.result.cut_exponent s.result.b s.result.span c.address.result raw
+    s.ensures.cut_exponent s.ensures.b s.ensures.span c.address.ensures refl
 
-pub returns-clause-length : goal.returns-clause-length
-returns-clause-length c = length c
+pub returns-else-cut_exponent-le-LAST_CORRECTED_EXPONENT-clause-base : goal.returns-else-cut_exponent-le-LAST_CORRECTED_EXPONENT-clause-base
+returns-else-cut_exponent-le-LAST_CORRECTED_EXPONENT-clause-base c =
+    let s = c.scale_of-cut_exponent in
+    let raw = raw_base_at s.result.cut_exponent s.result.b c.address.result in
+    c.base_from-base.ensures
+    ∙ decoded_base c.args.word.0 s.result.cut_exponent s.result.b s.result.span c.address.result raw
+    s.ensures.cut_exponent s.ensures.b s.ensures.span c.address.ensures refl
+
+pub returns-else-cut_exponent-le-LAST_CORRECTED_EXPONENT-clause-top : goal.returns-else-cut_exponent-le-LAST_CORRECTED_EXPONENT-clause-top
+returns-else-cut_exponent-le-LAST_CORRECTED_EXPONENT-clause-top c =
+    let s = c.scale_of-cut_exponent in
+    let raw = raw_base_at s.result.cut_exponent s.result.b c.address.result in
+    c.uncorrected_top.ensures
+    ∙ top_without_address s.result.cut_exponent s.result.b c.address.result s.result.span c.if-cut_exponent-le-LAST_CORRECTED_EXPONENT.false
+    ∙ decoded_top c.args.word.0 s.result.cut_exponent s.result.b s.result.span c.address.result raw
+    s.ensures.cut_exponent s.ensures.b s.ensures.span c.address.ensures refl
+
+pub returns-else-cut_exponent-le-LAST_CORRECTED_EXPONENT-clause-length : goal.returns-else-cut_exponent-le-LAST_CORRECTED_EXPONENT-clause-length
+returns-else-cut_exponent-le-LAST_CORRECTED_EXPONENT-clause-length c =
+    let s = c.scale_of-cut_exponent in
+    let raw = raw_base_at s.result.cut_exponent s.result.b c.address.result in
+    c.scaled.ensures.value
+    ∙ decoded_length c.args.word.0 s.result.cut_exponent s.result.b s.result.span c.address.result raw
+    s.ensures.cut_exponent s.ensures.b s.ensures.span c.address.ensures refl

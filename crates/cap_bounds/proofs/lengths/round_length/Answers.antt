@@ -10,7 +10,8 @@ returns-clause-within c = subst (λ (x : ℕ). x ≤ 2 ^ 64) (sym c.round.ensure
 pub returns-clause-exact : goal.returns-clause-exact
 returns-clause-exact c = λ h.
     subst (λ (x : ℕ). IsExact 0 x) (sym c.round.ensures.top)
-    (exact-at-aligned c.args.length (omega arith) (subst (λ (x : ℕ). x < 2 ^ 64) c.round.ensures.top h) 0 (zero-mod (alignment_of c.args.length)))
+    (exact-at-aligned c.args.length (omega arith) (subst (λ (x : ℕ). x < 2 ^ 64) c.round.ensures.top h) 0
+    (zero-mod (alignment_of c.args.length)))
 
 pub returns-clause-least : goal.returns-clause-least
 returns-clause-least c = λ shorter base from below fits exact.

@@ -17,7 +17,9 @@ pub returns-clause-b : goal.returns-clause-b
 returns-clause-b c = and_mask c.args.base 14 ∙ short_b c.args.base c.args.length c.requires
 
 pub returns-clause-t : goal.returns-clause-t
-returns-clause-t c = and_mask c.requested_top-top.result 14 ∙ ap (λ (x : ℕ). x % 2 ^ 14) c.requested_top-top.ensures.value ∙ short_t c.args.base c.args.length c.requires
+returns-clause-t c = and_mask c.requested_top-top.result 14 ∙ ap (λ (x : ℕ). x % 2 ^ 14) c.requested_top-top.ensures.value
+    ∙ short_t c.args.base c.args.length c.requires
 
 pub returns-clause-exact : goal.returns-clause-exact
-returns-clause-exact c = (λ _. (rounded_base-short c.args.base c.args.length c.requires, rounded_top-short c.args.base c.args.length c.requires), λ _. refl)
+returns-clause-exact c =
+    (λ _. (rounded_base-short c.args.base c.args.length c.requires, rounded_top-short c.args.base c.args.length c.requires), λ _. refl)

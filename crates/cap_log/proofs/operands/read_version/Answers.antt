@@ -9,4 +9,4 @@ pub returns-then-eq-2 : goal.returns-then-eq-2
 returns-then-eq-2 c = (inr refl, search rules)
 
 pub returns-else-eq-2 : goal.returns-else-eq-2
-returns-else-eq-2 c = no_version c.args.rest.now (search rules) (search rules)
+returns-else-eq-2 c = no_version c.args.word.now (search rules) (search rules)

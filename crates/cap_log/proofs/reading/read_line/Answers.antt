@@ -1,19 +1,42 @@
-use Rattle.std.proofs.Common.{◌∷◌, ◌++◌, List, ℕ, ap, ◌∙◌}
-use Rattle.cap_log.proofs.Shapes.{line_none, line_some, no_words, no_head}
+use Rattle.std.proofs.Common.{◌≡◌, ◌≢◌, [], ap, length, subst, arith, rules}
+use Rattle.std.proofs.lemmas.List.{nil_from_length}
+use Rattle.cap_log.specs.Lines.{IsInRange, spelling}
+use Rattle.cap_log.specs.Parts.{Begins, BeginsWithNone}
+use Rattle.cap_log.proofs.SpellingLemmas.{fed_none, fed_some, fed_more, spelling-short}
+use Rattle.cap_log.proofs.WriteLemmas.{front_and_byte}
 use Rattle.cap_log.proofs.reading.read_line.Goals as goal
 
-pub returns-in_err-word-clause-none : goal.returns-in_err-word-clause-none
-returns-in_err-word-clause-none c = rw c.from_residual.ensures (no_words c.args.bytes.now c.in_err-word.ensures.none)
+pub returns-then-bytes-gt-LINE_LIMIT-clause-none : goal.returns-then-bytes-gt-LINE_LIMIT-clause-none
+returns-then-bytes-gt-LINE_LIMIT-clause-none c = λ line spells.
+    let short = spelling-short line spells.0 in
+    let same = ap length spells.1 in
+    let long = c.if-bytes-gt-LINE_LIMIT.true in
+    omega arith
 
-pub returns-in_err-head-clause-none : goal.returns-in_err-head-clause-none
-returns-in_err-head-clause-none c = rw c.from_residual-in_err-head.ensures (no_head c.in_ok-word.ensures.some c.in_err-head.ensures)
+pub returns-in_err-line-clause-none : goal.returns-in_err-line-clause-none
+returns-in_err-line-clause-none c =
+    let short = c.if-bytes-gt-LINE_LIMIT.false in
+    let ends = c.put-length.ensures.ends in
+    let ends' = c.put-end.ensures.ends in
+    let text = (front_and_byte _ _ _ _ _ _ _ c.put-length.ensures c.put-end.ensures (omega arith)).0 in
+    rw c.from_residual.ensures (fed_none c.args.bytes.now (subst (BeginsWithNone IsInRange spelling 10) text c.in_err-line.ensures.none))
 
-pub returns-clause-some : goal.returns-clause-some
-returns-clause-some c =
-    let whole = c.in_ok-word.ensures.some.whole ∙ ap (λ (word : List ℕ). word ++ 32 ∷ c.in_ok-word.rest.now) c.in_ok-head.ensures.1 in
-    line_some _ _ c.read_operands.result whole c.read_operands.ensures
+pub returns-then-is_empty-clause-some : goal.returns-then-is_empty-clause-some
+returns-then-is_empty-clause-some c =
+    let short = c.if-bytes-gt-LINE_LIMIT.false in
+    let ends = c.put-length.ensures.ends in
+    let ends' = c.put-end.ensures.ends in
+    let text = (front_and_byte _ _ _ _ _ _ _ c.put-length.ensures c.put-end.ensures (omega arith)).0 in
+    let all : c.in_ok-line.rest.now ≡ [] = nil_from_length _ (search rules) in
+    fed_some c.args.bytes.now c.in_ok-line.rest.now c.in_ok-line.line
+    (subst (λ b. Begins IsInRange spelling 10 b c.in_ok-line.line c.in_ok-line.rest.now) text c.in_ok-line.ensures.some) all
 
-pub returns-clause-none : goal.returns-clause-none
-returns-clause-none c =
-    let whole = c.in_ok-word.ensures.some.whole ∙ ap (λ (word : List ℕ). word ++ 32 ∷ c.in_ok-word.rest.now) c.in_ok-head.ensures.1 in
-    line_none _ _ c.read_operands.result whole c.read_operands.ensures
+pub returns-else-is_empty-clause-none : goal.returns-else-is_empty-clause-none
+returns-else-is_empty-clause-none c =
+    let short = c.if-bytes-gt-LINE_LIMIT.false in
+    let ends = c.put-length.ensures.ends in
+    let ends' = c.put-end.ensures.ends in
+    let text = (front_and_byte _ _ _ _ _ _ _ c.put-length.ensures c.put-end.ensures (omega arith)).0 in
+    let more : c.in_ok-line.rest.now ≢ [] = search rules in
+    fed_more c.args.bytes.now c.in_ok-line.rest.now c.in_ok-line.line
+    (subst (λ b. Begins IsInRange spelling 10 b c.in_ok-line.line c.in_ok-line.rest.now) text c.in_ok-line.ensures.some) more

@@ -1,23 +1,45 @@
-use Rattle.std.proofs.Common.{◌∙◌, ap, sym}
-use Rattle.std.specs.Int.{w128, from_be_bytes}
+use Rattle.std.proofs.Common.{[], refl, sym, ◌∙◌, rules}
 use Rattle.std.proofs.lemmas.Bool.{false≢true}
-use Rattle.std.proofs.lemmas.Bool.Decides.{Decides-eqb}
-use Rattle.std.proofs.lemmas.Slice.Eq.{slice_eq-Decides}
-use Rattle.cap_word.proofs.DigitLemmas.{from_be_bytes-to_be_bytes_16}
-use Rattle.cap_word.specs.Digits.{hex_digits}
-use Rattle.cap_word.proofs.TextLemmas.{not_digits, their_bytes}
+use Rattle.cap_word.proofs.ReadingLemmas.{hex_digits-same, not_digits, some_digits, ended, whole, longer}
 use Rattle.cap_word.proofs.text.read_word.Goals as goal
 
-pub returns-then-is_err-clause-none : goal.returns-then-is_err-clause-none
-returns-then-is_err-clause-none c n fits spelled =
-    let call = c.decode_to_slice in
-    not_digits 16 c.args.text.now call.new.out call.result call.ensures.value (sym c.if-is_err.true ∙ c.is_err.ensures.value) n spelled
+pub returns-in_err-word-clause-none : goal.returns-in_err-word-clause-none
+returns-in_err-word-clause-none c = rw c.from_residual.ensures
+    (λ n small e. c.in_err-word.ensures.none n [] small (ended 32 n c.args.text.now e))
 
-pub returns-else-eq-clause-none : goal.returns-else-eq-clause-none
-returns-else-eq-clause-none c n fits spelled =
-    let call = c.decode_to_slice in
-    let bytes = (their_bytes 16 c.args.text.now call.new.out call.result call.ensures.value n spelled).1 in
-    let number = c.from_be_bytes.ensures ∙ ap (from_be_bytes w128) bytes ∙ from_be_bytes-to_be_bytes_16 n fits in
-    let digits = c.word_text-digits.ensures ∙ ap (hex_digits 32) number ∙ sym spelled in
-    let same = slice_eq-Decides Decides-eqb _ _ _ c.eq.ensures in
-    false≢true (sym c.if-eq.false ∙ same.1 (c.as_slice.ensures ∙ digits))
+pub returns-in_err-word-clause-digits : goal.returns-in_err-word-clause-digits
+returns-in_err-word-clause-digits c = rw c.from_residual.ensures (
+  λ some. absurd (false≢true some),
+  λ are. absurd (not_digits 32 c.args.text.now (λ n small e. c.in_err-word.ensures.none n [] small (ended 32 n c.args.text.now e)) are),
+)
+
+pub returns-in_err-word-clause-reads_back : goal.returns-in_err-word-clause-reads_back
+returns-in_err-word-clause-reads_back c n small e = absurd (c.in_err-word.ensures.none n [] small (ended 32 n c.args.text.now e))
+
+pub returns-then-is_empty-clause-digits : goal.returns-then-is_empty-clause-digits
+returns-then-is_empty-clause-digits c = (
+  λ _. some_digits 32 c.in_ok-word.word.0 c.args.text.now
+      (whole 32 c.in_ok-word.word.0 c.args.text.now c.in_ok-word.rest.now c.in_ok-word.ensures.some c.if-is_empty.ensures),
+  λ _. refl,
+)
+
+pub returns-then-is_empty-clause-reads_back : goal.returns-then-is_empty-clause-reads_back
+returns-then-is_empty-clause-reads_back c n small e =
+    let all = whole 32 c.in_ok-word.word.0 c.args.text.now c.in_ok-word.rest.now c.in_ok-word.ensures.some c.if-is_empty.ensures in
+    hex_digits-same 32 c.in_ok-word.word.0 n (search rules) small (sym all ∙ e)
+
+pub returns-else-is_empty-clause-none : goal.returns-else-is_empty-clause-none
+returns-else-is_empty-clause-none c n small e =
+    longer 32 c.in_ok-word.word.0 n c.args.text.now c.in_ok-word.rest.now c.in_ok-word.ensures.some c.if-is_empty.ensures e
+
+pub returns-else-is_empty-clause-digits : goal.returns-else-is_empty-clause-digits
+returns-else-is_empty-clause-digits c = (
+  λ some. absurd (false≢true some),
+  λ are. absurd (not_digits 32 c.args.text.now
+      (λ n small e. longer 32 c.in_ok-word.word.0 n c.args.text.now c.in_ok-word.rest.now c.in_ok-word.ensures.some
+      c.if-is_empty.ensures e) are),
+)
+
+pub returns-else-is_empty-clause-reads_back : goal.returns-else-is_empty-clause-reads_back
+returns-else-is_empty-clause-reads_back c n small e = absurd
+    (longer 32 c.in_ok-word.word.0 n c.args.text.now c.in_ok-word.rest.now c.in_ok-word.ensures.some c.if-is_empty.ensures e)

@@ -1,10 +1,10 @@
 use Rattle.std.proofs.Common.{take, codes}
 use Rattle.cap_word.specs.Digits.{hex_digits}
 use Rattle.cap_word.specs.Fields.{address_of}
-use Rattle.cap_bounds.specs.Bounds.{base_of, top_of}
+use Rattle.cap_bounds.specs.Bounds.{base_of, top_of, is_sound}
 use Rattle.capcheck.specs.TextLines.{text_line, yes_or_no}
-use Rattle.capcheck.specs.ExplainLines.{bounds_lines, is_sound}
-use Rattle.capcheck.proofs.SoundTests.{is_sound-from}
+use Rattle.capcheck.specs.ExplainLines.{bounds_lines}
+use Rattle.cap_bounds.proofs.SoundTests.{is_sound-from}
 use Rattle.capcheck.proofs.LineLemmas.{four_after}
 use Rattle.capcheck.proofs.explain_lines.put_bounds_lines.Goals as goal
 

@@ -3,7 +3,7 @@ use Rattle.cap_machine.proofs.AuthorityLemmas.{one_root}
 use Rattle.cap_machine.proofs.AccessLemmas.{lie_inside}
 use Rattle.capcheck.specs.Verdicts.{IsVerdict, IsFault}
 use Rattle.capcheck.proofs.JudgeLemmas.{guarded, guards_all, answered}
-use Rattle.capcheck.proofs.SourceLemmas.{of_all}
+use Rattle.capcheck.proofs.SourceLemmas.{escape_of, of_all}
 use Rattle.capcheck.proofs.judging.judge_bytes.Goals as goal
 
 both : (c : goal.After-judge) → IfOk c.judge.result (IsVerdict c.args.bytes.now) × IfErr c.judge.result (IsFault c.args.bytes.now)
@@ -23,3 +23,6 @@ returns-clause-authority c = guards_all c.args.bytes.now (guarded one_root lie_i
 
 pub returns-clause-answers : goal.returns-clause-answers
 returns-clause-answers c = answered c.args.bytes.now c.judge.result (both c).1
+
+pub returns-clause-escape : goal.returns-clause-escape
+returns-clause-escape c = escape_of c.args.bytes.now c.judge.result

@@ -1,0 +1,79 @@
+-- Accounts: how they grow, and the roots and steps of which no test holds.
+use Rattle.std.proofs.Common.{◌≡◌, ℕ, ◌+◌, ◌<◌, ◌≤◌, Bool, true, false, not, ◌&&◌, ◌||◌, nat_le, List, [], ◌∷◌, Option, Some, None, refl, sym, ap, ◌∙◌, eq-eqb, arith}
+use Rattle.std.specs.Bool.{if◌then◌else◌}
+use Rattle.std.proofs.lemmas.Bool.{false≢true, and_from, or_from, le-leb, lt-leb}
+use Rattle.cap_word.specs.declared.word.Word.{Word}
+use Rattle.cap_bounds.specs.Bounds.{IsSound, is_sound}
+use Rattle.cap_log.specs.declared.lines.Place.{Place}
+use Rattle.cap_log.specs.declared.lines.Step.{Step}
+use Rattle.cap_ops.specs.Tests.{first_of}
+use Rattle.cap_ops.proofs.TestLemmas.{NoneHold}
+use Rattle.cap_machine.specs.States.{State, key_of}
+use Rattle.cap_machine.specs.Steps.{Leads, is_recorded}
+use Rattle.cap_machine.specs.Accounts.{Account, most_roots, most_granules, most_steps, granule_of, named_by, row_in, passes_granules, naming, with_root, with_step, root_tests, step_tests}
+use Rattle.cap_machine.proofs.MadeLemmas.{first_mapped-none, ending}
+
+-- an account grows into another by so many roots and steps: its rules stay, and no granule that was named is taken away
+pub record Grows (old new : Account) (roots steps : ℕ) : Type 0 where
+  pub rules_stay : new.rules ≡ old.rules
+  pub roots_are : new.roots ≡ old.roots + roots
+  pub steps_are : new.steps ≡ old.steps + steps
+  pub granules_stay : old.granules ≤ new.granules
+
+one_more : (named : Bool) (granules : ℕ) → granules ≤ (if named then granules else granules + 1)
+one_more true granules = omega arith
+one_more false granules = omega arith
+
+pub naming-grows : (account : Account) (granule : Option ℕ) → Grows account (naming account granule) 0 0
+naming-grows account None =
+    record { rules_stay = refl; roots_are = omega arith; steps_are = omega arith; granules_stay = omega arith }
+naming-grows account (Some granule) =
+    let more = one_more (account.is_named granule) account.granules in
+    record { rules_stay = refl; roots_are = omega arith; steps_are = omega arith; granules_stay = more }
+
+pub with_root-grows : (account : Account) (place : Place) (word : Word) → Grows account (with_root account place word) 1 0
+with_root-grows account place word =
+    let named = naming-grows account (granule_of place) in
+    record { rules_stay = named.rules_stay; roots_are = refl; steps_are = named.steps_are; granules_stay = named.granules_stay }
+
+pub with_step-grows : (account : Account) (step : Step) → Grows account (with_step account step) 0 1
+with_step-grows account step =
+    let named = naming-grows account (named_by (row_in account step)) in
+    record { rules_stay = named.rules_stay; roots_are = named.roots_are; steps_are = refl; granules_stay = named.granules_stay }
+
+not_passed : (named : Bool) (granules most : ℕ) → (if named then granules else granules + 1) ≤ most
+    → (not named && nat_le most granules) ≡ false
+not_passed true granules most few = refl
+not_passed false granules most few = lt-leb most granules (omega arith)
+
+-- where an account keeps to the limit with a granule named, naming it doesn't pass the limit
+within : (account : Account) (granule : Option ℕ) → (naming account granule).granules ≤ most_granules account.rules
+    → passes_granules account granule ≡ false
+within account None few = refl
+within account (Some granule) few = not_passed (account.is_named granule) account.granules (most_granules account.rules) few
+
+-- the first of tests of which none holds
+pub first_of-none : {F : Type 0} (tests : List (Bool × F)) → NoneHold tests → first_of tests ≡ None
+first_of-none [] free = refl
+first_of-none ((true, found) ∷ tests) free = absurd (false≢true (sym free.0))
+first_of-none ((false, found) ∷ tests) free = first_of-none tests free.1
+
+-- no test holds of a sound root at a place without a tag, where the account with it keeps to the limits
+pub root_free : (account : Account) (place : Place) (word : Word) → (account.state (key_of place)).tag ≡ false → IsSound word.0
+    → account.roots < most_roots → (naming account (granule_of place)).granules ≤ most_granules account.rules
+    → NoneHold (root_tests account place word)
+root_free account place word untagged sound few_roots few_granules =
+    let is : is_sound word.0 ≡ true = and_from _ _ (eq-eqb _ _ sound.0) (le-leb _ _ sound.1) in
+    let limit = or_from _ _ (lt-leb most_roots account.roots few_roots) (within account (granule_of place) few_granules) in
+    (untagged, (ap not is, (limit, tt)))
+
+-- no test holds of a step that leads on, where the account with it keeps to the limits
+pub step_free : (account : Account) (step : Step) (next : State) → Leads account.rules account.state step next
+    → account.steps < most_steps → (naming account (named_by (row_in account step))).granules ≤ most_granules account.rules
+    → first_of (step_tests account step) ≡ None
+step_free account step next leads few_steps few_granules =
+    let row = row_in account step in
+    let limit = or_from _ _ (lt-leb most_steps account.steps few_steps) (within account (named_by row) few_granules) in
+    first_mapped-none row.tests _ leads.allowed
+    ∙ first_of-none (ending (is_recorded row) (nat_le most_steps account.steps || passes_granules account (named_by row)))
+    (ap not leads.recorded, (limit, tt))

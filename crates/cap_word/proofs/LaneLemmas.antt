@@ -1,0 +1,240 @@
+-- Lanes that were computed one by one from the bytes, and what their mask says.
+use Rattle.std.proofs.Common.{
+  ◌≡◌,
+  ℕ,
+  suc,
+  zero,
+  ◌+◌,
+  ◌-◌,
+  ◌*◌,
+  ◌/◌,
+  ◌%◌,
+  ◌^◌,
+  ◌<◌,
+  Bool,
+  true,
+  false,
+  not,
+  ◌||◌,
+  cond,
+  eqb,
+  ltb,
+  List,
+  [],
+  ◌∷◌,
+  ◌++◌,
+  map,
+  length,
+  get_or,
+  replicate,
+  Fits,
+  w8,
+  refl,
+  sym,
+  ap,
+  ◌∙◌,
+  arith,
+}
+use Rattle.std.proofs.lemmas.Bool.{agree_below, agree_below_at, eqb-true, false≢true, eq-eqb, not-false, lt-ltb, ltb-true}
+use Rattle.std.proofs.lemmas.List.{get_or-map, length-map, get_or_append_left}
+use Rattle.hex.specs.Hex.{encode_with, encode_lower}
+use lib.Lanes.{Each1, sel_l, mask_l, zip2, top}
+use lib.Bits.{bit_or}
+use Rattle.std.proofs.lemmas.Nat.{or_shifted}
+use Rattle.std.proofs.lemmas.Simd.{Each1-get_or, splat_is_map, zip2_splat, zip2_splat_left, map-map, mask_l-mod}
+use Rattle.cap_word.specs.Digits.{hex_digit, hex_digits}
+use Rattle.cap_word.specs.Lanes.{IsLaneOf}
+
+-- a lane is a byte
+below_256 : (v : List ℕ) → (length v ≡ 16) × Each1 (Fits w8) v → (i : ℕ) → i < 16 → get_or v i 0 < 256
+below_256 v fits i lt = (Each1-get_or (Fits w8) v i 0 (omega arith) fits.1).fits
+
+-- a choice lane by lane
+pub sel_of_maps : (p : ℕ → Bool) (f g : ℕ → ℕ) (v : List ℕ) {ms : List Bool} {xs ys : List ℕ} → ms ≡ map p v → xs ≡ map f v → ys ≡ map g v
+    → sel_l ms xs ys ≡ map (λ x. cond (p x) (f x) (g x)) v
+sel_of_maps p f g v em ex ey = rw (em, ex, ey) (chosen p f g v) where
+  chosen : (p : ℕ → Bool) (f g : ℕ → ℕ) (v : List ℕ) → sel_l (map p v) (map f v) (map g v) ≡ map (λ x. cond (p x) (f x) (g x)) v
+  chosen p f g [] = refl
+  chosen p f g (x ∷ v) = ap (λ r. cond (p x) (f x) (g x) ∷ r) (chosen p f g v)
+
+implied : (p q : Bool) → (not p || q) ≡ true → p ≡ true → q ≡ true
+implied true q h e = h
+implied false q h e = absurd (false≢true e)
+
+-- lanes that pass the tests of each byte and of each digit
+pub lane_of : (f : ℕ → ℕ) → agree_below (λ b. not (ltb (f b) 16) || eqb b (hex_digit (f b))) (λ _. true) 256 ≡ true
+    → agree_below (λ d. eqb (f (hex_digit d)) d) (λ _. true) 16 ≡ true
+    → (b : ℕ) → b < 256 → IsLaneOf b (f b)
+lane_of f bytes digits b small = record {
+  names = λ low.
+      let test = agree_below_at (λ b. not (ltb (f b) 16) || eqb b (hex_digit (f b))) (λ _. true) 256 b bytes small in
+      eqb-true b (hex_digit (f b)) (implied (ltb (f b) 16) (eqb b (hex_digit (f b))) test (lt-ltb (f b) 16 low));
+  reads = λ d few e.
+      let test = agree_below_at (λ d. eqb (f (hex_digit d)) d) (λ _. true) 16 d digits few in
+      ap f e ∙ eqb-true (f (hex_digit d)) d test;
+}
+
+-- no bit of the mask is set exactly where no lane passes
+pub mask_none : (p : ℕ → Bool) (v : List ℕ) → ((i : ℕ) → i < length v → p (get_or v i 0) ≡ false) → mask_l (map p v) ≡ 0
+mask_none p [] h = refl
+mask_none p (x ∷ v) h =
+    let rest = mask_none p v (λ i lt. h (suc i) (omega arith)) in
+    let first = h 0 (omega arith) in
+    rw (first, rest) refl
+
+pub none_masked : (p : ℕ → Bool) (v : List ℕ) → mask_l (map p v) ≡ 0 → (i : ℕ) → i < length v → p (get_or v i 0) ≡ false
+none_masked p [] h i lt = absurd (omega arith)
+none_masked p (x ∷ v) h zero lt = first (p x) h where
+  first : (b : Bool) → cond b 1 0 + 2 * mask_l (map p v) ≡ 0 → b ≡ false
+  first true e = absurd (omega arith)
+  first false e = refl
+none_masked p (x ∷ v) h (suc i) lt =
+    let rest : mask_l (map p v) ≡ 0 = omega arith in
+    none_masked p v rest i (omega arith)
+
+-- a text whose pairs are the digits of bytes is their text
+pub spelled : (bs text : List ℕ) → length text ≡ 2 * length bs
+    → ((j : ℕ) → j < length bs
+    → (get_or text (2 * j) 0 ≡ hex_digit (get_or bs j 0 / 16)) × (get_or text (2 * j + 1) 0 ≡ hex_digit (get_or bs j 0 % 16)))
+    → text ≡ encode_lower bs
+unfolding encode_with
+spelled [] [] long h = refl
+spelled [] (x ∷ text) long h = absurd (omega arith)
+spelled (b ∷ bs) [] long h = absurd (omega arith)
+spelled (b ∷ bs) (x ∷ []) long h = absurd (omega arith)
+spelled (b ∷ bs) (x ∷ y ∷ text) long h =
+    let first = h 0 (omega arith) in
+    let rest = spelled bs text (omega arith) (λ j lt. let at = h (suc j) (omega arith) in
+    let twice : 2 * suc j ≡ suc (suc (2 * j)) = omega arith in
+    let more : 2 * suc j + 1 ≡ suc (suc (2 * j + 1)) = omega arith in
+    (rw twice at at.0, rw more at at.1)) in
+    rw (first.0, first.1, rest) refl
+
+-- the lanes of the digits, whatever the three operations and the six numbers are: `zero` and the nine above
+-- it are digits, and so are `a` and those above it, whose value is `ten` more
+module _ (less sub add : ℕ → ℕ → ℕ) (zero ten a six more other : ℕ) (v : List ℕ) (fits : (length v ≡ 16) × Each1 (Fits w8) v) where
+  long : length v ≡ 16
+  long = fits.0
+
+  abbrev from : ℕ → List ℕ
+  from first = zip2 sub v (replicate 16 first)
+
+  abbrev lane : ℕ → ℕ
+  lane x = cond (top 7 (less (sub x zero) ten)) (sub x zero) (cond (top 7 (less (sub x a) six)) (add (sub x a) more) other)
+
+  abbrev lanes : List ℕ
+  lanes =
+      sel_l (map (top 7) (zip2 less (from zero) (replicate 16 ten))) (from zero)
+      (sel_l (map (top 7) (zip2 less (from a) (replicate 16 six))) (zip2 add (from a) (replicate 16 more)) (replicate 16 other))
+
+  from-is : (first : ℕ) → from first ≡ map (λ x. sub x first) v
+  from-is first = zip2_splat sub v 16 first long
+
+  with_splat : (op : ℕ → ℕ → ℕ) (first y : ℕ) → zip2 op (from first) (replicate 16 y) ≡ map (λ x. op (sub x first) y) v
+  with_splat op first y =
+      ap (λ l. zip2 op l (replicate 16 y)) (from-is first)
+      ∙ zip2_splat op (map (λ x. sub x first) v) 16 y (length-map v (λ x. sub x first) ∙ long) ∙ map-map (λ x. op x y) (λ x. sub x first) v
+
+  test-is : (first y : ℕ) → map (top 7) (zip2 less (from first) (replicate 16 y)) ≡ map (λ x. top 7 (less (sub x first) y)) v
+  test-is first y = ap (map (top 7)) (with_splat less first y) ∙ map-map (top 7) (λ x. less (sub x first) y) v
+
+  letters-is : sel_l (map (top 7) (zip2 less (from a) (replicate 16 six))) (zip2 add (from a) (replicate 16 more)) (replicate 16 other)
+      ≡ map (λ x. cond (top 7 (less (sub x a) six)) (add (sub x a) more) other) v
+  letters-is =
+      sel_of_maps (λ x. top 7 (less (sub x a) six)) (λ x. add (sub x a) more) (λ _. other) v (test-is a six) (with_splat add a more)
+      (splat_is_map v 16 other long)
+
+  lanes-is : lanes ≡ map lane v
+  lanes-is =
+      sel_of_maps (λ x. top 7 (less (sub x zero) ten)) (λ x. sub x zero)
+      (λ x. cond (top 7 (less (sub x a) six)) (add (sub x a) more) other) v
+      (test-is zero ten) (from-is zero) letters-is
+
+  pub lane_at : agree_below (λ b. not (ltb (lane b) 16) || eqb b (hex_digit (lane b))) (λ _. true) 256 ≡ true
+      → agree_below (λ d. eqb (lane (hex_digit d)) d) (λ _. true) 16 ≡ true
+      → (i : ℕ) → i < 16 → IsLaneOf (get_or v i 0) (get_or lanes i 0)
+  lane_at bytes digits i lt =
+      let at : get_or lanes i 0 ≡ lane (get_or v i 0) = ap (λ (l : List ℕ). get_or l i 0) lanes-is
+      ∙ get_or-map lane v i 0 0 (omega arith) in
+      rw at (lane_of lane bytes digits (get_or v i 0) (below_256 v fits i lt))
+
+-- the mask of the lanes that are 16 or more
+module _ (v : List ℕ) (fits : (length v ≡ 16) × Each1 (Fits w8) v) (le : ℕ → ℕ → ℕ) where
+  sixteen : length v ≡ 16
+  sixteen = fits.0
+
+  abbrev mask : ℕ
+  mask = mask_l (map (top 7) (zip2 le (replicate 16 16) v)) % 2 ^ 64
+
+  mask-is : mask ≡ mask_l (map (λ x. top 7 (le 16 x)) v)
+  mask-is =
+      let each = ap (map (top 7)) (zip2_splat_left le 16 16 v sixteen) ∙ map-map (top 7) (λ x. le 16 x) v in
+      ap (λ l. mask_l l % 2 ^ 64) each
+      ∙ mask_l-mod (map (λ x. top 7 (le 16 x)) v) 64 (omega (arith, length-map v (λ x. top 7 (le 16 x)), sixteen))
+
+  at : agree_below (λ x. top 7 (le 16 x)) (λ x. not (ltb x 16)) 256 ≡ true → (i : ℕ) → i < 16
+      → top 7 (le 16 (get_or v i 0)) ≡ not (ltb (get_or v i 0) 16)
+  at test i lt = agree_below_at (λ x. top 7 (le 16 x)) (λ x. not (ltb x 16)) 256 (get_or v i 0) test (below_256 v fits i lt)
+
+  pub all_low : agree_below (λ x. top 7 (le 16 x)) (λ x. not (ltb x 16)) 256 ≡ true → eqb mask 0 ≡ true → (i : ℕ) → i < 16
+      → get_or v i 0 < 16
+  all_low test none i lt =
+      ltb-true (get_or v i 0) 16
+      (not-false _ (sym (at test i lt) ∙ none_masked (λ x. top 7 (le 16 x)) v (sym mask-is ∙ eqb-true mask 0 none) i (omega arith)))
+
+  pub not_all_low : agree_below (λ x. top 7 (le 16 x)) (λ x. not (ltb x 16)) 256 ≡ true → eqb mask 0 ≡ false
+      → ((i : ℕ) → i < 16 → get_or v i 0 < 16) → ⊥
+  not_all_low test some low =
+      let none = mask-is ∙ mask_none (λ x. top 7 (le 16 x)) v
+      (λ i lt. at test i (omega arith) ∙ ap not (lt-ltb (get_or v i 0) 16 (low i (omega arith)))) in
+      false≢true (sym some ∙ eq-eqb mask 0 none)
+
+-- a byte of two digits
+pub paired : (v : List ℕ) (i j : ℕ) → length v ≡ 16 → ((k : ℕ) → k < 16 → get_or v k 0 < 16) → i < 16 → j < 16
+    → bit_or (get_or (v ++ v) i 0 * 16 % 256) (get_or (v ++ v) j 0) ≡ 16 * get_or v i 0 + get_or v j 0
+paired v i j long low first second =
+    let a = get_or_append_left v v 0 i (omega arith) in
+    let b = get_or_append_left v v 0 j (omega arith) in
+    let high = low i first in
+    let whole : get_or v i 0 * 16 % 256 ≡ get_or v i 0 * 2 ^ 4 = omega arith in
+    rw (a, b, whole) (or_shifted (get_or v i 0) 4 (get_or v j 0) (low j second) ∙ omega arith)
+
+abbrev pair : List ℕ → ℕ → ℕ → ℕ
+pair v i j = bit_or (get_or (v ++ v) i 0 * 16 % 256) (get_or (v ++ v) j 0)
+
+pub pairs_at : (v : List ℕ) → length v ≡ 16 → ((k : ℕ) → k < 16 → get_or v k 0 < 16) → (j : ℕ) → j < 8
+    → get_or (pair v 0 1 ∷ pair v 2 3 ∷ pair v 4 5 ∷ pair v 6 7 ∷ pair v 8 9 ∷ pair v 10 11 ∷ pair v 12 13 ∷ pair v 14 15 ∷ []) j 0
+    ≡ 16 * get_or v (2 * j) 0 + get_or v (2 * j + 1) 0
+pairs_at v long low zero lt = paired v 0 1 long low (omega arith) (omega arith)
+pairs_at v long low (suc zero) lt = paired v 2 3 long low (omega arith) (omega arith)
+pairs_at v long low (suc (suc zero)) lt = paired v 4 5 long low (omega arith) (omega arith)
+pairs_at v long low (suc (suc (suc zero))) lt = paired v 6 7 long low (omega arith) (omega arith)
+pairs_at v long low (suc (suc (suc (suc zero)))) lt = paired v 8 9 long low (omega arith) (omega arith)
+pairs_at v long low (suc (suc (suc (suc (suc zero))))) lt = paired v 10 11 long low (omega arith) (omega arith)
+pairs_at v long low (suc (suc (suc (suc (suc (suc zero)))))) lt = paired v 12 13 long low (omega arith) (omega arith)
+pairs_at v long low (suc (suc (suc (suc (suc (suc (suc zero))))))) lt = paired v 14 15 long low (omega arith) (omega arith)
+pairs_at v long low (suc (suc (suc (suc (suc (suc (suc (suc j)))))))) lt = absurd (omega arith)
+
+-- the two digits of a byte
+pub pair_spelled : (x y v w b : ℕ) → IsLaneOf x v → IsLaneOf y w → v < 16 → w < 16 → b ≡ 16 * v + w
+    → (x ≡ hex_digit (b / 16)) × (y ≡ hex_digit (b % 16))
+pair_spelled x y v w b first second high low e =
+    let q : b / 16 ≡ v = omega arith in
+    let r : b % 16 ≡ w = omega arith in
+    (first.names high ∙ ap hex_digit (sym q), second.names low ∙ ap hex_digit (sym r))
+
+get_or-hex_digits : (k n i : ℕ) → i < k → get_or (hex_digits k n) i 0 ≡ hex_digit (n / 16 ^ (k - 1 - i) % 16)
+unfolding hex_digits
+get_or-hex_digits zero n i lt = absurd (omega arith)
+get_or-hex_digits (suc k) n zero lt = let first : suc k - 1 - 0 ≡ k = omega arith in rw first refl
+get_or-hex_digits (suc k) n (suc i) lt =
+    let back : suc k - 1 - suc i ≡ k - 1 - i = omega arith in
+    rw back (get_or-hex_digits k n i (omega arith))
+
+-- a lane over a digit of a number is low
+pub digit_at : (k n i : ℕ) → i < k → (text : List ℕ) (v : ℕ) → text ≡ hex_digits k n → IsLaneOf (get_or text i 0) v → v < 16
+digit_at k n i lt text v e lane =
+    let at = ap (λ (l : List ℕ). get_or l i 0) e ∙ get_or-hex_digits k n i lt in
+    let small : n / 16 ^ (k - 1 - i) % 16 < 16 = omega arith in
+    let is = lane.reads (n / 16 ^ (k - 1 - i) % 16) small at in
+    omega (arith, is)

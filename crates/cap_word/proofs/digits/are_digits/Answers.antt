@@ -1,0 +1,9 @@
+use Rattle.std.proofs.Common.{leb, cond, refl}
+use Rattle.cap_word.proofs.LaneLemmas.{all_low, not_all_low}
+use Rattle.cap_word.proofs.digits.are_digits.Goals as goal
+
+pub returns-clause-yes : goal.returns-clause-yes
+returns-clause-yes c = all_low c.args.values c.fits-values (λ a b. cond (leb a b) 255 0) refl
+
+pub returns-clause-no : goal.returns-clause-no
+returns-clause-no c = not_all_low c.args.values c.fits-values (λ a b. cond (leb a b) 255 0) refl
