@@ -2,6 +2,7 @@
 
 ghost use Rattle.std.specs.Prelude.{◌≡◌, ◌<◌, ◌^◌, ◌↔◌, IsTrue};
 ghost use Rattle.cap_bounds.specs.Bounds.{AreBounds, IsSound, base_of, length_of, top_of};
+ghost use Rattle.cap_bounds.specs.SailDecoding.{sail_base, sail_top};
 ghost use Rattle.capcheck_c.specs.Passed.{whole_of};
 
 use crate::halves::{halves_of, word_of};
@@ -15,6 +16,10 @@ pub extern "C" fn capcheck_decode(word: Halves) -> Bounds
     ensures top { whole_of result.top ≡ top_of (whole_of word) }
     ensures relation { AreBounds (whole_of word) result.base (whole_of result.top) }
     ensures top_fits { whole_of result.top < 2 ^ 65 }
+
+    // The same bounds as the Sail model decodes them.
+    ensures model_base { result.base ≡ sail_base (whole_of word) }
+    ensures model_top { whole_of result.top ≡ sail_top (whole_of word) }
 {
     let interval = bounds(word_of(word));
     Bounds {

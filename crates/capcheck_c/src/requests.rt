@@ -1,7 +1,7 @@
 //! Requests for bounds, and the addresses that keep a word's bounds.
 
 ghost use Rattle.std.specs.Prelude.{◌≡◌, ◌<◌, ◌≤◌, ◌+◌, ◌-◌, ◌*◌, ◌/◌, ◌%◌, ◌^◌, ◌↔◌, ℕ, IsTrue};
-ghost use Rattle.cap_word.specs.Fields.{address_of};
+ghost use Rattle.cap_word.specs.Fields.{address_of, b_of, e_of, ie_of, t_of};
 ghost use Rattle.cap_bounds.specs.Bounds.{
   IsInside,
   IsSound,
@@ -26,6 +26,7 @@ ghost use Rattle.cap_bounds.specs.Rounding.{
   rounded_top,
   rounded_word,
 };
+ghost use Rattle.cap_bounds.specs.SailRounding.{sail_b, sail_exact, sail_exponent, sail_ie, sail_t};
 ghost use Rattle.capcheck_c.specs.Passed.{is_set, whole_of};
 
 use crate::halves::{halves_of, word_of};
@@ -52,6 +53,13 @@ pub extern "C" fn capcheck_round(base: u64, length: u64) -> RoundedRequest
     ensures rounded_down { 4096 ≤ length → result.base ≡ base / 2 ^ (result.e + 3) * 2 ^ (result.e + 3) }
     ensures rounded_up { 4096 ≤ length
         → whole_of result.top ≡ div_up (base + length) (2 ^ (result.e + 3)) * 2 ^ (result.e + 3) }
+
+    // The same fields as the Sail model rounds to.
+    ensures model_ie { is_set result.ie ≡ sail_ie length }
+    ensures model_e { result.e ≡ sail_exponent base length }
+    ensures model_b { result.b ≡ sail_b base length }
+    ensures model_t { result.t ≡ sail_t base length }
+    ensures model_exact { is_set result.exact ≡ sail_exact base length }
 {
     let rounded = round(base, length);
     RoundedRequest {
@@ -162,6 +170,12 @@ pub extern "C" fn capcheck_with_bounds(word: Halves, base: u64, length: u64) -> 
     ensures word { whole_of result ≡ rounded_word (whole_of word) base length }
     ensures kept { whole_of result / 2 ^ 91 ≡ whole_of word / 2 ^ 91 }
     ensures address { address_of (whole_of result) ≡ base }
+
+    // The fields that bounds are made of.
+    ensures ie { ie_of (whole_of result) ≡ rounded_ie length }
+    ensures e { e_of (whole_of result) ≡ rounded_exponent base length }
+    ensures b { b_of (whole_of result) ≡ rounded_b base length }
+    ensures t { t_of (whole_of result) ≡ rounded_t base length % 2 ^ 12 }
     ensures decodes { base + length ≤ 2 ^ 64
         → (base_of (whole_of result) ≡ rounded_base base length)
         × (top_of (whole_of result) ≡ rounded_top base length) × IsSound (whole_of result) }

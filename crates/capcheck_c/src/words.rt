@@ -1,7 +1,7 @@
 //! Words: their fields, their layout in memory, their text.
 
-ghost use Rattle.std.specs.Prelude.{◌≡◌, ◌≢◌, ◌<◌, ◌≤◌, ◌^◌, ◌++◌, [], ◌∷◌, ℕ, slice_index};
-ghost use Rattle.cap_word.specs.Digits.{hex_digits};
+ghost use Rattle.std.specs.Prelude.{◌≡◌, ◌≢◌, ◌<◌, ◌≤◌, ◌^◌, ◌++◌, ◌↔◌, [], ◌∷◌, ℕ, slice_index};
+ghost use Rattle.cap_word.specs.Digits.{AreHexDigits, hex_digits};
 ghost use Rattle.cap_word.specs.Memory.{memory_byte, memory_of, stored_word};
 ghost use Rattle.cap_word.specs.Word.{null_word};
 ghost use Rattle.capcheck_c.specs.Passed.{whole_of};
@@ -131,6 +131,9 @@ pub extern "C" fn capcheck_read_word(text: &[u8]) -> OptionalWord
     ensures range { result.present ≤ 1 }
     ensures some { result.present ≡ 1 → text.now ≡ hex_digits 32 (whole_of result.word) }
     ensures none { result.present ≡ 0 → (n : ℕ) → n < 2 ^ 128 → text.now ≢ hex_digits 32 n }
+    ensures digits { (result.present ≡ 1) ↔ AreHexDigits 32 text.now }
+    ensures reads_back { (n : ℕ) → n < 2 ^ 128 → text.now ≡ hex_digits 32 n
+        → (result.present ≡ 1) × (whole_of result.word ≡ n) }
     ensures zero { result.present ≡ 0 → IsNoWord result }
 {
     match read_word(text) {
