@@ -33,8 +33,3 @@ abbrev pub IsFront : List ℕ → Front → Type 0
 IsFront bytes (Line n) = (n < length bytes) × IsLine bytes (take n bytes) (drop (n + 1) bytes)
 IsFront bytes TooLong = IsTooLong bytes
 IsFront bytes Cut = IsCut bytes
-
--- the front of some bytes is too long and the first holds, or cut and the second holds, or a whole line of which the third holds
--- (this profile's own: logs and vector files alike say with it what is refused)
-abbrev pub MatchFront : List ℕ → Type 0 → Type 0 → (List ℕ → Type 0) → Type 0
-MatchFront bytes long cut P = (IsTooLong bytes × long) ⊎ (IsCut bytes × cut) ⊎ ((line : List ℕ) × (rest : List ℕ) × IsLine bytes line rest × P line)
