@@ -1,12 +1,10 @@
 -- Where some bytes are cut: at the first byte of a kind.
-use Rattle.std.proofs.Common.{◌≡◌, ◌≢◌, ℕ, true, not, eqb, List, [], ◌∷◌, ◌++◌, length, take, drop, get_or, sym, ap, ◌∙◌, refl, arith}
-use Rattle.std.specs.Prelude.{All}
-use Rattle.std.specs.List.{list_all}
+use Rattle.std.proofs.Common.{◌≡◌, ◌≢◌, ℕ, true, eqb, List, [], ◌∷◌, ◌++◌, length, take, drop, get_or, sym, ap, ◌∙◌, refl, arith}
 use Rattle.std.specs.Cmp.Lexicographic.{pointwise}
-use Rattle.std.proofs.lemmas.Bool.{and_parts, not-true, eqb-false, eqb-true, false≢true}
+use Rattle.std.proofs.lemmas.Bool.{and_parts, eqb-true, false≢true}
 use Rattle.std.proofs.lemmas.List.{get_or_at, length-append}
-use Rattle.std.proofs.lemmas.List.Elements.{All-head, All-tail, All-cons, All-nil}
-use Rattle.cap_log.specs.Parts.{Lacks, HasNoSpace, IsCutAt}
+use Rattle.std.proofs.lemmas.List.Elements.{All-head, All-tail}
+use Rattle.cap_log.specs.Parts.{Lacks, IsCutAt}
 pub use Rattle.cap_log.specs.Spaceless.{Lacks-by_test}
 
 -- two cuts of one list are one

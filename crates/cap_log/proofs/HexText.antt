@@ -1,8 +1,7 @@
 -- Hexadecimal digits: they are no spaces or line feeds, and name one number.
-use Rattle.std.proofs.Common.{◌≡◌, ◌≢◌, ℕ, zero, suc, ◌+◌, ◌-◌, ◌*◌, ◌/◌, ◌%◌, ◌^◌, ◌<◌, sym, ap, ◌∙◌, refl, arith, codes}
+use Rattle.std.proofs.Common.{◌≡◌, ℕ, zero, suc, ◌+◌, ◌-◌, ◌*◌, ◌/◌, ◌%◌, ◌^◌, ◌<◌, sym, ap, ◌∙◌, refl, arith}
 use Rattle.std.specs.Char.{digit_value}
 use Rattle.std.proofs.Math.Nat as nat
-use Rattle.std.proofs.lemmas.List.Elements.{All-nil, All-cons, All-get_or}
 use Rattle.cap_word.specs.Digits.{hex_digit, hex_digits}
 
 -- the value of a digit

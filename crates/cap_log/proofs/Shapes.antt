@@ -1,13 +1,13 @@
 -- Lines by their heads: what stands behind the head, and the line that head and operands make.
-use Rattle.std.proofs.Common.{append_assoc, ◌≡◌, ◌≢◌, ℕ, ◌+◌, ◌<◌, ◌≤◌, ◌^◌, List, ◌∷◌, ◌++◌, length, sym, ap, subst, ◌∙◌, refl, arith, inl, inr, decimal, codes, lit≤, if◌then◌else◌, Option, Some, None, IfSome, IfNone}
+use Rattle.std.proofs.Common.{append_assoc, ◌≡◌, ◌≢◌, ℕ, ◌+◌, ◌<◌, ◌≤◌, ◌^◌, List, ◌∷◌, ◌++◌, length, sym, ap, subst, ◌∙◌, refl, arith, inl, inr, decimal, codes, lit≤, if◌then◌else◌}
 use Rattle.std.specs.Fmt.{signed_decimal}
 use Rattle.std.specs.Str.{bytes_eq}
 use Rattle.cap_word.specs.Digits.{hex_digits}
 use Rattle.cap_word.specs.declared.word.Word.{Word}
 use Rattle.cap_log.specs.Front.{HasNoFeed}
 use Rattle.cap_log.specs.Heads.{IsHead, head_spelling}
-use Rattle.cap_log.specs.Lines.{IsInRange, IsMode, IsNumber, IsVersion, IsOffset, IsPlace, IsRegister, IsTarget, IsWordNumber, Spells, mode_spelling, version_spelling, place_spelling, register_spelling, spelling}
-use Rattle.cap_log.specs.Parts.{Begins, BeginsWithNone, FitsBoth, HasNoSpace, IsSized, loaded_spelling, result_spelling, spaced, stored_spelling}
+use Rattle.cap_log.specs.Lines.{IsInRange, IsMode, IsNumber, IsVersion, IsOffset, IsPlace, IsRegister, IsTarget, IsWordNumber, mode_spelling, version_spelling, place_spelling, register_spelling, spelling}
+use Rattle.cap_log.specs.Parts.{Begins, BeginsWithNone, FitsBoth, IsSized, loaded_spelling, result_spelling, spaced, stored_spelling}
 use Rattle.cap_log.specs.declared.heads.Head.{Head}
 use Rattle.cap_log.specs.declared.heads.Head.TheVariants as head
 use Rattle.cap_log.specs.declared.heads.RegisterStep.TheVariants as registers

@@ -1,6 +1,6 @@
 -- Parts at the front of some bytes: what a cut and a reading of the word say of them.
-use Rattle.std.proofs.Common.{◌≡◌, ℕ, List, ◌∷◌, ◌++◌, length, take, drop, refl, sym, ap, ◌∙◌}
-use Rattle.std.proofs.lemmas.List.{take_at, drop_at, append_assoc}
+use Rattle.std.proofs.Common.{◌≡◌, ℕ, List, ◌∷◌, ◌++◌, length, take, sym, ap, ◌∙◌}
+use Rattle.std.proofs.lemmas.List.{take_at, append_assoc}
 use Rattle.cap_log.specs.Parts.{Begins, BeginsWithNone, FitsBoth, HasNoSpace, IsCutAt, Lacks, spaced}
 use Rattle.cap_log.proofs.Cuts.{no_cut, same_cut, same_word}
 

@@ -1,4 +1,3 @@
-use Rattle.std.proofs.Common.{rules}
 use Rattle.cap_log.specs.declared.heads.Head.TheVariants as head
 use Rattle.cap_log.proofs.Shapes.{mode-operand, no_operands, takes-made, version-operand}
 use Rattle.cap_log.specs.Lines.{IsMode, IsVersion, mode_spelling, version_spelling}

@@ -1,6 +1,3 @@
-use Rattle.std.proofs.Common.{◌≡◌, ℕ, refl, sym, ap, subst, ◌∙◌}
-use Rattle.cap_log.specs.Parts.{Writes}
-use Rattle.cap_log.specs.Lines.{spelling}
 use Rattle.cap_log.specs.declared.lines.Line.TheVariants as line
 use Rattle.cap_log.proofs.Shapes.{version_two}
 use Rattle.cap_log.proofs.SpellingLemmas.{line_written}

@@ -1,5 +1,4 @@
-use Rattle.std.proofs.Common.{List, ℕ, ap, subst, ◌∙◌}
-use Rattle.cap_word.specs.Digits.{hex_digits}
+use Rattle.std.proofs.Common.{List, ℕ, subst}
 use Rattle.cap_log.specs.Parts.{Writes}
 use Rattle.cap_log.proofs.SizedLemmas.{last_digits}
 use Rattle.cap_log.proofs.parts.hexadecimals.write_digits.Goals as goal

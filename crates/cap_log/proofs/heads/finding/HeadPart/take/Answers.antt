@@ -1,4 +1,3 @@
-use Rattle.std.proofs.Common.{arith}
 use Rattle.cap_log.specs.Heads.{IsHead, head_spelling}
 use Rattle.cap_log.specs.Spaceless.{Lacks-head}
 use Rattle.cap_log.proofs.TakeLemmas.{none_ended, none_read}

@@ -1,4 +1,3 @@
-use Rattle.std.proofs.Common.{arith}
 use Rattle.cap_log.specs.Spaceless.{Lacks-register}
 use Rattle.cap_log.proofs.Shapes.{FitsRegister, register_text}
 use Rattle.cap_log.proofs.TakeLemmas.{none_ended, none_read}
