@@ -10,8 +10,8 @@ use Rattle.cap_bounds.specs.Bounds.{cut_exponent_of}
 unfoldable pub below_bit : ℕ → ℕ → ℕ
 below_bit x y = bit_of (nat_lt x y)
 
--- T: below its two highest bits the twelve that the word has; these two are those of B, plus the carry,
--- plus IE, modulo 4 (`capBitsToCapability`)
+-- T: its low twelve bits are the word's, and the two above them are those of B, plus the carry, plus IE,
+-- modulo 4 (`capBitsToCapability`)
 abbrev pub sail_mantissa : ℕ → ℕ → Bool → ℕ
 sail_mantissa b low ie = (b / 2 ^ 12 + below_bit low (b % 2 ^ 12) + bit_of ie) % 4 * 2 ^ 12 + low
 
