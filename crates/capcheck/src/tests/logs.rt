@@ -1,13 +1,18 @@
 //! Whole logs and their verdicts, byte for byte.
 
 use crate::judging::judge_bytes;
+use crate::tests::pieces::{cut, in_pieces, longer, over_a_list};
 use crate::verdict::Verdict;
 use crate::verdict_lines::verdict_text;
 use std::alloc::{AllocError, Global};
 use std::process::Abort;
 use std::test::Fail;
 
-// The verdict on a log is this line.
+// Below so many bytes a log is short.
+const SHORT: usize = 1000;
+
+// The verdict on a log is this line: in one piece and in pieces of one byte, with its granules in pages and
+// in a list. A short log also comes in pieces of up to eight bytes, and, with a yes, cut and with a byte more.
 pub fn judges(rt: &(impl Abort + AllocGlobal), log: &[u8], line: &[u8]) {
     let Ok(verdict) = judge_bytes(rt.alloc(), log) else {
         panic!(rt; "no verdict");
@@ -15,6 +20,17 @@ pub fn judges(rt: &(impl Abort + AllocGlobal), log: &[u8], line: &[u8]) {
     let mut text = [0u8; 64];
     let length = verdict_text(&verdict, &mut text);
     assert_eq!(rt; &text[..length], line);
+    in_pieces(rt, rt.alloc(), log, 1, verdict);
+    over_a_list(rt, rt.alloc(), log, verdict);
+    if log.len() < SHORT {
+        for size in 2..9 {
+            in_pieces(rt, rt.alloc(), log, size, verdict);
+        }
+        if matches!(verdict, Verdict::Yes { steps: _, roots: _ }) {
+            cut(rt, rt.alloc(), log);
+            longer(rt, rt.alloc(), log);
+        }
+    }
 }
 
 #[test]

@@ -31,6 +31,49 @@ impl Write for Full {
     }
 }
 
+// The bytes of a log, one at a time, and then an error.
+#[derive(Drop)]
+struct Breaking {
+    rest: &'static [u8],
+}
+
+impl Read for Breaking {
+    fn read(&mut self, buffer: &mut [u8]) -> io::Result<usize> {
+        match (self.rest.split_first(), buffer.first_mut()) {
+            (Some((byte, rest)), Some(room)) => {
+                *room = *byte;
+                self.rest = rest;
+                Ok(1)
+            }
+            _ => Err(io::Error::from(io::ErrorKind::Other)),
+        }
+    }
+}
+
+// A writer that takes so many bytes and then fails.
+#[derive(Drop)]
+struct Filling {
+    left: usize,
+}
+
+impl Write for Filling {
+    fn write(&mut self, bytes: &[u8]) -> io::Result<usize> {
+        if self.left == 0 {
+            return Err(io::Error::from(io::ErrorKind::StorageFull));
+        }
+        let count = self.left.min(bytes.len());
+        self.left = self.left.saturating_sub(count);
+        Ok(count)
+    }
+
+    fn flush(&mut self) -> io::Result<()> {
+        if self.left == 0 {
+            return Err(io::Error::from(io::ErrorKind::StorageFull));
+        }
+        Ok(())
+    }
+}
+
 const YES: &[u8] = b"capcheck 1\nend 0\n";
 
 const NO: &[u8] = b"capcheck 1\nend 1\n";
@@ -90,6 +133,47 @@ fn a_broken_reader(rt: HostRuntime) -> Result<(), Fail> {
     assert_eq!(rt; status, 3);
     assert_eq!(rt; out.len(), 0);
     assert_eq!(rt; faults.as_slice(), b"capcheck: read fault\n".as_slice());
+    Ok(())
+}
+
+#[test]
+fn a_reader_that_breaks_in_a_log(rt: HostRuntime) -> Result<(), Fail> {
+    for count in 0..YES.len() {
+        let mut out = Vec::new(rt.alloc());
+        let mut faults = Vec::new(rt.alloc());
+        let rest = &YES[..count + 1];
+        let input = Some(Breaking { rest });
+        let status = run(rt.alloc(), JUDGE, input, &mut out, &mut faults);
+        assert_eq!(rt; status, 3, "after the byte {count}");
+        assert_eq!(rt; out.len(), 0);
+        assert_eq!(rt; faults.as_slice(), b"capcheck: read fault\n".as_slice());
+    }
+    Ok(())
+}
+
+// The verdict is there before the reader breaks.
+#[test]
+fn a_reader_that_breaks_behind_the_first_fault(rt: HostRuntime) -> Result<(), Fail> {
+    let mut out = Vec::new(rt.alloc());
+    let mut faults = Vec::new(rt.alloc());
+    let input = Some(Breaking { rest: NO });
+    let status = run(rt.alloc(), JUDGE, input, &mut out, &mut faults);
+    assert_eq!(rt; status, 1);
+    assert_eq!(rt; out.as_slice(), b"no 2 6 WrongCount\n".as_slice());
+    assert_eq!(rt; faults.len(), 0);
+    Ok(())
+}
+
+// With eight bytes of room all of the line is taken, and the flush fails.
+#[test]
+fn an_output_that_fills_up(rt: HostRuntime) -> Result<(), Fail> {
+    for left in 0..9 {
+        let mut out = Filling { left };
+        let mut faults = Vec::new(rt.alloc());
+        let status = run(rt.alloc(), JUDGE, Some(YES), &mut out, &mut faults);
+        assert_eq!(rt; status, 3, "with room for {left}");
+        assert_eq!(rt; faults.as_slice(), b"capcheck: write fault\n".as_slice());
+    }
     Ok(())
 }
 
