@@ -56,7 +56,7 @@ pub round_length : (base size base_rounded top_rounded : â„•) (ie : Bool) (e : â
 round_length base size base_rounded top_rounded ie e exact = (
   rounding_text base_rounded top_rounded ie e exact,
   three_then_more (codes "round ") (hex_digits 16 base) (codes " ") (hex_digits 16 size) (codes " = ") (hex_digits 16 base_rounded) (codes " ") (hex_digits 17 top_rounded) (codes " ")
-  (flag_digit ie) (codes " ") (decimal e) (codes " ") (flag_digit exact),
+      (flag_digit ie) (codes " ") (decimal e) (codes " ") (flag_digit exact),
 )
 
 -- operands have one true line

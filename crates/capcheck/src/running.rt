@@ -7,9 +7,9 @@ ghost use Rattle.capcheck.specs.Operands.{IsFaulty};
 ghost use Rattle.capcheck.specs.Statuses.{exit_status, status_of};
 ghost use Rattle.capcheck.specs.declared.words.Order.TheVariants.{Explain, Judge, Round};
 
+use crate::checking::check_input;
 use crate::explain_lines::explain_text;
 use crate::faults::Fault;
-use crate::checking::check_input;
 use crate::inputs::judge_reader;
 use crate::outputs::is_written;
 use crate::round_lines::round_text;

@@ -1,8 +1,9 @@
 //! Vector files: lines of operands and of what is said of them, by which two implementations compare themselves.
 
-ghost use Rattle.std.specs.Prelude.{◌≡◌, OnOk, OnErr};
+ghost use Rattle.std.specs.Prelude.{◌≡◌, ◌≢◌, MatchBool, OnOk, OnErr};
 ghost use Rattle.cap_log.specs.Streams.{next_count};
-ghost use Rattle.capcheck.specs.VectorFiles.{Checked};
+ghost use Rattle.capcheck.specs.VectorFiles.{Checked, FailsWhole, last_line};
+ghost use Rattle.capcheck.specs.Vectors.{IsTrueLine};
 
 mod operands;
 pub mod stating;
@@ -53,7 +54,7 @@ pub fn vectors<S: Source>(source: &mut S) -> Result<VectorVerdict, PullFault>
             Ok(Next::LineTooLong) => return Ok(VectorVerdict::Fail { line: passed + 1 }),
             Ok(Next::Line(text)) => {
                 let line = passed + 1;
-                if line == LAST_LINE || !is_true_line(text) {
+                if is_failing(line, text) {
                     return Ok(VectorVerdict::Fail { line });
                 }
                 passed = line;
@@ -61,3 +62,13 @@ pub fn vectors<S: Source>(source: &mut S) -> Result<VectorVerdict, PullFault>
         }
     }
 }
+
+// Whether a whole line fails: it is the last one, or it states nothing true.
+fn is_failing(line: u64, text: &[u8]) -> bool
+    ensures { MatchBool result (FailsWhole line text.now) ((line ≢ last_line) × IsTrueLine text.now) }
+{
+    line == LAST_LINE || !is_true_line(text)
+}
+
+#[cfg(test)]
+mod tests;

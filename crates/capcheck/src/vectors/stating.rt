@@ -1,6 +1,6 @@
 //! Whether a line of a vector file states something true: it is the one true line that has its operands.
 
-ghost use Rattle.std.specs.Prelude.{ℕ, Bool, List, IsTrue, ◌↔◌};
+ghost use Rattle.std.specs.Prelude.{◌≡◌, ℕ, Bool, List, IsTrue, ◌↔◌};
 ghost use Rattle.capcheck.specs.Vectors.{Bounds, Keeps, Round, Memory, IsTrueLine, States};
 
 use crate::vectors::operands::{number_at, word_at};
@@ -26,7 +26,7 @@ fn states_bounds(line: &[u8]) -> bool
     };
     let mut written = [0u8; 128];
     let length = write_bounds(word, &mut written);
-    line == &written[..length]
+    is_same(line, &written[..length])
 }
 
 // Whether a line states whether an address keeps a word's bounds.
@@ -42,7 +42,7 @@ fn states_keeps(line: &[u8]) -> bool
     };
     let mut written = [0u8; 128];
     let length = write_keeps(word, address, &mut written);
-    line == &written[..length]
+    is_same(line, &written[..length])
 }
 
 // Whether a line states how a request is rounded.
@@ -62,7 +62,7 @@ fn states_round(line: &[u8]) -> bool
     }
     let mut written = [0u8; 128];
     let end = write_round(base, length, &mut written);
-    line == &written[..end]
+    is_same(line, &written[..end])
 }
 
 // Whether a line states the bytes of a word in memory.
@@ -75,5 +75,12 @@ fn states_memory(line: &[u8]) -> bool
     };
     let mut written = [0u8; 128];
     let length = write_memory(word, &mut written);
-    line == &written[..length]
+    is_same(line, &written[..length])
+}
+
+// Whether two lines are the same.
+fn is_same(line: &[u8], written: &[u8]) -> bool
+    ensures { IsTrue result ↔ (line.now ≡ written.now) }
+{
+    line == written
 }

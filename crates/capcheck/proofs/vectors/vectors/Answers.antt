@@ -1,8 +1,6 @@
-use Rattle.std.proofs.Common.{Ok, ap, sym, inl, inr, ◌∙◌, rules, arith}
-use Rattle.std.proofs.lemmas.Bool.{true≢false}
+use Rattle.std.proofs.Common.{Ok, ap, ◌∙◌, rules, arith}
 use Rattle.capcheck.proofs.VectorFileLemmas.{passes, begins_empty, pulled, all_passed, truncated, too_long, line_fails, line_passes}
 use Rattle.capcheck.proofs.vectors.vectors.Goals as goal
-use Rattle.capcheck.proofs.vectors.vectors.Goals.{then-line-via-then-line, then-line-via-else-line+then-not-is_true_line}
 
 pub returns-in-Err-clause-checked : goal.returns-in-Err-clause-checked
 returns-in-Err-clause-checked g c =
@@ -28,22 +26,18 @@ returns-in-Ok-LineTooLong-clause-checked g c =
     g.met.S.Source.joined c.lines.invariant.here (c.next.follows.holds-at-none.0 c.lines.invariant.more) (c.in-Ok-LineTooLong.is ∙ ap Ok c.in-Ok-LineTooLong.field-0-is) in
     too_long c.lines.passed p
 
-pub returns-then-line-clause-checked : goal.returns-then-line-clause-checked
-returns-then-line-clause-checked g c =
+pub returns-then-is_failing-clause-checked : goal.returns-then-is_failing-clause-checked
+returns-then-is_failing-clause-checked g c =
     let p = passes g.S.Source.gave g.S.Source.ended c.args.source.now c.lines.source c.next.new.source c.lines.passed _ _ _ _
     g.met.S.Source.joined c.lines.invariant.here (c.next.follows.holds-at-none.0 c.lines.invariant.more) (c.in-Ok-Line.is ∙ ap Ok c.in-Ok-Line.field-0-is) in
-    line_fails c.lines.passed c.in-Ok-Line.text p
-    (elim c.then-line.branch [
-      | then-line-via-then-line w ↦ inl w.if-line.true
-      | then-line-via-else-line+then-not-is_true_line w ↦ inr (λ stated. true≢false (sym (w.is_true_line.ensures.1 stated) ∙ w.if-not-is_true_line.true))
-    ])
+    line_fails c.lines.passed c.in-Ok-Line.text p c.if-is_failing.ensures
 
 pub lines-preserved : goal.lines-preserved
 lines-preserved g c =
     let p = passes g.S.Source.gave g.S.Source.ended c.args.source.now c.lines.source c.next.new.source c.lines.passed _ _ _ _
     g.met.S.Source.joined c.lines.invariant.here (c.next.follows.holds-at-none.0 c.lines.invariant.more) (c.in-Ok-Line.is ∙ ap Ok c.in-Ok-Line.field-0-is) in
-    let stated = c.is_true_line.ensures.0 c.if-not-is_true_line.false in
-    let after = line_passes c.lines.passed c.in-Ok-Line.text p stated (omega (arith, c.lines.invariant.here.2.few, c.if-line.false)) in
+    let more = c.if-is_failing.ensures in
+    let after = line_passes c.lines.passed c.in-Ok-Line.text p more.1 (omega (arith, c.lines.invariant.here.2.few, more.0)) in
     record {
       here = (p.given, p.gives, after);
       counted = search rules;

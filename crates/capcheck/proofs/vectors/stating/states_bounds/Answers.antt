@@ -1,5 +1,4 @@
 use Rattle.std.proofs.Common.{codes, refl, ◌∙◌}
-use Rattle.std.specs.Cmp.Lexicographic.{bytes_decides}
 use Rattle.capcheck.proofs.VectorLemmas.{bounds_word, same_bounds}
 use Rattle.capcheck.proofs.vectors.stating.states_bounds.Goals as goal
 
@@ -14,4 +13,4 @@ returns-clause-no c w base top answer states =
     let found = c.in-Some.ensures w (codes "bounds ") there.0 states.true_vector.in_range.0 refl (states.spelled ∙ there.1) in
     let written = c.write_bounds-length.ensures.line in
     let same = same_bounds c.args.line.now _ w c.in-Some.word.0 base top _ _ answer written.0 found states written.1 in
-    c.eq.ensures ∙ (bytes_decides c.args.line.now _).1 same
+    c.is_same.ensures.1 same

@@ -1,6 +1,5 @@
 use Rattle.std.proofs.Common.{◌++◌, codes, refl, ◌∙◌}
 use Rattle.cap_word.specs.Digits.{hex_digits}
-use Rattle.std.specs.Cmp.Lexicographic.{bytes_decides}
 use Rattle.capcheck.proofs.VectorLemmas.{front_of_two, keeps_address, keeps_word, same_keeps}
 use Rattle.capcheck.proofs.vectors.stating.states_keeps.Goals as goal
 
@@ -22,4 +21,4 @@ returns-clause-no c w address answer states =
     let also = c.in-Some-number_at.ensures address (codes "keeps " ++ hex_digits 32 w ++ codes " ") second.0 states.true_vector.in_range.1 (front_of_two (codes "keeps ") 32 w 6 refl) (states.spelled ∙ second.1) in
     let written = c.write_keeps-length.ensures.line in
     let same = same_keeps c.args.line.now _ w c.in-Some.word.0 address c.in-Some-number_at.address answer written.0 found also states written.1 in
-    c.eq.ensures ∙ (bytes_decides c.args.line.now _).1 same
+    c.is_same.ensures.1 same

@@ -1,5 +1,4 @@
 use Rattle.std.proofs.Common.{codes, refl, ◌∙◌}
-use Rattle.std.specs.Cmp.Lexicographic.{bytes_decides}
 use Rattle.capcheck.proofs.VectorLemmas.{memory_word, same_memory}
 use Rattle.capcheck.proofs.vectors.stating.states_memory.Goals as goal
 
@@ -13,4 +12,4 @@ returns-clause-no c w bytes states =
     let there = memory_word w bytes in
     let found = c.in-Some.ensures w (codes "memory ") there.0 states.true_vector.in_range.0 refl (states.spelled ∙ there.1) in
     let same = same_memory c.args.line.now _ w c.in-Some.word.0 bytes _ found states c.write_memory-length.ensures.line in
-    c.eq.ensures ∙ (bytes_decides c.args.line.now _).1 same
+    c.is_same.ensures.1 same

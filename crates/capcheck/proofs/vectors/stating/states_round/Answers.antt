@@ -1,6 +1,5 @@
 use Rattle.std.proofs.Common.{◌++◌, codes, refl, ◌∙◌, arith}
 use Rattle.cap_word.specs.Digits.{hex_digits}
-use Rattle.std.specs.Cmp.Lexicographic.{bytes_decides}
 use Rattle.capcheck.proofs.VectorLemmas.{front_of_two, round_base, round_length, same_round}
 use Rattle.capcheck.proofs.vectors.stating.states_round.Goals as goal
 
@@ -31,4 +30,4 @@ returns-clause-no c base size base_rounded top_rounded ie e exact states =
     let written = c.write_round-end.ensures.line in
     let same =
     same_round c.args.line.now _ base size c.in-Some.base c.in-Some-number_at.length base_rounded top_rounded _ _ ie _ e _ exact written.0 found also states written.1 in
-    c.eq.ensures ∙ (bytes_decides c.args.line.now _).1 same
+    c.is_same.ensures.1 same
