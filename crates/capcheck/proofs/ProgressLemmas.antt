@@ -1,5 +1,5 @@
 -- What the judge's progress stands for, with one line more.
-use Rattle.std.proofs.Common.{◌≡◌, ◌≢◌, ℕ, ◌+◌, ◌^◌, ◌<◌, ◌≤◌, Bool, true, false, not, ◌==◌, ◌&&◌, ◌||◌, nat_eq, nat_le, nat_lt, List, [], ◌∷◌, ◌++◌, length, map, refl, sym, ap, subst, ◌∙◌, arith, tests, lit≤, inl, inr, Some, None, Option}
+use Rattle.std.proofs.Common.{IfErr, Result, Ok, Err, ◌≡◌, ◌≢◌, ℕ, ◌+◌, ◌^◌, ◌<◌, ◌≤◌, Bool, true, false, not, ◌==◌, ◌&&◌, ◌||◌, nat_eq, nat_le, nat_lt, List, [], ◌∷◌, ◌++◌, length, map, refl, sym, ap, subst, ◌∙◌, arith, tests, lit≤, inl, inr, Some, None, Option}
 use Rattle.std.proofs.Math.Path.{fun_ext}
 use Rattle.std.specs.Bool.{if◌then◌else◌}
 use Rattle.std.specs.List.{AllByRecursion, IsDistinct}
@@ -11,7 +11,7 @@ use Rattle.cap_log.specs.declared.lines.Place.{Place}
 use Rattle.cap_log.specs.declared.lines.Line.{Line}
 use Rattle.cap_log.specs.declared.lines.Line.TheVariants.{Root, Step, End}
 use Rattle.cap_log.specs.declared.lines.Step as steps_module
-use Rattle.cap_log.specs.Lines.{IsInRange, IsStepInRange, IsPlace}
+use Rattle.cap_log.specs.Lines.{Spells, IsInRange, IsStepInRange, IsPlace}
 use Rattle.cap_ops.specs.Tests.{first_of}
 use Rattle.cap_machine.specs.declared.refusal.Refusal.{Refusal}
 use Rattle.cap_machine.specs.declared.refusal.Refusal.TheVariants.{BadLine, Misplaced, PlaceTaken, UnsoundRoot, WrongResult, LimitPassed}
@@ -24,7 +24,7 @@ use Rattle.cap_machine.specs.Steps.{Leads, Row, is_recorded}
 use Rattle.cap_machine.specs.Accounts.{Account, no_account, most_roots, most_granules, most_steps, granule_of, named_by, row_in, is_new, passes_granules, naming, with_root, with_step, root_tests, row_tests, as_line_test}
 use Rattle.cap_machine.specs.Runs.{IsRun, last_of}
 use Rattle.cap_machine.specs.Helds.{Held, Makes, EndsStep, Takes as Declares, EndsRoot, state_of, account_of}
-use Rattle.capcheck.specs.Logs.{Beginning, Nothing, NoMode, Body, Whole, body_lines, after_roots, after_steps, account_after, RunsBy, SpellsBy, NamesFirst, RefusesWhole, WantsMemory, line_tests}
+use Rattle.capcheck.specs.Logs.{has_form, Beginning, Nothing, NoMode, Body, Whole, body_lines, after_roots, after_steps, account_after, RunsBy, SpellsBy, NamesFirst, RefusesWhole, WantsMemory, line_tests}
 use Rattle.capcheck.specs.Progresses.{Reaches, StandsFor, Takes, EndsFor, EndsNext}
 use Rattle.capcheck.proofs.LogLemmas.{AllByRecursion-append, IsDistinct-push, tag-start, start-push, IsRun-push, last_of-push, map-push, length-push, steps_push, roots_push, list_any-map, after_roots-push, after_steps-push}
 
@@ -281,6 +281,12 @@ pub line_known : (held : Held) (now : Bool) (text : List ℕ) (line : Line) (end
 line_known held now text line (Refused refusal) unended spells ends = λ beginning stands. known_refused held now text line refusal beginning unended spells ends stands
 line_known held now text line NoMemory unended spells ends =
     λ beginning stands. known_wants held now text beginning unended (record { line = line; spelled = spells; free = ends.0; first = ends.1 }) stands
+
+-- the same of an answer
+pub known_ended : (held : Held) (now : Bool) (line : Line) (result : Result (Unit {0}) StepEnd) → now ≡ false → has_form held.rules line ≡ true → IfErr result (λ end. EndsFor held line end)
+    → IfErr result (λ end. (text : List ℕ) → Spells text line → EndsNext held now text end)
+known_ended held now line (Ok done) unended formed ends = tt
+known_ended held now line (Err end) unended formed ends = λ text spells. line_known held now text line end unended (spells, formed) ends
 
 -- bytes that have no form
 unknown : (held : Held) (now : Bool) (text : List ℕ) (beginning : Beginning) → now ≡ false → ((line : Line) → SpellsBy held.rules text line → ⊥) → StandsFor held now beginning

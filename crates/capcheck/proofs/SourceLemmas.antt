@@ -3,7 +3,10 @@ use Rattle.std.proofs.Common.{◌≡◌, ◌≢◌, ℕ, ◌+◌, ◌≤◌, inl
 use Rattle.std.proofs.lemmas.Bool.{false≢true}
 use Rattle.std.proofs.lemmas.List.{length-append, length-map, take-append-le}
 use Rattle.std.proofs.lemmas.List.Elements.{All-nil}
+use Rattle.cap_log.specs.declared.lines.Line.{Line}
 use Rattle.cap_log.specs.declared.lines.Line.TheVariants as lines
+use Rattle.cap_log.specs.Lines.{IsInRange, Spells, spelling}
+use Rattle.cap_log.proofs.SpellingLemmas.{IsLine-spelling}
 use Rattle.cap_log.specs.Front.{HasNoFeed, IsLine, IsTooLong, IsCut}
 use Rattle.cap_log.specs.Takings.{IsNext, Answered, kept, over_of}
 use Rattle.cap_log.specs.declared.taking.Lines.{Lines}
@@ -27,10 +30,10 @@ use Rattle.capcheck.specs.declared.verdict.JudgeFault.{JudgeFault}
 use Rattle.capcheck.specs.declared.verdict.JudgeFault.TheVariants.{Pull, NoMemory}
 use Rattle.capcheck.specs.Logs.{Beginning, Nothing, NoMode, Body, Whole, header_lines, body_lines, lines_of, text_of, IsAccepted, RefusesFront, RefusesWhole, IsFirstFault, MayLackMemory}
 use Rattle.capcheck.specs.Verdicts.{answer_at, EscapesExactly, IsVerdict, IsFault}
-use Rattle.capcheck.specs.Progresses.{StandsFor, EndsNext, IsAt}
+use Rattle.capcheck.specs.Progresses.{StandsFor, EndsNext, GoesOn, IsAt}
 use Rattle.capcheck.specs.Judgings.{IsVerdictOf, IsBehind, BeginsLog, IsFaultOf, IsAnswerOf, Judged, refusal_in, finished}
 use Rattle.capcheck.proofs.EscapeLaws.{escapes_exactly}
-use Rattle.capcheck.proofs.JudgeLemmas.{IsUnended, behind, unended_here, refused_behind, wants_memory, misplaced, yes, guarded, guards, no_lack}
+use Rattle.capcheck.proofs.JudgeLemmas.{IsUnended, goes_on, behind, unended_here, refused_behind, wants_memory, misplaced, yes, guarded, guards, no_lack}
 
 -- more bytes behind all
 behind_more : (bytes rest more : List ℕ) (beginning : Beginning) → IsBehind bytes beginning rest → IsBehind (bytes ++ more) beginning (rest ++ more)
@@ -207,6 +210,44 @@ module _ {S : Type 0} {gave : S → S → List ℕ → Type 0} {ended : S → Bo
   line_ended text now ends.NoMemory here m unended wants =
       judged_memory gave ended old new m.given m.gives
       (wants_memory m.given m.rest text.now (kept lines) held now line (at_met given before held now line here m) m.next.0 wants)
+
+-- where nothing was taken from what is kept, the judge is where it was
+pub still_kept : {S : Type 0} (gave : S → S → List ℕ → Type 0) (old new : S) (held : Held) (now : Bool) (line : ℕ) (before after : Lines) → after ≡ before
+    → (given : List ℕ) × gave old new given × IsAt given held now (kept before) line → (given : List ℕ) × gave old new given × IsAt given held now (kept after) line
+still_kept gave old new held now line before after same here =
+    (here.0, here.1, subst (λ (l : Lines). IsAt here.0 held now (kept l) line) (sym same) here.2)
+
+-- a line that is kept whole
+kept_line : (before after : List ℕ) (known : Line) → IsInRange known → before ≡ spelling known ++ 10 ∷ after → IsLine before (spelling known) after
+kept_line before after known range is = subst (λ (b : List ℕ). IsLine b (spelling known) after) (sym is) (IsLine-spelling known range after)
+
+module _ {S : Type 0} (gave : S → S → List ℕ → Type 0) (ended : S → Bool) (old new : S) (held : Held) (now : Bool) (line : ℕ) (before after : List ℕ) (known : Line)
+    (here : (given : List ℕ) × gave old new given × IsAt given held now before line) (taken : IsInRange known × (before ≡ spelling known ++ 10 ∷ after)) where
+  pub kept_after_end : now ≡ true → Judged gave ended old new (Ok (No line Misplaced))
+  kept_after_end end =
+      let some = line_some before (spelling known) after (kept_line before after known taken.0 taken.1) in
+      judged_ok gave ended old new here.0 (No line Misplaced) here.1
+      (no_stands here.0 (ended new) line Misplaced
+      (λ more. misplaced (here.0 ++ more) (before ++ more) held now line (at_more here.0 before more held now line here.2) end (some-more before more some)))
+
+  pub kept_ended : (end : StepEnd) → now ≡ false → ((text : List ℕ) → Spells text known → EndsNext held now text end) → Judged gave ended old new (answer_at line end)
+  kept_ended (Refused refusal) unended refused =
+      let whole = kept_line before after known taken.0 taken.1 in
+      let place = behind here.0 before held now line here.2 in
+      judged_ok gave ended old new here.0 (No line refusal) here.1
+      (no_stands here.0 (ended new) line refusal
+      (λ more. refused_behind (here.0 ++ more) (before ++ more) here.2.beginning line refusal (behind_more here.0 before more here.2.beginning place) here.2.line_is
+          (unended_here here.0 before held now line here.2 unended)
+          (inr (inr (spelling known, after ++ more, IsLine-more before (spelling known) after more whole, refused (spelling known) (taken.0, refl) here.2.beginning here.2.stands)))))
+  kept_ended ends.NoMemory unended wants =
+      judged_memory gave ended old new here.0 here.1
+      (wants_memory here.0 before (spelling known) after held now line here.2 (kept_line before after known taken.0 taken.1) (wants (spelling known) (taken.0, refl)))
+
+  pub kept_goes_on : (next : Held) (then : Bool) → ((text : List ℕ) → Spells text known → GoesOn held now text next then)
+      → (given : List ℕ) × gave old new given × IsAt given next then after (line + 1)
+  kept_goes_on next then on =
+      (here.0, here.1,
+      goes_on here.0 before (spelling known) after held next now then line here.2 (kept_line before after known taken.0 taken.1) (on (spelling known) (taken.0, refl)))
 
 -- there are no more lines than the limits allow
 few_header : (rules_are : Rules) → length (header_lines rules_are) ≤ 2

@@ -70,6 +70,16 @@ pub fn judge_in<S: Source, M: TaggedStore>(source: &mut S, memory: M) -> Result<
     let mut progress = Progress::new(memory, rules);
     let mut line = first_line(rules);
     'lines: loop {
+        if let Some(known) = lines.take_kept() {
+            if progress.ended {
+                return Ok(refused(line, true, Refusal::Misplaced));
+            }
+            if let Err(end) = progress.take_known(&known) {
+                return answer_at(line, end);
+            }
+            line += 1;
+            continue;
+        }
         match lines.next(source) {
             Err(PullFault) => return Err(JudgeFault::Pull),
             Ok(Next::Finished) => return Ok(finished_verdict(&progress, line)),

@@ -1,6 +1,6 @@
 //! How far a log was read: the machine so far, and whether its end line has come.
 
-ghost use Rattle.std.specs.Prelude.{◌≡◌, ◌≢◌, List, [], ◌∷◌, ◌++◌, OnOk, IfOk, IfErr, MatchResult, true, false, IsTrue};
+ghost use Rattle.std.specs.Prelude.{◌≡◌, ◌≢◌, ℕ, List, [], ◌∷◌, ◌++◌, OnOk, IfOk, IfErr, MatchResult, true, false, IsTrue};
 ghost use Rattle.std.specs.FinMap as map;
 ghost use Rattle.cap_log.specs.Lines.{IsInRange, IsPlace, IsStepInRange, Spells};
 ghost use Rattle.cap_log.specs.declared.lines.Line.TheVariants as lines;
@@ -53,14 +53,23 @@ impl<M: TaggedStore> Progress<M> {
         ensures err { IfErr result (λ end. EndsNext (held_of M.contents self.old.machine) self.old.ended text.now end) }
     {
         match read_line(text) {
-            Some(line) => {
-                if has_form(self.machine.rules(), &line) {
-                    self.take(&line)
-                } else {
-                    Err(StepEnd::Refused(Refusal::BadLine))
-                }
-            }
+            Some(line) => self.take_known(&line),
             None => Err(StepEnd::Refused(Refusal::BadLine)),
+        }
+    }
+
+    /// Takes the next line, whatever bytes spell it, as `take_line` takes these.
+    pub fn take_known(&mut self, line: &Line) -> Result<(), StepEnd>
+        requires in_range { IsInRange line.now }
+        requires unended { self.old.ended ≡ false }
+        ensures ok { OnOk result ((text : List ℕ) → Spells text line.now
+            → GoesOn (held_of M.contents self.old.machine) self.old.ended text (held_of M.contents self.new.machine) self.new.ended) }
+        ensures err { IfErr result (λ end. (text : List ℕ) → Spells text line.now → EndsNext (held_of M.contents self.old.machine) self.old.ended text end) }
+    {
+        if has_form(self.machine.rules(), line) {
+            self.take(line)
+        } else {
+            Err(StepEnd::Refused(Refusal::BadLine))
         }
     }
 
