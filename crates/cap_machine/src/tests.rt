@@ -6,7 +6,7 @@ use cap_ops::OpFault;
 use cap_word::{Cap, Word};
 use std::alloc::Global;
 use std::process::Abort;
-use tagmem::{ListStore, TaggedStore};
+use tagmem::{ListStore, NoMemory, TaggedStore};
 
 /// All permissions and the whole address space, at address 0.
 const ALL: u128 = 0xffff_1fff_fc01_8004_0000_0000_0000_0000;
@@ -237,6 +237,93 @@ fn roots_have_places_of_their_own(rt: HostRuntime) {
     let read = "lc c2 c1 16 = 1 ffff1ffffc0180040000000000000000";
     assert_eq!(rt; enter(&rt, &mut machine, read), Ok(()));
     assert_eq!(rt; (machine.roots(), machine.steps()), (2, 1));
+}
+
+// A store that refuses the first granule that is put, and then has memory again.
+#[derive(Drop)]
+struct Refusing<M: TaggedStore> {
+    inner: M,
+    refuses: bool,
+}
+
+impl<M: TaggedStore> Refusing<M> {
+    ghost use Rattle.std.specs.Prelude.{◌≡◌, ◌^◌, ◌<◌, true, None};
+    ghost use Rattle.std.specs.FinMap as map;
+
+    // Whether the put of this granule is the one that is refused.
+    fn is_refused(&mut self, granule: u64) -> bool
+        requires { granule < 2 ^ 60 }
+        ensures kept { self.new.inner ≡ self.old.inner }
+        ensures only_new { result ≡ true → map.get (M.contents self.old.inner) granule ≡ None }
+    {
+        if !self.refuses || self.inner.get(granule).is_some() {
+            return false;
+        }
+        self.refuses = false;
+        true
+    }
+}
+
+impl<M: TaggedStore> TaggedStore for Refusing<M> {
+    ghost contents = { λ s. M.contents s.inner };
+
+    ghost are_stored = { λ s. M.are_stored s.inner };
+
+    ghost count_fits = { λ s. M.count_fits s.inner };
+
+    fn get(&self, granule: u64) -> Option<(bool, [u8; 16])> {
+        self.inner.get(granule)
+    }
+
+    fn put_cap(&mut self, granule: u64, tag: bool, bytes: [u8; 16]) -> Result<(), NoMemory> {
+        if self.is_refused(granule) {
+            return Err(NoMemory);
+        }
+        self.inner.put_cap(granule, tag, bytes)
+    }
+
+    fn put_bytes(&mut self, granule: u64, at: u8, bytes: &[u8]) -> Result<(), NoMemory> {
+        if self.is_refused(granule) {
+            return Err(NoMemory);
+        }
+        self.inner.put_bytes(granule, at, bytes)
+    }
+
+    fn count(&self) -> u32 {
+        self.inner.count()
+    }
+}
+
+// A root or a step that had no memory is made when there is some, and counted once.
+#[test]
+fn again_after_want_of_memory(rt: HostRuntime) {
+    for (line, counts) in [
+        (
+            "root @0000000000000000 ffff1ffffc0180040000000000000000",
+            (2, 0),
+        ),
+        ("sc c1 c1 0", (1, 1)),
+        ("store c1 0 1 aa", (1, 1)),
+    ] {
+        let memory = Refusing {
+            inner: ListStore::new(rt.alloc()),
+            refuses: true,
+        };
+        assert_eq!(rt; memory.count(), 0);
+        let mut machine = Machine::new(memory);
+        let root = "root c1 ffff1ffffc0180040000000000000000";
+        assert_eq!(rt; enter(&rt, &mut machine, root), Ok(()));
+        assert_eq!(rt;
+            enter(&rt, &mut machine, line),
+            Err(StepEnd::NoMemory),
+            "{line}"
+        );
+        assert_eq!(rt; (machine.roots(), machine.steps()), (1, 0));
+        is(&rt, machine.granule(0), false, NULL);
+        assert_eq!(rt; enter(&rt, &mut machine, line), Ok(()), "{line}");
+        assert_eq!(rt; (machine.roots(), machine.steps()), counts);
+        assert!(rt; machine.granule(0).word.0 != NULL);
+    }
 }
 
 #[test]
