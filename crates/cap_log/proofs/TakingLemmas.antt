@@ -71,5 +71,5 @@ pub taken_off : (slice held text rest now : List ℕ) → slice ≡ held → sli
 taken_off slice held text rest now same is drops =
     let count : length slice - length rest ≡ length text + 1 = omega (arith, ap length is, length-append text (10 ∷ rest)) in
     let left : now ≡ rest =
-        drops ∙ ap (λ (n : ℕ). drop n held) count ∙ ap (λ (l : List ℕ). drop (length text + 1) l) (sym same ∙ is) ∙ drop-append-add text (10 ∷ rest) 1 in
+    drops ∙ ap (λ (n : ℕ). drop n held) count ∙ ap (λ (l : List ℕ). drop (length text + 1) l) (sym same ∙ is) ∙ drop-append-add text (10 ∷ rest) 1 in
     sym same ∙ is ∙ ap (λ (r : List ℕ). text ++ 10 ∷ r) (sym left)

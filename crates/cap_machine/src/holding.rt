@@ -8,8 +8,8 @@ ghost use Rattle.cap_machine.specs.Parents.{IsSoundCap};
 ghost use Rattle.cap_machine.specs.Helds.{account_of, held_of, state_of};
 
 use crate::granules::capability_at;
-use crate::rules::Rules;
 use crate::machine::Machine;
+use crate::rules::Rules;
 use cap_word::{Cap, null};
 use tagmem::TaggedStore;
 

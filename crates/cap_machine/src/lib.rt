@@ -20,7 +20,9 @@ mod rules;
 mod stepping;
 
 pub use crate::ends::StepEnd;
-pub use crate::laws::{accesses_lie_inside, authority_never_grows, origins_follow_descent, steps_stay_within};
+pub use crate::laws::{
+    accesses_lie_inside, authority_never_grows, origins_follow_descent, steps_stay_within,
+};
 pub use crate::machine::{MOST_ROOTS, MOST_STEPS, Machine};
 pub use crate::refusal::Refusal;
 pub use crate::rules::Rules;

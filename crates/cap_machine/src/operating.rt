@@ -23,7 +23,12 @@ use cap_ops::{
 };
 use cap_word::Cap;
 
-pub(crate) fn set_bounds_by(rules: Rules, source: Cap, length: u64, exact: bool) -> Result<Cap, OpFault>
+pub(crate) fn set_bounds_by(
+    rules: Rules,
+    source: Cap,
+    length: u64,
+    exact: bool,
+) -> Result<Cap, OpFault>
     ensures outcome { EndsBy rules (set_bounds_tests source length exact) (set_bounds_result source length) result }
     ensures stays_within { IfOk result (λ cap. StaysWithin cap source) }
 {

@@ -136,7 +136,11 @@ impl<M: TaggedStore> Machine<M> {
                 authority,
                 result: recorded,
             } => {
-                let derived = unseal_by(self.rules, self.register(source), self.register(authority));
+                let derived = unseal_by(
+                    self.rules,
+                    self.register(source),
+                    self.register(authority),
+                );
                 self.finish(target, derived, recorded)
             }
             Step::LoadCap {

@@ -80,7 +80,7 @@ unsealed_so source authority cap free is =
     let u = with_perms w kept in
     let word : cap.word.0 ≡ with_type u unsealed_type = ap (λ (c : Cap). c.word.0) is in
     let perms : perms_of cap.word.0 ≡ kept =
-        ap perms_of word ∙ perms_of-with_type u unsealed_type (lit< tt) ∙ perms_of-with_perms w kept (perms_with_common_global-lt w other) in (
+    ap perms_of word ∙ perms_of-with_type u unsealed_type (lit< tt) ∙ perms_of-with_perms w kept (perms_with_common_global-lt w other) in (
       ap (λ (c : Cap). c.tag) is ∙ not-false source.tag none.1.1.1.1.0,
       ap (λ (n : ℕ). not (otype_of n == unsealed_type)) word ∙ ap (λ (n : ℕ). not (n == unsealed_type)) (otype_of-with_type u unsealed_type (lit< tt)),
       has_global cap.word.0 ∙ ap (λ (n : ℕ). n % 2 == 1) perms ∙ ap (λ (n : ℕ). n == 1) (common_global w other) ∙ bit_told _,

@@ -81,7 +81,10 @@ pub fn seal_clear(source: Cap, authority: Cap) -> Cap
     ensures strict { IsStrictWhereTagged (seal_tests source authority) (seal_result source authority) result }
     ensures stays_within { StaysWithin result source }
 {
-    or_cleared(seal(source, authority), with_authority_type(source, authority))
+    or_cleared(
+        seal(source, authority),
+        with_authority_type(source, authority),
+    )
 }
 
 /// [`unseal`] in clear mode. The source becomes unsealed, Global only where the authority, tagged or not,

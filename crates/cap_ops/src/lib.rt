@@ -18,7 +18,9 @@ mod sealing;
 
 pub use crate::accesses::{loaded, may_access};
 pub use crate::addresses::set_addr;
-pub use crate::clearing::{and_perm_clear, seal_clear, set_addr_clear, set_bounds_clear, unseal_clear};
+pub use crate::clearing::{
+    and_perm_clear, seal_clear, set_addr_clear, set_bounds_clear, unseal_clear,
+};
 pub use crate::faults::OpFault;
 pub use crate::kinds::Kind;
 pub use crate::narrowing::set_bounds;

@@ -237,17 +237,19 @@ module _ {S : Type 0} (gave : S → S → List ℕ → Type 0) (ended : S → Bo
       judged_ok gave ended old new here.0 (No line refusal) here.1
       (no_stands here.0 (ended new) line refusal
       (λ more. refused_behind (here.0 ++ more) (before ++ more) here.2.beginning line refusal (behind_more here.0 before more here.2.beginning place) here.2.line_is
-          (unended_here here.0 before held now line here.2 unended)
-          (inr (inr (spelling known, after ++ more, IsLine-more before (spelling known) after more whole, refused (spelling known) (taken.0, refl) here.2.beginning here.2.stands)))))
+      (unended_here here.0 before held now line here.2 unended)
+      (inr (inr (spelling known, after ++ more, IsLine-more before (spelling known) after more whole, refused (spelling known) (taken.0, refl) here.2.beginning here.2.stands)))))
   kept_ended ends.NoMemory unended wants =
       judged_memory gave ended old new here.0 here.1
       (wants_memory here.0 before (spelling known) after held now line here.2 (kept_line before after known taken.0 taken.1) (wants (spelling known) (taken.0, refl)))
 
   pub kept_goes_on : (next : Held) (then : Bool) → ((text : List ℕ) → Spells text known → GoesOn held now text next then)
       → (given : List ℕ) × gave old new given × IsAt given next then after (line + 1)
-  kept_goes_on next then on =
-      (here.0, here.1,
-      goes_on here.0 before (spelling known) after held next now then line here.2 (kept_line before after known taken.0 taken.1) (on (spelling known) (taken.0, refl)))
+  kept_goes_on next then on = (
+    here.0,
+    here.1,
+    goes_on here.0 before (spelling known) after held next now then line here.2 (kept_line before after known taken.0 taken.1) (on (spelling known) (taken.0, refl)),
+  )
 
 -- there are no more lines than the limits allow
 few_header : (rules_are : Rules) → length (header_lines rules_are) ≤ 2

@@ -16,11 +16,20 @@ fn what_the_strict_call_gives_is_kept(rt: HostRuntime) {
     let source = tagged(AT_1000);
     let authority = tagged(ALL + 0x3_fffb);
     let sealed = seal_clear(tagged(ALL), authority);
-    assert_eq!(rt; Ok(set_bounds_clear(source, 0x1001, false)), set_bounds(source, 0x1001, false));
-    assert_eq!(rt; Ok(set_addr_clear(source, 0x2000)), set_addr(source, 0x2000));
+    assert_eq!(rt;
+        Ok(set_bounds_clear(source, 0x1001, false)),
+        set_bounds(source, 0x1001, false)
+    );
+    assert_eq!(rt;
+        Ok(set_addr_clear(source, 0x2000)),
+        set_addr(source, 0x2000)
+    );
     assert_eq!(rt; Ok(and_perm_clear(source, 4)), and_perm(source, 4));
     assert_eq!(rt; Ok(sealed), seal(tagged(ALL), authority));
-    assert_eq!(rt; Ok(unseal_clear(sealed, authority)), unseal(sealed, authority));
+    assert_eq!(rt;
+        Ok(unseal_clear(sealed, authority)),
+        unseal(sealed, authority)
+    );
     assert_eq!(rt; sealed.tag, true);
 }
 
@@ -58,9 +67,15 @@ fn sealing_takes_the_low_bits_of_any_address(rt: HostRuntime) {
     let reserved = seal_clear(tagged(ALL), tagged(ALL + 0x3_fffc));
     let beyond = seal_clear(tagged(ALL), tagged(ALL + 0x4_0005));
     let by_null = seal_clear(tagged(ALL), untagged(NULL));
-    assert_eq!(rt; reserved, untagged(0xffff_1fff_e401_8004_0000_0000_0000_0000));
+    assert_eq!(rt;
+        reserved,
+        untagged(0xffff_1fff_e401_8004_0000_0000_0000_0000)
+    );
     assert_eq!(rt; beyond, untagged(0xffff_0000_2c01_8004_0000_0000_0000_0000));
-    assert_eq!(rt; by_null, untagged(0xffff_0000_0401_8004_0000_0000_0000_0000));
+    assert_eq!(rt;
+        by_null,
+        untagged(0xffff_0000_0401_8004_0000_0000_0000_0000)
+    );
 }
 
 #[test]
@@ -69,5 +84,8 @@ fn unsealing_takes_global_from_any_authority(rt: HostRuntime) {
     let by_itself = unseal_clear(source, source);
     let by_null: Cap = unseal_clear(source, untagged(NULL));
     assert_eq!(rt; by_itself, untagged(ALL));
-    assert_eq!(rt; by_null, untagged(0xfffe_1fff_fc01_8004_0000_0000_0000_0000));
+    assert_eq!(rt;
+        by_null,
+        untagged(0xfffe_1fff_fc01_8004_0000_0000_0000_0000)
+    );
 }

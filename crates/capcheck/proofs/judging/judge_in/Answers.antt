@@ -88,21 +88,21 @@ returns-then-progress-clause-judged g c =
     let held = held_of g.M.TaggedStore.contents c.lines.progress.machine in
     as_shown g.S.Source.gave g.S.Source.ended c.args.source.now c.lines.source _ _ (ap Ok c.refused.ensures)
     (kept_after_end g.S.Source.gave g.S.Source.ended c.args.source.now c.lines.source held c.lines.progress.ended c.lines.line _ _ c.in-Some.known
-        c.lines.invariant.here c.in-Some.ensures.some c.if-progress.true)
+    c.lines.invariant.here c.in-Some.ensures.some c.if-progress.true)
 
 pub returns-in-Err-take_known-clause-judged : goal.returns-in-Err-take_known-clause-judged
 returns-in-Err-take_known-clause-judged g c =
     let held = held_of g.M.TaggedStore.contents c.lines.progress.machine in
     as_shown g.S.Source.gave g.S.Source.ended c.args.source.now c.lines.source _ _ c.answer_at.ensures
     (kept_ended g.S.Source.gave g.S.Source.ended c.args.source.now c.lines.source held c.lines.progress.ended c.lines.line _ _ c.in-Some.known
-        c.lines.invariant.here c.in-Some.ensures.some c.in-Err-take_known.end c.if-progress.false c.in-Err-take_known.ensures.err)
+    c.lines.invariant.here c.in-Some.ensures.some c.in-Err-take_known.end c.if-progress.false c.in-Err-take_known.ensures.err)
 
 pub lines-preserved-in-Some : goal.lines-preserved-in-Some
 lines-preserved-in-Some g c =
     let held = held_of g.M.TaggedStore.contents c.lines.progress.machine in
     let next = held_of g.M.TaggedStore.contents c.take_known.new.self.machine in
     let after = kept_goes_on g.S.Source.gave g.S.Source.ended c.args.source.now c.lines.source held c.lines.progress.ended c.lines.line _ _ c.in-Some.known
-        c.lines.invariant.here c.in-Some.ensures.some next c.take_known.new.self.ended c.in_default-take_known.ensures.ok in
+    c.lines.invariant.here c.in-Some.ensures.some next c.take_known.new.self.ended c.in_default-take_known.ensures.ok in
     record {
       here = after;
       counted = c.lines.invariant.counted;
