@@ -1,7 +1,7 @@
 //! Whole logs and their verdicts, byte for byte.
 
 use crate::judging::judge_bytes;
-use crate::tests::pieces::{cut, in_pieces, longer, over_a_list};
+use crate::tests::pieces::{cut, each_pull_failing, in_pieces, longer, over_a_list};
 use crate::verdict::Verdict;
 use crate::verdict_lines::verdict_text;
 use std::alloc::{AllocError, Global};
@@ -12,7 +12,8 @@ use std::test::Fail;
 const SHORT: usize = 1000;
 
 // The verdict on a log is this line: in one piece and in pieces of one byte, with its granules in pages and
-// in a list. A short log also comes in pieces of up to eight bytes, and, with a yes, cut and with a byte more.
+// in a list. A short log also comes in pieces of up to eight bytes, and in pieces of one byte with each pull
+// failing in turn, and, with a yes, cut and with a byte more.
 pub fn judges(rt: &(impl Abort + AllocGlobal), log: &[u8], line: &[u8]) {
     let Ok(verdict) = judge_bytes(rt.alloc(), log) else {
         panic!(rt; "no verdict");
@@ -26,6 +27,7 @@ pub fn judges(rt: &(impl Abort + AllocGlobal), log: &[u8], line: &[u8]) {
         for size in 2..9 {
             in_pieces(rt, rt.alloc(), log, size, verdict);
         }
+        each_pull_failing(rt, rt.alloc(), log, verdict);
         if matches!(verdict, Verdict::Yes { steps: _, roots: _ }) {
             cut(rt, rt.alloc(), log);
             longer(rt, rt.alloc(), log);

@@ -1,8 +1,8 @@
 //! A log in pieces, over another store, cut, and with a byte more.
 
 use crate::judging::{judge, judge_bytes, judge_in};
-use crate::verdict::Verdict;
-use cap_log::SliceSource;
+use crate::verdict::{JudgeFault, Verdict};
+use cap_log::{FailingSource, SliceSource};
 use cap_machine::Refusal;
 use std::alloc::Global;
 use std::process::Abort;
@@ -19,6 +19,26 @@ pub fn in_pieces(rt: &impl Abort, alloc: Global, log: &[u8], size: usize, verdic
         Ok(verdict),
         "in pieces of {size}"
     );
+}
+
+// A log in pieces of one byte, of which each pull fails in turn: no verdict up to some pull, and the verdict
+// for each later one.
+pub fn each_pull_failing(rt: &impl Abort, alloc: Global, log: &[u8], verdict: Verdict) {
+    let Ok(lengths) = vec![in alloc; 1usize; log.len()] else {
+        panic!(rt; "no memory");
+    };
+    let mut is_reached = false;
+    for at in 0..log.len().saturating_add(3) as u64 {
+        let source = SliceSource::new(log, lengths.as_slice());
+        let answer = judge(alloc, &mut FailingSource::new(source, at));
+        if answer == Err(JudgeFault::Pull) {
+            assert!(rt; !is_reached, "a fault at pull {at}");
+        } else {
+            assert_eq!(rt; answer, Ok(verdict), "a fault at pull {at}");
+            is_reached = true;
+        }
+    }
+    assert!(rt; is_reached);
 }
 
 // The verdict on a log with its granules in a list.
