@@ -1,6 +1,6 @@
 #!/bin/sh
 # Writes a log of version 1 with a million steps, or STEPS:
-# sh bench/million.sh moves|memory|mixed|up|down|random|thirty [STEPS]
+# sh bench/million.sh moves|memory|mixed|up|down|random|thirty|blocks [STEPS]
 # It can be judged from a pipe: sh bench/million.sh moves 10000000 | crates/capcheck/out/capcheck judge
 #
 # moves   copies c1 to each other register in turn
@@ -11,7 +11,8 @@
 #
 # up, down, random   stores a capability in 65,536 granules that lie 4096 bytes apart, in that order
 # thirty             stores and loads eight bytes through thirty registers in turn, 4 MB apart
-kind=${1:?moves, memory, mixed, up, down, random or thirty}
+# blocks             stores a byte in each granule from the lowest on; 65,792 steps fill 65,536 granules
+kind=${1:?moves, memory, mixed, up, down, random, thirty or blocks}
 exec awk -v kind="$kind" -v steps="${2:-1000000}" '
 function memory(i,   offset) {
     offset = (int(i / 4) * 16) % 4096 - 2048
@@ -46,6 +47,13 @@ function thirty(i,   register, address) {
     if (int(i / 30) % 2 == 1) return "store " register " 0 8 0123456789abcdef"
     return "load " register " 0 8 = 0123456789abcdef"
 }
+function blocks(i,   block, place, address) {
+    block = int(i / 257)
+    place = i % 257
+    if (place > 0) return "store c2 " (16 * place - 2064) " 1 00"
+    address = sprintf("%016x", 4096 * block + 2048)
+    return "setaddr c2 c1 " address " = 1 ffff1ffffc018004" address
+}
 BEGIN {
     root = "ffff1ffffc0180040000000000000000"
     print "capcheck 1"
@@ -55,6 +63,7 @@ BEGIN {
         else if (kind == "memory") print memory(i)
         else if (kind == "mixed") print mixed(i)
         else if (kind == "thirty") print thirty(i)
+        else if (kind == "blocks") print blocks(i)
         else print far(i)
     }
     print "end " steps
