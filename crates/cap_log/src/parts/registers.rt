@@ -31,6 +31,9 @@ impl Part for Register {
     }
 }
 
+/// The register that no step writes.
+const NULL_REGISTER: u8 = 0;
+
 /// A register that a step writes, `c1` to `c31`.
 #[derive(Clone, Copy)]
 pub struct Target(pub u8);
@@ -43,7 +46,7 @@ impl Part for Target {
     #[inline(always)]
     fn take(bytes: &[u8], end: u8) -> Option<(Target, &[u8])> {
         let (number, rest) = take_register(bytes, end)?;
-        if number == 0 {
+        if number == NULL_REGISTER {
             return None;
         }
         Some((Target(number), rest))

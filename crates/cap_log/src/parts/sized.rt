@@ -129,6 +129,9 @@ fn read_value(digits: &[u8], size: u8) -> Option<u64>
     if digits.len() != count {
         return None;
     }
+    if size == 8 {
+        return read_u64(digits);
+    }
     let text = padded(digits);
     let value = read_u64(&text)?;
     Some(value)
