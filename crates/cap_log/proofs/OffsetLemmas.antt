@@ -1,32 +1,37 @@
 -- Offsets: what the digits with a minus sign before them, or without one, spell.
-use Rattle.std.proofs.Common.{◌≡◌, ℕ, suc, ◌<◌, ◌≤◌, ◌^◌, ℤ, pos, negsuc, List, ◌∷◌, get_or, drop, sym, ap, arith, decimal}
+use Rattle.std.proofs.Common.{◌≡◌, ℕ, suc, ◌<◌, ◌≤◌, ◌^◌, ℤ, pos, negsuc, List, ◌∷◌, ◌++◌, get_or, drop, sym, ap, ◌∙◌, arith, decimal}
 use Rattle.std.specs.Fmt.{signed_decimal}
-use Rattle.std.proofs.lemmas.Fmt.{decimal_injective, decimal_nonempty}
+use Rattle.std.proofs.lemmas.Fmt.{decimal_nonempty}
 use Rattle.std.proofs.lemmas.Int.{ints, to_z-of_z}
+use Rattle.std.proofs.Math.ListN.{get_or-append}
 use mir.Syntax.{w16}
 use mir.Val.{SFits, of_z, to_z}
 use Rattle.cap_log.specs.Lines.{IsOffset}
+use Rattle.cap_log.proofs.Decimals.{same_number}
 use Rattle.cap_log.proofs.PartLemmas.{Lacks-decimal}
 
 -- no decimal begins with a minus sign
-no_minus : (n : ℕ) (rest : List ℕ) → n < 2 ^ 64 → 45 ∷ rest ≡ decimal n → ⊥
-no_minus n rest small e =
-    Lacks-decimal 45 n (omega arith) small 0 0 (decimal_nonempty n small) (sym (ap (λ (bs : List ℕ). get_or bs 0 0) e))
+no_minus : (n : ℕ) (more rest : List ℕ) → n < 2 ^ 64 → 45 ∷ rest ≡ decimal n ++ more → ⊥
+no_minus n more rest small e =
+    let some = decimal_nonempty n small in
+    Lacks-decimal 45 n (omega arith) small 0 0 some (sym (ap (λ (bs : List ℕ). get_or bs 0 0) e ∙ get_or-append (decimal n) more 0 0 some))
 
 -- digits behind a minus sign that spell no number, or one out of range
-pub no_negative : (digits : List ℕ) → ((n : ℕ) → n < 2 ^ 32 → digits ≡ decimal n → (1 ≤ n) × (n ≤ 2048) → ⊥) → (z : ℤ) → IsOffset z → 45 ∷ digits ≡ signed_decimal z → ⊥
-no_negative digits none (pos n) fits e = no_minus n digits (omega (arith, ints, fits)) e
-no_negative digits none (negsuc n) fits e =
+pub no_negative : (end : ℕ) (digits : List ℕ) → ((n : ℕ) (rest : List ℕ) → n < 2 ^ 32 → digits ≡ decimal n ++ end ∷ rest → (1 ≤ n) × (n ≤ 2048) → ⊥)
+    → (z : ℤ) (rest : List ℕ) → IsOffset z → 45 ∷ digits ≡ signed_decimal z ++ end ∷ rest → ⊥
+no_negative end digits none (pos n) rest fits e = no_minus n (end ∷ rest) digits (omega (arith, ints, fits)) e
+no_negative end digits none (negsuc n) rest fits e =
     let small : n ≤ 2047 = omega (arith, ints, fits) in
-    none (suc n) (omega arith) (ap (λ (bs : List ℕ). drop 1 bs) e) (omega arith, omega arith)
+    none (suc n) rest (omega arith) (ap (λ (bs : List ℕ). drop 1 bs) e) (omega arith, omega arith)
 
 -- digits without a minus sign that spell a number out of range
-pub no_positive : (m : ℕ) → m < 2 ^ 32 → 2047 < m → (z : ℤ) → IsOffset z → decimal m ≡ signed_decimal z → ⊥
-no_positive m small high (pos n) fits e =
-    let low : n ≤ 2047 = omega (arith, ints, fits) in
-    let same = decimal_injective m n (omega arith) (omega arith) e in
+pub no_positive : (end m : ℕ) (rest : List ℕ) → end ≤ 32 → m < 2 ^ 32 → 2047 < m
+    → (z : ℤ) (rest' : List ℕ) → IsOffset z → decimal m ++ end ∷ rest ≡ signed_decimal z ++ end ∷ rest' → ⊥
+no_positive end m rest low small high (pos n) rest' fits e =
+    let few : n ≤ 2047 = omega (arith, ints, fits) in
+    let same = same_number end m n rest rest' low small (omega arith) e in
     omega arith
-no_positive m small high (negsuc n) fits e = no_minus m (decimal (suc n)) (omega arith) (sym e)
+no_positive end m rest low small high (negsuc n) rest' fits e = no_minus m (end ∷ rest) (decimal (suc n) ++ end ∷ rest') (omega arith) (sym e)
 
 -- an offset fits sixteen bits
 offset-fits : (z : ℤ) → IsOffset z → SFits w16 z

@@ -1,5 +1,5 @@
 -- Sizes and values behind them: what the readers' answers mean.
-use Rattle.std.proofs.Common.{◌≡◌, ℕ, zero, suc, ◌+◌, ◌*◌, ◌-◌, ◌/◌, ◌%◌, ◌<◌, ◌≤◌, ◌^◌, List, [], ◌∷◌, ◌++◌, length, take, drop, replicate, sym, ap, subst, ◌∙◌, inl, inr, arith, decimal}
+use Rattle.std.proofs.Common.{◌≡◌, ℕ, zero, suc, ◌+◌, ◌*◌, ◌-◌, ◌/◌, ◌%◌, ◌<◌, ◌≤◌, ◌^◌, List, [], ◌∷◌, ◌++◌, length, take, drop, replicate, sym, ap, subst, ◌∙◌, inl, inr, arith, codes, decimal}
 use Rattle.std.proofs.Math.Nat as nat
 use Rattle.std.specs.Char.{digit_value}
 use borrow.Rule.Slice.PartMut.{put_mid}
@@ -14,17 +14,17 @@ use Rattle.cap_log.proofs.HexText.{digit_value-hex_digit, pow_256}
 use Rattle.cap_log.proofs.WriteLemmas.{length-Writes}
 use Rattle.cap_log.proofs.PartLemmas.{size-small, size-spaceless}
 
--- a number of another size
-pub no_size : (m n : ℕ) → m < 2 ^ 32 → (m ≡ 1 → ⊥) → (m ≡ 2 → ⊥) → (m ≡ 4 → ⊥) → (m ≡ 8 → ⊥) → IsDataSize n → decimal m ≡ decimal n → ⊥
-no_size m n small one two four eight fits e =
-    let same = decimal_injective m n (omega arith) (omega (arith, size-small n fits)) e in
-    sizes m n same one two four eight fits
-  where
-    sizes : (m n : ℕ) → m ≡ n → (m ≡ 1 → ⊥) → (m ≡ 2 → ⊥) → (m ≡ 4 → ⊥) → (m ≡ 8 → ⊥) → IsDataSize n → ⊥
-    sizes m n same one two four eight (inl e) = one (same ∙ e)
-    sizes m n same one two four eight (inr (inl e)) = two (same ∙ e)
-    sizes m n same one two four eight (inr (inr (inl e))) = four (same ∙ e)
-    sizes m n same one two four eight (inr (inr (inr e))) = eight (same ∙ e)
+-- a size is one of four texts
+pub size_text : (n : ℕ) → n < 10 → decimal n ≡ (48 + n) ∷ []
+size_text n small = decimal_digit n small
+
+-- any other text is no size's
+pub no_size : (word : List ℕ) → (word ≡ codes "1" → ⊥) → (word ≡ codes "2" → ⊥) → (word ≡ codes "4" → ⊥) → (word ≡ codes "8" → ⊥)
+    → (n : ℕ) → IsDataSize n → word ≡ decimal n → ⊥
+no_size word one two four eight n (inl is) e = one (e ∙ ap decimal is ∙ size_text 1 (omega arith))
+no_size word one two four eight n (inr (inl is)) e = two (e ∙ ap decimal is ∙ size_text 2 (omega arith))
+no_size word one two four eight n (inr (inr (inl is))) e = four (e ∙ ap decimal is ∙ size_text 4 (omega arith))
+no_size word one two four eight n (inr (inr (inr is))) e = eight (e ∙ ap decimal is ∙ size_text 8 (omega arith))
 
 -- a size is one digit
 pub size-long : (n : ℕ) → IsDataSize n → length (decimal n) ≡ 1

@@ -1,6 +1,7 @@
 -- What a reader of a part of a line answers and a writer writes, and the parts themselves. All of it is this profile's own.
-use Rattle.std.specs.Prelude.{◌≡◌, ◌≢◌, ℕ, ◌+◌, ◌*◌, ◌^◌, ◌<◌, ◌≤◌, List, [], ◌∷◌, ◌++◌, length, take, drop, Option, Some, None, All, codes, decimal}
+use Rattle.std.specs.Prelude.{◌≡◌, ◌≢◌, ℕ, ◌+◌, ◌*◌, ◌^◌, ◌<◌, ◌≤◌, List, [], ◌∷◌, ◌++◌, length, take, drop, Option, Some, None, All, codes, decimal, slice_index}
 use Rattle.std.specs.List.{join_with_byte}
+use Rattle.std.specs.Str.Parse.{AllDigits, digits_value}
 use Rattle.cap_word.specs.Digits.{hex_digits}
 use Rattle.cap_word.specs.declared.word.Cap.{Cap}
 use Rattle.cap_log.specs.Lines.{IsDataSize, IsDataValue, result_words}
@@ -42,6 +43,18 @@ spaced first second pair = first pair.0 ++ 32 ∷ second pair.1
 pub record IsCutAt (end : ℕ) (bytes word rest : List ℕ) : Type 0 where
   pub whole : bytes ≡ word ++ end ∷ rest
   pub one : Lacks end word
+
+-- a number that a decimal of a line spells
+abbrev pub IsCount : ℕ → Type 0
+IsCount n = n < 2 ^ 32
+
+-- the number of the digits at the front of the bytes, which are so many: ten, or all that stand there
+pub record IsFrontNumber (bytes : List ℕ) (value count : ℕ) : Type 0 where
+  pub few : count ≤ 10
+  pub inside : count ≤ length bytes
+  pub digits : AllDigits 10 (take count bytes)
+  pub value_is : value ≡ digits_value 10 (take count bytes)
+  pub stops : count < 10 → count < length bytes → 48 ≤ slice_index bytes count → slice_index bytes count ≤ 57 → ⊥
 
 -- every value is in range
 abbrev pub IsAny : {A : Type 0} → A → Type 0

@@ -47,6 +47,7 @@ impl<A: Single, B: Part> Part for (A, B) {
 
     ghost spelled = { spaced A.Part.spelled B.spelled };
 
+    #[inline(always)]
     fn take(bytes: &[u8], end: u8) -> Option<((A, B), &[u8])> {
         let (first, rest) = A::take(bytes, b' ')?;
         let (second, rest) = B::take(rest, end)?;

@@ -18,6 +18,7 @@ pub fn split_end(bytes: &[u8], end: u8) -> Option<(&[u8], &[u8])>
 
 /// Cuts off so many bytes and the byte behind them, or answers `None` where that is another byte or
 /// there are too few.
+#[inline(always)]
 pub fn split_fixed(bytes: &[u8], count: usize, end: u8) -> Option<(&[u8], &[u8])>
     ensures some { IfSome result (λ parts. (length parts.0.now ≡ count) × (bytes.now ≡ parts.0.now ++ end ∷ parts.1.now)) }
     ensures none { IfNone result ((word rest : List ℕ) → length word ≡ count → bytes.now ≡ word ++ end ∷ rest → ⊥) }

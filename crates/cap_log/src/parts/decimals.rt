@@ -1,11 +1,10 @@
 //! Decimal numbers.
 
-ghost use Rattle.std.specs.Prelude.{◌≡◌, ◌+◌, ◌<◌, ◌≤◌, ◌^◌, length, IfSome, IfNone, decimal};
-ghost use Rattle.std.specs.Str.Parse.{AllDigits, digits_value};
-ghost use Rattle.cap_log.specs.Parts.{Reads, Writes};
+ghost use Rattle.std.specs.Prelude.{◌+◌, ◌<◌, ◌≤◌, ◌^◌, length, IfSome, IfNone, decimal};
+ghost use Rattle.cap_log.specs.Parts.{Begins, BeginsWithNone, IsCount, IsEnd, IsFrontNumber, Writes};
 ghost use Rattle.cap_log.specs.Spaceless.{decimal-spaceless};
 
-use crate::parts::cutting::{put, split_end};
+use crate::parts::cutting::put;
 use crate::parts::{Part, Single};
 use itoa::Buffer;
 
@@ -17,13 +16,13 @@ const DECIMAL_DIGITS: usize = 10;
 pub struct Count(pub u32);
 
 impl Part for Count {
-    ghost fits = { λ count. count.0 < 2 ^ 32 };
+    ghost fits = { λ count. IsCount count.0 };
 
     ghost spelled = { λ count. decimal count.0 };
 
+    #[inline(always)]
     fn take(bytes: &[u8], end: u8) -> Option<(Count, &[u8])> {
-        let (word, rest) = split_end(bytes, end)?;
-        let number = read_decimal(word)?;
+        let (number, rest) = take_decimal(bytes, end)?;
         Some((Count(number), rest))
     }
 
@@ -36,38 +35,43 @@ impl Single for Count {
     ghost spaceless = { λ count fits. decimal-spaceless count.0 fits };
 }
 
-/// Reads a decimal number below 2^32, with no sign and no leading zero.
-pub fn read_decimal(digits: &[u8]) -> Option<u32>
-    ensures { Reads (λ n. n < 2 ^ 32) decimal digits.now result }
+/// Takes a decimal number below 2^32, with no sign and no leading zero, and the byte that ends it.
+#[inline(always)]
+pub fn take_decimal(bytes: &[u8], end: u8) -> Option<(u32, &[u8])>
+    requires { IsEnd end }
+    ensures some { IfSome result (λ p. Begins IsCount decimal end bytes.now p.0 p.1.now) }
+    ensures none { IfNone result (BeginsWithNone IsCount decimal end bytes.now) }
 {
-    if digits.is_empty() || digits.len() > DECIMAL_DIGITS {
+    let (value, count) = front_digits(bytes);
+    if count == 0 || count >= bytes.len() {
         return None;
     }
-    if digits[0] == b'0' && digits.len() > 1 {
+    if bytes[count] != end {
         return None;
     }
-    let value = decimal_value(digits)?;
-    if value <= u64::from(u32::MAX) {
-        Some(value as u32)
-    } else {
-        None
+    if value > u64::from(u32::MAX) {
+        return None;
     }
+    if count > 1 && bytes[0] == b'0' {
+        return None;
+    }
+    Some((value as u32, &bytes[count + 1..]))
 }
 
-// The number that some digits spell, or `None` where one of them is no digit.
-fn decimal_value(digits: &[u8]) -> Option<u64>
-    requires { length digits.now ≤ 10 }
-    ensures some { IfSome result (λ value. AllDigits 10 digits.now × (value ≡ digits_value 10 digits.now)) }
-    ensures none { IfNone result (AllDigits 10 digits.now → ⊥) }
+// The number that the digits at the front spell, ten at most, and how many they are.
+#[inline(always)]
+fn front_digits(bytes: &[u8]) -> (u64, usize)
+    ensures front { IsFrontNumber bytes.now result.0 result.1 }
 {
+    let most = bytes.len().min(DECIMAL_DIGITS);
     let mut value: u64 = 0;
-    for digit in digits {
-        if !digit.is_ascii_digit() {
-            return None;
+    for index in 0..most {
+        if !bytes[index].is_ascii_digit() {
+            return (value, index);
         }
-        value = value * 10 + u64::from(*digit - b'0');
+        value = value * 10 + u64::from(bytes[index] - b'0');
     }
-    Some(value)
+    (value, most)
 }
 
 /// Writes a decimal number.

@@ -19,6 +19,7 @@ impl Part for Number {
 
     ghost spelled = { λ number. hex_digits 16 number.0 };
 
+    #[inline(always)]
     fn take(bytes: &[u8], end: u8) -> Option<(Number, &[u8])> {
         let (digits, rest) = split_fixed(bytes, 16, end)?;
         let number = read_u64(digits)?;
@@ -43,6 +44,7 @@ impl Part for WideNumber {
 
     ghost spelled = { λ number. hex_digits 17 number.0 };
 
+    #[inline(always)]
     fn take(bytes: &[u8], end: u8) -> Option<(WideNumber, &[u8])> {
         let (digits, rest) = split_fixed(bytes, 17, end)?;
         let number = read_wide(digits)?;

@@ -2,11 +2,10 @@
 
 ghost use Rattle.std.specs.Fmt.{signed_decimal};
 ghost use Rattle.cap_log.specs.Lines.{IsOffset};
-ghost use Rattle.cap_log.specs.Parts.{Reads};
 ghost use Rattle.cap_log.specs.Spaceless.{offset-spaceless};
 
-use crate::parts::cutting::{put, split_end};
-use crate::parts::decimals::read_decimal;
+use crate::parts::cutting::put;
+use crate::parts::decimals::take_decimal;
 use crate::parts::{Part, Single};
 use itoa::Buffer;
 
@@ -28,10 +27,20 @@ impl Part for Offset {
 
     ghost spelled = { λ offset. signed_decimal offset.0 };
 
+    #[inline(always)]
     fn take(bytes: &[u8], end: u8) -> Option<(Offset, &[u8])> {
-        let (word, rest) = split_end(bytes, end)?;
-        let offset = read_offset(word)?;
-        Some((Offset(offset), rest))
+        if let Some(digits) = bytes.strip_prefix(b"-") {
+            let (number, rest) = take_decimal(digits, end)?;
+            if number < LEAST_NEGATIVE || number > GREATEST_NEGATIVE {
+                return None;
+            }
+            return Some((Offset(-(number as i16)), rest));
+        }
+        let (number, rest) = take_decimal(bytes, end)?;
+        if number > GREATEST {
+            return None;
+        }
+        Some((Offset(number as i16), rest))
     }
 
     fn write(&self, buffer: &mut [u8], at: usize) -> usize {
@@ -42,22 +51,4 @@ impl Part for Offset {
 
 impl Single for Offset {
     ghost spaceless = { λ offset fits. offset-spaceless offset.0 fits };
-}
-
-// Reads an offset.
-fn read_offset(word: &[u8]) -> Option<i16>
-    ensures { Reads IsOffset signed_decimal word.now result }
-{
-    if let Some(digits) = word.strip_prefix(b"-") {
-        let number = read_decimal(digits)?;
-        if number < LEAST_NEGATIVE || number > GREATEST_NEGATIVE {
-            return None;
-        }
-        return Some(-(number as i16));
-    }
-    let number = read_decimal(word)?;
-    if number > GREATEST {
-        return None;
-    }
-    Some(number as i16)
 }

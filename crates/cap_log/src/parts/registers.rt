@@ -1,13 +1,13 @@
 //! Registers, and the places of roots.
 
-ghost use Rattle.std.specs.Prelude.{◌+◌, ◌≤◌, length};
+ghost use Rattle.std.specs.Prelude.{◌+◌, ◌≤◌, length, IfSome, IfNone};
 ghost use Rattle.cap_log.specs.Lines.{IsPlace, IsRegister, IsTarget, place_spelling, register_spelling};
-ghost use Rattle.cap_log.specs.Parts.{Reads, Writes};
+ghost use Rattle.cap_log.specs.Parts.{Begins, BeginsWithNone, IsEnd, Writes};
 ghost use Rattle.cap_log.specs.Spaceless.{place-spaceless, register-spaceless};
 
 use crate::lines::Place;
-use crate::parts::cutting::{put, split_end};
-use crate::parts::decimals::{read_decimal, write_decimal};
+use crate::parts::cutting::put;
+use crate::parts::decimals::{take_decimal, write_decimal};
 use crate::parts::hexadecimals::{Number, write_number};
 use crate::parts::{Part, Single};
 
@@ -20,9 +20,9 @@ impl Part for Register {
 
     ghost spelled = { λ register. register_spelling register.0 };
 
+    #[inline(always)]
     fn take(bytes: &[u8], end: u8) -> Option<(Register, &[u8])> {
-        let (word, rest) = split_end(bytes, end)?;
-        let number = read_register(word)?;
+        let (number, rest) = take_register(bytes, end)?;
         Some((Register(number), rest))
     }
 
@@ -30,6 +30,9 @@ impl Part for Register {
         write_register(buffer, at, self.0)
     }
 }
+
+/// The register that no step writes.
+const NULL_REGISTER: u8 = 0;
 
 /// A register that a step writes, `c1` to `c31`.
 #[derive(Clone, Copy)]
@@ -40,9 +43,12 @@ impl Part for Target {
 
     ghost spelled = { λ target. register_spelling target.0 };
 
+    #[inline(always)]
     fn take(bytes: &[u8], end: u8) -> Option<(Target, &[u8])> {
-        let (word, rest) = split_end(bytes, end)?;
-        let number = read_target(word)?;
+        let (number, rest) = take_register(bytes, end)?;
+        if number == NULL_REGISTER {
+            return None;
+        }
         Some((Target(number), rest))
     }
 
@@ -68,6 +74,7 @@ impl Part for Place {
 
     ghost spelled = { place_spelling };
 
+    #[inline(always)]
     fn take(bytes: &[u8], end: u8) -> Option<(Place, &[u8])> {
         if let Some(digits) = bytes.strip_prefix(b"@") {
             let (address, rest) = Number::take(digits, end)?;
@@ -91,24 +98,20 @@ impl Part for Place {
     }
 }
 
-// Reads a register, `c0` to `c31`.
-fn read_register(word: &[u8]) -> Option<u8>
-    ensures { Reads IsRegister register_spelling word.now result }
+// Takes a register, `c0` to `c31`, and the byte that ends it.
+#[inline(always)]
+fn take_register(bytes: &[u8], end: u8) -> Option<(u8, &[u8])>
+    requires { IsEnd end }
+    ensures some { IfSome result (λ p. Begins IsRegister register_spelling end bytes.now p.0 p.1.now) }
+    ensures none { IfNone result (BeginsWithNone IsRegister register_spelling end bytes.now) }
 {
-    let number = read_decimal(word.strip_prefix(b"c")?)?;
+    let digits = bytes.strip_prefix(b"c")?;
+    let (number, rest) = take_decimal(digits, end)?;
     if number <= 31 {
-        Some(number as u8)
+        Some((number as u8, rest))
     } else {
         None
     }
-}
-
-// Reads a register that a step writes, `c1` to `c31`.
-fn read_target(word: &[u8]) -> Option<u8>
-    ensures { Reads IsTarget register_spelling word.now result }
-{
-    let register = read_register(word)?;
-    if register == 0 { None } else { Some(register) }
 }
 
 // Writes a register's name.

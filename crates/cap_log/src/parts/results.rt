@@ -14,6 +14,7 @@ impl Part for Word {
 
     ghost spelled = { λ word. hex_digits 32 word.0 };
 
+    #[inline(always)]
     fn take(bytes: &[u8], end: u8) -> Option<(Word, &[u8])> {
         let (digits, rest) = split_fixed(bytes, 32, end)?;
         let word = read_word(digits)?;
@@ -38,6 +39,7 @@ impl Part for Recorded {
 
     ghost spelled = { λ recorded. result_spelling recorded.0 };
 
+    #[inline(always)]
     fn take(bytes: &[u8], end: u8) -> Option<(Recorded, &[u8])> {
         if let Some(digits) = bytes.strip_prefix(b"= 1 ") {
             let (word, rest) = Word::take(digits, end)?;

@@ -7,7 +7,7 @@ ghost use Rattle.cap_log.specs.Parts.{Begins, BeginsWithNone, IsSized, Reads, lo
 
 use crate::parts::Part;
 use crate::parts::cutting::{put, split_fixed};
-use crate::parts::decimals::{read_decimal, write_decimal};
+use crate::parts::decimals::write_decimal;
 use crate::parts::hexadecimals::write_digits;
 use cap_word::read_u64;
 
@@ -25,6 +25,7 @@ impl Part for Loaded {
 
     ghost spelled = { λ loaded. loaded_spelling loaded.size loaded.value };
 
+    #[inline(always)]
     fn take(bytes: &[u8], end: u8) -> Option<(Loaded, &[u8])> {
         let (size, rest) = take_size(bytes)?;
         let digits = rest.strip_prefix(b"= ")?;
@@ -58,6 +59,7 @@ impl Part for Stored {
 
     ghost spelled = { λ stored. stored_spelling stored.size stored.value };
 
+    #[inline(always)]
     fn take(bytes: &[u8], end: u8) -> Option<(Stored, &[u8])> {
         let (size, digits) = take_size(bytes)?;
         let (value, rest) = take_value(digits, size, end)?;
@@ -77,6 +79,7 @@ impl Part for Stored {
 }
 
 // Takes a size, 1, 2, 4 or 8, and a space.
+#[inline(always)]
 fn take_size(bytes: &[u8]) -> Option<(u8, &[u8])>
     ensures some { IfSome result (λ p. Begins IsDataSize decimal 32 bytes.now p.0 p.1.now) }
     ensures none { IfNone result (BeginsWithNone IsDataSize decimal 32 bytes.now) }
@@ -87,6 +90,7 @@ fn take_size(bytes: &[u8]) -> Option<(u8, &[u8])>
 }
 
 // Takes a value of so many bytes, two digits for each, and the byte that ends it.
+#[inline(always)]
 fn take_value(bytes: &[u8], size: u8, end: u8) -> Option<(u64, &[u8])>
     requires { IsDataSize size }
     ensures some { IfSome result (λ p. Begins (IsDataValue size) (hex_digits (2 * size)) end bytes.now p.0 p.1.now) }
@@ -98,18 +102,25 @@ fn take_value(bytes: &[u8], size: u8, end: u8) -> Option<(u64, &[u8])>
 }
 
 // Reads a size, 1, 2, 4 or 8.
+#[inline(always)]
 fn read_size(word: &[u8]) -> Option<u8>
     ensures { Reads IsDataSize decimal word.now result }
 {
-    let number = read_decimal(word)?;
-    if number == 1 || number == 2 || number == 4 || number == 8 {
-        Some(number as u8)
+    if word == b"1".as_slice() {
+        Some(1)
+    } else if word == b"2".as_slice() {
+        Some(2)
+    } else if word == b"4".as_slice() {
+        Some(4)
+    } else if word == b"8".as_slice() {
+        Some(8)
     } else {
         None
     }
 }
 
 // Reads a value of so many bytes, from two digits for each.
+#[inline(always)]
 fn read_value(digits: &[u8], size: u8) -> Option<u64>
     requires { IsDataSize size }
     ensures { Reads (IsDataValue size) (hex_digits (2 * size)) digits.now result }
@@ -118,12 +129,16 @@ fn read_value(digits: &[u8], size: u8) -> Option<u64>
     if digits.len() != count {
         return None;
     }
+    if size == 8 {
+        return read_u64(digits);
+    }
     let text = padded(digits);
     let value = read_u64(&text)?;
     Some(value)
 }
 
 // The digits behind so many zeros that there are sixteen.
+#[inline(always)]
 fn padded(digits: &[u8]) -> [u8; 16]
     requires { length digits.now ≤ 16 }
     ensures { result ≡ replicate (16 - length digits.now) 48 ++ digits.now }

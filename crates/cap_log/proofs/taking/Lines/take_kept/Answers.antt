@@ -1,4 +1,3 @@
-use Rattle.std.proofs.Common.{◌≡◌, ◌-◌, length}
 use Rattle.cap_log.specs.Lines.{spelling}
 use Rattle.cap_log.specs.Windows.{items}
 use Rattle.cap_log.proofs.TakingLemmas.{taken_off}

@@ -1,12 +1,15 @@
+use Rattle.std.proofs.Common.{sym, ◌∙◌, arith}
+use Rattle.cap_log.specs.Lines.{register_spelling}
 use Rattle.cap_log.specs.Spaceless.{Lacks-register}
-use Rattle.cap_log.proofs.Shapes.{FitsTarget, target_text}
-use Rattle.cap_log.proofs.TakeLemmas.{none_ended, none_read}
+use Rattle.cap_log.proofs.Cuts.{same_cut}
+use Rattle.cap_log.proofs.PartLemmas.{register-operand}
 use Rattle.cap_log.proofs.parts.registers.TargetPart.take.Goals as goal
 
-pub returns-in_err-word-clause-none : goal.returns-in_err-word-clause-none
-returns-in_err-word-clause-none c = rw c.from_residual.ensures (none_ended FitsTarget target_text c.args.end c.args.bytes.now c.in_err-word.ensures.none)
-
-pub returns-in_err-number-clause-none : goal.returns-in_err-number-clause-none
-returns-in_err-number-clause-none c =
-    rw c.from_residual-in_err-number.ensures (none_read FitsTarget target_text c.args.end (λ a fits. Lacks-register c.args.end a.0 c.requires fits.1) c.in_ok-word.ensures.some
-    (λ a fits e. c.in_err-number.ensures a.0 fits e))
+pub returns-then-number-eq-NULL_REGISTER-clause-none : goal.returns-then-number-eq-NULL_REGISTER-clause-none
+returns-then-number-eq-NULL_REGISTER-clause-none c = λ a rest begins.
+    let found = c.in_ok-number.ensures.some in
+    let number = c.in_ok-number.number in
+    let cut = same_cut c.args.end (register_spelling number) (register_spelling a.0) c.in_ok-number.rest.now rest
+    (Lacks-register c.args.end number c.requires found.0) (Lacks-register c.args.end a.0 c.requires begins.0.1) (sym found.1 ∙ begins.1) in
+    let same = register-operand.one number a.0 found.0 begins.0.1 cut.0 in
+    omega (arith, begins.0.0, c.if-number-eq-NULL_REGISTER.true)

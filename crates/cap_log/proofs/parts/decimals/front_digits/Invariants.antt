@@ -1,0 +1,10 @@
+use Rattle.std.proofs.Common.{◌≡◌, take}
+use Rattle.std.specs.Str.Parse.{AllDigits, digits_value}
+use Rattle.cap_log.proofs.parts.decimals.front_digits.Given as goal
+
+-- the digits so far, and their number
+abbrev pub invariant-loop-index : goal.invariant-loop-index
+invariant-loop-index l = record {
+  digits : AllDigits 10 (take l.index l.bytes);
+  value_is : l.value ≡ digits_value 10 (take l.index l.bytes);
+}
