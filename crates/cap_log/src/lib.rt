@@ -37,7 +37,7 @@ pub use crate::parts::hexadecimals::{Number, WideNumber};
 pub use crate::parts::signs::{Equals, Flag};
 pub use crate::parts::{Part, Single};
 pub use crate::pushing::push_all;
-pub use crate::reading::{one_line, read_line, take_line};
+pub use crate::reading::{read_line, spellings_are_distinct, take_line};
 pub use crate::sinks::failing::FailingSink;
 pub use crate::sinks::slices::SliceSink;
 pub use crate::sinks::writing::WriteSink;

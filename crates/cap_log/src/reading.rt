@@ -41,7 +41,7 @@ pub fn read_line(bytes: &[u8]) -> Option<Line>
 
 /// No two lines share a spelling: bytes spell one line at most. A spelling has no line feed and at
 /// most 95 bytes, so a line feed ends it, and a line's limit is never in its way.
-pub fn one_line()
+pub fn spellings_are_distinct()
     ensures one { (bytes : List ℕ) (a b : Line) → Spells bytes a → Spells bytes b → a ≡ b }
     ensures plain { (line : Line) → IsInRange line → HasNoFeed (spelling line) }
     ensures short { (line : Line) → IsInRange line → length (spelling line) ≤ 95 }

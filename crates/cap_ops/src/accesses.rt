@@ -14,13 +14,13 @@ ghost use Rattle.cap_ops.specs.Operations.{covers};
 ghost use Rattle.cap_ops.specs.Sizes.{size_fits};
 ghost use Rattle.cap_ops.specs.Tests.{first_of};
 
+use crate::access::Access;
 use crate::bits::{
     GLOBAL, PERMIT_LOAD, PERMIT_LOAD_CAPABILITY, PERMIT_STORE, PERMIT_STORE_CAPABILITY,
     PERMIT_STORE_LOCAL_CAPABILITY, permits,
 };
 use crate::faults::OpFault;
 use crate::kinds::Kind;
-use crate::requests::Access;
 use crate::sealing::sealed;
 use cap_bounds::bounds;
 use cap_word::{Cap, Word};

@@ -3,6 +3,7 @@
 //! permission that its source lacks. Nothing here takes memory.
 #![tactic(auto)]
 
+mod access;
 mod accesses;
 mod addresses;
 mod bits;
@@ -11,11 +12,11 @@ mod faults;
 mod kinds;
 mod narrowing;
 mod permissions;
-mod requests;
 #[cfg(test)]
 mod samples;
 mod sealing;
 
+pub use crate::access::Access;
 pub use crate::accesses::{loaded, may_access};
 pub use crate::addresses::set_addr;
 pub use crate::clearing::{
@@ -25,5 +26,4 @@ pub use crate::faults::OpFault;
 pub use crate::kinds::Kind;
 pub use crate::narrowing::set_bounds;
 pub use crate::permissions::{and_perm, clear_tag, perm_view};
-pub use crate::requests::Access;
 pub use crate::sealing::{seal, sealed, unseal};

@@ -4,9 +4,9 @@ ghost use Rattle.std.specs.Prelude.{◌≤ℤ◌, pos, neg_ℤ, IsTrue};
 ghost use Rattle.cap_ops.specs.Sizes.{size_fits};
 
 use super::{loaded, may_access};
+use crate::access::Access;
 use crate::faults::OpFault;
 use crate::kinds::Kind;
-use crate::requests::Access;
 use crate::samples::{ALL, NULL, SEALED, tagged, untagged};
 use cap_word::Cap;
 use std::process::Abort;

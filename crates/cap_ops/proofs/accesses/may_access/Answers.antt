@@ -4,7 +4,7 @@ use Rattle.std.specs.Prelude.{FitsSigned}
 use Rattle.std.specs.Int.{w16, cast_signed, cast_unsigned}
 use Rattle.cap_word.specs.declared.word.Cap.{Cap}
 use Rattle.cap_ops.specs.declared.faults.OpFault.{OpFault}
-use Rattle.cap_ops.specs.declared.requests.Access.{Access}
+use Rattle.cap_ops.specs.declared.access.Access.{Access}
 use Rattle.cap_ops.specs.Tests.{first_of}
 use Rattle.cap_ops.specs.Accesses.{IsAllowed, access_address, access_tests, permission_for}
 use Rattle.cap_ops.proofs.AccessLemmas.{IsAllowed-access, in_granule}

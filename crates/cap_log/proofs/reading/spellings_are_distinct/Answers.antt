@@ -1,5 +1,5 @@
 use Rattle.cap_log.proofs.SpellingLemmas.{one_spelling, spelling-plain, spelling-short}
-use Rattle.cap_log.proofs.reading.one_line.Goals as goal
+use Rattle.cap_log.proofs.reading.spellings_are_distinct.Goals as goal
 
 pub returns-clause-one : goal.returns-clause-one
 returns-clause-one c = one_spelling
