@@ -1,7 +1,6 @@
 mod Cuts
 mod Decimals
 pub mod FrontLemmas
-mod HexText
 mod OffsetLemmas
 mod OperandLemmas
 mod PartLemmas

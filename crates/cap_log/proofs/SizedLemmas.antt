@@ -10,9 +10,9 @@ use Rattle.cap_word.proofs.DigitLemmas.{length-hex_digits}
 use Rattle.cap_log.specs.Lines.{IsDataSize, IsDataValue}
 use Rattle.cap_log.specs.Parts.{Begins, BeginsWithNone, IsSized, Writes, loaded_spelling, stored_spelling}
 use Rattle.cap_log.proofs.Cuts.{same_cut}
-use Rattle.cap_log.proofs.HexText.{digit_value-hex_digit, pow_256}
+use Rattle.cap_word.proofs.ReadingLemmas.{digit_value-hex_digit}
 use Rattle.cap_log.proofs.WriteLemmas.{length-Writes}
-use Rattle.cap_log.proofs.PartLemmas.{size-small, size-spaceless}
+use Rattle.cap_log.proofs.PartLemmas.{pow_256, size-small, size-spaceless}
 
 -- a size is one of four texts
 pub size_text : (n : ℕ) → n < 10 → decimal n ≡ (48 + n) ∷ []

@@ -44,7 +44,7 @@ use Rattle.cap_word.specs.Digits.{hex_digit, hex_digits, IsHexDigit, AreHexDigit
 use Rattle.cap_word.proofs.DigitLemmas.{hex_digits-suc, length-hex_digits}
 
 -- the value of a digit
-digit_value-hex_digit : (d : ℕ) → d < 16 → digit_value (hex_digit d) ≡ d
+pub digit_value-hex_digit : (d : ℕ) → d < 16 → digit_value (hex_digit d) ≡ d
 digit_value-hex_digit d lt = eqb-true (digit_value (hex_digit d)) d
     (agree_below_at (λ d. eqb (digit_value (hex_digit d)) d) (λ _. true) 16 d refl lt)
 
