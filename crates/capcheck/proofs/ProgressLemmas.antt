@@ -1,5 +1,5 @@
 -- What the judge's progress stands for, with one line more.
-use Rattle.std.proofs.Common.{IfErr, Result, Ok, Err, ◌≡◌, ◌≢◌, ℕ, ◌+◌, ◌^◌, ◌<◌, ◌≤◌, Bool, true, false, not, ◌==◌, ◌&&◌, ◌||◌, nat_eq, nat_le, nat_lt, List, [], ◌∷◌, ◌++◌, length, map, refl, sym, ap, subst, ◌∙◌, arith, tests, lit≤, inl, inr, Some, None, Option}
+use Rattle.std.proofs.Common.{IfErr, Result, Ok, Err, ◌≡◌, ℕ, ◌+◌, ◌^◌, ◌<◌, ◌≤◌, Bool, true, false, not, ◌&&◌, ◌||◌, nat_eq, nat_le, nat_lt, List, [], ◌∷◌, ◌++◌, map, refl, sym, ap, subst, ◌∙◌, arith, tests, lit≤, inl, inr, Some, None, Option}
 use Rattle.std.proofs.Math.Path.{fun_ext}
 use Rattle.std.specs.Bool.{if◌then◌else◌}
 use Rattle.std.specs.List.{AllByRecursion, IsDistinct}
@@ -21,7 +21,7 @@ use Rattle.cap_machine.specs.declared.rules.Rules.{Rules}
 use Rattle.cap_machine.specs.declared.rules.Rules.TheVariants.{One, TwoStrict, TwoClear}
 use Rattle.cap_machine.specs.States.{State, DeclaredRoot, key_of, put, tagged, start}
 use Rattle.cap_machine.specs.Steps.{Leads, Row, is_recorded}
-use Rattle.cap_machine.specs.Accounts.{Account, no_account, most_roots, most_granules, most_steps, granule_of, named_by, row_in, is_new, passes_granules, naming, with_root, with_step, root_tests, row_tests, as_line_test}
+use Rattle.cap_machine.specs.Accounts.{Account, no_account, most_roots, most_granules, most_steps, granule_of, named_by, row_in, passes_granules, naming, with_root, with_step, root_tests, row_tests, as_line_test}
 use Rattle.cap_machine.specs.Runs.{IsRun, last_of}
 use Rattle.cap_machine.specs.Helds.{Held, Makes, EndsStep, Takes as Declares, EndsRoot, state_of, account_of}
 use Rattle.capcheck.specs.Logs.{has_form, Beginning, Nothing, NoMode, Body, Whole, body_lines, after_roots, after_steps, account_after, RunsBy, SpellsBy, NamesFirst, RefusesWhole, WantsMemory, line_tests}

@@ -1,5 +1,5 @@
 -- What judging an input answers and writes (this profile's own).
-use Rattle.std.specs.Prelude.{◌≡◌, ℕ, Bool, true, List, [], take, Option, None, Some, Result, Ok, Err}
+use Rattle.std.specs.Prelude.{◌≡◌, ℕ, Bool, true, List, [], take, Option, Some, Result, Ok, Err}
 use Rattle.std.specs.Io.KnownBytes.{Consumes, Appends}
 use Rattle.capcheck.specs.declared.faults.Fault.{Fault}
 use Rattle.capcheck.specs.declared.faults.Fault.TheVariants as faults

@@ -2,6 +2,7 @@ pub mod Logs
 pub mod Headers
 pub mod Progresses
 pub mod VerdictLines
+pub mod OriginLines
 pub mod TextLines
 pub mod Vectors
 pub mod VectorFiles

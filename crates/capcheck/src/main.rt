@@ -10,6 +10,7 @@ pub mod headers;
 mod inputs;
 pub mod judging;
 pub mod laws;
+pub mod origin_lines;
 mod outputs;
 mod progress;
 pub mod reporting;

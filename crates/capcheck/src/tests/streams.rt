@@ -1,11 +1,12 @@
 //! Logs that come in pieces, and without end.
 
-use crate::judging::judge;
+use crate::judging::{judge, judge_in};
 use crate::reporting::judge_to;
 use crate::tests::made::{Made, Moves};
 use crate::verdict::Verdict;
 use cap_log::{PullFault, SliceSink, Source};
 use cap_machine::Refusal;
+use tagmem::{NoMemory, TaggedStore};
 
 // One byte for ever.
 #[derive(Drop)]
@@ -68,4 +69,47 @@ fn moves_made_as_they_are_pulled(rt: HostRuntime) {
     );
     assert_eq!(rt; sink.taken(), 13);
     assert!(rt; room.starts_with(b"yes 100000 1\n"));
+}
+
+// A store without any memory.
+#[derive(Drop)]
+struct NoStore;
+
+impl TaggedStore for NoStore {
+    ghost use Rattle.std.specs.Ordering.{nat_cmp};
+    ghost use Rattle.std.specs.FinMap as map;
+
+    ghost contents = { λ s. map.empty nat_cmp };
+
+    ghost are_stored = { λ s. tt };
+
+    ghost count_fits = { λ s. tt };
+
+    fn get(&self, _granule: u64) -> Option<(bool, [u8; 16])> {
+        None
+    }
+
+    fn put_cap(&mut self, _granule: u64, _tag: bool, _bytes: [u8; 16]) -> Result<(), NoMemory> {
+        Err(NoMemory)
+    }
+
+    fn put_bytes(&mut self, _granule: u64, _at: u8, _bytes: &[u8]) -> Result<(), NoMemory> {
+        Err(NoMemory)
+    }
+
+    fn count(&self) -> u32 {
+        0
+    }
+}
+
+// A judge of lines that name no granule needs no memory at all: it has neither an allocator nor a store
+// that takes anything.
+#[test]
+fn moves_judged_without_memory(rt: HostRuntime) {
+    let steps = 100_000;
+    let roots = 1;
+    assert_eq!(rt;
+        judge_in(&mut Made::new(Moves(100_000)), NoStore),
+        Ok(Verdict::Yes { steps, roots })
+    );
 }

@@ -1,7 +1,7 @@
-use Rattle.std.proofs.Common.{length, ap, subst, List, ℕ}
+use Rattle.std.proofs.Common.{length, subst}
 use Rattle.std.specs.Io.KnownBytes.{Consumes}
 use Rattle.capcheck.specs.VerdictLines.{verdict_line}
-use Rattle.capcheck.proofs.DoingLemmas.{flushed, flushed_all}
+use Rattle.capcheck.proofs.DoingLemmas.{flushed_all}
 use Rattle.capcheck.proofs.inputs.judge_reader.Goals as goal
 
 pub returns-in-Ok : goal.returns-in-Ok
