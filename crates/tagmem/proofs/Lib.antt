@@ -3,4 +3,5 @@ mod Directories
 mod Listed
 mod Pages
 mod Places
+mod Slots
 mod Writes

@@ -19,7 +19,7 @@ use Rattle.tagmem.proofs.Listed.{contents_of-put, found_present, found-set, foun
 
 -- an entry to stand for one that is not there
 pub nothing : Listed
-nothing = record { granule = 0; tag = false; bytes = [] }
+nothing = record { granule = 0; tag = false; bytes = []; code = 0 }
 
 -- the granule at a place is that of the entry there
 pub granule_at-get_or : (l : List Listed) (i : ℕ) (d : Listed) → i < length l → granule_at l i ≡ (get_or l i d).granule

@@ -1,7 +1,7 @@
 //! A store that keeps its entries in pages.
 ghost use Rattle.std.specs.Prelude.{◌≡◌, ◌^◌, ◌<◌, ◌+◌, ◌≤◌, ◌/◌, length, None, MatchOption, IfOk, OnOk, OnErr};
 ghost use Rattle.std.specs.FinMap as map;
-ghost use Rattle.tagmem.specs.Granules.{with_write, AreStored, HasRoom};
+ghost use Rattle.tagmem.specs.Granules.{with_write, AreStored, HasRoom, IsCodeFor};
 ghost use Rattle.tagmem.specs.Pages.{contents_of, IsDirectory, IsPageAt, IsAbsent};
 
 use crate::page::Page;
@@ -86,27 +86,36 @@ impl PageStore {
     }
 
     // Writes bytes inside a granule of a page that is there, and counts it where it was never put.
-    fn write(&mut self, place: usize, granule: u64, tag: bool, at: u8, bytes: &[u8])
+    fn write(&mut self, place: usize, granule: u64, tag: bool, at: u8, bytes: &[u8], code: u64)
         requires in_memory { granule < 2 ^ 60 }
+        requires coded { IsCodeFor tag code }
         requires found { IsPageAt self.old.pages.items (granule / 256) place }
         requires inside { at + length bytes.now ≤ 16 }
         requires room { HasRoom (contents_of self.old.pages.items) granule }
         ensures { contents_of self.new.pages.items
-            ≡ with_write (contents_of self.old.pages.items) granule tag at bytes.now }
+            ≡ with_write (contents_of self.old.pages.items) granule tag at bytes.now code }
     {
         let page = &mut self.pages[place];
-        let first = page.put((granule % 256) as u8, tag, at, bytes);
+        let first = page.put((granule % 256) as u8, tag, at, bytes, code);
         self.count += u32::from(first);
     }
 
     // Writes bytes inside a granule from its byte `at` on, over zeros where it was never put, and
-    // sets its tag.
-    fn put(&mut self, granule: u64, tag: bool, at: u8, bytes: &[u8]) -> Result<(), NoMemory>
+    // sets its tag and its code.
+    fn put(
+        &mut self,
+        granule: u64,
+        tag: bool,
+        at: u8,
+        bytes: &[u8],
+        code: u64,
+    ) -> Result<(), NoMemory>
         requires in_memory { granule < 2 ^ 60 }
+        requires coded { IsCodeFor tag code }
         requires inside { at + length bytes.now ≤ 16 }
         requires room { HasRoom (contents_of self.old.pages.items) granule }
         ensures ok { OnOk result (contents_of self.new.pages.items
-            ≡ with_write (contents_of self.old.pages.items) granule tag at bytes.now) }
+            ≡ with_write (contents_of self.old.pages.items) granule tag at bytes.now code) }
         ensures err { OnErr result (contents_of self.new.pages.items ≡ contents_of self.old.pages.items) }
         ensures only_new { OnErr result (map.get (contents_of self.old.pages.items) granule ≡ None) }
     {
@@ -114,7 +123,7 @@ impl PageStore {
             Some(place) => place,
             None => self.add_page(granule / 256)?,
         };
-        self.write(place, granule, tag, at, bytes);
+        self.write(place, granule, tag, at, bytes, code);
         Ok(())
     }
 }
@@ -133,12 +142,25 @@ impl TaggedStore for PageStore {
         }
     }
 
-    fn put_cap(&mut self, granule: u64, tag: bool, bytes: [u8; 16]) -> Result<(), NoMemory> {
-        self.put(granule, tag, 0, &bytes)
+    fn code(&self, granule: u64) -> u64 {
+        match self.place(granule / 256) {
+            Some(place) => self.pages[place].code((granule % 256) as u8),
+            None => 0,
+        }
+    }
+
+    fn put_cap(
+        &mut self,
+        granule: u64,
+        tag: bool,
+        bytes: [u8; 16],
+        code: u64,
+    ) -> Result<(), NoMemory> {
+        self.put(granule, tag, 0, &bytes, code)
     }
 
     fn put_bytes(&mut self, granule: u64, at: u8, bytes: &[u8]) -> Result<(), NoMemory> {
-        self.put(granule, false, at, bytes)
+        self.put(granule, false, at, bytes, 0)
     }
 
     fn count(&self) -> u32 {
