@@ -367,7 +367,14 @@ fn each_operation_on_registers(rt: HostRuntime) {
     assert_eq!(rt; machine.steps(), 9);
 }
 
-// The origins of registers c1 to c6 and of granules 0 to 2 after lines, some of which are refused.
+// The machine takes the lines.
+fn enter_all<M: TaggedStore>(rt: &impl Abort, machine: &mut Machine<M>, lines: &[&str]) {
+    for line in lines {
+        assert_eq!(rt; enter(rt, machine, line), Ok(()), "{line}");
+    }
+}
+
+// The origins of registers c1 to c6, and of granules 0 to 2, after lines.
 fn has_origins<M: TaggedStore>(
     rt: &impl Abort,
     machine: &mut Machine<M>,
@@ -375,22 +382,14 @@ fn has_origins<M: TaggedStore>(
     registers: [Option<Place>; 6],
     granules: [Option<Place>; 3],
 ) {
-    for line in lines {
-        assert_eq!(rt; enter(rt, machine, line), Ok(()), "{line}");
+    enter_all(rt, machine, lines);
+    for i in 0..6u8 {
+        let origin = machine.origin(Place::Register(i + 1));
+        assert_eq!(rt; origin, registers[i as usize], "register {i}");
     }
-    for (number, origin) in (1..7).zip(registers) {
-        assert_eq!(rt;
-            machine.origin(Place::Register(number)),
-            origin,
-            "c{number}"
-        );
-    }
-    for (granule, origin) in (0..3).zip(granules) {
-        assert_eq!(rt;
-            machine.origin(Place::Granule(granule)),
-            origin,
-            "granule {granule}"
-        );
+    for i in 0..3u64 {
+        let origin = machine.origin(Place::Granule(i));
+        assert_eq!(rt; origin, granules[i as usize], "granule {i}");
     }
 }
 
