@@ -21,7 +21,7 @@ use Rattle.tagmem.proofs.Granules.{get-put}
 use Rattle.tagmem.proofs.Slots.{length-each_coded}
 
 -- a page has 256 slots
-length-slots_of : (page : Page) → length (slots_of page) ≡ 256
+pub length-slots_of : (page : Page) → length (slots_of page) ≡ 256
 length-slots_of page = length-each_coded page.slots page.codes (page.whole ∙ sym page.each_has_code) ∙ page.whole
 
 -- what a page says of a granule

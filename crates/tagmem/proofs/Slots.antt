@@ -1,6 +1,7 @@
 -- Slots with their codes, one by one.
-use Rattle.std.proofs.Common.{◌≡◌, ℕ, zero, suc, Bool, true, false, true≢false, List, [], ◌∷◌, length, get_or, set}
+use Rattle.std.proofs.Common.{◌≡◌, ◌≢◌, ℕ, zero, suc, Bool, true, false, true≢false, List, [], ◌∷◌, length, get_or, set}
 use Rattle.std.proofs.Common.{Option, Some, None, is_some, is_none, unwrap_or, sym, refl, ap, arith}
+use Rattle.std.proofs.lemmas.Option.{none-some}
 use Rattle.tagmem.specs.Granules.{blank, shown}
 use Rattle.tagmem.specs.Pages.{coded, each_coded}
 
@@ -45,3 +46,12 @@ code-coded_none (Some stored) code none = absurd (true≢false none)
 pub code-coded_some : (slot : Option (Bool × List ℕ)) (code : ℕ) → is_some slot ≡ true → (unwrap_or (coded slot code) blank).2 ≡ code
 code-coded_some None code some = absurd (true≢false (sym some))
 code-coded_some (Some stored) code some = refl
+
+-- there is an entry where there is a slot
+pub coded_none : (slot : Option (Bool × List ℕ)) (code : ℕ) → is_some slot ≡ false → coded slot code ≡ None
+coded_none None code none = refl
+coded_none (Some stored) code none = absurd (true≢false none)
+
+pub coded_some : (slot : Option (Bool × List ℕ)) (code : ℕ) → is_some slot ≡ true → coded slot code ≢ None
+coded_some None code some is = true≢false (sym some)
+coded_some (Some stored) code some is = none-some _ (sym is)

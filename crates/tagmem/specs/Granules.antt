@@ -1,5 +1,5 @@
 -- Tagged memory as a finite map. Granule g is the sixteen bytes from address 16 * g on, with one tag (UCAM-CL-TR-987, tagged memory).
-use Rattle.std.specs.Prelude.{◌≡◌, ℕ, ◌+◌, ◌^◌, ◌<◌, ◌↔◌, Bool, false, List, ◌++◌, length, take, drop, replicate, All}
+use Rattle.std.specs.Prelude.{◌≡◌, ◌≢◌, ℕ, ◌+◌, ◌^◌, ◌<◌, ◌≤◌, ◌↔◌, Bool, false, List, ◌++◌, length, take, drop, replicate, All}
 use Rattle.std.specs.Prelude.{Option, Some, None, unwrap_or}
 use Rattle.std.specs.Ordering.{nat_cmp}
 use Rattle.std.specs.FinMap.{FinMap, get, insert, len}
@@ -56,6 +56,15 @@ with_bytes m granule from new = insert m granule (false, overwritten (bytes_at m
 -- the map after a write of bytes inside a granule, which sets its tag and its code: its other bytes stay (this profile's own)
 abbrev pub with_write : Granules → ℕ → Bool → ℕ → List ℕ → ℕ → Granules
 with_write m granule tag from new code = insert m granule (tag, overwritten (bytes_at m granule) from new, code)
+
+-- no granule from one number to below another was put (this profile's own)
+abbrev pub NonePut : Granules → ℕ → ℕ → Type 0
+NonePut m from to = (granule : ℕ) → from ≤ granule → granule < to → get m granule ≡ None
+
+-- the least granule at or above a number that was put, where there is one (this profile's own)
+abbrev pub IsNextPut : Granules → ℕ → Option ℕ → Type 0
+IsNextPut m from None = (granule : ℕ) → from ≤ granule → get m granule ≡ None
+IsNextPut m from (Some next) = (from ≤ next) × (get m next ≢ None) × NonePut m from next
 
 -- the granule was put, or one more can be counted in 32 bits (this profile's own)
 abbrev pub HasRoom : Granules → ℕ → Type 0

@@ -135,6 +135,16 @@ impl TaggedStore for ListStore {
         }
     }
 
+    fn next_put(&self, granule: u64) -> Option<u64> {
+        match self.place(granule) {
+            Ok(_) => Some(granule),
+            Err(place) => match self.entries.get(place) {
+                Some(listed) => Some(listed.granule),
+                None => None,
+            },
+        }
+    }
+
     fn put_cap(
         &mut self,
         granule: u64,

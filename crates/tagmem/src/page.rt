@@ -16,7 +16,7 @@ pub(crate) struct Page {
 }
 
 impl Page {
-    ghost use Rattle.tagmem.specs.Pages.{slots_of, bytes_in, code_in};
+    ghost use Rattle.tagmem.specs.Pages.{slots_of, bytes_in, code_in, IsFirstFrom};
 
     // A page of which no granule was put.
     pub(crate) fn new(number: u64) -> Page
@@ -46,6 +46,18 @@ impl Page {
         } else {
             self.codes[slot as usize]
         }
+    }
+
+    // The first slot from one on that was put.
+    pub(crate) fn first_from(&self, slot: u8) -> Option<u8>
+        ensures { IsFirstFrom (slots_of self.now) slot result }
+    {
+        for i in slot as usize..256 {
+            if self.slots[i].is_some() {
+                return Some(i as u8);
+            }
+        }
+        None
     }
 
     // Writes bytes inside a granule from its byte `at` on, over zeros where it was never put, and

@@ -5,7 +5,7 @@
 //! beside each capability a code of its origin, whose meaning is its user's.
 ghost use Rattle.std.specs.Prelude.{◌≡◌, ◌+◌, ◌^◌, ◌<◌, ◌≤◌, length, None, OnOk, OnErr};
 ghost use Rattle.std.specs.FinMap as map;
-ghost use Rattle.tagmem.specs.Granules.{Granules, AreStored, HasRoom, IsCodeFor, shown, code_at, with_cap, with_bytes};
+ghost use Rattle.tagmem.specs.Granules.{Granules, AreStored, HasRoom, IsCodeFor, IsNextPut, shown, code_at, with_cap, with_bytes};
 
 /// The memory that a granule put for the first time needs was refused.
 #[derive(Clone, Copy, Debug, PartialEq, Eq)]
@@ -28,6 +28,11 @@ pub trait TaggedStore: Drop {
     fn code(&self, granule: u64) -> u64
         requires { granule < 2 ^ 60 }
         ensures { result ≡ code_at (contents self.now) granule };
+
+    /// The least granule at or above a number that was put, or `None` where there is none. Any number
+    /// does, also one that is no granule's.
+    fn next_put(&self, granule: u64) -> Option<u64>
+        ensures { IsNextPut (contents self.now) granule result };
 
     /// Sets a granule's tag and bytes, and the code of the origin, any but 0 for a tag and 0 for none.
     /// After an error the store is as it was, and a granule that was put before never gives one.

@@ -87,6 +87,35 @@ fn keeps_codes<S: TaggedStore>(rt: &impl Abort, store: &mut S) {
     assert_eq!(rt; store.count(), 3);
 }
 
+// Around puts at the ends of pages of 256 granules and of memory.
+fn finds_the_next_put<S: TaggedStore>(rt: &impl Abort, store: &mut S) {
+    assert_eq!(rt; store.next_put(0), None);
+    assert_eq!(rt; store.next_put(u64::MAX), None);
+    put_cap(rt, store, 1000, true, [7; 16], 1);
+    put_cap(rt, store, GRANULES - 1, false, [7; 16], 0);
+    put_bytes(rt, store, 255, 15, &[8]);
+    put_cap(rt, store, 1, true, [7; 16], 1);
+    put_bytes(rt, store, 256, 0, &[8]);
+    let following = [
+        (0, 1),
+        (1, 1),
+        (2, 255),
+        (255, 255),
+        (256, 256),
+        (257, 1000),
+        (768, 1000),
+        (1000, 1000),
+        (1001, GRANULES - 1),
+        (GRANULES - 257, GRANULES - 1),
+        (GRANULES - 1, GRANULES - 1),
+    ];
+    for (granule, next) in following {
+        assert_eq!(rt; store.next_put(granule), Some(next));
+    }
+    assert_eq!(rt; store.next_put(GRANULES), None);
+    assert_eq!(rt; store.next_put(u64::MAX), None);
+}
+
 // What a plain list says of some granules: whether each was put, its tag, its bytes and its code.
 #[derive(Drop)]
 struct Plain {
@@ -221,6 +250,11 @@ fn a_list_keeps_codes(rt: HostRuntime) {
 }
 
 #[test]
+fn a_list_finds_the_next_put(rt: HostRuntime) {
+    finds_the_next_put(&rt, &mut ListStore::new(rt.alloc()));
+}
+
+#[test]
 fn a_list_agrees_with_a_plain_list(rt: HostRuntime) {
     agrees_with_a_plain_list(&rt, &mut ListStore::new(rt.alloc()));
 }
@@ -317,6 +351,8 @@ fn a_list_and_pages_agree(rt: HostRuntime) {
         assert_eq!(rt; pages.get(read), list.get(read));
         assert_eq!(rt; pages.code(granule), list.code(granule));
         assert_eq!(rt; pages.code(read), list.code(read));
+        assert_eq!(rt; pages.next_put(read), list.next_put(read));
+        assert_eq!(rt; pages.next_put(read + 1), list.next_put(read + 1));
         assert_eq!(rt; pages.count(), list.count());
     }
 }
@@ -334,6 +370,11 @@ fn pages_write_over_zeros(rt: HostRuntime) {
 #[test]
 fn pages_keep_codes(rt: HostRuntime) {
     keeps_codes(&rt, &mut PageStore::new(rt.alloc()));
+}
+
+#[test]
+fn pages_find_the_next_put(rt: HostRuntime) {
+    finds_the_next_put(&rt, &mut PageStore::new(rt.alloc()));
 }
 
 #[test]

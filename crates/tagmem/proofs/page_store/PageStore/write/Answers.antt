@@ -2,7 +2,7 @@ use Rattle.std.proofs.Common.{◌≡◌, ◌<◌, ◌%◌, get_or, None, is_none
 use Rattle.std.proofs.lemmas.List.Elements.{All-from_get_or}
 use mir.Val.{bool_byte}
 use Rattle.tagmem.specs.Pages.{slots_of}
-use Rattle.tagmem.proofs.Writes.{IsRead, IsWritten, IsDirectory-write, contents_of-write, AreStored-write, len-write, len_fits}
+use Rattle.tagmem.proofs.Writes.{IsRead, IsWritten, IsDirectory-write, EachUsed-write, contents_of-write, AreStored-write, len-write, len_fits}
 use Rattle.tagmem.proofs.page_store.PageStore.write.Goals as goal
 
 pub overflow_add-self : goal.overflow_add-self
@@ -43,6 +43,7 @@ invariant_of-self c =
     All-from_get_or (λ byte. byte < 256) c.args.bytes.now 0 (λ i lt. (c.type_inv.bytes i).fits) in
     record {
       known = IsDirectory-write s.pages.items s.directory c.args.place c.args.granule box read page _ _ _ _ written;
+      used = EachUsed-write s.pages.items s.directory c.args.place c.args.granule box read page _ _ _ _ written s.used;
       stored = AreStored-write s.pages.items s.directory c.args.place c.args.granule box read page _ _ _ _ written
           c.requires.in_memory c.requires.inside bytes (omega arith) c.requires.coded s.stored;
       counted = omega (arith, len, first, s.counted);
