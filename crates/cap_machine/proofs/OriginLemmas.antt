@@ -1,5 +1,6 @@
 -- What origins are, carried forward, is what descent is, followed back: so the account's are the places of roots.
-use Rattle.std.proofs.Common.{◌≡◌, ℕ, zero, suc, ◌==◌, nat_eq, false, inl, inr, List, [], ◌∷◌, length, map, take, Some, Contains, refl, sym, ap, subst, ◌∙◌, arith}
+use Rattle.std.proofs.Common.{◌≡◌, ℕ, zero, suc, ◌==◌, nat_eq, false, inl, inr, List, [], ◌∷◌, length, map, take, Some, Contains, refl, sym, ap, subst, ◌∙◌, arith, None}
+use Rattle.std.specs.FinMap as fin
 use Rattle.std.specs.List.{AllByRecursion, IsDistinct}
 use Rattle.std.proofs.Math.Path.{fun_ext}
 use Rattle.std.proofs.lemmas.Bool.{cond-true, cond-false, eqb-false, eq-eqb, ne_eqb}
@@ -8,13 +9,16 @@ use Rattle.std.proofs.lemmas.List.{take_all}
 use Rattle.cap_log.specs.declared.lines.Step.{Step}
 use Rattle.cap_log.specs.Lines.{IsStepInRange}
 use Rattle.cap_machine.specs.declared.rules.Rules.{Rules}
-use Rattle.cap_machine.specs.States.{State, DeclaredRoot, key_of, start, untagged_null}
+use Rattle.cap_machine.specs.States.{State, DeclaredRoot, key_of, start, untagged_null, granule_key}
 use Rattle.cap_machine.specs.Runs.{AreSound, Descends, IsRun, last_of, state_at}
 use Rattle.cap_machine.specs.Origins.{Origins, origin_at, origins_after, origins_along}
 use Rattle.cap_machine.specs.Accounts.{Account, no_account, with_root, with_step}
+use Rattle.cap_machine.specs.Helds.{Held, state_of}
 use Rattle.cap_machine.specs.RunAccounts.{OriginsAreRoots, after_roots, after_steps, account_after}
 use Rattle.cap_machine.proofs.AccountLemmas.{with_root-grows, with_step-grows}
 use Rattle.cap_machine.proofs.AuthorityLemmas.{one_root}
+use Rattle.cap_machine.proofs.GranuleLemmas.{granule_cap-absent}
+use Rattle.cap_machine.proofs.SoundLemmas.{granule_state}
 
 pub traced : (origins : Origins) (state : State) (steps : List Step) (states : List State) (key from : ℕ) → Descends state steps states key from
     → origins_along origins state steps states key ≡ origins from
@@ -98,6 +102,10 @@ last_moment rules state [] [] run = (refl, refl)
 last_moment rules state [] (next ∷ states) run = absurd run
 last_moment rules state (step ∷ steps) [] run = absurd run
 last_moment rules state (step ∷ steps) (next ∷ states) run = let rest = last_moment rules next steps states run.1 in (rest.0, ap suc rest.1)
+
+-- a granule that nothing has named holds NULL without a tag
+pub state-unnamed : (held : Held) (granule : ℕ) → fin.get held.memory granule ≡ None → state_of held (granule_key granule) ≡ untagged_null
+state-unnamed held granule absent = granule_state held.registers held.memory granule ∙ granule_cap-absent held.memory granule absent
 
 -- so the origin of each tagged place is the place of the one root that it descends from
 pub origins_found : (rules : Rules) (roots : List DeclaredRoot) (steps : List Step) (states : List State) → AreSound roots → IsDistinct nat_eq (keys roots)

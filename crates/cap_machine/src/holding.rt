@@ -2,6 +2,7 @@
 
 ghost use Rattle.std.specs.Prelude.{◌≡◌, ℕ, ◌<◌, ◌≤◌, ◌^◌, ◌+◌, IfSome, is_some};
 ghost use Rattle.std.specs.FinMap as map;
+ghost use Rattle.tagmem.specs.Granules.{IsNextPut};
 ghost use Rattle.cap_log.specs.Lines.{IsPlace};
 ghost use Rattle.cap_machine.specs.States.{granule_key, key_of, untagged_null};
 ghost use Rattle.cap_machine.specs.Accounts.{no_account};
@@ -94,6 +95,16 @@ impl<M: TaggedStore> Machine<M> {
         ensures in_range { IfSome result IsPlace }
     {
         place_at(self.code(place))
+    }
+
+    /// The least granule at or above a number that a root, an `sc` or a `store` has named, or `None` where
+    /// there is none: every other granule from there on holds NULL without a tag. Any number does, also one
+    /// that is no granule's.
+    pub fn next_put(&self, granule: u64) -> Option<u64>
+        ensures next { IsNextPut (let held = held_of M.contents self.now in held.memory) granule result }
+        ensures in_memory { IfSome result (λ next. next < 2 ^ 60) }
+    {
+        self.memory.next_put(granule)
     }
 
     // The code of the origin of what a place holds.

@@ -285,6 +285,10 @@ impl<M: TaggedStore> TaggedStore for Refusing<M> {
         self.inner.code(granule)
     }
 
+    fn next_put(&self, granule: u64) -> Option<u64> {
+        self.inner.next_put(granule)
+    }
+
     fn put_cap(
         &mut self,
         granule: u64,
@@ -425,6 +429,9 @@ fn follows_origins<M: TaggedStore>(rt: &impl Abort, machine: &mut Machine<M>) {
     ];
     let left = [c2, None, None, c1, None, granule];
     has_origins(rt, machine, &overwritten, left, [c2, None, None]);
+    assert_eq!(rt; machine.next_put(0), Some(0));
+    assert_eq!(rt; machine.next_put(1), Some(1));
+    assert_eq!(rt; machine.next_put(3), None);
     let refused = "move c3 c1 = 0 ffff1ffffc018004000000000003fffb";
     assert!(rt; enter(rt, machine, refused).is_err());
     has_origins(rt, machine, &[], left, [c2, None, None]);
