@@ -10,6 +10,8 @@ pub mod RoundLines
 pub mod ExplainLines
 pub mod Verdicts
 pub mod Judgings
+pub mod Origins
+pub mod OriginLists
 pub mod Reports
 pub mod Orders
 pub mod Operands
