@@ -10,7 +10,7 @@ use Rattle.cap_ops.specs.Tests.{first_of}
 use Rattle.cap_ops.proofs.TestLemmas.{NoneHold}
 use Rattle.cap_machine.specs.States.{State, key_of}
 use Rattle.cap_machine.specs.Steps.{Leads, is_recorded}
-use Rattle.cap_machine.specs.Accounts.{Account, most_roots, most_granules, most_steps, granule_of, named_by, row_in, passes_granules, naming, with_root, with_step, root_tests, step_tests}
+use Rattle.cap_machine.specs.Accounts.{Account, most_roots, most_granules, most_steps, granule_of, named_by, row_in, passes_granule_limit, naming, with_root, with_step, root_tests, step_tests}
 use Rattle.cap_machine.proofs.MadeLemmas.{first_mapped-none, ending}
 
 -- an account grows into another by so many roots and steps: its rules stay, and no granule that was named is taken away
@@ -48,7 +48,7 @@ not_passed false granules most few = lt-leb most granules (omega arith)
 
 -- where an account keeps to the limit with a granule named, naming it doesn't pass the limit
 within : (account : Account) (granule : Option ℕ) → (naming account granule).granules ≤ most_granules account.rules
-    → passes_granules account granule ≡ false
+    → passes_granule_limit account granule ≡ false
 within account None few = refl
 within account (Some granule) few = not_passed (account.is_named granule) account.granules (most_granules account.rules) few
 
@@ -75,5 +75,5 @@ step_free account step next leads few_steps few_granules =
     let row = row_in account step in
     let limit = or_from _ _ (lt-leb most_steps account.steps few_steps) (within account (named_by row) few_granules) in
     first_mapped-none row.tests _ leads.allowed
-    ∙ first_of-none (ending (is_recorded row) (nat_le most_steps account.steps || passes_granules account (named_by row)))
+    ∙ first_of-none (ending (is_recorded row) (nat_le most_steps account.steps || passes_granule_limit account (named_by row)))
     (ap not leads.recorded, (limit, tt))

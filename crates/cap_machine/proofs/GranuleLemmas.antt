@@ -1,5 +1,5 @@
 -- Granules as capabilities and as numbers.
-use Rattle.std.proofs.Common.{◌≡◌, ℕ, zero, suc, ◌+◌, ◌*◌, ◌/◌, ◌%◌, ◌^◌, ◌<◌, ◌≤◌, false, List, [], ◌∷◌, length, drop, take, get_or, refl, sym, ap, ◌∙◌, arith, Option, None}
+use Rattle.std.proofs.Common.{◌≡◌, ℕ, zero, suc, ◌+◌, ◌*◌, ◌/◌, ◌%◌, ◌^◌, ◌<◌, ◌≤◌, false, List, [], ◌∷◌, length, drop, take, get_or, refl, sym, ap, ◌∙◌, arith, Option, Some, None, IfSome}
 use Rattle.std.proofs.Math.Nat.{div-div-eq-div-mul, pow-suc, pow-zero, div-one, zero-div}
 use Rattle.std.proofs.lemmas.List.{at_drop_more}
 use Rattle.std.proofs.lemmas.Nat.{pow-add}
@@ -9,7 +9,8 @@ use Rattle.std.specs.Int.{byte_at, bytes_low_first, to_le_bytes, w64}
 use Rattle.cap_word.specs.Word.{null_word}
 use Rattle.cap_word.specs.Memory.{number_of, stored_word, low_bytes}
 use Rattle.cap_word.specs.declared.word.Cap.{Cap}
-use Rattle.tagmem.specs.Granules.{Granules, Entry, blank}
+use Rattle.std.proofs.lemmas.Option.{none-some}
+use Rattle.tagmem.specs.Granules.{Granules, AreStored, Entry, IsNextPut, blank, shown}
 use Rattle.cap_machine.specs.States.{untagged_null}
 use Rattle.cap_machine.specs.Helds.{granule_cap}
 use Rattle.cap_machine.specs.Values.{number_at}
@@ -21,6 +22,11 @@ byte_at_is (suc i) n = refl
 zero_word : stored_word (replicate 16 0) ≡ null_word
 unfolding number_of
 zero_word = refl
+
+-- what shows nothing was never put
+pub shown_none : (o : Option Entry) → shown o ≡ None → o ≡ None
+shown_none None h = refl
+shown_none (Some entry) h = absurd (none-some (entry.0, entry.1) (sym h))
 
 cap_of : Entry → Cap
 cap_of entry = record { tag = entry.0; word = record { 0 = stored_word entry.1 } }
@@ -77,3 +83,12 @@ taken_bytes (suc k) (suc n) i v below =
 
 pub low_taken : (k v : ℕ) → k ≤ 8 → take k (to_le_bytes w64 v) ≡ low_bytes k v
 low_taken k v below = taken_bytes k 8 0 v below ∙ ap (low_bytes k) (ap (λ (x : ℕ). v / x) (pow-zero 256) ∙ div-one v)
+
+-- a granule that was put is one of memory
+pub next_in_memory : (memory : Granules) (from : ℕ) (found : Option ℕ) → AreStored memory → IsNextPut memory from found → IfSome found (λ next. next < 2 ^ 60)
+next_in_memory memory from None stored next = tt
+next_in_memory memory from (Some granule) stored next =
+    elim (map.get memory granule) as (λ o. map.get memory granule ≡ o → granule < 2 ^ 60) [
+      | None ↦ λ absent. absurd (next.1 absent)
+      | Some entry ↦ λ is. let here = stored granule entry is in here.in_memory
+    ] refl

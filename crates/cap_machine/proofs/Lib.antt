@@ -4,6 +4,7 @@ pub mod AuthorityLemmas
 pub mod AccessLemmas
 mod GranuleLemmas
 mod StateLemmas
+mod CodeLemmas
 mod RootLemmas
 mod MadeLemmas
 mod SoundLemmas

@@ -1,19 +1,26 @@
 -- A machine after a step was made, or refused.
-use Rattle.std.proofs.Common.{◌≡◌, ℕ, ℤ, zero, suc, ◌+◌, ◌*◌, ◌/◌, ◌%◌, ◌^◌, ◌<◌, ◌≤◌, Bool, true, false, not, ◌||◌, nat_le, List, [], ◌∷◌, ◌++◌, map, length, get_or, refl, sym, ap, subst, ◌∙◌, arith, lit<, inl, inr, nat_lt, ◌-◌, Some, None, Option, Result, Ok, Err, MatchResult, IfOk, IfErr, All}
+use Rattle.std.proofs.Common.{◌≡◌, ℕ, ℤ, zero, suc, ◌+◌, ◌*◌, ◌/◌, ◌%◌, ◌^◌, ◌<◌, ◌≤◌, Bool, true, false, not, ◌||◌, nat_le, List, [], ◌∷◌, ◌++◌, map, length, get_or, refl, sym, ap, subst, ◌∙◌, arith, lit<, inl, inr, nat_lt, ◌-◌, Some, None, Option, option_map, Result, Ok, Err, MatchResult, All}
 use Rattle.std.specs.Bool.{if◌then◌else◌}
 use Rattle.std.specs.FinMap as fin
-use Rattle.std.proofs.lemmas.Bool.{cases_lt, le-ltb, eq-eqb, lt-leb}
+use Rattle.std.specs.Prelude.{FitsSigned}
+use Rattle.std.specs.Int.{w16, cast_signed, cast_unsigned}
+use Rattle.std.proofs.lemmas.Int.{to_z-of_z}
+use Rattle.std.proofs.Math.ListN.{set}
+use Rattle.std.proofs.lemmas.Bool.{false≢true, cases_lt, le-ltb, eq-eqb, lt-leb}
 use Rattle.std.proofs.lemmas.List.{get_or_past}
 use Rattle.std.proofs.lemmas.List.Elements.{All-get_or}
 use Rattle.std.proofs.lemmas.Option.{none-some}
 use Rattle.cap_word.specs.declared.word.Cap.{Cap}
 use Rattle.cap_word.specs.Memory.{low_bytes, memory_of, stored_word}
 use Rattle.cap_word.proofs.Bytes.{stored_word-memory_of, memory_of-stored_word}
+use Rattle.cap_log.specs.declared.lines.Place.{Place}
 use Rattle.cap_log.specs.declared.lines.Place.TheVariants.{Register, Granule}
 use Rattle.cap_log.specs.declared.lines.Step.{Step}
 use Rattle.cap_log.specs.declared.lines.Step.TheVariants as steps
+use Rattle.cap_log.specs.Lines.{IsStepInRange}
 use Rattle.cap_ops.specs.declared.faults.OpFault.{OpFault}
 use Rattle.cap_ops.specs.Accesses.{loaded_result}
+use Rattle.cap_ops.specs.Authority.{StaysWithin}
 use Rattle.cap_ops.specs.Tests.{first_of}
 use Rattle.tagmem.specs.Granules.{Entry, AreStored, bytes_at, overwritten}
 use Rattle.tagmem.proofs.Granules.{len-put, length-bytes_at, bytes_at_fit}
@@ -22,16 +29,19 @@ use Rattle.cap_machine.specs.declared.refusal.Refusal.TheVariants.{WrongResult, 
 use Rattle.cap_machine.specs.declared.ends.StepEnd.{StepEnd}
 use Rattle.cap_machine.specs.declared.ends.StepEnd.TheVariants.{Refused, NoMemory}
 use Rattle.cap_machine.specs.Refusals.{refusal_of}
-use Rattle.cap_machine.specs.States.{State, untagged_null, granule_key, put, value_at}
+use Rattle.cap_machine.specs.States.{State, untagged_null, granule_key, key_of, put, value_at}
 use Rattle.cap_machine.specs.Steps.{Access, Row, row_of, row_by, operation, is_recorded, is_same_cap, state_with, address_through, granule_through, with_value}
 use Rattle.cap_machine.specs.declared.rules.Rules.{Rules}
 use Rattle.cap_machine.specs.declared.rules.Rules.TheVariants.{One, TwoStrict, TwoClear}
-use Rattle.cap_machine.specs.Accounts.{Account, as_line_test, step_tests, named_by, row_in, naming, is_new, passes_granules, most_steps}
-use Rattle.cap_machine.specs.Helds.{Held, Makes, EndsStep, EndsAccess, EndsPut, last_tests, is_past_limits, state_of, account_of, tests_by, value_by, with_register, with_cap_put, with_value_put, granule_cap}
+use Rattle.cap_machine.specs.Accounts.{Account, as_line_test, step_tests, named_by, row_in, naming, is_new, passes_granule_limit, most_steps}
+use Rattle.cap_machine.specs.Origins.{Origins, origin_at, origins_after}
+use Rattle.cap_machine.specs.Places.{IsCoded, codes_of, place_at}
+use Rattle.cap_machine.specs.Helds.{Held, Makes, EndsBy, EndsStep, state_of, code_in, account_of, tests_by, value_by, granule_cap}
+use Rattle.cap_machine.specs.Changes.{Derives, EndsAccess, EndsPut, IsOperation, code_for, last_tests, is_past_limits, result_in, with_register, with_cap_put, with_value_put}
 use Rattle.cap_machine.specs.Values.{number_at}
-use Rattle.cap_machine.proofs.StateLemmas.{state-register, state-granule, named-put, named_in, also_named, cap_of}
-use Rattle.cap_machine.proofs.RootLemmas.{account_with}
-use Rattle.cap_machine.proofs.StepLemmas.{row_by-access}
+use Rattle.cap_machine.proofs.StateLemmas.{account_with, state-register, state-granule, codes-register, codes-granule, named-put, named_in, also_named, cap_of}
+use Rattle.cap_machine.proofs.CodeLemmas.{IsFrom, code-register, code_for-coded, origins_by, origins-put, origin-written}
+use Rattle.cap_machine.proofs.StepLemmas.{WritesWithin, row_by-access, writes_within_by}
 
 -- the first of tests of an operation, as tests of a line, before others
 pub first_mapped-some : (tests : List (Bool × OpFault)) (rest : List (Bool × Refusal)) (fault : OpFault) → first_of tests ≡ Some fault
@@ -70,46 +80,52 @@ neither false limit h = absurd (none-some WrongResult (sym h))
 -- the tests of a step whose operation none refuses
 step_tests-free : (old : Held) (step : Step) → first_of (row_in (account_of old) step).tests ≡ None
     → first_of (step_tests (account_of old) step)
-    ≡ first_of (ending (is_recorded (row_in (account_of old) step)) (nat_le most_steps old.steps || passes_granules (account_of old) (named_by (row_in (account_of old) step))))
+    ≡ first_of (ending (is_recorded (row_in (account_of old) step)) (nat_le most_steps old.steps || passes_granule_limit (account_of old) (named_by (row_in (account_of old) step))))
 step_tests-free old step free = first_mapped-none ((row_in (account_of old) step).tests) _ free
 
 -- a step that names no granule
 tail_unnamed : (old : Held) (step : Step) (recorded : Bool) → named_by (row_in (account_of old) step) ≡ None → is_recorded (row_in (account_of old) step) ≡ recorded
-    → first_of (ending (is_recorded (row_in (account_of old) step)) (nat_le most_steps old.steps || passes_granules (account_of old) (named_by (row_in (account_of old) step))))
+    → first_of (ending (is_recorded (row_in (account_of old) step)) (nat_le most_steps old.steps || passes_granule_limit (account_of old) (named_by (row_in (account_of old) step))))
     ≡ first_of (last_tests old recorded)
 tail_unnamed old step recorded named same =
-    ap (λ (r : Bool). first_of (ending r (nat_le most_steps old.steps || passes_granules (account_of old) (named_by (row_in (account_of old) step))))) same
-    ∙ ap (λ (o : Option ℕ). first_of (ending recorded (nat_le most_steps old.steps || passes_granules (account_of old) o))) named
+    ap (λ (r : Bool). first_of (ending r (nat_le most_steps old.steps || passes_granule_limit (account_of old) (named_by (row_in (account_of old) step))))) same
+    ∙ ap (λ (o : Option ℕ). first_of (ending recorded (nat_le most_steps old.steps || passes_granule_limit (account_of old) o))) named
     ∙ ap (λ (b : Bool). first_of (ending recorded b)) (or_false (nat_le most_steps old.steps))
 
 -- a step that names a granule and records nothing
 tail_named : (old : Held) (step : Step) (granule : ℕ) (past : Bool) → named_by (row_in (account_of old) step) ≡ Some granule → is_recorded (row_in (account_of old) step) ≡ true
     → is_past_limits old granule ≡ past
-    → first_of (ending (is_recorded (row_in (account_of old) step)) (nat_le most_steps old.steps || passes_granules (account_of old) (named_by (row_in (account_of old) step))))
+    → first_of (ending (is_recorded (row_in (account_of old) step)) (nat_le most_steps old.steps || passes_granule_limit (account_of old) (named_by (row_in (account_of old) step))))
     ≡ (if past then Some LimitPassed else None)
 tail_named old step granule past named same limit =
-    ap (λ (r : Bool). first_of (ending r (nat_le most_steps old.steps || passes_granules (account_of old) (named_by (row_in (account_of old) step))))) same
-    ∙ ap (λ (o : Option ℕ). first_of (ending true (nat_le most_steps old.steps || passes_granules (account_of old) o))) named
+    ap (λ (r : Bool). first_of (ending r (nat_le most_steps old.steps || passes_granule_limit (account_of old) (named_by (row_in (account_of old) step))))) same
+    ∙ ap (λ (o : Option ℕ). first_of (ending true (nat_le most_steps old.steps || passes_granule_limit (account_of old) o))) named
     ∙ ap (λ (b : Bool). first_of (ending true b)) limit
 
 -- the account after a step that names this granule, or none
 abbrev stepped_on : Held → Step → Option ℕ → Account
 stepped_on old step granule =
     let named = naming (account_of old) granule in
-    record named { state = state_with (state_of old) (row_in (account_of old) step).writes; steps = old.steps + 1 }
+    let next = state_with (state_of old) (row_in (account_of old) step).writes in
+    record named { state = next; origin = origins_after (origins_by (code_in old)) (state_of old) step next; steps = old.steps + 1 }
 
 -- a step that writes a register
-made : (old : Held) (step : Step) (target : ℕ) (value recorded : Cap) → named_by (row_in (account_of old) step) ≡ None
+made : (old : Held) (step : Step) (target : ℕ) (value recorded : Cap) (code : ℕ) → named_by (row_in (account_of old) step) ≡ None
     → (row_in (account_of old) step).writes ≡ Some (Register target, value) → is_recorded (row_in (account_of old) step) ≡ is_same_cap recorded value
-    → length old.registers ≡ 32 → target ≤ 31 → first_of (row_in (account_of old) step).tests ≡ None
-    → first_of (last_tests old (is_same_cap recorded value)) ≡ None → Makes old step (with_register old target value)
-made old step target value recorded named writes same sized low free last =
-    let after = state-register old target value (old.steps + 1) old.roots sized low ∙ sym (ap (state_with (state_of old)) writes) in
+    → length old.registers ≡ 32 → length old.codes ≡ 32 → target ≤ 31 → first_of (row_in (account_of old) step).tests ≡ None → IsFrom old step value code
+    → first_of (last_tests old (is_same_cap recorded value)) ≡ None → Makes old step (with_register old target value code)
+made old step target value recorded code named writes same sized coded_so low free from last =
+    let next = state_with (state_of old) (row_in (account_of old) step).writes in
+    let codes = set old.codes target (code_for value.tag code) in
+    let after = state-register old.registers old.memory target value sized low ∙ sym (ap (state_with (state_of old)) writes) in
+    let origins = ap origins_by (codes-register old.codes old.memory target (code_for value.tag code) coded_so low)
+    ∙ origins-put (code_in old) target (code_for value.tag code) ∙ origin-written old step (Register target) value code writes from in
     record {
       tests = step_tests-free old step free ∙ tail_unnamed old step (is_same_cap recorded value) named same ∙ last;
       leads = record { allowed = free; recorded = same ∙ (neither _ _ last).0; after = after };
       account =
-          ap (λ (s : State). account_with old.rules s old.roots (old.steps + 1) (named_in old.memory) (fin.len old.memory)) after
+          ap (λ (s : State). account_with old.rules s (origins_by (codes_of codes old.memory)) old.roots (old.steps + 1) (named_in old.memory) (fin.len old.memory)) after
+          ∙ ap (λ (o : Origins). account_with old.rules next o old.roots (old.steps + 1) (named_in old.memory) (fin.len old.memory)) origins
           ∙ sym (ap (stepped_on old step) named);
     }
 
@@ -118,44 +134,25 @@ refused : (old new : Held) (step : Step) (recorded : Bool) (end : StepEnd) → n
 refused old new step recorded (Refused refusal) named same free end = (step_tests-free old step free ∙ tail_unnamed old step recorded named same ∙ end.0, end.1)
 refused old new step recorded NoMemory named same free end = absurd end
 
--- an operation that refuses
-pub faulted : (old new : Held) (step : Step) (fault : OpFault) → first_of (row_in (account_of old) step).tests ≡ Some fault → new ≡ old
-    → EndsStep old step (Refused (refusal_of fault)) new
-faulted old new step fault found same = (first_mapped-some ((row_in (account_of old) step).tests) _ fault found, same)
-
-abbrev failing : StepEnd → Result (Unit {0}) StepEnd
-failing end = Err end
-
-same_end : (a b : StepEnd) → failing a ≡ failing b → a ≡ b
-same_end a b h = cc
-
-abbrev pub Finishes : Held → ℕ → Result Cap OpFault → Cap → Result (Unit {0}) StepEnd → Held → Type 0
-Finishes old target outcome recorded result new =
-    IfErr outcome (λ fault. (result ≡ Err (Refused (refusal_of fault))) × (new ≡ old))
-    × IfOk outcome (λ derived. MatchResult result
-    (λ _. (first_of (last_tests old (is_same_cap recorded derived)) ≡ None) × (recorded ≡ derived) × (new ≡ with_register old target derived))
-    (λ end. EndsAccess old (last_tests old (is_same_cap recorded derived)) end new))
-
-abbrev pub Outcome : List (Bool × OpFault) → Cap → Result Cap OpFault → Type 0
-Outcome tests value outcome = MatchResult outcome (λ derived. (first_of tests ≡ None) × (derived ≡ value)) (λ fault. first_of tests ≡ Some fault)
+-- what the end of a step that writes a register answers
+abbrev pub Finishes : Held → ℕ → Cap → Cap → ℕ → Result (Unit {0}) StepEnd → Held → Type 0
+Finishes old target derived recorded code result new =
+    MatchResult result
+    (λ _. (first_of (last_tests old (is_same_cap recorded derived)) ≡ None) × (new ≡ with_register old target derived code))
+    (λ end. EndsAccess old (last_tests old (is_same_cap recorded derived)) end new)
 
 abbrev pub EndsIn : Held → Step → Result (Unit {0}) StepEnd → Held → Type 0
 EndsIn old step result new = MatchResult result (λ _. Makes old step new) (λ end. EndsStep old step end new)
 
--- a step that writes a register, from its operation's outcome to its own
-pub finished : (old new : Held) (step : Step) (target : ℕ) (value recorded : Cap) (outcome : Result Cap OpFault) (result : Result (Unit {0}) StepEnd)
-    → named_by (row_in (account_of old) step) ≡ None → (row_in (account_of old) step).writes ≡ Some (Register target, value) → is_recorded (row_in (account_of old) step) ≡ is_same_cap recorded value
-    → length old.registers ≡ 32 → target ≤ 31 → Outcome ((row_in (account_of old) step).tests) value outcome → Finishes old target outcome recorded result new
-    → EndsIn old step result new
-finished old new step target value recorded (Ok derived) (Ok done) named writes same sized low out fin =
-    subst (λ (h : Held). Makes old step h) (sym fin.1.2)
-    (made old step target derived recorded named (writes ∙ ap (λ (v : Cap). Some (Register target, v)) (sym out.1)) (same ∙ ap (is_same_cap recorded) (sym out.1)) sized low out.0 fin.1.0)
-finished old new step target value recorded (Ok derived) (Err end) named writes same sized low out fin =
-    refused old new step (is_same_cap recorded derived) end named (same ∙ ap (is_same_cap recorded) (sym out.1)) out.0 fin.1
-finished old new step target value recorded (Err fault) (Ok done) named writes same sized low out fin = absurd (let e = fin.0.0 in cc)
-finished old new step target value recorded (Err fault) (Err end) named writes same sized low out fin =
-    subst (λ (e : StepEnd). EndsStep old step e new) (sym (same_end end (Refused (refusal_of fault)) fin.0.0))
-    (faulted old new step fault out fin.0.1)
+-- a step that writes a register, from its end's answer to its own
+pub finished : (old new : Held) (step : Step) (target : ℕ) (derived recorded : Cap) (code : ℕ) (result : Result (Unit {0}) StepEnd)
+    → named_by (row_in (account_of old) step) ≡ None → (row_in (account_of old) step).writes ≡ Some (Register target, derived)
+    → is_recorded (row_in (account_of old) step) ≡ is_same_cap recorded derived → length old.registers ≡ 32 → length old.codes ≡ 32 → target ≤ 31
+    → first_of (row_in (account_of old) step).tests ≡ None → IsFrom old step derived code → Finishes old target derived recorded code result new → EndsIn old step result new
+finished old new step target derived recorded code (Ok done) named writes same sized coded_so low free from ends =
+    subst (λ (h : Held). Makes old step h) (sym ends.1) (made old step target derived recorded code named writes same sized coded_so low free from ends.0)
+finished old new step target derived recorded code (Err end) named writes same sized coded_so low free from ends =
+    refused old new step (is_same_cap recorded derived) end named same free ends
 
 -- an operation on registers, by the rules
 pub row_by-operation : (rules : Rules) (target source : ℕ) (recorded : Cap) (tests : List (Bool × OpFault)) (result : Cap)
@@ -165,39 +162,84 @@ row_by-operation TwoStrict target source recorded tests result = refl
 row_by-operation TwoClear target source recorded tests result = refl
 
 -- an operation that nothing refuses, by any rules
-pub untested : (rules : Rules) (value derived : Cap) → derived ≡ value → Outcome (tests_by rules []) (value_by rules [] value) (Ok derived)
+pub untested : (rules : Rules) (value derived : Cap) → derived ≡ value → EndsBy rules [] value (Ok derived)
 untested One value derived is = (refl, is)
 untested TwoStrict value derived is = (refl, is)
 untested TwoClear value derived is = (refl, is)
 
-pub operated : (old new : Held) (step : Step) (target source : ℕ) (recorded : Cap) (tests : List (Bool × OpFault)) (value : Cap) (outcome : Result Cap OpFault) (result : Result (Unit {0}) StepEnd)
-    → row_of (state_of old) step ≡ operation target source recorded tests value
-    → length old.registers ≡ 32 → target ≤ 31 → Outcome (tests_by old.rules tests) (value_by old.rules tests value) outcome → Finishes old target outcome recorded result new
-    → EndsIn old step result new
-operated old new step target source recorded tests value outcome result is sized low out fin =
-    let row = ap (row_by old.rules) is ∙ row_by-operation old.rules target source recorded tests value in
-    finished old new step target (value_by old.rules tests value) recorded outcome result
-    (ap named_by row) (ap (λ (r : Row). r.writes) row) (ap is_recorded row) sized low
-    (subst (λ (r : Row). Outcome r.tests (value_by old.rules tests value) outcome) (sym row) out) fin
+-- the row of an operation on registers, by the rules
+abbrev row_for : Held → Step → ℕ → ℕ → Cap → Row
+row_for old step target source recorded =
+    let row = row_of (state_of old) step in
+    operation target source recorded (tests_by old.rules row.tests) (value_by old.rules row.tests (result_in row.writes))
+
+operation_row : (old : Held) (step : Step) (target : ℕ) (recorded : Cap) → (is : IsOperation (state_of old) step target recorded)
+    → row_in (account_of old) step ≡ row_for old step target is.0 recorded
+operation_row old step target recorded is =
+    let row = row_of (state_of old) step in
+    ap (row_by old.rules) is.1 ∙ row_by-operation old.rules target is.0 recorded row.tests (result_in row.writes)
+
+-- it has no access
+pub unaccessed : (state : State) (step : Step) (target : ℕ) (recorded : Cap) → IsOperation state step target recorded → (row_of state step).access ≡ None
+unaccessed state step target recorded is = ap (λ (r : Row). r.access) is.1
+
+-- its result comes from its source
+pub from_source : (old : Held) (step : Step) (source : ℕ) (derived : Cap) → Derives old step source (Ok derived) → IsFrom old step derived (get_or old.codes source 0)
+from_source old step source derived derives held =
+    ap (λ (o : Option Place). origin_at (origins_by (code_in old)) (option_map key_of o)) derives.parent ∙ ap place_at (code-register old source derives.low)
+
+-- and stays within it
+pub source_within : (old : Held) (step : Step) (target source : ℕ) (recorded derived : Cap) → IsStepInRange step → IsOperation (state_of old) step target recorded
+    → Derives old step source (Ok derived) → StaysWithin derived (state_of old source)
+source_within old step target source recorded derived range is derives =
+    let row = operation_row old step target recorded is in
+    let within = writes_within_by old.rules (state_of old) step range (ap (λ (r : Row). first_of r.tests) row ∙ derives.ends.0) in
+    subst (λ (w : Option (Place × Cap)). WritesWithin (state_of old) (Some (Register source)) w)
+    (ap (λ (r : Row). r.writes) row ∙ ap (λ (c : Cap). Some (Register target, c)) (sym derives.ends.1))
+    (subst (λ (p : Option Place). WritesWithin (state_of old) p (row_in (account_of old) step).writes) derives.parent within)
+
+-- an operation, from its end's answer to the step's
+pub operated : (old new : Held) (step : Step) (target source : ℕ) (recorded derived : Cap) (result : Result (Unit {0}) StepEnd)
+    → IsOperation (state_of old) step target recorded → length old.registers ≡ 32 → length old.codes ≡ 32 → target ≤ 31
+    → Derives old step source (Ok derived) → Finishes old target derived recorded (get_or old.codes source 0) result new → EndsIn old step result new
+operated old new step target source recorded derived result is sized coded_so low derives ends =
+    let row = operation_row old step target recorded is in
+    finished old new step target derived recorded (get_or old.codes source 0) result
+    (ap named_by row) (ap (λ (r : Row). r.writes) row ∙ ap (λ (c : Cap). Some (Register target, c)) (sym derives.ends.1))
+    (ap is_recorded row ∙ ap (is_same_cap recorded) (sym derives.ends.1)) sized coded_so low
+    (ap (λ (r : Row). first_of r.tests) row ∙ derives.ends.0) (from_source old step source derived derives) ends
+
+-- an operation that refuses
+pub operation_faulted : (old : Held) (step : Step) (target source : ℕ) (recorded : Cap) (fault : OpFault) (refusal : Refusal)
+    → IsOperation (state_of old) step target recorded → Derives old step source (Err fault) → refusal ≡ refusal_of fault → EndsStep old step (Refused refusal) old
+operation_faulted old step target source recorded fault refusal is derives same =
+    let row = operation_row old step target recorded is in
+    (first_mapped-some (row_in (account_of old) step).tests _ fault (ap (λ (r : Row). first_of r.tests) row ∙ derives.ends) ∙ ap (λ (r : Refusal). Some r) (sym same), refl)
 
 -- a step that puts an entry into a granule
-put_made : (old : Held) (step : Step) (granule : ℕ) (entry : Entry) (value : Cap) → named_by (row_in (account_of old) step) ≡ Some granule
+put_made : (old : Held) (step : Step) (granule : ℕ) (entry : Entry) (value : Cap) (code : ℕ) → named_by (row_in (account_of old) step) ≡ Some granule
     → (row_in (account_of old) step).writes ≡ Some (Granule granule, value) → is_recorded (row_in (account_of old) step) ≡ true → cap_of entry ≡ value
-    → first_of (row_in (account_of old) step).tests ≡ None → is_past_limits old granule ≡ false
+    → entry.2 ≡ code_for value.tag code → IsFrom old step value code → first_of (row_in (account_of old) step).tests ≡ None → is_past_limits old granule ≡ false
     → Makes old step (record old { memory = fin.insert old.memory granule entry; steps = old.steps + 1 })
-put_made old step granule entry value named writes same holds free within =
+put_made old step granule entry value code named writes same holds code_is from free within =
     let memory = fin.insert old.memory granule entry in
-    let state = state_with (state_of old) (row_in (account_of old) step).writes in
-    let after = state-granule old granule entry (old.steps + 1) old.roots
+    let next = state_with (state_of old) (row_in (account_of old) step).writes in
+    let origins = origins_after (origins_by (code_in old)) (state_of old) step next in
+    let after = state-granule old.registers old.memory granule entry
     ∙ ap (put (state_of old) (granule_key granule)) holds
     ∙ sym (ap (state_with (state_of old)) writes) in
+    let origins_are = ap origins_by (codes-granule old.codes old.memory granule entry)
+    ∙ origins-put (code_in old) (granule_key granule) entry.2
+    ∙ ap (λ (n : ℕ). put (origins_by (code_in old)) (granule_key granule) (place_at n)) code_is
+    ∙ origin-written old step (Granule granule) value code writes from in
     record {
       tests = step_tests-free old step free ∙ tail_named old step granule false named same within;
       leads = record { allowed = free; recorded = same; after = after };
       account =
-          ap (λ (s : State). account_with old.rules s old.roots (old.steps + 1) (named_in memory) (fin.len memory)) after
-          ∙ ap (λ (names : ℕ → Bool). account_with old.rules state old.roots (old.steps + 1) names (fin.len memory)) (named-put old.memory granule entry)
-          ∙ ap (account_with old.rules state old.roots (old.steps + 1) (also_named granule (named_in old.memory))) (len-put old.memory granule entry)
+          ap (λ (s : State). account_with old.rules s (origins_by (codes_of old.codes memory)) old.roots (old.steps + 1) (named_in memory) (fin.len memory)) after
+          ∙ ap (λ (o : Origins). account_with old.rules next o old.roots (old.steps + 1) (named_in memory) (fin.len memory)) origins_are
+          ∙ ap (λ (names : ℕ → Bool). account_with old.rules next origins old.roots (old.steps + 1) names (fin.len memory)) (named-put old.memory granule entry)
+          ∙ ap (account_with old.rules next origins old.roots (old.steps + 1) (also_named granule (named_in old.memory))) (len-put old.memory granule entry)
           ∙ sym (ap (stepped_on old step) named);
     }
 
@@ -212,25 +254,29 @@ abbrev pub EndsPutIn : Held → ℕ → Held → Result (Unit {0}) StepEnd → H
 EndsPutIn old granule after result new =
     MatchResult result (λ _. (is_past_limits old granule ≡ false) × (new ≡ after)) (λ end. EndsPut old granule end new)
 
-put_finished : (old new : Held) (step : Step) (granule : ℕ) (entry : Entry) (value : Cap) (result : Result (Unit {0}) StepEnd)
+put_finished : (old new : Held) (step : Step) (granule : ℕ) (entry : Entry) (value : Cap) (code : ℕ) (result : Result (Unit {0}) StepEnd)
     → named_by (row_in (account_of old) step) ≡ Some granule → (row_in (account_of old) step).writes ≡ Some (Granule granule, value) → is_recorded (row_in (account_of old) step) ≡ true
-    → cap_of entry ≡ value → first_of (row_in (account_of old) step).tests ≡ None
+    → cap_of entry ≡ value → entry.2 ≡ code_for value.tag code → IsFrom old step value code → first_of (row_in (account_of old) step).tests ≡ None
     → EndsPutIn old granule (record old { memory = fin.insert old.memory granule entry; steps = old.steps + 1 }) result new → EndsIn old step result new
-put_finished old new step granule entry value (Ok done) named writes same holds free put_is =
-    subst (λ (h : Held). Makes old step h) (sym put_is.1) (put_made old step granule entry value named writes same holds free put_is.0)
-put_finished old new step granule entry value (Err end) named writes same holds free put_is = put_ended old new step granule end named same free put_is
+put_finished old new step granule entry value code (Ok done) named writes same holds code_is from free put_is =
+    subst (λ (h : Held). Makes old step h) (sym put_is.1) (put_made old step granule entry value code named writes same holds code_is from free put_is.0)
+put_finished old new step granule entry value code (Err end) named writes same holds code_is from free put_is = put_ended old new step granule end named same free put_is
 
 -- a stored capability
 pub stored : (old new : Held) (source authority : ℕ) (offset : ℤ) (result : Result (Unit {0}) StepEnd) → (state_of old source).word.0 < 2 ^ 128
-    → first_of (row_of (state_of old) (steps.StoreCap source authority offset)).tests ≡ None
-    → EndsPutIn old (address_through (state_of old) authority offset / 16) (with_cap_put old (address_through (state_of old) authority offset / 16) (state_of old source)) result new
+    → source ≤ 31 → IsCoded (state_of old source).tag (code_in old source) → first_of (row_of (state_of old) (steps.StoreCap source authority offset)).tests ≡ None
+    → EndsPutIn old (address_through (state_of old) authority offset / 16)
+    (with_cap_put old (address_through (state_of old) authority offset / 16) (state_of old source) (get_or old.codes source 0)) result new
     → EndsIn old (steps.StoreCap source authority offset) result new
-stored old new source authority offset result fits free put_is =
+stored old new source authority offset result fits low coded free put_is =
     let cap_is = state_of old source in
+    let code = get_or old.codes source 0 in
+    let same = code-register old source low in
     let row = same_row old (steps.StoreCap source authority offset) _ refl in
-    put_finished old new (steps.StoreCap source authority offset) (address_through (state_of old) authority offset / 16) (cap_is.tag, memory_of cap_is.word.0) cap_is result
+    put_finished old new (steps.StoreCap source authority offset) (address_through (state_of old) authority offset / 16) (cap_is.tag, memory_of cap_is.word.0, code) cap_is code result
     (ap named_by row) (ap (λ (r : Row). r.writes) row) (ap is_recorded row)
     (ap (λ (n : ℕ). let c : Cap = record { tag = cap_is.tag; word = record { 0 = n } } in c) (stored_word-memory_of cap_is.word.0 fits))
+    (sym (code_for-coded cap_is.tag code (subst (IsCoded cap_is.tag) same coded))) (λ held. ap place_at same)
     (ap (λ (r : Row). first_of r.tests) row ∙ free) put_is
 
 byte_small : (bytes : List ℕ) (i : ℕ) → All (λ byte. byte < 256) bytes → get_or bytes i 0 < 256
@@ -262,9 +308,10 @@ stored_value old new authority offset size value result stored_all free put_is =
     let g = a / 16 in
     let cap_is = state_of old (granule_key g) in
     let row = same_row old (steps.Store authority offset size value) _ refl in
-    put_finished old new (steps.Store authority offset size value) g (false, overwritten (bytes_at old.memory g) (a % 16) (low_bytes size value)) (with_value cap_is (a % 16) size value) result
+    put_finished old new (steps.Store authority offset size value) g (false, overwritten (bytes_at old.memory g) (a % 16) (low_bytes size value), 0) (with_value cap_is (a % 16) size value) 0 result
     (ap named_by row) (ap (λ (r : Row). r.writes) row) (ap is_recorded row)
     (ap (λ (bytes : List ℕ). let c : Cap = record { tag = false; word = record { 0 = stored_word (overwritten bytes (a % 16) (low_bytes size value)) } } in c) (sym (granule_bytes old g stored_all)))
+    refl (λ held. absurd (false≢true held))
     (ap (λ (r : Row). first_of r.tests) row ∙ free) put_is
 
 -- the value that a load reads is the number of the granule's bytes
@@ -300,7 +347,7 @@ loaded_value old authority offset size value free same few =
           ∙ ap (λ (b : Bool). first_of (ending true b)) (lt-leb most_steps old.steps few);
       leads = record { allowed = allowed; recorded = recorded; after = after };
       account =
-          ap (λ (s : State). account_with old.rules s old.roots (old.steps + 1) (named_in old.memory) (fin.len old.memory)) after
+          ap (λ (s : State). account_with old.rules s (origins_after (origins_by (code_in old)) (state_of old) step s) old.roots (old.steps + 1) (named_in old.memory) (fin.len old.memory)) after
           ∙ sym (ap (stepped_on old step) (ap named_by row));
     }
 
@@ -323,14 +370,21 @@ faulted_as old step access fault refusal accesses found is =
     (first_mapped-some (row_in (account_of old) step).tests _ fault (ap (λ (r : Row). first_of r.tests) row ∙ found) ∙ ap (λ (r : Refusal). Some r) (sym is), refl)
 
 -- a loaded capability
-pub loaded_cap : (old new : Held) (target authority : ℕ) (offset : ℤ) (recorded : Cap) (outcome : Result Cap OpFault) (result : Result (Unit {0}) StepEnd)
-    → length old.registers ≡ 32 → target ≤ 31
-    → Outcome (row_of (state_of old) (steps.LoadCap target authority offset recorded)).tests
-    (loaded_result (state_of old authority) (state_of old (granule_key (granule_through (state_of old) authority offset)))) outcome
-    → Finishes old target outcome recorded result new → EndsIn old (steps.LoadCap target authority offset recorded) result new
-loaded_cap old new target authority offset recorded outcome result sized low out fin =
+pub loaded_cap : (old new : Held) (target authority : ℕ) (offset : ℤ) (recorded : Cap) (result : Result (Unit {0}) StepEnd)
+    → length old.registers ≡ 32 → length old.codes ≡ 32 → target ≤ 31
+    → first_of (row_of (state_of old) (steps.LoadCap target authority offset recorded)).tests ≡ None
+    → (let key = granule_key (granule_through (state_of old) authority offset) in let derived = loaded_result (state_of old authority) (state_of old key) in
+    Finishes old target derived recorded (code_for derived.tag (code_in old key)) result new)
+    → EndsIn old (steps.LoadCap target authority offset recorded) result new
+loaded_cap old new target authority offset recorded result sized coded_so low free ends =
     let step = steps.LoadCap target authority offset recorded in
     let row = same_row old step _ refl in
-    finished old new step target _ recorded outcome result
-    (ap named_by row) (ap (λ (r : Row). r.writes) row) (ap is_recorded row) sized low
-    (subst (λ (r : Row). Outcome r.tests (loaded_result (state_of old authority) (state_of old (granule_key (granule_through (state_of old) authority offset)))) outcome) (sym row) out) fin
+    let key = granule_key (granule_through (state_of old) authority offset) in
+    let derived = loaded_result (state_of old authority) (state_of old key) in
+    finished old new step target derived recorded (code_for derived.tag (code_in old key)) result
+    (ap named_by row) (ap (λ (r : Row). r.writes) row) (ap is_recorded row) sized coded_so low (ap (λ (r : Row). first_of r.tests) row ∙ free)
+    (λ held. ap (λ (b : Bool). place_at (code_for b (code_in old key))) (sym held)) ends
+
+-- what an offset is, passed to a call
+pub passed : (P : ℤ → Type 0) (offset : ℤ) → FitsSigned w16 offset → P (cast_signed w16 (cast_unsigned w16 offset)) → P offset
+passed P offset fits h = subst P (to_z-of_z w16 offset fits) h

@@ -11,7 +11,6 @@ use Rattle.cap_word.specs.Memory.{memory_of}
 use Rattle.cap_word.proofs.Bytes.{stored_word-memory_of}
 use Rattle.cap_bounds.specs.Bounds.{IsSound}
 use Rattle.tagmem.specs.Granules.{Granules, Entry}
-use Rattle.cap_machine.specs.declared.rules.Rules.TheVariants.{One}
 use Rattle.cap_machine.specs.States.{State, blank, put, granule_key, untagged_null}
 use Rattle.cap_machine.specs.Places.{places_of, granule_cap}
 use Rattle.cap_machine.specs.Parents.{IsSoundCap, IsSoundState}
@@ -33,19 +32,17 @@ IsSoundState-blank state empty key held = absurd (false≢true (sym (ap (λ (cap
 pub sound_register : (registers : List Cap) (memory : Granules) (target : ℕ) (cap : Cap) → length registers ≡ 32 → target ≤ 31
     → IsSoundState (places_of registers memory) → IsSoundCap cap → IsSoundState (places_of (set registers target cap) memory)
 sound_register registers memory target cap sized low all one =
-    subst IsSoundState (sym (state-register (record { rules = One; registers = registers; memory = memory; roots = 0; steps = 0 }) target cap 0 0 sized low))
-    (IsSoundState-put (places_of registers memory) target cap all one)
+    subst IsSoundState (sym (state-register registers memory target cap sized low)) (IsSoundState-put (places_of registers memory) target cap all one)
 
 -- a granule that holds another sound capability
 pub sound_granule : (registers : List Cap) (memory : Granules) (granule : ℕ) (entry : Entry)
     → IsSoundState (places_of registers memory) → IsSoundCap (cap_of entry) → IsSoundState (places_of registers (map.insert memory granule entry))
 sound_granule registers memory granule entry all one =
-    subst IsSoundState (sym (state-granule (record { rules = One; registers = registers; memory = memory; roots = 0; steps = 0 }) granule entry 0 0))
-    (IsSoundState-put (places_of registers memory) (granule_key granule) (cap_of entry) all one)
+    subst IsSoundState (sym (state-granule registers memory granule entry)) (IsSoundState-put (places_of registers memory) (granule_key granule) (cap_of entry) all one)
 
 -- a capability as its granule keeps it
-pub sound_entry : (cap : Cap) → cap.word.0 < 2 ^ 128 → IsSoundCap cap → IsSoundCap (cap_of (cap.tag, memory_of cap.word.0))
-sound_entry cap fits one held = subst IsSound (sym (stored_word-memory_of cap.word.0 fits)) (one held)
+pub sound_entry : (cap : Cap) (code : ℕ) → cap.word.0 < 2 ^ 128 → IsSoundCap cap → IsSoundCap (cap_of (cap.tag, memory_of cap.word.0, code))
+sound_entry cap code fits one held = subst IsSound (sym (stored_word-memory_of cap.word.0 fits)) (one held)
 
 -- what has no tag
 pub untagged_sound : (word : Word) → IsSoundCap (record { tag = false; word = word })

@@ -1,6 +1,6 @@
 -- What a machine's tests see: its rules, its state, and what the limits are measured by; and the tests of roots and steps in their order
 -- (this profile's own).
-use Rattle.std.specs.Prelude.{ℕ, ◌+◌, ◌^◌, Bool, false, ◌==◌, ◌&&◌, ◌||◌, not, nat_le, if◌then◌else◌, List, [], ◌∷◌, ◌++◌, map, Option, Some, None}
+use Rattle.std.specs.Prelude.{ℕ, ◌+◌, Bool, false, ◌==◌, ◌&&◌, ◌||◌, not, nat_le, if◌then◌else◌, List, [], ◌∷◌, ◌++◌, map, Option, Some, None}
 use Rattle.cap_word.specs.declared.word.Word.{Word}
 use Rattle.cap_log.specs.declared.lines.Place.{Place}
 use Rattle.cap_log.specs.declared.lines.Step.{Step}
@@ -14,12 +14,14 @@ use Rattle.cap_machine.specs.Refusals.{refusal_of}
 use Rattle.cap_machine.specs.States.{State, key_of, blank, put, tagged}
 pub use Rattle.cap_machine.specs.Steps.{granule_of, named_by}
 use Rattle.cap_machine.specs.Steps.{Row, row_of, row_by, is_recorded, state_with}
+use Rattle.cap_machine.specs.Origins.{Origins, origins_after}
 
--- an account of a machine: its rules and its state, how many roots were declared and steps made, which granules a root, an sc or a
--- store has named, and how many these are
+-- an account of a machine: its rules and its state, the place of the root that each capability comes from, how many roots were
+-- declared and steps made, which granules a root, an sc or a store has named, and how many these are
 pub record Account : Type 0 where
   pub rules : Rules
   pub state : State
+  pub origin : Origins
   pub roots : ℕ
   pub steps : ℕ
   pub is_named : ℕ → Bool
@@ -27,7 +29,8 @@ pub record Account : Type 0 where
 
 -- before anything was declared
 abbrev pub no_account : Rules → Account
-no_account rules_are = record { rules = rules_are; state = blank; roots = 0; steps = 0; is_named = λ granule. false; granules = 0 }
+no_account rules_are =
+    record { rules = rules_are; state = blank; origin = λ key. None; roots = 0; steps = 0; is_named = λ granule. false; granules = 0 }
 
 -- the greatest number of roots
 abbrev pub most_roots : ℕ
@@ -53,8 +56,8 @@ is_new account None = false
 is_new account (Some granule) = not (account.is_named granule)
 
 -- whether naming a granule passes the limit on granules
-abbrev pub passes_granules : Account → Option ℕ → Bool
-passes_granules account granule = is_new account granule && nat_le (most_granules account.rules) account.granules
+abbrev pub passes_granule_limit : Account → Option ℕ → Bool
+passes_granule_limit account granule = is_new account granule && nat_le (most_granules account.rules) account.granules
 
 -- the account after a granule was named, or none
 abbrev pub naming : Account → Option ℕ → Account
@@ -64,25 +67,30 @@ naming account (Some granule) = record account {
   granules = if account.is_named granule then account.granules else account.granules + 1;
 }
 
--- the account after one root more
+-- the account after one root more, which is its own origin
 abbrev pub with_root : Account → Place → Word → Account
 with_root account place word =
     let named = naming account (granule_of place) in
-    record named { state = put account.state (key_of place) (tagged word); roots = account.roots + 1 }
+    record named {
+      state = put account.state (key_of place) (tagged word);
+      origin = put account.origin (key_of place) (Some place);
+      roots = account.roots + 1;
+    }
 
--- the account after one step more
+-- the account after one step more: each place has the origin that its parent had
 abbrev pub with_step : Account → Step → Account
 with_step account step =
     let row = row_in account step in
     let named = naming account (named_by row) in
-    record named { state = state_with account.state row.writes; steps = account.steps + 1 }
+    let next = state_with account.state row.writes in
+    record named { state = next; origin = origins_after account.origin account.state step next; steps = account.steps + 1 }
 
 -- the tests of a root, in order: its place has a tagged capability already, its word is not sound, a limit is passed
 abbrev pub root_tests : Account → Place → Word → List (Bool × Refusal)
 root_tests account place word =
     ((account.state (key_of place)).tag, PlaceTaken)
     ∷ (not (is_sound word.0), UnsoundRoot)
-    ∷ (nat_le most_roots account.roots || passes_granules account (granule_of place), LimitPassed)
+    ∷ (nat_le most_roots account.roots || passes_granule_limit account (granule_of place), LimitPassed)
     ∷ []
 
 -- a test of an operation, as a test of a line
@@ -94,7 +102,7 @@ abbrev pub row_tests : Account → Row → List (Bool × Refusal)
 row_tests account row =
     map as_line_test row.tests
     ++ (not (is_recorded row), WrongResult)
-    ∷ (nat_le most_steps account.steps || passes_granules account (named_by row), LimitPassed)
+    ∷ (nat_le most_steps account.steps || passes_granule_limit account (named_by row), LimitPassed)
     ∷ []
 
 -- the tests of a step, in order

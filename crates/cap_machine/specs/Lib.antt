@@ -7,5 +7,7 @@ pub mod Refusals
 pub mod Accounts
 pub mod Values
 pub mod Helds
+pub mod Changes
+pub mod RunAccounts
 pub mod Escapes
 pub mod Origins

@@ -1,15 +1,16 @@
--- The place of the root that each capability descends from, carried forward.
+-- The place of the root that each capability comes from, carried forward.
 use Rattle.std.specs.Prelude.{ℕ, List, [], ◌∷◌, Option, Some, None}
+use Rattle.cap_log.specs.declared.lines.Place.{Place}
 use Rattle.cap_log.specs.declared.lines.Step.{Step}
 use Rattle.cap_machine.specs.States.{State}
 use Rattle.cap_machine.specs.Runs.{parent_of}
 
 -- the origin of each place, by the place's number (this profile's own, as are all below)
 abbrev pub Origins : Type 0
-Origins = ℕ → Option ℕ
+Origins = ℕ → Option Place
 
 -- the origin of a place that may be none
-abbrev pub origin_at : Origins → Option ℕ → Option ℕ
+abbrev pub origin_at : Origins → Option ℕ → Option Place
 origin_at origins None = None
 origin_at origins (Some key) = origins key
 

@@ -33,9 +33,9 @@ State = ℕ → Cap
 abbrev pub blank : State
 blank key = untagged_null
 
--- the state with another capability at one place
-abbrev pub put : State → ℕ → Cap → State
-put state place cap = λ key. if place == key then cap else state key
+-- what is told of each place, with something else told of one: a state with another capability there, say
+abbrev pub put : {A : Type 0} → (ℕ → A) → ℕ → A → ℕ → A
+put places place value = λ key. if place == key then value else places key
 
 -- a root of a log: a tagged capability that a place holds from the start
 pub record DeclaredRoot : Type 0 where

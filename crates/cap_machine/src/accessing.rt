@@ -1,29 +1,77 @@
 //! Steps that store and load.
 
-ghost use Rattle.std.specs.Prelude.{◌≡◌, ◌<◌, ◌≤◌, ◌^◌, ◌+◌, ◌||◌, MatchResult, None, Some, true, false};
+ghost use Rattle.std.specs.Prelude.{◌≡◌, ◌<◌, ◌≤◌, ◌^◌, ◌+◌, ◌%◌, ◌||◌, IfOk, IsTrue, MatchResult, None, Some, true, false};
 ghost use Rattle.cap_word.specs.Memory.{low_bytes};
-ghost use Rattle.cap_log.specs.Lines.{IsDataSize, IsDataValue, IsOffset};
+ghost use Rattle.cap_log.specs.Lines.{IsDataSize, IsDataValue, IsOffset, IsTarget};
 ghost use Rattle.cap_log.specs.declared.lines.Step.TheVariants as steps;
-ghost use Rattle.cap_machine.specs.Parents.{IsSoundCap};
-ghost use Rattle.cap_machine.specs.Helds.{
+ghost use Rattle.cap_ops.specs.Sizes.{size_fits};
+ghost use Rattle.cap_machine.specs.Changes.{
   EndsPut,
-  EndsStep,
-  Makes,
-  held_of,
+  Reaches,
+  code_for,
   is_past_limits,
   with_cap_put,
   with_value_put,
 };
+ghost use Rattle.cap_machine.specs.Helds.{EndsStep, Makes, code_in, held_of, state_of};
+ghost use Rattle.cap_machine.specs.Parents.{IsSoundCap};
+ghost use Rattle.cap_machine.specs.Places.{IsCoded};
+ghost use Rattle.cap_machine.specs.States.{granule_key};
 
 use crate::ends::StepEnd;
 use crate::granules::{number_in, put_capability, put_number};
 use crate::machine::{MOST_STEPS, Machine};
 use crate::refusal::Refusal;
-use cap_ops::{Access, Kind, may_access};
+use cap_ops::{Access, Kind, OpFault, loaded, may_access};
 use cap_word::Cap;
 use tagmem::{NoMemory, TaggedStore};
 
 impl<M: TaggedStore> Machine<M> {
+    // The address of an access through a register, where that allows it.
+    fn reach(&self, authority: u8, kind: Kind, offset: i16, size: u8) -> Result<u64, OpFault>
+        requires authority { authority ≤ 31 }
+        requires offset { IsOffset offset }
+        requires sized { IsTrue (size_fits kind size) }
+        ensures outcome { Reaches (state_of (held_of M.contents self.now)) authority kind offset size result }
+        ensures in_one_granule { IfOk result (λ address. address % 16 + size ≤ 16) }
+    {
+        let access = Access { kind, offset, size };
+        may_access(self.register(authority), access)
+    }
+
+    // The code of a granule's origin, looked up only for a tag.
+    fn granule_code(&self, tag: bool, granule: u64) -> u64
+        requires { granule < 2 ^ 60 }
+        ensures { result ≡ code_for tag (code_in (held_of M.contents self.now) (granule_key granule)) }
+    {
+        if tag { self.memory.code(granule) } else { 0 }
+    }
+
+    // Makes the step that loads a capability.
+    pub(crate) fn load_capability(
+        &mut self,
+        target: u8,
+        authority: u8,
+        offset: i16,
+        recorded: Cap,
+    ) -> Result<(), StepEnd>
+        requires target { IsTarget target }
+        requires authority { authority ≤ 31 }
+        requires offset { IsOffset offset }
+        ensures { MatchResult result
+            (λ _. Makes (held_of M.contents self.old) (steps.LoadCap target authority offset recorded) (held_of M.contents self.new))
+            (λ end. EndsStep (held_of M.contents self.old) (steps.LoadCap target authority offset recorded) end (held_of M.contents self.new)) }
+    {
+        match self.reach(authority, Kind::LoadCap, offset, 16) {
+            Ok(address) => {
+                let derived = loaded(self.register(authority), self.granule(address / 16));
+                let code = self.granule_code(derived.tag, address / 16);
+                self.finish(target, derived, recorded, code)
+            }
+            Err(fault) => Err(StepEnd::Refused(Refusal::from(fault))),
+        }
+    }
+
     // Makes the step that stores a register's capability.
     pub(crate) fn store_capability(
         &mut self,
@@ -39,13 +87,8 @@ impl<M: TaggedStore> Machine<M> {
             (λ end. EndsStep (held_of M.contents self.old) (steps.StoreCap source authority offset) end (held_of M.contents self.new)) }
     {
         let stored = self.register(source);
-        let access = Access {
-            kind: Kind::StoreCap(stored),
-            offset,
-            size: 16,
-        };
-        match may_access(self.register(authority), access) {
-            Ok(address) => self.put_counted(address / 16, stored),
+        match self.reach(authority, Kind::StoreCap(stored), offset, 16) {
+            Ok(address) => self.put_counted(address / 16, stored, self.codes[source as usize]),
             Err(fault) => Err(StepEnd::Refused(Refusal::from(fault))),
         }
     }
@@ -65,12 +108,7 @@ impl<M: TaggedStore> Machine<M> {
             (λ _. Makes (held_of M.contents self.old) (steps.Store authority offset size value) (held_of M.contents self.new))
             (λ end. EndsStep (held_of M.contents self.old) (steps.Store authority offset size value) end (held_of M.contents self.new)) }
     {
-        let access = Access {
-            kind: Kind::StoreData,
-            offset,
-            size,
-        };
-        match may_access(self.register(authority), access) {
+        match self.reach(authority, Kind::StoreData, offset, size) {
             Ok(address) => self.put_value_counted(address / 16, (address % 16) as u8, size, value),
             Err(fault) => Err(StepEnd::Refused(Refusal::from(fault))),
         }
@@ -91,12 +129,7 @@ impl<M: TaggedStore> Machine<M> {
             (λ _. Makes (held_of M.contents self.old) (steps.Load authority offset size value) (held_of M.contents self.new))
             (λ end. EndsStep (held_of M.contents self.old) (steps.Load authority offset size value) end (held_of M.contents self.new)) }
     {
-        let access = Access {
-            kind: Kind::LoadData,
-            offset,
-            size,
-        };
-        match may_access(self.register(authority), access) {
+        match self.reach(authority, Kind::LoadData, offset, size) {
             Ok(address) => {
                 if number_in(&self.memory, address / 16, (address % 16) as u8, size) != value {
                     return Err(StepEnd::Refused(Refusal::WrongResult));
@@ -116,22 +149,23 @@ impl<M: TaggedStore> Machine<M> {
         requires { granule < 2 ^ 60 }
         ensures { result ≡ is_past_limits (held_of M.contents self.now) granule }
     {
-        self.steps >= MOST_STEPS || self.granule_passes(granule)
+        self.steps >= MOST_STEPS || self.granule_passes_limit(granule)
     }
 
-    // Puts a capability into a granule and counts the step.
-    fn put_counted(&mut self, granule: u64, stored: Cap) -> Result<(), StepEnd>
+    // Puts a capability, and the code of its origin, into a granule and counts the step.
+    fn put_counted(&mut self, granule: u64, stored: Cap, code: u64) -> Result<(), StepEnd>
         requires in_memory { granule < 2 ^ 60 }
         requires sound { IsSoundCap stored }
+        requires coded { IsCoded stored.tag code }
         ensures { MatchResult result
             (λ _. (is_past_limits (held_of M.contents self.old) granule ≡ false)
-            × (held_of M.contents self.new ≡ with_cap_put (held_of M.contents self.old) granule stored))
+            × (held_of M.contents self.new ≡ with_cap_put (held_of M.contents self.old) granule stored code))
             (λ end. EndsPut (held_of M.contents self.old) granule end (held_of M.contents self.new)) }
     {
         if self.is_past_limits(granule) {
             return Err(StepEnd::Refused(Refusal::LimitPassed));
         }
-        match put_capability(&mut self.memory, granule, stored) {
+        match put_capability(&mut self.memory, granule, stored, code) {
             Ok(()) => {
                 self.steps += 1;
                 Ok(())

@@ -3,17 +3,18 @@
 ghost use Rattle.std.specs.Prelude.{◌≡◌, ◌<◌, ◌^◌, ◌||◌, not, is_some, nat_le, MatchResult, OnOk, OnErr, None, true, false, IsTrue};
 ghost use Rattle.std.specs.FinMap as map;
 ghost use Rattle.cap_ops.specs.Tests.{first_of};
+ghost use Rattle.cap_bounds.specs.Bounds.{IsSound};
 ghost use Rattle.cap_log.specs.Lines.{IsPlace};
 ghost use Rattle.cap_machine.specs.States.{key_of, tagged};
-ghost use Rattle.cap_machine.specs.Parents.{IsSoundCap};
 ghost use Rattle.cap_machine.specs.Accounts.{
   granule_of,
   is_new,
   most_roots,
-  passes_granules,
+  passes_granule_limit,
   root_tests,
 };
-ghost use Rattle.cap_machine.specs.Helds.{EndsRoot, Placed, Takes, held_of, state_of, account_of};
+ghost use Rattle.cap_machine.specs.Changes.{Placed};
+ghost use Rattle.cap_machine.specs.Helds.{EndsRoot, Takes, held_of, state_of, account_of};
 
 use crate::ends::StepEnd;
 use crate::granules::put_capability;
@@ -25,7 +26,7 @@ use cap_word::{Cap, Word};
 use tagmem::{NoMemory, TaggedStore};
 
 impl<M: TaggedStore> Machine<M> {
-    /// Puts a root, tagged, at its place, and counts it. It is refused for the first of these that holds:
+    /// Puts a root, tagged, at its place, and counts it; the place is its origin. It is refused for the first of these that holds:
     /// its place has a capability with a tag already (`PlaceTaken`), its word is not sound
     /// (`UnsoundRoot`), there are 4,096 roots, or it names a granule beyond those that the rules allow
     /// (`LimitPassed`).
@@ -39,7 +40,7 @@ impl<M: TaggedStore> Machine<M> {
         if let Some(refusal) = self.root_fault(place, word) {
             return Err(StepEnd::Refused(refusal));
         }
-        match self.place_root(place, Cap { tag: true, word }) {
+        match self.place_root(place, word) {
             Ok(()) => {
                 self.roots += 1;
                 Ok(())
@@ -68,7 +69,7 @@ impl<M: TaggedStore> Machine<M> {
             Some(Refusal::PlaceTaken)
         } else if !sound(word) {
             Some(Refusal::UnsoundRoot)
-        } else if self.roots >= MOST_ROOTS || self.root_passes_granules(place) {
+        } else if self.roots >= MOST_ROOTS || self.root_passes_granule_limit(place) {
             Some(Refusal::LimitPassed)
         } else {
             None
@@ -76,39 +77,46 @@ impl<M: TaggedStore> Machine<M> {
     }
 
     // Whether a root's place names a granule beyond the limit.
-    fn root_passes_granules(&self, place: Place) -> bool
+    fn root_passes_granule_limit(&self, place: Place) -> bool
         requires { IsPlace place }
-        ensures { result ≡ passes_granules (account_of (held_of M.contents self.now)) (granule_of place) }
+        ensures { result ≡ passes_granule_limit (account_of (held_of M.contents self.now)) (granule_of place) }
     {
         match place {
             Place::Register(_) => false,
-            Place::Granule(granule) => self.granule_passes(granule),
+            Place::Granule(granule) => self.granule_passes_limit(granule),
         }
     }
 
     // Whether naming a granule passes the limit on granules.
-    pub(crate) fn granule_passes(&self, granule: u64) -> bool
+    pub(crate) fn granule_passes_limit(&self, granule: u64) -> bool
         requires { granule < 2 ^ 60 }
-        ensures { result ≡ passes_granules (account_of (held_of M.contents self.now)) (Some granule) }
+        ensures { result ≡ passes_granule_limit (account_of (held_of M.contents self.now)) (Some granule) }
     {
         self.memory.count() >= self.rules.most_granules() && self.memory.get(granule).is_none()
     }
 
-    // Puts a capability into a place, and counts nothing. A refused put changes nothing.
-    fn place_root(&mut self, place: Place, cap: Cap) -> Result<(), NoMemory>
+    // Puts a root into a place, and counts nothing. A refused put changes nothing.
+    fn place_root(&mut self, place: Place, word: Word) -> Result<(), NoMemory>
         requires in_range { IsPlace place }
-        requires room { passes_granules (account_of (held_of M.contents self.old)) (granule_of place) ≡ false }
-        requires sound { IsSoundCap cap }
-        ensures ok { OnOk result (Placed (held_of M.contents self.old) place cap (held_of M.contents self.new)) }
+        requires room { passes_granule_limit (account_of (held_of M.contents self.old)) (granule_of place) ≡ false }
+        requires sound { IsSound word.0 }
+        ensures ok { OnOk result (Placed (held_of M.contents self.old) place word (held_of M.contents self.new)) }
         ensures err { OnErr result (held_of M.contents self.new ≡ held_of M.contents self.old) }
         ensures only_new { OnErr result (IsTrue (is_new (account_of (held_of M.contents self.old)) (granule_of place))) }
     {
+        let root = Cap { tag: true, word };
         match place {
             Place::Register(number) => {
-                self.registers[number as usize] = cap;
+                self.registers[number as usize] = root;
+                self.codes[number as usize] = u64::from(number);
                 Ok(())
             }
-            Place::Granule(granule) => put_capability(&mut self.memory, granule, cap),
+            Place::Granule(granule) => put_capability(
+                &mut self.memory,
+                granule,
+                root,
+                granule + 32,
+            ),
         }
     }
 }

@@ -2,7 +2,7 @@
 
 ghost use Rattle.std.specs.Prelude.{◌≡◌, ◌+◌, ◌*◌, ◌/◌, ◌%◌, ◌^◌, ◌<◌, ◌≤◌, length, None, OnOk, OnErr};
 ghost use Rattle.std.specs.FinMap as map;
-ghost use Rattle.tagmem.specs.Granules.{HasRoom, bytes_at, with_bytes, with_cap};
+ghost use Rattle.tagmem.specs.Granules.{HasRoom, IsCodeFor, bytes_at, with_bytes, with_cap};
 ghost use Rattle.cap_word.specs.Memory.{low_bytes, memory_of};
 ghost use Rattle.cap_machine.specs.Helds.{granule_cap};
 ghost use Rattle.cap_machine.specs.Values.{number_at};
@@ -28,19 +28,21 @@ pub fn capability_at<M: TaggedStore>(memory: &M, granule: u64) -> Cap
     }
 }
 
-/// Puts a capability into a granule. A refused put changes nothing.
+/// Puts a capability, and the code of its origin, into a granule. A refused put changes nothing.
 pub fn put_capability<M: TaggedStore>(
     memory: &mut M,
     granule: u64,
     cap: Cap,
+    code: u64,
 ) -> Result<(), NoMemory>
     requires in_memory { granule < 2 ^ 60 }
+    requires coded { IsCodeFor cap.tag code }
     requires room { HasRoom (M.contents memory.old) granule }
-    ensures ok { OnOk result (M.contents memory.new ≡ with_cap (M.contents memory.old) granule cap.tag (memory_of cap.word.0)) }
+    ensures ok { OnOk result (M.contents memory.new ≡ with_cap (M.contents memory.old) granule cap.tag (memory_of cap.word.0) code) }
     ensures err { OnErr result (M.contents memory.new ≡ M.contents memory.old) }
     ensures only_new { OnErr result (map.get (M.contents memory.old) granule ≡ None) }
 {
-    memory.put_cap(granule, cap.tag, to_memory(cap.word))
+    memory.put_cap(granule, cap.tag, to_memory(cap.word), code)
 }
 
 /// The number that `size` bytes of a granule spell from byte `at` on, the least significant first.

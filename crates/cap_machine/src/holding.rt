@@ -1,15 +1,19 @@
 //! What a machine holds: a new one, and what it tells of its places and its counts.
 
-ghost use Rattle.std.specs.Prelude.{◌≡◌, ℕ, ◌<◌, ◌≤◌, ◌^◌, ◌+◌};
+ghost use Rattle.std.specs.Prelude.{◌≡◌, ℕ, ◌<◌, ◌≤◌, ◌^◌, ◌+◌, IfSome, is_some};
 ghost use Rattle.std.specs.FinMap as map;
-ghost use Rattle.cap_machine.specs.States.{granule_key, untagged_null};
+ghost use Rattle.tagmem.specs.Granules.{IsNextPut};
+ghost use Rattle.cap_log.specs.Lines.{IsPlace};
+ghost use Rattle.cap_machine.specs.States.{granule_key, key_of, untagged_null};
 ghost use Rattle.cap_machine.specs.Accounts.{no_account};
 ghost use Rattle.cap_machine.specs.Parents.{IsSoundCap};
-ghost use Rattle.cap_machine.specs.Helds.{account_of, held_of, state_of};
+ghost use Rattle.cap_machine.specs.Helds.{account_of, code_in, held_of, state_of};
 
 use crate::granules::capability_at;
 use crate::machine::Machine;
+use crate::places::place_at;
 use crate::rules::Rules;
+use cap_log::Place;
 use cap_word::{Cap, null};
 use tagmem::TaggedStore;
 
@@ -35,6 +39,7 @@ impl<M: TaggedStore> Machine<M> {
         Machine {
             rules,
             registers: [nothing; 32],
+            codes: [0; 32],
             memory,
             roots: 0,
             steps: 0,
@@ -80,5 +85,36 @@ impl<M: TaggedStore> Machine<M> {
         ensures sound { IsSoundCap result }
     {
         capability_at(&self.memory, granule)
+    }
+
+    /// The place of the root that what a place holds comes from, or `None`, exactly where that has no tag.
+    pub fn origin(&self, place: Place) -> Option<Place>
+        requires { IsPlace place }
+        ensures origin { result ≡ (let account = account_of (held_of M.contents self.now) in account.origin (key_of place)) }
+        ensures tagged { is_some result ≡ (let cap = state_of (held_of M.contents self.now) (key_of place) in cap.tag) }
+        ensures in_range { IfSome result IsPlace }
+    {
+        place_at(self.code(place))
+    }
+
+    /// The least granule at or above a number that a root, an `sc` or a `store` has named, or `None` where
+    /// there is none: every other granule from there on holds NULL without a tag. Any number does, also one
+    /// that is no granule's.
+    pub fn next_put(&self, granule: u64) -> Option<u64>
+        ensures next { IsNextPut (let held = held_of M.contents self.now in held.memory) granule result }
+        ensures in_memory { IfSome result (λ next. next < 2 ^ 60) }
+    {
+        self.memory.next_put(granule)
+    }
+
+    // The code of the origin of what a place holds.
+    fn code(&self, place: Place) -> u64
+        requires { IsPlace place }
+        ensures { result ≡ code_in (held_of M.contents self.now) (key_of place) }
+    {
+        match place {
+            Place::Register(number) => self.codes[number as usize],
+            Place::Granule(granule) => self.memory.code(granule),
+        }
     }
 }

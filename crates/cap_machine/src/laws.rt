@@ -1,14 +1,15 @@
 //! Laws about steps and runs. These functions do nothing: what they say is their contract.
 
-ghost use Rattle.std.specs.Prelude.{◌≡◌, ℕ, List};
-ghost use Rattle.std.specs.List.{AllByRecursion};
+ghost use Rattle.std.specs.Prelude.{◌≡◌, ℕ, List, map, nat_eq};
+ghost use Rattle.std.specs.List.{AllByRecursion, IsDistinct};
 ghost use Rattle.cap_log.specs.declared.lines.Step.{Step};
 ghost use Rattle.cap_log.specs.Lines.{IsStepInRange};
 ghost use Rattle.cap_machine.specs.declared.rules.Rules.{Rules};
-ghost use Rattle.cap_machine.specs.States.{DeclaredRoot, State, start};
+ghost use Rattle.cap_machine.specs.States.{DeclaredRoot, State, key_of, start};
 ghost use Rattle.cap_machine.specs.Steps.{Leads};
 ghost use Rattle.cap_machine.specs.Runs.{AccessesLieInside, AreSound, AuthorityNeverGrows, Descends, IsRun};
 ghost use Rattle.cap_machine.specs.Origins.{Origins, origins_along};
+ghost use Rattle.cap_machine.specs.RunAccounts.{OriginsAreRoots, account_after};
 ghost use Rattle.cap_machine.specs.Parents.{IsSoundState, StaysWithinParents};
 
 /// Where each tagged capability of a state is sound, each one after a step is sound too, and lies within
@@ -39,4 +40,12 @@ pub fn accesses_lie_inside()
 pub fn origins_follow_descent()
     ensures { (origins : Origins) (state : State) (steps : List Step) (states : List State) (key from : ℕ)
         → Descends state steps states key from → origins_along origins state steps states key ≡ origins from }
+{}
+
+/// Along every run from sound roots at distinct places, the origin that the account has at each place that is
+/// tagged at the end is the place of the one root that it descends from.
+pub fn origins_are_roots()
+    ensures { (rules : Rules) (roots : List DeclaredRoot) (steps : List Step) (states : List State) → AreSound roots
+        → IsDistinct nat_eq (map (λ (root : DeclaredRoot). key_of root.place) roots) → AllByRecursion IsStepInRange steps
+        → IsRun rules (start roots) steps states → OriginsAreRoots (account_after rules roots steps) roots steps states }
 {}

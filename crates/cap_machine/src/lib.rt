@@ -2,9 +2,10 @@
 //!
 //! A [`Machine`] takes roots by `declare` and steps by `step`, over any store of granules. Each does what
 //! its definition says, or is refused for the first test that holds, and then nothing has changed. Every
-//! tagged word that a machine holds is sound. Only a granule named for the first time takes memory. The
-//! laws [`steps_stay_within`], [`authority_never_grows`] and [`accesses_lie_inside`] are of single steps
-//! and of whole runs.
+//! tagged word that a machine holds is sound. Only a granule named for the first time takes memory. Beside
+//! each capability it keeps the place of the root that it comes from: its origin. The laws
+//! [`steps_stay_within`], [`authority_never_grows`], [`accesses_lie_inside`] and [`origins_are_roots`] are of
+//! single steps and of whole runs.
 #![tactic(auto)]
 
 mod accessing;
@@ -15,13 +16,15 @@ mod holding;
 mod laws;
 mod machine;
 mod operating;
+mod places;
 mod refusal;
 mod rules;
 mod stepping;
 
 pub use crate::ends::StepEnd;
 pub use crate::laws::{
-    accesses_lie_inside, authority_never_grows, origins_follow_descent, steps_stay_within,
+    accesses_lie_inside, authority_never_grows, origins_are_roots, origins_follow_descent,
+    steps_stay_within,
 };
 pub use crate::machine::{MOST_ROOTS, MOST_STEPS, Machine};
 pub use crate::refusal::Refusal;

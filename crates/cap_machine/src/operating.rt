@@ -1,7 +1,5 @@
 //! The operations on registers, by a machine's rules.
 
-ghost use Rattle.std.specs.Prelude.{IfOk};
-ghost use Rattle.cap_ops.specs.Authority.{StaysWithin};
 ghost use Rattle.cap_ops.specs.Operations.{
   and_perm_result,
   and_perm_tests,
@@ -29,8 +27,7 @@ pub(crate) fn set_bounds_by(
     length: u64,
     exact: bool,
 ) -> Result<Cap, OpFault>
-    ensures outcome { EndsBy rules (set_bounds_tests source length exact) (set_bounds_result source length) result }
-    ensures stays_within { IfOk result (λ cap. StaysWithin cap source) }
+    ensures { EndsBy rules (set_bounds_tests source length exact) (set_bounds_result source length) result }
 {
     match rules {
         Rules::TwoClear => Ok(set_bounds_clear(source, length, exact)),
@@ -39,8 +36,7 @@ pub(crate) fn set_bounds_by(
 }
 
 pub(crate) fn set_addr_by(rules: Rules, source: Cap, address: u64) -> Result<Cap, OpFault>
-    ensures outcome { EndsBy rules (set_addr_tests source address) (set_addr_result source address) result }
-    ensures stays_within { IfOk result (λ cap. StaysWithin cap source) }
+    ensures { EndsBy rules (set_addr_tests source address) (set_addr_result source address) result }
 {
     match rules {
         Rules::TwoClear => Ok(set_addr_clear(source, address)),
@@ -49,8 +45,7 @@ pub(crate) fn set_addr_by(rules: Rules, source: Cap, address: u64) -> Result<Cap
 }
 
 pub(crate) fn and_perm_by(rules: Rules, source: Cap, mask: u64) -> Result<Cap, OpFault>
-    ensures outcome { EndsBy rules (and_perm_tests source) (and_perm_result source mask) result }
-    ensures stays_within { IfOk result (λ cap. StaysWithin cap source) }
+    ensures { EndsBy rules (and_perm_tests source) (and_perm_result source mask) result }
 {
     match rules {
         Rules::TwoClear => Ok(and_perm_clear(source, mask)),
@@ -59,8 +54,7 @@ pub(crate) fn and_perm_by(rules: Rules, source: Cap, mask: u64) -> Result<Cap, O
 }
 
 pub(crate) fn seal_by(rules: Rules, source: Cap, authority: Cap) -> Result<Cap, OpFault>
-    ensures outcome { EndsBy rules (seal_tests source authority) (seal_result source authority) result }
-    ensures stays_within { IfOk result (λ cap. StaysWithin cap source) }
+    ensures { EndsBy rules (seal_tests source authority) (seal_result source authority) result }
 {
     match rules {
         Rules::TwoClear => Ok(seal_clear(source, authority)),
@@ -69,8 +63,7 @@ pub(crate) fn seal_by(rules: Rules, source: Cap, authority: Cap) -> Result<Cap, 
 }
 
 pub(crate) fn unseal_by(rules: Rules, source: Cap, authority: Cap) -> Result<Cap, OpFault>
-    ensures outcome { EndsBy rules (unseal_tests source authority) (unseal_result source authority) result }
-    ensures stays_within { IfOk result (λ cap. StaysWithin cap source) }
+    ensures { EndsBy rules (unseal_tests source authority) (unseal_result source authority) result }
 {
     match rules {
         Rules::TwoClear => Ok(unseal_clear(source, authority)),

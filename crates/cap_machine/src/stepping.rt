@@ -1,36 +1,29 @@
 //! Making steps.
 
-ghost use Rattle.std.specs.Prelude.{◌≡◌, ◌↔◌, ◌<◌, ◌≤◌, ◌^◌, ◌/◌, ◌%◌, ◌+◌, ◌*◌, ◌||◌, ◌⊎◌, ◌≤ℤ◌, pos, neg_ℤ, nat_le, MatchResult, OnOk, IfOk, IfErr, Ok, Err, None, Some, true, false};
+ghost use Rattle.std.specs.Prelude.{◌≡◌, ◌↔◌, ◌<◌, ◌≤◌, ◌+◌, MatchResult, OnOk, IfOk, Ok, Err, None, Some, true, false};
 ghost use Rattle.cap_ops.specs.Tests.{first_of};
-ghost use Rattle.cap_ops.specs.Accesses.{
-  access_address,
-  access_tests,
-  loaded_result,
-};
-ghost use Rattle.cap_ops.specs.declared.kinds.Kind.TheVariants as kinds;
-ghost use Rattle.cap_log.specs.Lines.{IsDataSize, IsOffset, IsStepInRange};
-ghost use Rattle.cap_machine.specs.States.{granule_key};
-ghost use Rattle.cap_machine.specs.Steps.{is_same_cap};
-ghost use Rattle.cap_machine.specs.Parents.{IsSoundCap, StaysWithinParents};
-ghost use Rattle.cap_machine.specs.Escapes.{ClearsBeyond, Escapes};
-ghost use Rattle.cap_machine.specs.Refusals.{refusal_of};
-ghost use Rattle.cap_machine.specs.Helds.{
+ghost use Rattle.cap_log.specs.Lines.{IsStepInRange, IsTarget};
+ghost use Rattle.cap_machine.specs.Changes.{
+  Derives,
   EndsAccess,
-  EndsStep,
-  Makes,
-  held_of,
+  IsOperation,
+  code_for,
   last_tests,
-  state_of,
-  account_of,
   with_register,
 };
+ghost use Rattle.cap_machine.specs.Escapes.{ClearsBeyond, Escapes};
+ghost use Rattle.cap_machine.specs.Helds.{EndsStep, Makes, held_of, state_of};
+ghost use Rattle.cap_machine.specs.Parents.{IsSoundCap, StaysWithinParents};
+ghost use Rattle.cap_machine.specs.Places.{IsCoded};
+ghost use Rattle.cap_machine.specs.Steps.{is_same_cap, row_of};
 
 use crate::ends::StepEnd;
 use crate::machine::{MOST_STEPS, Machine};
 use crate::operating::{and_perm_by, seal_by, set_addr_by, set_bounds_by, unseal_by};
+use crate::places::code_for;
 use crate::refusal::Refusal;
 use cap_log::Step;
-use cap_ops::{Access, Kind, OpFault, clear_tag, loaded, may_access};
+use cap_ops::{OpFault, clear_tag};
 use cap_word::Cap;
 use tagmem::TaggedStore;
 
@@ -69,89 +62,20 @@ impl<M: TaggedStore> Machine<M> {
             (λ end. EndsStep (held_of M.contents self.old) step.now end (held_of M.contents self.new)) }
     {
         match *step {
-            Step::Move {
-                target,
-                source,
-                result: recorded,
-            } => {
-                let derived = self.register(source);
-                self.finish(target, Ok(derived), recorded)
-            }
-            Step::ClearTag {
-                target,
-                source,
-                result: recorded,
-            } => {
-                let derived = clear_tag(self.register(source));
-                self.finish(target, Ok(derived), recorded)
-            }
-            Step::SetBounds {
-                target,
-                source,
-                length,
-                result: recorded,
-            } => {
-                let derived = set_bounds_by(self.rules, self.register(source), length, false);
-                self.finish(target, derived, recorded)
-            }
-            Step::SetBoundsExact {
-                target,
-                source,
-                length,
-                result: recorded,
-            } => {
-                let derived = set_bounds_by(self.rules, self.register(source), length, true);
-                self.finish(target, derived, recorded)
-            }
-            Step::SetAddr {
-                target,
-                source,
-                address,
-                result: recorded,
-            } => {
-                let derived = set_addr_by(self.rules, self.register(source), address);
-                self.finish(target, derived, recorded)
-            }
-            Step::AndPerm {
-                target,
-                source,
-                mask,
-                result: recorded,
-            } => {
-                let derived = and_perm_by(self.rules, self.register(source), mask);
-                self.finish(target, derived, recorded)
-            }
-            Step::Seal {
-                target,
-                source,
-                authority,
-                result: recorded,
-            } => {
-                let derived = seal_by(self.rules, self.register(source), self.register(authority));
-                self.finish(target, derived, recorded)
-            }
-            Step::Unseal {
-                target,
-                source,
-                authority,
-                result: recorded,
-            } => {
-                let derived = unseal_by(
-                    self.rules,
-                    self.register(source),
-                    self.register(authority),
-                );
-                self.finish(target, derived, recorded)
-            }
+            Step::Move { target, result, .. }
+            | Step::ClearTag { target, result, .. }
+            | Step::SetBounds { target, result, .. }
+            | Step::SetBoundsExact { target, result, .. }
+            | Step::SetAddr { target, result, .. }
+            | Step::AndPerm { target, result, .. }
+            | Step::Seal { target, result, .. }
+            | Step::Unseal { target, result, .. } => self.operate(step, target, result),
             Step::LoadCap {
                 target,
                 authority,
                 offset,
-                result: recorded,
-            } => {
-                let derived = self.load_capability(self.register(authority), offset);
-                self.finish(target, derived, recorded)
-            }
+                result,
+            } => self.load_capability(target, authority, offset, result),
             Step::StoreCap {
                 source,
                 authority,
@@ -172,29 +96,89 @@ impl<M: TaggedStore> Machine<M> {
         }
     }
 
-    // Writes a step's result to a register and counts the step, where the operation gave one, the log
-    // records it, and the limit on steps is not passed.
-    fn finish(
+    // Makes a step that is an operation on registers.
+    fn operate(&mut self, step: &Step, target: u8, recorded: Cap) -> Result<(), StepEnd>
+        requires in_range { IsStepInRange step.now }
+        requires target { IsTarget target }
+        requires operation { IsOperation (state_of (held_of M.contents self.old)) step.now target recorded }
+        ensures { MatchResult result
+            (λ _. Makes (held_of M.contents self.old) step.now (held_of M.contents self.new))
+            (λ end. EndsStep (held_of M.contents self.old) step.now end (held_of M.contents self.new)) }
+    {
+        let (source, outcome) = self.derived(step);
+        match outcome {
+            Ok(derived) => self.finish(target, derived, recorded, self.codes[source as usize]),
+            Err(fault) => Err(StepEnd::Refused(Refusal::from(fault))),
+        }
+    }
+
+    // The source of an operation on registers, and what it gives by the rules.
+    fn derived(&self, step: &Step) -> (u8, Result<Cap, OpFault>)
+        requires in_range { IsStepInRange step.now }
+        requires operation { let row = row_of (state_of (held_of M.contents self.now)) step.now in row.access ≡ None }
+        ensures { Derives (held_of M.contents self.now) step.now result.0 result.1 }
+    {
+        match *step {
+            Step::Move { source, .. } => (source, Ok(self.register(source))),
+            Step::ClearTag { source, .. } => (source, Ok(clear_tag(self.register(source)))),
+            Step::SetBounds { source, length, .. } => (
+                source,
+                set_bounds_by(self.rules, self.register(source), length, false),
+            ),
+            Step::SetBoundsExact { source, length, .. } => (
+                source,
+                set_bounds_by(self.rules, self.register(source), length, true),
+            ),
+            Step::SetAddr {
+                source,
+                address,
+                ..
+            } => (
+                source,
+                set_addr_by(self.rules, self.register(source), address),
+            ),
+            Step::AndPerm { source, mask, .. } => (
+                source,
+                and_perm_by(self.rules, self.register(source), mask),
+            ),
+            Step::Seal {
+                source,
+                authority,
+                ..
+            } => (
+                source,
+                seal_by(self.rules, self.register(source), self.register(authority)),
+            ),
+            Step::Unseal {
+                source,
+                authority,
+                ..
+            } => (
+                source,
+                unseal_by(self.rules, self.register(source), self.register(authority)),
+            ),
+            Step::LoadCap { .. } | Step::StoreCap { .. } | Step::Load { .. } | Step::Store { .. } =>
+                { unreachable!() }
+        }
+    }
+
+    // Writes a step's result to a register, with its parent's code where it is tagged, and counts the
+    // step, where the log records it, and the limit on steps is not passed.
+    pub(crate) fn finish(
         &mut self,
         target: u8,
-        outcome: Result<Cap, OpFault>,
+        derived: Cap,
         recorded: Cap,
+        code: u64,
     ) -> Result<(), StepEnd>
-        requires written { 1 ≤ target }
-        requires low { target ≤ 31 }
-        requires sound { IfOk outcome (λ cap. IsSoundCap cap) }
-        ensures faulted { IfErr outcome (λ fault. (result ≡ Err (StepEnd.Refused (refusal_of fault)))
-            × (held_of M.contents self.new ≡ held_of M.contents self.old)) }
-        ensures derived { IfOk outcome (λ derived. MatchResult result
+        requires target { IsTarget target }
+        requires sound { IsSoundCap derived }
+        requires coded { IsCoded derived.tag (code_for derived.tag code) }
+        ensures { MatchResult result
             (λ _. (first_of (last_tests (held_of M.contents self.old) (is_same_cap recorded derived)) ≡ None)
-            × (recorded ≡ derived)
-            × (held_of M.contents self.new ≡ with_register (held_of M.contents self.old) target derived))
-            (λ end. EndsAccess (held_of M.contents self.old) (last_tests (held_of M.contents self.old) (is_same_cap recorded derived)) end (held_of M.contents self.new))) }
+            × (held_of M.contents self.new ≡ with_register (held_of M.contents self.old) target derived code))
+            (λ end. EndsAccess (held_of M.contents self.old) (last_tests (held_of M.contents self.old) (is_same_cap recorded derived)) end (held_of M.contents self.new)) }
     {
-        let derived = match outcome {
-            Ok(derived) => derived,
-            Err(fault) => return Err(StepEnd::Refused(Refusal::from(fault))),
-        };
         if recorded != derived {
             return Err(StepEnd::Refused(Refusal::WrongResult));
         }
@@ -202,27 +186,8 @@ impl<M: TaggedStore> Machine<M> {
             return Err(StepEnd::Refused(Refusal::LimitPassed));
         }
         self.registers[target as usize] = derived;
+        self.codes[target as usize] = code_for(derived.tag, code);
         self.steps += 1;
         Ok(())
-    }
-
-    // The capability that a load through an authority gives.
-    fn load_capability(&self, authority: Cap, offset: i16) -> Result<Cap, OpFault>
-        requires { IsOffset offset }
-        ensures sound { IfOk result (λ cap. IsSoundCap cap) }
-        ensures outcome { MatchResult result
-            (λ cap. (first_of (access_tests authority kinds.LoadCap offset 16) ≡ None)
-            × (cap ≡ loaded_result authority (state_of (held_of M.contents self.now) (granule_key (access_address authority.word.0 offset / 16)))))
-            (λ fault. first_of (access_tests authority kinds.LoadCap offset 16) ≡ Some fault) }
-    {
-        let access = Access {
-            kind: Kind::LoadCap,
-            offset,
-            size: 16,
-        };
-        match may_access(authority, access) {
-            Ok(address) => Ok(loaded(authority, self.granule(address / 16))),
-            Err(fault) => Err(fault),
-        }
     }
 }

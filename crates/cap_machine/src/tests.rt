@@ -1,12 +1,12 @@
 //! Roots and steps over the list store, each given as the line of a log that says it.
 
 use crate::{Machine, Refusal, StepEnd};
-use cap_log::{Line, read_line};
+use cap_log::{Line, Place, read_line};
 use cap_ops::OpFault;
 use cap_word::{Cap, Word};
 use std::alloc::Global;
 use std::process::Abort;
-use tagmem::{ListStore, NoMemory, TaggedStore};
+use tagmem::{ListStore, NoMemory, PageStore, TaggedStore};
 
 /// All permissions and the whole address space, at address 0.
 const ALL: u128 = 0xffff_1fff_fc01_8004_0000_0000_0000_0000;
@@ -16,6 +16,12 @@ const NULL: u128 = 0x0000_1fff_fc01_8004_0000_0000_0000_0000;
 // A machine over an empty store.
 fn fresh(alloc: Global) -> Machine<ListStore> {
     let memory = ListStore::new(alloc);
+    Machine::new(memory)
+}
+
+// A machine over an empty store of pages.
+fn fresh_paged(alloc: Global) -> Machine<PageStore> {
+    let memory = PageStore::new(alloc);
     Machine::new(memory)
 }
 
@@ -275,11 +281,25 @@ impl<M: TaggedStore> TaggedStore for Refusing<M> {
         self.inner.get(granule)
     }
 
-    fn put_cap(&mut self, granule: u64, tag: bool, bytes: [u8; 16]) -> Result<(), NoMemory> {
+    fn code(&self, granule: u64) -> u64 {
+        self.inner.code(granule)
+    }
+
+    fn next_put(&self, granule: u64) -> Option<u64> {
+        self.inner.next_put(granule)
+    }
+
+    fn put_cap(
+        &mut self,
+        granule: u64,
+        tag: bool,
+        bytes: [u8; 16],
+        code: u64,
+    ) -> Result<(), NoMemory> {
         if self.is_refused(granule) {
             return Err(NoMemory);
         }
-        self.inner.put_cap(granule, tag, bytes)
+        self.inner.put_cap(granule, tag, bytes, code)
     }
 
     fn put_bytes(&mut self, granule: u64, at: u8, bytes: &[u8]) -> Result<(), NoMemory> {
@@ -349,6 +369,80 @@ fn each_operation_on_registers(rt: HostRuntime) {
     refuses(&rt, &mut machine, other, Refusal::WrongResult);
     refuses(&rt, &mut machine, inexact, Refusal::NotExact);
     assert_eq!(rt; machine.steps(), 9);
+}
+
+// The machine takes the lines.
+fn enter_all<M: TaggedStore>(rt: &impl Abort, machine: &mut Machine<M>, lines: &[&str]) {
+    for line in lines {
+        assert_eq!(rt; enter(rt, machine, line), Ok(()), "{line}");
+    }
+}
+
+// The origins of registers c1 to c6, and of granules 0 to 2, after lines.
+fn has_origins<M: TaggedStore>(
+    rt: &impl Abort,
+    machine: &mut Machine<M>,
+    lines: &[&str],
+    registers: [Option<Place>; 6],
+    granules: [Option<Place>; 3],
+) {
+    enter_all(rt, machine, lines);
+    for i in 0..6u8 {
+        let origin = machine.origin(Place::Register(i + 1));
+        assert_eq!(rt; origin, registers[i as usize], "register {i}");
+    }
+    for i in 0..3u64 {
+        let origin = machine.origin(Place::Granule(i));
+        assert_eq!(rt; origin, granules[i as usize], "granule {i}");
+    }
+}
+
+// Two roots in registers and one in memory, sealed and unsealed, stored, loaded, moved and overwritten.
+fn follows_origins<M: TaggedStore>(rt: &impl Abort, machine: &mut Machine<M>) {
+    let (c1, c2) = (Some(Place::Register(1)), Some(Place::Register(2)));
+    let granule = Some(Place::Granule(1));
+    has_origins(rt, machine, &[], [None; 6], [None; 3]);
+    let roots = [
+        "root c1 ffff1ffffc0180040000000000000000",
+        "root c2 ffff1ffffc018004000000000003fffb",
+        "root @0000000000000010 fffe1ffffc0180040000000000001000",
+    ];
+    let own = [c1, c2, None, None, None, None];
+    has_origins(rt, machine, &roots, own, [None, granule, None]);
+    let sealed = [
+        "seal c3 c1 c2 = 1 ffff1fffdc0180040000000000000000",
+        "unseal c4 c3 c2 = 1 ffff1ffffc0180040000000000000000",
+        "lc c5 c1 16 = 1 fffe1ffffc0180040000000000001000",
+        "setaddr c6 c5 0000000000000020 = 1 fffe1ffffc0180040000000000000020",
+        "sc c2 c6 0",
+    ];
+    let made = [c1, c2, c1, c1, granule, granule];
+    has_origins(rt, machine, &sealed, made, [None, granule, c2]);
+    let overwritten = [
+        "move c1 c2 = 1 ffff1ffffc018004000000000003fffb",
+        "cleartag c3 c3 = 0 ffff1fffdc0180040000000000000000",
+        "store c4 16 1 00",
+        "sc c3 c4 32",
+        "lc c5 c4 32 = 0 ffff1fffdc0180040000000000000000",
+        "sc c1 c4 0",
+        "move c2 c0 = 0 00001ffffc0180040000000000000000",
+    ];
+    let left = [c2, None, None, c1, None, granule];
+    has_origins(rt, machine, &overwritten, left, [c2, None, None]);
+    assert_eq!(rt; machine.next_put(0), Some(0));
+    assert_eq!(rt; machine.next_put(1), Some(1));
+    assert_eq!(rt; machine.next_put(3), None);
+    let refused = "move c3 c1 = 0 ffff1ffffc018004000000000003fffb";
+    assert!(rt; enter(rt, machine, refused).is_err());
+    has_origins(rt, machine, &[], left, [c2, None, None]);
+}
+
+#[test]
+fn origins_are_the_places_of_roots(rt: HostRuntime) {
+    let mut listed = fresh(rt.alloc());
+    follows_origins(&rt, &mut listed);
+    let mut paged = fresh_paged(rt.alloc());
+    follows_origins(&rt, &mut paged);
 }
 
 #[test]

@@ -4,15 +4,14 @@ use Rattle.std.proofs.lemmas.Option.{same_Some}
 use Rattle.cap_log.specs.declared.lines.Line.{Line}
 use Rattle.cap_log.specs.declared.lines.Line.TheVariants as lines
 use Rattle.cap_log.specs.declared.lines.Step.{Step}
-use Rattle.cap_log.specs.Front.{IsLine, IsTooLong, IsCut}
-use Rattle.cap_log.specs.Lines.{Spells}
+use Rattle.cap_log.specs.Front.{IsLine}
 use Rattle.cap_log.proofs.FrontLemmas.{IsLine-same, IsLine-not_too_long, IsLine-not_cut}
 use Rattle.cap_log.proofs.SpellingLemmas.{one_spelling}
 use Rattle.cap_ops.specs.Tests.{first_of}
 use Rattle.cap_machine.specs.declared.refusal.Refusal.{Refusal}
 use Rattle.cap_machine.specs.declared.refusal.Refusal.TheVariants.{BoundsEscape, Misplaced, PlaceTaken, UnsoundRoot, LimitPassed, WrongCount}
 use Rattle.cap_machine.specs.declared.rules.Rules.{Rules}
-use Rattle.cap_machine.specs.States.{State, DeclaredRoot, start}
+use Rattle.cap_machine.specs.States.{DeclaredRoot, start}
 use Rattle.cap_machine.specs.Accounts.{Account}
 use Rattle.cap_machine.specs.Parents.{IsSoundState}
 use Rattle.cap_machine.specs.Escapes.{Escapes}
@@ -20,7 +19,7 @@ use Rattle.cap_machine.proofs.AuthorityLemmas.{sound_along, start_sound}
 use Rattle.cap_machine.proofs.EscapeLemmas.{escapes_first}
 use Rattle.capcheck.specs.declared.verdict.Verdict.{Verdict}
 use Rattle.capcheck.specs.declared.verdict.Verdict.TheVariants.{Yes, No}
-use Rattle.capcheck.specs.Logs.{Beginning, Nothing, NoMode, Body, Whole, SpellsBy, account_after, line_tests, IsAccepted, RunsBy, RefusesLine, RefusesWhole, Refuses, IsFirstFault}
+use Rattle.capcheck.specs.Logs.{Beginning, Nothing, NoMode, Body, Whole, SpellsBy, account_after, line_tests, IsAccepted, RunsBy, RefusesLine, RefusesWhole, Refuses}
 use Rattle.capcheck.specs.Verdicts.{EscapesExactly, FaultEscapes}
 use Rattle.capcheck.proofs.JudgeLemmas.{are_sound, behind_header, steps_in_range}
 

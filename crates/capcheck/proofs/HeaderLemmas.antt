@@ -1,12 +1,11 @@
 -- The header of a log, read.
-use Rattle.std.proofs.Common.{◌≡◌, ◌≢◌, ℕ, ◌+◌, inl, inr, false, List, [], ◌∷◌, ◌++◌, length, refl, sym, ap, subst, ◌∙◌, append-nil, append_assoc, arith, Ok, None, Result}
+use Rattle.std.proofs.Common.{◌≡◌, ◌≢◌, ℕ, ◌+◌, inl, inr, false, List, [], ◌∷◌, ◌++◌, length, sym, ap, subst, ◌∙◌, append-nil, Ok, None, Result}
 use Rattle.std.proofs.lemmas.Bool.{false≢true}
 use Rattle.cap_log.specs.declared.lines.Line.{Line}
 use Rattle.cap_log.specs.declared.lines.Line.TheVariants as line_kinds
 use Rattle.cap_log.specs.declared.lines.Mode.{Mode}
 use Rattle.cap_log.specs.declared.lines.Mode.TheVariants as modes
 use Rattle.cap_log.specs.Lines.{Spells, spelling}
-use Rattle.cap_log.specs.Front.{IsLine}
 use Rattle.cap_log.proofs.SpellingLemmas.{one_spelling}
 use Rattle.cap_log.specs.Takings.{Answered, kept, over_of}
 use Rattle.cap_log.specs.declared.nexts.Next.{Next}
@@ -14,14 +13,16 @@ use Rattle.cap_log.specs.declared.sources.PullFault.{PullFault}
 use Rattle.cap_log.specs.declared.taking.Lines.{Lines}
 use Rattle.cap_log.specs.declared.nexts.Next.TheVariants as nexts
 use Rattle.cap_machine.specs.declared.rules.Rules.{Rules}
-use Rattle.cap_machine.specs.declared.rules.Rules.TheVariants.{One, TwoStrict, TwoClear}
+use Rattle.cap_machine.specs.declared.rules.Rules.TheVariants.{One}
 use Rattle.cap_machine.specs.Helds.{Held}
 use Rattle.capcheck.specs.Logs.{Beginning, Nothing, NoMode, Body, header_lines, lines_of, text_of, has_form, SpellsBy}
 use Rattle.capcheck.specs.Headers.{ReadsHeader, rules_of}
 use Rattle.capcheck.specs.declared.verdict.Verdict.{Verdict}
+use Rattle.capcheck.specs.declared.verdict.Verdict.TheVariants.{No}
+use Rattle.cap_machine.specs.declared.refusal.Refusal.{Refusal}
 use Rattle.capcheck.specs.declared.verdict.JudgeFault.{JudgeFault}
-use Rattle.capcheck.specs.Judgings.{IsBehind, Judged}
-use Rattle.capcheck.specs.Progresses.{StandsFor, IsAt}
+use Rattle.capcheck.specs.Judgings.{IsBehind, IsNoYes, Judged}
+use Rattle.capcheck.specs.Progresses.{StandsFor, HasRead}
 use Rattle.capcheck.proofs.JudgeLemmas.{text_push}
 use Rattle.capcheck.proofs.SourceLemmas.{Meets, meets}
 
@@ -73,15 +74,16 @@ pub read_two : {S : Type 0} {gave : S → S → List ℕ → Type 0} {ended : S 
 read_two text modes.Strict m spells = record { given = m.given; gives = m.gives; text = one_more NoMode (line_kinds.Mode modes.Strict) text m spells.1; more = m.next.1 }
 read_two text modes.Clear m spells = record { given = m.given; gives = m.gives; text = one_more NoMode (line_kinds.Mode modes.Clear) text m spells.1; more = m.next.1 }
 
--- an answer is what it was shown to be
-pub as_shown : {S : Type 0} (gave : S → S → List ℕ → Type 0) (ended : S → _) (old new : S) (result shown : Result Verdict JudgeFault) → result ≡ shown
-    → Judged gave ended old new shown → Judged gave ended old new result
-as_shown gave ended old new result shown is judged = subst (λ (r : Result Verdict JudgeFault). Judged gave ended old new r) (sym is) judged
+-- an answer that was shown to be a no
+pub as_no : {S : Type 0} (gave : S → S → List ℕ → Type 0) (ended : S → _) (old new : S) (result : Result Verdict JudgeFault) (line : ℕ) (refusal : Refusal) → result ≡ Ok (No line refusal)
+    → Judged gave ended old new (Ok (No line refusal)) → IsNoYes result × Judged gave ended old new result
+as_no gave ended old new result line refusal is judged =
+    subst (λ (r : Result Verdict JudgeFault). IsNoYes r × Judged gave ended old new r) (sym is) (tt, judged)
 
 -- the judge is behind a header
 pub at_body : {S : Type 0} (gave : S → S → List ℕ → Type 0) (old new : S) (lines_are : Lines) (rules_are : Rules) (held : Held) (now : _) (line : ℕ)
     → ReadsHeader gave old new lines_are rules_are → StandsFor held now (Body rules_are [] []) → line ≡ length (header_lines rules_are) + 1
-    → (given : List ℕ) × gave old new given × IsAt given held now (kept lines_are) line
+    → HasRead gave old new held now (kept lines_are) line
 at_body gave old new lines_are rules_are held now line header stands number =
     let same = append-nil (header_lines rules_are) in (
       header.given,

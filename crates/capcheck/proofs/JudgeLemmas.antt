@@ -1,22 +1,19 @@
 -- Where the judge is, and what it may answer there.
-use Rattle.std.proofs.Common.{◌≡◌, ◌≢◌, ℕ, zero, suc, ◌+◌, ◌<◌, ◌^◌, inl, inr, Bool, true, false, List, [], ◌∷◌, ◌++◌, length, map, refl, sym, ap, subst, ◌∙◌, append-nil, append_assoc, arith, Result, Ok, Err, IsOk, IfOk, IfErr, MatchResult}
+use Rattle.std.proofs.Common.{◌≡◌, ◌≢◌, ℕ, zero, suc, ◌+◌, ◌<◌, ◌^◌, inr, Bool, true, false, List, [], ◌∷◌, ◌++◌, length, map, refl, sym, ap, subst, ◌∙◌, append-nil, append_assoc, arith, Result, Ok, Err, IsOk, IfOk, IfErr}
 use Rattle.std.specs.List.{AllByRecursion}
 use Rattle.std.proofs.lemmas.Grind.{flat_map-append}
 use Rattle.std.proofs.lemmas.Bool.{false≢true}
 use Rattle.std.proofs.lemmas.Option.{none-some}
 use Rattle.std.specs.Prelude.{Option, Some, None}
 use Rattle.cap_bounds.specs.Bounds.{IsSound}
-use Rattle.cap_log.specs.declared.lines.Place.TheVariants.{Register, Granule}
 use Rattle.cap_log.specs.declared.lines.Line.{Line}
 use Rattle.cap_log.specs.declared.lines.Line.TheVariants as lines
 use Rattle.cap_log.specs.declared.lines.Step.{Step}
-use Rattle.cap_log.specs.declared.lines.Step.TheVariants as steps
 use Rattle.cap_log.specs.Lines.{spelling, IsInRange, IsStepInRange, Spells}
-use Rattle.cap_log.specs.Front.{IsLine, IsTooLong, IsCut}
+use Rattle.cap_log.specs.Front.{IsLine}
 use Rattle.cap_machine.specs.declared.refusal.Refusal.{Refusal}
-use Rattle.cap_machine.specs.declared.refusal.Refusal.TheVariants.{LineTooLong, Truncated, Misplaced}
-use Rattle.cap_machine.specs.declared.ends.StepEnd.{StepEnd}
-use Rattle.cap_machine.specs.declared.ends.StepEnd.TheVariants.{Refused, NoMemory}
+use Rattle.cap_machine.specs.declared.refusal.Refusal.TheVariants.{Misplaced}
+use Rattle.cap_machine.specs.declared.ends.StepEnd.TheVariants.{NoMemory}
 use Rattle.cap_machine.specs.States.{State, DeclaredRoot, start}
 use Rattle.cap_machine.specs.declared.rules.Rules.{Rules}
 use Rattle.cap_machine.specs.declared.rules.Rules.TheVariants.{One, TwoStrict, TwoClear}
@@ -28,8 +25,8 @@ use Rattle.capcheck.specs.declared.verdict.Verdict.TheVariants.{Yes, No}
 use Rattle.capcheck.specs.declared.verdict.JudgeFault.{JudgeFault}
 use Rattle.capcheck.specs.declared.verdict.JudgeFault.TheVariants as faults
 use Rattle.capcheck.specs.Logs.{Beginning, Nothing, NoMode, Body, Whole, header_lines, body_lines, lines_of, text_of, account_after, IsAccepted, RefusesFront, Refuses, IsFirstFault, WantsMemory, MayLackMemory, NamesNoGranules, named_by_line}
-use Rattle.capcheck.specs.Verdicts.{answer_at, IsVerdict, IsYes, IsGuarded, GuardsAuthority, IsFault}
-use Rattle.capcheck.specs.Judgings.{IsBehind}
+use Rattle.capcheck.specs.Verdicts.{IsYes, IsGuarded, GuardsAuthority, IsFault}
+use Rattle.capcheck.specs.Judgings.{IsBehind, LeadsTo}
 use Rattle.capcheck.specs.Progresses.{StandsFor, GoesOn, EndsNext, IsAt}
 use Rattle.capcheck.proofs.LogLemmas.{AllByRecursion-append, length-push}
 
@@ -165,6 +162,22 @@ yes_by bytes held now (Whole rules_are roots steps) stands ended are = record {
 pub yes : (bytes : List ℕ) (held : Held) (now : Bool) (line : ℕ) → IsAt bytes held now [] line → now ≡ true
     → IsYes bytes held.steps held.roots
 yes bytes held now line here ended = yes_by bytes held now here.beginning here.stands ended here.bytes_are
+
+leads_by : (bytes : List ℕ) (held : Held) (now : Bool) (beginning : Beginning) → StandsFor held now beginning → now ≡ true
+    → bytes ≡ text_of (lines_of beginning) ++ [] → LeadsTo bytes held
+leads_by bytes held now Nothing stands ended are = absurd stands
+leads_by bytes held now NoMode stands ended are = absurd stands
+leads_by bytes held now (Body rules_are roots steps) stands ended are = absurd (false≢true (sym stands.0 ∙ ended))
+leads_by bytes held now (Whole rules_are roots steps) stands ended are = record {
+  rules = rules_are;
+  roots = roots;
+  steps = steps;
+  log = record { bytes_are = are ∙ append-nil _; runs = stands.1.runs };
+  account = stands.1.account;
+}
+
+pub leads : (bytes : List ℕ) (held : Held) (now : Bool) (line : ℕ) → IsAt bytes held now [] line → now ≡ true → LeadsTo bytes held
+leads bytes held now line here ended = leads_by bytes held now here.beginning here.stands ended here.bytes_are
 
 misplaced_by : (beginning : Beginning) (held : Held) (now : Bool) (rest : List ℕ) → StandsFor held now beginning → now ≡ true → rest ≢ []
     → Refuses beginning rest Misplaced

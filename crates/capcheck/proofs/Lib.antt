@@ -16,3 +16,5 @@ mod OneReading
 mod OneVerdict
 mod VectorLemmas
 mod VectorFileLemmas
+mod OriginLemmas
+mod ReportLemmas

@@ -1,5 +1,5 @@
 -- What the judge's progress stands for, with one line more.
-use Rattle.std.proofs.Common.{IfErr, Result, Ok, Err, ◌≡◌, ◌≢◌, ℕ, ◌+◌, ◌^◌, ◌<◌, ◌≤◌, Bool, true, false, not, ◌==◌, ◌&&◌, ◌||◌, nat_eq, nat_le, nat_lt, List, [], ◌∷◌, ◌++◌, length, map, refl, sym, ap, subst, ◌∙◌, arith, tests, lit≤, inl, inr, Some, None, Option}
+use Rattle.std.proofs.Common.{IfErr, Result, Ok, Err, ◌≡◌, ℕ, ◌+◌, ◌^◌, ◌<◌, ◌≤◌, Bool, true, false, not, ◌&&◌, ◌||◌, nat_eq, nat_le, nat_lt, List, [], ◌∷◌, ◌++◌, map, refl, sym, ap, subst, ◌∙◌, arith, tests, lit≤, inl, inr, Some, None, Option}
 use Rattle.std.proofs.Math.Path.{fun_ext}
 use Rattle.std.specs.Bool.{if◌then◌else◌}
 use Rattle.std.specs.List.{AllByRecursion, IsDistinct}
@@ -21,7 +21,7 @@ use Rattle.cap_machine.specs.declared.rules.Rules.{Rules}
 use Rattle.cap_machine.specs.declared.rules.Rules.TheVariants.{One, TwoStrict, TwoClear}
 use Rattle.cap_machine.specs.States.{State, DeclaredRoot, key_of, put, tagged, start}
 use Rattle.cap_machine.specs.Steps.{Leads, Row, is_recorded}
-use Rattle.cap_machine.specs.Accounts.{Account, no_account, most_roots, most_granules, most_steps, granule_of, named_by, row_in, is_new, passes_granules, naming, with_root, with_step, root_tests, row_tests, as_line_test}
+use Rattle.cap_machine.specs.Accounts.{Account, no_account, most_roots, most_granules, most_steps, granule_of, named_by, row_in, passes_granule_limit, naming, with_root, with_step, root_tests, row_tests, as_line_test}
 use Rattle.cap_machine.specs.Runs.{IsRun, last_of}
 use Rattle.cap_machine.specs.Helds.{Held, Makes, EndsStep, Takes as Declares, EndsRoot, state_of, account_of}
 use Rattle.capcheck.specs.Logs.{has_form, Beginning, Nothing, NoMode, Body, Whole, body_lines, after_roots, after_steps, account_after, RunsBy, SpellsBy, NamesFirst, RefusesWhole, WantsMemory, line_tests}
@@ -63,7 +63,7 @@ few_named : (named : Bool) (granules most : ℕ) → (not named && nat_le most g
 few_named true granules most within few = few
 few_named false granules most within few = let below = leb-false most granules within in omega arith
 
-naming_few : (account : Account) (granule : Option ℕ) → passes_granules account granule ≡ false → account.granules ≤ most_granules account.rules
+naming_few : (account : Account) (granule : Option ℕ) → passes_granule_limit account granule ≡ false → account.granules ≤ most_granules account.rules
     → (naming account granule).granules ≤ most_granules account.rules
 naming_few account None within few = few
 naming_few account (Some granule) within few = few_named (account.is_named granule) account.granules (most_granules account.rules) within few
@@ -103,11 +103,11 @@ same_rules held rules_are roots steps reaches = ap (λ (a : Account). a.rules) r
 
 -- what the last test of a step says where it doesn't hold
 step_within : (account : Account) (row : Row) → first_of (row_tests account row) ≡ None
-    → (nat_le most_steps account.steps ≡ false) × (passes_granules account (named_by row) ≡ false)
+    → (nat_le most_steps account.steps ≡ false) × (passes_granule_limit account (named_by row) ≡ false)
 step_within account row free =
-    let last = none_after (map as_line_test row.tests) ((not (is_recorded row), WrongResult) ∷ (nat_le most_steps account.steps || passes_granules account (named_by row), LimitPassed) ∷ []) free in
-    let limit = no_first (not (is_recorded row)) WrongResult ((nat_le most_steps account.steps || passes_granules account (named_by row), LimitPassed) ∷ []) last in
-    or_false _ _ (no_first (nat_le most_steps account.steps || passes_granules account (named_by row)) LimitPassed [] limit.1).0
+    let last = none_after (map as_line_test row.tests) ((not (is_recorded row), WrongResult) ∷ (nat_le most_steps account.steps || passes_granule_limit account (named_by row), LimitPassed) ∷ []) free in
+    let limit = no_first (not (is_recorded row)) WrongResult ((nat_le most_steps account.steps || passes_granule_limit account (named_by row), LimitPassed) ∷ []) last in
+    or_false _ _ (no_first (nat_le most_steps account.steps || passes_granule_limit account (named_by row)) LimitPassed [] limit.1).0
 
 -- a limit on granules that an account keeps, seen from what a machine holds
 few_held : (held : Held) (rules_are : Rules) (roots : List DeclaredRoot) (steps : List steps_module.Step) → Reaches held rules_are roots steps
@@ -171,10 +171,10 @@ no_states rules_are state (next ∷ states) run = absurd run
 
 -- the tests of a root that none refuses
 root_free : (account : Account) (place : Place) (word : Word) → first_of (root_tests account place word) ≡ None
-    → ((account.state (key_of place)).tag ≡ false) × IsSound word.0 × (nat_le most_roots account.roots ≡ false) × (passes_granules account (granule_of place) ≡ false)
+    → ((account.state (key_of place)).tag ≡ false) × IsSound word.0 × (nat_le most_roots account.roots ≡ false) × (passes_granule_limit account (granule_of place) ≡ false)
 root_free account place word free =
     let taken = (account.state (key_of place)).tag in
-    let limit = nat_le most_roots account.roots || passes_granules account (granule_of place) in
+    let limit = nat_le most_roots account.roots || passes_granule_limit account (granule_of place) in
     let first = no_first taken PlaceTaken ((not (is_sound word.0), UnsoundRoot) ∷ (limit, LimitPassed) ∷ []) free in
     let second = no_first (not (is_sound word.0)) UnsoundRoot ((limit, LimitPassed) ∷ []) first.1 in
     let third = no_first limit LimitPassed [] second.1 in

@@ -1,6 +1,5 @@
 -- The judge over a source: where it is, and what it may answer there.
-use Rattle.std.proofs.Common.{◌≡◌, ◌≢◌, ℕ, ◌+◌, ◌≤◌, inl, inr, Bool, true, false, List, [], ◌∷◌, ◌++◌, length, take, map, refl, sym, ap, subst, ◌∙◌, append-nil, append_assoc, arith, Result, Ok, Err, IfOk, IfErr}
-use Rattle.std.proofs.lemmas.Bool.{false≢true}
+use Rattle.std.proofs.Common.{◌≡◌, ◌≢◌, ℕ, ◌+◌, ◌≤◌, inl, inr, Bool, true, false, List, [], ◌∷◌, ◌++◌, length, map, refl, sym, ap, subst, ◌∙◌, append-nil, append_assoc, arith, None, Result, Ok, Err, IfOk, IfErr}
 use Rattle.std.proofs.lemmas.List.{length-append, length-map, take-append-le}
 use Rattle.std.proofs.lemmas.List.Elements.{All-nil}
 use Rattle.cap_log.specs.declared.lines.Line.{Line}
@@ -30,10 +29,10 @@ use Rattle.capcheck.specs.declared.verdict.JudgeFault.{JudgeFault}
 use Rattle.capcheck.specs.declared.verdict.JudgeFault.TheVariants.{Pull, NoMemory}
 use Rattle.capcheck.specs.Logs.{Beginning, Nothing, NoMode, Body, Whole, header_lines, body_lines, lines_of, text_of, IsAccepted, RefusesFront, RefusesWhole, IsFirstFault, MayLackMemory}
 use Rattle.capcheck.specs.Verdicts.{answer_at, EscapesExactly, IsVerdict, IsFault}
-use Rattle.capcheck.specs.Progresses.{StandsFor, EndsNext, GoesOn, IsAt}
-use Rattle.capcheck.specs.Judgings.{IsVerdictOf, IsBehind, BeginsLog, IsFaultOf, IsAnswerOf, Judged, refusal_in, finished}
+use Rattle.capcheck.specs.Progresses.{EndsNext, GoesOn, IsAt, HasRead}
+use Rattle.capcheck.specs.Judgings.{IsVerdictOf, IsBehind, BeginsLog, IsAnswerOf, Judged, LeadsAfter, JudgedBy, IsNoYes, refusal_in, finished}
 use Rattle.capcheck.proofs.EscapeLaws.{escapes_exactly}
-use Rattle.capcheck.proofs.JudgeLemmas.{IsUnended, goes_on, behind, unended_here, refused_behind, wants_memory, misplaced, yes, guarded, guards, no_lack}
+use Rattle.capcheck.proofs.JudgeLemmas.{IsUnended, goes_on, behind, unended_here, refused_behind, wants_memory, misplaced, yes, leads, guarded, guards, no_lack}
 
 -- more bytes behind all
 behind_more : (bytes rest more : List ℕ) (beginning : Beginning) → IsBehind bytes beginning rest → IsBehind (bytes ++ more) beginning (rest ++ more)
@@ -104,7 +103,7 @@ meets gave ended a b c beginning before lines answer shown joined so_far answere
 
 -- the same where the progress stands
 pub meets_at : {S : Type 0} (gave : S → S → List ℕ → Type 0) (ended : S → Bool) (a b c : S) (held : Held) (now : Bool) (line : ℕ) (before : List ℕ) (lines : Lines) (answer shown : Result Next PullFault)
-    → ((x y z : S) (xs ys : List ℕ) → gave x y xs → gave y z ys → gave x z (xs ++ ys)) → (so_far : (given : List ℕ) × gave a b given × IsAt given held now before line)
+    → ((x y z : S) (xs ys : List ℕ) → gave x y xs → gave y z ys → gave x z (xs ++ ys)) → (so_far : HasRead gave a b held now before line)
     → Answered gave ended b c before lines answer → answer ≡ shown → Meets gave ended a c so_far.2.beginning lines shown
 meets_at gave ended a b c held now line before lines answer shown joined so_far answered same =
     meets gave ended a b c so_far.2.beginning before lines answer shown joined (so_far.0, so_far.1, behind so_far.0 before held now line so_far.2) answered same
@@ -136,6 +135,25 @@ judged_memory gave ended old new given gives lack = record {
   gives = gives;
   answer = record { verdict = tt; authority = tt; escape = tt; fault = lack; answers = λ none e. no_lack given none lack };
 }
+
+-- an answer that is no yes, whatever the machine holds
+no_leads : (bytes : List ℕ) (held : Held) (result : Result Verdict JudgeFault) → IsNoYes result → IfOk result (LeadsAfter bytes held)
+no_leads bytes held (Ok (Yes steps roots)) none = absurd none
+no_leads bytes held (Ok (No line refusal)) none = tt
+no_leads bytes held (Err fault) none = tt
+
+pub judged_no : {S : Type 0} (gave : S → S → List ℕ → Type 0) (ended : S → Bool) (old new : S) (held : Held) (result shown : Result Verdict JudgeFault) → result ≡ shown
+    → IsNoYes shown → Judged gave ended old new shown → JudgedBy gave ended old new result held
+judged_no gave ended old new held result shown is none judged =
+    subst (λ (r : Result Verdict JudgeFault). JudgedBy gave ended old new r held) (sym is) (record { judged = judged; leads = no_leads judged.given held shown none })
+
+pub no_refused : (line : ℕ) (ended : Bool) (refusal : Refusal) → IsNoYes (Ok (refusal_in line ended refusal))
+no_refused line false refusal = tt
+no_refused line true refusal = tt
+
+pub no_answer : (line : ℕ) (end : StepEnd) → IsNoYes (answer_at line end)
+no_answer line (Refused refusal) = tt
+no_answer line ends.NoMemory = tt
 
 module _ {S : Type 0} {gave : S → S → List ℕ → Type 0} {ended : S → Bool} {old new : S} {lines : Lines} (beginning : Beginning) (line : ℕ) where
   -- the source failed
@@ -190,12 +208,16 @@ module _ {S : Type 0} {gave : S → S → List ℕ → Type 0} {ended : S → Bo
   truncated_at true here m = misplaced_met true here m refl m.next.1
 
   pub finished_at : (now : Bool) (here : IsAt given held now before line) → Meets gave ended old new here.beginning lines (Ok nexts.Finished)
-      → Judged gave ended old new (Ok (finished held now line))
-  finished_at false here m = finished_met here.beginning line m here.line_is (unended_here given before held false line here refl)
+      → JudgedBy gave ended old new (Ok (finished held now line)) held
+  unfolding judged_ok
+  finished_at false here m = record { judged = finished_met here.beginning line m here.line_is (unended_here given before held false line here refl); leads = tt }
   finished_at true here m =
       let at_end = subst (λ (r : List ℕ). IsAt m.given held true r line) m.next.0 (at_met given before held true line here m) in
-      judged_ok gave ended old new m.given (Yes held.steps held.roots) m.gives
-      (subst (λ (b : Bool). IsVerdictOf m.given b (Yes held.steps held.roots)) (sym m.next.1) (yes m.given held true line at_end refl))
+      record {
+        judged = judged_ok gave ended old new m.given (Yes held.steps held.roots) m.gives
+            (subst (λ (b : Bool). IsVerdictOf m.given b (Yes held.steps held.roots)) (sym m.next.1) (yes m.given held true line at_end refl));
+        leads = leads m.given held true line at_end refl;
+      }
 
   -- a line after the end line
   pub after_end : (text : _) (now : Bool) (here : IsAt given held now before line) → Meets gave ended old new here.beginning lines (Ok (nexts.Line text)) → now ≡ true
@@ -211,9 +233,15 @@ module _ {S : Type 0} {gave : S → S → List ℕ → Type 0} {ended : S → Bo
       judged_memory gave ended old new m.given m.gives
       (wants_memory m.given m.rest text.now (kept lines) held now line (at_met given before held now line here m) m.next.0 wants)
 
+-- after a line the lines are not over
+pub over_after : {S : Type 0} {gave : S → S → List ℕ → Type 0} {ended : S → Bool} {old new : S} {before : List ℕ} {lines : Lines} {answer : Result Next PullFault} {text : _}
+    → Answered gave ended old new before lines answer → answer ≡ Ok (nexts.Line text) → over_of lines ≡ None
+over_after {S} {gave} {ended} {old} {new} {before} {lines} {answer} {text} answered same =
+    (subst (IsNext (before ++ answered.given) (ended new) (kept lines) (over_of lines)) same answered.answers).1
+
 -- where nothing was taken from what is kept, the judge is where it was
 pub still_kept : {S : Type 0} (gave : S → S → List ℕ → Type 0) (old new : S) (held : Held) (now : Bool) (line : ℕ) (before after : Lines) → after ≡ before
-    → (given : List ℕ) × gave old new given × IsAt given held now (kept before) line → (given : List ℕ) × gave old new given × IsAt given held now (kept after) line
+    → HasRead gave old new held now (kept before) line → HasRead gave old new held now (kept after) line
 still_kept gave old new held now line before after same here =
     (here.0, here.1, subst (λ (l : Lines). IsAt here.0 held now (kept l) line) (sym same) here.2)
 
@@ -222,7 +250,7 @@ kept_line : (before after : List ℕ) (known : Line) → IsInRange known → bef
 kept_line before after known range is = subst (λ (b : List ℕ). IsLine b (spelling known) after) (sym is) (IsLine-spelling known range after)
 
 module _ {S : Type 0} (gave : S → S → List ℕ → Type 0) (ended : S → Bool) (old new : S) (held : Held) (now : Bool) (line : ℕ) (before after : List ℕ) (known : Line)
-    (here : (given : List ℕ) × gave old new given × IsAt given held now before line) (taken : IsInRange known × (before ≡ spelling known ++ 10 ∷ after)) where
+    (here : HasRead gave old new held now before line) (taken : IsInRange known × (before ≡ spelling known ++ 10 ∷ after)) where
   pub kept_after_end : now ≡ true → Judged gave ended old new (Ok (No line Misplaced))
   kept_after_end end =
       let some = line_some before (spelling known) after (kept_line before after known taken.0 taken.1) in
@@ -244,7 +272,7 @@ module _ {S : Type 0} (gave : S → S → List ℕ → Type 0) (ended : S → Bo
       (wants_memory here.0 before (spelling known) after held now line here.2 (kept_line before after known taken.0 taken.1) (wants (spelling known) (taken.0, refl)))
 
   pub kept_goes_on : (next : Held) (then : Bool) → ((text : List ℕ) → Spells text known → GoesOn held now text next then)
-      → (given : List ℕ) × gave old new given × IsAt given next then after (line + 1)
+      → HasRead gave old new next then after (line + 1)
   kept_goes_on next then on = (
     here.0,
     here.1,

@@ -1,6 +1,5 @@
 -- Where the check of a vector file is, and what it may answer there.
-use Rattle.std.proofs.Common.{◌≡◌, ◌≢◌, ℕ, ◌+◌, ◌<◌, inl, inr, Bool, true, false, List, [], ◌∷◌, ◌++◌, length, refl, sym, ap, subst, ◌∙◌, append-nil, append_assoc, arith, lit<, Option, Some, Result, Ok, Err, IfOk}
-use Rattle.std.specs.List.{AllByRecursion}
+use Rattle.std.proofs.Common.{◌≡◌, ◌≢◌, ℕ, ◌+◌, ◌<◌, inl, inr, Bool, true, false, List, [], ◌∷◌, ◌++◌, refl, sym, ap, subst, ◌∙◌, append-nil, append_assoc, arith, lit<, Option, Some, Result, Ok, Err, IfOk}
 use Rattle.std.proofs.lemmas.Grind.{flat_map-append}
 use Rattle.std.specs.Io.KnownBytes.{Appends}
 use Rattle.cap_log.specs.Front.{IsLine, FrontIs}
@@ -14,7 +13,7 @@ use Rattle.capcheck.specs.declared.vectors.VectorVerdict.TheVariants.{Pass, Fail
 use Rattle.capcheck.specs.declared.faults.Fault.{Fault}
 use Rattle.capcheck.specs.Answers.{ShowsCheck, known_bytes}
 use Rattle.capcheck.specs.Vectors.{Vector, IsTrueVector, IsTrueLine, spelling}
-use Rattle.capcheck.specs.VectorFiles.{text_of, last_line, BeginsTrue, FailsWhole, FailsFirst, IsVectorVerdictOf, BreaksOff, Checked}
+use Rattle.capcheck.specs.VectorFiles.{text_of, last_line, BeginsTrue, FailsWhole, FailsFirst, IsVectorVerdictOf, Checked}
 use Rattle.capcheck.proofs.LogLemmas.{AllByRecursion-append, length-push}
 use Rattle.capcheck.proofs.SourceLemmas.{IsLine-more, IsTooLong-more}
 

@@ -1,11 +1,10 @@
 -- Bytes that do not begin with the line `capcheck 2` have a verdict by the rules of version 1.
-use Rattle.std.proofs.Common.{◌≡◌, ℕ, List, [], ◌∷◌, ◌++◌, length, map, refl, sym, ap, ◌∙◌, append-nil, codes}
+use Rattle.std.proofs.Common.{◌≡◌, ℕ, List, [], ◌∷◌, ◌++◌, length, map, refl, sym, ◌∙◌, append-nil}
 use Rattle.cap_log.specs.declared.lines.Line.{Line}
 use Rattle.cap_log.specs.declared.lines.Line.TheVariants.{Version, Mode, Root, Step, End}
 use Rattle.cap_log.specs.declared.lines.Mode.TheVariants.{Strict, Clear}
 use Rattle.cap_log.specs.declared.lines.Step as steps_module
 use Rattle.cap_log.specs.Lines.{spelling}
-use Rattle.cap_machine.specs.declared.rules.Rules.{Rules}
 use Rattle.cap_machine.specs.declared.rules.Rules.TheVariants.{One, TwoStrict, TwoClear}
 use Rattle.cap_machine.specs.States.{DeclaredRoot}
 use Rattle.capcheck.specs.declared.verdict.Verdict.{Verdict}

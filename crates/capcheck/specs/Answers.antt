@@ -12,7 +12,7 @@ use Rattle.capcheck.specs.Operands.{SpellsWord, SpellsRequest}
 use Rattle.capcheck.specs.ExplainLines.{explain_lines}
 use Rattle.capcheck.specs.RoundLines.{round_lines}
 use Rattle.capcheck.specs.VectorFiles.{IsVectorVerdict, vector_line}
-use Rattle.capcheck.specs.VerdictLines.{verdict_line}
+use Rattle.capcheck.specs.Reports.{Tells}
 use Rattle.capcheck.specs.Verdicts.{IsVerdict}
 
 -- the exit status of a verdict
@@ -56,6 +56,7 @@ abbrev pub Prints : Option Order → Option (List ℕ) → List ℕ → ℕ → 
 Prints None input text status = ⊥
 Prints (Some (Explain memory tag hex)) input text status = (w : ℕ) × SpellsWord memory hex.now w × (text ≡ explain_lines w tag) × (status ≡ 0)
 Prints (Some (Round base_word length_word)) input text status = ShowsRounding base_word.now length_word.now text × (status ≡ 0)
-Prints (Some (Judge file)) input text status =
-    (verdict : Verdict) × IfSome input (λ bytes. IsVerdict bytes verdict) × (text ≡ verdict_line verdict) × (status ≡ verdict_status verdict)
+Prints (Some (Judge origins file)) input text status =
+    (bytes : List ℕ) × IfSome input (λ known. known ≡ bytes)
+    × (verdict : Verdict) × IsVerdict bytes verdict × Tells origins bytes verdict text × (status ≡ verdict_status verdict)
 Prints (Some (Vectors file)) input text status = ShowsCheck input text status

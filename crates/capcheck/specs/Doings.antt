@@ -1,5 +1,5 @@
 -- What judging an input answers and writes (this profile's own).
-use Rattle.std.specs.Prelude.{◌≡◌, ℕ, Bool, true, List, [], take, Option, None, Some, Result, Ok, Err}
+use Rattle.std.specs.Prelude.{◌≡◌, ℕ, Bool, true, List, [], take, Option, Some, Result, Ok, Err}
 use Rattle.std.specs.Io.KnownBytes.{Consumes, Appends}
 use Rattle.capcheck.specs.declared.faults.Fault.{Fault}
 use Rattle.capcheck.specs.declared.faults.Fault.TheVariants as faults
@@ -7,23 +7,25 @@ use Rattle.capcheck.specs.declared.verdict.Verdict.{Verdict}
 use Rattle.capcheck.specs.declared.verdict.JudgeFault.TheVariants.{Pull, NoMemory}
 use Rattle.capcheck.specs.Answers.{verdict_status}
 use Rattle.capcheck.specs.Judgings.{IsAnswerOf}
-use Rattle.capcheck.specs.VerdictLines.{verdict_line}
+use Rattle.capcheck.specs.Reports.{Tells}
 
 -- what was written for the bytes given, and the status or the fault
-abbrev pub IsWrittenFor : List ℕ → Bool → (List ℕ → Type 0) → Result ℕ Fault → Type 0
-IsWrittenFor bytes ended wrote (Ok status) = (verdict : Verdict) × IsAnswerOf bytes ended (Ok verdict) × wrote (verdict_line verdict) × (status ≡ verdict_status verdict)
-IsWrittenFor bytes ended wrote (Err faults.Read) = IsAnswerOf bytes ended (Err Pull) × wrote []
-IsWrittenFor bytes ended wrote (Err faults.NoMemory) = IsAnswerOf bytes ended (Err NoMemory) × wrote []
-IsWrittenFor bytes ended wrote (Err faults.Write) = (verdict : Verdict) × IsAnswerOf bytes ended (Ok verdict) × (n : ℕ) × wrote (take n (verdict_line verdict))
-IsWrittenFor bytes ended wrote (Err faults.BadWords) = ⊥
-IsWrittenFor bytes ended wrote (Err faults.BadWord) = ⊥
-IsWrittenFor bytes ended wrote (Err faults.BadRequest) = ⊥
+abbrev pub IsWrittenFor : Bool → List ℕ → Bool → (List ℕ → Type 0) → Result ℕ Fault → Type 0
+IsWrittenFor asked bytes ended wrote (Ok status) =
+    (verdict : Verdict) × IsAnswerOf bytes ended (Ok verdict) × (text : List ℕ) × Tells asked bytes verdict text × wrote text × (status ≡ verdict_status verdict)
+IsWrittenFor asked bytes ended wrote (Err faults.Read) = IsAnswerOf bytes ended (Err Pull) × wrote []
+IsWrittenFor asked bytes ended wrote (Err faults.NoMemory) = IsAnswerOf bytes ended (Err NoMemory) × wrote []
+IsWrittenFor asked bytes ended wrote (Err faults.Write) =
+    (verdict : Verdict) × IsAnswerOf bytes ended (Ok verdict) × (text : List ℕ) × Tells asked bytes verdict text × (n : ℕ) × wrote (take n text)
+IsWrittenFor asked bytes ended wrote (Err faults.BadWords) = ⊥
+IsWrittenFor asked bytes ended wrote (Err faults.BadWord) = ⊥
+IsWrittenFor asked bytes ended wrote (Err faults.BadRequest) = ⊥
 
 -- the same of what a reader had left: the bytes given are its next, and where they ended all of them
-pub record IsInputDone (left : Option (List ℕ)) (before after : Option (List ℕ)) (result : Result ℕ Fault) : Type 0 where
+pub record IsInputDone (asked : Bool) (left : Option (List ℕ)) (before after : Option (List ℕ)) (result : Result ℕ Fault) : Type 0 where
   pub given : List ℕ
   pub ended : Bool
   pub rest : Option (List ℕ)
   pub gives : Consumes left rest given
   pub all_given : ended ≡ true → (xs : List ℕ) → rest ≡ Some xs → xs ≡ []
-  pub written : IsWrittenFor given ended (Appends before after) result
+  pub written : IsWrittenFor asked given ended (Appends before after) result

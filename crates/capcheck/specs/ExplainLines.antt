@@ -1,5 +1,5 @@
 -- The text that explains a word.
-use Rattle.std.specs.Prelude.{ℕ, ◌+◌, ◌^◌, Bool, ◌&&◌, ◌==◌, nat_le, nat_lt, if◌then◌else◌, List, ◌++◌, codes, decimal}
+use Rattle.std.specs.Prelude.{ℕ, Bool, ◌==◌, nat_lt, if◌then◌else◌, List, ◌++◌, codes, decimal}
 use Rattle.cap_word.specs.Digits.{hex_digits}
 use Rattle.cap_word.specs.Fields.{bit_of, reserved_of, flag_of, otype_of, ie_of, e_of, b_of, t_of, address_of}
 use Rattle.cap_word.specs.Memory.{memory_of}

@@ -1,14 +1,17 @@
 -- The answer on the bytes that a source gave (this profile's own, as are all below).
-use Rattle.std.specs.Prelude.{◌≡◌, ◌≢◌, ℕ, Bool, true, false, List, ◌++◌, Result, Err, IfOk, IfErr}
+use Rattle.std.specs.Prelude.{◌≡◌, ◌≢◌, ℕ, Bool, true, false, List, ◌++◌, Result, Ok, Err, IfOk, IfErr}
 use Rattle.cap_log.specs.Front.{IsCut}
 use Rattle.cap_machine.specs.declared.refusal.Refusal.{Refusal}
 use Rattle.cap_machine.specs.declared.refusal.Refusal.TheVariants.{Misplaced, Truncated}
-use Rattle.cap_machine.specs.Helds.{Held}
+use Rattle.cap_log.specs.declared.lines.Step.{Step}
+use Rattle.cap_machine.specs.declared.rules.Rules.{Rules}
+use Rattle.cap_machine.specs.States.{DeclaredRoot}
+use Rattle.cap_machine.specs.Helds.{Held, account_of}
 use Rattle.capcheck.specs.declared.verdict.Verdict.{Verdict}
 use Rattle.capcheck.specs.declared.verdict.Verdict.TheVariants.{Yes, No}
 use Rattle.capcheck.specs.declared.verdict.JudgeFault.{JudgeFault}
 use Rattle.capcheck.specs.declared.verdict.JudgeFault.TheVariants.{Pull, NoMemory}
-use Rattle.capcheck.specs.Logs.{Beginning, lines_of, text_of, IsAccepted, IsFirstFault, MayLackMemory, NamesNoGranules}
+use Rattle.capcheck.specs.Logs.{Beginning, lines_of, text_of, account_after, IsAccepted, IsLogOf, IsFirstFault, MayLackMemory, NamesNoGranules}
 use Rattle.capcheck.specs.Verdicts.{IsVerdict, EscapesExactly, GuardsAuthority}
 
 -- the verdict on these bytes, where their source has ended; where it has not, a no that stands whatever bytes follow
@@ -48,6 +51,30 @@ pub record Judged {S : Type 0} (gave : S → S → List ℕ → Type 0) (ended :
   pub given : List ℕ
   pub gives : gave old new given
   pub answer : IsAnswerOf given (ended new) result
+
+-- the bytes are a log, and its roots and steps lead to what a machine holds
+pub record LeadsTo (bytes : List ℕ) (held : Held) : Type 0 where
+  pub rules : Rules
+  pub roots : List DeclaredRoot
+  pub steps : List Step
+  pub log : IsLogOf bytes rules roots steps
+  pub account : account_of held ≡ account_after rules roots steps
+
+-- after a yes, they do
+abbrev pub LeadsAfter : List ℕ → Held → Verdict → Type 0
+LeadsAfter bytes held (Yes steps roots) = LeadsTo bytes held
+LeadsAfter bytes held (No line refusal) = Unit {0}
+
+-- an answer with what the machine of the judge holds then
+pub record JudgedBy {S : Type 0} (gave : S → S → List ℕ → Type 0) (ended : S → Bool) (old new : S) (result : Result Verdict JudgeFault) (held : Held) : Type 0 where
+  pub judged : Judged gave ended old new result
+  pub leads : IfOk result (LeadsAfter judged.given held)
+
+-- an answer without a yes
+abbrev pub IsNoYes : Result Verdict JudgeFault → Type 0
+IsNoYes (Ok (Yes steps roots)) = ⊥
+IsNoYes (Ok (No line refusal)) = Unit {0}
+IsNoYes (Err fault) = Unit {0}
 
 -- the verdict on a line at fault: after the end line it is misplaced, whatever it is
 abbrev pub refusal_in : ℕ → Bool → Refusal → Verdict

@@ -2,6 +2,7 @@ pub mod Logs
 pub mod Headers
 pub mod Progresses
 pub mod VerdictLines
+pub mod OriginLines
 pub mod TextLines
 pub mod Vectors
 pub mod VectorFiles
@@ -9,6 +10,8 @@ pub mod RoundLines
 pub mod ExplainLines
 pub mod Verdicts
 pub mod Judgings
+pub mod Origins
+pub mod OriginLists
 pub mod Reports
 pub mod Orders
 pub mod Operands

@@ -1,5 +1,5 @@
 -- Logs, how they begin, and the first fault of bytes that are none. All of it is this profile's own.
-use Rattle.std.specs.Prelude.{◌≡◌, ◌≢◌, ℕ, ◌+◌, ◌≤◌, ◌==◌, Bool, true, false, not, nat_eq, nat_lt, ◌⊎◌, List, [], ◌∷◌, ◌++◌, length, map, flat_map, Option, Some, None, IsTrue, codes}
+use Rattle.std.specs.Prelude.{◌≡◌, ◌≢◌, ℕ, ◌+◌, ◌≤◌, ◌==◌, Bool, true, false, not, nat_eq, nat_lt, ◌⊎◌, List, [], ◌∷◌, ◌++◌, length, map, flat_map, Option, Some, None, IsTrue}
 use Rattle.std.specs.List.{AllByRecursion, IsDistinct}
 use Rattle.cap_bounds.specs.Bounds.{IsSound}
 use Rattle.cap_log.specs.declared.lines.Line.{Line}
@@ -15,7 +15,8 @@ use Rattle.cap_machine.specs.declared.refusal.Refusal.TheVariants.{BadHeader, Li
 use Rattle.cap_machine.specs.declared.rules.Rules.{Rules}
 use Rattle.cap_machine.specs.declared.rules.Rules.TheVariants.{One, TwoStrict, TwoClear}
 use Rattle.cap_machine.specs.States.{State, DeclaredRoot, key_of, start}
-use Rattle.cap_machine.specs.Accounts.{Account, no_account, most_roots, most_granules, most_steps, granule_of, named_by, row_in, is_new, with_root, with_step, root_tests, step_tests}
+use Rattle.cap_machine.specs.Accounts.{Account, most_roots, most_granules, most_steps, granule_of, named_by, row_in, is_new, root_tests, step_tests}
+pub use Rattle.cap_machine.specs.RunAccounts.{after_roots, after_steps, account_after}
 use Rattle.cap_machine.specs.Runs.{IsRun, last_of}
 
 -- how a log begins: not at all; with the version line of version 2 and no mode line; with its header, roots and steps; or with all of
@@ -46,18 +47,6 @@ lines_of (Whole rules roots steps) = body_lines rules roots steps ++ End (length
 -- the text of lines: each line's spelling and a line feed
 abbrev pub text_of : List Line → List ℕ
 text_of lines = flat_map (λ line. spelling line ++ 10 ∷ []) lines
-
--- the account after roots, and after steps
-abbrev pub after_roots : Account → List DeclaredRoot → Account
-after_roots account [] = account
-after_roots account (root ∷ roots) = after_roots (with_root account root.place root.word) roots
-
-abbrev pub after_steps : Account → List steps_module.Step → Account
-after_steps account [] = account
-after_steps account (step ∷ steps) = after_steps (with_step account step) steps
-
-abbrev pub account_after : Rules → List DeclaredRoot → List steps_module.Step → Account
-account_after rules roots steps = after_steps (after_roots (no_account rules) roots) steps
 
 -- roots and steps that keep to the grammar and the limits, with sound roots at distinct places, and whose steps have a run, by the
 -- rules, from the state that the roots make, to the account's

@@ -38,5 +38,5 @@ IsFaulty None = Unit {0}
 IsFaulty (Some (Explain memory tag hex)) = (w : ℕ) → w < 2 ^ 128 → SpellsWord memory hex.now w → ⊥
 IsFaulty (Some (Round base_word length_word)) =
     (base length : ℕ) → SpellsRequest base_word.now length_word.now base length → base + length ≤ 2 ^ 64 → ⊥
-IsFaulty (Some (Judge file)) = ⊥
+IsFaulty (Some (Judge origins file)) = ⊥
 IsFaulty (Some (Vectors file)) = ⊥

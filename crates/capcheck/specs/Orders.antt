@@ -19,6 +19,7 @@ Asks words (Explain memory tag hex) =
     (words ≡ codes "explain" ∷ (option_word memory (codes "--memory") ++ option_word tag (codes "--tag") ++ hex.now ∷ [])) × IsTrue (is_operand hex.now)
 Asks words (Round base length) =
     (words ≡ codes "round" ∷ base.now ∷ length.now ∷ []) × IsTrue (is_operand base.now) × IsTrue (is_operand length.now)
-Asks words (Judge None) = words ≡ codes "judge" ∷ []
-Asks words (Judge (Some file)) = (words ≡ codes "judge" ∷ file.now ∷ []) × IsTrue (is_operand file.now)
+Asks words (Judge origins None) = words ≡ codes "judge" ∷ option_word origins (codes "--origins")
+Asks words (Judge origins (Some file)) =
+    (words ≡ codes "judge" ∷ (option_word origins (codes "--origins") ++ file.now ∷ [])) × IsTrue (is_operand file.now)
 Asks words (Vectors file) = (words ≡ codes "vectors" ∷ file.now ∷ []) × IsTrue (is_operand file.now)

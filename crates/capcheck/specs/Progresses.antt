@@ -50,3 +50,7 @@ pub record IsAt (bytes : List ℕ) (held : Held) (ended : Bool) (rest : List ℕ
   pub stands : StandsFor held ended beginning
   pub bytes_are : bytes ≡ text_of (lines_of beginning) ++ rest
   pub line_is : line ≡ length (lines_of beginning) + 1
+
+-- between two moments of a source it gave bytes of which this rest is left, and the judge is at the line that the rest begins with
+abbrev pub HasRead : {S : Type 0} → (S → S → List ℕ → Type 0) → S → S → Held → Bool → List ℕ → ℕ → Type 0
+HasRead gave old new held ended rest line = (given : List ℕ) × gave old new given × IsAt given held ended rest line

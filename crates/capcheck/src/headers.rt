@@ -7,7 +7,7 @@ ghost use Rattle.cap_log.specs.declared.lines.Mode.{Mode as ModeNamed};
 ghost use Rattle.cap_log.specs.Streams.{next_count};
 ghost use Rattle.cap_log.specs.Takings.{kept, over_of};
 ghost use Rattle.capcheck.specs.Headers.{ReadsHeader, rules_of};
-ghost use Rattle.capcheck.specs.Judgings.{Judged};
+ghost use Rattle.capcheck.specs.Judgings.{IsNoYes, Judged};
 ghost use Rattle.capcheck.specs.Logs.{header_lines};
 ghost use Rattle.capcheck.specs.declared.verdict.JudgeFault.TheVariants.{Pull};
 ghost use Rattle.capcheck.specs.declared.verdict.Verdict.TheVariants.{No};
@@ -17,7 +17,7 @@ use cap_log::{Line, Lines, Mode, Next, PullFault, Source, read_line};
 use cap_machine::{Refusal, Rules};
 
 /// Reads the header of a log from lines that were not begun, or gives the answer that its first fault
-/// makes.
+/// makes, which is no yes.
 pub fn read_header<S: Source>(
     source: &mut S,
     lines: &mut Lines,
@@ -26,7 +26,7 @@ pub fn read_header<S: Source>(
     requires begun { over_of lines.old ≡ None }
     ensures read { MatchResult result
         (λ rules. ReadsHeader S.gave source.old source.new lines.new rules)
-        (λ answer. Judged S.gave S.ended source.old source.new answer) }
+        (λ answer. IsNoYes answer × Judged S.gave S.ended source.old source.new answer) }
     ensures counted { result ≢ Err (Err Pull) → S.faults source.new ≡ S.faults source.old }
     ensures fault_counted { result ≡ Err (Err Pull) → S.faults source.new ≡ next_count (S.faults source.old) }
 {

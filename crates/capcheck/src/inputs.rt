@@ -7,23 +7,24 @@ ghost use Rattle.capcheck.specs.Doings.{IsInputDone};
 ghost use Rattle.capcheck.specs.Reports.{Reported};
 
 use crate::faults::Fault;
-use crate::reporting::judge_to;
+use crate::reporting::{judge_origins, judge_to};
 use crate::verdict::{JudgeToFault, Verdict};
 use cap_log::{ReadSource, Source, WriteSink};
 use std::alloc::Global;
 use std::io::{Read, Write};
 
-/// Judges what a reader gives, writes the line of the verdict, and answers the status that goes with it.
-/// An error of the reader, want of memory and an error of the writer are faults.
+/// Judges what a reader gives, writes the line of the verdict and, where they are asked for, those of
+/// origins, and answers the status that goes with the verdict. An error of the reader, want of memory and an error of the writer are faults.
 pub fn judge_reader<R: Read + Drop, O: Write>(
     alloc: Global,
+    origins: bool,
     reader: R,
     out: &mut O,
 ) -> Result<u8, Fault>
-    ensures done { IsInputDone (R.remaining reader) (O.contents out.old) (O.contents out.new) result }
+    ensures done { IsInputDone origins (R.remaining reader) (O.contents out.old) (O.contents out.new) result }
 {
     let mut source = ReadSource::new(reader);
-    match report(alloc, &mut source, out) {
+    match report(alloc, origins, &mut source, out) {
         Ok(verdict) => match out.flush() {
             Ok(()) => Ok(verdict_status(&verdict)),
             Err(_) => Err(Fault::Write),
@@ -34,15 +35,21 @@ pub fn judge_reader<R: Read + Drop, O: Write>(
     }
 }
 
-// Judges a source and writes the verdict.
+// Judges a source, and writes the verdict and the origins where these are asked for.
 fn report<S: Source, O: Write>(
     alloc: Global,
+    origins: bool,
     source: &mut S,
     out: &mut O,
 ) -> Result<Verdict, JudgeToFault>
-    ensures reported { Reported S.gave S.ended (λ a b xs. Appends (O.contents a) (O.contents b) xs) source.old source.new out.old out.new result }
+    ensures reported { Reported origins S.gave S.ended (λ a b xs. Appends (O.contents a) (O.contents b) xs) source.old source.new out.old out.new result }
 {
-    judge_to(alloc, source, &mut WriteSink::new(out))
+    let mut sink = WriteSink::new(out);
+    if origins {
+        judge_origins(alloc, source, &mut sink)
+    } else {
+        judge_to(alloc, source, &mut sink)
+    }
 }
 
 // The status that goes with a verdict.

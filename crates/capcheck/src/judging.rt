@@ -1,19 +1,21 @@
 //! The judge: whether bytes are a log whose steps have a run, and if not, which line is the first fault.
 
-ghost use Rattle.std.specs.Prelude.{◌≡◌, ◌≢◌, Err, IsOk, IfOk, IfErr};
+ghost use Rattle.std.specs.Prelude.{◌≡◌, ◌≢◌, Err, None, IsOk, IfOk, IfErr};
 ghost use Rattle.std.specs.FinMap as map;
 ghost use Rattle.cap_machine.specs.Helds.{held_of};
 ghost use Rattle.cap_log.specs.Streams.{next_count};
+ghost use Rattle.cap_log.specs.Takings.{kept, over_of};
 ghost use Rattle.capcheck.specs.Logs.{NamesNoGranules};
 ghost use Rattle.capcheck.specs.Verdicts.{EscapesExactly, GuardsAuthority, IsFault, IsVerdict, answer_at};
-ghost use Rattle.capcheck.specs.Judgings.{Judged, finished, refusal_in};
+ghost use Rattle.capcheck.specs.Judgings.{Judged, JudgedBy, finished, refusal_in};
+ghost use Rattle.capcheck.specs.Progresses.{HasRead};
 ghost use Rattle.capcheck.specs.declared.verdict.JudgeFault.TheVariants.{Pull};
 
 use crate::headers::{first_line, read_header};
 use crate::progress::Progress;
 use crate::verdict::{JudgeFault, Verdict};
 use cap_log::{Lines, Next, PullFault, SliceSource, Source};
-use cap_machine::{Refusal, StepEnd};
+use cap_machine::{Machine, Refusal, Rules, StepEnd};
 use std::alloc::Global;
 use tagmem::{PageStore, TaggedStore};
 
@@ -62,39 +64,76 @@ pub fn judge_in<S: Source, M: TaggedStore>(source: &mut S, memory: M) -> Result<
     ensures counted { result ≢ Err Pull → S.faults source.new ≡ S.faults source.old }
     ensures fault_counted { result ≡ Err Pull → S.faults source.new ≡ next_count (S.faults source.old) }
 {
+    judge_keeping(source, memory).0
+}
+
+/// Judges as [`judge_in`] does, and gives the machine with the answer: after a yes it is as the log's steps
+/// left it.
+pub(crate) fn judge_keeping<S: Source, M: TaggedStore>(
+    source: &mut S,
+    memory: M,
+) -> (Result<Verdict, JudgeFault>, Machine<M>)
+    requires { map.len (M.contents memory) ≡ 0 }
+    ensures judged { JudgedBy S.gave S.ended source.old source.new result.0 (held_of M.contents result.1) }
+    ensures counted { result.0 ≢ Err Pull → S.faults source.new ≡ S.faults source.old }
+    ensures fault_counted { result.0 ≡ Err Pull → S.faults source.new ≡ next_count (S.faults source.old) }
+{
     let mut lines = Lines::new();
-    let rules = match read_header(source, &mut lines) {
-        Ok(rules) => rules,
-        Err(answer) => return answer,
-    };
-    let mut progress = Progress::new(memory, rules);
-    let mut line = first_line(rules);
-    'lines: loop {
-        if let Some(known) = lines.take_kept() {
-            if progress.ended {
-                return Ok(refused(line, true, Refusal::Misplaced));
-            }
-            if let Err(end) = progress.take_known(&known) {
-                return answer_at(line, end);
-            }
-            line += 1;
-            continue;
+    match read_header(source, &mut lines) {
+        Ok(rules) => {
+            let mut progress = Progress::new(memory, rules);
+            let answer = progress.judge_rest(source, &mut lines, first_line(rules));
+            let Progress { machine, ended: _ } = progress;
+            (answer, machine)
         }
-        match lines.next(source) {
-            Err(PullFault) => return Err(JudgeFault::Pull),
-            Ok(Next::Finished) => return Ok(finished_verdict(&progress, line)),
-            Ok(Next::Truncated) => return Ok(refused(line, progress.ended, Refusal::Truncated)),
-            Ok(Next::LineTooLong) => {
-                return Ok(refused(line, progress.ended, Refusal::LineTooLong));
-            }
-            Ok(Next::Line(text)) => {
-                if progress.ended {
+        Err(answer) => (answer, Machine::with_rules(memory, Rules::One)),
+    }
+}
+
+impl<M: TaggedStore> Progress<M> {
+    // Judges the lines behind those that were read, the first of which has this number: first what is kept
+    // of the source, then what it gives.
+    fn judge_rest<S: Source>(
+        &mut self,
+        source: &mut S,
+        lines: &mut Lines,
+        first: u64,
+    ) -> Result<Verdict, JudgeFault>
+        requires here { (begun : S) × HasRead S.gave begun source.old (held_of M.contents self.old.machine) self.old.ended (kept lines.old) first }
+        requires more { over_of lines.old ≡ None }
+        ensures judged { (begun : S) → HasRead S.gave begun source.old (held_of M.contents self.old.machine) self.old.ended (kept lines.old) first
+            → JudgedBy S.gave S.ended begun source.new result (held_of M.contents self.new.machine) }
+        ensures counted { result ≢ Err Pull → S.faults source.new ≡ S.faults source.old }
+        ensures fault_counted { result ≡ Err Pull → S.faults source.new ≡ next_count (S.faults source.old) }
+    {
+        let mut line = first;
+        'lines: loop {
+            if let Some(known) = lines.take_kept() {
+                if self.ended {
                     return Ok(refused(line, true, Refusal::Misplaced));
                 }
-                if let Err(end) = progress.take_line(text) {
+                if let Err(end) = self.take_known(&known) {
                     return answer_at(line, end);
                 }
                 line += 1;
+                continue;
+            }
+            match lines.next(source) {
+                Err(PullFault) => return Err(JudgeFault::Pull),
+                Ok(Next::Finished) => return Ok(finished_verdict(self, line)),
+                Ok(Next::Truncated) => return Ok(refused(line, self.ended, Refusal::Truncated)),
+                Ok(Next::LineTooLong) => {
+                    return Ok(refused(line, self.ended, Refusal::LineTooLong));
+                }
+                Ok(Next::Line(text)) => {
+                    if self.ended {
+                        return Ok(refused(line, true, Refusal::Misplaced));
+                    }
+                    if let Err(end) = self.take_line(text) {
+                        return answer_at(line, end);
+                    }
+                    line += 1;
+                }
             }
         }
     }

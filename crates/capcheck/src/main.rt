@@ -10,6 +10,8 @@ pub mod headers;
 mod inputs;
 pub mod judging;
 pub mod laws;
+pub mod origin_lines;
+mod origins;
 mod outputs;
 mod progress;
 pub mod reporting;
@@ -70,7 +72,12 @@ fn answer(rt: &HostRuntime) -> Result<u8, AllocError> {
     }
     let order = read_words(words.as_slice());
     Ok(match order {
-        Some(Order::Judge { file: Some(path) }) => {
+        Some(
+            Order::Judge {
+                origins: _,
+                file: Some(path),
+            },
+        ) => {
             let input = File::open(rt, path).ok();
             run(rt.alloc(), order, input, &mut rt.stdout(), &mut rt.stderr())
         }
@@ -78,7 +85,12 @@ fn answer(rt: &HostRuntime) -> Result<u8, AllocError> {
             let input = File::open(rt, path).ok();
             run(rt.alloc(), order, input, &mut rt.stdout(), &mut rt.stderr())
         }
-        Some(Order::Judge { file: None }) => run(
+        Some(
+            Order::Judge {
+                origins: _,
+                file: None,
+            },
+        ) => run(
             rt.alloc(),
             order,
             Some(rt.stdin()),

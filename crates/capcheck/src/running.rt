@@ -67,24 +67,25 @@ fn follow<R: Read + Drop, O: Write>(
         None => Err(Fault::BadWords),
         Some(Order::Explain { memory, tag, hex }) => show_explanation(memory, tag, hex, out),
         Some(Order::Round { base, length }) => show_rounding(base, length, out),
-        Some(Order::Judge { file: _ }) => judge_input(alloc, input, out),
+        Some(Order::Judge { origins, file: _ }) => judge_input(alloc, origins, input, out),
         Some(Order::Vectors { file: _ }) => check_input(input, out),
     }
 }
 
-// Judges the input, and writes the line of the verdict.
+// Judges the input, and writes the line of the verdict and the origins where these are asked for.
 fn judge_input<R: Read + Drop, O: Write>(
     alloc: Global,
+    origins: bool,
     input: Option<R>,
     out: &mut O,
 ) -> Result<u8, Fault>
     ensures ok { IfOk result (λ status. status ≤ 1) }
     ensures err { IfErr result (λ fault. status_of fault ≡ 3) }
-    ensures printed { IfOk result (λ status. (text : List ℕ) × Prints (Some (Judge None)) (known_bytes R.remaining input) text status
+    ensures printed { IfOk result (λ status. (text : List ℕ) × Prints (Some (Judge origins None)) (known_bytes R.remaining input) text status
         × Appends (O.contents out.old) (O.contents out.new) text) }
 {
     match input {
-        Some(reader) => judge_reader(alloc, reader, out),
+        Some(reader) => judge_reader(alloc, origins, reader, out),
         None => Err(Fault::Read),
     }
 }

@@ -7,6 +7,7 @@ mod limits;
 mod logs;
 mod made;
 mod memory;
+mod origins;
 mod pieces;
 mod sealing;
 mod setting;

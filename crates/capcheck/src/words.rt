@@ -22,8 +22,10 @@ pub enum Order<'a> {
         /// The length, a word that does not begin with `-`.
         length: &'a str,
     },
-    /// `judge [FILE]`: judge the file, or standard input where no file is named.
+    /// `judge [--origins] [FILE]`: judge the file, or standard input where no file is named.
     Judge {
+        /// Whether the root of each capability in the last state is asked for.
+        origins: bool,
         /// The file's name, which does not begin with `-`.
         file: Option<&'a str>,
     },

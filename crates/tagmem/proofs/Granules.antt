@@ -7,7 +7,7 @@ use Rattle.std.proofs.lemmas.Bool.{eqb-true}
 use Rattle.std.proofs.lemmas.Bool.Decides.{nat_tests}
 use Rattle.std.proofs.lemmas.List.{length-append, length-take-le, length-drop, drop_all, append-nil, get_or-take, get_or-drop, get_or_append_left, get_or-append_right}
 use Rattle.std.proofs.lemmas.List.Elements.{All-append, All-take, All-drop, All-replicate}
-use Rattle.tagmem.specs.Granules.{Entry, Granules, blank, entry_at, bytes_at, overwritten, IsStored, AreStored}
+use Rattle.tagmem.specs.Granules.{Entry, Granules, blank, entry_at, bytes_at, overwritten, IsCodeFor, IsStored, AreStored}
 
 module _ (m : Granules) (granule : ℕ) (entry : Entry) where
   -- a put changes one granule, and no other
@@ -100,16 +100,18 @@ get_or-overwritten_after bytes from new i d inside le =
     get_or-append_right (take from bytes ++ new) _ (from + length new) i d first le ∙ get_or-drop (from + length new) bytes (i - (from + length new)) d ∙ ap (λ j. get_or bytes j d) place
 
 -- a write inside a granule leaves a granule
-pub IsStored-overwritten : (granule : ℕ) (old : Entry) (tag : Bool) (from : ℕ) (new : List ℕ) → IsStored granule old → from + length new ≤ 16 → All (λ byte. byte < 256) new → IsStored granule (tag, overwritten old.1 from new)
-IsStored-overwritten granule old tag from new stored inside fits = record {
+pub IsStored-overwritten : (granule : ℕ) (old : Entry) (tag : Bool) (from : ℕ) (new : List ℕ) (code : ℕ) → IsStored granule old → from + length new ≤ 16 → All (λ byte. byte < 256) new → code < 2 ^ 64 → IsCodeFor tag code → IsStored granule (tag, overwritten old.1 from new, code)
+IsStored-overwritten granule old tag from new code stored inside fits small is_for = record {
   in_memory = stored.in_memory;
   sixteen = length-overwritten old.1 from new (omega (arith, stored.sixteen)) ∙ stored.sixteen;
   bytes = All-overwritten (λ byte. byte < 256) old.1 from new stored.bytes fits;
+  code = small;
+  coded = is_for;
 }
 
 -- a granule that was never put is a granule too
 pub IsStored-blank : (granule : ℕ) → granule < 2 ^ 60 → IsStored granule blank
-IsStored-blank granule below = record { in_memory = below; sixteen = refl; bytes = All-replicate (λ byte. byte < 256) 16 0 (omega arith) }
+IsStored-blank granule below = record { in_memory = below; sixteen = refl; bytes = All-replicate (λ byte. byte < 256) 16 0 (omega arith); code = omega arith; coded = (λ is. refl, λ is. refl) }
 
 -- so there are sixteen bytes in each granule, each below 256
 pub IsStored-entry_at : (m : Granules) → AreStored m → (q : ℕ) → q < 2 ^ 60 → IsStored q (entry_at m q)

@@ -18,10 +18,11 @@ use Rattle.tagmem.specs.declared.page.Page.{Page}
 use Rattle.tagmem.specs.Granules.{Entry}
 use Rattle.tagmem.specs.Pages.{slots_of, with_slot, entries_from, entries_of, contents_of, number_at, IsPageAt, IsAbsent, IsDirectory}
 use Rattle.tagmem.proofs.Granules.{get-put}
+use Rattle.tagmem.proofs.Slots.{length-each_coded}
 
 -- a page has 256 slots
-length-slots_of : (page : Page) → length (slots_of page) ≡ 256
-length-slots_of page = page.whole
+pub length-slots_of : (page : Page) → length (slots_of page) ≡ 256
+length-slots_of page = length-each_coded page.slots page.codes (page.whole ∙ sym page.each_has_code) ∙ page.whole
 
 -- what a page says of a granule
 abbrev pub in_page : Page → ℕ → Option Entry

@@ -12,14 +12,15 @@ use Rattle.std.proofs.lemmas.List.Edits.{length-insert, get_or-insert_below, get
 use Rattle.std.proofs.lemmas.List.Elements.{All-append, All-cons, All-take, All-drop}
 use Rattle.std.proofs.lemmas.List.Sorted.{IsNonDecreasingBy-from_default}
 use Rattle.tagmem.specs.declared.list_store.Listed.{Listed}
-use Rattle.tagmem.specs.Granules.{IsStored}
+use Rattle.std.proofs.lemmas.Option.{none-some}
+use Rattle.tagmem.specs.Granules.{IsStored, IsNextPut}
 use Rattle.tagmem.specs.Listed.{entry_of, contents_of, granules_of, IsRising, AllStored, IsAt, IsGapFor}
 use Rattle.tagmem.specs.ListLaws.{granule_at, get-contents_of, NoneBefore, found_absent, RisesFar, rises_far}
 use Rattle.tagmem.proofs.Listed.{contents_of-put, found_present, found-set, found-insert}
 
 -- an entry to stand for one that is not there
 pub nothing : Listed
-nothing = record { granule = 0; tag = false; bytes = [] }
+nothing = record { granule = 0; tag = false; bytes = []; code = 0 }
 
 -- the granule at a place is that of the entry there
 pub granule_at-get_or : (l : List Listed) (i : ℕ) (d : Listed) → i < length l → granule_at l i ≡ (get_or l i d).granule
@@ -132,3 +133,35 @@ OnOk-from_is_ok (Err _) P h = tt
 pub OnErr-from : {A B : Type 0} (r : Result A B) (P : Type 0) → P → OnErr r P
 OnErr-from (Ok _) P p = tt
 OnErr-from (Err _) P p = p
+
+-- a granule that has an entry is the next that was put
+pub next_put-at : (l : List Listed) → IsRising l → (k place : ℕ) → IsAt l k place → IsNextPut (contents_of l) k (Some k)
+next_put-at l rising k place at =
+    (omega arith, λ is. none-some _ (sym is ∙ get_at l rising k place at nothing), λ q le lt. absurd (omega arith))
+
+module _ (l : List Listed) (k place : ℕ) (gap : IsGapFor l k place) where
+  -- numbers from it on, below the entries that follow, have the same gap
+  gap_above : (q : ℕ) → k ≤ q → ((i : ℕ) → place ≤ i → i < length l → q < granule_at l i) → IsGapFor l q place
+  gap_above q le higher = record {
+    in_range = gap.in_range;
+    lower_before = λ i lt. omega (arith, gap.lower_before i lt);
+    higher_after = higher;
+  }
+
+  -- the entry after the gap has the next
+  pub next_put-gap : IsRising l → (x : Listed) → place < length l → x ≡ get_or l place x → IsNextPut (contents_of l) k (Some x.granule)
+  next_put-gap rising x lt read =
+      let granule_is : granule_at l place ≡ x.granule =
+      granule_at-get_or l place x lt ∙ sym (ap (λ (listed : Listed). listed.granule) read) in
+      let above = gap.higher_after place (omega arith) lt in
+      let at : IsAt l x.granule place = record { in_range = lt; has_granule = granule_is } in (
+        omega (arith, above, granule_is),
+        λ is. none-some _ (sym is ∙ get_at l rising x.granule place at nothing),
+        λ q le below. get_in_gap l q place (gap_above q le (λ i after in_range.
+            let same : i ≡ place → granule_at l i ≡ granule_at l place = ap (granule_at l) in
+            grind (arith, same, rises_far l rising place i, granule_is))),
+      )
+
+  -- and after the last entry none was put
+  pub next_put-end : length l ≤ place → IsNextPut (contents_of l) k None
+  next_put-end last = λ q le. get_in_gap l q place (gap_above q le (λ i after in_range. absurd (omega arith)))

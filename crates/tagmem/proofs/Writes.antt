@@ -7,13 +7,14 @@ use Rattle.std.specs.Box.{with_value}
 use Rattle.std.specs.FinMap as map
 use Rattle.std.specs.BTreeMap.{BTreeMap}
 use Rattle.std.proofs.lemmas.Bool.{eqb-true}
-use Rattle.std.proofs.lemmas.List.{get_or-map}
-use Rattle.std.proofs.lemmas.Option.{same_Some}
+use Rattle.std.proofs.lemmas.List.{get_or-map, get_or-set_same}
+use Rattle.std.proofs.lemmas.List.Elements.{All-set}
+use Rattle.std.proofs.lemmas.Option.{none-some, same_Some}
 use Rattle.tagmem.specs.declared.page.Page.{Page}
-use Rattle.tagmem.specs.Granules.{Entry, Granules, blank, entry_at, bytes_at, overwritten, with_write, HasRoom, IsStored, AreStored}
-use Rattle.tagmem.specs.Pages.{slots_of, bytes_in, contents_of, IsPageAt, IsDirectory}
+use Rattle.tagmem.specs.Granules.{Entry, Granules, blank, entry_at, bytes_at, overwritten, with_write, HasRoom, IsCodeFor, IsStored, AreStored}
+use Rattle.tagmem.specs.Pages.{slots_of, bytes_in, contents_of, IsUsed, EachUsed, IsPageAt, IsDirectory}
 use Rattle.tagmem.proofs.Granules.{get-put, len-put, IsStored-overwritten, IsStored-entry_at}
-use Rattle.tagmem.proofs.Pages.{get_present, contents_of-set}
+use Rattle.tagmem.proofs.Pages.{length-slots_of, get_present, contents_of-set}
 use Rattle.tagmem.proofs.Directories.{IsDirectory-set}
 
 -- a put keeps each entry a granule's
@@ -42,9 +43,16 @@ pub record IsRead {Z : Type 0} (boxes : List (Box Page Z)) (directory : BTreeMap
   pub is : box ≡ get_or boxes place box
 
 -- a page has a write in one slot, and is else the same
-pub record IsWritten (old new : Page) (slot : ℕ) (tag : Bool) (at : ℕ) (bytes : List ℕ) : Type 0 where
+pub record IsWritten (old new : Page) (slot : ℕ) (tag : Bool) (at : ℕ) (bytes : List ℕ) (code : ℕ) : Type 0 where
   pub number : new.number ≡ old.number
-  pub slots : slots_of new ≡ set (slots_of old) slot (Some (tag, overwritten (bytes_in (slots_of old) slot) at bytes))
+  pub slots : slots_of new ≡ set (slots_of old) slot (Some (tag, overwritten (bytes_in (slots_of old) slot) at bytes, code))
+
+-- a page with a write in one slot has one that was put
+pub IsUsed-written : (old new : Page) (slot : ℕ) (tag : Bool) (at : ℕ) (bytes : List ℕ) (code : ℕ)
+    → slot < 256 → IsWritten old new slot tag at bytes code → IsUsed new
+IsUsed-written old new slot tag at bytes code small written none =
+    let wide = length-slots_of old in
+    none-some _ (sym (none slot) ∙ ap (λ slots. get_or slots slot None) written.slots ∙ get_or-set_same (slots_of old) slot _ None (omega arith))
 
 module _ {Z : Type 0} (boxes : List (Box Page Z)) (directory : BTreeMap ℕ ℕ) (place g : ℕ) (box : Box Page Z)
     (read : IsRead boxes directory place g box) where
@@ -66,25 +74,32 @@ module _ {Z : Type 0} (boxes : List (Box Page Z)) (directory : BTreeMap ℕ ℕ)
       subst (λ o. map.len (contents_of boxes) + bool_byte (is_none o) < 2 ^ 32) get_read
       (room_for_one (map.get (contents_of boxes) g) _ small room)
 
-  module _ (page : Page) (tag : Bool) (at : ℕ) (bytes : List ℕ) (written : IsWritten box.value page (g % 256) tag at bytes) where
+  module _ (page : Page) (tag : Bool) (at : ℕ) (bytes : List ℕ) (code : ℕ)
+      (written : IsWritten box.value page (g % 256) tag at bytes code) where
     pub IsDirectory-write : IsDirectory (set boxes place (with_value box page)) directory
     IsDirectory-write =
         IsDirectory-set boxes directory (with_value box page) place
         (subst (λ n. IsPageAt boxes n place) (sym (written.number ∙ number_read)) read.found) read.known
 
+    pub EachUsed-write : EachUsed boxes → EachUsed (set boxes place (with_value box page))
+    EachUsed-write used =
+        let one = IsUsed-written box.value page (g % 256) tag at bytes code (omega arith) written in
+        All-set (λ (box : Box Page Z). IsUsed box.value) boxes place (with_value box page) one used
+
     -- the map has the write, and is else the same
-    pub contents_of-write : contents_of (set boxes place (with_value box page)) ≡ with_write (contents_of boxes) g tag at bytes
+    pub contents_of-write : contents_of (set boxes place (with_value box page)) ≡ with_write (contents_of boxes) g tag at bytes code
     contents_of-write =
         let was : bytes_in (slots_of box.value) (g % 256) ≡ bytes_at (contents_of boxes) g =
         ap (λ o. (unwrap_or o blank).1) (sym get_read) in
         contents_of-set boxes directory read.known (with_value box page) box place g _ read.found (written.number ∙ number_read)
         (rw (← was, ← read.is) written.slots)
 
-    pub AreStored-write : g < 2 ^ 60 → at + length bytes ≤ 16 → All (λ byte. byte < 256) bytes → AreStored (contents_of boxes)
+    pub AreStored-write : g < 2 ^ 60 → at + length bytes ≤ 16 → All (λ byte. byte < 256) bytes → code < 2 ^ 64 → IsCodeFor tag code
+        → AreStored (contents_of boxes)
         → AreStored (contents_of (set boxes place (with_value box page)))
-    AreStored-write in_memory inside fits stored =
+    AreStored-write in_memory inside fits small is_for stored =
         let stood = IsStored-entry_at (contents_of boxes) stored g in_memory in
-        let stands = IsStored-overwritten g (entry_at (contents_of boxes) g) tag at bytes stood inside fits in
+        let stands = IsStored-overwritten g (entry_at (contents_of boxes) g) tag at bytes code stood inside fits small is_for in
         rw contents_of-write (AreStored-put (contents_of boxes) g _ stands stored)
 
     pub len-write : map.len (contents_of (set boxes place (with_value box page)))

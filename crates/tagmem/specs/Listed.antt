@@ -7,7 +7,7 @@ use Rattle.tagmem.specs.Granules.{Entry, Granules, IsStored}
 
 -- what stands in the granule
 abbrev pub entry_of : Listed → Entry
-entry_of listed = (listed.tag, listed.bytes)
+entry_of listed = (listed.tag, listed.bytes, listed.code)
 
 -- the granule, and what stands there
 abbrev pub keyed : Listed → ℕ × Entry

@@ -1,5 +1,5 @@
 -- The pages that a `PageStore` keeps, and the map that they are. All of it is this profile's own.
-use Rattle.std.specs.Prelude.{◌≡◌, ℕ, suc, ◌*◌, ◌<◌, ◌≢◌, List, [], ◌∷◌, ◌++◌, length, map}
+use Rattle.std.specs.Prelude.{◌≡◌, ℕ, suc, ◌*◌, ◌<◌, ◌≤◌, ◌≢◌, Bool, List, [], ◌∷◌, ◌++◌, length, map, All}
 use Rattle.std.specs.Prelude.{Option, Some, None, unwrap_or, Box, slice_index, slice_index_or}
 use Rattle.std.specs.Ordering.{nat_cmp}
 use Rattle.std.specs.BTreeMap as tree
@@ -8,13 +8,43 @@ use Rattle.std.specs.FinMap.{from_entries}
 use Rattle.tagmem.specs.declared.page.Page.{Page}
 use Rattle.tagmem.specs.Granules.{Entry, Granules, blank}
 
+-- a slot with its code, where it was put
+abbrev pub coded : Option (Bool × List ℕ) → ℕ → Option Entry
+coded None code = None
+coded (Some stored) code = Some (stored.0, stored.1, code)
+
+-- slots with their codes
+abbrev pub each_coded : List (Option (Bool × List ℕ)) → List ℕ → List (Option Entry)
+each_coded [] codes = []
+each_coded (slot ∷ slots) [] = []
+each_coded (slot ∷ slots) (code ∷ codes) = coded slot code ∷ each_coded slots codes
+
 -- what stands in each granule of a page, where it was put: all that is said of how a page keeps it
 abbrev pub slots_of : Page → List (Option Entry)
-slots_of page = page.slots
+slots_of page = each_coded page.slots page.codes
 
 -- the bytes of a slot, put or not
 abbrev pub bytes_in : List (Option Entry) → ℕ → List ℕ
 bytes_in slots slot = let entry = unwrap_or (slice_index_or slots slot None) blank in entry.1
+
+-- the code of a slot, put or not
+abbrev pub code_in : List (Option Entry) → ℕ → ℕ
+code_in slots slot = let entry = unwrap_or (slice_index_or slots slot None) blank in entry.2
+
+-- the first slot from one on that was put, where there is one
+abbrev pub IsFirstFrom : List (Option Entry) → ℕ → Option ℕ → Type 0
+IsFirstFrom slots from None = (slot : ℕ) → from ≤ slot → slice_index_or slots slot None ≡ None
+IsFirstFrom slots from (Some first) =
+    (from ≤ first) × (slice_index_or slots first None ≢ None)
+    × ((slot : ℕ) → from ≤ slot → slot < first → slice_index_or slots slot None ≡ None)
+
+-- some granule of a page was put
+abbrev pub IsUsed : Page → Type 0
+IsUsed page = ((slot : ℕ) → slice_index_or (slots_of page) slot None ≡ None) → ⊥
+
+-- some granule of each page was put
+abbrev pub EachUsed : {Z : Type 0} → List (Box Page Z) → Type 0
+EachUsed boxes = All (λ box. IsUsed box.value) boxes
 
 -- a granule's entry before others, where it was put
 abbrev pub with_slot : ℕ → Option Entry → List (ℕ × Entry) → List (ℕ × Entry)
@@ -47,6 +77,12 @@ pub record IsPageAt {Z : Type 0} (boxes : List (Box Page Z)) (number place : ℕ
 -- no page has the number
 abbrev pub IsAbsent : {Z : Type 0} → List (Box Page Z) → ℕ → Type 0
 IsAbsent boxes number = (place : ℕ) → place < length boxes → number_at boxes place ≢ number
+
+-- the least number from one on that a page has, where one has
+abbrev pub IsNextPage : {Z : Type 0} → List (Box Page Z) → ℕ → Option ℕ → Type 0
+IsNextPage boxes from None = (number : ℕ) → from ≤ number → IsAbsent boxes number
+IsNextPage boxes from (Some next) =
+    (from ≤ next) × (IsAbsent boxes next → ⊥) × ((number : ℕ) → from ≤ number → number < next → IsAbsent boxes number)
 
 -- a directory says of each number where its page is, and of no other
 pub record IsDirectory {Z : Type 0} (boxes : List (Box Page Z)) (directory : BTreeMap ℕ ℕ) : Type 0 where

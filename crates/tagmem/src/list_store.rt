@@ -1,7 +1,7 @@
 //! A store that keeps its entries in a sorted list.
 ghost use Rattle.std.specs.Prelude.{◌≡◌, ◌^◌, ◌<◌, ◌+◌, ◌≤◌, length, None, vec_len, OnOk, OnErr, IfOk, IfErr};
 ghost use Rattle.std.specs.FinMap as map;
-ghost use Rattle.tagmem.specs.Granules.{with_write, HasRoom, IsStored};
+ghost use Rattle.tagmem.specs.Granules.{with_write, HasRoom, IsCodeFor, IsStored};
 ghost use Rattle.tagmem.specs.Listed.{contents_of, entry_of, IsRising, AllStored, IsAt, IsGapFor};
 ghost use Rattle.tagmem.specs.ListLaws.{AreStored-contents_of, len_fits};
 
@@ -15,6 +15,7 @@ struct Listed {
     granule: u64,
     tag: bool,
     bytes: [u8; 16],
+    code: u64,
 }
 
 /// A store that keeps its entries in a list, in the order of their granules.
@@ -68,13 +69,21 @@ impl ListStore {
     }
 
     // Writes bytes inside a granule from its byte `at` on, over zeros where it was never put, and
-    // sets its tag.
-    fn put(&mut self, granule: u64, tag: bool, at: u8, bytes: &[u8]) -> Result<(), NoMemory>
+    // sets its tag and its code.
+    fn put(
+        &mut self,
+        granule: u64,
+        tag: bool,
+        at: u8,
+        bytes: &[u8],
+        code: u64,
+    ) -> Result<(), NoMemory>
         requires in_memory { granule < 2 ^ 60 }
+        requires coded { IsCodeFor tag code }
         requires inside { at + length bytes.now ≤ 16 }
         requires room { HasRoom (contents_of self.old.entries.items) granule }
         ensures ok { OnOk result (contents_of self.new.entries.items
-            ≡ with_write (contents_of self.old.entries.items) granule tag at bytes.now) }
+            ≡ with_write (contents_of self.old.entries.items) granule tag at bytes.now code) }
         ensures err { OnErr result (self.new.entries.items ≡ self.old.entries.items) }
         ensures only_new { OnErr result (map.get (contents_of self.old.entries.items) granule ≡ None) }
     {
@@ -82,6 +91,7 @@ impl ListStore {
             Ok(place) => {
                 let mut listed = self.entries[place];
                 listed.tag = tag;
+                listed.code = code;
                 overwrite(&mut listed.bytes, at, bytes);
                 self.replace(place, listed);
                 Ok(())
@@ -91,6 +101,7 @@ impl ListStore {
                     granule,
                     tag,
                     bytes: [0; 16],
+                    code,
                 };
                 overwrite(&mut listed.bytes, at, bytes);
                 self.insert(place, listed)
@@ -117,12 +128,35 @@ impl TaggedStore for ListStore {
         }
     }
 
-    fn put_cap(&mut self, granule: u64, tag: bool, bytes: [u8; 16]) -> Result<(), NoMemory> {
-        self.put(granule, tag, 0, &bytes)
+    fn code(&self, granule: u64) -> u64 {
+        match self.place(granule) {
+            Ok(place) => self.entries[place].code,
+            Err(_) => 0,
+        }
+    }
+
+    fn next_put(&self, granule: u64) -> Option<u64> {
+        match self.place(granule) {
+            Ok(_) => Some(granule),
+            Err(place) => match self.entries.get(place) {
+                Some(listed) => Some(listed.granule),
+                None => None,
+            },
+        }
+    }
+
+    fn put_cap(
+        &mut self,
+        granule: u64,
+        tag: bool,
+        bytes: [u8; 16],
+        code: u64,
+    ) -> Result<(), NoMemory> {
+        self.put(granule, tag, 0, &bytes, code)
     }
 
     fn put_bytes(&mut self, granule: u64, at: u8, bytes: &[u8]) -> Result<(), NoMemory> {
-        self.put(granule, false, at, bytes)
+        self.put(granule, false, at, bytes, 0)
     }
 
     fn count(&self) -> u32 {

@@ -1,19 +1,22 @@
 //! A page: 256 granules that stand side by side.
 ghost use Rattle.std.specs.Prelude.{◌≡◌, ◌+◌, ◌≤◌, ℕ, length, is_none, None, Some, slice_index_or, slice_set};
-ghost use Rattle.tagmem.specs.Granules.{overwritten};
+ghost use Rattle.tagmem.specs.Granules.{overwritten, shown};
 
 use crate::overwriting::overwrite;
 
-// Page `number` has the granules from `256 * number` on, and what stands in each that was put.
+// Page `number` has the granules from `256 * number` on: what stands in each that was put, and its
+// code beside it.
 #[derive(Drop)]
 pub(crate) struct Page {
     pub(crate) number: u64,
     slots: [Option<(bool, [u8; 16])>; 256],
+    codes: [u64; 256],
     ghost whole: { length slots ≡ 256 },
+    ghost each_has_code: { length codes ≡ 256 },
 }
 
 impl Page {
-    ghost use Rattle.tagmem.specs.Pages.{slots_of, bytes_in};
+    ghost use Rattle.tagmem.specs.Pages.{slots_of, bytes_in, code_in, IsFirstFrom};
 
     // A page of which no granule was put.
     pub(crate) fn new(number: u64) -> Page
@@ -23,24 +26,48 @@ impl Page {
         Page {
             number,
             slots: [None; 256],
+            codes: [0; 256],
         }
     }
 
-    // What stands in a granule.
+    // The tag and the bytes of a granule.
     pub(crate) fn get(&self, slot: u8) -> Option<(bool, [u8; 16])>
-        ensures { result ≡ slice_index_or (slots_of self.now) slot None }
+        ensures { result ≡ shown (slice_index_or (slots_of self.now) slot None) }
     {
         self.slots[slot as usize]
     }
 
+    // The code of a granule, and 0 where it was never put.
+    pub(crate) fn code(&self, slot: u8) -> u64
+        ensures { result ≡ code_in (slots_of self.now) slot }
+    {
+        if self.slots[slot as usize].is_none() {
+            0
+        } else {
+            self.codes[slot as usize]
+        }
+    }
+
+    // The first slot from one on that was put.
+    pub(crate) fn first_from(&self, slot: u8) -> Option<u8>
+        ensures { IsFirstFrom (slots_of self.now) slot result }
+    {
+        for i in slot as usize..256 {
+            if self.slots[i].is_some() {
+                return Some(i as u8);
+            }
+        }
+        None
+    }
+
     // Writes bytes inside a granule from its byte `at` on, over zeros where it was never put, and
-    // sets its tag. Says whether it was never put.
-    pub(crate) fn put(&mut self, slot: u8, tag: bool, at: u8, bytes: &[u8]) -> bool
+    // sets its tag and its code. Says whether it was never put.
+    pub(crate) fn put(&mut self, slot: u8, tag: bool, at: u8, bytes: &[u8], code: u64) -> bool
         requires { at + length bytes.now ≤ 16 }
         ensures first { result ≡ is_none (slice_index_or (slots_of self.old) slot None) }
         ensures number { self.new.number ≡ self.old.number }
         ensures slots { let old = slots_of self.old in
-            slots_of self.new ≡ slice_set old slot (Some (tag, overwritten (bytes_in old slot) at bytes.now)) }
+            slots_of self.new ≡ slice_set old slot (Some (tag, overwritten (bytes_in old slot) at bytes.now, code)) }
     {
         let old = self.slots[slot as usize];
         let mut written = match old {
@@ -49,6 +76,7 @@ impl Page {
         };
         overwrite(&mut written, at, bytes);
         self.slots[slot as usize] = Some((tag, written));
+        self.codes[slot as usize] = code;
         old.is_none()
     }
 }

@@ -1,8 +1,8 @@
 //! A store that keeps its entries in pages.
-ghost use Rattle.std.specs.Prelude.{◌≡◌, ◌^◌, ◌<◌, ◌+◌, ◌≤◌, ◌/◌, length, None, MatchOption, IfOk, OnOk, OnErr};
+ghost use Rattle.std.specs.Prelude.{◌≡◌, ◌^◌, ◌<◌, ◌+◌, ◌*◌, ◌≤◌, ◌/◌, length, None, Some, MatchOption, OnOk, OnErr};
 ghost use Rattle.std.specs.FinMap as map;
-ghost use Rattle.tagmem.specs.Granules.{with_write, AreStored, HasRoom};
-ghost use Rattle.tagmem.specs.Pages.{contents_of, IsDirectory, IsPageAt, IsAbsent};
+ghost use Rattle.tagmem.specs.Granules.{with_write, AreStored, HasRoom, IsCodeFor, NonePut, IsNextPut};
+ghost use Rattle.tagmem.specs.Pages.{contents_of, IsDirectory, IsPageAt, IsAbsent, IsNextPage, EachUsed};
 
 use crate::page::Page;
 use crate::store::{NoMemory, TaggedStore};
@@ -14,8 +14,9 @@ use std::collections::BTreeMap;
 // How many places are remembered.
 const REMEMBERED: usize = 1024;
 
-/// A store that keeps its entries in pages of 256 granules. A put into a page that is there takes no
-/// memory, and a put that needs a new page changes nothing before it has all its memory.
+/// A store that keeps its entries in pages of 256 granules, each of which has one that was put. A put
+/// into a page that is there takes no memory, and a put that needs a new page changes nothing before it
+/// has all its memory.
 #[derive(Drop)]
 pub struct PageStore {
     pages: Vec<Box<Page>>,
@@ -26,6 +27,7 @@ pub struct PageStore {
     remembered: [Cell<usize>; REMEMBERED],
     count: u32,
     ghost known: { IsDirectory pages.items directory },
+    ghost used: { EachUsed pages.items },
     ghost stored: { AreStored (contents_of pages.items) },
     ghost counted: { count ≡ map.len (contents_of pages.items) },
     ghost fits: { map.len (contents_of pages.items) < 2 ^ 32 },
@@ -64,14 +66,53 @@ impl PageStore {
         }
     }
 
-    // Adds a page of which no granule was put, and says where it is.
-    fn add_page(&mut self, number: u64) -> Result<usize, NoMemory>
-        requires { IsAbsent self.old.pages.items number }
-        ensures place { IfOk result (IsPageAt self.new.pages.items number) }
-        ensures contents { contents_of self.new.pages.items ≡ contents_of self.old.pages.items }
+    // The least number from one on that a page has.
+    fn next_page(&self, number: u64) -> Option<u64>
+        ensures { IsNextPage self.now.pages.items number result }
     {
+        match self.directory.range(number..).next() {
+            Some((next, _)) => Some(*next),
+            None => None,
+        }
+    }
+
+    // The first granule of a page, from a slot on, that was put.
+    fn first_in(&self, number: u64, slot: u8) -> Option<u64>
+        ensures { let contents = contents_of self.now.pages.items in let from = 256 * number + slot in
+            MatchOption result
+            (NonePut contents from (256 * number + 256))
+            (λ first. IsNextPut contents from (Some first)) }
+    {
+        match self.place(number) {
+            Some(place) => match self.pages[place].first_from(slot) {
+                Some(first) => Some(u64::from(first) + 256 * number),
+                None => None,
+            },
+            None => None,
+        }
+    }
+
+    // Adds a page, of which one granule is put: bytes over zeros from its byte `at` on.
+    fn add_page(
+        &mut self,
+        granule: u64,
+        tag: bool,
+        at: u8,
+        bytes: &[u8],
+        code: u64,
+    ) -> Result<(), NoMemory>
+        requires in_memory { granule < 2 ^ 60 }
+        requires coded { IsCodeFor tag code }
+        requires absent { IsAbsent self.old.pages.items (granule / 256) }
+        requires inside { at + length bytes.now ≤ 16 }
+        requires room { HasRoom (contents_of self.old.pages.items) granule }
+        ensures ok { OnOk result (contents_of self.new.pages.items
+            ≡ with_write (contents_of self.old.pages.items) granule tag at bytes.now code) }
+        ensures err { OnErr result (contents_of self.new.pages.items ≡ contents_of self.old.pages.items) }
+    {
+        let number = granule / 256;
         let alloc = *self.pages.allocator();
-        let Ok(page) = Box::new(alloc, Page::new(number)) else {
+        let Ok(mut page) = Box::new(alloc, Page::new(number)) else {
             return Err(NoMemory);
         };
         let Ok(()) = self.pages.reserve(1) else {
@@ -81,41 +122,53 @@ impl PageStore {
         let Ok(_) = self.directory.insert(number, place) else {
             return Err(NoMemory);
         };
+        page.put((granule % 256) as u8, tag, at, bytes, code);
+        self.count += 1;
         self.pages.push_reserved(page);
-        Ok(place)
+        Ok(())
     }
 
     // Writes bytes inside a granule of a page that is there, and counts it where it was never put.
-    fn write(&mut self, place: usize, granule: u64, tag: bool, at: u8, bytes: &[u8])
+    fn write(&mut self, place: usize, granule: u64, tag: bool, at: u8, bytes: &[u8], code: u64)
         requires in_memory { granule < 2 ^ 60 }
+        requires coded { IsCodeFor tag code }
         requires found { IsPageAt self.old.pages.items (granule / 256) place }
         requires inside { at + length bytes.now ≤ 16 }
         requires room { HasRoom (contents_of self.old.pages.items) granule }
         ensures { contents_of self.new.pages.items
-            ≡ with_write (contents_of self.old.pages.items) granule tag at bytes.now }
+            ≡ with_write (contents_of self.old.pages.items) granule tag at bytes.now code }
     {
         let page = &mut self.pages[place];
-        let first = page.put((granule % 256) as u8, tag, at, bytes);
+        let first = page.put((granule % 256) as u8, tag, at, bytes, code);
         self.count += u32::from(first);
     }
 
     // Writes bytes inside a granule from its byte `at` on, over zeros where it was never put, and
-    // sets its tag.
-    fn put(&mut self, granule: u64, tag: bool, at: u8, bytes: &[u8]) -> Result<(), NoMemory>
+    // sets its tag and its code.
+    fn put(
+        &mut self,
+        granule: u64,
+        tag: bool,
+        at: u8,
+        bytes: &[u8],
+        code: u64,
+    ) -> Result<(), NoMemory>
         requires in_memory { granule < 2 ^ 60 }
+        requires coded { IsCodeFor tag code }
         requires inside { at + length bytes.now ≤ 16 }
         requires room { HasRoom (contents_of self.old.pages.items) granule }
         ensures ok { OnOk result (contents_of self.new.pages.items
-            ≡ with_write (contents_of self.old.pages.items) granule tag at bytes.now) }
+            ≡ with_write (contents_of self.old.pages.items) granule tag at bytes.now code) }
         ensures err { OnErr result (contents_of self.new.pages.items ≡ contents_of self.old.pages.items) }
         ensures only_new { OnErr result (map.get (contents_of self.old.pages.items) granule ≡ None) }
     {
-        let place = match self.place(granule / 256) {
-            Some(place) => place,
-            None => self.add_page(granule / 256)?,
-        };
-        self.write(place, granule, tag, at, bytes);
-        Ok(())
+        match self.place(granule / 256) {
+            Some(place) => {
+                self.write(place, granule, tag, at, bytes, code);
+                Ok(())
+            }
+            None => self.add_page(granule, tag, at, bytes, code),
+        }
     }
 }
 
@@ -133,12 +186,35 @@ impl TaggedStore for PageStore {
         }
     }
 
-    fn put_cap(&mut self, granule: u64, tag: bool, bytes: [u8; 16]) -> Result<(), NoMemory> {
-        self.put(granule, tag, 0, &bytes)
+    fn code(&self, granule: u64) -> u64 {
+        match self.place(granule / 256) {
+            Some(place) => self.pages[place].code((granule % 256) as u8),
+            None => 0,
+        }
+    }
+
+    fn next_put(&self, granule: u64) -> Option<u64> {
+        match self.first_in(granule / 256, (granule % 256) as u8) {
+            Some(next) => Some(next),
+            None => match self.next_page(granule / 256 + 1) {
+                Some(number) => self.first_in(number, 0),
+                None => None,
+            },
+        }
+    }
+
+    fn put_cap(
+        &mut self,
+        granule: u64,
+        tag: bool,
+        bytes: [u8; 16],
+        code: u64,
+    ) -> Result<(), NoMemory> {
+        self.put(granule, tag, 0, &bytes, code)
     }
 
     fn put_bytes(&mut self, granule: u64, at: u8, bytes: &[u8]) -> Result<(), NoMemory> {
-        self.put(granule, false, at, bytes)
+        self.put(granule, false, at, bytes, 0)
     }
 
     fn count(&self) -> u32 {

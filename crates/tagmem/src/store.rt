@@ -1,16 +1,18 @@
 //! What a store of tagged memory does.
 //!
 //! Granule `g` is the sixteen bytes from address `16 * g` on, so there are 2^60 of them. Each has one
-//! tag, which says whether its bytes are a valid capability. A store keeps those that were put.
+//! tag, which says whether its bytes are a valid capability. A store keeps those that were put, and
+//! beside each capability a code of its origin, whose meaning is its user's.
 ghost use Rattle.std.specs.Prelude.{◌≡◌, ◌+◌, ◌^◌, ◌<◌, ◌≤◌, length, None, OnOk, OnErr};
 ghost use Rattle.std.specs.FinMap as map;
-ghost use Rattle.tagmem.specs.Granules.{Granules, AreStored, HasRoom, with_cap, with_bytes};
+ghost use Rattle.tagmem.specs.Granules.{Granules, AreStored, HasRoom, IsCodeFor, IsNextPut, shown, code_at, with_cap, with_bytes};
 
 /// The memory that a granule put for the first time needs was refused.
 #[derive(Clone, Copy, Debug, PartialEq, Eq)]
 pub struct NoMemory;
 
-/// A store of granules: a map from numbers below 2^60 to a tag and sixteen bytes, lowest address first.
+/// A store of granules: a map from numbers below 2^60 to a tag, sixteen bytes, lowest address first,
+/// and the code of an origin, which is 0 exactly where the tag is clear.
 ///
 /// Nothing but a put of a granule that was never put takes memory.
 pub trait TaggedStore: Drop {
@@ -20,19 +22,36 @@ pub trait TaggedStore: Drop {
     /// The tag and the bytes of a granule, or `None` where it was never put.
     fn get(&self, granule: u64) -> Option<(bool, [u8; 16])>
         requires { granule < 2 ^ 60 }
-        ensures { result ≡ map.get (contents self.now) granule };
+        ensures { result ≡ shown (map.get (contents self.now) granule) };
 
-    /// Sets a granule's tag and bytes. After an error the store is as it was, and a granule that was
-    /// put before never gives one.
-    fn put_cap(&mut self, granule: u64, tag: bool, bytes: [u8; 16]) -> Result<(), NoMemory>
+    /// The code of the origin of a granule's capability: 0 where it has no tag or was never put.
+    fn code(&self, granule: u64) -> u64
+        requires { granule < 2 ^ 60 }
+        ensures { result ≡ code_at (contents self.now) granule };
+
+    /// The least granule at or above a number that was put, or `None` where there is none. Any number
+    /// does, also one that is no granule's.
+    fn next_put(&self, granule: u64) -> Option<u64>
+        ensures { IsNextPut (contents self.now) granule result };
+
+    /// Sets a granule's tag and bytes, and the code of the origin, any but 0 for a tag and 0 for none.
+    /// After an error the store is as it was, and a granule that was put before never gives one.
+    fn put_cap(
+        &mut self,
+        granule: u64,
+        tag: bool,
+        bytes: [u8; 16],
+        code: u64,
+    ) -> Result<(), NoMemory>
         requires in_memory { granule < 2 ^ 60 }
+        requires coded { IsCodeFor tag code }
         requires room { HasRoom (contents self.old) granule }
-        ensures ok { OnOk result (contents self.new ≡ with_cap (contents self.old) granule tag bytes) }
+        ensures ok { OnOk result (contents self.new ≡ with_cap (contents self.old) granule tag bytes code) }
         ensures err { OnErr result (contents self.new ≡ contents self.old) }
         ensures only_new { OnErr result (map.get (contents self.old) granule ≡ None) };
 
-    /// Writes one to sixteen bytes inside a granule, from its byte `at` on, and clears its tag. Its
-    /// other bytes stay, and are zero where it was never put. Errors are those of `put_cap`.
+    /// Writes one to sixteen bytes inside a granule, from its byte `at` on, and clears its tag and its
+    /// code. Its other bytes stay, and are zero where it was never put. Errors are those of `put_cap`.
     fn put_bytes(&mut self, granule: u64, at: u8, bytes: &[u8]) -> Result<(), NoMemory>
         requires in_memory { granule < 2 ^ 60 }
         requires some { 0 < length bytes.now }
@@ -46,7 +65,7 @@ pub trait TaggedStore: Drop {
     fn count(&self) -> u32
         ensures { result ≡ map.len (contents self.now) };
 
-    /// Each entry is of a granule below 2^60 and has sixteen bytes.
+    /// Each entry is of a granule below 2^60 and has sixteen bytes, and a code just where it has a tag.
     ghost are_stored: { (s : Self) → AreStored (contents s) };
 
     /// The count fits 32 bits.

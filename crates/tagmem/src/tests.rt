@@ -3,7 +3,8 @@
 // Run it with `rt try --test --fail-alloc N` too, for each N: a put whose memory is refused then
 // answers `NoMemory`, the list below still agrees with the store, and the same put succeeds the next
 // time.
-ghost use Rattle.std.specs.Prelude.{◌+◌, ◌^◌, ◌<◌, ◌≤◌, length};
+ghost use Rattle.std.specs.Prelude.{◌≡◌, ◌+◌, ◌^◌, ◌<◌, ◌≤◌, length};
+ghost use Rattle.tagmem.specs.Granules.{IsCodeFor};
 
 use crate::{ListStore, PageStore, TaggedStore};
 use std::process::Abort;
@@ -13,13 +14,21 @@ const SLOTS: usize = 48;
 const GRANULES: u64 = 1 << 60;
 
 // Puts, where one more granule can be counted. A put that is refused is tried again.
-fn put_cap<S: TaggedStore>(rt: &impl Abort, store: &mut S, granule: u64, tag: bool, bytes: [u8; 16])
-    requires { granule < 2 ^ 60 }
+fn put_cap<S: TaggedStore>(
+    rt: &impl Abort,
+    store: &mut S,
+    granule: u64,
+    tag: bool,
+    bytes: [u8; 16],
+    code: u64,
+)
+    requires in_memory { granule < 2 ^ 60 }
+    requires coded { IsCodeFor tag code }
 {
     assert!(rt; store.count() < u32::MAX);
-    if store.put_cap(granule, tag, bytes).is_err() {
+    if store.put_cap(granule, tag, bytes, code).is_err() {
         assert!(rt; store.count() < u32::MAX);
-        assert_eq!(rt; store.put_cap(granule, tag, bytes), Ok(()));
+        assert_eq!(rt; store.put_cap(granule, tag, bytes, code), Ok(()));
     }
 }
 
@@ -39,10 +48,10 @@ fn put_bytes<S: TaggedStore>(rt: &impl Abort, store: &mut S, granule: u64, at: u
 fn counts_each_granule_once<S: TaggedStore>(rt: &impl Abort, store: &mut S) {
     for granule in [0, 255, 256, GRANULES - 1] {
         assert!(rt; granule < GRANULES);
-        put_cap(rt, store, granule, true, [7; 16]);
+        put_cap(rt, store, granule, true, [7; 16], 1);
     }
     assert_eq!(rt; store.count(), 4);
-    put_cap(rt, store, 255, false, [9; 16]);
+    put_cap(rt, store, 255, false, [9; 16], 0);
     assert_eq!(rt; store.count(), 4);
     assert_eq!(rt; store.get(1), None);
     assert_eq!(rt; store.get(255), Some((false, [9; 16])));
@@ -57,21 +66,73 @@ fn writes_over_zeros<S: TaggedStore>(rt: &impl Abort, store: &mut S) {
     assert_eq!(rt; store.count(), 1);
 }
 
-// What a plain list says of some granules: whether each was put, its tag and its bytes.
+// Each granule has the code that it was last put with, as far as 64 bits go, and a store of data leaves
+// none.
+fn keeps_codes<S: TaggedStore>(rt: &impl Abort, store: &mut S) {
+    assert_eq!(rt; store.code(5), 0);
+    put_cap(rt, store, 5, true, [7; 16], 3);
+    put_cap(rt, store, 6, true, [7; 16], u64::MAX);
+    put_cap(rt, store, GRANULES - 1, false, [7; 16], 0);
+    assert_eq!(rt; store.code(4), 0);
+    assert_eq!(rt; store.code(5), 3);
+    assert_eq!(rt; store.code(6), u64::MAX);
+    assert_eq!(rt; store.code(GRANULES - 1), 0);
+    put_bytes(rt, store, 6, 15, &[8]);
+    assert_eq!(rt; store.code(6), 0);
+    assert_eq!(rt; store.code(5), 3);
+    put_cap(rt, store, 5, true, [7; 16], 4);
+    assert_eq!(rt; store.code(5), 4);
+    put_cap(rt, store, 5, false, [7; 16], 0);
+    assert_eq!(rt; store.code(5), 0);
+    assert_eq!(rt; store.count(), 3);
+}
+
+// Around puts at the ends of pages of 256 granules and of memory.
+fn finds_the_next_put<S: TaggedStore>(rt: &impl Abort, store: &mut S) {
+    assert_eq!(rt; store.next_put(0), None);
+    assert_eq!(rt; store.next_put(u64::MAX), None);
+    put_cap(rt, store, 1000, true, [7; 16], 1);
+    put_cap(rt, store, GRANULES - 1, false, [7; 16], 0);
+    put_bytes(rt, store, 255, 15, &[8]);
+    put_cap(rt, store, 1, true, [7; 16], 1);
+    put_bytes(rt, store, 256, 0, &[8]);
+    let following = [
+        (0, 1),
+        (1, 1),
+        (2, 255),
+        (255, 255),
+        (256, 256),
+        (257, 1000),
+        (768, 1000),
+        (1000, 1000),
+        (1001, GRANULES - 1),
+        (GRANULES - 257, GRANULES - 1),
+        (GRANULES - 1, GRANULES - 1),
+    ];
+    for (granule, next) in following {
+        assert_eq!(rt; store.next_put(granule), Some(next));
+    }
+    assert_eq!(rt; store.next_put(GRANULES), None);
+    assert_eq!(rt; store.next_put(u64::MAX), None);
+}
+
+// What a plain list says of some granules: whether each was put, its tag, its bytes and its code.
 #[derive(Drop)]
 struct Plain {
     put: [bool; SLOTS],
     tags: [bool; SLOTS],
     bytes: [[u8; 16]; SLOTS],
+    codes: [u64; SLOTS],
 }
 
 impl Plain {
-    fn write(&mut self, slot: usize, tag: bool, at: usize, bytes: &[u8])
+    fn write(&mut self, slot: usize, tag: bool, at: usize, bytes: &[u8], code: u64)
         requires slot_in { slot < 48 }
         requires inside { at + length bytes.now ≤ 16 }
     {
         self.put[slot] = true;
         self.tags[slot] = tag;
+        self.codes[slot] = code;
         let kept = &mut self.bytes[slot];
         for i in 0..bytes.len() {
             kept[at + i] = bytes[i];
@@ -111,6 +172,7 @@ fn assert_agree<S: TaggedStore>(rt: &impl Abort, store: &S, plain: &Plain) {
         } else {
             assert_eq!(rt; found, None);
         }
+        assert_eq!(rt; store.code(granule), plain.codes[slot]);
         if slot < 40 {
             assert_eq!(rt; store.get(granule + 1), None);
         }
@@ -119,7 +181,8 @@ fn assert_agree<S: TaggedStore>(rt: &impl Abort, store: &S, plain: &Plain) {
     assert_eq!(rt; store.count() as usize, count);
 }
 
-// One put, beside the same write of the list: of a capability at byte 0, of bytes up to the end at any other.
+// One put, beside the same write of the list: of a capability at byte 0, of bytes up to the end at any
+// other.
 fn put_beside<S: TaggedStore>(
     rt: &impl Abort,
     store: &mut S,
@@ -127,25 +190,27 @@ fn put_beside<S: TaggedStore>(
     slot: usize,
     at: u8,
     bytes: [u8; 16],
+    code: u64,
 )
     requires slot_in { slot < 48 }
     requires inside { at < 16 }
+    requires coded { 0 < code }
 {
     let granule = granule_of(slot);
     assert!(rt; store.count() < u32::MAX);
     if at == 0 {
-        if store.put_cap(granule, true, bytes).is_err() {
+        if store.put_cap(granule, true, bytes, code).is_err() {
             assert_agree(rt, store, plain);
-            put_cap(rt, store, granule, true, bytes);
+            put_cap(rt, store, granule, true, bytes, code);
         }
-        plain.write(slot, true, 0, &bytes);
+        plain.write(slot, true, 0, &bytes, code);
     } else {
         let written = &bytes[..16 - at as usize];
         if store.put_bytes(granule, at, written).is_err() {
             assert_agree(rt, store, plain);
             put_bytes(rt, store, granule, at, written);
         }
-        plain.write(slot, false, at as usize, written);
+        plain.write(slot, false, at as usize, written, 0);
     }
     assert_agree(rt, store, plain);
 }
@@ -156,6 +221,7 @@ fn agrees_with_a_plain_list<S: TaggedStore>(rt: &impl Abort, store: &mut S) {
         put: [false; SLOTS],
         tags: [false; SLOTS],
         bytes: [[0; 16]; SLOTS],
+        codes: [0; SLOTS],
     };
     let mut random: u32 = 1;
     for _ in 0..400 {
@@ -163,7 +229,8 @@ fn agrees_with_a_plain_list<S: TaggedStore>(rt: &impl Abort, store: &mut S) {
         let slot = (random >> 24) as usize % SLOTS;
         let at = ((random >> 20) & 15) as u8;
         let bytes = bytes_from(((random >> 12) & 0xff) as u8);
-        put_beside(rt, store, &mut plain, slot, at, bytes);
+        let code = u64::from(random) + 1;
+        put_beside(rt, store, &mut plain, slot, at, bytes, code);
     }
 }
 
@@ -178,6 +245,16 @@ fn a_list_writes_over_zeros(rt: HostRuntime) {
 }
 
 #[test]
+fn a_list_keeps_codes(rt: HostRuntime) {
+    keeps_codes(&rt, &mut ListStore::new(rt.alloc()));
+}
+
+#[test]
+fn a_list_finds_the_next_put(rt: HostRuntime) {
+    finds_the_next_put(&rt, &mut ListStore::new(rt.alloc()));
+}
+
+#[test]
 fn a_list_agrees_with_a_plain_list(rt: HostRuntime) {
     agrees_with_a_plain_list(&rt, &mut ListStore::new(rt.alloc()));
 }
@@ -186,13 +263,15 @@ fn a_list_agrees_with_a_plain_list(rt: HostRuntime) {
 #[test]
 fn a_page_that_is_there_takes_no_memory(rt: HostRuntime) {
     let store = &mut PageStore::new(rt.alloc());
-    put_cap(&rt, store, 0, true, [7; 16]);
+    put_cap(&rt, store, 0, true, [7; 16], 1);
     for granule in 1..256 {
         assert!(rt; store.count() < u32::MAX);
-        assert_eq!(rt; store.put_cap(granule, true, [9; 16]), Ok(()));
+        assert_eq!(rt; store.put_cap(granule, true, [9; 16], granule), Ok(()));
     }
     assert!(rt; store.count() < u32::MAX);
     assert_eq!(rt; store.put_bytes(0, 15, &[8]), Ok(()));
+    assert_eq!(rt; store.code(0), 0);
+    assert_eq!(rt; store.code(255), 255);
     assert_eq!(rt; store.count(), 256);
 }
 
@@ -209,6 +288,7 @@ fn pages_are_found_by_their_whole_numbers(rt: HostRuntime) {
             256 * number,
             true,
             bytes_from((number / 8) as u8),
+            number + 1,
         );
     }
     for number in 0..1100 {
@@ -216,6 +296,7 @@ fn pages_are_found_by_their_whole_numbers(rt: HostRuntime) {
             store.get(256 * number),
             Some((true, bytes_from((number / 8) as u8)))
         );
+        assert_eq!(rt; store.code(256 * number), number + 1);
         assert_eq!(rt; store.get(256 * number + 1), None);
         assert_eq!(rt; store.get(256 * (number + 2048)), None);
     }
@@ -258,8 +339,9 @@ fn a_list_and_pages_agree(rt: HostRuntime) {
         let bytes = bytes_from(((random >> 12) & 0xff) as u8);
         if random & 0x80000 == 0 {
             let tag = random & 0x40000 == 0;
-            put_cap(&rt, list, granule, tag, bytes);
-            put_cap(&rt, pages, granule, tag, bytes);
+            let code = if tag { u64::from(random) + 1 } else { 0 };
+            put_cap(&rt, list, granule, tag, bytes, code);
+            put_cap(&rt, pages, granule, tag, bytes, code);
         } else {
             let written = &bytes[..16 - at as usize];
             put_bytes(&rt, list, granule, at, written);
@@ -267,6 +349,10 @@ fn a_list_and_pages_agree(rt: HostRuntime) {
         }
         assert_eq!(rt; pages.get(granule), list.get(granule));
         assert_eq!(rt; pages.get(read), list.get(read));
+        assert_eq!(rt; pages.code(granule), list.code(granule));
+        assert_eq!(rt; pages.code(read), list.code(read));
+        assert_eq!(rt; pages.next_put(read), list.next_put(read));
+        assert_eq!(rt; pages.next_put(read + 1), list.next_put(read + 1));
         assert_eq!(rt; pages.count(), list.count());
     }
 }
@@ -279,6 +365,16 @@ fn pages_count_each_granule_once(rt: HostRuntime) {
 #[test]
 fn pages_write_over_zeros(rt: HostRuntime) {
     writes_over_zeros(&rt, &mut PageStore::new(rt.alloc()));
+}
+
+#[test]
+fn pages_keep_codes(rt: HostRuntime) {
+    keeps_codes(&rt, &mut PageStore::new(rt.alloc()));
+}
+
+#[test]
+fn pages_find_the_next_put(rt: HostRuntime) {
+    finds_the_next_put(&rt, &mut PageStore::new(rt.alloc()));
 }
 
 #[test]

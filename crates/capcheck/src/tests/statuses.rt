@@ -78,7 +78,10 @@ const YES: &[u8] = b"capcheck 1\nend 0\n";
 
 const NO: &[u8] = b"capcheck 1\nend 1\n";
 
-const JUDGE: Option<Order<'static>> = Some(Order::Judge { file: None });
+const JUDGE: Option<Order<'static>> = Some(Order::Judge {
+    origins: false,
+    file: None,
+});
 
 #[test]
 fn a_yes(rt: HostRuntime) -> Result<(), Fail> {
@@ -115,7 +118,10 @@ fn bad_words(rt: HostRuntime) -> Result<(), Fail> {
 
 #[test]
 fn no_such_file(rt: HostRuntime) -> Result<(), Fail> {
-    let order = Some(Order::Judge { file: Some("gone") });
+    let order = Some(Order::Judge {
+        origins: false,
+        file: Some("gone"),
+    });
     let mut out = Vec::new(rt.alloc());
     let mut faults = Vec::new(rt.alloc());
     let status = run::<Broken, _, _>(rt.alloc(), order, None, &mut out, &mut faults);
@@ -221,8 +227,20 @@ fn a_fault_on_standard_error_changes_nothing(rt: HostRuntime) -> Result<(), Fail
 #[test]
 fn words(rt: HostRuntime) {
     assert_eq!(rt; read_words(&["judge"]), JUDGE);
-    assert!(rt; read_words(&["judge", "log"]) == Some(Order::Judge { file: Some("log") }));
-    assert!(rt; read_words(&["judge", ""]) == Some(Order::Judge { file: Some("") }));
+    assert!(rt;
+        read_words(&["judge", "log"])
+            == Some(Order::Judge {
+                origins: false,
+                file: Some("log")
+            })
+    );
+    assert!(rt;
+        read_words(&["judge", ""])
+            == Some(Order::Judge {
+                origins: false,
+                file: Some("")
+            })
+    );
     assert_eq!(rt; read_words(&["judge", "-"]), None);
     assert_eq!(rt; read_words(&["judge", "a", "b"]), None);
     assert_eq!(rt; read_words(&["judges"]), None);

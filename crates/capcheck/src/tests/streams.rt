@@ -1,11 +1,12 @@
 //! Logs that come in pieces, and without end.
 
-use crate::judging::judge;
+use crate::judging::{judge, judge_in};
 use crate::reporting::judge_to;
 use crate::tests::made::{Made, Moves};
 use crate::verdict::Verdict;
 use cap_log::{PullFault, SliceSink, Source};
 use cap_machine::Refusal;
+use tagmem::{ListStore, NoMemory, TaggedStore};
 
 // One byte for ever.
 #[derive(Drop)]
@@ -68,4 +69,55 @@ fn moves_made_as_they_are_pulled(rt: HostRuntime) {
     );
     assert_eq!(rt; sink.taken(), 13);
     assert!(rt; room.starts_with(b"yes 100000 1\n"));
+}
+
+// A store that refuses each granule that is put for the first time.
+#[derive(Drop)]
+struct Refusing {
+    inner: ListStore,
+}
+
+impl TaggedStore for Refusing {
+    ghost contents = { λ s. ⟦<ListStore as TaggedStore>⟧.contents s.inner };
+
+    ghost are_stored = { λ s. ⟦<ListStore as TaggedStore>⟧.are_stored s.inner };
+
+    ghost count_fits = { λ s. ⟦<ListStore as TaggedStore>⟧.count_fits s.inner };
+
+    fn get(&self, granule: u64) -> Option<(bool, [u8; 16])> {
+        self.inner.get(granule)
+    }
+
+    fn put_cap(&mut self, granule: u64, tag: bool, bytes: [u8; 16]) -> Result<(), NoMemory> {
+        if self.inner.get(granule).is_none() {
+            return Err(NoMemory);
+        }
+        self.inner.put_cap(granule, tag, bytes)
+    }
+
+    fn put_bytes(&mut self, granule: u64, at: u8, bytes: &[u8]) -> Result<(), NoMemory> {
+        if self.inner.get(granule).is_none() {
+            return Err(NoMemory);
+        }
+        self.inner.put_bytes(granule, at, bytes)
+    }
+
+    fn count(&self) -> u32 {
+        self.inner.count()
+    }
+}
+
+// A judge of lines that name no granule takes no memory: it has no allocator, and a store that refuses all.
+#[test]
+fn moves_judged_without_memory(rt: HostRuntime) {
+    let memory = Refusing {
+        inner: ListStore::new(rt.alloc()),
+    };
+    assert_eq!(rt; memory.count(), 0);
+    let steps = 100_000;
+    let roots = 1;
+    assert_eq!(rt;
+        judge_in(&mut Made::new(Moves(100_000)), memory),
+        Ok(Verdict::Yes { steps, roots })
+    );
 }

@@ -91,11 +91,18 @@ fn read_judge<'a>(operands: &[&'a str]) -> Option<Order<'a>>
     ensures some { IfSome result (λ order. Asks (codes "judge" ∷ map (λ word. word.now) operands.now) order) }
     ensures none { IfNone result ((order : Order) → Asks (codes "judge" ∷ map (λ word. word.now) operands.now) order → ⊥) }
 {
+    let (origins, operands) = take_option("--origins", operands);
     match operands {
-        [] => Some(Order::Judge { file: None }),
+        [] => Some(Order::Judge {
+            origins,
+            file: None,
+        }),
         [file] => {
             if is_operand(file) {
-                Some(Order::Judge { file: Some(*file) })
+                Some(Order::Judge {
+                    origins,
+                    file: Some(*file),
+                })
             } else {
                 None
             }

@@ -1,7 +1,6 @@
-use Rattle.std.proofs.Common.{length, ap, subst, List, ℕ}
+use Rattle.std.proofs.Common.{length, subst}
 use Rattle.std.specs.Io.KnownBytes.{Consumes}
-use Rattle.capcheck.specs.VerdictLines.{verdict_line}
-use Rattle.capcheck.proofs.DoingLemmas.{flushed, flushed_all}
+use Rattle.capcheck.proofs.DoingLemmas.{flushed_all}
 use Rattle.capcheck.proofs.inputs.judge_reader.Goals as goal
 
 pub returns-in-Ok : goal.returns-in-Ok
@@ -14,6 +13,6 @@ returns-in-Ok g c =
         rest = g.R.Read.remaining source.reader;
         gives = subst (λ reader. Consumes (g.R.Read.remaining reader) (g.R.Read.remaining source.reader) r.given) c.new-source.ensures.reader r.gives;
         all_given = source.all_given;
-        written = (c.in-Ok.verdict, r.report.0, length (verdict_line c.in-Ok.verdict), flushed_all _ _ _ _ r.report.1 c.flush.ensures.bytes);
+        written = (c.in-Ok.verdict, r.report.0, r.report.1, r.report.2, length r.report.1, flushed_all _ _ _ _ r.report.3 c.flush.ensures.bytes);
       };
     }

@@ -1,4 +1,4 @@
-use Rattle.std.proofs.Common.{◌≡◌, ◌≢◌, Err, Ok, IfOk, IfErr, ◌∙◌, sym, arith, rules}
+use Rattle.std.proofs.Common.{IfOk, IfErr, arith, rules}
 use Rattle.cap_machine.proofs.AuthorityLemmas.{one_root}
 use Rattle.cap_machine.proofs.AccessLemmas.{lie_inside}
 use Rattle.capcheck.specs.Verdicts.{IsVerdict, IsFault}

@@ -1,6 +1,4 @@
-use Rattle.std.proofs.Common.{◌≡◌, ℕ, List, take, rules, refl, ◌∙◌}
 use Rattle.std.specs.Io.KnownBytes.{Appends}
-use Rattle.capcheck.specs.RoundLines.{round_lines}
 use Rattle.capcheck.specs.Answers.{ShowsRounding}
 use Rattle.capcheck.proofs.OperandLemmas.{refused_request}
 use Rattle.capcheck.proofs.ShownLemmas.{shown}

@@ -1,5 +1,5 @@
 use Rattle.std.proofs.Common.{Ok, ap, ◌∙◌, rules, arith}
-use Rattle.capcheck.proofs.VectorFileLemmas.{passes, begins_empty, pulled, all_passed, truncated, too_long, line_fails, line_passes}
+use Rattle.capcheck.proofs.VectorFileLemmas.{passes, pulled, all_passed, truncated, too_long, line_fails, line_passes}
 use Rattle.capcheck.proofs.vectors.vectors.Goals as goal
 
 pub returns-in-Err-clause-checked : goal.returns-in-Err-clause-checked

@@ -7,4 +7,4 @@ pub returns-in-Ok : goal.returns-in-Ok
 returns-in-Ok g c =
     let old = held_of g.M.TaggedStore.contents c.args.self.now in
     subst (λ (held : Held). Takes old c.args.place c.args.word (record held { roots = held.roots + 1 })) (sym c.in-Ok.ensures.ok)
-    (took old c.args.place c.args.word (search rules) c.requires (search rules) (sym c.root_fault.ensures ∙ c.in_default.is))
+    (took old c.args.place c.args.word (search rules) (search rules) c.requires (search rules) (sym c.root_fault.ensures ∙ c.in_default.is))

@@ -1,15 +1,16 @@
-use Rattle.std.proofs.Common.{IfOk, Result, rules, subst}
-use Rattle.cap_word.specs.declared.word.Cap.{Cap}
-use Rattle.cap_ops.specs.declared.faults.OpFault.{OpFault}
-use Rattle.cap_machine.specs.Parents.{IsSoundCap}
+use Rattle.std.proofs.Common.{rules, subst, sym}
+use Rattle.cap_machine.specs.Places.{IsCoded}
 use Rattle.cap_machine.proofs.SoundLemmas.{zero_register, sound_register}
+use Rattle.cap_machine.proofs.CodeLemmas.{coded_register}
 use Rattle.cap_machine.proofs.machine.Machine.finish.Goals as goal
 
 pub invariant_of-self : goal.invariant_of-self
 invariant_of-self g c =
     let machine = c.args.self.now in
-    let one = subst (λ (outcome : Result Cap OpFault). IfOk outcome (λ cap. IsSoundCap cap)) c.in-Ok.is c.requires.sound in
+    let memory = g.M.TaggedStore.contents machine.memory in
     record {
-      zero = zero_register machine.registers c.args.target c.in-Ok.derived c.requires.written machine.zero;
-      sound = sound_register machine.registers (g.M.TaggedStore.contents machine.memory) c.args.target c.in-Ok.derived (search rules) c.requires.low machine.sound one;
+      zero = zero_register machine.registers c.args.target c.args.derived c.requires.target.0 machine.zero;
+      sound = sound_register machine.registers memory c.args.target c.args.derived (search rules) c.requires.target.1 machine.sound c.requires.sound;
+      coded = coded_register machine.registers machine.codes memory c.args.target c.args.derived c.code_for.result (search rules) (search rules)
+          c.requires.target.1 machine.coded (subst (IsCoded c.args.derived.tag) (sym c.code_for.ensures) c.requires.coded);
     }

@@ -1,18 +1,21 @@
-use Rattle.std.proofs.Common.{false, sym, subst}
+use Rattle.std.proofs.Common.{false, refl, lit<, sym, subst}
 use Rattle.cap_word.specs.Memory.{low_bytes}
-use Rattle.tagmem.specs.Granules.{Granules, bytes_at, overwritten}
-use Rattle.cap_machine.specs.Places.{places_of}
+use Rattle.tagmem.specs.Granules.{Granules, Entry, bytes_at, overwritten}
+use Rattle.cap_machine.specs.Places.{AreCoded, codes_of, places_of}
 use Rattle.cap_machine.specs.Parents.{IsSoundState}
 use Rattle.cap_machine.proofs.SoundLemmas.{sound_granule, untagged_sound}
+use Rattle.cap_machine.proofs.CodeLemmas.{coded_granule}
 use Rattle.cap_machine.proofs.machine.Machine.put_value_counted.Goals as goal
 
 pub invariant_of-self : goal.invariant_of-self
 invariant_of-self g c =
     let machine = c.args.self.now in
     let old = g.M.TaggedStore.contents machine.memory in
+    let entry : Entry = (false, overwritten (bytes_at old c.args.granule) c.args.at (low_bytes c.args.size c.args.value), 0) in
     record {
       zero = machine.zero;
       sound = subst (λ (m : Granules). IsSoundState (places_of machine.registers m)) (sym c.in-Ok.ensures.ok)
-          (sound_granule machine.registers old c.args.granule (false, overwritten (bytes_at old c.args.granule) c.args.at (low_bytes c.args.size c.args.value)) machine.sound
-          (untagged_sound _));
+          (sound_granule machine.registers old c.args.granule entry machine.sound (untagged_sound _));
+      coded = subst (λ (m : Granules). AreCoded (places_of machine.registers m) (codes_of machine.codes m)) (sym c.in-Ok.ensures.ok)
+          (coded_granule machine.registers machine.codes old c.args.granule entry machine.coded ((λ _. refl, λ _. refl), lit< tt));
     }

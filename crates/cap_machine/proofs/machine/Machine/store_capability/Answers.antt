@@ -1,40 +1,36 @@
-use Rattle.std.proofs.Common.{refl, ◌≡◌, ◌<◌, ℕ, ℤ, ◌/◌, ◌^◌, subst, rules, Some, None}
-use Rattle.std.proofs.lemmas.Int.{to_z-of_z}
-use Rattle.std.specs.Prelude.{FitsSigned}
-use Rattle.std.specs.Int.{w16, cast_signed, cast_unsigned}
+use Rattle.std.proofs.Common.{refl, get_or, ◌≡◌, ◌<◌, ℕ, ◌/◌, ◌^◌, subst, rules, Some, None, Ok, Err}
 use Rattle.cap_word.specs.declared.word.Cap.{Cap}
 use Rattle.cap_log.specs.declared.lines.Step.TheVariants as steps
 use Rattle.cap_ops.specs.declared.kinds.Kind.TheVariants as kinds
 use Rattle.cap_ops.specs.Tests.{first_of}
 use Rattle.cap_ops.specs.Accesses.{access_address, access_tests}
-use Rattle.cap_machine.specs.Helds.{held_of, state_of, with_cap_put}
-use Rattle.cap_machine.proofs.MadeLemmas.{EndsPutIn, stored, faulted_as}
+use Rattle.cap_machine.specs.Changes.{Reaches}
+use Rattle.cap_machine.specs.Helds.{held_of, state_of}
+use Rattle.cap_machine.specs.Changes.{with_cap_put}
+use Rattle.cap_machine.proofs.MadeLemmas.{EndsPutIn, stored, faulted_as, passed}
 use Rattle.cap_machine.proofs.machine.Machine.store_capability.Goals as goal
-
--- what the tests of the access answer, at the state's own capabilities
-at_state : (P : Cap → Cap → ℤ → Type 0) (a b c d : Cap) (offset : ℤ) → FitsSigned w16 offset → a ≡ b → c ≡ d
-    → P a c (cast_signed w16 (cast_unsigned w16 offset)) → P b d offset
-at_state P a b c d offset fits e f h =
-    subst (λ (x : Cap). P x d offset) e (subst (λ (x : Cap). P a x offset) f (subst (λ (o : ℤ). P a c o) (to_z-of_z w16 offset fits) h))
 
 pub returns-in-Ok : goal.returns-in-Ok
 returns-in-Ok g c =
-    let old = held_of g.M.TaggedStore.contents c.args.self.now in
+    let machine = c.args.self.now in
+    let old = held_of g.M.TaggedStore.contents machine in
     let new = held_of g.M.TaggedStore.contents c.put_counted.new.self in
     let state = state_of old in
     let address = c.in-Ok.address in
-    let out = at_state (λ cap authority offset. (first_of (access_tests authority (kinds.StoreCap cap) offset 16) ≡ None) × (address ≡ access_address authority.word.0 offset))
-    _ (state c.args.source) _ (state c.args.authority) c.args.offset (search rules) c.register-stored.ensures.holds c.register.ensures.holds c.in-Ok.ensures.outcome in
-    let put_there = subst (λ (cap : Cap). EndsPutIn old (address / 16) (with_cap_put old (address / 16) cap) c.put_counted.result new) c.register-stored.ensures.holds c.put_counted.ensures in
-    let put_through = subst (λ (a : ℕ). EndsPutIn old (a / 16) (with_cap_put old (a / 16) (state c.args.source)) c.put_counted.result new) out.1 put_there in
-    let small = subst (λ (cap : Cap). cap.word.0 < 2 ^ 128) c.register-stored.ensures.holds (search rules) in
-    stored old new c.args.source c.args.authority c.args.offset c.put_counted.result small out.0 put_through
+    let code = get_or old.codes c.args.source 0 in
+    let is = c.register-stored.ensures.holds in
+    let out = subst (λ (cap : Cap). (first_of (access_tests (state c.args.authority) (kinds.StoreCap cap) c.args.offset 16) ≡ None)
+    × (address ≡ access_address (state c.args.authority).word.0 c.args.offset)) is
+    (passed (λ o. Reaches (state_of old) c.args.authority (kinds.StoreCap c.register-stored.result) o 16 (Ok c.in-Ok.address)) c.args.offset (search rules) c.in-Ok.ensures.outcome) in
+    let put_there = subst (λ (cap : Cap). EndsPutIn old (address / 16) (with_cap_put old (address / 16) cap code) c.put_counted.result new) is c.put_counted.ensures in
+    let put_through = subst (λ (a : ℕ). EndsPutIn old (a / 16) (with_cap_put old (a / 16) (state c.args.source) code) c.put_counted.result new) out.1 put_there in
+    stored old new c.args.source c.args.authority c.args.offset c.put_counted.result (subst (λ (cap : Cap). cap.word.0 < 2 ^ 128) is (search rules))
+    c.requires.source (machine.coded c.args.source) out.0 put_through
 
 pub returns-in-Err : goal.returns-in-Err
 returns-in-Err g c =
     let old = held_of g.M.TaggedStore.contents c.args.self.now in
-    let state = state_of old in
-    let fault = c.in-Err.fault in
-    let found = at_state (λ cap authority offset. first_of (access_tests authority (kinds.StoreCap cap) offset 16) ≡ Some fault)
-    _ (state c.args.source) _ (state c.args.authority) c.args.offset (search rules) c.register-stored.ensures.holds c.register.ensures.holds c.in-Err.ensures.outcome in
-    faulted_as old (steps.StoreCap c.args.source c.args.authority c.args.offset) _ fault c.from.result refl found c.from.ensures
+    let found = subst (λ (cap : Cap). first_of (access_tests (state_of old c.args.authority) (kinds.StoreCap cap) c.args.offset 16) ≡ Some c.in-Err.fault)
+    c.register-stored.ensures.holds
+    (passed (λ o. Reaches (state_of old) c.args.authority (kinds.StoreCap c.register-stored.result) o 16 (Err c.in-Err.fault)) c.args.offset (search rules) c.in-Err.ensures.outcome) in
+    faulted_as old (steps.StoreCap c.args.source c.args.authority c.args.offset) _ c.in-Err.fault c.from.result refl found c.from.ensures

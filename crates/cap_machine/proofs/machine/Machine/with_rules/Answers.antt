@@ -1,9 +1,9 @@
 use Rattle.std.proofs.Common.{ℕ, ap, false}
 use Rattle.std.specs.FinMap as map
 use Rattle.cap_word.specs.declared.word.Cap.{Cap}
-use Rattle.cap_machine.specs.Parents.{IsSoundState}
-use Rattle.cap_machine.proofs.StateLemmas.{blank_state, blank_account}
+use Rattle.cap_machine.proofs.StateLemmas.{blank_account, blank_code, blank_state}
 use Rattle.cap_machine.proofs.SoundLemmas.{IsSoundState-blank}
+use Rattle.cap_machine.proofs.CodeLemmas.{coded_blank}
 use Rattle.cap_machine.proofs.machine.Machine.with_rules.Goals as goal
 
 pub returns : goal.returns
@@ -12,8 +12,12 @@ returns g c =
     (ap (λ (n : ℕ). let cap : Cap = record { tag = false; word = record { 0 = n } } in cap) c.null.ensures)
 
 pub invariant_of-result : goal.invariant_of-result
-invariant_of-result g c = record {
-  zero = ap (λ (n : ℕ). let cap : Cap = record { tag = false; word = record { 0 = n } } in cap) c.null.ensures;
-  sound = IsSoundState-blank _ (λ key. blank_state (g.M.TaggedStore.contents c.args.memory) _ key (map.empty_of_len _ c.requires)
-      (ap (λ (n : ℕ). let cap : Cap = record { tag = false; word = record { 0 = n } } in cap) c.null.ensures));
-}
+invariant_of-result g c =
+    let memory = g.M.TaggedStore.contents c.args.memory in
+    let null = ap (λ (n : ℕ). let cap : Cap = record { tag = false; word = record { 0 = n } } in cap) c.null.ensures in
+    let empty = map.empty_of_len _ c.requires in
+    record {
+      zero = null;
+      sound = IsSoundState-blank _ (λ key. blank_state memory _ key empty null);
+      coded = coded_blank _ _ (λ key. blank_state memory _ key empty null) (λ key. blank_code memory key empty);
+    }

@@ -1,10 +1,4 @@
-use Rattle.std.proofs.Common.{rules, subst, sym}
-use Rattle.cap_log.specs.declared.lines.Line.{Line}
-use Rattle.cap_log.specs.declared.lines.Line.TheVariants.{Step}
-use Rattle.cap_log.specs.Lines.{IsInRange}
-use Rattle.std.specs.Prelude.{OnOk}
 use Rattle.cap_machine.specs.Helds.{held_of}
-use Rattle.capcheck.specs.Progresses.{Takes}
 use Rattle.capcheck.proofs.ResultLemmas.{ok_part}
 use Rattle.capcheck.proofs.ProgressLemmas.{stepped}
 use Rattle.capcheck.proofs.progress.Progress.take.Goals as goal

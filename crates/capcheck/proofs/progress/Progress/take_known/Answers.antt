@@ -1,4 +1,4 @@
-use Rattle.std.proofs.Common.{◌≡◌, sym, ◌∙◌, ap}
+use Rattle.std.proofs.Common.{sym, ◌∙◌, ap}
 use Rattle.cap_machine.specs.Helds.{held_of}
 use Rattle.capcheck.specs.Logs.{has_form}
 use Rattle.capcheck.proofs.HeaderLemmas.{no_form}

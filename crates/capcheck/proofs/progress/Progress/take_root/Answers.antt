@@ -1,4 +1,4 @@
-use Rattle.std.proofs.Common.{rules, sym, arith, ◌≡◌, ◌∙◌}
+use Rattle.std.proofs.Common.{rules, arith, ◌≡◌}
 use Rattle.cap_log.specs.declared.lines.Line.TheVariants.{Root}
 use Rattle.cap_machine.specs.Helds.{held_of}
 use Rattle.capcheck.specs.Progresses.{EndsFor}

@@ -16,12 +16,12 @@ replace-requires-clause-stored c =
     let listed = c.index.result.now in
     let fits : All (λ byte. byte < 256) c.args.bytes.now = All-from_get_or (λ byte. byte < 256) c.args.bytes.now 0 (λ i lt. (c.type_inv.bytes i).fits) in
     let stored : IsStored listed.granule (entry_of listed) = subst (λ (x : Listed). IsStored x.granule (entry_of x)) (sym c.index.ensures) (s.stored c.in-Ok.place listed c.in-Ok.ensures.found.in_range) in
-    rw c.overwrite.ensures (IsStored-overwritten listed.granule (entry_of listed) c.args.tag c.args.at c.args.bytes.now stored c.requires.inside fits)
+    rw c.overwrite.ensures (IsStored-overwritten listed.granule (entry_of listed) c.args.tag c.args.at c.args.bytes.now c.args.code stored c.requires.inside fits (omega arith) c.requires.coded)
 
 pub insert-requires-clause-stored : goal.insert-requires-clause-stored
 insert-requires-clause-stored c =
     let fits : All (λ byte. byte < 256) c.args.bytes.now = All-from_get_or (λ byte. byte < 256) c.args.bytes.now 0 (λ i lt. (c.type_inv.bytes i).fits) in
-    rw c.overwrite-in-Err.ensures (IsStored-overwritten c.args.granule blank c.args.tag c.args.at c.args.bytes.now (IsStored-blank c.args.granule c.requires.in_memory) c.requires.inside fits)
+    rw c.overwrite-in-Err.ensures (IsStored-overwritten c.args.granule blank c.args.tag c.args.at c.args.bytes.now c.args.code (IsStored-blank c.args.granule c.requires.in_memory) c.requires.inside fits (omega arith) c.requires.coded)
 
 -- a granule that is not there finds room
 pub insert-requires-clause-room : goal.insert-requires-clause-room
@@ -38,8 +38,8 @@ returns-in-Ok-clause-ok c =
     let read = read_at s.entries.items s.rising c.args.granule c.in-Ok.place c.in-Ok.ensures.found c.index.result.now c.index.ensures in
     let bytes_are : bytes_at old c.args.granule ≡ c.index.result.now.bytes = ap (λ o. (unwrap_or o blank).1) read.entry_is in
     c.replace.ensures
-    ∙ ap (λ granule. map.insert old granule (c.args.tag, c.overwrite.new.granule)) read.granule_is
-    ∙ ap (λ bytes. map.insert old c.args.granule (c.args.tag, bytes)) (c.overwrite.ensures ∙ ap (λ bytes. overwritten bytes c.args.at c.args.bytes.now) (sym bytes_are))
+    ∙ ap (λ granule. map.insert old granule (c.args.tag, c.overwrite.new.granule, c.args.code)) read.granule_is
+    ∙ ap (λ bytes. map.insert old c.args.granule (c.args.tag, bytes, c.args.code)) (c.overwrite.ensures ∙ ap (λ bytes. overwritten bytes c.args.at c.args.bytes.now) (sym bytes_are))
 
 -- nothing stood in it, so the new bytes are over zeros
 pub returns-in-Err-clause-ok : goal.returns-in-Err-clause-ok

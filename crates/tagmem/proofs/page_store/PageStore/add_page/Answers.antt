@@ -1,49 +1,82 @@
-use Rattle.std.proofs.Common.{◌≡◌, ◌∷◌, [], ◌++◌, length, ap, ◌∙◌, arith}
-use Rattle.std.specs.FinMap.{from_entries}
+use Rattle.std.proofs.Common.{◌≡◌, ◌<◌, ◌∷◌, [], ◌++◌, ◌%◌, length, All, ap, ◌∙◌, arith}
+use Rattle.std.specs.Box.{with_value}
+use Rattle.std.proofs.lemmas.List.Elements.{All-from_get_or}
 use Rattle.tagmem.specs.declared.page.Page.{Page}
 use Rattle.tagmem.specs.Pages.{contents_of}
-use Rattle.tagmem.proofs.Directories.{IsDirectory-same, IsDirectory-push, IsPageAt-push, entries_of-push}
+use Rattle.tagmem.proofs.Directories.{IsDirectory-same}
+use Rattle.tagmem.proofs.Pages.{get_absent}
+use Rattle.tagmem.proofs.Writes.{IsWritten}
+use Rattle.tagmem.proofs.Added.{IsAdded, IsDirectory-add, EachUsed-add, contents_of-add, AreStored-add, len-add}
 use Rattle.tagmem.proofs.page_store.PageStore.add_page.Goals as goal
 
 -- where memory is refused the pages are what they were
 pub invariant_of-self : goal.invariant_of-self
 invariant_of-self c =
     let s = c.args.self.now in
-    rw c.reserve.ensures.items (record { known = s.known; stored = s.stored; counted = s.counted; fits = s.fits })
+    rw c.reserve.ensures.items (record { known = s.known; used = s.used; stored = s.stored; counted = s.counted; fits = s.fits })
 
 pub invariant_of-self-in_default-insert : goal.invariant_of-self-in_default-insert
 invariant_of-self-in_default-insert c =
     let s = c.args.self.now in
     let known = IsDirectory-same s.pages.items s.directory c.insert.new.self c.in_default-insert.ensures.err s.known in
-    rw c.reserve.ensures.items (record { known = known; stored = s.stored; counted = s.counted; fits = s.fits })
+    rw c.reserve.ensures.items (record { known = known; used = s.used; stored = s.stored; counted = s.counted; fits = s.fits })
 
--- else there is a page more, which has no entries
-pub returns-clause-contents : goal.returns-clause-contents
-returns-clause-contents c =
-    let none = rw (← c.in-Ok.ensures.ok) at c.new.ensures.slots in
-    ap contents_of (c.push_reserved.ensures.items ∙ ap (λ items. items ++ c.in-Ok.page ∷ []) c.reserve.ensures.items)
-    ∙ ap from_entries (entries_of-push c.args.self.now.pages.items c.in-Ok.page none)
-
-pub returns-clause-place : goal.returns-clause-place
-returns-clause-place c =
+pub overflow_add-self : goal.overflow_add-self
+overflow_add-self c =
     let s = c.args.self.now in
+    omega (arith, s.counted, c.requires.room (get_absent s.pages.items c.args.granule c.requires.absent))
+
+-- else there is a page more, with a write in it
+pub returns-clause-ok : goal.returns-clause-ok
+returns-clause-ok c =
+    let s = c.args.self.now in
+    let box = with_value c.in-Ok.page c.put.new.self in
+    let items = c.push_reserved.ensures.items ∙ ap (λ items. items ++ box ∷ []) c.reserve.ensures.items in
     let number = ap (λ (page : Page). page.number) c.in-Ok.ensures.ok ∙ c.new.ensures.number in
-    let items = c.push_reserved.ensures.items ∙ ap (λ items. items ++ c.in-Ok.page ∷ []) c.reserve.ensures.items in
+    let none = rw (← c.in-Ok.ensures.ok) at c.new.ensures.slots in
     let last : c.len-place.result ≡ length s.pages.items = omega (arith, s.pages.ok.0, c.len-place.ensures, c.reserve.ensures.len) in
-    rw items (IsPageAt-push s.pages.items c.in-Ok.page c.args.number c.len-place.result number last)
+    let written : IsWritten c.in-Ok.page.value c.put.new.self (c.args.granule % 256) c.args.tag c.args.at c.args.bytes.now c.args.code =
+    rw (← c.deref_mut.ensures.value) (record { number = c.put.ensures.number; slots = c.put.ensures.slots }) in
+    let added : IsAdded s.pages.items s.directory c.insert.new.self c.len-place.result c.args.granule c.in-Ok.page c.put.new.self _ _ _ _ = record {
+      known = s.known;
+      used = s.used;
+      absent = c.requires.absent;
+      number = number;
+      none = none;
+      last = last;
+      updates = c.in-Ok-insert.ensures.updates;
+      written = written;
+    } in
+    ap contents_of items ∙ contents_of-add _ _ _ _ _ _ _ _ _ _ _ added
 
 pub invariant_of-self-2 : goal.invariant_of-self-2
 invariant_of-self-2 c =
     let s = c.args.self.now in
-    let none = rw (← c.in-Ok.ensures.ok) at c.new.ensures.slots in
+    let box = with_value c.in-Ok.page c.put.new.self in
+    let items = c.push_reserved.ensures.items ∙ ap (λ items. items ++ box ∷ []) c.reserve.ensures.items in
     let number = ap (λ (page : Page). page.number) c.in-Ok.ensures.ok ∙ c.new.ensures.number in
-    let items = c.push_reserved.ensures.items ∙ ap (λ items. items ++ c.in-Ok.page ∷ []) c.reserve.ensures.items in
+    let none = rw (← c.in-Ok.ensures.ok) at c.new.ensures.slots in
     let last : c.len-place.result ≡ length s.pages.items = omega (arith, s.pages.ok.0, c.len-place.ensures, c.reserve.ensures.len) in
-    let entries = entries_of-push s.pages.items c.in-Ok.page none in
+    let written : IsWritten c.in-Ok.page.value c.put.new.self (c.args.granule % 256) c.args.tag c.args.at c.args.bytes.now c.args.code =
+    rw (← c.deref_mut.ensures.value) (record { number = c.put.ensures.number; slots = c.put.ensures.slots }) in
+    let added : IsAdded s.pages.items s.directory c.insert.new.self c.len-place.result c.args.granule c.in-Ok.page c.put.new.self _ _ _ _ = record {
+      known = s.known;
+      used = s.used;
+      absent = c.requires.absent;
+      number = number;
+      none = none;
+      last = last;
+      updates = c.in-Ok-insert.ensures.updates;
+      written = written;
+    } in
+    let len = len-add _ _ _ _ _ _ _ _ _ _ _ added in
+    let room = c.requires.room (get_absent s.pages.items c.args.granule c.requires.absent) in
+    let bytes : All (λ byte. byte < 256) c.args.bytes.now =
+    All-from_get_or (λ byte. byte < 256) c.args.bytes.now 0 (λ i lt. (c.type_inv.bytes i).fits) in
     rw items (record {
-      known = IsDirectory-push s.pages.items c.in-Ok.page c.args.number c.len-place.result number last s.directory c.insert.new.self
-          c.requires s.known c.in-Ok-insert.ensures.updates;
-      stored = rw entries s.stored;
-      counted = rw entries s.counted;
-      fits = rw entries s.fits;
+      known = IsDirectory-add _ _ _ _ _ _ _ _ _ _ _ added;
+      used = EachUsed-add _ _ _ _ _ _ _ _ _ _ _ added;
+      stored = AreStored-add _ _ _ _ _ _ _ _ _ _ _ added c.requires.in_memory c.requires.inside bytes (omega arith) c.requires.coded s.stored;
+      counted = omega (arith, len, s.counted);
+      fits = omega (arith, len, room);
     })

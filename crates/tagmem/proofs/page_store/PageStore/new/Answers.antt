@@ -1,6 +1,7 @@
 use Rattle.std.proofs.Common.{sym, ◌∙◌, arith}
 use Rattle.std.specs.FinMap as map
 use Rattle.std.specs.Ordering.{nat_cmp}
+use Rattle.std.proofs.lemmas.List.Elements.{All-nil}
 use Rattle.std.proofs.lemmas.Option.{none-some}
 use Rattle.tagmem.specs.Granules.{Entry}
 use Rattle.tagmem.proofs.Directories.{IsDirectory-empty}
@@ -11,6 +12,7 @@ invariant_of-result c =
     let empty = map.len-empty nat_cmp Entry in
     rw c.new.ensures.items (record {
       known = IsDirectory-empty c.new-2.result c.new-2.ensures.empty;
+      used = All-nil _;
       stored = λ g entry is. absurd (none-some entry (sym (map.get-empty nat_cmp g) ∙ is));
       counted = omega (arith, empty);
       fits = omega (arith, empty);

@@ -8,5 +8,5 @@ on_err (Ok _) P holds = tt
 on_err (Err _) P holds = holds
 
 -- a granule whose page is absent was never put
-pub returns-in_err-place-in-None-clause-only_new : goal.returns-in_err-place-in-None-clause-only_new
-returns-in_err-place-in-None-clause-only_new c = on_err _ _ (get_absent c.args.self.now.pages.items c.args.granule c.in-None.ensures)
+pub returns-in-None-clause-only_new : goal.returns-in-None-clause-only_new
+returns-in-None-clause-only_new c = on_err _ _ (get_absent c.args.self.now.pages.items c.args.granule c.in-None.ensures)

@@ -1,5 +1,6 @@
 use Rattle.std.proofs.Common.{◌%◌, get_or, None, sym, ap, ◌∙◌}
 use Rattle.tagmem.specs.declared.page.Page.{Page}
+use Rattle.tagmem.specs.Granules.{shown}
 use Rattle.tagmem.specs.Pages.{slots_of}
 use Rattle.tagmem.proofs.Pages.{get_present, get_absent}
 use Rattle.tagmem.proofs.page_store.PageStoreTaggedStore.get.Goals as goal
@@ -8,10 +9,10 @@ use Rattle.tagmem.proofs.page_store.PageStoreTaggedStore.get.Goals as goal
 pub returns-in-Some : goal.returns-in-Some
 returns-in-Some c =
     let s = c.args.self.now in
-    let says = λ (page : Page). get_or (slots_of page) (c.args.granule % 256) None in
+    let says = λ (page : Page). shown (get_or (slots_of page) (c.args.granule % 256) None) in
     c.get.ensures ∙ ap says c.deref.ensures ∙ ap (λ box. says box.value) c.index.ensures
-    ∙ sym (get_present s.pages.items s.directory s.known c.args.granule c.in-Some.place c.index.result.now c.in-Some.ensures)
+    ∙ sym (ap shown (get_present s.pages.items s.directory s.known c.args.granule c.in-Some.place c.index.result.now c.in-Some.ensures))
 
 -- or it is absent
 pub returns-in-None : goal.returns-in-None
-returns-in-None c = sym (get_absent c.args.self.now.pages.items c.args.granule c.in-None.ensures)
+returns-in-None c = sym (ap shown (get_absent c.args.self.now.pages.items c.args.granule c.in-None.ensures))

@@ -1,0 +1,145 @@
+-- Codes of origins: what they are after each kind of change, and which origins they make.
+use Rattle.std.proofs.Common.{◌≡◌, ℕ, ◌+◌, ◌-◌, ◌^◌, ◌<◌, ◌≤◌, Bool, true, false, ◌==◌, nat_lt, get_or, List, length, refl, sym, ap, subst, ◌∙◌, arith, lit<, Option, Some, None, option_map, IfSome, inl, inr}
+use Rattle.std.specs.Bool.{if◌then◌else◌}
+use Rattle.std.proofs.Math.ListN.{set}
+use Rattle.std.proofs.Math.Path.{fun_ext}
+use Rattle.std.proofs.lemmas.Bool.{cond-true, cond-false, false≢true, cases_lt, lt-ltb, le-ltb}
+use Rattle.std.proofs.lemmas.Bool.Decides.{eqb_tells}
+use Rattle.std.specs.FinMap as map
+use Rattle.cap_word.specs.declared.word.Cap.{Cap}
+use Rattle.cap_log.specs.declared.lines.Place.{Place}
+use Rattle.cap_log.specs.declared.lines.Place.TheVariants.{Register, Granule}
+use Rattle.cap_log.specs.declared.lines.Step.{Step}
+use Rattle.cap_log.specs.Lines.{IsPlace}
+use Rattle.tagmem.specs.Granules.{Granules, Entry}
+use Rattle.cap_machine.specs.States.{State, key_of, put, granule_key, untagged_null}
+use Rattle.cap_machine.specs.Places.{IsCoded, AreCoded, places_of, codes_of, place_at}
+use Rattle.cap_machine.specs.Origins.{Origins, origin_at, origins_after}
+use Rattle.cap_machine.specs.Steps.{row_of, state_with}
+use Rattle.cap_machine.specs.Runs.{hits, parent_in}
+use Rattle.cap_machine.specs.Accounts.{row_in}
+use Rattle.cap_machine.specs.Helds.{Held, state_of, code_in, account_of}
+use Rattle.cap_machine.specs.Changes.{code_for}
+use Rattle.cap_machine.proofs.StateLemmas.{cap_of, state-register, state-granule, codes-register, codes-granule, unlike_false}
+use Rattle.cap_machine.proofs.StepLemmas.{hits-row_by}
+
+-- the places that codes are of
+pub place_at-key : (place : Place) → IsPlace place → place_at (key_of place) ≡ Some place
+place_at-key (Register n) range =
+    cond-false (n == 0) _ _ (unlike_false n 0 (λ e. let f : n ≡ 0 = e in omega (arith, range.0))) ∙ cond-true (nat_lt n 32) _ _ (lt-ltb n 32 (omega (arith, range.1)))
+place_at-key (Granule g) range =
+    let past : nat_lt (g + 32) 32 ≡ false = le-ltb (g + 32) 32 (omega arith) in
+    let back : g + 32 - 32 ≡ g = omega arith in
+    cond-false (g + 32 == 0) _ _ (unlike_false (g + 32) 0 (λ e. let f : g + 32 ≡ 0 = e in omega arith)) ∙ cond-false (nat_lt (g + 32) 32) _ _ past
+    ∙ ap (λ (h : ℕ). Some (Granule h)) back
+
+pub place_in_range : (code : ℕ) → code < 2 ^ 60 + 32 → IfSome (place_at code) IsPlace
+place_in_range code below =
+    elim (eqb_tells code 0) [
+      | inl same ↦ subst (λ (o : Option Place). IfSome o IsPlace) (sym (cond-true (code == 0) None _ same.0)) tt
+      | inr unlike ↦
+          elim (cases_lt code 32) [
+            | inl low ↦
+                subst (λ (o : Option Place). IfSome o IsPlace) (sym (cond-false (code == 0) None _ unlike.0 ∙ cond-true (nat_lt code 32) (Some (Register code)) _ (lt-ltb code 32 low)))
+                (omega (arith, unlike.1), omega arith)
+            | inr high ↦
+                subst (λ (o : Option Place). IfSome o IsPlace) (sym (cond-false (code == 0) None _ unlike.0 ∙ cond-false (nat_lt code 32) _ (Some (Granule (code - 32))) (le-ltb code 32 high)))
+                (omega arith)
+          ]
+    ]
+
+-- the code of a result whose parent has this one
+pub coded_from : (tag parent_tag : Bool) (code : ℕ) → (tag ≡ true → parent_tag ≡ true) → IsCoded parent_tag code → IsCoded tag (code_for tag code)
+coded_from true parent_tag code from coded = subst (λ (b : Bool). IsCoded b code) (from refl) coded
+coded_from false parent_tag code from coded = ((λ _. refl, λ _. refl), lit< tt)
+
+pub code_for-coded : (tag : Bool) (code : ℕ) → IsCoded tag code → code_for tag code ≡ code
+code_for-coded true code coded = refl
+code_for-coded false code coded = sym (coded.0.1 refl)
+
+pub code_for-twice : (tag : Bool) (code : ℕ) → code_for tag (code_for tag code) ≡ code_for tag code
+code_for-twice true code = refl
+code_for-twice false code = refl
+
+-- a root's own code
+pub root_coded : (place : Place) → IsPlace place → IsCoded true (key_of place)
+root_coded (Register n) range = ((λ e. absurd (let f : n ≡ 0 = e in omega (arith, range.0)), λ e. absurd (false≢true (sym e))), omega (arith, range.1))
+root_coded (Granule g) range = ((λ e. absurd (let f : g + 32 ≡ 0 = e in omega arith), λ e. absurd (false≢true (sym e))), let f : g < 2 ^ 60 = range in omega arith)
+
+-- NULL without a tag everywhere
+pub coded_blank : (state : State) (codes : ℕ → ℕ) → ((key : ℕ) → state key ≡ untagged_null) → ((key : ℕ) → codes key ≡ 0) → AreCoded state codes
+coded_blank state codes null none key =
+    subst (λ (cap : Cap). IsCoded cap.tag (codes key)) (sym (null key)) (subst (IsCoded false) (sym (none key)) ((λ _. refl, λ _. refl), lit< tt))
+
+coded_choice : (b : Bool) (x y : Cap) (m n : ℕ) → IsCoded x.tag m → IsCoded y.tag n → let cap : Cap = if b then x else y in IsCoded cap.tag (if b then m else n)
+coded_choice true x y m n h k = h
+coded_choice false x y m n h k = k
+
+coded_put : (state : State) (codes : ℕ → ℕ) (place : ℕ) (cap : Cap) (code : ℕ) → AreCoded state codes → IsCoded cap.tag code
+    → AreCoded (put state place cap) (put codes place code)
+coded_put state codes place cap code all one key = coded_choice (place == key) cap (state key) code (codes key) one (all key)
+
+-- a register that holds another capability, with its code
+pub coded_register : (registers : List Cap) (codes : List ℕ) (memory : Granules) (target : ℕ) (cap : Cap) (code : ℕ) → length registers ≡ 32 → length codes ≡ 32 → target ≤ 31
+    → AreCoded (places_of registers memory) (codes_of codes memory) → IsCoded cap.tag code
+    → AreCoded (places_of (set registers target cap) memory) (codes_of (set codes target code) memory)
+coded_register registers codes memory target cap code sized coded_so low all one =
+    subst (λ (state : State). AreCoded state (codes_of (set codes target code) memory)) (sym (state-register registers memory target cap sized low))
+    (subst (AreCoded (put (places_of registers memory) target cap)) (sym (codes-register codes memory target code coded_so low))
+    (coded_put (places_of registers memory) (codes_of codes memory) target cap code all one))
+
+-- a granule that holds another entry
+pub coded_granule : (registers : List Cap) (codes : List ℕ) (memory : Granules) (granule : ℕ) (entry : Entry)
+    → AreCoded (places_of registers memory) (codes_of codes memory) → IsCoded entry.0 entry.2
+    → AreCoded (places_of registers (map.insert memory granule entry)) (codes_of codes (map.insert memory granule entry))
+coded_granule registers codes memory granule entry all one =
+    subst (λ (state : State). AreCoded state (codes_of codes (map.insert memory granule entry))) (sym (state-granule registers memory granule entry))
+    (subst (AreCoded (put (places_of registers memory) (granule_key granule) (cap_of entry))) (sym (codes-granule codes memory granule entry))
+    (coded_put (places_of registers memory) (codes_of codes memory) (granule_key granule) (cap_of entry) entry.2 all one))
+
+-- the code of a register's origin
+pub code-register : (held : Held) (number : ℕ) → number ≤ 31 → code_in held number ≡ get_or held.codes number 0
+code-register held number low = cond-true (nat_lt number 32) _ _ (lt-ltb number 32 (omega arith))
+
+-- the origins that codes make
+abbrev pub origins_by : (ℕ → ℕ) → Origins
+origins_by codes key = place_at (codes key)
+
+choice_under : {A B : Type 0} (f : A → B) (b : Bool) (x y : A) → f (if b then x else y) ≡ (if b then f x else f y)
+choice_under f true x y = refl
+choice_under f false x y = refl
+
+pub origins-put : (codes : ℕ → ℕ) (place code : ℕ) → origins_by (put codes place code) ≡ put (origins_by codes) place (place_at code)
+origins-put codes place code = fun_ext (λ key. choice_under place_at (place == key) code (codes key))
+
+-- where a result is tagged, the place that it comes from has this code
+abbrev pub IsFrom : Held → Step → Cap → ℕ → Type 0
+IsFrom held step value code =
+    value.tag ≡ true → origin_at (origins_by (code_in held)) (option_map key_of (row_of (state_of held) step).parent) ≡ place_at code
+
+origin_of_result : (origins : Origins) (parent : Option Place) (tag : Bool) (code : ℕ) → (tag ≡ true → origin_at origins (option_map key_of parent) ≡ place_at code)
+    → place_at (code_for tag code) ≡ origin_at origins (if tag then option_map key_of parent else None)
+origin_of_result origins parent true code from = sym (from refl)
+origin_of_result origins parent false code from = refl
+
+origin_there : (origins : Origins) (parent : Option Place) (b : Bool) (value other : Cap) (key code : ℕ)
+    → (value.tag ≡ true → origin_at origins (option_map key_of parent) ≡ place_at code)
+    → (if b then place_at (code_for value.tag code) else origins key)
+    ≡ origin_at origins (parent_in b (let cap : Cap = if b then value else other in cap.tag) parent key)
+origin_there origins parent true value other key code from = origin_of_result origins parent value.tag code from
+origin_there origins parent false value other key code from = refl
+
+-- what a step writes has the origin of its parent, and every other place keeps its own
+pub origin-written : (old : Held) (step : Step) (place : Place) (value : Cap) (code : ℕ) → (row_in (account_of old) step).writes ≡ Some (place, value)
+    → IsFrom old step value code
+    → put (origins_by (code_in old)) (key_of place) (place_at (code_for value.tag code))
+    ≡ origins_after (origins_by (code_in old)) (state_of old) step (state_with (state_of old) (row_in (account_of old) step).writes)
+origin-written old step place value code writes from =
+    let origins = origins_by (code_in old) in
+    let state = state_of old in
+    let row = row_of state step in
+    fun_ext (λ key.
+    let hit : hits row.writes key ≡ (key_of place == key) = sym (hits-row_by old.rules row key) ∙ ap (λ (w : Option (Place × Cap)). hits w key) writes in
+    origin_there origins row.parent (key_of place == key) value (state key) key code from
+    ∙ ap (λ (b : Bool). origin_at origins (parent_in b (put state (key_of place) value key).tag row.parent key)) (sym hit)
+    ∙ ap (λ (w : Option (Place × Cap)). origin_at origins (parent_in (hits row.writes key) (state_with state w key).tag row.parent key)) (sym writes))

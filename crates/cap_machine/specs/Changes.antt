@@ -1,0 +1,94 @@
+-- What single parts of taking a root or making a step do, each for one private function (this profile's own).
+use Rattle.std.specs.Prelude.{◌≡◌, ℕ, ℤ, ◌+◌, ◌≤◌, Bool, true, false, not, ◌||◌, nat_le, if◌then◌else◌, List, [], ◌∷◌, slice_set, Option, Some, None, IsTrue, Result, MatchResult}
+use Rattle.cap_word.specs.declared.word.Word.{Word}
+use Rattle.cap_word.specs.declared.word.Cap.{Cap}
+use Rattle.cap_word.specs.Memory.{low_bytes, memory_of}
+use Rattle.cap_log.specs.declared.lines.Place.{Place}
+use Rattle.cap_log.specs.declared.lines.Place.TheVariants.{Register, Granule}
+use Rattle.cap_log.specs.declared.lines.Step.{Step}
+use Rattle.cap_ops.specs.declared.faults.OpFault.{OpFault}
+use Rattle.cap_ops.specs.declared.kinds.Kind.{Kind}
+use Rattle.cap_ops.specs.Accesses.{access_tests}
+use Rattle.cap_ops.specs.Tests.{first_of}
+use Rattle.tagmem.specs.Granules.{with_cap, with_bytes}
+use Rattle.cap_machine.specs.declared.refusal.Refusal.{Refusal}
+use Rattle.cap_machine.specs.declared.refusal.Refusal.TheVariants.{WrongResult, LimitPassed}
+use Rattle.cap_machine.specs.declared.ends.StepEnd.{StepEnd}
+use Rattle.cap_machine.specs.declared.ends.StepEnd.TheVariants.{Refused, NoMemory}
+use Rattle.cap_machine.specs.States.{State, granule_key, tagged, untagged_null}
+use Rattle.cap_machine.specs.Steps.{address_through, operation, row_of}
+use Rattle.cap_machine.specs.Accounts.{most_steps, is_new, passes_granule_limit}
+use Rattle.cap_machine.specs.Helds.{Held, EndsBy, state_of, account_of}
+
+-- the code that a result has whose parent has this one: 0 where it has no tag
+abbrev pub code_for : Bool → ℕ → ℕ
+code_for tag code = if tag then code else 0
+
+-- the machine with another capability in a register, whose parent has this code, after one step more
+abbrev pub with_register : Held → ℕ → Cap → ℕ → Held
+with_register held target cap code = record held {
+  registers = slice_set held.registers target cap;
+  codes = slice_set held.codes target (code_for cap.tag code);
+  steps = held.steps + 1;
+}
+
+-- what a machine holds after a root was put into a place, which is its own origin
+abbrev pub placed : Held → Place → Word → Held
+placed old (Register number) word =
+    record old { registers = slice_set old.registers number (tagged word); codes = slice_set old.codes number number }
+placed old (Granule granule) word = record old { memory = with_cap old.memory granule true (memory_of word.0) (granule_key granule) }
+
+-- a root was put into a place
+abbrev pub Placed : Held → Place → Word → Held → Type 0
+Placed old place word new = new ≡ placed old place word
+
+-- what a row writes
+abbrev pub result_in : Option (Place × Cap) → Cap
+result_in None = untagged_null
+result_in (Some write) = write.1
+
+-- a step is an operation on registers, which writes to this one what is to be what its line records
+abbrev pub IsOperation : State → Step → ℕ → Cap → Type 0
+IsOperation state step target recorded =
+    let row = row_of state step in
+    (source : ℕ) × (row ≡ operation target source recorded row.tests (result_in row.writes))
+
+-- an operation on registers, with this source, ends so
+pub record Derives (held : Held) (step : Step) (source : ℕ) (outcome : Result Cap OpFault) : Type 0 where
+  pub low : source ≤ 31
+  pub parent : (row_of (state_of held) step).parent ≡ Some (Register source)
+  pub ends : EndsBy held.rules (row_of (state_of held) step).tests (result_in (row_of (state_of held) step).writes) outcome
+
+-- whether an access through a register is allowed: where it is, its address, and otherwise the first test that holds
+abbrev pub Reaches : State → ℕ → Kind → ℤ → ℕ → Result ℕ OpFault → Type 0
+Reaches state authority kind offset size result =
+    let tests = access_tests (state authority) kind offset size in
+    MatchResult result (λ address. (first_of tests ≡ None) × (address ≡ address_through state authority offset)) (λ fault. first_of tests ≡ Some fault)
+
+-- the last tests of a step that names no granule: the log records another result than the machine's, or the limit on steps is passed
+abbrev pub last_tests : Held → Bool → List (Bool × Refusal)
+last_tests held recorded = (not recorded, WrongResult) ∷ (nat_le most_steps held.steps, LimitPassed) ∷ []
+
+-- what a machine answers where it refuses by tests, and nothing changes
+abbrev pub EndsAccess : Held → List (Bool × Refusal) → StepEnd → Held → Type 0
+EndsAccess old tests (Refused refusal) new = (first_of tests ≡ Some refusal) × (new ≡ old)
+EndsAccess old tests NoMemory new = ⊥
+
+-- whether one step more that names a granule passes a limit
+abbrev pub is_past_limits : Held → ℕ → Bool
+is_past_limits held granule = nat_le most_steps held.steps || passes_granule_limit (account_of held) (Some granule)
+
+-- the machine with a capability, and the code of its origin, put into a granule, after one step more
+abbrev pub with_cap_put : Held → ℕ → Cap → ℕ → Held
+with_cap_put held granule stored code =
+    record held { memory = with_cap held.memory granule stored.tag (memory_of stored.word.0) code; steps = held.steps + 1 }
+
+-- the machine with a value's bytes put into a granule, after one step more
+abbrev pub with_value_put : Held → ℕ → ℕ → ℕ → ℕ → Held
+with_value_put held granule place size value =
+    record held { memory = with_bytes held.memory granule place (low_bytes size value); steps = held.steps + 1 }
+
+-- what a machine answers where a put passes a limit or memory for it is refused, and nothing changes
+abbrev pub EndsPut : Held → ℕ → StepEnd → Held → Type 0
+EndsPut old granule (Refused refusal) new = (is_past_limits old granule ≡ true) × (refusal ≡ LimitPassed) × (new ≡ old)
+EndsPut old granule NoMemory new = (is_past_limits old granule ≡ false) × IsTrue (is_new (account_of old) (Some granule)) × (new ≡ old)

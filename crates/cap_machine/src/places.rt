@@ -1,0 +1,28 @@
+//! Codes of origins: the number of the root's place, which is a register's own, or a granule's and 32 more,
+//! and 0 for none.
+
+ghost use Rattle.std.specs.Prelude.{◌≡◌};
+ghost use Rattle.cap_machine.specs.Changes.{code_for};
+ghost use Rattle.cap_machine.specs.Places.{place_at};
+
+use cap_log::Place;
+
+/// The place of the root that a code of an origin is of, or `None` for 0.
+pub fn place_at(code: u64) -> Option<Place>
+    ensures { result ≡ place_at code }
+{
+    if code == 0 {
+        None
+    } else if code < 32 {
+        Some(Place::Register(code as u8))
+    } else {
+        Some(Place::Granule(code - 32))
+    }
+}
+
+/// The code of a result whose parent has this one: 0 where the result has no tag.
+pub fn code_for(tag: bool, code: u64) -> u64
+    ensures { result ≡ code_for tag code }
+{
+    if tag { code } else { 0 }
+}

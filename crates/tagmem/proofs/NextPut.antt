@@ -1,0 +1,88 @@
+-- Where the next granule that was put is, by its page.
+use Rattle.std.proofs.Common.{◌≡◌, ◌≢◌, ℕ, ◌+◌, ◌*◌, ◌/◌, ◌%◌, ◌^◌, ◌<◌, ◌≤◌, List, [], ◌∷◌, get_or, Option, Some, None, sym, refl, ap, subst, ◌∙◌, arith}
+use Rattle.std.specs.Prelude.{Box, MatchOption}
+use Rattle.std.specs.FinMap as map
+use Rattle.std.specs.BTreeMap.{BTreeMap}
+use Rattle.std.proofs.lemmas.List.Elements.{All-get_or}
+use Rattle.std.proofs.Math.ListN.{get_or-eq_default}
+use Rattle.tagmem.specs.declared.page.Page.{Page}
+use Rattle.tagmem.specs.Granules.{Entry, Granules, AreStored, NonePut, IsNextPut}
+use Rattle.tagmem.specs.Pages.{slots_of, contents_of, IsFirstFrom, IsUsed, EachUsed, IsPageAt, IsAbsent, IsNextPage, IsDirectory}
+use Rattle.tagmem.proofs.Pages.{length-slots_of, get_present, get_absent}
+
+-- a granule that was put is below 2^60
+pub put_below : (m : Granules) → AreStored m → (q : ℕ) → map.get m q ≢ None → q < 2 ^ 60
+put_below m stored q put = by_entry (map.get m q) refl
+  where
+    by_entry : (o : Option Entry) → map.get m q ≡ o → q < 2 ^ 60
+    by_entry None is = absurd (put is)
+    by_entry (Some entry) is = (stored q entry is).in_memory
+
+-- what is next after a stretch in which none was put
+pub next_after : (m : Granules) (from to : ℕ) (next : Option ℕ) → from ≤ to → NonePut m from to → IsNextPut m to next → IsNextPut m from next
+next_after m from to None le none after = λ q from_le. grind (arith, none q, after q)
+next_after m from to (Some next) le none after =
+    (omega (arith, after.0), after.1, λ q from_le lt. grind (arith, none q, after.2 q))
+
+module _ {Z : Type 0} (boxes : List (Box Page Z)) where
+  module _ (directory : BTreeMap ℕ ℕ) (known : IsDirectory boxes directory) (n slot place : ℕ) (box : Box Page Z)
+      (at : IsPageAt boxes n place) (read : box ≡ get_or boxes place box) where
+    get_own : (q : ℕ) → q / 256 ≡ n → map.get (contents_of boxes) q ≡ get_or (slots_of box.value) (q % 256) None
+    get_own q own =
+        get_present boxes directory known q place box (subst (λ m. IsPageAt boxes m place) (sym own) at)
+        ∙ ap (λ (b : Box Page Z). get_or (slots_of b.value) (q % 256) None) (sym read)
+
+    -- a page of which no slot from one on was put
+    pub none_put-page : IsFirstFrom (slots_of box.value) slot None → NonePut (contents_of boxes) (256 * n + slot) (256 * n + 256)
+    none_put-page none q le lt = get_own q (omega arith) ∙ none (q % 256) (omega arith)
+
+    -- and one that has a first
+    pub next_put-page : (first : ℕ) → IsFirstFrom (slots_of box.value) slot (Some first)
+        → IsNextPut (contents_of boxes) (256 * n + slot) (Some (256 * n + first))
+    next_put-page first found =
+        let past : 256 ≤ first → get_or (slots_of box.value) first None ≡ None = λ large.
+        get_or-eq_default (slots_of box.value) None (let wide = length-slots_of box.value in omega arith) in
+        let small : first < 256 = grind (arith, found.1, past) in
+        let own : get_or (slots_of box.value) first None ≡ map.get (contents_of boxes) (256 * n + first) =
+        let place_is : first ≡ (256 * n + first) % 256 = omega arith in
+        ap (λ i. get_or (slots_of box.value) i None) place_is ∙ sym (get_own (256 * n + first) (omega arith)) in
+        (omega (arith, found.0), λ is. found.1 (own ∙ is), λ q le lt. get_own q (omega arith) ∙ found.2 (q % 256) (omega arith) (omega arith))
+
+-- a page has a granule that was put, so a number of which none was has no page
+pub absent_from_none_put : {Z : Type 0} (boxes : List (Box Page Z)) (directory : BTreeMap ℕ ℕ) → IsDirectory boxes directory → EachUsed boxes
+    → (n : ℕ) → NonePut (contents_of boxes) (256 * n) (256 * n + 256) → IsAbsent boxes n
+absent_from_none_put [] directory known used n none place lt is = omega arith
+absent_from_none_put (first ∷ rest) directory known used n none place lt is =
+    let boxes = first ∷ rest in
+    let box = get_or boxes place first in
+    let inside : (slot : ℕ) → slot < 256 → get_or (slots_of box.value) slot None ≡ None = λ slot small.
+    let q = 256 * n + slot in
+    let own : n ≡ q / 256 = omega arith in
+    let place_is : slot ≡ q % 256 = omega arith in
+    ap (λ i. get_or (slots_of box.value) i None) place_is
+    ∙ sym (get_present boxes directory known q place first (record { in_range = lt; has_number = is ∙ own })) ∙ none q (omega arith) (omega arith) in
+    let past : (slot : ℕ) → 256 ≤ slot → get_or (slots_of box.value) slot None ≡ None = λ slot large.
+    get_or-eq_default (slots_of box.value) None (let wide = length-slots_of box.value in omega arith) in
+    All-get_or (λ (box : Box Page _). IsUsed box.value) boxes place first lt used (λ slot. grind (arith, inside slot, past slot))
+
+-- where a granule's own page has none from it on
+module _ {Z : Type 0} (boxes : List (Box Page Z)) (g : ℕ) (none : NonePut (contents_of boxes) g (256 * (g / 256) + 256)) where
+  -- there is none where no later page is
+  pub next_put-last : IsNextPage boxes (g / 256 + 1) None → IsNextPut (contents_of boxes) g None
+  next_put-last absent =
+      next_after (contents_of boxes) g (256 * (g / 256) + 256) None (omega arith) none
+      (λ q le. get_absent boxes q (absent (q / 256) (omega arith)))
+
+  -- else the next is the first of the least later page, which has one
+  pub next_put-later : (directory : BTreeMap ℕ ℕ) → IsDirectory boxes directory → EachUsed boxes → (n : ℕ)
+      → IsNextPage boxes (g / 256 + 1) (Some n) → (next : Option ℕ)
+      → MatchOption next (NonePut (contents_of boxes) (256 * n + 0) (256 * n + 256))
+      (λ first. IsNextPut (contents_of boxes) (256 * n + 0) (Some first))
+      → IsNextPut (contents_of boxes) g next
+  next_put-later directory known used n later None empty =
+      absurd (later.1 (absent_from_none_put boxes directory known used n (λ q le lt. empty q (omega arith) lt)))
+  next_put-later directory known used n later (Some first) found =
+      let above : 256 * (g / 256) + 256 ≤ 256 * n = let le = later.0 in omega arith in
+      let between : NonePut (contents_of boxes) (256 * (g / 256) + 256) (256 * n + 0) = λ q le lt.
+      get_absent boxes q (later.2 (q / 256) (omega arith) (omega arith)) in
+      next_after (contents_of boxes) g (256 * n + 0) (Some first) (omega arith) (λ q le lt. grind (arith, none q, between q)) found
