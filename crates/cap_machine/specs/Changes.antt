@@ -63,7 +63,9 @@ pub record Derives (held : Held) (step : Step) (source : ℕ) (outcome : Result 
 abbrev pub Reaches : State → ℕ → Kind → ℤ → ℕ → Result ℕ OpFault → Type 0
 Reaches state authority kind offset size result =
     let tests = access_tests (state authority) kind offset size in
-    MatchResult result (λ address. (first_of tests ≡ None) × (address ≡ address_through state authority offset)) (λ fault. first_of tests ≡ Some fault)
+    MatchResult result
+    (λ address. (first_of tests ≡ None) × (address ≡ address_through state authority offset))
+    (λ fault. first_of tests ≡ Some fault)
 
 -- the last tests of a step that names no granule: the log records another result than the machine's, or the limit on steps is passed
 abbrev pub last_tests : Held → Bool → List (Bool × Refusal)

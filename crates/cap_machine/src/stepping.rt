@@ -32,8 +32,11 @@ impl<M: TaggedStore> Machine<M> {
     /// operation or access, in their order; the log records another result or value than the machine's
     /// (`WrongResult`); there are 4,294,967,295 steps, or it names a granule beyond those that the rules
     /// allow (`LimitPassed`). In clear mode the tests of an operation on registers refuse nothing: its result
-    /// loses its tag where one holds. `NoMemory` comes only at a granule named for the first time. After an error
-    /// nothing has changed.
+    /// loses its tag where one holds. `NoMemory` comes only at a granule named for the first time. After an
+    /// error nothing has changed.
+    ///
+    /// A tagged result has the origin of the place that it comes from: the step's source, or for `lc` the
+    /// granule, and never the authority.
     ///
     /// A step keeps every tagged word sound, and each tagged capability after it lies within what the place
     /// held before that it comes from. By strict rules a step is refused by `BoundsEscape` exactly where it
@@ -177,7 +180,8 @@ impl<M: TaggedStore> Machine<M> {
         ensures { MatchResult result
             (λ _. (first_of (last_tests (held_of M.contents self.old) (is_same_cap recorded derived)) ≡ None)
             × (held_of M.contents self.new ≡ with_register (held_of M.contents self.old) target derived code))
-            (λ end. EndsAccess (held_of M.contents self.old) (last_tests (held_of M.contents self.old) (is_same_cap recorded derived)) end (held_of M.contents self.new)) }
+            (λ end. EndsAccess (held_of M.contents self.old) (last_tests (held_of M.contents self.old) (is_same_cap recorded derived))
+            end (held_of M.contents self.new)) }
     {
         if recorded != derived {
             return Err(StepEnd::Refused(Refusal::WrongResult));
