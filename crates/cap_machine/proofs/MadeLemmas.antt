@@ -183,38 +183,43 @@ operation_row old step target recorded is =
 pub unaccessed : (state : State) (step : Step) (target : ℕ) (recorded : Cap) → IsOperation state step target recorded → (row_of state step).access ≡ None
 unaccessed state step target recorded is = ap (λ (r : Row). r.access) is.1
 
+-- its source
+pub record IsSource (old : Held) (step : Step) (source : ℕ) : Type 0 where
+  pub low : source ≤ 31
+  pub parent : (row_of (state_of old) step).parent ≡ Some (Register source)
+
 -- its result comes from its source
-pub from_source : (old : Held) (step : Step) (source : ℕ) (derived : Cap) → Derives old step source (Ok derived) → IsFrom old step derived (get_or old.codes source 0)
-from_source old step source derived derives held =
-    ap (λ (o : Option Place). origin_at (origins_by (code_in old)) (option_map key_of o)) derives.parent ∙ ap place_at (code-register old source derives.low)
+from_source : (old : Held) (step : Step) (source : ℕ) (derived : Cap) → IsSource old step source → IsFrom old step derived (get_or old.codes source 0)
+from_source old step source derived is held =
+    ap (λ (o : Option Place). origin_at (origins_by (code_in old)) (option_map key_of o)) is.parent ∙ ap place_at (code-register old source is.low)
 
 -- and stays within it
 pub source_within : (old : Held) (step : Step) (target source : ℕ) (recorded derived : Cap) → IsStepInRange step → IsOperation (state_of old) step target recorded
-    → Derives old step source (Ok derived) → StaysWithin derived (state_of old source)
-source_within old step target source recorded derived range is derives =
+    → IsSource old step source → Derives old step (Ok derived) → StaysWithin derived (state_of old source)
+source_within old step target source recorded derived range is from derives =
     let row = operation_row old step target recorded is in
-    let within = writes_within_by old.rules (state_of old) step range (ap (λ (r : Row). first_of r.tests) row ∙ derives.ends.0) in
+    let within = writes_within_by old.rules (state_of old) step range (ap (λ (r : Row). first_of r.tests) row ∙ derives.0) in
     subst (λ (w : Option (Place × Cap)). WritesWithin (state_of old) (Some (Register source)) w)
-    (ap (λ (r : Row). r.writes) row ∙ ap (λ (c : Cap). Some (Register target, c)) (sym derives.ends.1))
-    (subst (λ (p : Option Place). WritesWithin (state_of old) p (row_in (account_of old) step).writes) derives.parent within)
+    (ap (λ (r : Row). r.writes) row ∙ ap (λ (c : Cap). Some (Register target, c)) (sym derives.1))
+    (subst (λ (p : Option Place). WritesWithin (state_of old) p (row_in (account_of old) step).writes) from.parent within)
 
 -- an operation, from its end's answer to the step's
 pub operated : (old new : Held) (step : Step) (target source : ℕ) (recorded derived : Cap) (result : Result (Unit {0}) StepEnd)
     → IsOperation (state_of old) step target recorded → length old.registers ≡ 32 → length old.codes ≡ 32 → target ≤ 31
-    → Derives old step source (Ok derived) → Finishes old target derived recorded (get_or old.codes source 0) result new → EndsIn old step result new
-operated old new step target source recorded derived result is sized coded_so low derives ends =
+    → IsSource old step source → Derives old step (Ok derived) → Finishes old target derived recorded (get_or old.codes source 0) result new → EndsIn old step result new
+operated old new step target source recorded derived result is sized coded_so low from derives ends =
     let row = operation_row old step target recorded is in
     finished old new step target derived recorded (get_or old.codes source 0) result
-    (ap named_by row) (ap (λ (r : Row). r.writes) row ∙ ap (λ (c : Cap). Some (Register target, c)) (sym derives.ends.1))
-    (ap is_recorded row ∙ ap (is_same_cap recorded) (sym derives.ends.1)) sized coded_so low
-    (ap (λ (r : Row). first_of r.tests) row ∙ derives.ends.0) (from_source old step source derived derives) ends
+    (ap named_by row) (ap (λ (r : Row). r.writes) row ∙ ap (λ (c : Cap). Some (Register target, c)) (sym derives.1))
+    (ap is_recorded row ∙ ap (is_same_cap recorded) (sym derives.1)) sized coded_so low
+    (ap (λ (r : Row). first_of r.tests) row ∙ derives.0) (from_source old step source derived from) ends
 
 -- an operation that refuses
-pub operation_faulted : (old : Held) (step : Step) (target source : ℕ) (recorded : Cap) (fault : OpFault) (refusal : Refusal)
-    → IsOperation (state_of old) step target recorded → Derives old step source (Err fault) → refusal ≡ refusal_of fault → EndsStep old step (Refused refusal) old
-operation_faulted old step target source recorded fault refusal is derives same =
+pub operation_faulted : (old : Held) (step : Step) (target : ℕ) (recorded : Cap) (fault : OpFault) (refusal : Refusal)
+    → IsOperation (state_of old) step target recorded → Derives old step (Err fault) → refusal ≡ refusal_of fault → EndsStep old step (Refused refusal) old
+operation_faulted old step target recorded fault refusal is derives same =
     let row = operation_row old step target recorded is in
-    (first_mapped-some (row_in (account_of old) step).tests _ fault (ap (λ (r : Row). first_of r.tests) row ∙ derives.ends) ∙ ap (λ (r : Refusal). Some r) (sym same), refl)
+    (first_mapped-some (row_in (account_of old) step).tests _ fault (ap (λ (r : Row). first_of r.tests) row ∙ derives) ∙ ap (λ (r : Refusal). Some r) (sym same), refl)
 
 -- a step that puts an entry into a granule
 put_made : (old : Held) (step : Step) (granule : ℕ) (entry : Entry) (value : Cap) (code : ℕ) → named_by (row_in (account_of old) step) ≡ Some granule

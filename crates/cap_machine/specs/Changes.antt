@@ -53,17 +53,17 @@ IsOperation state step target recorded =
     let row = row_of state step in
     (source : ℕ) × (row ≡ operation target source recorded row.tests (result_in row.writes))
 
--- an operation on registers, with this source, ends so
-pub record Derives (held : Held) (step : Step) (source : ℕ) (outcome : Result Cap OpFault) : Type 0 where
-  pub low : source ≤ 31
-  pub parent : (row_of (state_of held) step).parent ≡ Some (Register source)
-  pub ends : EndsBy held.rules (row_of (state_of held) step).tests (result_in (row_of (state_of held) step).writes) outcome
+-- an operation on registers ends so
+abbrev pub Derives : Held → Step → Result Cap OpFault → Type 0
+Derives held step outcome = let row = row_of (state_of held) step in EndsBy held.rules row.tests (result_in row.writes) outcome
 
 -- whether an access through a register is allowed: where it is, its address, and otherwise the first test that holds
 abbrev pub Reaches : State → ℕ → Kind → ℤ → ℕ → Result ℕ OpFault → Type 0
 Reaches state authority kind offset size result =
     let tests = access_tests (state authority) kind offset size in
-    MatchResult result (λ address. (first_of tests ≡ None) × (address ≡ address_through state authority offset)) (λ fault. first_of tests ≡ Some fault)
+    MatchResult result
+    (λ address. (first_of tests ≡ None) × (address ≡ address_through state authority offset))
+    (λ fault. first_of tests ≡ Some fault)
 
 -- the last tests of a step that names no granule: the log records another result than the machine's, or the limit on steps is passed
 abbrev pub last_tests : Held → Bool → List (Bool × Refusal)

@@ -76,7 +76,9 @@ value_by TwoClear tests result = clear_result tests result
 -- how an operation on registers ends, by the rules
 abbrev pub EndsBy : Rules → List (Bool × OpFault) → Cap → Result Cap OpFault → Type 0
 EndsBy rules_are tests result outcome =
-    MatchResult outcome (λ cap. (first_of (tests_by rules_are tests) ≡ None) × (cap ≡ value_by rules_are tests result)) (λ fault. first_of (tests_by rules_are tests) ≡ Some fault)
+    MatchResult outcome
+    (λ cap. (first_of (tests_by rules_are tests) ≡ None) × (cap ≡ value_by rules_are tests result))
+    (λ fault. first_of (tests_by rules_are tests) ≡ Some fault)
 
 -- the machine made the step: no test of it holds, it leads to the new state, and the account is that after it
 pub record Makes (old : Held) (step : Step) (new : Held) : Type 0 where
@@ -88,7 +90,9 @@ pub record Makes (old : Held) (step : Step) (new : Held) : Type 0 where
 abbrev pub EndsStep : Held → Step → StepEnd → Held → Type 0
 EndsStep old step (Refused refusal) new = (first_of (step_tests (account_of old) step) ≡ Some refusal) × (new ≡ old)
 EndsStep old step NoMemory new =
-    (first_of (step_tests (account_of old) step) ≡ None) × IsTrue (is_new (account_of old) (named_by (row_in (account_of old) step))) × (new ≡ old)
+    (first_of (step_tests (account_of old) step) ≡ None)
+    × IsTrue (is_new (account_of old) (named_by (row_in (account_of old) step)))
+    × (new ≡ old)
 
 -- the machine took the root: no test of it holds, and the account is that after it
 pub record Takes (old : Held) (place : Place) (word : Word) (new : Held) : Type 0 where

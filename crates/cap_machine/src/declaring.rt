@@ -26,11 +26,11 @@ use cap_word::{Cap, Word};
 use tagmem::{NoMemory, TaggedStore};
 
 impl<M: TaggedStore> Machine<M> {
-    /// Puts a root, tagged, at its place, and counts it; the place is its origin. It is refused for the first of these that holds:
-    /// its place has a capability with a tag already (`PlaceTaken`), its word is not sound
-    /// (`UnsoundRoot`), there are 4,096 roots, or it names a granule beyond those that the rules allow
-    /// (`LimitPassed`).
-    /// `NoMemory` comes only at a granule named for the first time. After an error nothing has changed.
+    /// Puts a root, tagged, at its place, and counts it; that place is its origin. It is refused for the
+    /// first of these that holds: its place has a capability with a tag already (`PlaceTaken`), its word is
+    /// not sound (`UnsoundRoot`), there are 4,096 roots, or it names a granule beyond those that the rules
+    /// allow (`LimitPassed`). `NoMemory` comes only at a granule named for the first time. After an error
+    /// nothing has changed.
     pub fn declare(&mut self, place: Place, word: Word) -> Result<(), StepEnd>
         requires { IsPlace place }
         ensures { MatchResult result

@@ -3,6 +3,7 @@
 ghost use Rattle.std.specs.Prelude.{◌≡◌, ◌↔◌, ◌<◌, ◌≤◌, ◌+◌, MatchResult, OnOk, IfOk, Ok, Err, None, Some, true, false};
 ghost use Rattle.cap_ops.specs.Tests.{first_of};
 ghost use Rattle.cap_log.specs.Lines.{IsStepInRange, IsTarget};
+ghost use Rattle.cap_log.specs.declared.lines.Place.TheVariants.{Register};
 ghost use Rattle.cap_machine.specs.Changes.{
   Derives,
   EndsAccess,
@@ -32,8 +33,11 @@ impl<M: TaggedStore> Machine<M> {
     /// operation or access, in their order; the log records another result or value than the machine's
     /// (`WrongResult`); there are 4,294,967,295 steps, or it names a granule beyond those that the rules
     /// allow (`LimitPassed`). In clear mode the tests of an operation on registers refuse nothing: its result
-    /// loses its tag where one holds. `NoMemory` comes only at a granule named for the first time. After an error
-    /// nothing has changed.
+    /// loses its tag where one holds. `NoMemory` comes only at a granule named for the first time. After an
+    /// error nothing has changed.
+    ///
+    /// A tagged result has the origin of the place that it comes from: the step's source, or for `lc` the
+    /// granule, and never the authority.
     ///
     /// A step keeps every tagged word sound, and each tagged capability after it lies within what the place
     /// held before that it comes from. By strict rules a step is refused by `BoundsEscape` exactly where it
@@ -105,60 +109,71 @@ impl<M: TaggedStore> Machine<M> {
             (λ _. Makes (held_of M.contents self.old) step.now (held_of M.contents self.new))
             (λ end. EndsStep (held_of M.contents self.old) step.now end (held_of M.contents self.new)) }
     {
-        let (source, outcome) = self.derived(step);
-        match outcome {
-            Ok(derived) => self.finish(target, derived, recorded, self.codes[source as usize]),
+        match self.derived(step) {
+            Ok(derived) => {
+                let code = self.codes[self.source(step) as usize];
+                self.finish(target, derived, recorded, code)
+            }
             Err(fault) => Err(StepEnd::Refused(Refusal::from(fault))),
         }
     }
 
-    // The source of an operation on registers, and what it gives by the rules.
-    fn derived(&self, step: &Step) -> (u8, Result<Cap, OpFault>)
+    // The source of an operation on registers.
+    fn source(&self, step: &Step) -> u8
         requires in_range { IsStepInRange step.now }
         requires operation { let row = row_of (state_of (held_of M.contents self.now)) step.now in row.access ≡ None }
-        ensures { Derives (held_of M.contents self.now) step.now result.0 result.1 }
+        ensures low { result ≤ 31 }
+        ensures parent { let row = row_of (state_of (held_of M.contents self.now)) step.now in row.parent ≡ Some (Register result) }
     {
         match *step {
-            Step::Move { source, .. } => (source, Ok(self.register(source))),
-            Step::ClearTag { source, .. } => (source, Ok(clear_tag(self.register(source)))),
-            Step::SetBounds { source, length, .. } => (
-                source,
-                set_bounds_by(self.rules, self.register(source), length, false),
-            ),
-            Step::SetBoundsExact { source, length, .. } => (
-                source,
-                set_bounds_by(self.rules, self.register(source), length, true),
-            ),
+            Step::Move { source, .. }
+            | Step::ClearTag { source, .. }
+            | Step::SetBounds { source, .. }
+            | Step::SetBoundsExact { source, .. }
+            | Step::SetAddr { source, .. }
+            | Step::AndPerm { source, .. }
+            | Step::Seal { source, .. }
+            | Step::Unseal { source, .. } => source,
+            Step::LoadCap { .. } | Step::StoreCap { .. } | Step::Load { .. } | Step::Store { .. } =>
+                unreachable!(),
+        }
+    }
+
+    // What an operation on registers gives by the rules.
+    fn derived(&self, step: &Step) -> Result<Cap, OpFault>
+        requires in_range { IsStepInRange step.now }
+        requires operation { let row = row_of (state_of (held_of M.contents self.now)) step.now in row.access ≡ None }
+        ensures { Derives (held_of M.contents self.now) step.now result }
+    {
+        match *step {
+            Step::Move { source, .. } => Ok(self.register(source)),
+            Step::ClearTag { source, .. } => Ok(clear_tag(self.register(source))),
+            Step::SetBounds { source, length, .. } => {
+                set_bounds_by(self.rules, self.register(source), length, false)
+            }
+            Step::SetBoundsExact { source, length, .. } => {
+                set_bounds_by(self.rules, self.register(source), length, true)
+            }
             Step::SetAddr {
                 source,
                 address,
                 ..
-            } => (
-                source,
-                set_addr_by(self.rules, self.register(source), address),
-            ),
-            Step::AndPerm { source, mask, .. } => (
-                source,
-                and_perm_by(self.rules, self.register(source), mask),
-            ),
+            } => set_addr_by(self.rules, self.register(source), address),
+            Step::AndPerm { source, mask, .. } => {
+                and_perm_by(self.rules, self.register(source), mask)
+            }
             Step::Seal {
                 source,
                 authority,
                 ..
-            } => (
-                source,
-                seal_by(self.rules, self.register(source), self.register(authority)),
-            ),
+            } => seal_by(self.rules, self.register(source), self.register(authority)),
             Step::Unseal {
                 source,
                 authority,
                 ..
-            } => (
-                source,
-                unseal_by(self.rules, self.register(source), self.register(authority)),
-            ),
+            } => unseal_by(self.rules, self.register(source), self.register(authority)),
             Step::LoadCap { .. } | Step::StoreCap { .. } | Step::Load { .. } | Step::Store { .. } =>
-                { unreachable!() }
+                unreachable!(),
         }
     }
 
@@ -177,7 +192,8 @@ impl<M: TaggedStore> Machine<M> {
         ensures { MatchResult result
             (λ _. (first_of (last_tests (held_of M.contents self.old) (is_same_cap recorded derived)) ≡ None)
             × (held_of M.contents self.new ≡ with_register (held_of M.contents self.old) target derived code))
-            (λ end. EndsAccess (held_of M.contents self.old) (last_tests (held_of M.contents self.old) (is_same_cap recorded derived)) end (held_of M.contents self.new)) }
+            (λ end. EndsAccess (held_of M.contents self.old) (last_tests (held_of M.contents self.old) (is_same_cap recorded derived))
+            end (held_of M.contents self.new)) }
     {
         if recorded != derived {
             return Err(StepEnd::Refused(Refusal::WrongResult));
