@@ -7,7 +7,8 @@ use Rattle.std.proofs.lemmas.Bool.{eqb-true}
 use Rattle.std.proofs.lemmas.Bool.Decides.{nat_tests}
 use Rattle.std.proofs.lemmas.List.{length-append, length-take-le, length-drop, drop_all, append-nil, get_or-take, get_or-drop, get_or_append_left, get_or-append_right}
 use Rattle.std.proofs.lemmas.List.Elements.{All-append, All-take, All-drop, All-replicate}
-use Rattle.tagmem.specs.Granules.{Entry, Granules, blank, entry_at, bytes_at, overwritten, IsCodeFor, IsStored, AreStored}
+use Rattle.std.proofs.lemmas.Option.{none-some, same_Some}
+use Rattle.tagmem.specs.Granules.{Entry, Granules, blank, shown, entry_at, tag_at, bytes_at, code_at, overwritten, IsCodeFor, IsStored, AreStored}
 
 module _ (m : Granules) (granule : ℕ) (entry : Entry) where
   -- a put changes one granule, and no other
@@ -134,3 +135,35 @@ bytes_at_fit m stored q = by_entry (get m q) refl
     by_entry : (o : Option Entry) → get m q ≡ o → All (λ byte. byte < 256) (unwrap_or o blank).1
     by_entry None is = All-replicate (λ byte. byte < 256) 16 0 (omega arith)
     by_entry (Some entry) is = (stored q entry is).bytes
+
+-- what is shown of a granule says whether it was put, its tag and its bytes
+pub shown-none : (o : Option Entry) → shown o ≡ None → o ≡ None
+shown-none None is = refl
+shown-none (Some entry) is = absurd (none-some _ (sym is))
+
+pub shown-some : (o : Option Entry) (stored : Bool × List ℕ) → shown o ≡ Some stored
+    → ((unwrap_or o blank).0 ≡ stored.0) × ((unwrap_or o blank).1 ≡ stored.1)
+shown-some None stored is = absurd (none-some _ is)
+shown-some (Some entry) stored is =
+    let same = same_Some (entry.0, entry.1) stored is in
+    (ap (λ (s : Bool × List ℕ). s.0) same, ap (λ (s : Bool × List ℕ). s.1) same)
+
+pub is_some-shown : (o : Option Entry) → is_some (shown o) ≡ is_some o
+is_some-shown None = refl
+is_some-shown (Some entry) = refl
+
+-- a granule's code is 0 where its tag is clear, and nowhere else
+pub IsCodeFor-at : (m : Granules) → AreStored m → (q : ℕ) → IsCodeFor (tag_at m q) (code_at m q)
+IsCodeFor-at m stored q = by_entry (get m q) refl
+  where
+    by_entry : (o : Option Entry) → get m q ≡ o → IsCodeFor (unwrap_or o blank).0 (unwrap_or o blank).2
+    by_entry None is = (λ zero. refl, λ clear. refl)
+    by_entry (Some entry) is = (stored q entry is).coded
+
+-- and a u64
+pub code_at_fits : (m : Granules) → AreStored m → (q : ℕ) → code_at m q < 2 ^ 64
+code_at_fits m stored q = by_entry (get m q) refl
+  where
+    by_entry : (o : Option Entry) → get m q ≡ o → (unwrap_or o blank).2 < 2 ^ 64
+    by_entry None is = omega arith
+    by_entry (Some entry) is = (stored q entry is).code
