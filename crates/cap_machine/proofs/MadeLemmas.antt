@@ -37,7 +37,7 @@ use Rattle.cap_machine.specs.Accounts.{Account, as_line_test, step_tests, named_
 use Rattle.cap_machine.specs.Origins.{Origins, origin_at, origins_after}
 use Rattle.cap_machine.specs.Places.{IsCoded, codes_of, place_at}
 use Rattle.cap_machine.specs.Helds.{Held, Makes, EndsBy, EndsStep, state_of, code_in, account_of, tests_by, value_by, granule_cap}
-use Rattle.cap_machine.specs.Changes.{Derives, EndsAccess, EndsPut, IsOperation, code_for, last_tests, is_past_limits, result_in, with_register, with_cap_put, with_value_put}
+use Rattle.cap_machine.specs.Changes.{Derives, EndsAccess, EndsPut, IsOperation, IsSource, code_for, last_tests, is_past_limits, result_in, with_register, with_cap_put, with_value_put}
 use Rattle.cap_machine.specs.Values.{number_at}
 use Rattle.cap_machine.proofs.StateLemmas.{account_with, state-register, state-granule, codes-register, codes-granule, named-put, named_in, also_named, cap_of}
 use Rattle.cap_machine.proofs.CodeLemmas.{IsFrom, code-register, code_for-coded, origins_by, origins-put, origin-written}
@@ -183,30 +183,25 @@ operation_row old step target recorded is =
 pub unaccessed : (state : State) (step : Step) (target : ℕ) (recorded : Cap) → IsOperation state step target recorded → (row_of state step).access ≡ None
 unaccessed state step target recorded is = ap (λ (r : Row). r.access) is.1
 
--- its source
-pub record IsSource (old : Held) (step : Step) (source : ℕ) : Type 0 where
-  pub low : source ≤ 31
-  pub parent : (row_of (state_of old) step).parent ≡ Some (Register source)
-
 -- its result comes from its source
-from_source : (old : Held) (step : Step) (source : ℕ) (derived : Cap) → IsSource old step source → IsFrom old step derived (get_or old.codes source 0)
+from_source : (old : Held) (step : Step) (source : ℕ) (derived : Cap) → IsSource (state_of old) step source → IsFrom old step derived (get_or old.codes source 0)
 from_source old step source derived is held =
-    ap (λ (o : Option Place). origin_at (origins_by (code_in old)) (option_map key_of o)) is.parent ∙ ap place_at (code-register old source is.low)
+    ap (λ (o : Option Place). origin_at (origins_by (code_in old)) (option_map key_of o)) is.1 ∙ ap place_at (code-register old source is.0)
 
 -- and stays within it
 pub source_within : (old : Held) (step : Step) (target source : ℕ) (recorded derived : Cap) → IsStepInRange step → IsOperation (state_of old) step target recorded
-    → IsSource old step source → Derives old step (Ok derived) → StaysWithin derived (state_of old source)
+    → IsSource (state_of old) step source → Derives old step (Ok derived) → StaysWithin derived (state_of old source)
 source_within old step target source recorded derived range is from derives =
     let row = operation_row old step target recorded is in
     let within = writes_within_by old.rules (state_of old) step range (ap (λ (r : Row). first_of r.tests) row ∙ derives.0) in
     subst (λ (w : Option (Place × Cap)). WritesWithin (state_of old) (Some (Register source)) w)
     (ap (λ (r : Row). r.writes) row ∙ ap (λ (c : Cap). Some (Register target, c)) (sym derives.1))
-    (subst (λ (p : Option Place). WritesWithin (state_of old) p (row_in (account_of old) step).writes) from.parent within)
+    (subst (λ (p : Option Place). WritesWithin (state_of old) p (row_in (account_of old) step).writes) from.1 within)
 
 -- an operation, from its end's answer to the step's
 pub operated : (old new : Held) (step : Step) (target source : ℕ) (recorded derived : Cap) (result : Result (Unit {0}) StepEnd)
     → IsOperation (state_of old) step target recorded → length old.registers ≡ 32 → length old.codes ≡ 32 → target ≤ 31
-    → IsSource old step source → Derives old step (Ok derived) → Finishes old target derived recorded (get_or old.codes source 0) result new → EndsIn old step result new
+    → IsSource (state_of old) step source → Derives old step (Ok derived) → Finishes old target derived recorded (get_or old.codes source 0) result new → EndsIn old step result new
 operated old new step target source recorded derived result is sized coded_so low from derives ends =
     let row = operation_row old step target recorded is in
     finished old new step target derived recorded (get_or old.codes source 0) result

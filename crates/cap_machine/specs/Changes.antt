@@ -53,7 +53,11 @@ IsOperation state step target recorded =
     let row = row_of state step in
     (source : ℕ) × (row ≡ operation target source recorded row.tests (result_in row.writes))
 
--- an operation on registers ends so
+-- this register is the source of the operation
+abbrev pub IsSource : State → Step → ℕ → Type 0
+IsSource state step source = (source ≤ 31) × (let row = row_of state step in row.parent ≡ Some (Register source))
+
+-- the operation ends so
 abbrev pub Derives : Held → Step → Result Cap OpFault → Type 0
 Derives held step outcome = let row = row_of (state_of held) step in EndsBy held.rules row.tests (result_in row.writes) outcome
 

@@ -3,11 +3,11 @@
 ghost use Rattle.std.specs.Prelude.{◌≡◌, ◌↔◌, ◌<◌, ◌≤◌, ◌+◌, MatchResult, OnOk, IfOk, Ok, Err, None, Some, true, false};
 ghost use Rattle.cap_ops.specs.Tests.{first_of};
 ghost use Rattle.cap_log.specs.Lines.{IsStepInRange, IsTarget};
-ghost use Rattle.cap_log.specs.declared.lines.Place.TheVariants.{Register};
 ghost use Rattle.cap_machine.specs.Changes.{
   Derives,
   EndsAccess,
   IsOperation,
+  IsSource,
   code_for,
   last_tests,
   with_register,
@@ -16,7 +16,7 @@ ghost use Rattle.cap_machine.specs.Escapes.{ClearsBeyond, Escapes};
 ghost use Rattle.cap_machine.specs.Helds.{EndsStep, Makes, held_of, state_of};
 ghost use Rattle.cap_machine.specs.Parents.{IsSoundCap, StaysWithinParents};
 ghost use Rattle.cap_machine.specs.Places.{IsCoded};
-ghost use Rattle.cap_machine.specs.Steps.{is_same_cap, row_of};
+ghost use Rattle.cap_machine.specs.Steps.{is_same_cap};
 
 use crate::ends::StepEnd;
 use crate::machine::{MOST_STEPS, Machine};
@@ -109,71 +109,81 @@ impl<M: TaggedStore> Machine<M> {
             (λ _. Makes (held_of M.contents self.old) step.now (held_of M.contents self.new))
             (λ end. EndsStep (held_of M.contents self.old) step.now end (held_of M.contents self.new)) }
     {
-        match self.derived(step) {
-            Ok(derived) => {
-                let code = self.codes[self.source(step) as usize];
-                self.finish(target, derived, recorded, code)
+        match *step {
+            Step::Move { source, .. } => {
+                let derived = self.register(source);
+                self.conclude(step, target, source, Ok(derived), recorded)
             }
-            Err(fault) => Err(StepEnd::Refused(Refusal::from(fault))),
-        }
-    }
-
-    // The source of an operation on registers.
-    fn source(&self, step: &Step) -> u8
-        requires in_range { IsStepInRange step.now }
-        requires operation { let row = row_of (state_of (held_of M.contents self.now)) step.now in row.access ≡ None }
-        ensures low { result ≤ 31 }
-        ensures parent { let row = row_of (state_of (held_of M.contents self.now)) step.now in row.parent ≡ Some (Register result) }
-    {
-        match *step {
-            Step::Move { source, .. }
-            | Step::ClearTag { source, .. }
-            | Step::SetBounds { source, .. }
-            | Step::SetBoundsExact { source, .. }
-            | Step::SetAddr { source, .. }
-            | Step::AndPerm { source, .. }
-            | Step::Seal { source, .. }
-            | Step::Unseal { source, .. } => source,
-            Step::LoadCap { .. } | Step::StoreCap { .. } | Step::Load { .. } | Step::Store { .. } =>
-                unreachable!(),
-        }
-    }
-
-    // What an operation on registers gives by the rules.
-    fn derived(&self, step: &Step) -> Result<Cap, OpFault>
-        requires in_range { IsStepInRange step.now }
-        requires operation { let row = row_of (state_of (held_of M.contents self.now)) step.now in row.access ≡ None }
-        ensures { Derives (held_of M.contents self.now) step.now result }
-    {
-        match *step {
-            Step::Move { source, .. } => Ok(self.register(source)),
-            Step::ClearTag { source, .. } => Ok(clear_tag(self.register(source))),
+            Step::ClearTag { source, .. } => {
+                let derived = clear_tag(self.register(source));
+                self.conclude(step, target, source, Ok(derived), recorded)
+            }
             Step::SetBounds { source, length, .. } => {
-                set_bounds_by(self.rules, self.register(source), length, false)
+                let outcome = set_bounds_by(self.rules, self.register(source), length, false);
+                self.conclude(step, target, source, outcome, recorded)
             }
             Step::SetBoundsExact { source, length, .. } => {
-                set_bounds_by(self.rules, self.register(source), length, true)
+                let outcome = set_bounds_by(self.rules, self.register(source), length, true);
+                self.conclude(step, target, source, outcome, recorded)
             }
             Step::SetAddr {
                 source,
                 address,
                 ..
-            } => set_addr_by(self.rules, self.register(source), address),
+            } => {
+                let outcome = set_addr_by(self.rules, self.register(source), address);
+                self.conclude(step, target, source, outcome, recorded)
+            }
             Step::AndPerm { source, mask, .. } => {
-                and_perm_by(self.rules, self.register(source), mask)
+                let outcome = and_perm_by(self.rules, self.register(source), mask);
+                self.conclude(step, target, source, outcome, recorded)
             }
             Step::Seal {
                 source,
                 authority,
                 ..
-            } => seal_by(self.rules, self.register(source), self.register(authority)),
+            } => {
+                let outcome = seal_by(self.rules, self.register(source), self.register(authority));
+                self.conclude(step, target, source, outcome, recorded)
+            }
             Step::Unseal {
                 source,
                 authority,
                 ..
-            } => unseal_by(self.rules, self.register(source), self.register(authority)),
+            } => {
+                let outcome = unseal_by(
+                    self.rules,
+                    self.register(source),
+                    self.register(authority),
+                );
+                self.conclude(step, target, source, outcome, recorded)
+            }
             Step::LoadCap { .. } | Step::StoreCap { .. } | Step::Load { .. } | Step::Store { .. } =>
                 unreachable!(),
+        }
+    }
+
+    // Ends a step that is an operation on registers, from what the operation gave.
+    fn conclude(
+        &mut self,
+        step: &Step,
+        target: u8,
+        source: u8,
+        outcome: Result<Cap, OpFault>,
+        recorded: Cap,
+    ) -> Result<(), StepEnd>
+        requires in_range { IsStepInRange step.now }
+        requires target { IsTarget target }
+        requires operation { IsOperation (state_of (held_of M.contents self.old)) step.now target recorded }
+        requires source { IsSource (state_of (held_of M.contents self.old)) step.now source }
+        requires derives { Derives (held_of M.contents self.old) step.now outcome }
+        ensures { MatchResult result
+            (λ _. Makes (held_of M.contents self.old) step.now (held_of M.contents self.new))
+            (λ end. EndsStep (held_of M.contents self.old) step.now end (held_of M.contents self.new)) }
+    {
+        match outcome {
+            Ok(derived) => self.finish(target, derived, recorded, self.codes[source as usize]),
+            Err(fault) => Err(StepEnd::Refused(Refusal::from(fault))),
         }
     }
 

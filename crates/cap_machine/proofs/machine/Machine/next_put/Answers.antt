@@ -1,4 +1,3 @@
-use Rattle.std.proofs.Common.{ℕ, Option, IfSome}
 use Rattle.cap_machine.proofs.GranuleLemmas.{next_in_memory}
 use Rattle.cap_machine.proofs.machine.Machine.next_put.Goals as goal
 
