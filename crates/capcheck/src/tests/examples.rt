@@ -103,6 +103,24 @@ fn data_and_capabilities_in_memory(rt: HostRuntime) {
     );
 }
 
+// `origins.log`
+#[test]
+fn a_root_overwritten(rt: HostRuntime) {
+    judges(
+        &rt,
+        b"capcheck 1\n\
+        root c1 ffff1ffffc0180040000000000000000\n\
+        root c5 ffff1ffffc0180040000000000000000\n\
+        setaddr c2 c1 0000000000001000 = 1 ffff1ffffc0180040000000000001000\n\
+        setbounds c2 c2 0000000000000100 = 1 ffff1ffff84010000000000000001000\n\
+        sc c2 c1 16\n\
+        move c1 c5 = 1 ffff1ffffc0180040000000000000000\n\
+        cleartag c3 c2 = 0 ffff1ffff84010000000000000001000\n\
+        end 5\n",
+        b"yes 5 2\n",
+    );
+}
+
 // `local_stored.log`
 #[test]
 fn a_local_capability_stored(rt: HostRuntime) {
