@@ -9,8 +9,7 @@ use Rattle.std.specs.Int.{byte_at, bytes_low_first, to_le_bytes, w64}
 use Rattle.cap_word.specs.Word.{null_word}
 use Rattle.cap_word.specs.Memory.{number_of, stored_word, low_bytes}
 use Rattle.cap_word.specs.declared.word.Cap.{Cap}
-use Rattle.std.proofs.lemmas.Option.{none-some}
-use Rattle.tagmem.specs.Granules.{Granules, AreStored, Entry, IsNextPut, blank, shown}
+use Rattle.tagmem.specs.Granules.{Granules, AreStored, Entry, IsNextPut, blank}
 use Rattle.cap_machine.specs.States.{untagged_null}
 use Rattle.cap_machine.specs.Helds.{granule_cap}
 use Rattle.cap_machine.specs.Values.{number_at}
@@ -22,11 +21,6 @@ byte_at_is (suc i) n = refl
 zero_word : stored_word (replicate 16 0) ≡ null_word
 unfolding number_of
 zero_word = refl
-
--- what shows nothing was never put
-pub shown_none : (o : Option Entry) → shown o ≡ None → o ≡ None
-shown_none None h = refl
-shown_none (Some entry) h = absurd (none-some (entry.0, entry.1) (sym h))
 
 cap_of : Entry → Cap
 cap_of entry = record { tag = entry.0; word = record { 0 = stored_word entry.1 } }
