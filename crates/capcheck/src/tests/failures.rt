@@ -240,11 +240,25 @@ impl<M: TaggedStore> TaggedStore for Refusing<M> {
         self.inner.get(granule)
     }
 
-    fn put_cap(&mut self, granule: u64, tag: bool, bytes: [u8; 16]) -> Result<(), NoMemory> {
+    fn code(&self, granule: u64) -> u64 {
+        self.inner.code(granule)
+    }
+
+    fn next_put(&self, granule: u64) -> Option<u64> {
+        self.inner.next_put(granule)
+    }
+
+    fn put_cap(
+        &mut self,
+        granule: u64,
+        tag: bool,
+        bytes: [u8; 16],
+        code: u64,
+    ) -> Result<(), NoMemory> {
         if self.is_refused(granule) {
             return Err(NoMemory);
         }
-        self.inner.put_cap(granule, tag, bytes)
+        self.inner.put_cap(granule, tag, bytes, code)
     }
 
     fn put_bytes(&mut self, granule: u64, at: u8, bytes: &[u8]) -> Result<(), NoMemory> {

@@ -241,6 +241,16 @@ fn words(rt: HostRuntime) {
                 file: Some("")
             })
     );
+    for (file, words) in [
+        (None, ["judge", "--origins"].as_slice()),
+        (Some("log"), ["judge", "--origins", "log"].as_slice()),
+    ] {
+        let origins = true;
+        assert!(rt; read_words(words) == Some(Order::Judge { origins, file }));
+    }
+    assert_eq!(rt; read_words(&["judge", "log", "--origins"]), None);
+    assert_eq!(rt; read_words(&["judge", "--origins", "--origins"]), None);
+    assert_eq!(rt; read_words(&["vectors", "--origins", "log"]), None);
     assert_eq!(rt; read_words(&["judge", "-"]), None);
     assert_eq!(rt; read_words(&["judge", "a", "b"]), None);
     assert_eq!(rt; read_words(&["judges"]), None);

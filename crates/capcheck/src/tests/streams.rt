@@ -73,26 +73,40 @@ fn moves_made_as_they_are_pulled(rt: HostRuntime) {
 
 // A store that refuses each granule that is put for the first time.
 #[derive(Drop)]
-struct Refusing {
-    inner: ListStore,
+struct Refusing<M: TaggedStore> {
+    inner: M,
 }
 
-impl TaggedStore for Refusing {
-    ghost contents = { λ s. ⟦<ListStore as TaggedStore>⟧.contents s.inner };
+impl<M: TaggedStore> TaggedStore for Refusing<M> {
+    ghost contents = { λ s. M.contents s.inner };
 
-    ghost are_stored = { λ s. ⟦<ListStore as TaggedStore>⟧.are_stored s.inner };
+    ghost are_stored = { λ s. M.are_stored s.inner };
 
-    ghost count_fits = { λ s. ⟦<ListStore as TaggedStore>⟧.count_fits s.inner };
+    ghost count_fits = { λ s. M.count_fits s.inner };
 
     fn get(&self, granule: u64) -> Option<(bool, [u8; 16])> {
         self.inner.get(granule)
     }
 
-    fn put_cap(&mut self, granule: u64, tag: bool, bytes: [u8; 16]) -> Result<(), NoMemory> {
+    fn code(&self, granule: u64) -> u64 {
+        self.inner.code(granule)
+    }
+
+    fn next_put(&self, granule: u64) -> Option<u64> {
+        self.inner.next_put(granule)
+    }
+
+    fn put_cap(
+        &mut self,
+        granule: u64,
+        tag: bool,
+        bytes: [u8; 16],
+        code: u64,
+    ) -> Result<(), NoMemory> {
         if self.inner.get(granule).is_none() {
             return Err(NoMemory);
         }
-        self.inner.put_cap(granule, tag, bytes)
+        self.inner.put_cap(granule, tag, bytes, code)
     }
 
     fn put_bytes(&mut self, granule: u64, at: u8, bytes: &[u8]) -> Result<(), NoMemory> {
