@@ -15,7 +15,7 @@ use std::test::Fail;
 use tagmem::{ListStore, TaggedStore};
 
 // Logs, and their reports.
-const REPORTS: [(&str, &str); 7] = [
+const REPORTS: [(&str, &str); 6] = [
     (
         "capcheck 1\n\
         root c1 ffff1ffffc0180040000000000000000\n\
@@ -76,23 +76,6 @@ const REPORTS: [(&str, &str); 7] = [
         origin @0000000000000000 @0000000000000040\n\
         origin @0000000000000020 c3\n\
         origin @0000000000000040 @0000000000000040\n",
-    ),
-    // `examples/origins.log`
-    (
-        "capcheck 1\n\
-        root c1 ffff1ffffc0180040000000000000000\n\
-        root c5 ffff1ffffc0180040000000000000000\n\
-        setaddr c2 c1 0000000000001000 = 1 ffff1ffffc0180040000000000001000\n\
-        setbounds c2 c2 0000000000000100 = 1 ffff1ffff84010000000000000001000\n\
-        sc c2 c1 16\n\
-        move c1 c5 = 1 ffff1ffffc0180040000000000000000\n\
-        cleartag c3 c2 = 0 ffff1ffff84010000000000000001000\n\
-        end 5\n",
-        "yes 5 2\n\
-        origin c1 c5\n\
-        origin c2 c1\n\
-        origin c5 c5\n\
-        origin @0000000000000010 c1\n",
     ),
 ];
 
