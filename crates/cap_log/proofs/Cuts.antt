@@ -2,7 +2,7 @@
 use Rattle.std.proofs.Common.{◌≡◌, ◌≢◌, ℕ, true, eqb, List, [], ◌∷◌, ◌++◌, length, take, drop, get_or, sym, ap, ◌∙◌, refl, arith}
 use Rattle.std.specs.Cmp.Lexicographic.{pointwise}
 use Rattle.std.proofs.lemmas.Bool.{and_parts, eqb-true, false≢true}
-use Rattle.std.proofs.lemmas.List.{get_or_at, length-append}
+use Rattle.std.proofs.lemmas.List.{get_or_at, length-append, take-append-drop}
 use Rattle.std.proofs.lemmas.List.Elements.{All-head, All-tail}
 use Rattle.cap_log.specs.Parts.{Lacks, IsCutAt}
 pub use Rattle.cap_log.specs.Spaceless.{Lacks-by_test}
@@ -36,3 +36,10 @@ stripped b (x ∷ bytes) rest h e =
     let first = eqb-true x b (and_parts (eqb x b) true h).0 in
     let whole : x ∷ bytes ≡ b ∷ bytes = ap (λ (y : ℕ). y ∷ bytes) first in
     whole ∙ ap (λ (bs : List ℕ). b ∷ bs) (sym e)
+
+-- a text at the front, with the byte that ends it
+pub text_in_front : (n : ℕ) (bytes front others text rest : List ℕ) (first end : ℕ) → front ≡ take n bytes → others ≡ drop n bytes
+    → front ≡ text → others ≡ first ∷ rest → first ≡ end → bytes ≡ text ++ end ∷ rest
+text_in_front n bytes front others text rest first end head tail same cut ended =
+    sym (take-append-drop n bytes) ∙ ap (λ (bs : List ℕ). bs ++ drop n bytes) (sym head ∙ same)
+    ∙ ap (λ (bs : List ℕ). text ++ bs) (sym tail ∙ cut ∙ ap (λ (b : ℕ). b ∷ rest) ended)

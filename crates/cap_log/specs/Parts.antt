@@ -31,6 +31,10 @@ Begins Fits spelled end bytes value rest = Fits value × (bytes ≡ spelled valu
 abbrev pub BeginsWithNone : {A : Type 0} → (A → Type 0) → (A → List ℕ) → ℕ → List ℕ → Type 0
 BeginsWithNone {A} Fits spelled end bytes = (value : A) (rest : List ℕ) → Begins Fits spelled end bytes value rest → ⊥
 
+-- the bytes do not begin with this text and the byte that ends it
+abbrev pub BeginsWithout : List ℕ → ℕ → List ℕ → Type 0
+BeginsWithout text end bytes = (rest : List ℕ) → bytes ≡ text ++ end ∷ rest → ⊥
+
 -- two parts, of which the first is one word, with a space between them
 abbrev pub FitsBoth : {A B : Type 0} → (A → Type 0) → (A → List ℕ) → (B → Type 0) → A × B → Type 0
 FitsBoth P first Q pair = P pair.0 × HasNoSpace (first pair.0) × Q pair.1

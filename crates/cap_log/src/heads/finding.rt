@@ -1,64 +1,41 @@
 //! The kind of line that a word begins.
 
-ghost use Rattle.std.specs.Prelude.{◌≡◌};
+ghost use Rattle.std.specs.Prelude.{◌≡◌, IfSome, IfNone, slice_index};
 ghost use Rattle.cap_log.specs.Heads.{IsHead, head_spelling};
-ghost use Rattle.cap_log.specs.Parts.{Reads};
+ghost use Rattle.cap_log.specs.Parts.{Begins, BeginsWithNone};
 ghost use Rattle.cap_log.specs.Spaceless.{head-spaceless};
 
 use crate::heads::{AccessStep, Head, NumberStep, RegisterStep};
-use crate::parts::cutting::{put, split_end};
+use crate::parts::cutting::{behind, put};
 use crate::parts::{Part, Single};
-
-// Reads the first word of a line.
-fn read_head(word: &[u8]) -> Option<Head>
-    ensures { Reads IsHead head_spelling word.now result }
-{
-    if word == b"move".as_slice() {
-        Some(Head::Registers(RegisterStep::Move))
-    } else if word == b"lc".as_slice() {
-        Some(Head::Access(AccessStep::LoadCap))
-    } else if word == b"sc".as_slice() {
-        Some(Head::Access(AccessStep::StoreCap))
-    } else if word == b"load".as_slice() {
-        Some(Head::Access(AccessStep::Load))
-    } else if word == b"store".as_slice() {
-        Some(Head::Access(AccessStep::Store))
-    } else if word == b"setaddr".as_slice() {
-        Some(Head::Number(NumberStep::SetAddr))
-    } else if word == b"setbounds".as_slice() {
-        Some(Head::Number(NumberStep::SetBounds))
-    } else if word == b"setboundsexact".as_slice() {
-        Some(Head::Number(NumberStep::SetBoundsExact))
-    } else if word == b"andperm".as_slice() {
-        Some(Head::Number(NumberStep::AndPerm))
-    } else if word == b"cleartag".as_slice() {
-        Some(Head::Registers(RegisterStep::ClearTag))
-    } else if word == b"seal".as_slice() {
-        Some(Head::Registers(RegisterStep::Seal))
-    } else if word == b"unseal".as_slice() {
-        Some(Head::Registers(RegisterStep::Unseal))
-    } else if word == b"root".as_slice() {
-        Some(Head::Root)
-    } else if word == b"end".as_slice() {
-        Some(Head::End)
-    } else if word == b"capcheck".as_slice() {
-        Some(Head::Version)
-    } else if word == b"mode".as_slice() {
-        Some(Head::Mode)
-    } else {
-        None
-    }
-}
 
 impl Part for Head {
     ghost fits = { IsHead };
 
     ghost spelled = { head_spelling };
 
+    // The second byte tells heads apart best: four share it at most.
+    #[inline(always)]
     fn take(bytes: &[u8], end: u8) -> Option<(Head, &[u8])> {
-        let (word, rest) = split_end(bytes, end)?;
-        let head = read_head(word)?;
-        Some((head, rest))
+        match *bytes.get(1)? {
+            b'o' => take_second_o(bytes, end),
+            b'e' => take_second_e(bytes, end),
+            b'c' => take_second_c(bytes, end),
+            b'n' => take_second_n(bytes, end),
+            b't' => {
+                let rest = behind(bytes, b"store", end)?;
+                Some((Head::Access(AccessStep::Store), rest))
+            }
+            b'l' => {
+                let rest = behind(bytes, b"cleartag", end)?;
+                Some((Head::Registers(RegisterStep::ClearTag), rest))
+            }
+            b'a' => {
+                let rest = behind(bytes, b"capcheck", end)?;
+                Some((Head::Version, rest))
+            }
+            _ => None,
+        }
     }
 
     fn write(&self, buffer: &mut [u8], at: usize) -> usize {
@@ -68,6 +45,85 @@ impl Part for Head {
 
 impl Single for Head {
     ghost spaceless = { λ head fits. head-spaceless head };
+}
+
+// Takes a head whose second byte is `o`.
+#[inline(always)]
+fn take_second_o(bytes: &[u8], end: u8) -> Option<(Head, &[u8])>
+    requires { slice_index bytes.now 1 ≡ 111 }
+    ensures some { IfSome result (λ p. Begins IsHead head_spelling end bytes.now p.0 p.1.now) }
+    ensures none { IfNone result (BeginsWithNone IsHead head_spelling end bytes.now) }
+{
+    if let Some(rest) = behind(bytes, b"move", end) {
+        return Some((Head::Registers(RegisterStep::Move), rest));
+    }
+    if let Some(rest) = behind(bytes, b"load", end) {
+        return Some((Head::Access(AccessStep::Load), rest));
+    }
+    if let Some(rest) = behind(bytes, b"root", end) {
+        return Some((Head::Root, rest));
+    }
+    if let Some(rest) = behind(bytes, b"mode", end) {
+        return Some((Head::Mode, rest));
+    }
+    None
+}
+
+// Takes a head whose second byte is `e`.
+#[inline(always)]
+fn take_second_e(bytes: &[u8], end: u8) -> Option<(Head, &[u8])>
+    requires { slice_index bytes.now 1 ≡ 101 }
+    ensures some { IfSome result (λ p. Begins IsHead head_spelling end bytes.now p.0 p.1.now) }
+    ensures none { IfNone result (BeginsWithNone IsHead head_spelling end bytes.now) }
+{
+    if let Some(rest) = behind(bytes, b"setaddr", end) {
+        return Some((Head::Number(NumberStep::SetAddr), rest));
+    }
+    if let Some(rest) = behind(bytes, b"setbounds", end) {
+        return Some((Head::Number(NumberStep::SetBounds), rest));
+    }
+    if let Some(rest) = behind(bytes, b"setboundsexact", end) {
+        return Some((Head::Number(NumberStep::SetBoundsExact), rest));
+    }
+    if let Some(rest) = behind(bytes, b"seal", end) {
+        return Some((Head::Registers(RegisterStep::Seal), rest));
+    }
+    None
+}
+
+// Takes a head whose second byte is `c`.
+#[inline(always)]
+fn take_second_c(bytes: &[u8], end: u8) -> Option<(Head, &[u8])>
+    requires { slice_index bytes.now 1 ≡ 99 }
+    ensures some { IfSome result (λ p. Begins IsHead head_spelling end bytes.now p.0 p.1.now) }
+    ensures none { IfNone result (BeginsWithNone IsHead head_spelling end bytes.now) }
+{
+    if let Some(rest) = behind(bytes, b"lc", end) {
+        return Some((Head::Access(AccessStep::LoadCap), rest));
+    }
+    if let Some(rest) = behind(bytes, b"sc", end) {
+        return Some((Head::Access(AccessStep::StoreCap), rest));
+    }
+    None
+}
+
+// Takes a head whose second byte is `n`.
+#[inline(always)]
+fn take_second_n(bytes: &[u8], end: u8) -> Option<(Head, &[u8])>
+    requires { slice_index bytes.now 1 ≡ 110 }
+    ensures some { IfSome result (λ p. Begins IsHead head_spelling end bytes.now p.0 p.1.now) }
+    ensures none { IfNone result (BeginsWithNone IsHead head_spelling end bytes.now) }
+{
+    if let Some(rest) = behind(bytes, b"andperm", end) {
+        return Some((Head::Number(NumberStep::AndPerm), rest));
+    }
+    if let Some(rest) = behind(bytes, b"unseal", end) {
+        return Some((Head::Registers(RegisterStep::Unseal), rest));
+    }
+    if let Some(rest) = behind(bytes, b"end", end) {
+        return Some((Head::End, rest));
+    }
+    None
 }
 
 // The first word of a line.

@@ -1,7 +1,7 @@
 //! Words at the front of some bytes, and bytes put into a buffer.
 
 ghost use Rattle.std.specs.Prelude.{◌≡◌, ℕ, List, ◌∷◌, ◌++◌, IfNone, IfSome, ◌+◌, ◌≤◌, length};
-ghost use Rattle.cap_log.specs.Parts.{IsCutAt, Lacks, Writes};
+ghost use Rattle.cap_log.specs.Parts.{BeginsWithout, IsCutAt, Lacks, Writes};
 
 /// Cuts some bytes at the first byte of a kind, or answers `None` where there is none.
 pub fn split_end(bytes: &[u8], end: u8) -> Option<(&[u8], &[u8])>
@@ -27,6 +27,21 @@ pub fn split_fixed(bytes: &[u8], count: usize, end: u8) -> Option<(&[u8], &[u8])
         return None;
     }
     Some((&bytes[..count], &bytes[count + 1..]))
+}
+
+/// What stands behind a text at the front of some bytes and the byte that ends it, or `None` where they
+/// do not stand there.
+#[inline(always)]
+pub fn behind<'a, const N: usize>(bytes: &'a [u8], text: &[u8; N], end: u8) -> Option<&'a [u8]>
+    ensures some { IfSome result (λ rest. bytes.now ≡ text.now ++ end ∷ rest.now) }
+    ensures none { IfNone result (BeginsWithout (text.now) end bytes.now) }
+{
+    let (front, others) = bytes.split_first_chunk::<N>()?;
+    if front != text {
+        return None;
+    }
+    let (first, rest) = others.split_first()?;
+    if *first == end { Some(rest) } else { None }
 }
 
 /// Puts a text into the buffer from a place on, and answers where it ends.
