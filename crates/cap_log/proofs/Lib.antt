@@ -4,6 +4,7 @@ pub mod FrontLemmas
 mod OffsetLemmas
 mod OperandLemmas
 mod PartLemmas
+mod RegisterLemmas
 mod Shapes
 mod SizedLemmas
 mod SliceLemmas

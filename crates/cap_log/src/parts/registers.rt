@@ -7,7 +7,7 @@ ghost use Rattle.cap_log.specs.Spaceless.{place-spaceless, register-spaceless};
 
 use crate::lines::Place;
 use crate::parts::cutting::put;
-use crate::parts::decimals::{take_decimal, write_decimal};
+use crate::parts::decimals::write_decimal;
 use crate::parts::hexadecimals::{Number, write_number};
 use crate::parts::{Part, Single};
 
@@ -105,10 +105,25 @@ fn take_register(bytes: &[u8], end: u8) -> Option<(u8, &[u8])>
     ensures some { IfSome result (λ p. Begins IsRegister register_spelling end bytes.now p.0 p.1.now) }
     ensures none { IfNone result (BeginsWithNone IsRegister register_spelling end bytes.now) }
 {
-    let digits = bytes.strip_prefix(b"c")?;
-    let (number, rest) = take_decimal(digits, end)?;
+    if bytes.len() < 3 || bytes[0] != b'c' {
+        return None;
+    }
+    if !bytes[1].is_ascii_digit() {
+        return None;
+    }
+    let first = bytes[1] - b'0';
+    if bytes[2] == end {
+        return Some((first, &bytes[3..]));
+    }
+    if bytes.len() < 4 || bytes[3] != end {
+        return None;
+    }
+    if first == 0 || !bytes[2].is_ascii_digit() {
+        return None;
+    }
+    let number = 10 * first + (bytes[2] - b'0');
     if number <= 31 {
-        Some((number as u8, rest))
+        Some((number, &bytes[4..]))
     } else {
         None
     }
