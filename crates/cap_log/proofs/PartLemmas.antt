@@ -11,7 +11,7 @@ use Rattle.cap_word.specs.Digits.{hex_digits}
 use Rattle.cap_word.specs.declared.word.Cap.{Cap}
 use Rattle.cap_word.proofs.DigitLemmas.{length-hex_digits}
 use Rattle.cap_log.specs.Lines.{IsDataSize, IsDataValue, IsNumber, IsOffset, IsPlace, IsRegister, IsTarget, IsWordNumber, place_spelling, register_spelling, tag_spelling}
-use Rattle.cap_log.specs.Parts.{Begins, BeginsWithNone, HasNoSpace, IsSized, loaded_spelling, result_spelling, stored_spelling}
+use Rattle.cap_log.specs.Parts.{Begins, BeginsWithNone, HasNoSpace, IsSized, loaded_spelling, result_spelling, stored_spelling, tag_front}
 use Rattle.cap_log.specs.declared.lines.Place.{Place}
 use Rattle.cap_log.specs.declared.lines.Place.TheVariants.{Register, Granule}
 use Rattle.cap_log.specs.Parts.{Lacks}
@@ -94,6 +94,11 @@ result-plain false x h = All-append (λ b. b ≢ 10) (codes "= 0 ") x (Lacks-by_
 result-long : (t : Bool) (x : List ℕ) → length (61 ∷ 32 ∷ (tag_spelling t ++ 32 ∷ x)) ≡ length x + 4
 result-long true x = omega arith
 result-long false x = omega arith
+
+-- the first four bytes
+pub take_result : (t : Bool) (x more : List ℕ) → take 4 (61 ∷ 32 ∷ (tag_spelling t ++ 32 ∷ x) ++ more) ≡ tag_front t
+take_result true x more = refl
+take_result false x more = refl
 
 result_of : Bool → ℕ → Cap
 result_of tag n = record { tag = tag; word = record { 0 = n } }

@@ -1,5 +1,5 @@
 -- What a reader of a part of a line answers and a writer writes, and the parts themselves. All of it is this profile's own.
-use Rattle.std.specs.Prelude.{◌≡◌, ◌≢◌, ℕ, ◌+◌, ◌*◌, ◌^◌, ◌<◌, ◌≤◌, List, [], ◌∷◌, ◌++◌, length, take, drop, Option, Some, None, All, codes, decimal, slice_index}
+use Rattle.std.specs.Prelude.{◌≡◌, ◌≢◌, ℕ, ◌+◌, ◌*◌, ◌^◌, ◌<◌, ◌≤◌, Bool, true, false, List, [], ◌∷◌, ◌++◌, length, take, drop, Option, Some, None, All, codes, decimal, slice_index}
 use Rattle.std.specs.List.{join_with_byte}
 use Rattle.std.specs.Str.Parse.{AllDigits, digits_value}
 use Rattle.cap_word.specs.Digits.{hex_digits}
@@ -71,6 +71,11 @@ equals_spelling a = codes "="
 -- a number of seventeen hexadecimal digits
 abbrev pub IsWideNumber : ℕ → Type 0
 IsWideNumber n = n < 2 ^ 68
+
+-- what stands before a result's word
+abbrev pub tag_front : Bool → List ℕ
+tag_front true = codes "= 1 "
+tag_front false = codes "= 0 "
 
 -- the result at the end of a step
 abbrev pub result_spelling : Cap → List ℕ

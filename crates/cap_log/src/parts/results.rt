@@ -2,7 +2,7 @@
 
 ghost use Rattle.cap_word.specs.Digits.{hex_digits};
 ghost use Rattle.cap_log.specs.Lines.{IsWordNumber};
-ghost use Rattle.cap_log.specs.Parts.{result_spelling};
+ghost use Rattle.cap_log.specs.Parts.{IsAny, Reads, result_spelling, tag_front};
 ghost use Rattle.cap_log.specs.Spaceless.{digits-spaceless};
 
 use crate::parts::cutting::{put, split_fixed};
@@ -41,13 +41,10 @@ impl Part for Recorded {
 
     #[inline(always)]
     fn take(bytes: &[u8], end: u8) -> Option<(Recorded, &[u8])> {
-        if let Some(digits) = bytes.strip_prefix(b"= 1 ") {
-            let (word, rest) = Word::take(digits, end)?;
-            return Some((Recorded(Cap { tag: true, word }), rest));
-        }
-        let digits = bytes.strip_prefix(b"= 0 ")?;
+        let (front, digits) = bytes.split_first_chunk::<4>()?;
+        let tag = read_tag(front)?;
         let (word, rest) = Word::take(digits, end)?;
-        Some((Recorded(Cap { tag: false, word }), rest))
+        Some((Recorded(Cap { tag, word }), rest))
     }
 
     fn write(&self, buffer: &mut [u8], at: usize) -> usize {
@@ -58,5 +55,19 @@ impl Part for Recorded {
             let digits = put(buffer, at, b"= 0 ");
             put(buffer, digits, &word_text(self.0.word))
         }
+    }
+}
+
+// Reads what stands before a result's word: an equals sign and a tag, with a space behind each.
+#[inline(always)]
+fn read_tag(front: &[u8; 4]) -> Option<bool>
+    ensures { Reads IsAny tag_front front.now result }
+{
+    if front == b"= 1 " {
+        Some(true)
+    } else if front == b"= 0 " {
+        Some(false)
+    } else {
+        None
     }
 }
