@@ -65,9 +65,10 @@ digits_value-next ds i below low high =
     omega arith
 
 -- the digits at the front, where a number and a byte that is no digit stand there, are that number's
-pub front_length : (bytes ds : List ℕ) (value count end : ℕ) (rest : List ℕ) → IsFrontNumber bytes value count → end ≤ 32 → AllDigits 10 ds → length ds ≤ 10
+pub front_length : (most : ℕ) (bytes ds : List ℕ) (value count end : ℕ) (rest : List ℕ) → IsFrontNumber most bytes value count → end ≤ 32
+    → AllDigits 10 ds → length ds ≤ most
     → bytes ≡ ds ++ end ∷ rest → count ≡ length ds
-front_length bytes ds value count end rest front low all short e =
+front_length most bytes ds value count end rest front low all short e =
     let seam : get_or bytes (length ds) 0 ≡ end = ap (λ (bs : List ℕ). get_or bs (length ds) 0) e ∙ get_or-append_seam ds end rest 0 in
     let long : length bytes ≡ length ds + length (end ∷ rest) = ap length e ∙ length-append ds (end ∷ rest) in
     elim (cases_lt count (length ds)) [
@@ -85,11 +86,12 @@ front_length bytes ds value count end rest front low all short e =
       ]
     ]
 
-pub front_is : (bytes : List ℕ) (value count end n : ℕ) (rest : List ℕ) → IsFrontNumber bytes value count → end ≤ 32 → n < 2 ^ 32
-    → bytes ≡ decimal n ++ end ∷ rest → (count ≡ length (decimal n)) × (take count bytes ≡ decimal n)
-front_is bytes value count end n rest front low small e =
-    let bounds = decimal_length n small in
-    let same : count ≡ length (decimal n) = front_length bytes (decimal n) value count end rest front low (decimal_digits n small) bounds.1 e in
+pub front_is : (most : ℕ) (bytes : List ℕ) (value count end n : ℕ) (rest : List ℕ) → IsFrontNumber most bytes value count → end ≤ 32
+    → n < 2 ^ 32 → length (decimal n) ≤ most → bytes ≡ decimal n ++ end ∷ rest
+    → (count ≡ length (decimal n)) × (take count bytes ≡ decimal n)
+front_is most bytes value count end n rest front low small short e =
+    let same : count ≡ length (decimal n) =
+    front_length most bytes (decimal n) value count end rest front low (decimal_digits n small) short e in
     (same, ap (take count) e ∙ take_at (decimal n) (end ∷ rest) count (sym same))
 
 -- so they tell where the number ends, and which it is
@@ -100,11 +102,11 @@ pub record FrontIs (bytes : List ℕ) (value count end n : ℕ) : Type 0 where
   pub value_is : value ≡ n
   pub lead : get_or bytes 0 0 ≡ 48 → count ≡ 1
 
-pub front_facts : (bytes : List ℕ) (value count end n : ℕ) (rest : List ℕ) → IsFrontNumber bytes value count → end ≤ 32 → n < 2 ^ 32
-    → bytes ≡ decimal n ++ end ∷ rest → FrontIs bytes value count end n
-front_facts bytes value count end n rest front low small e =
+pub front_facts : (most : ℕ) (bytes : List ℕ) (value count end n : ℕ) (rest : List ℕ) → IsFrontNumber most bytes value count → end ≤ 32
+    → n < 2 ^ 32 → length (decimal n) ≤ most → bytes ≡ decimal n ++ end ∷ rest → FrontIs bytes value count end n
+front_facts most bytes value count end n rest front low small short e =
     let bounds = decimal_length n small in
-    let is = front_is bytes value count end n rest front low small e in
+    let is = front_is most bytes value count end n rest front low small short e in
     let seam : get_or bytes (length (decimal n)) 0 ≡ end = ap (λ (bs : List ℕ). get_or bs (length (decimal n)) 0) e ∙ get_or-append_seam (decimal n) end rest 0 in
     let long : length bytes ≡ length (decimal n) + length (end ∷ rest) = ap length e ∙ length-append (decimal n) (end ∷ rest) in
     let first : get_or bytes 0 0 ≡ get_or (decimal n) 0 0 = ap (λ (bs : List ℕ). get_or bs 0 0) e ∙ get_or-append (decimal n) (end ∷ rest) 0 0 bounds.0 in
@@ -117,9 +119,10 @@ front_facts bytes value count end n rest front low small e =
     }
 
 -- digits at the front, with no zero before others, and the byte behind them are a number and what ends it
-pub number_in_front : (bytes : List ℕ) (value count end : ℕ) → IsFrontNumber bytes value count → 0 < count → count < length bytes → get_or bytes count 0 ≡ end
+pub number_in_front : (most : ℕ) (bytes : List ℕ) (value count end : ℕ) → IsFrontNumber most bytes value count → 0 < count
+    → count < length bytes → get_or bytes count 0 ≡ end
     → value < 2 ^ 32 → (get_or bytes 0 0 ≡ 48 → count ≡ 1) → bytes ≡ decimal value ++ end ∷ drop (count + 1) bytes
-number_in_front bytes value count end front some before ended small lead =
+number_in_front most bytes value count end front some before ended small lead =
     let kept : length (take count bytes) ≡ count = length-take-le count bytes front.inside in
     let first = get_or-take count bytes 0 0 some in
     let digits : take count bytes ≡ decimal value =

@@ -7,7 +7,6 @@ use Rattle.std.proofs.Math.ListN.{get_or-append}
 use mir.Syntax.{w16}
 use mir.Val.{SFits, of_z, to_z}
 use Rattle.cap_log.specs.Lines.{IsOffset}
-use Rattle.cap_log.proofs.Decimals.{same_number}
 use Rattle.cap_log.proofs.PartLemmas.{Lacks-decimal}
 
 -- no decimal begins with a minus sign
@@ -23,15 +22,6 @@ no_negative end digits none (pos n) rest fits e = no_minus n (end ∷ rest) digi
 no_negative end digits none (negsuc n) rest fits e =
     let small : n ≤ 2047 = omega (arith, ints, fits) in
     none (suc n) rest (omega arith) (ap (λ (bs : List ℕ). drop 1 bs) e) (omega arith, omega arith)
-
--- digits without a minus sign that spell a number out of range
-pub no_positive : (end m : ℕ) (rest : List ℕ) → end ≤ 32 → m < 2 ^ 32 → 2047 < m
-    → (z : ℤ) (rest' : List ℕ) → IsOffset z → decimal m ++ end ∷ rest ≡ signed_decimal z ++ end ∷ rest' → ⊥
-no_positive end m rest low small high (pos n) rest' fits e =
-    let few : n ≤ 2047 = omega (arith, ints, fits) in
-    let same = same_number end m n rest rest' low small (omega arith) e in
-    omega arith
-no_positive end m rest low small high (negsuc n) rest' fits e = no_minus m (end ∷ rest) (decimal (suc n) ++ end ∷ rest') (omega arith) (sym e)
 
 -- an offset fits sixteen bits
 offset-fits : (z : ℤ) → IsOffset z → SFits w16 z

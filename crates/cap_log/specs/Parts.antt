@@ -48,17 +48,21 @@ pub record IsCutAt (end : ℕ) (bytes word rest : List ℕ) : Type 0 where
   pub whole : bytes ≡ word ++ end ∷ rest
   pub one : Lacks end word
 
+-- a number below a bound
+abbrev pub IsBelow : ℕ → ℕ → Type 0
+IsBelow bound n = n < bound
+
 -- a number that a decimal of a line spells
 abbrev pub IsCount : ℕ → Type 0
 IsCount n = n < 2 ^ 32
 
--- the number of the digits at the front of the bytes, which are so many: ten, or all that stand there
-pub record IsFrontNumber (bytes : List ℕ) (value count : ℕ) : Type 0 where
-  pub few : count ≤ 10
+-- the number of the digits at the front of the bytes, which are so many: as many as are asked for, or all that stand there
+pub record IsFrontNumber (most : ℕ) (bytes : List ℕ) (value count : ℕ) : Type 0 where
+  pub few : count ≤ most
   pub inside : count ≤ length bytes
   pub digits : AllDigits 10 (take count bytes)
   pub value_is : value ≡ digits_value 10 (take count bytes)
-  pub stops : count < 10 → count < length bytes → 48 ≤ slice_index bytes count → slice_index bytes count ≤ 57 → ⊥
+  pub stops : count < most → count < length bytes → 48 ≤ slice_index bytes count → slice_index bytes count ≤ 57 → ⊥
 
 -- every value is in range
 abbrev pub IsAny : {A : Type 0} → A → Type 0

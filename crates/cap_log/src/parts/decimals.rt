@@ -1,7 +1,7 @@
 //! Decimal numbers.
 
 ghost use Rattle.std.specs.Prelude.{◌+◌, ◌<◌, ◌≤◌, ◌^◌, length, IfSome, IfNone, decimal};
-ghost use Rattle.cap_log.specs.Parts.{Begins, BeginsWithNone, IsCount, IsEnd, IsFrontNumber, Writes};
+ghost use Rattle.cap_log.specs.Parts.{Begins, BeginsWithNone, IsBelow, IsCount, IsEnd, IsFrontNumber, Writes};
 ghost use Rattle.cap_log.specs.Spaceless.{decimal-spaceless};
 
 use crate::parts::cutting::put;
@@ -9,7 +9,10 @@ use crate::parts::{Part, Single};
 use itoa::Buffer;
 
 /// The most digits that a number below 2^32 has.
-const DECIMAL_DIGITS: usize = 10;
+const COUNT_DIGITS: usize = 10;
+
+/// A count is below this.
+const COUNT_BOUND: u64 = 1 << 32;
 
 /// A decimal number, with no sign and no leading zero.
 #[derive(Clone, Copy, Debug, PartialEq, Eq)]
@@ -22,7 +25,7 @@ impl Part for Count {
 
     #[inline(always)]
     fn take(bytes: &[u8], end: u8) -> Option<(Count, &[u8])> {
-        let (number, rest) = take_decimal(bytes, end)?;
+        let (number, rest) = take_decimal(bytes, COUNT_DIGITS, COUNT_BOUND, end)?;
         Some((Count(number), rest))
     }
 
@@ -35,21 +38,26 @@ impl Single for Count {
     ghost spaceless = { λ count fits. decimal-spaceless count.0 fits };
 }
 
-/// Takes a decimal number below 2^32, with no sign and no leading zero, and the byte that ends it.
+/// Takes a decimal number below a bound, which leaves it so many digits at most, with no sign and no
+/// leading zero, and the byte that ends it.
 #[inline(always)]
-pub fn take_decimal(bytes: &[u8], end: u8) -> Option<(u32, &[u8])>
-    requires { IsEnd end }
-    ensures some { IfSome result (λ p. Begins IsCount decimal end bytes.now p.0 p.1.now) }
-    ensures none { IfNone result (BeginsWithNone IsCount decimal end bytes.now) }
+pub fn take_decimal(bytes: &[u8], most: usize, bound: u64, end: u8) -> Option<(u32, &[u8])>
+    requires end { IsEnd end }
+    requires some { 0 < most }
+    requires few { most ≤ 10 }
+    requires bound { bound ≤ 10 ^ most }
+    requires small { bound ≤ 2 ^ 32 }
+    ensures some { IfSome result (λ p. Begins (IsBelow bound) decimal end bytes.now p.0 p.1.now) }
+    ensures none { IfNone result (BeginsWithNone (IsBelow bound) decimal end bytes.now) }
 {
-    let (value, count) = front_digits(bytes);
+    let (value, count) = front_digits(bytes, most);
     if count == 0 || count >= bytes.len() {
         return None;
     }
     if bytes[count] != end {
         return None;
     }
-    if value > u64::from(u32::MAX) {
+    if value >= bound {
         return None;
     }
     if count > 1 && bytes[0] == b'0' {
@@ -58,12 +66,13 @@ pub fn take_decimal(bytes: &[u8], end: u8) -> Option<(u32, &[u8])>
     Some((value as u32, &bytes[count + 1..]))
 }
 
-// The number that the digits at the front spell, ten at most, and how many they are.
+// The number that the digits at the front spell, so many at most, and how many they are.
 #[inline(always)]
-fn front_digits(bytes: &[u8]) -> (u64, usize)
-    ensures front { IsFrontNumber bytes.now result.0 result.1 }
+fn front_digits(bytes: &[u8], most: usize) -> (u64, usize)
+    requires { most ≤ 10 }
+    ensures front { IsFrontNumber most bytes.now result.0 result.1 }
 {
-    let most = bytes.len().min(DECIMAL_DIGITS);
+    let most = bytes.len().min(most);
     let mut value: u64 = 0;
     for index in 0..most {
         if !bytes[index].is_ascii_digit() {

@@ -9,14 +9,17 @@ use crate::parts::decimals::take_decimal;
 use crate::parts::{Part, Single};
 use itoa::Buffer;
 
+/// The most digits that an offset has.
+const OFFSET_DIGITS: usize = 4;
+
+/// A number without a minus sign is below this.
+const BOUND: u64 = 2048;
+
 /// The least number behind a minus sign.
 const LEAST_NEGATIVE: u32 = 1;
 
-/// The greatest number behind a minus sign.
-const GREATEST_NEGATIVE: u32 = 2048;
-
-/// The greatest number without one.
-const GREATEST: u32 = 2047;
+/// A number behind a minus sign is below this.
+const NEGATIVE_BOUND: u64 = 2049;
 
 /// An offset: a decimal number, with a minus sign where it is below 0.
 #[derive(Clone, Copy)]
@@ -30,16 +33,13 @@ impl Part for Offset {
     #[inline(always)]
     fn take(bytes: &[u8], end: u8) -> Option<(Offset, &[u8])> {
         if let Some(digits) = bytes.strip_prefix(b"-") {
-            let (number, rest) = take_decimal(digits, end)?;
-            if number < LEAST_NEGATIVE || number > GREATEST_NEGATIVE {
+            let (number, rest) = take_decimal(digits, OFFSET_DIGITS, NEGATIVE_BOUND, end)?;
+            if number < LEAST_NEGATIVE {
                 return None;
             }
             return Some((Offset(-(number as i16)), rest));
         }
-        let (number, rest) = take_decimal(bytes, end)?;
-        if number > GREATEST {
-            return None;
-        }
+        let (number, rest) = take_decimal(bytes, OFFSET_DIGITS, BOUND, end)?;
         Some((Offset(number as i16), rest))
     }
 
