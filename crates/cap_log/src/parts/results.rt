@@ -63,11 +63,9 @@ impl Part for Recorded {
 fn read_tag(front: &[u8; 4]) -> Option<bool>
     ensures { Reads IsAny tag_front front.now result }
 {
-    if front == b"= 1 " {
-        Some(true)
-    } else if front == b"= 0 " {
-        Some(false)
-    } else {
-        None
+    match *front {
+        [b'=', b' ', b'1', b' '] => Some(true),
+        [b'=', b' ', b'0', b' '] => Some(false),
+        _ => None,
     }
 }
