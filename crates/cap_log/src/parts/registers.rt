@@ -11,6 +11,12 @@ use crate::parts::decimals::write_decimal;
 use crate::parts::hexadecimals::{Number, write_number};
 use crate::parts::{Part, Single};
 
+/// The greatest register.
+const GREATEST_REGISTER: u8 = 31;
+
+/// The least digit before another one.
+const LEAST_TENS: u8 = 1;
+
 /// A register that a step reads, `c0` to `c31`.
 #[derive(Clone, Copy)]
 pub struct Register(pub u8);
@@ -118,11 +124,11 @@ fn take_register(bytes: &[u8], end: u8) -> Option<(u8, &[u8])>
     if bytes.len() < 4 || bytes[3] != end {
         return None;
     }
-    if first == 0 || !bytes[2].is_ascii_digit() {
+    if first < LEAST_TENS || !bytes[2].is_ascii_digit() {
         return None;
     }
     let number = 10 * first + (bytes[2] - b'0');
-    if number <= 31 {
+    if number <= GREATEST_REGISTER {
         Some((number, &bytes[4..]))
     } else {
         None

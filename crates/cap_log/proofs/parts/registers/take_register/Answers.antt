@@ -7,8 +7,8 @@ use Rattle.cap_log.proofs.parts.registers.take_register.Goals.{then-bytes-lt3-vi
 use Rattle.cap_log.proofs.parts.registers.take_register.Goals.{then-bytes-lt3-via-else-bytes-lt3+then-bytes-ne99}
 use Rattle.cap_log.proofs.parts.registers.take_register.Goals.{then-bytes-lt4-via-then-bytes-lt4}
 use Rattle.cap_log.proofs.parts.registers.take_register.Goals.{then-bytes-lt4-via-else-bytes-lt4+then-bytes-end-2}
-use Rattle.cap_log.proofs.parts.registers.take_register.Goals.{then-first-eq0-via-then-first-eq0}
-use Rattle.cap_log.proofs.parts.registers.take_register.Goals.{then-first-eq0-via-else-first-eq0+then-not-is_ascii_digit-2}
+use Rattle.cap_log.proofs.parts.registers.take_register.Goals.{then-first-lt-LEAST_TENS-via-then-first-lt-LEAST_TENS}
+use Rattle.cap_log.proofs.parts.registers.take_register.Goals.{then-first-lt-LEAST_TENS-via-else-first-lt-LEAST_TENS+then-not-is_ascii_digit-2}
 
 pub returns-then-bytes-lt3-clause-none : goal.returns-then-bytes-lt3-clause-none
 returns-then-bytes-lt3-clause-none c = λ n rest begins.
@@ -38,29 +38,29 @@ returns-then-bytes-lt4-clause-none c = λ n rest begins.
       | then-bytes-lt4-via-else-bytes-lt4+then-bytes-end-2 w ↦ w.if-bytes-end-2.true has.ended
     ]
 
-pub returns-then-first-eq0-clause-none : goal.returns-then-first-eq0-clause-none
-returns-then-first-eq0-clause-none c = λ n rest begins.
+pub returns-then-first-lt-LEAST_TENS-clause-none : goal.returns-then-first-lt-LEAST_TENS-clause-none
+returns-then-first-lt-LEAST_TENS-clause-none c = λ n rest begins.
     let has = (register_facts c.args.end n c.args.bytes.now rest begins).more c.if-bytes-end.false in
-    elim c.then-first-eq0.branch [
-      | then-first-eq0-via-then-first-eq0 w ↦ omega (arith, has.first, w.if-first-eq0.true)
-      | then-first-eq0-via-else-first-eq0+then-not-is_ascii_digit-2 w ↦
-          let other = when_false _ _ w.if-not-is_ascii_digit-2.true w.is_ascii_digit-else-first-eq0.ensures.cases in
+    elim c.then-first-lt-LEAST_TENS.branch [
+      | then-first-lt-LEAST_TENS-via-then-first-lt-LEAST_TENS w ↦ omega (arith, has.first, w.if-first-lt-LEAST_TENS.true)
+      | then-first-lt-LEAST_TENS-via-else-first-lt-LEAST_TENS+then-not-is_ascii_digit-2 w ↦
+          let other = when_false _ _ w.if-not-is_ascii_digit-2.true w.is_ascii_digit-else-first-lt-LEAST_TENS.ensures.cases in
           grind (arith, other, has.second)
     ]
 
-pub returns-then-number-le31-clause-some : goal.returns-then-number-le31-clause-some
-returns-then-number-le31-clause-some c =
+pub returns-then-number-le-GREATEST_REGISTER-clause-some : goal.returns-then-number-le-GREATEST_REGISTER-clause-some
+returns-then-number-le-GREATEST_REGISTER-clause-some c =
     let first = when_true _ _ c.if-not-is_ascii_digit.false c.is_ascii_digit.ensures.cases in
-    let second = when_true _ _ c.if-not-is_ascii_digit-2.false c.is_ascii_digit-else-first-eq0.ensures.cases in
+    let second = when_true _ _ c.if-not-is_ascii_digit-2.false c.is_ascii_digit-else-first-lt-LEAST_TENS.ensures.cases in
     rw (take_rest c.args.bytes.now 4) (two_digit c.args.end c.args.bytes.now c.if-bytes-ne99.false first.1 (record {
       long = c.if-bytes-lt4.false;
-      first = omega (arith, first.0, c.if-first-eq0.false);
+      first = omega (arith, first.0, c.if-first-lt-LEAST_TENS.false);
       second = second;
       ended = c.if-bytes-end-2.false;
-      small = c.if-number-le31.true;
+      small = c.if-number-le-GREATEST_REGISTER.true;
     }))
 
-pub returns-else-number-le31-clause-none : goal.returns-else-number-le31-clause-none
-returns-else-number-le31-clause-none c = λ n rest begins.
+pub returns-else-number-le-GREATEST_REGISTER-clause-none : goal.returns-else-number-le-GREATEST_REGISTER-clause-none
+returns-else-number-le-GREATEST_REGISTER-clause-none c = λ n rest begins.
     let has = (register_facts c.args.end n c.args.bytes.now rest begins).more c.if-bytes-end.false in
-    omega (arith, has.small, c.if-number-le31.false)
+    omega (arith, has.small, c.if-number-le-GREATEST_REGISTER.false)
