@@ -65,11 +65,3 @@ pub untouched : {S : Type 0} (gave : S → S → List ℕ → Type 0) (a b old n
     → ((given : List ℕ) × gave a b given × (middle ≡ before ++ given)) → IsFront middle front → front ≡ Cut → (IsCut before → ⊥) → new ≡ old
 untouched gave a b old new before middle front so_far is cut whole =
     absurd (whole (cut_before before so_far.0 (subst IsCut so_far.2 (subst (IsFront middle) cut is))))
-
--- what is left of the bytes held after a text and its line feed were taken off
-pub taken_off : (slice held text rest now : List ℕ) → slice ≡ held → slice ≡ text ++ 10 ∷ rest → now ≡ drop (length slice - length rest) held → held ≡ text ++ 10 ∷ now
-taken_off slice held text rest now same is drops =
-    let count : length slice - length rest ≡ length text + 1 = omega (arith, ap length is, length-append text (10 ∷ rest)) in
-    let left : now ≡ rest =
-    drops ∙ ap (λ (n : ℕ). drop n held) count ∙ ap (λ (l : List ℕ). drop (length text + 1) l) (sym same ∙ is) ∙ drop-append-add text (10 ∷ rest) 1 in
-    sym same ∙ is ∙ ap (λ (r : List ℕ). text ++ 10 ∷ r) (sym left)

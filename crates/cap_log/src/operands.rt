@@ -41,6 +41,7 @@ type CapStored = (Register, (Register, Offset));
 
 /// Takes what stands behind a line's head and its space, with the line feed: the line, and what comes
 /// behind it.
+#[inline(always)]
 pub fn take_operands(head: Head, bytes: &[u8]) -> Option<(Line, &[u8])>
     ensures some { IfSome result (λ p. Begins IsInRange spelling 10 (head_spelling head ++ 32 ∷ bytes.now) p.0 p.1.now) }
     ensures none { IfNone result (BeginsWithNone IsInRange spelling 10 (head_spelling head ++ 32 ∷ bytes.now)) }
@@ -97,6 +98,7 @@ fn read_mode(word: &[u8]) -> Option<Mode>
 }
 
 // A step whose operands are registers.
+#[inline(always)]
 fn take_register_step(kind: RegisterStep, bytes: &[u8]) -> Option<(Line, &[u8])>
     ensures some { IfSome result (λ p. Begins IsInRange spelling 10 (head_spelling (head.Registers kind) ++ 32 ∷ bytes.now) p.0 p.1.now) }
     ensures none { IfNone result (BeginsWithNone IsInRange spelling 10 (head_spelling (head.Registers kind) ++ 32 ∷ bytes.now)) }
@@ -152,6 +154,7 @@ fn take_register_step(kind: RegisterStep, bytes: &[u8]) -> Option<(Line, &[u8])>
 }
 
 // A step whose operands are two registers and a number.
+#[inline(always)]
 fn take_number_step(kind: NumberStep, bytes: &[u8]) -> Option<(Line, &[u8])>
     ensures some { IfSome result (λ p. Begins IsInRange spelling 10 (head_spelling (head.Number kind) ++ 32 ∷ bytes.now) p.0 p.1.now) }
     ensures none { IfNone result (BeginsWithNone IsInRange spelling 10 (head_spelling (head.Number kind) ++ 32 ∷ bytes.now)) }
@@ -198,6 +201,7 @@ fn take_number_step(kind: NumberStep, bytes: &[u8]) -> Option<(Line, &[u8])>
 }
 
 // A step with an authority and an offset.
+#[inline(always)]
 fn take_access_step(kind: AccessStep, bytes: &[u8]) -> Option<(Line, &[u8])>
     ensures some { IfSome result (λ p. Begins IsInRange spelling 10 (head_spelling (head.Access kind) ++ 32 ∷ bytes.now) p.0 p.1.now) }
     ensures none { IfNone result (BeginsWithNone IsInRange spelling 10 (head_spelling (head.Access kind) ++ 32 ∷ bytes.now)) }

@@ -15,6 +15,7 @@ use crate::parts::cutting::put;
 
 /// Takes a line and its line feed from the front of some bytes: the line, and what comes behind it.
 /// `None` where no line and a line feed stand there.
+#[inline(always)]
 pub fn take_line(bytes: &[u8]) -> Option<(Line, &[u8])>
     ensures some { IfSome result (λ p. Begins IsInRange spelling 10 bytes.now p.0 p.1.now) }
     ensures none { IfNone result (BeginsWithNone IsInRange spelling 10 bytes.now) }

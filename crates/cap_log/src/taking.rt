@@ -1,18 +1,14 @@
 //! The lines of a source.
 
-ghost use Rattle.std.specs.Prelude.{◌≡◌, ◌≢◌, ℕ, ◌+◌, ◌<◌, ◌≤◌, List, [], ◌++◌, length, take, drop, true, false, None, Some, Ok, IfNone, IfOk, IfSome, OnErr, OnOk};
+ghost use Rattle.std.specs.Prelude.{◌≡◌, ◌≢◌, ℕ, ◌+◌, ◌<◌, ◌≤◌, List, [], ◌++◌, length, take, drop, true, false, None, Ok, IfOk, OnErr, OnOk};
 ghost use Rattle.cap_log.specs.Front.{IsCut};
-ghost use Rattle.cap_log.specs.Lines.{IsInRange, spelling};
-ghost use Rattle.cap_log.specs.Parts.{Begins, BeginsWithNone};
 ghost use Rattle.cap_log.specs.Streams.{next_count};
 ghost use Rattle.cap_log.specs.declared.fronts.Front.TheVariants.{Cut};
 ghost use Rattle.cap_log.specs.declared.nexts.Over.{Over};
 
 use crate::fronts::Front;
 use crate::fronts::finding::front;
-use crate::lines::Line;
 use crate::nexts::{Next, Over};
-use crate::reading::take_line;
 use crate::sources::{PullFault, Source};
 use crate::window::Window;
 
@@ -87,19 +83,20 @@ impl Lines {
         }
     }
 
-    /// Takes a line with its line feed from the front of what is kept, without a pull. `None` where no line
-    /// that has a form stands there whole; then nothing has changed.
-    pub fn take_kept(&mut self) -> Option<Line>
-        ensures some { IfSome result (λ line. Begins IsInRange spelling 10 (kept self.old) line (kept self.new)) }
-        ensures none { IfNone result (BeginsWithNone IsInRange spelling 10 (kept self.old)) }
-        ensures unchanged { IfNone result (self.new ≡ self.old) }
+    /// The bytes that were pulled and not yet lent.
+    pub fn kept(&self) -> &[u8]
+        ensures value { result.now ≡ kept self.now }
+    {
+        self.window.as_slice()
+    }
+
+    /// Takes so many bytes off the front of what is kept, as lines that were lent.
+    pub fn consume(&mut self, count: usize)
+        requires { count ≤ length (kept self.old) }
+        ensures rest { kept self.new ≡ drop count (kept self.old) }
         ensures over { over_of self.new ≡ over_of self.old }
     {
-        let kept = self.window.as_slice();
-        let (line, rest) = take_line(kept)?;
-        let taken = kept.len() - rest.len();
-        self.window.consume(taken);
-        Some(line)
+        self.window.consume(count);
     }
 
     // Finds the front of what is kept, pulling while that is cut.

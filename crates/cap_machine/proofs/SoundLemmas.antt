@@ -1,9 +1,10 @@
 -- A state whose tagged capabilities are sound stays such a state.
-use Rattle.std.proofs.Common.{◌≡◌, ℕ, ◌<◌, ◌≤◌, ◌^◌, ◌==◌, ◌-◌, Bool, true, false, nat_lt, get_or, arith, List, length, sym, ap, subst, ◌∙◌}
+use Rattle.std.proofs.Common.{◌≡◌, ℕ, ◌<◌, ◌≤◌, ◌^◌, ◌==◌, ◌-◌, Bool, true, false, not, ◌&&◌, eqb, refl, nat_lt, get_or, arith, List, length, sym, ap, subst, ◌∙◌}
 use Rattle.std.specs.Bool.{if◌then◌else◌}
 use Rattle.std.proofs.Math.ListN.{set}
 use Rattle.std.proofs.lemmas.List.{get_or-set_other}
-use Rattle.std.proofs.lemmas.Bool.{false≢true, le-ltb}
+use Rattle.std.proofs.Math.Bool.{beq}
+use Rattle.std.proofs.lemmas.Bool.{false≢true, le-ltb, and_parts, not-false, eqb-true}
 use Rattle.std.specs.FinMap as map
 use Rattle.cap_word.specs.declared.word.Word.{Word}
 use Rattle.cap_word.specs.declared.word.Cap.{Cap}
@@ -61,3 +62,20 @@ pub zero_register : (registers : List Cap) (target : ℕ) (cap : Cap) → 1 ≤ 
     → get_or (set registers target cap) 0 untagged_null ≡ untagged_null
 zero_register registers target cap written null =
     get_or-set_other registers target 0 cap untagged_null (λ e. let same : 0 ≡ target = e in omega arith) ∙ null
+
+beq_true : (a b : Bool) → beq a b ≡ true → a ≡ b
+beq_true true true same = refl
+beq_true true false same = cc
+beq_true false true same = cc
+beq_true false false same = refl
+
+-- capabilities whose tags and words are alike are one
+same_caps : (a b : Cap) → a.tag ≡ b.tag → a.word.0 ≡ b.word.0 → a ≡ b
+same_caps a b tag word =
+    ap (λ (t : Bool). record { tag = t; word = a.word }) tag ∙ ap (λ (n : ℕ). record { tag = b.tag; word = record { 0 = n } }) word
+
+-- a comparison that finds no difference
+pub equal_caps : (a b : Cap) → not (beq a.tag b.tag && eqb a.word.0 b.word.0) ≡ false → a ≡ b
+equal_caps a b same =
+    let both = and_parts (beq a.tag b.tag) (eqb a.word.0 b.word.0) (not-false (beq a.tag b.tag && eqb a.word.0 b.word.0) same) in
+    same_caps a b (beq_true a.tag b.tag both.0) (eqb-true a.word.0 b.word.0 both.1)

@@ -94,6 +94,10 @@ EndsStep old step NoMemory new =
     × IsTrue (is_new (account_of old) (named_by (row_in (account_of old) step)))
     × (new ≡ old)
 
+-- the machine's answer to a step: it made it, or the step ended there
+abbrev pub AnswersStep : {A : Type 0} → Held → Step → Result A StepEnd → Held → Type 0
+AnswersStep old step result new = MatchResult result (λ _. Makes old step new) (λ end. EndsStep old step end new)
+
 -- the machine took the root: no test of it holds, and the account is that after it
 pub record Takes (old : Held) (place : Place) (word : Word) (new : Held) : Type 0 where
   pub tests : first_of (root_tests (account_of old) place word) ≡ None

@@ -13,7 +13,7 @@ ghost use Rattle.cap_machine.specs.Changes.{
   with_cap_put,
   with_value_put,
 };
-ghost use Rattle.cap_machine.specs.Helds.{EndsStep, Makes, code_in, held_of, state_of};
+ghost use Rattle.cap_machine.specs.Helds.{AnswersStep, code_in, held_of, state_of};
 ghost use Rattle.cap_machine.specs.Parents.{IsSoundCap};
 ghost use Rattle.cap_machine.specs.Places.{IsCoded};
 ghost use Rattle.cap_machine.specs.States.{granule_key};
@@ -28,6 +28,7 @@ use tagmem::{NoMemory, TaggedStore};
 
 impl<M: TaggedStore> Machine<M> {
     // The address of an access through a register, where that allows it.
+    #[inline(always)]
     fn reach(&self, authority: u8, kind: Kind, offset: i16, size: u8) -> Result<u64, OpFault>
         requires authority { authority ≤ 31 }
         requires offset { IsOffset offset }
@@ -40,6 +41,7 @@ impl<M: TaggedStore> Machine<M> {
     }
 
     // The code of a granule's origin, looked up only for a tag.
+    #[inline(always)]
     fn granule_code(&self, tag: bool, granule: u64) -> u64
         requires { granule < 2 ^ 60 }
         ensures { result ≡ code_for tag (code_in (held_of M.contents self.now) (granule_key granule)) }
@@ -48,6 +50,7 @@ impl<M: TaggedStore> Machine<M> {
     }
 
     // Makes the step that loads a capability.
+    #[inline(always)]
     pub(crate) fn load_capability(
         &mut self,
         target: u8,
@@ -58,9 +61,7 @@ impl<M: TaggedStore> Machine<M> {
         requires target { IsTarget target }
         requires authority { authority ≤ 31 }
         requires offset { IsOffset offset }
-        ensures { MatchResult result
-            (λ _. Makes (held_of M.contents self.old) (steps.LoadCap target authority offset recorded) (held_of M.contents self.new))
-            (λ end. EndsStep (held_of M.contents self.old) (steps.LoadCap target authority offset recorded) end (held_of M.contents self.new)) }
+        ensures { AnswersStep (held_of M.contents self.old) (steps.LoadCap target authority offset recorded) result (held_of M.contents self.new) }
     {
         match self.reach(authority, Kind::LoadCap, offset, 16) {
             Ok(address) => {
@@ -73,6 +74,7 @@ impl<M: TaggedStore> Machine<M> {
     }
 
     // Makes the step that stores a register's capability.
+    #[inline(always)]
     pub(crate) fn store_capability(
         &mut self,
         source: u8,
@@ -82,9 +84,7 @@ impl<M: TaggedStore> Machine<M> {
         requires source { source ≤ 31 }
         requires authority { authority ≤ 31 }
         requires offset { IsOffset offset }
-        ensures { MatchResult result
-            (λ _. Makes (held_of M.contents self.old) (steps.StoreCap source authority offset) (held_of M.contents self.new))
-            (λ end. EndsStep (held_of M.contents self.old) (steps.StoreCap source authority offset) end (held_of M.contents self.new)) }
+        ensures { AnswersStep (held_of M.contents self.old) (steps.StoreCap source authority offset) result (held_of M.contents self.new) }
     {
         let stored = self.register(source);
         match self.reach(authority, Kind::StoreCap(stored), offset, 16) {
@@ -94,6 +94,7 @@ impl<M: TaggedStore> Machine<M> {
     }
 
     // Makes the step that stores a value.
+    #[inline(always)]
     pub(crate) fn store(
         &mut self,
         authority: u8,
@@ -104,9 +105,7 @@ impl<M: TaggedStore> Machine<M> {
         requires authority { authority ≤ 31 }
         requires offset { IsOffset offset }
         requires sized { IsDataSize size }
-        ensures { MatchResult result
-            (λ _. Makes (held_of M.contents self.old) (steps.Store authority offset size value) (held_of M.contents self.new))
-            (λ end. EndsStep (held_of M.contents self.old) (steps.Store authority offset size value) end (held_of M.contents self.new)) }
+        ensures { AnswersStep (held_of M.contents self.old) (steps.Store authority offset size value) result (held_of M.contents self.new) }
     {
         match self.reach(authority, Kind::StoreData, offset, size) {
             Ok(address) => self.put_value_counted(address / 16, (address % 16) as u8, size, value),
@@ -115,6 +114,7 @@ impl<M: TaggedStore> Machine<M> {
     }
 
     // Makes the step that loads a value.
+    #[inline(always)]
     pub(crate) fn load(
         &mut self,
         authority: u8,
@@ -125,9 +125,7 @@ impl<M: TaggedStore> Machine<M> {
         requires authority { authority ≤ 31 }
         requires offset { IsOffset offset }
         requires sized { IsDataSize size }
-        ensures { MatchResult result
-            (λ _. Makes (held_of M.contents self.old) (steps.Load authority offset size value) (held_of M.contents self.new))
-            (λ end. EndsStep (held_of M.contents self.old) (steps.Load authority offset size value) end (held_of M.contents self.new)) }
+        ensures { AnswersStep (held_of M.contents self.old) (steps.Load authority offset size value) result (held_of M.contents self.new) }
     {
         match self.reach(authority, Kind::LoadData, offset, size) {
             Ok(address) => {
@@ -145,6 +143,7 @@ impl<M: TaggedStore> Machine<M> {
     }
 
     // Whether one step more that names a granule passes a limit.
+    #[inline(always)]
     fn is_past_limits(&self, granule: u64) -> bool
         requires { granule < 2 ^ 60 }
         ensures { result ≡ is_past_limits (held_of M.contents self.now) granule }
@@ -153,6 +152,7 @@ impl<M: TaggedStore> Machine<M> {
     }
 
     // Puts a capability, and the code of its origin, into a granule and counts the step.
+    #[inline(always)]
     fn put_counted(&mut self, granule: u64, stored: Cap, code: u64) -> Result<(), StepEnd>
         requires in_memory { granule < 2 ^ 60 }
         requires sound { IsSoundCap stored }
@@ -175,6 +175,7 @@ impl<M: TaggedStore> Machine<M> {
     }
 
     // Puts a value's bytes into a granule and counts the step.
+    #[inline(always)]
     fn put_value_counted(
         &mut self,
         granule: u64,

@@ -68,6 +68,7 @@ impl<M: TaggedStore> Machine<M> {
     }
 
     /// What a register holds. Register 0 is c0, which is NULL without a tag.
+    #[inline(always)]
     pub fn register(&self, number: u8) -> Cap
         requires { number ≤ 31 }
         ensures holds { result ≡ state_of (held_of M.contents self.now) number }

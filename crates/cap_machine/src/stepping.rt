@@ -13,18 +13,17 @@ ghost use Rattle.cap_machine.specs.Changes.{
   with_register,
 };
 ghost use Rattle.cap_machine.specs.Escapes.{ClearsBeyond, Escapes};
-ghost use Rattle.cap_machine.specs.Helds.{EndsStep, Makes, held_of, state_of};
+ghost use Rattle.cap_machine.specs.Helds.{AnswersStep, held_of, state_of};
 ghost use Rattle.cap_machine.specs.Parents.{IsSoundCap, StaysWithinParents};
 ghost use Rattle.cap_machine.specs.Places.{IsCoded};
 ghost use Rattle.cap_machine.specs.Steps.{is_same_cap};
 
 use crate::ends::StepEnd;
 use crate::machine::{MOST_STEPS, Machine};
-use crate::operating::{and_perm_by, seal_by, set_addr_by, set_bounds_by, unseal_by};
 use crate::places::code_for;
 use crate::refusal::Refusal;
 use cap_log::Step;
-use cap_ops::{OpFault, clear_tag};
+use cap_ops::OpFault;
 use cap_word::Cap;
 use tagmem::TaggedStore;
 
@@ -44,11 +43,10 @@ impl<M: TaggedStore> Machine<M> {
     /// sets bounds of a tagged, unsealed source and those that it asks for, before any rounding, do not lie
     /// inside the source's, which is the test of the instruction CSetBounds. In clear mode no step is, and
     /// `setbounds` of such a source loses its tag exactly there.
+    #[inline(always)]
     pub fn step(&mut self, step: &Step) -> Result<(), StepEnd>
         requires { IsStepInRange step.now }
-        ensures outcome { MatchResult result
-            (λ _. Makes (held_of M.contents self.old) step.now (held_of M.contents self.new))
-            (λ end. EndsStep (held_of M.contents self.old) step.now end (held_of M.contents self.new)) }
+        ensures outcome { AnswersStep (held_of M.contents self.old) step.now result (held_of M.contents self.new) }
         ensures stays_within { OnOk result
             (StaysWithinParents (state_of (held_of M.contents self.old)) step.now (state_of (held_of M.contents self.new))) }
         ensures escape { (result ≡ Err (StepEnd.Refused Refusal.BoundsEscape)) ↔ Escapes self.old.rules (state_of (held_of M.contents self.old)) step.now }
@@ -59,21 +57,58 @@ impl<M: TaggedStore> Machine<M> {
     }
 
     // Makes a step and counts it, or refuses it.
+    #[inline(always)]
     fn make(&mut self, step: &Step) -> Result<(), StepEnd>
         requires { IsStepInRange step.now }
-        ensures { MatchResult result
-            (λ _. Makes (held_of M.contents self.old) step.now (held_of M.contents self.new))
-            (λ end. EndsStep (held_of M.contents self.old) step.now end (held_of M.contents self.new)) }
+        ensures { AnswersStep (held_of M.contents self.old) step.now result (held_of M.contents self.new) }
     {
         match *step {
-            Step::Move { target, result, .. }
-            | Step::ClearTag { target, result, .. }
-            | Step::SetBounds { target, result, .. }
-            | Step::SetBoundsExact { target, result, .. }
-            | Step::SetAddr { target, result, .. }
-            | Step::AndPerm { target, result, .. }
-            | Step::Seal { target, result, .. }
-            | Step::Unseal { target, result, .. } => self.operate(step, target, result),
+            Step::Move {
+                target,
+                source,
+                result,
+            } => self.copy(target, source, result),
+            Step::ClearTag {
+                target,
+                source,
+                result,
+            } => self.clear_tag(target, source, result),
+            Step::SetBounds {
+                target,
+                source,
+                length,
+                result,
+            } => self.set_bounds(target, source, length, result),
+            Step::SetBoundsExact {
+                target,
+                source,
+                length,
+                result,
+            } => self.set_bounds_exact(target, source, length, result),
+            Step::SetAddr {
+                target,
+                source,
+                address,
+                result,
+            } => self.set_address(target, source, address, result),
+            Step::AndPerm {
+                target,
+                source,
+                mask,
+                result,
+            } => self.and_permissions(target, source, mask, result),
+            Step::Seal {
+                target,
+                source,
+                authority,
+                result,
+            } => self.seal(target, source, authority, result),
+            Step::Unseal {
+                target,
+                source,
+                authority,
+                result,
+            } => self.unseal(target, source, authority, result),
             Step::LoadCap {
                 target,
                 authority,
@@ -100,71 +135,9 @@ impl<M: TaggedStore> Machine<M> {
         }
     }
 
-    // Makes a step that is an operation on registers.
-    fn operate(&mut self, step: &Step, target: u8, recorded: Cap) -> Result<(), StepEnd>
-        requires in_range { IsStepInRange step.now }
-        requires target { IsTarget target }
-        requires operation { IsOperation (state_of (held_of M.contents self.old)) step.now target recorded }
-        ensures { MatchResult result
-            (λ _. Makes (held_of M.contents self.old) step.now (held_of M.contents self.new))
-            (λ end. EndsStep (held_of M.contents self.old) step.now end (held_of M.contents self.new)) }
-    {
-        match *step {
-            Step::Move { source, .. } => {
-                let derived = self.register(source);
-                self.conclude(step, target, source, Ok(derived), recorded)
-            }
-            Step::ClearTag { source, .. } => {
-                let derived = clear_tag(self.register(source));
-                self.conclude(step, target, source, Ok(derived), recorded)
-            }
-            Step::SetBounds { source, length, .. } => {
-                let outcome = set_bounds_by(self.rules, self.register(source), length, false);
-                self.conclude(step, target, source, outcome, recorded)
-            }
-            Step::SetBoundsExact { source, length, .. } => {
-                let outcome = set_bounds_by(self.rules, self.register(source), length, true);
-                self.conclude(step, target, source, outcome, recorded)
-            }
-            Step::SetAddr {
-                source,
-                address,
-                ..
-            } => {
-                let outcome = set_addr_by(self.rules, self.register(source), address);
-                self.conclude(step, target, source, outcome, recorded)
-            }
-            Step::AndPerm { source, mask, .. } => {
-                let outcome = and_perm_by(self.rules, self.register(source), mask);
-                self.conclude(step, target, source, outcome, recorded)
-            }
-            Step::Seal {
-                source,
-                authority,
-                ..
-            } => {
-                let outcome = seal_by(self.rules, self.register(source), self.register(authority));
-                self.conclude(step, target, source, outcome, recorded)
-            }
-            Step::Unseal {
-                source,
-                authority,
-                ..
-            } => {
-                let outcome = unseal_by(
-                    self.rules,
-                    self.register(source),
-                    self.register(authority),
-                );
-                self.conclude(step, target, source, outcome, recorded)
-            }
-            Step::LoadCap { .. } | Step::StoreCap { .. } | Step::Load { .. } | Step::Store { .. } =>
-                unreachable!(),
-        }
-    }
-
     // Ends a step that is an operation on registers, from what the operation gave.
-    fn conclude(
+    #[inline(always)]
+    pub(crate) fn conclude(
         &mut self,
         step: &Step,
         target: u8,
@@ -177,9 +150,7 @@ impl<M: TaggedStore> Machine<M> {
         requires operation { IsOperation (state_of (held_of M.contents self.old)) step.now target recorded }
         requires source { IsSource (state_of (held_of M.contents self.old)) step.now source }
         requires derives { Derives (held_of M.contents self.old) step.now outcome }
-        ensures { MatchResult result
-            (λ _. Makes (held_of M.contents self.old) step.now (held_of M.contents self.new))
-            (λ end. EndsStep (held_of M.contents self.old) step.now end (held_of M.contents self.new)) }
+        ensures { AnswersStep (held_of M.contents self.old) step.now result (held_of M.contents self.new) }
     {
         match outcome {
             Ok(derived) => self.finish(target, derived, recorded, self.codes[source as usize]),
@@ -189,6 +160,7 @@ impl<M: TaggedStore> Machine<M> {
 
     // Writes a step's result to a register, with its parent's code where it is tagged, and counts the
     // step, where the log records it, and the limit on steps is not passed.
+    #[inline(always)]
     pub(crate) fn finish(
         &mut self,
         target: u8,
@@ -211,7 +183,7 @@ impl<M: TaggedStore> Machine<M> {
         if self.steps >= MOST_STEPS {
             return Err(StepEnd::Refused(Refusal::LimitPassed));
         }
-        self.registers[target as usize] = derived;
+        self.registers[target as usize] = recorded;
         self.codes[target as usize] = code_for(derived.tag, code);
         self.steps += 1;
         Ok(())

@@ -26,6 +26,7 @@ use cap_bounds::bounds;
 use cap_word::{Cap, Word};
 
 /// The number of the permission that a kind of access needs.
+#[inline(always)]
 fn needed(kind: Kind) -> u32
     ensures value { result ≡ permission_for kind }
     ensures small { result < 12 }
@@ -38,6 +39,7 @@ fn needed(kind: Kind) -> u32
 
 /// Whether `size` bytes from an address on lie in a word's bounds.
 #[tactic(auto, unfolding(crate::specs::Operations::covers))]
+#[inline(always)]
 fn holds_bytes(word: Word, address: u64, size: u8) -> bool
     ensures { result ≡ covers word.0 address (address + size) }
 {
@@ -45,6 +47,7 @@ fn holds_bytes(word: Word, address: u64, size: u8) -> bool
 }
 
 /// Whether an address is a multiple of the size of an access, which is a power of two.
+#[inline(always)]
 fn is_aligned(address: u64, access: Access) -> bool
     ensures { IsTrue result ↔ (address % access.size ≡ 0) }
 {
@@ -52,6 +55,7 @@ fn is_aligned(address: u64, access: Access) -> bool
 }
 
 /// The first test that refuses to store a capability.
+#[inline(always)]
 fn stored_fault(authority: Word, kind: Kind) -> Option<OpFault>
     ensures { result ≡ first_of (stored_tests authority.0 kind) }
 {
@@ -71,6 +75,7 @@ fn stored_fault(authority: Word, kind: Kind) -> Option<OpFault>
 
 /// The address at an offset from an authority's, modulo 2^64.
 #[tactic(auto, unfolding(crate::specs::Accesses::access_address))]
+#[inline(always)]
 fn target_of(authority: Word, offset: i16) -> u64
     ensures { result ≡ access_address authority.0 offset }
 {
@@ -79,6 +84,7 @@ fn target_of(authority: Word, offset: i16) -> u64
 
 /// The first test that refuses an access at an address.
 #[tactic(auto, unfolding(crate::specs::Accesses::access_tests))]
+#[inline(always)]
 fn access_fault(authority: Cap, access: Access, address: u64) -> Option<OpFault>
     requires { address ≡ access_address authority.word.0 access.offset }
     ensures { result ≡ first_of (access_tests authority access.kind access.offset access.size) }
@@ -105,6 +111,7 @@ fn access_fault(authority: Cap, access: Access, address: u64) -> Option<OpFault>
 /// The tests come in this order: the authority is tagged, unsealed, has Load or Store, and holds all bytes
 /// in its bounds; the address is a multiple of the size; and where a tagged capability is stored, the
 /// authority has Store Capability, and Store Local Capability if the capability is not global.
+#[inline(always)]
 pub fn may_access(authority: Cap, access: Access) -> Result<u64, OpFault>
     ensures outcome { MatchResult result
         (λ address. (first_of (access_tests authority access.kind access.offset access.size) ≡ None)
@@ -122,6 +129,7 @@ pub fn may_access(authority: Cap, access: Access) -> Result<u64, OpFault>
 
 /// What a load of a stored capability gives: its tag goes where the authority lacks Load Capability.
 #[tactic(auto, unfolding(crate::specs::Accesses::loaded_result))]
+#[inline(always)]
 pub fn loaded(authority: Cap, stored: Cap) -> Cap
     ensures result_is { result ≡ loaded_result authority stored }
     ensures stays_within { StaysWithin result stored }

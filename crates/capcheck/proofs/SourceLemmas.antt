@@ -29,7 +29,7 @@ use Rattle.capcheck.specs.declared.verdict.JudgeFault.{JudgeFault}
 use Rattle.capcheck.specs.declared.verdict.JudgeFault.TheVariants.{Pull, NoMemory}
 use Rattle.capcheck.specs.Logs.{Beginning, Nothing, NoMode, Body, Whole, header_lines, body_lines, lines_of, text_of, IsAccepted, RefusesFront, RefusesWhole, IsFirstFault, MayLackMemory}
 use Rattle.capcheck.specs.Verdicts.{answer_at, EscapesExactly, IsVerdict, IsFault}
-use Rattle.capcheck.specs.Progresses.{EndsNext, GoesOn, IsAt, HasRead}
+use Rattle.capcheck.specs.Progresses.{EndsNext, GoesOn, IsAt, IsLaterAt, HasRead}
 use Rattle.capcheck.specs.Judgings.{IsVerdictOf, IsBehind, BeginsLog, IsAnswerOf, Judged, LeadsAfter, JudgedBy, IsNoYes, refusal_in, finished}
 use Rattle.capcheck.proofs.EscapeLaws.{escapes_exactly}
 use Rattle.capcheck.proofs.JudgeLemmas.{IsUnended, goes_on, behind, unended_here, refused_behind, wants_memory, misplaced, yes, leads, guarded, guards, no_lack}
@@ -112,13 +112,16 @@ pub at_met : {S : Type 0} {gave : S → S → List ℕ → Type 0} {ended : S �
     (here : IsAt given held now before line) (m : Meets gave ended old new here.beginning lines shown) → IsAt m.given held now m.rest line
 at_met given before held now line here m = record { beginning = here.beginning; stands = here.stands; bytes_are = m.here.bytes_are; line_is = here.line_is }
 
+answer_ok : (given : List ℕ) (ended : Bool) (verdict : Verdict) → IsVerdictOf given ended verdict → IsAnswerOf given ended (Ok verdict)
+answer_ok given ended verdict is =
+    record { verdict = is; authority = guards given (guarded one_root lie_inside given) verdict; escape = λ more. escapes_exactly (given ++ more) verdict; fault = tt; answers = λ none e. cc }
+
+answer_memory : (given : List ℕ) (ended : Bool) → MayLackMemory given → IsAnswerOf given ended (Err NoMemory)
+answer_memory given ended lack = record { verdict = tt; authority = tt; escape = tt; fault = lack; answers = λ none e. no_lack given none lack }
+
 pub judged_ok : {S : Type 0} (gave : S → S → List ℕ → Type 0) (ended : S → Bool) (old new : S) (given : List ℕ) (verdict : Verdict) → gave old new given
     → IsVerdictOf given (ended new) verdict → Judged gave ended old new (Ok verdict)
-judged_ok gave ended old new given verdict gives is = record {
-  given = given;
-  gives = gives;
-  answer = record { verdict = is; authority = guards given (guarded one_root lie_inside given) verdict; escape = λ more. escapes_exactly (given ++ more) verdict; fault = tt; answers = λ none e. cc };
-}
+judged_ok gave ended old new given verdict gives is = record { given = given; gives = gives; answer = answer_ok given (ended new) verdict is }
 
 judged_pull : {S : Type 0} (gave : S → S → List ℕ → Type 0) (ended : S → Bool) (old new : S) (given : List ℕ) → gave old new given
     → BeginsLog given → Judged gave ended old new (Err Pull)
@@ -130,11 +133,7 @@ judged_pull gave ended old new given gives is = record {
 
 judged_memory : {S : Type 0} (gave : S → S → List ℕ → Type 0) (ended : S → Bool) (old new : S) (given : List ℕ) → gave old new given
     → MayLackMemory given → Judged gave ended old new (Err NoMemory)
-judged_memory gave ended old new given gives lack = record {
-  given = given;
-  gives = gives;
-  answer = record { verdict = tt; authority = tt; escape = tt; fault = lack; answers = λ none e. no_lack given none lack };
-}
+judged_memory gave ended old new given gives lack = record { given = given; gives = gives; answer = answer_memory given (ended new) lack }
 
 -- an answer that is no yes, whatever the machine holds
 no_leads : (bytes : List ℕ) (held : Held) (result : Result Verdict JudgeFault) → IsNoYes result → IfOk result (LeadsAfter bytes held)
@@ -239,45 +238,40 @@ pub over_after : {S : Type 0} {gave : S → S → List ℕ → Type 0} {ended : 
 over_after {S} {gave} {ended} {old} {new} {before} {lines} {answer} {text} answered same =
     (subst (IsNext (before ++ answered.given) (ended new) (kept lines) (over_of lines)) same answered.answers).1
 
--- where nothing was taken from what is kept, the judge is where it was
-pub still_kept : {S : Type 0} (gave : S → S → List ℕ → Type 0) (old new : S) (held : Held) (now : Bool) (line : ℕ) (before after : Lines) → after ≡ before
-    → HasRead gave old new held now (kept before) line → HasRead gave old new held now (kept after) line
-still_kept gave old new held now line before after same here =
-    (here.0, here.1, subst (λ (l : Lines). IsAt here.0 held now (kept l) line) (sym same) here.2)
+-- where lines that are kept were taken, nothing was pulled
+pub later_read : {S : Type 0} (gave : S → S → List ℕ → Type 0) (begun source : S) (old : Held) (was : Bool) (before : List ℕ) (first : ℕ) (new : Held) (now : Bool) (rest : List ℕ) (line : ℕ)
+    → IsLaterAt old was before first new now rest line → HasRead gave begun source old was before first → HasRead gave begun source new now rest line
+later_read gave begun source old was before first new now rest line on so_far = (so_far.0, so_far.1, on so_far.0 so_far.2)
 
 -- a line that is kept whole
 kept_line : (before after : List ℕ) (known : Line) → IsInRange known → before ≡ spelling known ++ 10 ∷ after → IsLine before (spelling known) after
 kept_line before after known range is = subst (λ (b : List ℕ). IsLine b (spelling known) after) (sym is) (IsLine-spelling known range after)
 
-module _ {S : Type 0} (gave : S → S → List ℕ → Type 0) (ended : S → Bool) (old new : S) (held : Held) (now : Bool) (line : ℕ) (before after : List ℕ) (known : Line)
-    (here : HasRead gave old new held now before line) (taken : IsInRange known × (before ≡ spelling known ++ 10 ∷ after)) where
-  pub kept_after_end : now ≡ true → Judged gave ended old new (Ok (No line Misplaced))
-  kept_after_end end =
+module _ (held : Held) (now : Bool) (line : ℕ) (before after : List ℕ) (known : Line) (taken : IsInRange known × (before ≡ spelling known ++ 10 ∷ after))
+    (given : List ℕ) (here : IsAt given held now before line) where
+  pub kept_after_end : (ended : Bool) → now ≡ true → IsAnswerOf given ended (Ok (No line Misplaced))
+  kept_after_end ended end =
       let some = line_some before (spelling known) after (kept_line before after known taken.0 taken.1) in
-      judged_ok gave ended old new here.0 (No line Misplaced) here.1
-      (no_stands here.0 (ended new) line Misplaced
-      (λ more. misplaced (here.0 ++ more) (before ++ more) held now line (at_more here.0 before more held now line here.2) end (some-more before more some)))
+      answer_ok given ended (No line Misplaced)
+      (no_stands given ended line Misplaced
+      (λ more. misplaced (given ++ more) (before ++ more) held now line (at_more given before more held now line here) end (some-more before more some)))
 
-  pub kept_ended : (end : StepEnd) → now ≡ false → ((text : List ℕ) → Spells text known → EndsNext held now text end) → Judged gave ended old new (answer_at line end)
-  kept_ended (Refused refusal) unended refused =
+  pub kept_ended : (ended : Bool) (end : StepEnd) → now ≡ false → ((text : List ℕ) → Spells text known → EndsNext held now text end) → IsAnswerOf given ended (answer_at line end)
+  kept_ended ended (Refused refusal) unended refused =
       let whole = kept_line before after known taken.0 taken.1 in
-      let place = behind here.0 before held now line here.2 in
-      judged_ok gave ended old new here.0 (No line refusal) here.1
-      (no_stands here.0 (ended new) line refusal
-      (λ more. refused_behind (here.0 ++ more) (before ++ more) here.2.beginning line refusal (behind_more here.0 before more here.2.beginning place) here.2.line_is
-      (unended_here here.0 before held now line here.2 unended)
-      (inr (inr (spelling known, after ++ more, IsLine-more before (spelling known) after more whole, refused (spelling known) (taken.0, refl) here.2.beginning here.2.stands)))))
-  kept_ended ends.NoMemory unended wants =
-      judged_memory gave ended old new here.0 here.1
-      (wants_memory here.0 before (spelling known) after held now line here.2 (kept_line before after known taken.0 taken.1) (wants (spelling known) (taken.0, refl)))
+      let place = behind given before held now line here in
+      answer_ok given ended (No line refusal)
+      (no_stands given ended line refusal
+      (λ more. refused_behind (given ++ more) (before ++ more) here.beginning line refusal (behind_more given before more here.beginning place) here.line_is
+      (unended_here given before held now line here unended)
+      (inr (inr (spelling known, after ++ more, IsLine-more before (spelling known) after more whole, refused (spelling known) (taken.0, refl) here.beginning here.stands)))))
+  kept_ended ended ends.NoMemory unended wants =
+      answer_memory given ended
+      (wants_memory given before (spelling known) after held now line here (kept_line before after known taken.0 taken.1) (wants (spelling known) (taken.0, refl)))
 
-  pub kept_goes_on : (next : Held) (then : Bool) → ((text : List ℕ) → Spells text known → GoesOn held now text next then)
-      → HasRead gave old new next then after (line + 1)
-  kept_goes_on next then on = (
-    here.0,
-    here.1,
-    goes_on here.0 before (spelling known) after held next now then line here.2 (kept_line before after known taken.0 taken.1) (on (spelling known) (taken.0, refl)),
-  )
+  pub kept_goes_on : (next : Held) (then : Bool) → ((text : List ℕ) → Spells text known → GoesOn held now text next then) → IsAt given next then after (line + 1)
+  kept_goes_on next then on =
+      goes_on given before (spelling known) after held next now then line here (kept_line before after known taken.0 taken.1) (on (spelling known) (taken.0, refl))
 
 -- there are no more lines than the limits allow
 few_header : (rules_are : Rules) → length (header_lines rules_are) ≤ 2

@@ -12,6 +12,7 @@ use Rattle.capcheck.specs.declared.verdict.Verdict.TheVariants.{Yes, No}
 use Rattle.capcheck.specs.declared.verdict.JudgeFault.{JudgeFault}
 use Rattle.capcheck.specs.declared.verdict.JudgeFault.TheVariants.{Pull, NoMemory}
 use Rattle.capcheck.specs.Logs.{Beginning, lines_of, text_of, account_after, IsAccepted, IsLogOf, IsFirstFault, MayLackMemory, NamesNoGranules}
+use Rattle.capcheck.specs.Progresses.{IsAt}
 use Rattle.capcheck.specs.Verdicts.{IsVerdict, EscapesExactly, GuardsAuthority}
 
 -- the verdict on these bytes, where their source has ended; where it has not, a no that stands whatever bytes follow
@@ -85,3 +86,7 @@ refusal_in line true refusal = No line Misplaced
 abbrev pub finished : Held → Bool → ℕ → Verdict
 finished held false line = No line Truncated
 finished held true line = Yes held.steps held.roots
+
+-- wherever the judge was at the line that these bytes begin with, its answer is this one, whether their source has ended or not
+abbrev pub AnswersAt : Held → Bool → List ℕ → ℕ → Result Verdict JudgeFault → Type 0
+AnswersAt held now kept line answer = (given : List ℕ) (ended : Bool) → IsAt given held now kept line → IsAnswerOf given ended answer

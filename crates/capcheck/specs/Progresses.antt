@@ -54,3 +54,7 @@ pub record IsAt (bytes : List ℕ) (held : Held) (ended : Bool) (rest : List ℕ
 -- between two moments of a source it gave bytes of which this rest is left, and the judge is at the line that the rest begins with
 abbrev pub HasRead : {S : Type 0} → (S → S → List ℕ → Type 0) → S → S → Held → Bool → List ℕ → ℕ → Type 0
 HasRead gave old new held ended rest line = (given : List ℕ) × gave old new given × IsAt given held ended rest line
+
+-- wherever the judge was at the line that these bytes begin with, it is now at a later one, which the rest begins with
+abbrev pub IsLaterAt : Held → Bool → List ℕ → ℕ → Held → Bool → List ℕ → ℕ → Type 0
+IsLaterAt old was kept first new now rest line = (given : List ℕ) → IsAt given old was kept first → IsAt given new now rest line

@@ -1,20 +1,20 @@
 //! The judge: whether bytes are a log whose steps have a run, and if not, which line is the first fault.
 
-ghost use Rattle.std.specs.Prelude.{◌≡◌, ◌≢◌, Err, None, IsOk, IfOk, IfErr};
+ghost use Rattle.std.specs.Prelude.{◌≡◌, ◌≢◌, ◌≤◌, ℕ, List, ◌++◌, Err, None, IsOk, IfOk, IfErr};
 ghost use Rattle.std.specs.FinMap as map;
 ghost use Rattle.cap_machine.specs.Helds.{held_of};
 ghost use Rattle.cap_log.specs.Streams.{next_count};
 ghost use Rattle.cap_log.specs.Takings.{kept, over_of};
 ghost use Rattle.capcheck.specs.Logs.{NamesNoGranules};
 ghost use Rattle.capcheck.specs.Verdicts.{EscapesExactly, GuardsAuthority, IsFault, IsVerdict, answer_at};
-ghost use Rattle.capcheck.specs.Judgings.{Judged, JudgedBy, finished, refusal_in};
-ghost use Rattle.capcheck.specs.Progresses.{HasRead};
+ghost use Rattle.capcheck.specs.Judgings.{AnswersAt, IsNoYes, Judged, JudgedBy, finished, refusal_in};
+ghost use Rattle.capcheck.specs.Progresses.{HasRead, IsAt, IsLaterAt};
 ghost use Rattle.capcheck.specs.declared.verdict.JudgeFault.TheVariants.{Pull};
 
 use crate::headers::{first_line, read_header};
 use crate::progress::Progress;
 use crate::verdict::{JudgeFault, Verdict};
-use cap_log::{Lines, Next, PullFault, SliceSource, Source};
+use cap_log::{Lines, Next, PullFault, SliceSource, Source, take_line};
 use cap_machine::{Machine, Refusal, Rules, StepEnd};
 use std::alloc::Global;
 use tagmem::{PageStore, TaggedStore};
@@ -91,6 +91,64 @@ pub(crate) fn judge_keeping<S: Source, M: TaggedStore>(
 }
 
 impl<M: TaggedStore> Progress<M> {
+    // Takes the lines at the front of some bytes, the first of which has this number, up to the end line or to
+    // where no line stands whole: the number of the line behind them and the bytes that are left, or the
+    // answer where a line is not taken.
+    fn take_front<'a>(
+        &mut self,
+        bytes: &'a [u8],
+        first: u64,
+    ) -> Result<(u64, &'a [u8]), Result<Verdict, JudgeFault>>
+        requires here { (given : List ℕ) × IsAt given (held_of M.contents self.old.machine) self.old.ended bytes.now first }
+        ensures ok { IfOk result (λ p. IsLaterAt (held_of M.contents self.old.machine) self.old.ended bytes.now first
+            (held_of M.contents self.new.machine) self.new.ended p.1.now p.0) }
+        ensures rest { IfOk result (λ p. (front : List ℕ) × (bytes.now ≡ front ++ p.1.now)) }
+        ensures after { IfOk result (λ p. first ≤ p.0) }
+        ensures err { IfErr result (λ answer. IsNoYes answer × AnswersAt (held_of M.contents self.old.machine) self.old.ended bytes.now first answer) }
+        ensures no_pull { IfErr result (λ answer. answer ≢ Err Pull) }
+    {
+        let mut line = first;
+        let mut rest = bytes;
+        'front: loop {
+            if self.ended {
+                return Ok((line, rest));
+            }
+            let Some((known, behind)) = take_line(rest) else {
+                return Ok((line, rest));
+            };
+            if let Err(end) = self.take_known(&known) {
+                return Err(answer_at(line, end));
+            }
+            rest = behind;
+            line += 1;
+        }
+    }
+
+    // Takes lines so from what is kept of the source: the number of the line behind them, or the answer.
+    fn take_kept(
+        &mut self,
+        lines: &mut Lines,
+        first: u64,
+    ) -> Result<u64, Result<Verdict, JudgeFault>>
+        requires here { (given : List ℕ) × IsAt given (held_of M.contents self.old.machine) self.old.ended (kept lines.old) first }
+        ensures ok { IfOk result (IsLaterAt (held_of M.contents self.old.machine) self.old.ended (kept lines.old) first
+            (held_of M.contents self.new.machine) self.new.ended (kept lines.new)) }
+        ensures after { IfOk result (λ next. first ≤ next) }
+        ensures err { IfErr result (λ answer. IsNoYes answer × AnswersAt (held_of M.contents self.old.machine) self.old.ended (kept lines.old) first answer) }
+        ensures no_pull { IfErr result (λ answer. answer ≢ Err Pull) }
+        ensures over { over_of lines.new ≡ over_of lines.old }
+    {
+        let kept = lines.kept();
+        match self.take_front(kept, first) {
+            Ok((next, rest)) => {
+                let taken = kept.len() - rest.len();
+                lines.consume(taken);
+                Ok(next)
+            }
+            Err(answer) => Err(answer),
+        }
+    }
+
     // Judges the lines behind those that were read, the first of which has this number: first what is kept
     // of the source, then what it gives.
     fn judge_rest<S: Source>(
@@ -108,15 +166,9 @@ impl<M: TaggedStore> Progress<M> {
     {
         let mut line = first;
         'lines: loop {
-            if let Some(known) = lines.take_kept() {
-                if self.ended {
-                    return Ok(refused(line, true, Refusal::Misplaced));
-                }
-                if let Err(end) = self.take_known(&known) {
-                    return answer_at(line, end);
-                }
-                line += 1;
-                continue;
+            match self.take_kept(lines, line) {
+                Ok(next) => line = next,
+                Err(answer) => return answer,
             }
             match lines.next(source) {
                 Err(PullFault) => return Err(JudgeFault::Pull),

@@ -19,13 +19,14 @@ pub struct Progress<M: TaggedStore> {
 }
 
 // Whether a line has a form by the rules.
+#[inline(always)]
 fn has_form(rules: Rules, line: &Line) -> bool
     ensures { result ≡ has_form rules line.now }
 {
-    match (rules, *line) {
-        (Rules::One, Line::Version(version)) => version == 1,
-        (Rules::One, Line::Mode(_)) => false,
-        _ => true,
+    match *line {
+        Line::Version(version) => rules != Rules::One || version == 1,
+        Line::Mode(_) => rules != Rules::One,
+        Line::Root(_, _) | Line::Step(_) | Line::End(_) => true,
     }
 }
 
@@ -59,6 +60,7 @@ impl<M: TaggedStore> Progress<M> {
     }
 
     /// Takes the next line, whatever bytes spell it, as `take_line` takes these.
+    #[inline(always)]
     pub fn take_known(&mut self, line: &Line) -> Result<(), StepEnd>
         requires in_range { IsInRange line.now }
         requires unended { self.old.ended ≡ false }
@@ -74,6 +76,7 @@ impl<M: TaggedStore> Progress<M> {
     }
 
     // Takes a line that has a form, after the header.
+    #[inline(always)]
     fn take(&mut self, line: &Line) -> Result<(), StepEnd>
         requires in_range { IsInRange line.now }
         requires unended { self.old.ended ≡ false }
@@ -88,6 +91,7 @@ impl<M: TaggedStore> Progress<M> {
         }
     }
 
+    #[inline(always)]
     fn take_root(&mut self, place: Place, word: Word) -> Result<(), StepEnd>
         requires in_range { IsPlace place }
         requires unended { self.old.ended ≡ false }
@@ -100,6 +104,7 @@ impl<M: TaggedStore> Progress<M> {
         self.machine.declare(place, word)
     }
 
+    #[inline(always)]
     fn take_end(&mut self, count: u32) -> Result<(), StepEnd>
         requires unended { self.old.ended ≡ false }
         ensures ok { OnOk result (Takes (held_of M.contents self.old.machine) self.old.ended (lines.End count) (held_of M.contents self.new.machine) self.new.ended) }

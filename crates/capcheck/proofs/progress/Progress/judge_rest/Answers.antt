@@ -5,7 +5,7 @@ use Rattle.cap_machine.specs.declared.refusal.Refusal.TheVariants.{Truncated, Li
 use Rattle.capcheck.specs.Judgings.{JudgedBy}
 use Rattle.capcheck.specs.Progresses.{HasRead}
 use Rattle.capcheck.proofs.JudgeLemmas.{goes_on}
-use Rattle.capcheck.proofs.SourceLemmas.{meets_at, at_met, pulled, finished_at, truncated_at, too_long_at, after_end, line_ended, few_at, over_after, still_kept, kept_after_end, kept_ended, kept_goes_on, judged_no, no_refused, no_answer}
+use Rattle.capcheck.proofs.SourceLemmas.{meets_at, at_met, pulled, finished_at, truncated_at, too_long_at, after_end, line_ended, few_at, over_after, later_read, judged_no, no_refused, no_answer}
 use Rattle.capcheck.proofs.progress.Progress.judge_rest.Goals as goal
 
 pub lines-init : goal.lines-init
@@ -19,66 +19,66 @@ lines-init g c =
 
 pub returns-in-Err-next-clause-judged : goal.returns-in-Err-next-clause-judged
 returns-in-Err-next-clause-judged g c = λ begun was.
-    let held = held_of g.M.TaggedStore.contents c.lines.self.machine in
-    let here = still_kept g.S.Source.gave begun c.lines.source held c.lines.self.ended c.lines.line c.lines.lines c.take_kept.new.self c.in_default.ensures.unchanged (c.lines.invariant.here begun was) in
-    let m = meets_at g.S.Source.gave g.S.Source.ended begun c.lines.source c.next.new.source held c.lines.self.ended c.lines.line _ _ _ _
+    let held = held_of g.M.TaggedStore.contents c.take_kept.new.self.machine in
+    let here = later_read g.S.Source.gave begun c.lines.source _ _ _ _ _ _ _ _ c.in-Ok.ensures.ok (c.lines.invariant.here begun was) in
+    let m = meets_at g.S.Source.gave g.S.Source.ended begun c.lines.source c.next.new.source held c.take_kept.new.self.ended c.in-Ok.next _ _ _ _
     g.met.S.Source.joined here (c.next.follows.holds-at-none.0 (c.take_kept.ensures.over ∙ c.lines.invariant.more)) (c.in-Err-next.is) in
-    judged_no g.S.Source.gave g.S.Source.ended begun c.next.new.source held _ _ refl tt (pulled here.2.beginning c.lines.line m)
+    judged_no g.S.Source.gave g.S.Source.ended begun c.next.new.source held _ _ refl tt (pulled here.2.beginning c.in-Ok.next m)
 
 pub returns-in-Ok-Finished-clause-judged : goal.returns-in-Ok-Finished-clause-judged
 returns-in-Ok-Finished-clause-judged g c = λ begun was.
-    let held = held_of g.M.TaggedStore.contents c.lines.self.machine in
-    let here = still_kept g.S.Source.gave begun c.lines.source held c.lines.self.ended c.lines.line c.lines.lines c.take_kept.new.self c.in_default.ensures.unchanged (c.lines.invariant.here begun was) in
-    let m = meets_at g.S.Source.gave g.S.Source.ended begun c.lines.source c.next.new.source held c.lines.self.ended c.lines.line _ _ _ _
+    let held = held_of g.M.TaggedStore.contents c.take_kept.new.self.machine in
+    let here = later_read g.S.Source.gave begun c.lines.source _ _ _ _ _ _ _ _ c.in-Ok.ensures.ok (c.lines.invariant.here begun was) in
+    let m = meets_at g.S.Source.gave g.S.Source.ended begun c.lines.source c.next.new.source held c.take_kept.new.self.ended c.in-Ok.next _ _ _ _
     g.met.S.Source.joined here (c.next.follows.holds-at-none.0 (c.take_kept.ensures.over ∙ c.lines.invariant.more)) (c.in-Ok-Finished.is ∙ ap Ok c.in-Ok-Finished.field-0-is) in
-    subst (λ r. JudgedBy g.S.Source.gave g.S.Source.ended begun c.next.new.source r held) (sym (ap Ok c.finished_verdict.ensures)) (finished_at here.0 _ held c.lines.line c.lines.self.ended here.2 m)
+    subst (λ r. JudgedBy g.S.Source.gave g.S.Source.ended begun c.next.new.source r held) (sym (ap Ok c.finished_verdict.ensures)) (finished_at here.0 _ held c.in-Ok.next c.take_kept.new.self.ended here.2 m)
 
 pub returns-in-Ok-Truncated-clause-judged : goal.returns-in-Ok-Truncated-clause-judged
 returns-in-Ok-Truncated-clause-judged g c = λ begun was.
-    let held = held_of g.M.TaggedStore.contents c.lines.self.machine in
-    let here = still_kept g.S.Source.gave begun c.lines.source held c.lines.self.ended c.lines.line c.lines.lines c.take_kept.new.self c.in_default.ensures.unchanged (c.lines.invariant.here begun was) in
-    let m = meets_at g.S.Source.gave g.S.Source.ended begun c.lines.source c.next.new.source held c.lines.self.ended c.lines.line _ _ _ _
+    let held = held_of g.M.TaggedStore.contents c.take_kept.new.self.machine in
+    let here = later_read g.S.Source.gave begun c.lines.source _ _ _ _ _ _ _ _ c.in-Ok.ensures.ok (c.lines.invariant.here begun was) in
+    let m = meets_at g.S.Source.gave g.S.Source.ended begun c.lines.source c.next.new.source held c.take_kept.new.self.ended c.in-Ok.next _ _ _ _
     g.met.S.Source.joined here (c.next.follows.holds-at-none.0 (c.take_kept.ensures.over ∙ c.lines.invariant.more)) (c.in-Ok-Truncated.is ∙ ap Ok c.in-Ok-Truncated.field-0-is) in
-    judged_no g.S.Source.gave g.S.Source.ended begun c.next.new.source held _ _ (ap Ok c.refused-in-Ok-Truncated.ensures) (no_refused c.lines.line c.lines.self.ended Truncated) (truncated_at here.0 _ held c.lines.line c.lines.self.ended here.2 m)
+    judged_no g.S.Source.gave g.S.Source.ended begun c.next.new.source held _ _ (ap Ok c.refused.ensures) (no_refused c.in-Ok.next c.take_kept.new.self.ended Truncated) (truncated_at here.0 _ held c.in-Ok.next c.take_kept.new.self.ended here.2 m)
 
 pub returns-in-Ok-LineTooLong-clause-judged : goal.returns-in-Ok-LineTooLong-clause-judged
 returns-in-Ok-LineTooLong-clause-judged g c = λ begun was.
-    let held = held_of g.M.TaggedStore.contents c.lines.self.machine in
-    let here = still_kept g.S.Source.gave begun c.lines.source held c.lines.self.ended c.lines.line c.lines.lines c.take_kept.new.self c.in_default.ensures.unchanged (c.lines.invariant.here begun was) in
-    let m = meets_at g.S.Source.gave g.S.Source.ended begun c.lines.source c.next.new.source held c.lines.self.ended c.lines.line _ _ _ _
+    let held = held_of g.M.TaggedStore.contents c.take_kept.new.self.machine in
+    let here = later_read g.S.Source.gave begun c.lines.source _ _ _ _ _ _ _ _ c.in-Ok.ensures.ok (c.lines.invariant.here begun was) in
+    let m = meets_at g.S.Source.gave g.S.Source.ended begun c.lines.source c.next.new.source held c.take_kept.new.self.ended c.in-Ok.next _ _ _ _
     g.met.S.Source.joined here (c.next.follows.holds-at-none.0 (c.take_kept.ensures.over ∙ c.lines.invariant.more)) (c.in-Ok-LineTooLong.is ∙ ap Ok c.in-Ok-LineTooLong.field-0-is) in
-    judged_no g.S.Source.gave g.S.Source.ended begun c.next.new.source held _ _ (ap Ok c.refused-in-Ok-LineTooLong.ensures) (no_refused c.lines.line c.lines.self.ended LineTooLong) (too_long_at here.0 _ held c.lines.line c.lines.self.ended here.2 m)
+    judged_no g.S.Source.gave g.S.Source.ended begun c.next.new.source held _ _ (ap Ok c.refused-in-Ok-LineTooLong.ensures) (no_refused c.in-Ok.next c.take_kept.new.self.ended LineTooLong) (too_long_at here.0 _ held c.in-Ok.next c.take_kept.new.self.ended here.2 m)
 
-pub returns-then-self-2-clause-judged : goal.returns-then-self-2-clause-judged
-returns-then-self-2-clause-judged g c = λ begun was.
-    let held = held_of g.M.TaggedStore.contents c.lines.self.machine in
-    let here = still_kept g.S.Source.gave begun c.lines.source held c.lines.self.ended c.lines.line c.lines.lines c.take_kept.new.self c.in_default.ensures.unchanged (c.lines.invariant.here begun was) in
-    let m = meets_at g.S.Source.gave g.S.Source.ended begun c.lines.source c.next.new.source held c.lines.self.ended c.lines.line _ _ _ _
+pub returns-then-self-clause-judged : goal.returns-then-self-clause-judged
+returns-then-self-clause-judged g c = λ begun was.
+    let held = held_of g.M.TaggedStore.contents c.take_kept.new.self.machine in
+    let here = later_read g.S.Source.gave begun c.lines.source _ _ _ _ _ _ _ _ c.in-Ok.ensures.ok (c.lines.invariant.here begun was) in
+    let m = meets_at g.S.Source.gave g.S.Source.ended begun c.lines.source c.next.new.source held c.take_kept.new.self.ended c.in-Ok.next _ _ _ _
     g.met.S.Source.joined here (c.next.follows.holds-at-none.0 (c.take_kept.ensures.over ∙ c.lines.invariant.more)) (c.in-Ok-Line.is ∙ ap Ok c.in-Ok-Line.field-0-is) in
-    judged_no g.S.Source.gave g.S.Source.ended begun c.next.new.source held _ _ (ap Ok c.refused-then-self-2.ensures) tt (after_end here.0 _ held c.lines.line c.in-Ok-Line.text c.lines.self.ended here.2 m c.if-self-2.true)
+    judged_no g.S.Source.gave g.S.Source.ended begun c.next.new.source held _ _ (ap Ok c.refused-then-self.ensures) tt (after_end here.0 _ held c.in-Ok.next c.in-Ok-Line.text c.take_kept.new.self.ended here.2 m c.if-self.true)
 
 pub returns-in-Err-take_line-clause-judged : goal.returns-in-Err-take_line-clause-judged
 returns-in-Err-take_line-clause-judged g c = λ begun was.
-    let held = held_of g.M.TaggedStore.contents c.lines.self.machine in
-    let here = still_kept g.S.Source.gave begun c.lines.source held c.lines.self.ended c.lines.line c.lines.lines c.take_kept.new.self c.in_default.ensures.unchanged (c.lines.invariant.here begun was) in
-    let m = meets_at g.S.Source.gave g.S.Source.ended begun c.lines.source c.next.new.source held c.lines.self.ended c.lines.line _ _ _ _
+    let held = held_of g.M.TaggedStore.contents c.take_kept.new.self.machine in
+    let here = later_read g.S.Source.gave begun c.lines.source _ _ _ _ _ _ _ _ c.in-Ok.ensures.ok (c.lines.invariant.here begun was) in
+    let m = meets_at g.S.Source.gave g.S.Source.ended begun c.lines.source c.next.new.source held c.take_kept.new.self.ended c.in-Ok.next _ _ _ _
     g.met.S.Source.joined here (c.next.follows.holds-at-none.0 (c.take_kept.ensures.over ∙ c.lines.invariant.more)) (c.in-Ok-Line.is ∙ ap Ok c.in-Ok-Line.field-0-is) in
-    judged_no g.S.Source.gave g.S.Source.ended begun c.next.new.source (held_of g.M.TaggedStore.contents c.take_line.new.self.machine) _ _ c.answer_at-in-Err-take_line.ensures
-    (no_answer c.lines.line c.in-Err-take_line.end)
-    (line_ended here.0 _ held c.lines.line c.in-Ok-Line.text c.lines.self.ended c.in-Err-take_line.end here.2 m c.if-self-2.false c.in-Err-take_line.ensures.err)
+    judged_no g.S.Source.gave g.S.Source.ended begun c.next.new.source (held_of g.M.TaggedStore.contents c.take_line.new.self.machine) _ _ c.answer_at.ensures
+    (no_answer c.in-Ok.next c.in-Err-take_line.end)
+    (line_ended here.0 _ held c.in-Ok.next c.in-Ok-Line.text c.take_kept.new.self.ended c.in-Err-take_line.end here.2 m c.if-self.false c.in-Err-take_line.ensures.err)
 
 pub lines-preserved : goal.lines-preserved
 lines-preserved g c =
-    let held = held_of g.M.TaggedStore.contents c.lines.self.machine in
+    let held = held_of g.M.TaggedStore.contents c.take_kept.new.self.machine in
     let next = held_of g.M.TaggedStore.contents c.take_line.new.self.machine in
     let taken = c.next.follows.holds-at-none.0 (c.take_kept.ensures.over ∙ c.lines.invariant.more) in
     let is = c.in-Ok-Line.is ∙ ap Ok c.in-Ok-Line.field-0-is in
     let after : (begun : _) → HasRead g.S.Source.gave begun c.args.source.now (held_of g.M.TaggedStore.contents c.args.self.now.machine) c.args.self.now.ended (kept c.args.lines.now) c.args.first
-    → HasRead g.S.Source.gave begun c.next.new.source next c.take_line.new.self.ended (kept c.next.follows.lender-at-none) (c.lines.line + 1) = λ begun was.
-    let here = still_kept g.S.Source.gave begun c.lines.source held c.lines.self.ended c.lines.line c.lines.lines c.take_kept.new.self c.in_default.ensures.unchanged (c.lines.invariant.here begun was) in
-    let m = meets_at g.S.Source.gave g.S.Source.ended begun c.lines.source c.next.new.source held c.lines.self.ended c.lines.line _ _ _ _ g.met.S.Source.joined here taken is in
-    let before = at_met here.0 _ held c.lines.self.ended c.lines.line here.2 m in
-    (m.given, m.gives, goes_on m.given m.rest c.in-Ok-Line.text.now _ held next c.lines.self.ended c.take_line.new.self.ended c.lines.line before m.next.0 c.in_default-take_line.ensures.ok) in
+    → HasRead g.S.Source.gave begun c.next.new.source next c.take_line.new.self.ended (kept c.next.follows.lender-at-none) (c.in-Ok.next + 1) = λ begun was.
+    let here = later_read g.S.Source.gave begun c.lines.source _ _ _ _ _ _ _ _ c.in-Ok.ensures.ok (c.lines.invariant.here begun was) in
+    let m = meets_at g.S.Source.gave g.S.Source.ended begun c.lines.source c.next.new.source held c.take_kept.new.self.ended c.in-Ok.next _ _ _ _ g.met.S.Source.joined here taken is in
+    let before = at_met here.0 _ held c.take_kept.new.self.ended c.in-Ok.next here.2 m in
+    (m.given, m.gives, goes_on m.given m.rest c.in-Ok-Line.text.now _ held next c.take_kept.new.self.ended c.take_line.new.self.ended c.in-Ok.next before m.next.0 c.in_default.ensures.ok) in
     record {
       here = after;
       counted = search rules;
@@ -86,32 +86,20 @@ lines-preserved g c =
       few = let now = after c.requires.here.0 c.requires.here.1 in let some = few_at now.0 _ _ _ _ now.2 in omega arith;
     }
 
--- a line that is kept whole
-pub returns-then-self-clause-judged : goal.returns-then-self-clause-judged
-returns-then-self-clause-judged g c = λ begun was.
-    let held = held_of g.M.TaggedStore.contents c.lines.self.machine in
-    judged_no g.S.Source.gave g.S.Source.ended begun c.lines.source held _ _ (ap Ok c.refused.ensures) tt
-    (kept_after_end g.S.Source.gave g.S.Source.ended begun c.lines.source held c.lines.self.ended c.lines.line _ _ c.in-Some.known
-    (c.lines.invariant.here begun was) c.in-Some.ensures.some c.if-self.true)
+pub take_kept-requires : goal.take_kept-requires
+take_kept-requires g c = let was = c.lines.invariant.here c.requires.here.0 c.requires.here.1 in record { here = (was.0, was.2) }
 
+-- an answer on a line that is kept
 pub returns-in-Err-clause-judged : goal.returns-in-Err-clause-judged
 returns-in-Err-clause-judged g c = λ begun was.
-    let held = held_of g.M.TaggedStore.contents c.lines.self.machine in
-    judged_no g.S.Source.gave g.S.Source.ended begun c.lines.source (held_of g.M.TaggedStore.contents c.take_known.new.self.machine) _ _ c.answer_at.ensures (no_answer c.lines.line c.in-Err.end)
-    (kept_ended g.S.Source.gave g.S.Source.ended begun c.lines.source held c.lines.self.ended c.lines.line _ _ c.in-Some.known
-    (c.lines.invariant.here begun was) c.in-Some.ensures.some c.in-Err.end c.if-self.false c.in-Err.ensures.err)
+    let here = c.lines.invariant.here begun was in
+    judged_no g.S.Source.gave g.S.Source.ended begun c.lines.source (held_of g.M.TaggedStore.contents c.take_kept.new.self.machine) _ _ refl c.in-Err.ensures.err.0
+    (record { given = here.0; gives = here.1; answer = c.in-Err.ensures.err.1 here.0 (g.S.Source.ended c.lines.source) here.2 })
 
-pub lines-preserved-in-Some : goal.lines-preserved-in-Some
-lines-preserved-in-Some g c =
-    let held = held_of g.M.TaggedStore.contents c.lines.self.machine in
-    let next = held_of g.M.TaggedStore.contents c.take_known.new.self.machine in
-    let after : (begun : _) → HasRead g.S.Source.gave begun c.args.source.now (held_of g.M.TaggedStore.contents c.args.self.now.machine) c.args.self.now.ended (kept c.args.lines.now) c.args.first
-    → HasRead g.S.Source.gave begun c.lines.source next c.take_known.new.self.ended (kept c.take_kept.new.self) (c.lines.line + 1) = λ begun was.
-    kept_goes_on g.S.Source.gave g.S.Source.ended begun c.lines.source held c.lines.self.ended c.lines.line _ _ c.in-Some.known
-    (c.lines.invariant.here begun was) c.in-Some.ensures.some next c.take_known.new.self.ended c.in_default-take_known.ensures.ok in
-    record {
-      here = after;
-      counted = c.lines.invariant.counted;
-      more = c.take_kept.ensures.over ∙ c.lines.invariant.more;
-      few = let now = after c.requires.here.0 c.requires.here.1 in let some = few_at now.0 _ _ _ _ now.2 in omega arith;
-    }
+pub returns-in-Err-clause-fault_counted : goal.returns-in-Err-clause-fault_counted
+returns-in-Err-clause-fault_counted g c = λ pull. absurd (c.in-Err.ensures.no_pull pull)
+
+pub overflow_add-line : goal.overflow_add-line
+overflow_add-line g c =
+    let was = later_read g.S.Source.gave c.requires.here.0 c.lines.source _ _ _ _ _ _ _ _ c.in-Ok.ensures.ok (c.lines.invariant.here c.requires.here.0 c.requires.here.1) in
+    let some = few_at was.0 _ _ _ _ was.2 in omega arith

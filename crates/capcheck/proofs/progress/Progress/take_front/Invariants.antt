@@ -1,0 +1,18 @@
+use Rattle.std.proofs.Common.{◌≡◌, ◌-◌, ◌≤◌, ◌++◌, ℕ, List}
+use Rattle.cap_machine.specs.Helds.{held_of}
+use Rattle.capcheck.specs.Progresses.{IsLaterAt}
+use Rattle.capcheck.proofs.progress.Progress.take_front.Given as goal
+
+-- the judge is at the line that the rest begins with
+abbrev pub invariant-front : goal.invariant-front
+invariant-front g l = record {
+  here : IsLaterAt (held_of g.M.TaggedStore.contents l.fn.self.machine) l.fn.self.ended l.fn.bytes l.fn.first
+      (held_of g.M.TaggedStore.contents l.self.machine) l.self.ended l.rest l.line;
+  before : (front : List ℕ) × (l.fn.bytes ≡ front ++ l.rest);
+  after : l.fn.first ≤ l.line;
+  few : l.line ≤ 4294971395;
+}
+
+-- the limits bound the lines
+abbrev pub decreases-front : goal.decreases-front
+decreases-front g l = 4294971396 - l.line
