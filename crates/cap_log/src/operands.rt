@@ -97,9 +97,9 @@ fn read_mode(word: &[u8]) -> Option<Mode>
     }
 }
 
-/// Takes what stands behind the head of a step whose operands are registers, as [`take_operands`] does.
+// A step whose operands are registers.
 #[inline(always)]
-pub fn take_register_step(kind: RegisterStep, bytes: &[u8]) -> Option<(Line, &[u8])>
+fn take_register_step(kind: RegisterStep, bytes: &[u8]) -> Option<(Line, &[u8])>
     ensures some { IfSome result (λ p. Begins IsInRange spelling 10 (head_spelling (head.Registers kind) ++ 32 ∷ bytes.now) p.0 p.1.now) }
     ensures none { IfNone result (BeginsWithNone IsInRange spelling 10 (head_spelling (head.Registers kind) ++ 32 ∷ bytes.now)) }
 {
@@ -153,9 +153,9 @@ pub fn take_register_step(kind: RegisterStep, bytes: &[u8]) -> Option<(Line, &[u
     }
 }
 
-/// Takes what stands behind the head of a step with a number, as [`take_operands`] does.
+// A step whose operands are two registers and a number.
 #[inline(always)]
-pub fn take_number_step(kind: NumberStep, bytes: &[u8]) -> Option<(Line, &[u8])>
+fn take_number_step(kind: NumberStep, bytes: &[u8]) -> Option<(Line, &[u8])>
     ensures some { IfSome result (λ p. Begins IsInRange spelling 10 (head_spelling (head.Number kind) ++ 32 ∷ bytes.now) p.0 p.1.now) }
     ensures none { IfNone result (BeginsWithNone IsInRange spelling 10 (head_spelling (head.Number kind) ++ 32 ∷ bytes.now)) }
 {
@@ -200,9 +200,9 @@ pub fn take_number_step(kind: NumberStep, bytes: &[u8]) -> Option<(Line, &[u8])>
     }
 }
 
-/// Takes what stands behind the head of a step that reads or writes memory, as [`take_operands`] does.
+// A step with an authority and an offset.
 #[inline(always)]
-pub fn take_access_step(kind: AccessStep, bytes: &[u8]) -> Option<(Line, &[u8])>
+fn take_access_step(kind: AccessStep, bytes: &[u8]) -> Option<(Line, &[u8])>
     ensures some { IfSome result (λ p. Begins IsInRange spelling 10 (head_spelling (head.Access kind) ++ 32 ∷ bytes.now) p.0 p.1.now) }
     ensures none { IfNone result (BeginsWithNone IsInRange spelling 10 (head_spelling (head.Access kind) ++ 32 ∷ bytes.now)) }
 {

@@ -1,7 +1,7 @@
 use Rattle.std.proofs.Common.{◌≡◌, ◌-◌, ◌≤◌, ◌++◌, ℕ, List}
 use Rattle.cap_machine.specs.Helds.{held_of}
 use Rattle.capcheck.specs.Progresses.{IsLaterAt}
-use Rattle.capcheck.proofs.progress.Progress.take_lines.Given as goal
+use Rattle.capcheck.proofs.progress.Progress.take_front.Given as goal
 
 -- the judge is at the line that the rest begins with
 abbrev pub invariant-front : goal.invariant-front
