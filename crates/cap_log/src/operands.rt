@@ -42,7 +42,7 @@ type CapStored = (Register, (Register, Offset));
 /// Takes what stands behind a line's head and its space, with the line feed: the line, and what comes
 /// behind it.
 #[inline(always)]
-pub fn take_operands(head: Head, bytes: &[u8]) -> Option<(Line, &[u8])>
+pub fn take_operands<const USER: u8>(head: Head, bytes: &[u8]) -> Option<(Line, &[u8])>
     ensures some { IfSome result (λ p. Begins IsInRange spelling 10 (head_spelling head ++ 32 ∷ bytes.now) p.0 p.1.now) }
     ensures none { IfNone result (BeginsWithNone IsInRange spelling 10 (head_spelling head ++ 32 ∷ bytes.now)) }
 {
@@ -61,9 +61,9 @@ pub fn take_operands(head: Head, bytes: &[u8]) -> Option<(Line, &[u8])>
             let ((place, word), rest) = <(Place, Word)>::take(bytes, b'\n')?;
             Some((Line::Root(place, word), rest))
         }
-        Head::Registers(kind) => take_register_step(kind, bytes),
-        Head::Number(kind) => take_number_step(kind, bytes),
-        Head::Access(kind) => take_access_step(kind, bytes),
+        Head::Registers(kind) => take_register_step::<USER>(kind, bytes),
+        Head::Number(kind) => take_number_step::<USER>(kind, bytes),
+        Head::Access(kind) => take_access_step::<USER>(kind, bytes),
         Head::End => {
             let (count, rest) = Count::take(bytes, b'\n')?;
             Some((Line::End(count.0), rest))
@@ -99,7 +99,7 @@ fn read_mode(word: &[u8]) -> Option<Mode>
 
 // A step whose operands are registers.
 #[inline(always)]
-fn take_register_step(kind: RegisterStep, bytes: &[u8]) -> Option<(Line, &[u8])>
+fn take_register_step<const USER: u8>(kind: RegisterStep, bytes: &[u8]) -> Option<(Line, &[u8])>
     ensures some { IfSome result (λ p. Begins IsInRange spelling 10 (head_spelling (head.Registers kind) ++ 32 ∷ bytes.now) p.0 p.1.now) }
     ensures none { IfNone result (BeginsWithNone IsInRange spelling 10 (head_spelling (head.Registers kind) ++ 32 ∷ bytes.now)) }
 {
@@ -155,7 +155,7 @@ fn take_register_step(kind: RegisterStep, bytes: &[u8]) -> Option<(Line, &[u8])>
 
 // A step whose operands are two registers and a number.
 #[inline(always)]
-fn take_number_step(kind: NumberStep, bytes: &[u8]) -> Option<(Line, &[u8])>
+fn take_number_step<const USER: u8>(kind: NumberStep, bytes: &[u8]) -> Option<(Line, &[u8])>
     ensures some { IfSome result (λ p. Begins IsInRange spelling 10 (head_spelling (head.Number kind) ++ 32 ∷ bytes.now) p.0 p.1.now) }
     ensures none { IfNone result (BeginsWithNone IsInRange spelling 10 (head_spelling (head.Number kind) ++ 32 ∷ bytes.now)) }
 {
@@ -202,7 +202,7 @@ fn take_number_step(kind: NumberStep, bytes: &[u8]) -> Option<(Line, &[u8])>
 
 // A step with an authority and an offset.
 #[inline(always)]
-fn take_access_step(kind: AccessStep, bytes: &[u8]) -> Option<(Line, &[u8])>
+fn take_access_step<const USER: u8>(kind: AccessStep, bytes: &[u8]) -> Option<(Line, &[u8])>
     ensures some { IfSome result (λ p. Begins IsInRange spelling 10 (head_spelling (head.Access kind) ++ 32 ∷ bytes.now) p.0 p.1.now) }
     ensures none { IfNone result (BeginsWithNone IsInRange spelling 10 (head_spelling (head.Access kind) ++ 32 ∷ bytes.now)) }
 {
