@@ -14,7 +14,6 @@ use Rattle.cap_log.specs.declared.taking.Lines.{Lines}
 use Rattle.cap_log.specs.declared.nexts.Next.TheVariants as nexts
 use Rattle.cap_machine.specs.declared.rules.Rules.{Rules}
 use Rattle.cap_machine.specs.declared.rules.Rules.TheVariants.{One}
-use Rattle.cap_machine.specs.Helds.{Held}
 use Rattle.capcheck.specs.Logs.{Beginning, Nothing, NoMode, Body, header_lines, lines_of, text_of, has_form, SpellsBy}
 use Rattle.capcheck.specs.Headers.{ReadsHeader, rules_of}
 use Rattle.capcheck.specs.declared.verdict.Verdict.{Verdict}
@@ -22,7 +21,7 @@ use Rattle.capcheck.specs.declared.verdict.Verdict.TheVariants.{No}
 use Rattle.cap_machine.specs.declared.refusal.Refusal.{Refusal}
 use Rattle.capcheck.specs.declared.verdict.JudgeFault.{JudgeFault}
 use Rattle.capcheck.specs.Judgings.{IsBehind, IsNoYes, Judged}
-use Rattle.capcheck.specs.Progresses.{StandsFor, HasRead}
+use Rattle.capcheck.specs.Progresses.{Reading, StandsFor, HasRead}
 use Rattle.capcheck.proofs.JudgeLemmas.{text_push}
 use Rattle.capcheck.proofs.SourceLemmas.{Meets, meets}
 
@@ -81,10 +80,10 @@ as_no gave ended old new result line refusal is judged =
     subst (λ (r : Result Verdict JudgeFault). IsNoYes r × Judged gave ended old new r) (sym is) (tt, judged)
 
 -- the judge is behind a header
-pub at_body : {S : Type 0} (gave : S → S → List ℕ → Type 0) (old new : S) (lines_are : Lines) (rules_are : Rules) (held : Held) (now : _) (line : ℕ)
-    → ReadsHeader gave old new lines_are rules_are → StandsFor held now (Body rules_are [] []) → line ≡ length (header_lines rules_are) + 1
-    → HasRead gave old new held now (kept lines_are) line
-at_body gave old new lines_are rules_are held now line header stands number =
+pub at_body : {S : Type 0} (gave : S → S → List ℕ → Type 0) (old new : S) (lines_are : Lines) (rules_are : Rules) (reading : Reading) (line : ℕ)
+    → ReadsHeader gave old new lines_are rules_are → StandsFor reading (Body rules_are [] []) → line ≡ length (header_lines rules_are) + 1
+    → HasRead gave old new reading (kept lines_are) line
+at_body gave old new lines_are rules_are reading line header stands number =
     let same = append-nil (header_lines rules_are) in (
       header.given,
       header.gives,

@@ -1,5 +1,5 @@
 -- Where the judge is, and what it may answer there.
-use Rattle.std.proofs.Common.{◌≡◌, ◌≢◌, ℕ, zero, suc, ◌+◌, ◌<◌, ◌^◌, inr, Bool, true, false, List, [], ◌∷◌, ◌++◌, length, map, refl, sym, ap, subst, ◌∙◌, append-nil, append_assoc, arith, Result, Ok, Err, IsOk, IfOk, IfErr}
+use Rattle.std.proofs.Common.{◌≡◌, ◌≢◌, ℕ, zero, suc, ◌+◌, ◌<◌, ◌^◌, inr, true, false, List, [], ◌∷◌, ◌++◌, length, map, refl, sym, ap, subst, ◌∙◌, append-nil, append_assoc, arith, Result, Ok, Err, IsOk, IfOk, IfErr}
 use Rattle.std.specs.List.{AllByRecursion}
 use Rattle.std.proofs.lemmas.Grind.{flat_map-append}
 use Rattle.std.proofs.lemmas.Bool.{false≢true}
@@ -19,7 +19,6 @@ use Rattle.cap_machine.specs.declared.rules.Rules.{Rules}
 use Rattle.cap_machine.specs.declared.rules.Rules.TheVariants.{One, TwoStrict, TwoClear}
 use Rattle.cap_machine.specs.Accounts.{Account, is_new}
 use Rattle.cap_machine.specs.Runs.{AreSound, IsRun, AuthorityNeverGrows, AccessesLieInside}
-use Rattle.cap_machine.specs.Helds.{Held}
 use Rattle.capcheck.specs.declared.verdict.Verdict.{Verdict}
 use Rattle.capcheck.specs.declared.verdict.Verdict.TheVariants.{Yes, No}
 use Rattle.capcheck.specs.declared.verdict.JudgeFault.{JudgeFault}
@@ -27,7 +26,7 @@ use Rattle.capcheck.specs.declared.verdict.JudgeFault.TheVariants as faults
 use Rattle.capcheck.specs.Logs.{Beginning, Nothing, NoMode, Body, Whole, header_lines, body_lines, lines_of, text_of, account_after, IsAccepted, RefusesFront, Refuses, IsFirstFault, WantsMemory, MayLackMemory, NamesNoGranules, named_by_line}
 use Rattle.capcheck.specs.Verdicts.{IsYes, IsGuarded, GuardsAuthority, IsFault}
 use Rattle.capcheck.specs.Judgings.{IsBehind, LeadsTo}
-use Rattle.capcheck.specs.Progresses.{StandsFor, GoesOn, EndsNext, IsAt}
+use Rattle.capcheck.specs.Progresses.{Reading, StandsFor, GoesOn, EndsNext, IsAt}
 use Rattle.capcheck.proofs.LogLemmas.{AllByRecursion-append, length-push}
 
 -- one line more
@@ -38,9 +37,9 @@ text_push lines line rest =
     ap (λ (text : List ℕ). text ++ rest) (flat_map-append piece lines (line ∷ []))
     ∙ simp (append_assoc)
 
-pub goes_on : (bytes rest text more : List ℕ) (old new : Held) (was now : Bool) (line : ℕ) → IsAt bytes old was rest line → IsLine rest text more
-    → GoesOn old was text new now → IsAt bytes new now more (line + 1)
-goes_on bytes rest text more old new was now line here whole on =
+pub goes_on : (bytes rest text more : List ℕ) (old new : Reading) (line : ℕ) → IsAt bytes old rest line → IsLine rest text more
+    → GoesOn old text new → IsAt bytes new more (line + 1)
+goes_on bytes rest text more old new line here whole on =
     let next = on.2 here.beginning here.stands in
     record {
       beginning = next.0;
@@ -61,23 +60,23 @@ IsUnended (Body rules_are roots steps) = Unit {0}
 IsUnended (Whole rules_are roots steps) = ⊥
 
 -- what the progress stands for is accepted
-accepted : (beginning : Beginning) (held : Held) (now : Bool) → StandsFor held now beginning → IsAccepted beginning
-accepted Nothing held now stands = tt
-accepted NoMode held now stands = tt
-accepted (Body rules_are roots steps) held now stands = stands.1.runs
-accepted (Whole rules_are roots steps) held now stands = stands.1.runs
+accepted : (beginning : Beginning) (reading : Reading) → StandsFor reading beginning → IsAccepted beginning
+accepted Nothing reading stands = tt
+accepted NoMode reading stands = tt
+accepted (Body rules_are roots steps) reading stands = stands.1.runs
+accepted (Whole rules_are roots steps) reading stands = stands.1.runs
 
-unended : (beginning : Beginning) (held : Held) (now : Bool) → StandsFor held now beginning → now ≡ false → IsUnended beginning
-unended Nothing held now stands is = tt
-unended NoMode held now stands is = tt
-unended (Body rules_are roots steps) held now stands is = tt
-unended (Whole rules_are roots steps) held now stands is = absurd (false≢true (sym is ∙ stands.0))
+unended : (beginning : Beginning) (reading : Reading) → StandsFor reading beginning → reading.ended ≡ false → IsUnended beginning
+unended Nothing reading stands is = tt
+unended NoMode reading stands is = tt
+unended (Body rules_are roots steps) reading stands is = tt
+unended (Whole rules_are roots steps) reading stands is = absurd (false≢true (sym is ∙ stands.0))
 
-pub behind : (bytes rest : List ℕ) (held : Held) (now : Bool) (line : ℕ) (here : IsAt bytes held now rest line) → IsBehind bytes here.beginning rest
-behind bytes rest held now line here = record { bytes_are = here.bytes_are; accepted = accepted here.beginning held now here.stands }
+pub behind : (bytes rest : List ℕ) (reading : Reading) (line : ℕ) (here : IsAt bytes reading rest line) → IsBehind bytes here.beginning rest
+behind bytes rest reading line here = record { bytes_are = here.bytes_are; accepted = accepted here.beginning reading here.stands }
 
-pub unended_here : (bytes rest : List ℕ) (held : Held) (now : Bool) (line : ℕ) (here : IsAt bytes held now rest line) → now ≡ false → IsUnended here.beginning
-unended_here bytes rest held now line here is = unended here.beginning held now here.stands is
+pub unended_here : (bytes rest : List ℕ) (reading : Reading) (line : ℕ) (here : IsAt bytes reading rest line) → reading.ended ≡ false → IsUnended here.beginning
+unended_here bytes rest reading line here is = unended here.beginning reading here.stands is
 
 -- the line behind a beginning can be refused by its front
 front_refused : (beginning : Beginning) (rest : List ℕ) (refusal : Refusal) → IsUnended beginning → RefusesFront beginning rest refusal → Refuses beginning rest refusal
@@ -98,14 +97,14 @@ refused_behind bytes rest beginning line refusal here number unended refused = r
 }
 
 -- a line that wants memory
-pub wants_memory : (bytes rest text more : List ℕ) (held : Held) (now : Bool) (line : ℕ) → IsAt bytes held now rest line
-    → IsLine rest text more → EndsNext held now text NoMemory → MayLackMemory bytes
-wants_memory bytes rest text more held now line here whole ends = record {
+pub wants_memory : (bytes rest text more : List ℕ) (reading : Reading) (line : ℕ) → IsAt bytes reading rest line
+    → IsLine rest text more → EndsNext reading text NoMemory → MayLackMemory bytes
+wants_memory bytes rest text more reading line here whole ends = record {
   beginning = here.beginning;
   line = text;
   more = more;
   bytes_are = here.bytes_are ∙ ap (λ (r : List ℕ). text_of (lines_of here.beginning) ++ r) whole.whole ∙ sym (append_assoc (text_of (lines_of here.beginning)) text (10 ∷ more));
-  accepted = accepted here.beginning held now here.stands;
+  accepted = accepted here.beginning reading here.stands;
   wants = ends here.beginning here.stands;
 }
 
@@ -145,12 +144,12 @@ answered bytes (Err faults.Pull) fault none = absurd fault
 answered bytes (Err faults.NoMemory) fault none = absurd (no_lack bytes none fault)
 
 -- after the end line
-yes_by : (bytes : List ℕ) (held : Held) (now : Bool) (beginning : Beginning) → StandsFor held now beginning → now ≡ true
-    → bytes ≡ text_of (lines_of beginning) ++ [] → IsYes bytes held.steps held.roots
-yes_by bytes held now Nothing stands ended are = absurd stands
-yes_by bytes held now NoMode stands ended are = absurd stands
-yes_by bytes held now (Body rules_are roots steps) stands ended are = absurd (false≢true (sym stands.0 ∙ ended))
-yes_by bytes held now (Whole rules_are roots steps) stands ended are = record {
+yes_by : (bytes : List ℕ) (reading : Reading) (beginning : Beginning) → StandsFor reading beginning → reading.ended ≡ true
+    → bytes ≡ text_of (lines_of beginning) ++ [] → IsYes bytes reading.held.steps reading.held.roots
+yes_by bytes reading Nothing stands ended are = absurd stands
+yes_by bytes reading NoMode stands ended are = absurd stands
+yes_by bytes reading (Body rules_are roots steps) stands ended are = absurd (false≢true (sym stands.0 ∙ ended))
+yes_by bytes reading (Whole rules_are roots steps) stands ended are = record {
   rules = rules_are;
   roots = roots;
   steps = steps;
@@ -159,16 +158,16 @@ yes_by bytes held now (Whole rules_are roots steps) stands ended are = record {
   root_count_is = stands.1.roots_are;
 }
 
-pub yes : (bytes : List ℕ) (held : Held) (now : Bool) (line : ℕ) → IsAt bytes held now [] line → now ≡ true
-    → IsYes bytes held.steps held.roots
-yes bytes held now line here ended = yes_by bytes held now here.beginning here.stands ended here.bytes_are
+pub yes : (bytes : List ℕ) (reading : Reading) (line : ℕ) → IsAt bytes reading [] line → reading.ended ≡ true
+    → IsYes bytes reading.held.steps reading.held.roots
+yes bytes reading line here ended = yes_by bytes reading here.beginning here.stands ended here.bytes_are
 
-leads_by : (bytes : List ℕ) (held : Held) (now : Bool) (beginning : Beginning) → StandsFor held now beginning → now ≡ true
-    → bytes ≡ text_of (lines_of beginning) ++ [] → LeadsTo bytes held
-leads_by bytes held now Nothing stands ended are = absurd stands
-leads_by bytes held now NoMode stands ended are = absurd stands
-leads_by bytes held now (Body rules_are roots steps) stands ended are = absurd (false≢true (sym stands.0 ∙ ended))
-leads_by bytes held now (Whole rules_are roots steps) stands ended are = record {
+leads_by : (bytes : List ℕ) (reading : Reading) (beginning : Beginning) → StandsFor reading beginning → reading.ended ≡ true
+    → bytes ≡ text_of (lines_of beginning) ++ [] → LeadsTo bytes reading.held
+leads_by bytes reading Nothing stands ended are = absurd stands
+leads_by bytes reading NoMode stands ended are = absurd stands
+leads_by bytes reading (Body rules_are roots steps) stands ended are = absurd (false≢true (sym stands.0 ∙ ended))
+leads_by bytes reading (Whole rules_are roots steps) stands ended are = record {
   rules = rules_are;
   roots = roots;
   steps = steps;
@@ -176,25 +175,25 @@ leads_by bytes held now (Whole rules_are roots steps) stands ended are = record 
   account = stands.1.account;
 }
 
-pub leads : (bytes : List ℕ) (held : Held) (now : Bool) (line : ℕ) → IsAt bytes held now [] line → now ≡ true → LeadsTo bytes held
-leads bytes held now line here ended = leads_by bytes held now here.beginning here.stands ended here.bytes_are
+pub leads : (bytes : List ℕ) (reading : Reading) (line : ℕ) → IsAt bytes reading [] line → reading.ended ≡ true → LeadsTo bytes reading.held
+leads bytes reading line here ended = leads_by bytes reading here.beginning here.stands ended here.bytes_are
 
-misplaced_by : (beginning : Beginning) (held : Held) (now : Bool) (rest : List ℕ) → StandsFor held now beginning → now ≡ true → rest ≢ []
+misplaced_by : (beginning : Beginning) (reading : Reading) (rest : List ℕ) → StandsFor reading beginning → reading.ended ≡ true → rest ≢ []
     → Refuses beginning rest Misplaced
-misplaced_by Nothing held now rest stands ended more = absurd stands
-misplaced_by NoMode held now rest stands ended more = absurd stands
-misplaced_by (Body rules_are roots steps) held now rest stands ended more = absurd (false≢true (sym stands.0 ∙ ended))
-misplaced_by (Whole rules_are roots steps) held now rest stands ended more = (more, refl)
+misplaced_by Nothing reading rest stands ended more = absurd stands
+misplaced_by NoMode reading rest stands ended more = absurd stands
+misplaced_by (Body rules_are roots steps) reading rest stands ended more = absurd (false≢true (sym stands.0 ∙ ended))
+misplaced_by (Whole rules_are roots steps) reading rest stands ended more = (more, refl)
 
-pub misplaced : (bytes rest : List ℕ) (held : Held) (now : Bool) (line : ℕ) → IsAt bytes held now rest line → now ≡ true → rest ≢ []
+pub misplaced : (bytes rest : List ℕ) (reading : Reading) (line : ℕ) → IsAt bytes reading rest line → reading.ended ≡ true → rest ≢ []
     → IsFirstFault bytes line Misplaced
-misplaced bytes rest held now line here ended more = record {
+misplaced bytes rest reading line here ended more = record {
   beginning = here.beginning;
   rest = rest;
   bytes_are = here.bytes_are;
-  accepted = accepted here.beginning held now here.stands;
+  accepted = accepted here.beginning reading here.stands;
   number_is = here.line_is;
-  refused = misplaced_by here.beginning held now rest here.stands ended more;
+  refused = misplaced_by here.beginning reading rest here.stands ended more;
 }
 
 -- the steps of lines in range are in range

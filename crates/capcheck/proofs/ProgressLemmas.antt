@@ -25,19 +25,20 @@ use Rattle.cap_machine.specs.Accounts.{Account, no_account, most_roots, most_gra
 use Rattle.cap_machine.specs.Runs.{IsRun, last_of}
 use Rattle.cap_machine.specs.Helds.{Held, Makes, EndsStep, Takes as Declares, EndsRoot, state_of, account_of}
 use Rattle.capcheck.specs.Logs.{has_form, Beginning, Nothing, NoMode, Body, Whole, body_lines, after_roots, after_steps, account_after, RunsBy, SpellsBy, NamesFirst, RefusesWhole, WantsMemory, line_tests}
-use Rattle.capcheck.specs.Progresses.{Reaches, StandsFor, Takes, EndsFor, EndsNext}
+use Rattle.capcheck.specs.Progresses.{Reading, Reaches, StandsFor, Takes, EndsFor, EndsNext}
 use Rattle.capcheck.proofs.LogLemmas.{AllByRecursion-append, IsDistinct-push, tag-start, start-push, IsRun-push, last_of-push, map-push, length-push, steps_push, roots_push, list_any-map, after_roots-push, after_steps-push}
 
 -- the end line closes a body
-pub ended : (held : Held) (now : Bool) (count : ℕ) → now ≡ false → count ≡ held.steps → Takes held now (End count) held true
-ended held now count unended counted Nothing stands = absurd stands
-ended held now count unended counted NoMode stands = absurd stands
-ended held now count unended counted (Body rules_are roots steps) stands = (
+pub ended : (reading : Reading) (count : ℕ) → reading.ended ≡ false → count ≡ reading.held.steps
+    → Takes reading (End count) (record { held = reading.held; ended = true })
+ended reading count unended counted Nothing stands = absurd stands
+ended reading count unended counted NoMode stands = absurd stands
+ended reading count unended counted (Body rules_are roots steps) stands = (
   Whole rules_are roots steps,
   (refl, stands.1),
   ap (λ n. body_lines rules_are roots steps ++ End n ∷ []) (sym (counted ∙ stands.1.steps_are)),
 )
-ended held now count unended counted (Whole rules_are roots steps) stands = absurd (false≢true (sym unended ∙ stands.0))
+ended reading count unended counted (Whole rules_are roots steps) stands = absurd (false≢true (sym unended ∙ stands.0))
 
 -- where no test of two lists holds, none of the second does
 none_after : {F : Type 0} (xs ys : List (Bool × F)) → first_of (xs ++ ys) ≡ None → first_of ys ≡ None
@@ -152,13 +153,13 @@ step_on rules_are roots steps old new step reaches range makes =
       steps_are = ap (λ (a : Account). a.steps) makes.account ∙ ap (λ n. n + 1) reaches.steps_are ∙ sym (length-push steps step);
     }
 
-pub stepped : (old new : Held) (now : Bool) (step : steps_module.Step) → now ≡ false → IsStepInRange step → Makes old step new
-    → Takes old now (Step step) new now
-stepped old new now step unended range makes Nothing stands = absurd stands
-stepped old new now step unended range makes NoMode stands = absurd stands
-stepped old new now step unended range makes (Body rules_are roots steps) stands =
-    (Body rules_are roots (steps ++ step ∷ []), (unended, step_on rules_are roots steps old new step stands.1 range makes), steps_push rules_are roots steps step)
-stepped old new now step unended range makes (Whole rules_are roots steps) stands = absurd (false≢true (sym unended ∙ stands.0))
+pub stepped : (old new : Reading) (step : steps_module.Step) → old.ended ≡ false → new.ended ≡ false → IsStepInRange step
+    → Makes old.held step new.held → Takes old (Step step) new
+stepped old new step unended still range makes Nothing stands = absurd stands
+stepped old new step unended still range makes NoMode stands = absurd stands
+stepped old new step unended still range makes (Body rules_are roots steps) stands =
+    (Body rules_are roots (steps ++ step ∷ []), (still, step_on rules_are roots steps old.held new.held step stands.1 range makes), steps_push rules_are roots steps step)
+stepped old new step unended still range makes (Whole rules_are roots steps) stands = absurd (false≢true (sym unended ∙ stands.0))
 
 -- a step that is not made
 pub step_ended : (old new : Held) (step : steps_module.Step) (end : StepEnd) → EndsStep old step end new → EndsFor old (Step step) end
@@ -218,15 +219,15 @@ root_on rules_are roots root old new reaches place_range word_range declares =
       steps_are = naming_steps old new root declares ∙ reaches.steps_are;
     }
 
-pub rooted : (old new : Held) (now : Bool) (place : Place) (word : Word) → now ≡ false → old.steps ≡ 0
-    → IsPlace place → word.0 < 2 ^ 128 → Declares old place word new → Takes old now (Root place word) new now
-rooted old new now place word unended rootless place_range word_range declares Nothing stands = absurd stands
-rooted old new now place word unended rootless place_range word_range declares NoMode stands = absurd stands
-rooted old new now place word unended rootless place_range word_range declares (Body rules_are roots (step ∷ steps)) stands = absurd (let counted = stands.1.steps_are in omega arith)
-rooted old new now place word unended rootless place_range word_range declares (Body rules_are roots []) stands =
+pub rooted : (old new : Reading) (place : Place) (word : Word) → old.ended ≡ false → new.ended ≡ false → old.held.steps ≡ 0
+    → IsPlace place → word.0 < 2 ^ 128 → Declares old.held place word new.held → Takes old (Root place word) new
+rooted old new place word unended still rootless place_range word_range declares Nothing stands = absurd stands
+rooted old new place word unended still rootless place_range word_range declares NoMode stands = absurd stands
+rooted old new place word unended still rootless place_range word_range declares (Body rules_are roots (step ∷ steps)) stands = absurd (let counted = stands.1.steps_are in omega arith)
+rooted old new place word unended still rootless place_range word_range declares (Body rules_are roots []) stands =
     let root : DeclaredRoot = record { place = place; word = word } in
-    (Body rules_are (roots ++ root ∷ []) [], (unended, root_on rules_are roots root old new stands.1 place_range word_range declares), roots_push rules_are roots root)
-rooted old new now place word unended rootless place_range word_range declares (Whole rules_are roots steps) stands = absurd (false≢true (sym unended ∙ stands.0))
+    (Body rules_are (roots ++ root ∷ []) [], (still, root_on rules_are roots root old.held new.held stands.1 place_range word_range declares), roots_push rules_are roots root)
+rooted old new place word unended still rootless place_range word_range declares (Whole rules_are roots steps) stands = absurd (false≢true (sym unended ∙ stands.0))
 
 -- a header is in range
 header_in_range : (rules_are : Rules) → AllByRecursion IsInRange (body_lines rules_are [] [])
@@ -252,53 +253,58 @@ no_roots rules_are = record {
 }
 
 -- what a new machine holds stands for a header
-pub header_read : (held : Held) (rules_are : Rules) → account_of held ≡ no_account rules_are → StandsFor held false (Body rules_are [] [])
+pub header_read : (held : Held) (rules_are : Rules) → account_of held ≡ no_account rules_are
+    → StandsFor (record { held = held; ended = false }) (Body rules_are [] [])
 header_read held rules_are account =
     (refl, record { runs = no_roots rules_are; account = account; roots_are = ap (λ (a : Account). a.roots) account; steps_are = ap (λ (a : Account). a.steps) account })
 
 -- a line that is refused, as the line that these bytes spell
-known_refused : (held : Held) (now : Bool) (text : List ℕ) (line : Line) (refusal : Refusal) (beginning : Beginning) → now ≡ false → SpellsBy held.rules text line
-    → first_of (line_tests (account_of held) line) ≡ Some refusal → StandsFor held now beginning → RefusesWhole beginning text refusal
-known_refused held now text line refusal Nothing unended spells found stands = absurd stands
-known_refused held now text line refusal NoMode unended spells found stands = absurd stands
-known_refused held now text line refusal (Body rules_are roots steps) unended spells found stands =
+known_refused : (reading : Reading) (text : List ℕ) (line : Line) (refusal : Refusal) (beginning : Beginning)
+    → reading.ended ≡ false → SpellsBy reading.held.rules text line → first_of (line_tests (account_of reading.held) line) ≡ Some refusal
+    → StandsFor reading beginning → RefusesWhole beginning text refusal
+known_refused reading text line refusal Nothing unended spells found stands = absurd stands
+known_refused reading text line refusal NoMode unended spells found stands = absurd stands
+known_refused reading text line refusal (Body rules_are roots steps) unended spells found stands =
     inr (
       line,
       subst (λ (a : Account). SpellsBy a.rules text line) stands.1.account spells,
       subst (λ (a : Account). first_of (line_tests a line) ≡ Some refusal) stands.1.account found,
     )
-known_refused held now text line refusal (Whole rules_are roots steps) unended spells found stands = absurd (false≢true (sym unended ∙ stands.0))
+known_refused reading text line refusal (Whole rules_are roots steps) unended spells found stands = absurd (false≢true (sym unended ∙ stands.0))
 
 -- a line that wants memory
-known_wants : (held : Held) (now : Bool) (text : List ℕ) (beginning : Beginning) → now ≡ false → NamesFirst (account_of held) text → StandsFor held now beginning
-    → WantsMemory beginning text
-known_wants held now text Nothing unended wants stands = absurd stands
-known_wants held now text NoMode unended wants stands = absurd stands
-known_wants held now text (Body rules_are roots steps) unended wants stands = subst (λ (a : Account). NamesFirst a text) stands.1.account wants
-known_wants held now text (Whole rules_are roots steps) unended wants stands = absurd (false≢true (sym unended ∙ stands.0))
+known_wants : (reading : Reading) (text : List ℕ) (beginning : Beginning) → reading.ended ≡ false
+    → NamesFirst (account_of reading.held) text → StandsFor reading beginning → WantsMemory beginning text
+known_wants reading text Nothing unended wants stands = absurd stands
+known_wants reading text NoMode unended wants stands = absurd stands
+known_wants reading text (Body rules_are roots steps) unended wants stands = subst (λ (a : Account). NamesFirst a text) stands.1.account wants
+known_wants reading text (Whole rules_are roots steps) unended wants stands = absurd (false≢true (sym unended ∙ stands.0))
 
-pub line_known : (held : Held) (now : Bool) (text : List ℕ) (line : Line) (end : StepEnd) → now ≡ false → SpellsBy held.rules text line → EndsFor held line end → EndsNext held now text end
-line_known held now text line (Refused refusal) unended spells ends = λ beginning stands. known_refused held now text line refusal beginning unended spells ends stands
-line_known held now text line NoMemory unended spells ends =
-    λ beginning stands. known_wants held now text beginning unended (record { line = line; spelled = spells; free = ends.0; first = ends.1 }) stands
+pub line_known : (reading : Reading) (text : List ℕ) (line : Line) (end : StepEnd) → reading.ended ≡ false
+    → SpellsBy reading.held.rules text line → EndsFor reading.held line end → EndsNext reading text end
+line_known reading text line (Refused refusal) unended spells ends = λ beginning stands. known_refused reading text line refusal beginning unended spells ends stands
+line_known reading text line NoMemory unended spells ends =
+    λ beginning stands. known_wants reading text beginning unended (record { line = line; spelled = spells; free = ends.0; first = ends.1 }) stands
 
 -- the same of an answer
-pub known_ended : (held : Held) (now : Bool) (line : Line) (result : Result (Unit {0}) StepEnd) → now ≡ false → has_form held.rules line ≡ true → IfErr result (λ end. EndsFor held line end)
-    → IfErr result (λ end. (text : List ℕ) → Spells text line → EndsNext held now text end)
-known_ended held now line (Ok done) unended formed ends = tt
-known_ended held now line (Err end) unended formed ends = λ text spells. line_known held now text line end unended (spells, formed) ends
+pub known_ended : (reading : Reading) (line : Line) (result : Result (Unit {0}) StepEnd) → reading.ended ≡ false
+    → has_form reading.held.rules line ≡ true → IfErr result (λ end. EndsFor reading.held line end)
+    → IfErr result (λ end. (text : List ℕ) → Spells text line → EndsNext reading text end)
+known_ended reading line (Ok done) unended formed ends = tt
+known_ended reading line (Err end) unended formed ends = λ text spells. line_known reading text line end unended (spells, formed) ends
 
 -- bytes that have no form
-unknown : (held : Held) (now : Bool) (text : List ℕ) (beginning : Beginning) → now ≡ false → ((line : Line) → SpellsBy held.rules text line → ⊥) → StandsFor held now beginning
-    → RefusesWhole beginning text BadLine
-unknown held now text Nothing unended none stands = absurd stands
-unknown held now text NoMode unended none stands = absurd stands
-unknown held now text (Body rules_are roots steps) unended none stands =
+unknown : (reading : Reading) (text : List ℕ) (beginning : Beginning) → reading.ended ≡ false
+    → ((line : Line) → SpellsBy reading.held.rules text line → ⊥) → StandsFor reading beginning → RefusesWhole beginning text BadLine
+unknown reading text Nothing unended none stands = absurd stands
+unknown reading text NoMode unended none stands = absurd stands
+unknown reading text (Body rules_are roots steps) unended none stands =
     inl (subst (λ (a : Account). (line : Line) → SpellsBy a.rules text line → ⊥) stands.1.account none, refl)
-unknown held now text (Whole rules_are roots steps) unended none stands = absurd (false≢true (sym unended ∙ stands.0))
+unknown reading text (Whole rules_are roots steps) unended none stands = absurd (false≢true (sym unended ∙ stands.0))
 
-pub line_unknown : (held : Held) (now : Bool) (text : List ℕ) → now ≡ false → ((line : Line) → SpellsBy held.rules text line → ⊥) → EndsNext held now text (Refused BadLine)
-line_unknown held now text unended none = λ beginning stands. unknown held now text beginning unended none stands
+pub line_unknown : (reading : Reading) (text : List ℕ) → reading.ended ≡ false
+    → ((line : Line) → SpellsBy reading.held.rules text line → ⊥) → EndsNext reading text (Refused BadLine)
+line_unknown reading text unended none = λ beginning stands. unknown reading text beginning unended none stands
 
 -- a root that is not taken
 pub root_ended : (old new : Held) (place : Place) (word : Word) (end : StepEnd) → old.steps ≡ 0 → EndsRoot old place word end new → EndsFor old (Root place word) end

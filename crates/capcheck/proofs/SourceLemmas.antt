@@ -1,5 +1,6 @@
 -- The judge over a source: where it is, and what it may answer there.
 use Rattle.std.proofs.Common.{◌≡◌, ◌≢◌, ℕ, ◌+◌, ◌≤◌, inl, inr, Bool, true, false, List, [], ◌∷◌, ◌++◌, length, map, refl, sym, ap, subst, ◌∙◌, append-nil, append_assoc, arith, None, Result, Ok, Err, IfOk, IfErr}
+use Rattle.std.specs.Bool.{if◌then◌else◌}
 use Rattle.std.proofs.lemmas.List.{length-append, length-map, take-append-le}
 use Rattle.std.proofs.lemmas.List.Elements.{All-nil}
 use Rattle.cap_log.specs.declared.lines.Line.{Line}
@@ -29,8 +30,8 @@ use Rattle.capcheck.specs.declared.verdict.JudgeFault.{JudgeFault}
 use Rattle.capcheck.specs.declared.verdict.JudgeFault.TheVariants.{Pull, NoMemory}
 use Rattle.capcheck.specs.Logs.{Beginning, Nothing, NoMode, Body, Whole, header_lines, body_lines, lines_of, text_of, IsAccepted, RefusesFront, RefusesWhole, IsFirstFault, MayLackMemory}
 use Rattle.capcheck.specs.Verdicts.{answer_at, EscapesExactly, IsVerdict, IsFault}
-use Rattle.capcheck.specs.Progresses.{EndsNext, GoesOn, IsAt, IsLaterAt, HasRead}
-use Rattle.capcheck.specs.Judgings.{IsVerdictOf, IsBehind, BeginsLog, IsAnswerOf, Judged, LeadsAfter, JudgedBy, IsNoYes, refusal_in, finished}
+use Rattle.capcheck.specs.Progresses.{Reading, EndsNext, GoesOn, IsAt, IsLaterAt, HasRead}
+use Rattle.capcheck.specs.Judgings.{IsVerdictOf, IsBehind, BeginsLog, IsAnswerOf, Judged, LeadsAfter, JudgedBy, IsNoYes, refusal_in}
 use Rattle.capcheck.proofs.EscapeLaws.{escapes_exactly}
 use Rattle.capcheck.proofs.JudgeLemmas.{IsUnended, goes_on, behind, unended_here, refused_behind, wants_memory, misplaced, yes, leads, guarded, guards, no_lack}
 
@@ -41,8 +42,8 @@ behind_more bytes rest more beginning here = record {
   accepted = here.accepted;
 }
 
-at_more : (bytes rest more : List ℕ) (held : Held) (now : Bool) (line : ℕ) → IsAt bytes held now rest line → IsAt (bytes ++ more) held now (rest ++ more) line
-at_more bytes rest more held now line here = record {
+at_more : (bytes rest more : List ℕ) (reading : Reading) (line : ℕ) → IsAt bytes reading rest line → IsAt (bytes ++ more) reading (rest ++ more) line
+at_more bytes rest more reading line here = record {
   beginning = here.beginning;
   stands = here.stands;
   bytes_are = ap (λ (l : List ℕ). l ++ more) here.bytes_are ∙ append_assoc (text_of (lines_of here.beginning)) rest more;
@@ -102,15 +103,15 @@ meets gave ended a b c beginning before lines answer shown joined so_far answere
 }
 
 -- the same where the progress stands
-pub meets_at : {S : Type 0} (gave : S → S → List ℕ → Type 0) (ended : S → Bool) (a b c : S) (held : Held) (now : Bool) (line : ℕ) (before : List ℕ) (lines : Lines) (answer shown : Result Next PullFault)
-    → ((x y z : S) (xs ys : List ℕ) → gave x y xs → gave y z ys → gave x z (xs ++ ys)) → (so_far : HasRead gave a b held now before line)
+pub meets_at : {S : Type 0} (gave : S → S → List ℕ → Type 0) (ended : S → Bool) (a b c : S) (reading : Reading) (line : ℕ) (before : List ℕ) (lines : Lines) (answer shown : Result Next PullFault)
+    → ((x y z : S) (xs ys : List ℕ) → gave x y xs → gave y z ys → gave x z (xs ++ ys)) → (so_far : HasRead gave a b reading before line)
     → Answered gave ended b c before lines answer → answer ≡ shown → Meets gave ended a c so_far.2.beginning lines shown
-meets_at gave ended a b c held now line before lines answer shown joined so_far answered same =
-    meets gave ended a b c so_far.2.beginning before lines answer shown joined (so_far.0, so_far.1, behind so_far.0 before held now line so_far.2) answered same
+meets_at gave ended a b c reading line before lines answer shown joined so_far answered same =
+    meets gave ended a b c so_far.2.beginning before lines answer shown joined (so_far.0, so_far.1, behind so_far.0 before reading line so_far.2) answered same
 
-pub at_met : {S : Type 0} {gave : S → S → List ℕ → Type 0} {ended : S → Bool} {old new : S} {lines : Lines} {shown : Result Next PullFault} (given before : List ℕ) (held : Held) (now : Bool) (line : ℕ)
-    (here : IsAt given held now before line) (m : Meets gave ended old new here.beginning lines shown) → IsAt m.given held now m.rest line
-at_met given before held now line here m = record { beginning = here.beginning; stands = here.stands; bytes_are = m.here.bytes_are; line_is = here.line_is }
+pub at_met : {S : Type 0} {gave : S → S → List ℕ → Type 0} {ended : S → Bool} {old new : S} {lines : Lines} {shown : Result Next PullFault} (given before : List ℕ) (reading : Reading) (line : ℕ)
+    (here : IsAt given reading before line) (m : Meets gave ended old new here.beginning lines shown) → IsAt m.given reading m.rest line
+at_met given before reading line here m = record { beginning = here.beginning; stands = here.stands; bytes_are = m.here.bytes_are; line_is = here.line_is }
 
 answer_ok : (given : List ℕ) (ended : Bool) (verdict : Verdict) → IsVerdictOf given ended verdict → IsAnswerOf given ended (Ok verdict)
 answer_ok given ended verdict is =
@@ -187,50 +188,51 @@ module _ {S : Type 0} {gave : S → S → List ℕ → Type 0} {ended : S → Bo
   pub finished_met : Meets gave ended old new beginning lines (Ok nexts.Finished) → line ≡ length (lines_of beginning) + 1 → IsUnended beginning → Judged gave ended old new (Ok (No line Truncated))
   finished_met m number unended = cut_met m number unended (nothing_cut m.rest m.next.0) m.next.1
 
-module _ {S : Type 0} {gave : S → S → List ℕ → Type 0} {ended : S → Bool} {old new : S} {lines : Lines} (given before : List ℕ) (held : Held) (line : ℕ) where
-  misplaced_met : {shown : Result Next PullFault} (now : Bool) (here : IsAt given held now before line) (m : Meets gave ended old new here.beginning lines shown) → now ≡ true → m.rest ≢ []
+module _ {S : Type 0} {gave : S → S → List ℕ → Type 0} {ended : S → Bool} {old new : S} {lines : Lines} (given before : List ℕ) (reading : Reading) (line : ℕ) where
+  misplaced_met : {shown : Result Next PullFault} (here : IsAt given reading before line) (m : Meets gave ended old new here.beginning lines shown) → reading.ended ≡ true → m.rest ≢ []
       → Judged gave ended old new (Ok (No line Misplaced))
-  misplaced_met now here m end some =
+  misplaced_met here m end some =
       judged_ok gave ended old new m.given (No line Misplaced) m.gives
       (no_stands m.given (ended new) line Misplaced
-      (λ more. misplaced (m.given ++ more) (m.rest ++ more) held now line (at_more m.given m.rest more held now line (at_met given before held now line here m)) end (some-more m.rest more some)))
+      (λ more. misplaced (m.given ++ more) (m.rest ++ more) reading line (at_more m.given m.rest more reading line (at_met given before reading line here m)) end (some-more m.rest more some)))
 
   -- by whether the end line has come
-  pub too_long_at : (now : Bool) (here : IsAt given held now before line) → Meets gave ended old new here.beginning lines (Ok nexts.LineTooLong)
-      → Judged gave ended old new (Ok (refusal_in line now LineTooLong))
-  too_long_at false here m = too_long_met here.beginning line m here.line_is (unended_here given before held false line here refl)
-  too_long_at true here m = misplaced_met true here m refl (long_some m.rest m.next.0)
+  pub too_long_at : (now : Bool) → reading.ended ≡ now → (here : IsAt given reading before line)
+      → Meets gave ended old new here.beginning lines (Ok nexts.LineTooLong) → Judged gave ended old new (Ok (refusal_in line now LineTooLong))
+  too_long_at false is here m = too_long_met here.beginning line m here.line_is (unended_here given before reading line here is)
+  too_long_at true is here m = misplaced_met here m is (long_some m.rest m.next.0)
 
-  pub truncated_at : (now : Bool) (here : IsAt given held now before line) → Meets gave ended old new here.beginning lines (Ok nexts.Truncated)
-      → Judged gave ended old new (Ok (refusal_in line now Truncated))
-  truncated_at false here m = truncated_met here.beginning line m here.line_is (unended_here given before held false line here refl)
-  truncated_at true here m = misplaced_met true here m refl m.next.1
+  pub truncated_at : (now : Bool) → reading.ended ≡ now → (here : IsAt given reading before line)
+      → Meets gave ended old new here.beginning lines (Ok nexts.Truncated) → Judged gave ended old new (Ok (refusal_in line now Truncated))
+  truncated_at false is here m = truncated_met here.beginning line m here.line_is (unended_here given before reading line here is)
+  truncated_at true is here m = misplaced_met here m is m.next.1
 
-  pub finished_at : (now : Bool) (here : IsAt given held now before line) → Meets gave ended old new here.beginning lines (Ok nexts.Finished)
-      → JudgedBy gave ended old new (Ok (finished held now line)) held
+  pub finished_at : (now : Bool) → reading.ended ≡ now → (here : IsAt given reading before line)
+      → Meets gave ended old new here.beginning lines (Ok nexts.Finished)
+      → JudgedBy gave ended old new (Ok (if now then Yes reading.held.steps reading.held.roots else No line Truncated)) reading.held
   unfolding judged_ok
-  finished_at false here m = record { judged = finished_met here.beginning line m here.line_is (unended_here given before held false line here refl); leads = tt }
-  finished_at true here m =
-      let at_end = subst (λ (r : List ℕ). IsAt m.given held true r line) m.next.0 (at_met given before held true line here m) in
+  finished_at false is here m = record { judged = finished_met here.beginning line m here.line_is (unended_here given before reading line here is); leads = tt }
+  finished_at true is here m =
+      let at_end = subst (λ (r : List ℕ). IsAt m.given reading r line) m.next.0 (at_met given before reading line here m) in
       record {
-        judged = judged_ok gave ended old new m.given (Yes held.steps held.roots) m.gives
-            (subst (λ (b : Bool). IsVerdictOf m.given b (Yes held.steps held.roots)) (sym m.next.1) (yes m.given held true line at_end refl));
-        leads = leads m.given held true line at_end refl;
+        judged = judged_ok gave ended old new m.given (Yes reading.held.steps reading.held.roots) m.gives
+            (subst (λ (b : Bool). IsVerdictOf m.given b (Yes reading.held.steps reading.held.roots)) (sym m.next.1) (yes m.given reading line at_end is));
+        leads = leads m.given reading line at_end is;
       }
 
   -- a line after the end line
-  pub after_end : (text : _) (now : Bool) (here : IsAt given held now before line) → Meets gave ended old new here.beginning lines (Ok (nexts.Line text)) → now ≡ true
-      → Judged gave ended old new (Ok (No line Misplaced))
-  after_end text now here m end = misplaced_met now here m end (line_some m.rest text.now (kept lines) m.next.0)
+  pub after_end : (text : _) (here : IsAt given reading before line) → Meets gave ended old new here.beginning lines (Ok (nexts.Line text))
+      → reading.ended ≡ true → Judged gave ended old new (Ok (No line Misplaced))
+  after_end text here m end = misplaced_met here m end (line_some m.rest text.now (kept lines) m.next.0)
 
   -- a line that is not taken
-  pub line_ended : (text : _) (now : Bool) (end : StepEnd) (here : IsAt given held now before line) → Meets gave ended old new here.beginning lines (Ok (nexts.Line text)) → now ≡ false
-      → EndsNext held now text.now end → Judged gave ended old new (answer_at line end)
-  line_ended text now (Refused refusal) here m unended refused =
-      line_met here.beginning line text refusal m here.line_is (unended_here given before held now line here unended) (refused here.beginning here.stands)
-  line_ended text now ends.NoMemory here m unended wants =
+  pub line_ended : (text : _) (end : StepEnd) (here : IsAt given reading before line)
+      → Meets gave ended old new here.beginning lines (Ok (nexts.Line text)) → reading.ended ≡ false → EndsNext reading text.now end → Judged gave ended old new (answer_at line end)
+  line_ended text (Refused refusal) here m unended refused =
+      line_met here.beginning line text refusal m here.line_is (unended_here given before reading line here unended) (refused here.beginning here.stands)
+  line_ended text ends.NoMemory here m unended wants =
       judged_memory gave ended old new m.given m.gives
-      (wants_memory m.given m.rest text.now (kept lines) held now line (at_met given before held now line here m) m.next.0 wants)
+      (wants_memory m.given m.rest text.now (kept lines) reading line (at_met given before reading line here m) m.next.0 wants)
 
 -- after a line the lines are not over
 pub over_after : {S : Type 0} {gave : S → S → List ℕ → Type 0} {ended : S → Bool} {old new : S} {before : List ℕ} {lines : Lines} {answer : Result Next PullFault} {text : _}
@@ -239,39 +241,33 @@ over_after {S} {gave} {ended} {old} {new} {before} {lines} {answer} {text} answe
     (subst (IsNext (before ++ answered.given) (ended new) (kept lines) (over_of lines)) same answered.answers).1
 
 -- where lines that are kept were taken, nothing was pulled
-pub later_read : {S : Type 0} (gave : S → S → List ℕ → Type 0) (begun source : S) (old : Held) (was : Bool) (before : List ℕ) (first : ℕ) (new : Held) (now : Bool) (rest : List ℕ) (line : ℕ)
-    → IsLaterAt old was before first new now rest line → HasRead gave begun source old was before first → HasRead gave begun source new now rest line
-later_read gave begun source old was before first new now rest line on so_far = (so_far.0, so_far.1, on so_far.0 so_far.2)
+pub later_read : {S : Type 0} (gave : S → S → List ℕ → Type 0) (begun source : S) (old : Reading) (before : List ℕ) (first : ℕ) (new : Reading) (rest : List ℕ) (line : ℕ)
+    → IsLaterAt old before first new rest line → HasRead gave begun source old before first → HasRead gave begun source new rest line
+later_read gave begun source old before first new rest line on so_far = (so_far.0, so_far.1, on so_far.0 so_far.2)
 
 -- a line that is kept whole
 kept_line : (before after : List ℕ) (known : Line) → IsInRange known → before ≡ spelling known ++ 10 ∷ after → IsLine before (spelling known) after
 kept_line before after known range is = subst (λ (b : List ℕ). IsLine b (spelling known) after) (sym is) (IsLine-spelling known range after)
 
-module _ (held : Held) (now : Bool) (line : ℕ) (before after : List ℕ) (known : Line) (taken : IsInRange known × (before ≡ spelling known ++ 10 ∷ after))
-    (given : List ℕ) (here : IsAt given held now before line) where
-  pub kept_after_end : (ended : Bool) → now ≡ true → IsAnswerOf given ended (Ok (No line Misplaced))
-  kept_after_end ended end =
-      let some = line_some before (spelling known) after (kept_line before after known taken.0 taken.1) in
-      answer_ok given ended (No line Misplaced)
-      (no_stands given ended line Misplaced
-      (λ more. misplaced (given ++ more) (before ++ more) held now line (at_more given before more held now line here) end (some-more before more some)))
-
-  pub kept_ended : (ended : Bool) (end : StepEnd) → now ≡ false → ((text : List ℕ) → Spells text known → EndsNext held now text end) → IsAnswerOf given ended (answer_at line end)
+module _ (reading : Reading) (line : ℕ) (before after : List ℕ) (known : Line) (taken : IsInRange known × (before ≡ spelling known ++ 10 ∷ after))
+    (given : List ℕ) (here : IsAt given reading before line) where
+  pub kept_ended : (ended : Bool) (end : StepEnd) → reading.ended ≡ false → ((text : List ℕ) → Spells text known → EndsNext reading text end)
+      → IsAnswerOf given ended (answer_at line end)
   kept_ended ended (Refused refusal) unended refused =
       let whole = kept_line before after known taken.0 taken.1 in
-      let place = behind given before held now line here in
+      let place = behind given before reading line here in
       answer_ok given ended (No line refusal)
       (no_stands given ended line refusal
       (λ more. refused_behind (given ++ more) (before ++ more) here.beginning line refusal (behind_more given before more here.beginning place) here.line_is
-      (unended_here given before held now line here unended)
+      (unended_here given before reading line here unended)
       (inr (inr (spelling known, after ++ more, IsLine-more before (spelling known) after more whole, refused (spelling known) (taken.0, refl) here.beginning here.stands)))))
   kept_ended ended ends.NoMemory unended wants =
       answer_memory given ended
-      (wants_memory given before (spelling known) after held now line here (kept_line before after known taken.0 taken.1) (wants (spelling known) (taken.0, refl)))
+      (wants_memory given before (spelling known) after reading line here (kept_line before after known taken.0 taken.1) (wants (spelling known) (taken.0, refl)))
 
-  pub kept_goes_on : (next : Held) (then : Bool) → ((text : List ℕ) → Spells text known → GoesOn held now text next then) → IsAt given next then after (line + 1)
-  kept_goes_on next then on =
-      goes_on given before (spelling known) after held next now then line here (kept_line before after known taken.0 taken.1) (on (spelling known) (taken.0, refl))
+  pub kept_goes_on : (next : Reading) → ((text : List ℕ) → Spells text known → GoesOn reading text next) → IsAt given next after (line + 1)
+  kept_goes_on next on =
+      goes_on given before (spelling known) after reading next line here (kept_line before after known taken.0 taken.1) (on (spelling known) (taken.0, refl))
 
 -- there are no more lines than the limits allow
 few_header : (rules_are : Rules) → length (header_lines rules_are) ≤ 2
@@ -305,9 +301,9 @@ few_lines (Whole rules_are roots steps) accepted =
       length-append (body_lines rules_are roots steps) (lines.End (length steps) ∷ []),
     )
 
-pub few_at : (bytes : List ℕ) (held : Held) (now : Bool) (rest : List ℕ) (line : ℕ) → IsAt bytes held now rest line → line ≤ 4294971395
-few_at bytes held now rest line here =
-    let is = behind bytes rest held now line here in omega (arith, here.line_is, few_lines here.beginning is.accepted)
+pub few_at : (bytes : List ℕ) (reading : Reading) (rest : List ℕ) (line : ℕ) → IsAt bytes reading rest line → line ≤ 4294971395
+few_at bytes reading rest line here =
+    let is = behind bytes rest reading line here in omega (arith, here.line_is, few_lines here.beginning is.accepted)
 
 lack-more : (bytes more : List ℕ) → MayLackMemory bytes → MayLackMemory (bytes ++ more)
 lack-more bytes more lack = record {

@@ -1,5 +1,5 @@
 -- The answer on the bytes that a source gave (this profile's own, as are all below).
-use Rattle.std.specs.Prelude.{◌≡◌, ◌≢◌, ℕ, Bool, true, false, List, ◌++◌, Result, Ok, Err, IfOk, IfErr}
+use Rattle.std.specs.Prelude.{◌≡◌, ◌≢◌, ℕ, Bool, true, false, if◌then◌else◌, List, ◌++◌, Result, Ok, Err, IfOk, IfErr}
 use Rattle.cap_log.specs.Front.{IsCut}
 use Rattle.cap_machine.specs.declared.refusal.Refusal.{Refusal}
 use Rattle.cap_machine.specs.declared.refusal.Refusal.TheVariants.{Misplaced, Truncated}
@@ -12,7 +12,7 @@ use Rattle.capcheck.specs.declared.verdict.Verdict.TheVariants.{Yes, No}
 use Rattle.capcheck.specs.declared.verdict.JudgeFault.{JudgeFault}
 use Rattle.capcheck.specs.declared.verdict.JudgeFault.TheVariants.{Pull, NoMemory}
 use Rattle.capcheck.specs.Logs.{Beginning, lines_of, text_of, account_after, IsAccepted, IsLogOf, IsFirstFault, MayLackMemory, NamesNoGranules}
-use Rattle.capcheck.specs.Progresses.{IsAt}
+use Rattle.capcheck.specs.Progresses.{IsAt, Reading}
 use Rattle.capcheck.specs.Verdicts.{IsVerdict, EscapesExactly, GuardsAuthority}
 
 -- the verdict on these bytes, where their source has ended; where it has not, a no that stands whatever bytes follow
@@ -83,10 +83,9 @@ refusal_in line false refusal = No line refusal
 refusal_in line true refusal = No line Misplaced
 
 -- the verdict where the bytes end at a line's start: a yes after the end line
-abbrev pub finished : Held → Bool → ℕ → Verdict
-finished held false line = No line Truncated
-finished held true line = Yes held.steps held.roots
+abbrev pub finished : Reading → ℕ → Verdict
+finished reading line = if reading.ended then Yes reading.held.steps reading.held.roots else No line Truncated
 
 -- wherever the judge was at the line that these bytes begin with, its answer is this one, whether their source has ended or not
-abbrev pub AnswersAt : Held → Bool → List ℕ → ℕ → Result Verdict JudgeFault → Type 0
-AnswersAt held now kept line answer = (given : List ℕ) (ended : Bool) → IsAt given held now kept line → IsAnswerOf given ended answer
+abbrev pub AnswersAt : Reading → List ℕ → ℕ → Result Verdict JudgeFault → Type 0
+AnswersAt reading kept line answer = (given : List ℕ) (ended : Bool) → IsAt given reading kept line → IsAnswerOf given ended answer

@@ -8,7 +8,7 @@ ghost use Rattle.cap_log.specs.Takings.{kept, over_of};
 ghost use Rattle.capcheck.specs.Logs.{NamesNoGranules};
 ghost use Rattle.capcheck.specs.Verdicts.{EscapesExactly, GuardsAuthority, IsFault, IsVerdict, answer_at};
 ghost use Rattle.capcheck.specs.Judgings.{AnswersAt, IsNoYes, Judged, JudgedBy, finished, refusal_in};
-ghost use Rattle.capcheck.specs.Progresses.{HasRead, IsAt, IsLaterAt};
+ghost use Rattle.capcheck.specs.Progresses.{HasRead, IsAt, IsLaterAt, reading_of};
 ghost use Rattle.capcheck.specs.declared.verdict.JudgeFault.TheVariants.{Pull};
 
 use crate::headers::{first_line, read_header};
@@ -99,12 +99,12 @@ impl<M: TaggedStore> Progress<M> {
         bytes: &'a [u8],
         first: u64,
     ) -> Result<(u64, &'a [u8]), Result<Verdict, JudgeFault>>
-        requires here { (given : List ℕ) × IsAt given (held_of M.contents self.old.machine) self.old.ended bytes.now first }
-        ensures ok { IfOk result (λ p. IsLaterAt (held_of M.contents self.old.machine) self.old.ended bytes.now first
-            (held_of M.contents self.new.machine) self.new.ended p.1.now p.0) }
+        requires here { (given : List ℕ) × IsAt given (reading_of M.contents self.old) bytes.now first }
+        ensures ok { IfOk result (λ p. IsLaterAt (reading_of M.contents self.old) bytes.now first
+            (reading_of M.contents self.new) p.1.now p.0) }
         ensures rest { IfOk result (λ p. (front : List ℕ) × (bytes.now ≡ front ++ p.1.now)) }
         ensures after { IfOk result (λ p. first ≤ p.0) }
-        ensures err { IfErr result (λ answer. IsNoYes answer × AnswersAt (held_of M.contents self.old.machine) self.old.ended bytes.now first answer) }
+        ensures err { IfErr result (λ answer. IsNoYes answer × AnswersAt (reading_of M.contents self.old) bytes.now first answer) }
         ensures no_pull { IfErr result (λ answer. answer ≢ Err Pull) }
     {
         let mut line = first;
@@ -130,11 +130,11 @@ impl<M: TaggedStore> Progress<M> {
         lines: &mut Lines,
         first: u64,
     ) -> Result<u64, Result<Verdict, JudgeFault>>
-        requires here { (given : List ℕ) × IsAt given (held_of M.contents self.old.machine) self.old.ended (kept lines.old) first }
-        ensures ok { IfOk result (IsLaterAt (held_of M.contents self.old.machine) self.old.ended (kept lines.old) first
-            (held_of M.contents self.new.machine) self.new.ended (kept lines.new)) }
+        requires here { (given : List ℕ) × IsAt given (reading_of M.contents self.old) (kept lines.old) first }
+        ensures ok { IfOk result (IsLaterAt (reading_of M.contents self.old) (kept lines.old) first
+            (reading_of M.contents self.new) (kept lines.new)) }
         ensures after { IfOk result (λ next. first ≤ next) }
-        ensures err { IfErr result (λ answer. IsNoYes answer × AnswersAt (held_of M.contents self.old.machine) self.old.ended (kept lines.old) first answer) }
+        ensures err { IfErr result (λ answer. IsNoYes answer × AnswersAt (reading_of M.contents self.old) (kept lines.old) first answer) }
         ensures no_pull { IfErr result (λ answer. answer ≢ Err Pull) }
         ensures over { over_of lines.new ≡ over_of lines.old }
     {
@@ -157,9 +157,9 @@ impl<M: TaggedStore> Progress<M> {
         lines: &mut Lines,
         first: u64,
     ) -> Result<Verdict, JudgeFault>
-        requires here { (begun : S) × HasRead S.gave begun source.old (held_of M.contents self.old.machine) self.old.ended (kept lines.old) first }
+        requires here { (begun : S) × HasRead S.gave begun source.old (reading_of M.contents self.old) (kept lines.old) first }
         requires more { over_of lines.old ≡ None }
-        ensures judged { (begun : S) → HasRead S.gave begun source.old (held_of M.contents self.old.machine) self.old.ended (kept lines.old) first
+        ensures judged { (begun : S) → HasRead S.gave begun source.old (reading_of M.contents self.old) (kept lines.old) first
             → JudgedBy S.gave S.ended begun source.new result (held_of M.contents self.new.machine) }
         ensures counted { result ≢ Err Pull → S.faults source.new ≡ S.faults source.old }
         ensures fault_counted { result ≡ Err Pull → S.faults source.new ≡ next_count (S.faults source.old) }
@@ -193,7 +193,7 @@ impl<M: TaggedStore> Progress<M> {
 
 // The verdict where the bytes end at a line's start.
 fn finished_verdict<M: TaggedStore>(progress: &Progress<M>, line: u64) -> Verdict
-    ensures { result ≡ finished (held_of M.contents progress.now.machine) progress.now.ended line }
+    ensures { result ≡ finished (reading_of M.contents progress.now) line }
 {
     if progress.ended {
         Verdict::Yes {

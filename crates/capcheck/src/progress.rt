@@ -33,12 +33,12 @@ fn has_form(rules: Rules, line: &Line) -> bool
 impl<M: TaggedStore> Progress<M> {
     ghost use Rattle.cap_machine.specs.Helds.{held_of};
     ghost use Rattle.capcheck.specs.Logs.{Body};
-    ghost use Rattle.capcheck.specs.Progresses.{EndsFor, EndsNext, GoesOn, StandsFor, Takes};
+    ghost use Rattle.capcheck.specs.Progresses.{EndsFor, EndsNext, GoesOn, StandsFor, Takes, reading_of};
 
     /// The header was read. The store has to be empty.
     pub fn new(memory: M, rules: Rules) -> Progress<M>
         requires { map.len (M.contents memory) ≡ 0 }
-        ensures { StandsFor (held_of M.contents result.machine) result.ended (Body rules [] []) }
+        ensures { StandsFor (reading_of M.contents result) (Body rules [] []) }
     {
         Progress {
             machine: Machine::with_rules(memory, rules),
@@ -50,8 +50,8 @@ impl<M: TaggedStore> Progress<M> {
     /// ends for want of memory where the line names a granule for the first time.
     pub fn take_line(&mut self, text: &[u8]) -> Result<(), StepEnd>
         requires unended { self.old.ended ≡ false }
-        ensures ok { OnOk result (GoesOn (held_of M.contents self.old.machine) self.old.ended text.now (held_of M.contents self.new.machine) self.new.ended) }
-        ensures err { IfErr result (λ end. EndsNext (held_of M.contents self.old.machine) self.old.ended text.now end) }
+        ensures ok { OnOk result (GoesOn (reading_of M.contents self.old) text.now (reading_of M.contents self.new)) }
+        ensures err { IfErr result (λ end. EndsNext (reading_of M.contents self.old) text.now end) }
     {
         match read_line(text) {
             Some(line) => self.take_known(&line),
@@ -65,8 +65,8 @@ impl<M: TaggedStore> Progress<M> {
         requires in_range { IsInRange line.now }
         requires unended { self.old.ended ≡ false }
         ensures ok { OnOk result ((text : List ℕ) → Spells text line.now
-            → GoesOn (held_of M.contents self.old.machine) self.old.ended text (held_of M.contents self.new.machine) self.new.ended) }
-        ensures err { IfErr result (λ end. (text : List ℕ) → Spells text line.now → EndsNext (held_of M.contents self.old.machine) self.old.ended text end) }
+            → GoesOn (reading_of M.contents self.old) text (reading_of M.contents self.new)) }
+        ensures err { IfErr result (λ end. (text : List ℕ) → Spells text line.now → EndsNext (reading_of M.contents self.old) text end) }
     {
         if has_form(self.machine.rules(), line) {
             self.take(line)
@@ -80,7 +80,7 @@ impl<M: TaggedStore> Progress<M> {
     fn take(&mut self, line: &Line) -> Result<(), StepEnd>
         requires in_range { IsInRange line.now }
         requires unended { self.old.ended ≡ false }
-        ensures ok { OnOk result (Takes (held_of M.contents self.old.machine) self.old.ended line.now (held_of M.contents self.new.machine) self.new.ended) }
+        ensures ok { OnOk result (Takes (reading_of M.contents self.old) line.now (reading_of M.contents self.new)) }
         ensures err { IfErr result (λ end. EndsFor (held_of M.contents self.old.machine) line.now end) }
     {
         match *line {
@@ -95,7 +95,7 @@ impl<M: TaggedStore> Progress<M> {
     fn take_root(&mut self, place: Place, word: Word) -> Result<(), StepEnd>
         requires in_range { IsPlace place }
         requires unended { self.old.ended ≡ false }
-        ensures ok { OnOk result (Takes (held_of M.contents self.old.machine) self.old.ended (lines.Root place word) (held_of M.contents self.new.machine) self.new.ended) }
+        ensures ok { OnOk result (Takes (reading_of M.contents self.old) (lines.Root place word) (reading_of M.contents self.new)) }
         ensures err { IfErr result (λ end. EndsFor (held_of M.contents self.old.machine) (lines.Root place word) end) }
     {
         if self.machine.steps() > 0 {
@@ -107,7 +107,7 @@ impl<M: TaggedStore> Progress<M> {
     #[inline(always)]
     fn take_end(&mut self, count: u32) -> Result<(), StepEnd>
         requires unended { self.old.ended ≡ false }
-        ensures ok { OnOk result (Takes (held_of M.contents self.old.machine) self.old.ended (lines.End count) (held_of M.contents self.new.machine) self.new.ended) }
+        ensures ok { OnOk result (Takes (reading_of M.contents self.old) (lines.End count) (reading_of M.contents self.new)) }
         ensures err { IfErr result (λ end. EndsFor (held_of M.contents self.old.machine) (lines.End count) end) }
     {
         if count != self.machine.steps() {

@@ -1,14 +1,13 @@
 use Rattle.std.proofs.Common.{◌≡◌, ◌-◌, ◌≤◌, None}
-use Rattle.cap_machine.specs.Helds.{held_of}
 use Rattle.cap_log.specs.Takings.{kept, over_of}
-use Rattle.capcheck.specs.Progresses.{HasRead}
+use Rattle.capcheck.specs.Progresses.{HasRead, reading_of}
 use Rattle.capcheck.proofs.progress.Progress.judge_rest.Given as goal
 
 -- the judge is at the line that the kept bytes begin with
 abbrev pub invariant-lines : goal.invariant-lines
 invariant-lines g l = record {
-  here : (begun : _) → HasRead g.S.Source.gave begun l.fn.source (held_of g.M.TaggedStore.contents l.fn.self.machine) l.fn.self.ended (kept l.fn.lines) l.fn.first
-      → HasRead g.S.Source.gave begun l.source (held_of g.M.TaggedStore.contents l.self.machine) l.self.ended (kept l.lines) l.line;
+  here : (begun : _) → HasRead g.S.Source.gave begun l.fn.source (reading_of g.M.TaggedStore.contents l.fn.self) (kept l.fn.lines) l.fn.first
+      → HasRead g.S.Source.gave begun l.source (reading_of g.M.TaggedStore.contents l.self) (kept l.lines) l.line;
   counted : g.S.Source.faults l.source ≡ g.S.Source.faults l.fn.source;
   more : over_of l.lines ≡ None;
   few : l.line ≤ 4294971395;

@@ -1,13 +1,14 @@
 use Rattle.cap_machine.specs.Helds.{held_of}
+use Rattle.capcheck.specs.Progresses.{Reading, reading_of}
 use Rattle.capcheck.proofs.ResultLemmas.{ok_part}
 use Rattle.capcheck.proofs.ProgressLemmas.{stepped}
 use Rattle.capcheck.proofs.progress.Progress.take.Goals as goal
 
 pub returns-in-Step-clause-ok : goal.returns-in-Step-clause-ok
 returns-in-Step-clause-ok g c =
-    let old = held_of g.M.TaggedStore.contents c.args.self.now.machine in
-    let new = held_of g.M.TaggedStore.contents c.step.new.self in
+    let old = reading_of g.M.TaggedStore.contents c.args.self.now in
+    let new : Reading = record { held = held_of g.M.TaggedStore.contents c.step.new.self; ended = old.ended } in
     let range = rw c.in-Step.is at c.requires.in_range in
     rw c.in-Step.is (ok_part c.step.result _
-    (λ made. stepped old new c.args.self.now.ended c.in-Step.step c.requires.unended range made)
+    (λ made. stepped old new c.in-Step.step c.requires.unended c.requires.unended range made)
     c.step.ensures.outcome)

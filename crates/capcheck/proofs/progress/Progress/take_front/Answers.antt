@@ -1,8 +1,7 @@
-use Rattle.std.proofs.Common.{◌≡◌, ◌+◌, ◌∷◌, ◌++◌, [], List, ℕ, Ok, refl, ap, sym, subst, ◌∙◌, append_assoc, arith}
-use Rattle.cap_machine.specs.Helds.{held_of}
+use Rattle.std.proofs.Common.{◌+◌, ◌∷◌, ◌++◌, [], List, ℕ, refl, ap, sym, subst, ◌∙◌, append_assoc, arith}
 use Rattle.cap_log.specs.Lines.{spelling}
 use Rattle.capcheck.specs.Judgings.{IsAnswerOf, IsNoYes}
-use Rattle.capcheck.specs.Progresses.{IsLaterAt}
+use Rattle.capcheck.specs.Progresses.{IsLaterAt, reading_of}
 use Rattle.capcheck.proofs.SourceLemmas.{few_at, kept_ended, kept_goes_on, no_answer}
 use Rattle.capcheck.proofs.progress.Progress.take_front.Goals as goal
 
@@ -11,7 +10,7 @@ front-init g c = record {
   here = λ given at. at;
   before = ([], refl);
   after = omega arith;
-  few = let some = few_at c.requires.here.0 _ _ _ _ c.requires.here.1 in omega arith;
+  few = let some = few_at c.requires.here.0 _ _ _ c.requires.here.1 in omega arith;
 }
 
 pub returns-then-self-clause-ok : goal.returns-then-self-clause-ok
@@ -34,11 +33,11 @@ returns-in_default-clause-after g c = c.front.invariant.after
 
 pub returns-in-Err-clause-err : goal.returns-in-Err-clause-err
 returns-in-Err-clause-err g c =
-    let held = held_of g.M.TaggedStore.contents c.front.self.machine in (
+    let reading = reading_of g.M.TaggedStore.contents c.front.self in (
       subst IsNoYes (sym c.answer_at.ensures) (no_answer c.front.line c.in-Err.end),
       λ given ended at.
           subst (IsAnswerOf given ended) (sym c.answer_at.ensures)
-          (kept_ended held c.front.self.ended c.front.line _ _ c.in-Some.known c.in-Some.ensures.some given (c.front.invariant.here given at) ended c.in-Err.end c.if-self.false c.in-Err.ensures.err),
+          (kept_ended reading c.front.line _ _ c.in-Some.known c.in-Some.ensures.some given (c.front.invariant.here given at) ended c.in-Err.end c.if-self.false c.in-Err.ensures.err),
     )
 
 pub overflow_add-line : goal.overflow_add-line
@@ -49,13 +48,13 @@ front-smaller g c = omega (arith, c.front.invariant.few)
 
 pub front-preserved : goal.front-preserved
 front-preserved g c =
-    let held = held_of g.M.TaggedStore.contents c.front.self.machine in
-    let next = held_of g.M.TaggedStore.contents c.take_known.new.self.machine in
+    let reading = reading_of g.M.TaggedStore.contents c.front.self in
+    let next = reading_of g.M.TaggedStore.contents c.take_known.new.self in
     let taken = c.in-Some.ensures.some in
-    let here : IsLaterAt (held_of g.M.TaggedStore.contents c.args.self.now.machine) c.args.self.now.ended c.args.bytes.now c.args.first
-    next c.take_known.new.self.ended c.in-Some.behind.now (c.front.line + 1) = λ given at.
-    kept_goes_on held c.front.self.ended c.front.line _ _ c.in-Some.known taken given (c.front.invariant.here given at)
-    next c.take_known.new.self.ended c.in_default-take_known.ensures.ok in
+    let here : IsLaterAt (reading_of g.M.TaggedStore.contents c.args.self.now) c.args.bytes.now c.args.first
+    next c.in-Some.behind.now (c.front.line + 1) = λ given at.
+    kept_goes_on reading c.front.line _ _ c.in-Some.known taken given (c.front.invariant.here given at)
+    next c.in_default-take_known.ensures.ok in
     record {
       here = here;
       before = (
@@ -63,5 +62,5 @@ front-preserved g c =
         c.front.invariant.before.1 ∙ ap (λ (r : List ℕ). c.front.invariant.before.0 ++ r) taken.1 ∙ simp (append_assoc),
       );
       after = omega (arith, c.front.invariant.after);
-      few = let some = few_at c.requires.here.0 _ _ _ _ (here c.requires.here.0 c.requires.here.1) in omega arith;
+      few = let some = few_at c.requires.here.0 _ _ _ (here c.requires.here.0 c.requires.here.1) in omega arith;
     }

@@ -1,13 +1,12 @@
 use Rattle.std.proofs.Common.{◌≡◌, ◌-◌, ◌≤◌, ◌++◌, ℕ, List}
-use Rattle.cap_machine.specs.Helds.{held_of}
-use Rattle.capcheck.specs.Progresses.{IsLaterAt}
+use Rattle.capcheck.specs.Progresses.{IsLaterAt, reading_of}
 use Rattle.capcheck.proofs.progress.Progress.take_front.Given as goal
 
 -- the judge is at the line that the rest begins with
 abbrev pub invariant-front : goal.invariant-front
 invariant-front g l = record {
-  here : IsLaterAt (held_of g.M.TaggedStore.contents l.fn.self.machine) l.fn.self.ended l.fn.bytes l.fn.first
-      (held_of g.M.TaggedStore.contents l.self.machine) l.self.ended l.rest l.line;
+  here : IsLaterAt (reading_of g.M.TaggedStore.contents l.fn.self) l.fn.bytes l.fn.first
+      (reading_of g.M.TaggedStore.contents l.self) l.rest l.line;
   before : (front : List ℕ) × (l.fn.bytes ≡ front ++ l.rest);
   after : l.fn.first ≤ l.line;
   few : l.line ≤ 4294971395;
