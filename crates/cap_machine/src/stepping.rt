@@ -183,7 +183,11 @@ impl<M: TaggedStore> Machine<M> {
         if self.steps >= MOST_STEPS {
             return Err(StepEnd::Refused(Refusal::LimitPassed));
         }
-        self.registers[target as usize] = recorded;
+        // Field by field: a copy of the whole would move the bytes between the fields too.
+        self.registers[target as usize] = Cap {
+            tag: recorded.tag,
+            word: recorded.word,
+        };
         self.codes[target as usize] = code_for(derived.tag, code);
         self.steps += 1;
         Ok(())

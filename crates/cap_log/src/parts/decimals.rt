@@ -1,6 +1,6 @@
 //! Decimal numbers.
 
-ghost use Rattle.std.specs.Prelude.{◌+◌, ◌<◌, ◌≤◌, ◌^◌, length, IfSome, IfNone, decimal};
+ghost use Rattle.std.specs.Prelude.{◌≡◌, ◌↔◌, IsTrue, ◌+◌, ◌<◌, ◌≤◌, ◌^◌, length, IfSome, IfNone, decimal};
 ghost use Rattle.cap_log.specs.Parts.{Begins, BeginsWithNone, IsBelow, IsCount, IsEnd, IsFrontNumber, Writes};
 ghost use Rattle.cap_log.specs.Spaceless.{decimal-spaceless};
 
@@ -51,19 +51,22 @@ pub fn take_decimal(bytes: &[u8], most: usize, bound: u64, end: u8) -> Option<(u
     ensures none { IfNone result (BeginsWithNone (IsBelow bound) decimal end bytes.now) }
 {
     let (value, count) = front_digits(bytes, most);
-    if count == 0 || count >= bytes.len() {
+    if count >= bytes.len() {
         return None;
     }
-    if bytes[count] != end {
-        return None;
-    }
-    if value >= bound {
-        return None;
-    }
-    if count > 1 && bytes[0] == b'0' {
+    if !is_number(bytes[0], count, bytes[count] == end, value < bound) {
         return None;
     }
     Some((value as u32, &bytes[count + 1..]))
+}
+
+// Whether so many digits, of which this is the first, are a number's, where the byte behind them ends it or
+// not, and it is below its bound or not. All is computed, since a branch for each would cost more.
+#[inline(always)]
+fn is_number(first: u8, count: usize, is_ended: bool, is_below: bool) -> bool
+    ensures { IsTrue result ↔ (0 < count) × IsTrue is_ended × IsTrue is_below × ((first ≡ 48) → (count ≡ 1)) }
+{
+    (count > 0) & is_ended & is_below & ((count == 1) | (first != b'0'))
 }
 
 // The number that the digits at the front spell, so many at most, and how many they are.
