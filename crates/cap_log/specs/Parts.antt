@@ -48,9 +48,9 @@ pub record IsCutAt (end : ℕ) (bytes word rest : List ℕ) : Type 0 where
   pub whole : bytes ≡ word ++ end ∷ rest
   pub one : Lacks end word
 
--- a number below a bound
-abbrev pub IsBelow : ℕ → ℕ → Type 0
-IsBelow bound n = n < bound
+-- a number from a least one on, below a bound
+abbrev pub IsFrom : ℕ → ℕ → ℕ → Type 0
+IsFrom least bound n = (least ≤ n) × (n < bound)
 
 -- a number that a decimal of a line spells
 abbrev pub IsCount : ℕ → Type 0

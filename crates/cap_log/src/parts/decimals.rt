@@ -1,7 +1,7 @@
 //! Decimal numbers.
 
 ghost use Rattle.std.specs.Prelude.{◌≡◌, ◌↔◌, IsTrue, ◌+◌, ◌<◌, ◌≤◌, ◌^◌, length, IfSome, IfNone, decimal};
-ghost use Rattle.cap_log.specs.Parts.{Begins, BeginsWithNone, IsBelow, IsCount, IsEnd, IsFrontNumber, Writes};
+ghost use Rattle.cap_log.specs.Parts.{Begins, BeginsWithNone, IsCount, IsEnd, IsFrom, IsFrontNumber, Writes};
 ghost use Rattle.cap_log.specs.Spaceless.{decimal-spaceless};
 
 use crate::parts::cutting::put;
@@ -25,7 +25,7 @@ impl Part for Count {
 
     #[inline(always)]
     fn take(bytes: &[u8], end: u8) -> Option<(Count, &[u8])> {
-        let (number, rest) = take_decimal(bytes, COUNT_DIGITS, COUNT_BOUND, end)?;
+        let (number, rest) = take_decimal(bytes, COUNT_DIGITS, 0, COUNT_BOUND, end)?;
         Some((Count(number), rest))
     }
 
@@ -38,35 +38,46 @@ impl Single for Count {
     ghost spaceless = { λ count fits. decimal-spaceless count.0 fits };
 }
 
-/// Takes a decimal number below a bound, which leaves it so many digits at most, with no sign and no
-/// leading zero, and the byte that ends it.
+/// Takes a decimal number from a least one on and below a bound, which leaves it so many digits at most, with
+/// no sign and no leading zero, and the byte that ends it.
 #[inline(always)]
-pub fn take_decimal(bytes: &[u8], most: usize, bound: u64, end: u8) -> Option<(u32, &[u8])>
+pub fn take_decimal(
+    bytes: &[u8],
+    most: usize,
+    least: u64,
+    bound: u64,
+    end: u8,
+) -> Option<(u32, &[u8])>
     requires end { IsEnd end }
     requires some { 0 < most }
     requires few { most ≤ 10 }
     requires bound { bound ≤ 10 ^ most }
     requires small { bound ≤ 2 ^ 32 }
-    ensures some { IfSome result (λ p. Begins (IsBelow bound) decimal end bytes.now p.0 p.1.now) }
-    ensures none { IfNone result (BeginsWithNone (IsBelow bound) decimal end bytes.now) }
+    ensures some { IfSome result (λ p. Begins (IsFrom least bound) decimal end bytes.now p.0 p.1.now) }
+    ensures none { IfNone result (BeginsWithNone (IsFrom least bound) decimal end bytes.now) }
 {
     let (value, count) = front_digits(bytes, most);
     if count >= bytes.len() {
         return None;
     }
-    if !is_number(bytes[0], count, bytes[count] == end, value < bound) {
+    if !is_number(
+        bytes[0],
+        count,
+        bytes[count] == end,
+        (least <= value) & (value < bound),
+    ) {
         return None;
     }
     Some((value as u32, &bytes[count + 1..]))
 }
 
 // Whether so many digits, of which this is the first, are a number's, where the byte behind them ends it or
-// not, and it is below its bound or not. All is computed, since a branch for each would cost more.
+// not, and it lies in its range or not. All is computed, since a branch for each would cost more.
 #[inline(always)]
-fn is_number(first: u8, count: usize, is_ended: bool, is_below: bool) -> bool
-    ensures { IsTrue result ↔ (0 < count) × IsTrue is_ended × IsTrue is_below × ((first ≡ 48) → (count ≡ 1)) }
+fn is_number(first: u8, count: usize, is_ended: bool, is_in_range: bool) -> bool
+    ensures { IsTrue result ↔ (0 < count) × IsTrue is_ended × IsTrue is_in_range × ((first ≡ 48) → (count ≡ 1)) }
 {
-    (count > 0) & is_ended & is_below & ((count == 1) | (first != b'0'))
+    (count > 0) & is_ended & is_in_range & ((count == 1) | (first != b'0'))
 }
 
 // The number that the digits at the front spell, so many at most, and how many they are.

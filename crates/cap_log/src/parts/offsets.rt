@@ -16,7 +16,7 @@ const OFFSET_DIGITS: usize = 4;
 const BOUND: u64 = 2048;
 
 /// The least number behind a minus sign.
-const LEAST_NEGATIVE: u32 = 1;
+const LEAST_NEGATIVE: u64 = 1;
 
 /// A number behind a minus sign is below this.
 const NEGATIVE_BOUND: u64 = 2049;
@@ -33,13 +33,16 @@ impl Part for Offset {
     #[inline(always)]
     fn take(bytes: &[u8], end: u8) -> Option<(Offset, &[u8])> {
         if let Some(digits) = bytes.strip_prefix(b"-") {
-            let (number, rest) = take_decimal(digits, OFFSET_DIGITS, NEGATIVE_BOUND, end)?;
-            if number < LEAST_NEGATIVE {
-                return None;
-            }
+            let (number, rest) = take_decimal(
+                digits,
+                OFFSET_DIGITS,
+                LEAST_NEGATIVE,
+                NEGATIVE_BOUND,
+                end,
+            )?;
             return Some((Offset(-(number as i16)), rest));
         }
-        let (number, rest) = take_decimal(bytes, OFFSET_DIGITS, BOUND, end)?;
+        let (number, rest) = take_decimal(bytes, OFFSET_DIGITS, 0, BOUND, end)?;
         Some((Offset(number as i16), rest))
     }
 
