@@ -126,6 +126,7 @@ fn base_from(cut_exponent: u32, b: u64, address: u64) -> u64
 }
 
 /// The top from the cut exponent 51 on, where it hangs on no address: it is cut to 65 bits.
+#[inline(always)]
 fn uncorrected_top(cut_exponent: u32, b: u64, span: u64) -> u128
     requires exponent_fits { cut_exponent ≤ 52 }
     requires b_fits { b < 2 ^ 14 }
@@ -136,6 +137,7 @@ fn uncorrected_top(cut_exponent: u32, b: u64, span: u64) -> u128
 }
 
 /// A length: its units, scaled by the cut exponent.
+#[inline(always)]
 fn scaled(cut_exponent: u32, units: u64) -> u128
     requires exponent_fits { cut_exponent ≤ 52 }
     requires units_fit { units < 2 ^ 13 }
@@ -195,6 +197,7 @@ fn decode(word: Word) -> Decoded
 }
 
 /// The bounds of a word, for all 2^128 of them.
+#[inline(always)]
 pub fn bounds(word: Word) -> Interval
     ensures base { result.base ≡ base_of word.0 }
     ensures top { result.top ≡ top_of word.0 }

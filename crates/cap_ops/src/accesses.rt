@@ -39,7 +39,7 @@ fn needed(kind: Kind) -> u32
 
 /// Whether `size` bytes from an address on lie in a word's bounds.
 #[tactic(auto, unfolding(crate::specs::Operations::covers))]
-#[inline(always)]
+#[inline(never)]
 fn holds_bytes(word: Word, address: u64, size: u8) -> bool
     ensures { result ≡ covers word.0 address (address + size) }
 {
