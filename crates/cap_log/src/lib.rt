@@ -2,8 +2,11 @@
 //! and where the bytes come from and a text goes.
 //!
 //! A line is its words with a single space between each two. [`read_line`] answers the line that
-//! some bytes spell, [`take_line`] takes one with its line feed from the front of some bytes, [`write_line`] writes a line's one spelling, and [`front`] finds the line that
-//! some bytes begin with.
+//! some bytes spell, [`take_line`] takes one with its line feed from the front of some bytes, and
+//! [`write_line`] writes a line's one spelling. [`front`] finds the line that some bytes begin with.
+//!
+//! A line can also be taken in two steps: its [`Head`], and by [`take_operands`] what stands behind that.
+//! Where the head names a step, one of three functions takes the operands of its sort alone.
 //!
 //! The parts of a line are [`Part`]s: each takes itself from the front of some bytes, with the byte
 //! that ends it, and two with a space between them are one. [`Equals`], [`Flag`], [`Count`], [`Number`],
@@ -30,8 +33,10 @@ mod writing;
 
 pub use crate::fronts::Front;
 pub use crate::fronts::finding::front;
+pub use crate::heads::{AccessStep, Head, NumberStep, RegisterStep};
 pub use crate::lines::{Line, Mode, Place, Step};
 pub use crate::nexts::Next;
+pub use crate::operands::{take_access_step, take_number_step, take_operands, take_register_step};
 pub use crate::parts::decimals::Count;
 pub use crate::parts::hexadecimals::{Number, WideNumber};
 pub use crate::parts::signs::{Equals, Flag};

@@ -13,30 +13,14 @@ use crate::operands::take_operands;
 use crate::parts::Part;
 use crate::parts::cutting::put;
 
-// The users of the readers of operands. Each has a copy of them that nothing else calls, which is therefore
-// compiled into it.
-const FRONT: u8 = 0;
-
-const WHOLE: u8 = 1;
-
 /// Takes a line and its line feed from the front of some bytes: the line, and what comes behind it.
 /// `None` where no line and a line feed stand there.
-#[inline(always)]
 pub fn take_line(bytes: &[u8]) -> Option<(Line, &[u8])>
     ensures some { IfSome result (λ p. Begins IsInRange spelling 10 bytes.now p.0 p.1.now) }
     ensures none { IfNone result (BeginsWithNone IsInRange spelling 10 bytes.now) }
 {
-    take_for::<FRONT>(bytes)
-}
-
-// Takes a line as `take_line` does, with operands read for one user.
-#[inline(always)]
-fn take_for<const USER: u8>(bytes: &[u8]) -> Option<(Line, &[u8])>
-    ensures some { IfSome result (λ p. Begins IsInRange spelling 10 bytes.now p.0 p.1.now) }
-    ensures none { IfNone result (BeginsWithNone IsInRange spelling 10 bytes.now) }
-{
     let (head, rest) = Head::take(bytes, b' ')?;
-    take_operands::<USER>(head, rest)
+    take_operands(head, rest)
 }
 
 /// Reads a line from its bytes, without its line feed: the line that they spell, or `None` where
@@ -51,7 +35,7 @@ pub fn read_line(bytes: &[u8]) -> Option<Line>
     let mut text = [0; LINE_LIMIT + 1];
     let length = put(&mut text, 0, bytes);
     let end = put(&mut text, length, b"\n");
-    let (line, rest) = take_for::<WHOLE>(&text[..end])?;
+    let (line, rest) = take_line(&text[..end])?;
     if rest.is_empty() { Some(line) } else { None }
 }
 

@@ -1,6 +1,8 @@
 -- Which beginnings of a log the progress of the judge stands for, and how it goes on.
 use Rattle.std.specs.Prelude.{◌≡◌, ℕ, ◌+◌, Bool, true, false, List, [], ◌∷◌, ◌++◌, length, Some, None, IsTrue}
 use Rattle.cap_log.specs.declared.lines.Line.{Line}
+use Rattle.cap_log.specs.Lines.{IsInRange, Spells, spelling}
+use Rattle.cap_log.specs.Parts.{Begins}
 use Rattle.cap_log.specs.declared.lines.Step as steps_module
 use Rattle.cap_ops.specs.Tests.{first_of}
 use Rattle.cap_machine.specs.declared.ends.StepEnd.{StepEnd}
@@ -65,6 +67,15 @@ pub record IsAt (bytes : List ℕ) (reading : Reading) (rest : List ℕ) (line :
 -- between two moments of a source it gave bytes of which this rest is left, and the judge is at the line that the rest begins with
 abbrev pub HasRead : {S : Type 0} → (S → S → List ℕ → Type 0) → S → S → Reading → List ℕ → ℕ → Type 0
 HasRead gave old new reading rest line = (given : List ℕ) × gave old new given × IsAt given reading rest line
+
+-- a line at the front of the bytes, with its line feed, was taken, and this rest is left
+abbrev pub TakesFront : Reading → List ℕ → Reading → List ℕ → Type 0
+TakesFront old bytes new rest = (line : Line) × Begins IsInRange spelling 10 bytes line rest × ((text : List ℕ) → Spells text line → GoesOn old text new)
+
+-- a line at the front of the bytes, with its line feed, was not taken
+abbrev pub EndsFront : Reading → List ℕ → StepEnd → Type 0
+EndsFront reading bytes end =
+    (line : Line) × (rest : List ℕ) × Begins IsInRange spelling 10 bytes line rest × ((text : List ℕ) → Spells text line → EndsNext reading text end)
 
 -- wherever the judge was at the line that these bytes begin with, it is now at a later one, which the rest begins with
 abbrev pub IsLaterAt : Reading → List ℕ → ℕ → Reading → List ℕ → ℕ → Type 0

@@ -14,7 +14,7 @@ ghost use Rattle.capcheck.specs.declared.verdict.JudgeFault.TheVariants.{Pull};
 use crate::headers::{first_line, read_header};
 use crate::progress::Progress;
 use crate::verdict::{JudgeFault, Verdict};
-use cap_log::{Lines, Next, PullFault, SliceSource, Source, take_line};
+use cap_log::{Lines, Next, PullFault, SliceSource, Source};
 use cap_machine::{Machine, Refusal, Rules, StepEnd};
 use std::alloc::Global;
 use tagmem::{PageStore, TaggedStore};
@@ -94,7 +94,7 @@ impl<M: TaggedStore> Progress<M> {
     // Takes the lines at the front of some bytes, the first of which has this number, up to the end line or to
     // where no line stands whole: the number of the line behind them and the bytes that are left, or the
     // answer where a line is not taken.
-    fn take_front<'a>(
+    fn take_lines<'a>(
         &mut self,
         bytes: &'a [u8],
         first: u64,
@@ -113,14 +113,14 @@ impl<M: TaggedStore> Progress<M> {
             if self.ended {
                 return Ok((line, rest));
             }
-            let Some((known, behind)) = take_line(rest) else {
-                return Ok((line, rest));
-            };
-            if let Err(end) = self.take_known(&known) {
-                return Err(answer_at(line, end));
+            match self.take_front(rest) {
+                Ok(Some(behind)) => {
+                    rest = behind;
+                    line += 1;
+                }
+                Ok(None) => return Ok((line, rest)),
+                Err(end) => return Err(answer_at(line, end)),
             }
-            rest = behind;
-            line += 1;
         }
     }
 
@@ -139,7 +139,7 @@ impl<M: TaggedStore> Progress<M> {
         ensures over { over_of lines.new ≡ over_of lines.old }
     {
         let kept = lines.kept();
-        match self.take_front(kept, first) {
+        match self.take_lines(kept, first) {
             Ok((next, rest)) => {
                 let taken = kept.len() - rest.len();
                 lines.consume(taken);

@@ -6,6 +6,7 @@ mod buffers;
 mod checking;
 pub mod explain_lines;
 pub mod faults;
+mod fronts;
 pub mod headers;
 mod inputs;
 pub mod judging;

@@ -1,7 +1,7 @@
 use Rattle.cap_log.specs.declared.heads.Head.TheVariants as head
 use Rattle.cap_log.specs.declared.heads.RegisterStep.TheVariants as registers
 use Rattle.cap_log.proofs.Shapes.{no_operands, takes-made}
-use Rattle.cap_log.proofs.operands.take_register_step.Goals as goal
+use Rattle.cap_log.proofs.operands.read_register_step.Goals as goal
 
 pub returns-in_err-target-in-Move-clause-none : goal.returns-in_err-target-in-Move-clause-none
 returns-in_err-target-in-Move-clause-none g c = rw (c.from_residual.ensures, c.in-Move.is) (no_operands (head.Registers registers.Move) c.args.bytes.now c.in_err-target-in-Move.ensures.none)

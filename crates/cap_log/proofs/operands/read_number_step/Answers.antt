@@ -1,7 +1,7 @@
 use Rattle.cap_log.specs.declared.heads.Head.TheVariants as head
 use Rattle.cap_log.specs.declared.heads.NumberStep.TheVariants as number
 use Rattle.cap_log.proofs.Shapes.{no_operands, takes-made}
-use Rattle.cap_log.proofs.operands.take_number_step.Goals as goal
+use Rattle.cap_log.proofs.operands.read_number_step.Goals as goal
 
 pub returns-in_err-target-clause-none : goal.returns-in_err-target-clause-none
 returns-in_err-target-clause-none g c = rw c.from_residual.ensures (no_operands (head.Number c.args.kind) c.args.bytes.now c.in_err-target.ensures.none)

@@ -2,7 +2,7 @@ use Rattle.cap_log.specs.declared.heads.Head.TheVariants as head
 use Rattle.cap_log.specs.declared.heads.AccessStep.TheVariants as access
 use Rattle.cap_log.proofs.OffsetLemmas.{offset-bits}
 use Rattle.cap_log.proofs.Shapes.{no_operands, takes-made}
-use Rattle.cap_log.proofs.operands.take_access_step.Goals as goal
+use Rattle.cap_log.proofs.operands.read_access_step.Goals as goal
 
 pub returns-in_err-target-in-LoadCap-clause-none : goal.returns-in_err-target-in-LoadCap-clause-none
 returns-in_err-target-in-LoadCap-clause-none g c = rw (c.from_residual.ensures, c.in-LoadCap.is) (no_operands (head.Access access.LoadCap) c.args.bytes.now c.in_err-target-in-LoadCap.ensures.none)
