@@ -31,6 +31,7 @@ impl Page {
     }
 
     // The tag and the bytes of a granule.
+    #[inline(always)]
     pub(crate) fn get(&self, slot: u8) -> Option<(bool, [u8; 16])>
         ensures { result ≡ shown (slice_index_or (slots_of self.now) slot None) }
     {
@@ -38,6 +39,7 @@ impl Page {
     }
 
     // The code of a granule, and 0 where it was never put.
+    #[inline(always)]
     pub(crate) fn code(&self, slot: u8) -> u64
         ensures { result ≡ code_in (slots_of self.now) slot }
     {
@@ -62,6 +64,7 @@ impl Page {
 
     // Writes bytes inside a granule from its byte `at` on, over zeros where it was never put, and
     // sets its tag and its code. Says whether it was never put.
+    #[inline(always)]
     pub(crate) fn put(&mut self, slot: u8, tag: bool, at: u8, bytes: &[u8], code: u64) -> bool
         requires { at + length bytes.now ≤ 16 }
         ensures first { result ≡ is_none (slice_index_or (slots_of self.old) slot None) }

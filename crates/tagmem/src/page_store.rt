@@ -47,6 +47,7 @@ impl PageStore {
     }
 
     // Where a page is.
+    #[inline(always)]
     fn place(&self, number: u64) -> Option<usize>
         ensures { MatchOption result (IsAbsent self.now.pages.items number) (IsPageAt self.now.pages.items number) }
     {
@@ -129,6 +130,7 @@ impl PageStore {
     }
 
     // Writes bytes inside a granule of a page that is there, and counts it where it was never put.
+    #[inline(always)]
     fn write(&mut self, place: usize, granule: u64, tag: bool, at: u8, bytes: &[u8], code: u64)
         requires in_memory { granule < 2 ^ 60 }
         requires coded { IsCodeFor tag code }
@@ -145,6 +147,7 @@ impl PageStore {
 
     // Writes bytes inside a granule from its byte `at` on, over zeros where it was never put, and
     // sets its tag and its code.
+    #[inline(always)]
     fn put(
         &mut self,
         granule: u64,
@@ -179,6 +182,7 @@ impl TaggedStore for PageStore {
 
     ghost count_fits = { λ s. s.fits };
 
+    #[inline(always)]
     fn get(&self, granule: u64) -> Option<(bool, [u8; 16])> {
         match self.place(granule / 256) {
             Some(place) => self.pages[place].get((granule % 256) as u8),
@@ -186,6 +190,7 @@ impl TaggedStore for PageStore {
         }
     }
 
+    #[inline(always)]
     fn code(&self, granule: u64) -> u64 {
         match self.place(granule / 256) {
             Some(place) => self.pages[place].code((granule % 256) as u8),
@@ -203,6 +208,7 @@ impl TaggedStore for PageStore {
         }
     }
 
+    #[inline(always)]
     fn put_cap(
         &mut self,
         granule: u64,
@@ -213,6 +219,7 @@ impl TaggedStore for PageStore {
         self.put(granule, tag, 0, &bytes, code)
     }
 
+    #[inline(always)]
     fn put_bytes(&mut self, granule: u64, at: u8, bytes: &[u8]) -> Result<(), NoMemory> {
         self.put(granule, false, at, bytes, 0)
     }
