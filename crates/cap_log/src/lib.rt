@@ -2,8 +2,8 @@
 //! and where the bytes come from and a text goes.
 //!
 //! A line is its words with a single space between each two. [`read_line`] answers the line that
-//! some bytes spell, [`take_line`] takes one with its line feed from the front of some bytes, [`write_line`] writes a line's one spelling, and [`front`] finds the line that
-//! some bytes begin with.
+//! some bytes spell, [`take_line`] takes one with its line feed from the front of some bytes,
+//! [`write_line`] writes a line's one spelling, and [`front`] finds the line that some bytes begin with.
 //!
 //! The parts of a line are [`Part`]s: each takes itself from the front of some bytes, with the byte
 //! that ends it, and two with a space between them are one. [`Equals`], [`Flag`], [`Count`], [`Number`],

@@ -16,6 +16,7 @@ use crate::parts::cutting::put;
 // The users of the readers of operands. Each has a copy of them that nothing else calls, which is therefore
 // compiled into it.
 const FRONT: u8 = 0;
+
 const WHOLE: u8 = 1;
 
 /// Takes a line and its line feed from the front of some bytes: the line, and what comes behind it.

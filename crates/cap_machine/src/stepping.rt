@@ -50,7 +50,8 @@ impl<M: TaggedStore> Machine<M> {
         ensures outcome { AnswersStep (held_of M.contents self.old) step.now result (held_of M.contents self.new) }
         ensures stays_within { OnOk result
             (StaysWithinParents (state_of (held_of M.contents self.old)) step.now (state_of (held_of M.contents self.new))) }
-        ensures escape { (result ≡ Err (StepEnd.Refused Refusal.BoundsEscape)) ↔ Escapes self.old.rules (state_of (held_of M.contents self.old)) step.now }
+        ensures escape { (result ≡ Err (StepEnd.Refused Refusal.BoundsEscape))
+            ↔ Escapes self.old.rules (state_of (held_of M.contents self.old)) step.now }
         ensures clears { OnOk result
             (ClearsBeyond self.old.rules (state_of (held_of M.contents self.old)) step.now (state_of (held_of M.contents self.new))) }
     {

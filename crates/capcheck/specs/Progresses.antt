@@ -9,7 +9,8 @@ use Rattle.cap_machine.specs.declared.rules.Rules.{Rules}
 use Rattle.cap_machine.specs.States.{DeclaredRoot}
 use Rattle.cap_machine.specs.Accounts.{is_new}
 use Rattle.cap_machine.specs.Helds.{Held, account_of}
-use Rattle.capcheck.specs.Logs.{Beginning, Nothing, NoMode, Body, Whole, SpellsBy, lines_of, text_of, account_after, RunsBy, RefusesWhole, WantsMemory, line_tests, named_by_line}
+use Rattle.capcheck.specs.Logs.{Beginning, Nothing, NoMode, Body, Whole, SpellsBy, lines_of, text_of, account_after, RunsBy, RefusesWhole}
+use Rattle.capcheck.specs.Logs.{WantsMemory, line_tests, named_by_line}
 
 -- roots and steps have a run, and their account is that of what a machine holds
 pub record Reaches (held : Held) (rules : Rules) (roots : List DeclaredRoot) (steps : List steps_module.Step) : Type 0 where
@@ -42,7 +43,8 @@ EndsNext held ended text NoMemory = (beginning : Beginning) → StandsFor held e
 -- this very line, in what a machine holds: its first test that holds, or no test holds and it names a granule for the first time
 abbrev pub EndsFor : Held → Line → StepEnd → Type 0
 EndsFor held line (Refused refusal) = first_of (line_tests (account_of held) line) ≡ Some refusal
-EndsFor held line NoMemory = (first_of (line_tests (account_of held) line) ≡ None) × IsTrue (is_new (account_of held) (named_by_line (account_of held) line))
+EndsFor held line NoMemory =
+    (first_of (line_tests (account_of held) line) ≡ None) × IsTrue (is_new (account_of held) (named_by_line (account_of held) line))
 
 -- the bytes are the text of a beginning that the progress stands for, and this rest, which begins with this line
 pub record IsAt (bytes : List ℕ) (held : Held) (ended : Bool) (rest : List ℕ) (line : ℕ) : Type 0 where

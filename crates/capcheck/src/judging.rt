@@ -104,7 +104,8 @@ impl<M: TaggedStore> Progress<M> {
             (held_of M.contents self.new.machine) self.new.ended p.1.now p.0) }
         ensures rest { IfOk result (λ p. (front : List ℕ) × (bytes.now ≡ front ++ p.1.now)) }
         ensures after { IfOk result (λ p. first ≤ p.0) }
-        ensures err { IfErr result (λ answer. IsNoYes answer × AnswersAt (held_of M.contents self.old.machine) self.old.ended bytes.now first answer) }
+        ensures err { IfErr result (λ answer. IsNoYes answer
+            × AnswersAt (held_of M.contents self.old.machine) self.old.ended bytes.now first answer) }
         ensures no_pull { IfErr result (λ answer. answer ≢ Err Pull) }
     {
         let mut line = first;
@@ -134,7 +135,8 @@ impl<M: TaggedStore> Progress<M> {
         ensures ok { IfOk result (IsLaterAt (held_of M.contents self.old.machine) self.old.ended (kept lines.old) first
             (held_of M.contents self.new.machine) self.new.ended (kept lines.new)) }
         ensures after { IfOk result (λ next. first ≤ next) }
-        ensures err { IfErr result (λ answer. IsNoYes answer × AnswersAt (held_of M.contents self.old.machine) self.old.ended (kept lines.old) first answer) }
+        ensures err { IfErr result (λ answer. IsNoYes answer
+            × AnswersAt (held_of M.contents self.old.machine) self.old.ended (kept lines.old) first answer) }
         ensures no_pull { IfErr result (λ answer. answer ≢ Err Pull) }
         ensures over { over_of lines.new ≡ over_of lines.old }
     {
@@ -157,9 +159,11 @@ impl<M: TaggedStore> Progress<M> {
         lines: &mut Lines,
         first: u64,
     ) -> Result<Verdict, JudgeFault>
-        requires here { (begun : S) × HasRead S.gave begun source.old (held_of M.contents self.old.machine) self.old.ended (kept lines.old) first }
+        requires here { (begun : S)
+            × HasRead S.gave begun source.old (held_of M.contents self.old.machine) self.old.ended (kept lines.old) first }
         requires more { over_of lines.old ≡ None }
-        ensures judged { (begun : S) → HasRead S.gave begun source.old (held_of M.contents self.old.machine) self.old.ended (kept lines.old) first
+        ensures judged { (begun : S)
+            → HasRead S.gave begun source.old (held_of M.contents self.old.machine) self.old.ended (kept lines.old) first
             → JudgedBy S.gave S.ended begun source.new result (held_of M.contents self.new.machine) }
         ensures counted { result ≢ Err Pull → S.faults source.new ≡ S.faults source.old }
         ensures fault_counted { result ≡ Err Pull → S.faults source.new ≡ next_count (S.faults source.old) }

@@ -50,7 +50,8 @@ impl<M: TaggedStore> Progress<M> {
     /// ends for want of memory where the line names a granule for the first time.
     pub fn take_line(&mut self, text: &[u8]) -> Result<(), StepEnd>
         requires unended { self.old.ended ≡ false }
-        ensures ok { OnOk result (GoesOn (held_of M.contents self.old.machine) self.old.ended text.now (held_of M.contents self.new.machine) self.new.ended) }
+        ensures ok { OnOk result (GoesOn (held_of M.contents self.old.machine) self.old.ended text.now
+            (held_of M.contents self.new.machine) self.new.ended) }
         ensures err { IfErr result (λ end. EndsNext (held_of M.contents self.old.machine) self.old.ended text.now end) }
     {
         match read_line(text) {
@@ -66,7 +67,8 @@ impl<M: TaggedStore> Progress<M> {
         requires unended { self.old.ended ≡ false }
         ensures ok { OnOk result ((text : List ℕ) → Spells text line.now
             → GoesOn (held_of M.contents self.old.machine) self.old.ended text (held_of M.contents self.new.machine) self.new.ended) }
-        ensures err { IfErr result (λ end. (text : List ℕ) → Spells text line.now → EndsNext (held_of M.contents self.old.machine) self.old.ended text end) }
+        ensures err { IfErr result (λ end. (text : List ℕ) → Spells text line.now
+            → EndsNext (held_of M.contents self.old.machine) self.old.ended text end) }
     {
         if has_form(self.machine.rules(), line) {
             self.take(line)
@@ -80,7 +82,8 @@ impl<M: TaggedStore> Progress<M> {
     fn take(&mut self, line: &Line) -> Result<(), StepEnd>
         requires in_range { IsInRange line.now }
         requires unended { self.old.ended ≡ false }
-        ensures ok { OnOk result (Takes (held_of M.contents self.old.machine) self.old.ended line.now (held_of M.contents self.new.machine) self.new.ended) }
+        ensures ok { OnOk result (Takes (held_of M.contents self.old.machine) self.old.ended line.now
+            (held_of M.contents self.new.machine) self.new.ended) }
         ensures err { IfErr result (λ end. EndsFor (held_of M.contents self.old.machine) line.now end) }
     {
         match *line {
@@ -95,7 +98,8 @@ impl<M: TaggedStore> Progress<M> {
     fn take_root(&mut self, place: Place, word: Word) -> Result<(), StepEnd>
         requires in_range { IsPlace place }
         requires unended { self.old.ended ≡ false }
-        ensures ok { OnOk result (Takes (held_of M.contents self.old.machine) self.old.ended (lines.Root place word) (held_of M.contents self.new.machine) self.new.ended) }
+        ensures ok { OnOk result (Takes (held_of M.contents self.old.machine) self.old.ended (lines.Root place word)
+            (held_of M.contents self.new.machine) self.new.ended) }
         ensures err { IfErr result (λ end. EndsFor (held_of M.contents self.old.machine) (lines.Root place word) end) }
     {
         if self.machine.steps() > 0 {
@@ -107,7 +111,8 @@ impl<M: TaggedStore> Progress<M> {
     #[inline(always)]
     fn take_end(&mut self, count: u32) -> Result<(), StepEnd>
         requires unended { self.old.ended ≡ false }
-        ensures ok { OnOk result (Takes (held_of M.contents self.old.machine) self.old.ended (lines.End count) (held_of M.contents self.new.machine) self.new.ended) }
+        ensures ok { OnOk result (Takes (held_of M.contents self.old.machine) self.old.ended (lines.End count)
+            (held_of M.contents self.new.machine) self.new.ended) }
         ensures err { IfErr result (λ end. EndsFor (held_of M.contents self.old.machine) (lines.End count) end) }
     {
         if count != self.machine.steps() {
