@@ -1,5 +1,6 @@
 -- The grammar of a log's lines: what each line is spelled as, and which lines have a spelling. All of it is this profile's own.
-use Rattle.std.specs.Prelude.{◌≡◌, ℕ, ◌+◌, ◌*◌, ◌^◌, ◌<◌, ◌≤◌, ℤ, pos, negsuc, ◌≤ℤ◌, Bool, true, false, ◌⊎◌, List, [], ◌∷◌, ◌++◌, codes, decimal}
+use Rattle.std.specs.Prelude.{◌≡◌, ℕ, ◌+◌, ◌*◌, ◌^◌, ◌<◌, ◌≤◌, ℤ, pos, negsuc, ◌≤ℤ◌, Bool, true, false, ◌⊎◌, List, [], ◌∷◌, ◌++◌}
+use Rattle.std.specs.Prelude.{codes, decimal}
 use Rattle.std.specs.Fmt.{signed_decimal}
 use Rattle.std.specs.List.{join_with_byte}
 use Rattle.cap_word.specs.Digits.{hex_digits}
@@ -7,7 +8,8 @@ use Rattle.cap_word.specs.declared.word.Cap.{Cap}
 use Rattle.cap_log.specs.declared.lines.Place.{Place}
 use Rattle.cap_log.specs.declared.lines.Place.TheVariants.{Register, Granule}
 use Rattle.cap_log.specs.declared.lines.Step.{Step}
-use Rattle.cap_log.specs.declared.lines.Step.TheVariants.{Move, ClearTag, SetBounds, SetBoundsExact, SetAddr, AndPerm, Seal, Unseal, LoadCap, StoreCap, Load, Store}
+use Rattle.cap_log.specs.declared.lines.Step.TheVariants.{Move, ClearTag, SetBounds, SetBoundsExact, SetAddr, AndPerm, Seal, Unseal}
+use Rattle.cap_log.specs.declared.lines.Step.TheVariants.{LoadCap, StoreCap, Load, Store}
 use Rattle.cap_log.specs.declared.lines.Mode.{Mode}
 use Rattle.cap_log.specs.declared.lines.Mode.TheVariants.{Strict, Clear}
 use Rattle.cap_log.specs.declared.lines.Line.{Line}
@@ -85,16 +87,26 @@ result_words result = codes "=" ∷ tag_spelling result.tag ∷ hex_digits 32 re
 abbrev pub step_words : Step → List (List ℕ)
 step_words (Move target source result) = codes "move" ∷ register_spelling target ∷ register_spelling source ∷ result_words result
 step_words (ClearTag target source result) = codes "cleartag" ∷ register_spelling target ∷ register_spelling source ∷ result_words result
-step_words (SetBounds target source length result) = codes "setbounds" ∷ register_spelling target ∷ register_spelling source ∷ hex_digits 16 length ∷ result_words result
-step_words (SetBoundsExact target source length result) = codes "setboundsexact" ∷ register_spelling target ∷ register_spelling source ∷ hex_digits 16 length ∷ result_words result
-step_words (SetAddr target source address result) = codes "setaddr" ∷ register_spelling target ∷ register_spelling source ∷ hex_digits 16 address ∷ result_words result
-step_words (AndPerm target source mask result) = codes "andperm" ∷ register_spelling target ∷ register_spelling source ∷ hex_digits 16 mask ∷ result_words result
-step_words (Seal target source authority result) = codes "seal" ∷ register_spelling target ∷ register_spelling source ∷ register_spelling authority ∷ result_words result
-step_words (Unseal target source authority result) = codes "unseal" ∷ register_spelling target ∷ register_spelling source ∷ register_spelling authority ∷ result_words result
-step_words (LoadCap target authority offset result) = codes "lc" ∷ register_spelling target ∷ register_spelling authority ∷ signed_decimal offset ∷ result_words result
-step_words (StoreCap source authority offset) = codes "sc" ∷ register_spelling source ∷ register_spelling authority ∷ signed_decimal offset ∷ []
-step_words (Load authority offset size value) = codes "load" ∷ register_spelling authority ∷ signed_decimal offset ∷ decimal size ∷ codes "=" ∷ hex_digits (2 * size) value ∷ []
-step_words (Store authority offset size value) = codes "store" ∷ register_spelling authority ∷ signed_decimal offset ∷ decimal size ∷ hex_digits (2 * size) value ∷ []
+step_words (SetBounds target source length result) =
+    codes "setbounds" ∷ register_spelling target ∷ register_spelling source ∷ hex_digits 16 length ∷ result_words result
+step_words (SetBoundsExact target source length result) =
+    codes "setboundsexact" ∷ register_spelling target ∷ register_spelling source ∷ hex_digits 16 length ∷ result_words result
+step_words (SetAddr target source address result) =
+    codes "setaddr" ∷ register_spelling target ∷ register_spelling source ∷ hex_digits 16 address ∷ result_words result
+step_words (AndPerm target source mask result) =
+    codes "andperm" ∷ register_spelling target ∷ register_spelling source ∷ hex_digits 16 mask ∷ result_words result
+step_words (Seal target source authority result) =
+    codes "seal" ∷ register_spelling target ∷ register_spelling source ∷ register_spelling authority ∷ result_words result
+step_words (Unseal target source authority result) =
+    codes "unseal" ∷ register_spelling target ∷ register_spelling source ∷ register_spelling authority ∷ result_words result
+step_words (LoadCap target authority offset result) =
+    codes "lc" ∷ register_spelling target ∷ register_spelling authority ∷ signed_decimal offset ∷ result_words result
+step_words (StoreCap source authority offset) =
+    codes "sc" ∷ register_spelling source ∷ register_spelling authority ∷ signed_decimal offset ∷ []
+step_words (Load authority offset size value) =
+    codes "load" ∷ register_spelling authority ∷ signed_decimal offset ∷ decimal size ∷ codes "=" ∷ hex_digits (2 * size) value ∷ []
+step_words (Store authority offset size value) =
+    codes "store" ∷ register_spelling authority ∷ signed_decimal offset ∷ decimal size ∷ hex_digits (2 * size) value ∷ []
 
 -- the words of a line
 abbrev pub line_words : Line → List (List ℕ)
@@ -113,12 +125,16 @@ abbrev pub IsStepInRange : Step → Type 0
 IsStepInRange (Move target source result) = IsTarget target × IsRegister source × IsWordNumber result.word.0
 IsStepInRange (ClearTag target source result) = IsTarget target × IsRegister source × IsWordNumber result.word.0
 IsStepInRange (SetBounds target source length result) = IsTarget target × IsRegister source × IsNumber length × IsWordNumber result.word.0
-IsStepInRange (SetBoundsExact target source length result) = IsTarget target × IsRegister source × IsNumber length × IsWordNumber result.word.0
+IsStepInRange (SetBoundsExact target source length result) =
+    IsTarget target × IsRegister source × IsNumber length × IsWordNumber result.word.0
 IsStepInRange (SetAddr target source address result) = IsTarget target × IsRegister source × IsNumber address × IsWordNumber result.word.0
 IsStepInRange (AndPerm target source mask result) = IsTarget target × IsRegister source × IsNumber mask × IsWordNumber result.word.0
-IsStepInRange (Seal target source authority result) = IsTarget target × IsRegister source × IsRegister authority × IsWordNumber result.word.0
-IsStepInRange (Unseal target source authority result) = IsTarget target × IsRegister source × IsRegister authority × IsWordNumber result.word.0
-IsStepInRange (LoadCap target authority offset result) = IsTarget target × IsRegister authority × IsOffset offset × IsWordNumber result.word.0
+IsStepInRange (Seal target source authority result) =
+    IsTarget target × IsRegister source × IsRegister authority × IsWordNumber result.word.0
+IsStepInRange (Unseal target source authority result) =
+    IsTarget target × IsRegister source × IsRegister authority × IsWordNumber result.word.0
+IsStepInRange (LoadCap target authority offset result) =
+    IsTarget target × IsRegister authority × IsOffset offset × IsWordNumber result.word.0
 IsStepInRange (StoreCap source authority offset) = IsRegister source × IsRegister authority × IsOffset offset
 IsStepInRange (Load authority offset size value) = IsRegister authority × IsOffset offset × IsDataSize size × IsDataValue size value
 IsStepInRange (Store authority offset size value) = IsRegister authority × IsOffset offset × IsDataSize size × IsDataValue size value

@@ -8,13 +8,15 @@ pub front : (at end : ℕ) (text old new : List ℕ) → Writes at text old new 
 front at end text old new writes room =
     let ends = writes.ends in
     let long : length (take at old ++ text) ≡ end = omega (arith, length-append (take at old) text, length-take-le at old (omega arith)) in
-    ap (λ (bs : List ℕ). take end bs) (writes.whole ∙ sym (append_assoc (take at old) text (drop end old))) ∙ take_at (take at old ++ text) (drop end old) end long
+    ap (λ (bs : List ℕ). take end bs) (writes.whole ∙ sym (append_assoc (take at old) text (drop end old)))
+    ∙ take_at (take at old ++ text) (drop end old) end long
 
 pub back : (at end : ℕ) (text old new : List ℕ) → Writes at text old new end → end ≤ length old → drop end new ≡ drop end old
 back at end text old new writes room =
     let ends = writes.ends in
     let long : length (take at old ++ text) ≡ end = omega (arith, length-append (take at old) text, length-take-le at old (omega arith)) in
-    ap (λ (bs : List ℕ). drop end bs) (writes.whole ∙ sym (append_assoc (take at old) text (drop end old))) ∙ drop_at (take at old ++ text) (drop end old) end long
+    ap (λ (bs : List ℕ). drop end bs) (writes.whole ∙ sym (append_assoc (take at old) text (drop end old)))
+    ∙ drop_at (take at old ++ text) (drop end old) end long
 
 -- the buffer keeps its length
 pub length-Writes : (at end : ℕ) (text old new : List ℕ) → Writes at text old new end → end ≤ length old → length new ≡ length old
@@ -24,18 +26,24 @@ length-Writes at end text old new writes room =
     omega (arith, long, length-append text (drop end old), length-take-le at old (omega arith), length-drop end old)
 
 -- one text after another
-pub Writes-then : (at i j : ℕ) (a b old mid new : List ℕ) → Writes at a old mid i → Writes i b mid new j → i ≤ length old → Writes at (a ++ b) old new j
+pub Writes-then :
+    (at i j : ℕ) (a b old mid new : List ℕ) → Writes at a old mid i → Writes i b mid new j
+    → i ≤ length old → Writes at (a ++ b) old new j
 Writes-then at i j a b old mid new first second room =
     let long = length-append a b in
     let ends = first.ends in
     let ends' = second.ends in
     let head = front at i a old mid first room in
     let tail : drop j mid ≡ drop j old =
-    ap (λ (k : ℕ). drop k mid) ends' ∙ (sym (drop-drop (length b) i mid) ∙ (ap (λ (bs : List ℕ). drop (length b) bs) (back at i a old mid first room) ∙ (drop-drop (length b) i old ∙ ap (λ (k : ℕ). drop k old) (sym ends')))) in
+    ap (λ (k : ℕ). drop k mid) ends' ∙ (sym (drop-drop (length b) i mid)
+    ∙ (ap (λ (bs : List ℕ). drop (length b) bs) (back at i a old mid first room)
+    ∙ (drop-drop (length b) i old ∙ ap (λ (k : ℕ). drop k old) (sym ends')))) in
     record {
       ends = omega arith;
-      whole = second.whole ∙ (ap (λ (bs : List ℕ). bs ++ (b ++ drop j mid)) head ∙ (ap (λ (bs : List ℕ). (take at old ++ a) ++ (b ++ bs)) tail
-          ∙ (append_assoc (take at old) a (b ++ drop j old) ∙ ap (λ (bs : List ℕ). take at old ++ bs) (sym (append_assoc a b (drop j old))))));
+      whole = second.whole ∙ (ap (λ (bs : List ℕ). bs ++ (b ++ drop j mid)) head
+          ∙ (ap (λ (bs : List ℕ). (take at old ++ a) ++ (b ++ bs)) tail
+          ∙ (append_assoc (take at old) a (b ++ drop j old)
+          ∙ ap (λ (bs : List ℕ). take at old ++ bs) (sym (append_assoc a b (drop j old))))));
     }
 
 -- a text written inside a buffer (this profile's own)
@@ -51,7 +59,9 @@ WritesInside-nothing at old within = record {
 }
 
 -- one text after another
-pub WritesInside-joined : (at i j : ℕ) (a b old mid new : List ℕ) → WritesInside at i a old mid → WritesInside i j b mid new → WritesInside at j (a ++ b) old new
+pub WritesInside-joined :
+    (at i j : ℕ) (a b old mid new : List ℕ) → WritesInside at i a old mid → WritesInside i j b mid new
+    → WritesInside at j (a ++ b) old new
 WritesInside-joined at i j a b old mid new first second = record {
   written = Writes-then at i j a b old mid new first.written second.written first.inside;
   inside = omega (arith, length-Writes at i a old mid first.written first.inside, second.inside);

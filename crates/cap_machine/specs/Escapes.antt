@@ -33,5 +33,6 @@ Escapes rules state step = (rules ≢ TwoClear) × AsksBeyond state (asked_by st
 -- in clear mode, new bounds of a tagged, unsealed source that may be rounded lose its tag exactly where they do not lie inside the source's
 abbrev pub ClearsBeyond : Rules → State → Step → State → Type 0
 ClearsBeyond rules old (SetBounds target source length recorded) new =
-    rules ≡ TwoClear → IsTrue (old source).tag → IsFalse (is_sealed (old source).word.0) → IsFalse (new target).tag ↔ (HasRoomFor (old source) length → ⊥)
+    rules ≡ TwoClear → IsTrue (old source).tag → IsFalse (is_sealed (old source).word.0)
+    → IsFalse (new target).tag ↔ (HasRoomFor (old source) length → ⊥)
 ClearsBeyond rules old step new = Unit {0}

@@ -1,5 +1,6 @@
 -- Runs of the machine, and which root each capability descends from.
-use Rattle.std.specs.Prelude.{◌≡◌, Bool, false, ℕ, zero, suc, ◌+◌, ◌≤◌, ◌==◌, if◌then◌else◌, IsTrue, List, [], ◌∷◌, length, take, Option, Some, None, option_map, Contains, slice_get}
+use Rattle.std.specs.Prelude.{◌≡◌, Bool, false, ℕ, zero, suc, ◌+◌, ◌≤◌, ◌==◌, if◌then◌else◌, IsTrue, List, [], ◌∷◌, length, take, Option}
+use Rattle.std.specs.Prelude.{Some, None, option_map, Contains, slice_get}
 use Rattle.cap_log.specs.declared.lines.Step.{Step}
 use Rattle.cap_log.specs.declared.lines.Place.{Place}
 use Rattle.cap_word.specs.declared.word.Cap.{Cap}
@@ -51,7 +52,8 @@ Descends state (step ∷ steps) (next ∷ states) key from =
     (middle : ℕ) × Descends next steps states key middle × (parent_of state step next middle ≡ Some from)
 
 -- a place at a moment of a run descends from this root, and from it alone
-pub record DescendsFrom (roots : List DeclaredRoot) (steps : List Step) (states : List State) (moment key : ℕ) (root : DeclaredRoot) : Type 0 where
+pub record DescendsFrom (roots : List DeclaredRoot) (steps : List Step) (states : List State) (moment key : ℕ)
+    (root : DeclaredRoot) : Type 0 where
   pub declared : Contains roots root
   pub descends : Descends (start roots) (take moment steps) (take moment states) key (key_of root.place)
   pub only : (from : ℕ) → Descends (start roots) (take moment steps) (take moment states) key from → from ≡ key_of root.place

@@ -5,12 +5,14 @@ use Rattle.cap_word.specs.Memory.{low_bytes, memory_of, stored_word}
 use Rattle.cap_log.specs.declared.lines.Place.{Place}
 use Rattle.cap_log.specs.declared.lines.Place.TheVariants.{Register, Granule}
 use Rattle.cap_log.specs.declared.lines.Step.{Step}
-use Rattle.cap_log.specs.declared.lines.Step.TheVariants.{Move, ClearTag, SetBounds, SetBoundsExact, SetAddr, AndPerm, Seal, Unseal, LoadCap, StoreCap, Load, Store}
+use Rattle.cap_log.specs.declared.lines.Step.TheVariants.{Move, ClearTag, SetBounds, SetBoundsExact, SetAddr, AndPerm, Seal, Unseal}
+use Rattle.cap_log.specs.declared.lines.Step.TheVariants.{LoadCap, StoreCap, Load, Store}
 use Rattle.cap_ops.specs.declared.faults.OpFault.{OpFault}
 use Rattle.cap_ops.specs.declared.kinds.Kind.{Kind}
 use Rattle.cap_ops.specs.declared.kinds.Kind.TheVariants as kinds
 use Rattle.cap_ops.specs.Tests.{first_of}
-use Rattle.cap_ops.specs.Operations.{cleared, clear_result, set_bounds_tests, set_bounds_result, set_addr_tests, set_addr_result, and_perm_tests, and_perm_result, seal_tests, seal_result, unseal_tests, unseal_result}
+use Rattle.cap_ops.specs.Operations.{cleared, clear_result, set_bounds_tests, set_bounds_result, set_addr_tests, set_addr_result}
+use Rattle.cap_ops.specs.Operations.{and_perm_tests, and_perm_result, seal_tests, seal_result, unseal_tests, unseal_result}
 use Rattle.cap_ops.specs.Accesses.{access_address, access_tests, loaded_result, permission_for}
 use Rattle.tagmem.specs.Granules.{overwritten}
 use Rattle.cap_machine.specs.declared.rules.Rules.{Rules}
@@ -42,7 +44,13 @@ pub record Row : Type 0 where
 -- the row of an operation from a register to a register
 abbrev pub operation : ℕ → ℕ → Cap → List (Bool × OpFault) → Cap → Row
 operation target source recorded tests_are result =
-    record { tests = tests_are; writes = Some (Register target, result); parent = Some (Register source); records = Written recorded; access = None }
+    record {
+      tests = tests_are;
+      writes = Some (Register target, result);
+      parent = Some (Register source);
+      records = Written recorded;
+      access = None;
+    }
 
 -- the address of an access through a register
 abbrev pub address_through : State → ℕ → ℤ → ℕ

@@ -61,7 +61,8 @@ impl<M: TaggedStore> Machine<M> {
         requires target { IsTarget target }
         requires authority { authority ≤ 31 }
         requires offset { IsOffset offset }
-        ensures { AnswersStep (held_of M.contents self.old) (steps.LoadCap target authority offset recorded) result (held_of M.contents self.new) }
+        ensures { AnswersStep (held_of M.contents self.old) (steps.LoadCap target authority offset recorded)
+            result (held_of M.contents self.new) }
     {
         match self.reach(authority, Kind::LoadCap, offset, 16) {
             Ok(address) => {

@@ -72,7 +72,8 @@ impl<M: TaggedStore> Machine<M> {
     ) -> Result<(), StepEnd>
         requires target { IsTarget target }
         requires source { source ≤ 31 }
-        ensures { AnswersStep (held_of M.contents self.old) (steps.SetBounds target source length recorded) result (held_of M.contents self.new) }
+        ensures { AnswersStep (held_of M.contents self.old) (steps.SetBounds target source length recorded)
+            result (held_of M.contents self.new) }
     {
         let step = Step::SetBounds {
             target,
@@ -95,7 +96,8 @@ impl<M: TaggedStore> Machine<M> {
     ) -> Result<(), StepEnd>
         requires target { IsTarget target }
         requires source { source ≤ 31 }
-        ensures { AnswersStep (held_of M.contents self.old) (steps.SetBoundsExact target source length recorded) result (held_of M.contents self.new) }
+        ensures { AnswersStep (held_of M.contents self.old) (steps.SetBoundsExact target source length recorded)
+            result (held_of M.contents self.new) }
     {
         let step = Step::SetBoundsExact {
             target,
@@ -118,7 +120,8 @@ impl<M: TaggedStore> Machine<M> {
     ) -> Result<(), StepEnd>
         requires target { IsTarget target }
         requires source { source ≤ 31 }
-        ensures { AnswersStep (held_of M.contents self.old) (steps.SetAddr target source address recorded) result (held_of M.contents self.new) }
+        ensures { AnswersStep (held_of M.contents self.old) (steps.SetAddr target source address recorded)
+            result (held_of M.contents self.new) }
     {
         let step = Step::SetAddr {
             target,
@@ -141,7 +144,8 @@ impl<M: TaggedStore> Machine<M> {
     ) -> Result<(), StepEnd>
         requires target { IsTarget target }
         requires source { source ≤ 31 }
-        ensures { AnswersStep (held_of M.contents self.old) (steps.AndPerm target source mask recorded) result (held_of M.contents self.new) }
+        ensures { AnswersStep (held_of M.contents self.old) (steps.AndPerm target source mask recorded)
+            result (held_of M.contents self.new) }
     {
         let step = Step::AndPerm {
             target,
@@ -165,7 +169,8 @@ impl<M: TaggedStore> Machine<M> {
         requires target { IsTarget target }
         requires source { source ≤ 31 }
         requires authority { authority ≤ 31 }
-        ensures { AnswersStep (held_of M.contents self.old) (steps.Seal target source authority recorded) result (held_of M.contents self.new) }
+        ensures { AnswersStep (held_of M.contents self.old) (steps.Seal target source authority recorded)
+            result (held_of M.contents self.new) }
     {
         let step = Step::Seal {
             target,
@@ -189,7 +194,8 @@ impl<M: TaggedStore> Machine<M> {
         requires target { IsTarget target }
         requires source { source ≤ 31 }
         requires authority { authority ≤ 31 }
-        ensures { AnswersStep (held_of M.contents self.old) (steps.Unseal target source authority recorded) result (held_of M.contents self.new) }
+        ensures { AnswersStep (held_of M.contents self.old) (steps.Unseal target source authority recorded)
+            result (held_of M.contents self.new) }
     {
         let step = Step::Unseal {
             target,

@@ -7,13 +7,14 @@ use cap_ops::OpFault;
 /// Why a log is refused: the first test that a line fails. The numbers and names are this profile's own.
 #[derive(Debug, Clone, Copy, PartialEq, Eq)]
 pub enum Refusal {
-    /// 1: The first line is not `capcheck 1`.
+    /// 1: The first line is neither `capcheck 1` nor `capcheck 2`.
     BadHeader = 1,
     /// 2: 96 bytes come without a line feed.
     LineTooLong = 2,
-    /// 3: The line has none of the forms.
+    /// 3: A line after the header has none of the forms of the log's version.
     BadLine = 3,
-    /// 4: A root after a step, a second version line, or anything after the end line.
+    /// 4: A root after a step, a second version line, in version 2 a second mode line, or anything after the
+    /// end line.
     Misplaced = 4,
     /// 5: The bytes end before a line feed, or before the end line.
     Truncated = 5,

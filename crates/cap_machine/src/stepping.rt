@@ -36,7 +36,8 @@ impl<M: TaggedStore> Machine<M> {
     /// error nothing has changed.
     ///
     /// A tagged result has the origin of the place that it comes from: the step's source, or for `lc` the
-    /// granule, and never the authority.
+    /// granule, and never the authority. So a granule gets with `sc` the origin of the register that is stored,
+    /// where that is tagged. What has no tag has no origin: `store` clears its granule's.
     ///
     /// A step keeps every tagged word sound, and each tagged capability after it lies within what the place
     /// held before that it comes from. By strict rules a step is refused by `BoundsEscape` exactly where it
@@ -49,7 +50,8 @@ impl<M: TaggedStore> Machine<M> {
         ensures outcome { AnswersStep (held_of M.contents self.old) step.now result (held_of M.contents self.new) }
         ensures stays_within { OnOk result
             (StaysWithinParents (state_of (held_of M.contents self.old)) step.now (state_of (held_of M.contents self.new))) }
-        ensures escape { (result ≡ Err (StepEnd.Refused Refusal.BoundsEscape)) ↔ Escapes self.old.rules (state_of (held_of M.contents self.old)) step.now }
+        ensures escape { (result ≡ Err (StepEnd.Refused Refusal.BoundsEscape))
+            ↔ Escapes self.old.rules (state_of (held_of M.contents self.old)) step.now }
         ensures clears { OnOk result
             (ClearsBeyond self.old.rules (state_of (held_of M.contents self.old)) step.now (state_of (held_of M.contents self.new))) }
     {

@@ -7,11 +7,13 @@ use Rattle.cap_word.specs.declared.word.Cap.{Cap}
 use Rattle.cap_word.specs.Fields.{address_of}
 use Rattle.cap_bounds.specs.Bounds.{base_of, top_of}
 use Rattle.cap_ops.specs.declared.faults.OpFault.{OpFault}
-use Rattle.cap_ops.specs.declared.faults.OpFault.TheVariants.{AuthorityUntagged, AuthoritySealed, AuthorityPermission, AuthorityBounds, Misaligned, StoreCapPermission, StoreLocalPermission}
+use Rattle.cap_ops.specs.declared.faults.OpFault.TheVariants.{AuthorityUntagged, AuthoritySealed, AuthorityPermission, AuthorityBounds}
+use Rattle.cap_ops.specs.declared.faults.OpFault.TheVariants.{Misaligned, StoreCapPermission, StoreLocalPermission}
 use Rattle.cap_ops.specs.declared.kinds.Kind.{Kind}
 use Rattle.cap_ops.specs.declared.kinds.Kind.TheVariants.{LoadData, StoreData, LoadCap, StoreCap}
 use Rattle.cap_ops.specs.Operations.{covers}
-use Rattle.cap_ops.specs.Permissions.{has_permission, is_sealed, global, permit_load, permit_store, permit_load_capability, permit_store_capability, permit_store_local_capability}
+use Rattle.cap_ops.specs.Permissions.{has_permission, is_sealed, global, permit_load, permit_store, permit_load_capability}
+use Rattle.cap_ops.specs.Permissions.{permit_store_capability, permit_store_local_capability}
 
 -- the address of an access: the authority's address and the offset, modulo 2 ^ 64
 unfoldable pub access_address : ℕ → ℤ → ℕ
@@ -32,7 +34,10 @@ stored_tests w StoreData = []
 stored_tests w LoadCap = []
 stored_tests w (StoreCap stored) =
     (stored.tag && not (has_permission w permit_store_capability), StoreCapPermission)
-    ∷ (stored.tag && not (has_permission stored.word.0 global) && not (has_permission w permit_store_local_capability), StoreLocalPermission)
+    ∷ (
+      stored.tag && not (has_permission stored.word.0 global) && not (has_permission w permit_store_local_capability),
+      StoreLocalPermission,
+    )
     ∷ []
 
 -- the tests of an access of a kind, at an offset, of a size

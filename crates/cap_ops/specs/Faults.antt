@@ -1,7 +1,10 @@
 -- The numbers of the refusals of operations and accesses (this profile's own).
 use Rattle.std.specs.Prelude.{ℕ}
 use Rattle.cap_ops.specs.declared.faults.OpFault.{OpFault}
-use Rattle.cap_ops.specs.declared.faults.OpFault.TheVariants.{SourceUntagged, SourceSealed, BoundsEscape, NotExact, NotRepresentable, AuthorityUntagged, AuthoritySealed, AuthorityPermission, AuthorityBounds, TypeOutOfRange, TypeMismatch, Misaligned, StoreCapPermission, StoreLocalPermission}
+use Rattle.cap_ops.specs.declared.faults.OpFault.TheVariants.{SourceUntagged, SourceSealed, BoundsEscape, NotExact, NotRepresentable}
+use Rattle.cap_ops.specs.declared.faults.OpFault.TheVariants.{AuthorityUntagged, AuthoritySealed, AuthorityPermission, AuthorityBounds}
+use Rattle.cap_ops.specs.declared.faults.OpFault.TheVariants.{TypeOutOfRange, TypeMismatch, Misaligned}
+use Rattle.cap_ops.specs.declared.faults.OpFault.TheVariants.{StoreCapPermission, StoreLocalPermission}
 
 -- the number of a refusal
 abbrev pub number_of : OpFault → ℕ

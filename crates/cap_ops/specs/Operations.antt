@@ -2,16 +2,20 @@
 -- (UCAM-CL-TR-987, the descriptions of CSetBounds, CSetBoundsExact, CSetAddr, CAndPerm, CSeal, CUnseal and
 -- CClearTag for CHERI-RISC-V). The order of the tests, and that an untagged source meets none where no
 -- authority is needed, are this profile's own.
-use Rattle.std.specs.Prelude.{ℕ, ◌+◌, ◌*◌, ◌/◌, ◌%◌, ◌^◌, Bool, false, not, ◌&&◌, ◌==◌, nat_lt, nat_le, List, [], ◌∷◌, ◌++◌, if◌then◌else◌, is_some, bit_and, ◌≡◌, IsTrue, None, Result, MatchResult}
+use Rattle.std.specs.Prelude.{ℕ, ◌+◌, ◌*◌, ◌/◌, ◌%◌, ◌^◌, Bool, false, not, ◌&&◌, ◌==◌, nat_lt, nat_le, List, [], ◌∷◌, ◌++◌, if◌then◌else◌}
+use Rattle.std.specs.Prelude.{is_some, bit_and, ◌≡◌, IsTrue, None, Result, MatchResult}
 use Rattle.cap_word.specs.declared.word.Cap.{Cap}
 use Rattle.cap_word.specs.Fields.{address_of, bit_of, otype_of, perms_of}
 use Rattle.cap_bounds.specs.Bounds.{base_of, top_of}
 use Rattle.cap_bounds.specs.Range.{with_address}
 use Rattle.cap_bounds.specs.Rounding.{rounded_base, rounded_top, rounded_word}
 use Rattle.cap_ops.specs.declared.faults.OpFault.{OpFault}
-use Rattle.cap_ops.specs.declared.faults.OpFault.TheVariants.{SourceUntagged, SourceSealed, BoundsEscape, NotExact, NotRepresentable, AuthorityUntagged, AuthoritySealed, AuthorityPermission, AuthorityBounds, TypeOutOfRange, TypeMismatch}
+use Rattle.cap_ops.specs.declared.faults.OpFault.TheVariants.{SourceUntagged, SourceSealed, BoundsEscape, NotExact, NotRepresentable}
+use Rattle.cap_ops.specs.declared.faults.OpFault.TheVariants.{AuthorityUntagged, AuthoritySealed, AuthorityPermission, AuthorityBounds}
+use Rattle.cap_ops.specs.declared.faults.OpFault.TheVariants.{TypeOutOfRange, TypeMismatch}
 use Rattle.cap_ops.specs.Tests.{first_of}
-use Rattle.cap_ops.specs.Permissions.{has_permission, perm_view_of, perms_from_view, is_sealed, with_perms, with_type, unsealed_type, greatest_type, global, permit_seal, permit_unseal}
+use Rattle.cap_ops.specs.Permissions.{has_permission, perm_view_of, perms_from_view, is_sealed, with_perms, with_type, unsealed_type}
+use Rattle.cap_ops.specs.Permissions.{greatest_type, global, permit_seal, permit_unseal}
 
 -- a capability with another word
 abbrev pub with_word : Cap → ℕ → Cap

@@ -55,7 +55,8 @@ pub fn split(word: Word) -> Fields
     ensures b { result.b ≡ b_of word.0 }
     ensures t { result.t ≡ t_of word.0 }
     ensures address { result.address ≡ address_of word.0 }
-    ensures joins_back { joined_word result.perms result.reserved result.flag result.otype result.ie result.e result.b result.t result.address ≡ word.0 }
+    ensures joins_back { joined_word result.perms result.reserved result.flag result.otype
+        result.ie result.e result.b result.t result.address ≡ word.0 }
 {
     let w = word.0;
     let ie = (w >> 90) & 1 == 1;
@@ -85,7 +86,8 @@ pub fn split(word: Word) -> Fields
 
 /// Puts a word together: its fields are the given ones.
 pub fn join(fields: &Fields) -> Word
-    ensures word { result.0 ≡ joined_word fields.now.perms fields.now.reserved fields.now.flag fields.now.otype fields.now.ie fields.now.e fields.now.b fields.now.t fields.now.address }
+    ensures word { result.0 ≡ joined_word fields.now.perms fields.now.reserved fields.now.flag fields.now.otype
+        fields.now.ie fields.now.e fields.now.b fields.now.t fields.now.address }
     ensures perms { perms_of result.0 ≡ fields.now.perms }
     ensures reserved { reserved_of result.0 ≡ fields.now.reserved }
     ensures flag { flag_of result.0 ≡ fields.now.flag }

@@ -49,12 +49,14 @@ pub record ShowsRounding (base_word length_word text : List ℕ) : Type 0 where
 -- the text is the line of the verdict on an input as a vector file, and the status is the verdict's
 abbrev pub ShowsCheck : Option (List ℕ) → List ℕ → ℕ → Type 0
 ShowsCheck input text status =
-    (verdict : VectorVerdict) × IfSome input (λ bytes. IsVectorVerdict bytes verdict) × (text ≡ vector_line verdict) × (status ≡ vector_status verdict)
+    (verdict : VectorVerdict) × IfSome input (λ bytes. IsVectorVerdict bytes verdict)
+    × (text ≡ vector_line verdict) × (status ≡ vector_status verdict)
 
 -- the text that an order prints, and its status
 abbrev pub Prints : Option Order → Option (List ℕ) → List ℕ → ℕ → Type 0
 Prints None input text status = ⊥
-Prints (Some (Explain memory tag hex)) input text status = (w : ℕ) × SpellsWord memory hex.now w × (text ≡ explain_lines w tag) × (status ≡ 0)
+Prints (Some (Explain memory tag hex)) input text status =
+    (w : ℕ) × SpellsWord memory hex.now w × (text ≡ explain_lines w tag) × (status ≡ 0)
 Prints (Some (Round base_word length_word)) input text status = ShowsRounding base_word.now length_word.now text × (status ≡ 0)
 Prints (Some (Judge origins file)) input text status =
     (bytes : List ℕ) × IfSome input (λ known. known ≡ bytes)

@@ -12,11 +12,13 @@ use Rattle.capcheck.specs.Reports.{Tells}
 -- what was written for the bytes given, and the status or the fault
 abbrev pub IsWrittenFor : Bool → List ℕ → Bool → (List ℕ → Type 0) → Result ℕ Fault → Type 0
 IsWrittenFor asked bytes ended wrote (Ok status) =
-    (verdict : Verdict) × IsAnswerOf bytes ended (Ok verdict) × (text : List ℕ) × Tells asked bytes verdict text × wrote text × (status ≡ verdict_status verdict)
+    (verdict : Verdict) × IsAnswerOf bytes ended (Ok verdict) × (text : List ℕ) × Tells asked bytes verdict text
+    × wrote text × (status ≡ verdict_status verdict)
 IsWrittenFor asked bytes ended wrote (Err faults.Read) = IsAnswerOf bytes ended (Err Pull) × wrote []
 IsWrittenFor asked bytes ended wrote (Err faults.NoMemory) = IsAnswerOf bytes ended (Err NoMemory) × wrote []
 IsWrittenFor asked bytes ended wrote (Err faults.Write) =
-    (verdict : Verdict) × IsAnswerOf bytes ended (Ok verdict) × (text : List ℕ) × Tells asked bytes verdict text × (n : ℕ) × wrote (take n text)
+    (verdict : Verdict) × IsAnswerOf bytes ended (Ok verdict) × (text : List ℕ) × Tells asked bytes verdict text
+    × (n : ℕ) × wrote (take n text)
 IsWrittenFor asked bytes ended wrote (Err faults.BadWords) = ⊥
 IsWrittenFor asked bytes ended wrote (Err faults.BadWord) = ⊥
 IsWrittenFor asked bytes ended wrote (Err faults.BadRequest) = ⊥

@@ -48,7 +48,8 @@ pub record IsAnswerOf (bytes : List ℕ) (ended : Bool) (result : Result Verdict
   pub answers : NamesNoGranules bytes → result ≢ Err NoMemory
 
 -- an answer is that of the bytes that the source gave in the call
-pub record Judged {S : Type 0} (gave : S → S → List ℕ → Type 0) (ended : S → Bool) (old new : S) (result : Result Verdict JudgeFault) : Type 0 where
+pub record Judged {S : Type 0} (gave : S → S → List ℕ → Type 0) (ended : S → Bool) (old new : S)
+    (result : Result Verdict JudgeFault) : Type 0 where
   pub given : List ℕ
   pub gives : gave old new given
   pub answer : IsAnswerOf given (ended new) result
@@ -67,7 +68,8 @@ LeadsAfter bytes held (Yes steps roots) = LeadsTo bytes held
 LeadsAfter bytes held (No line refusal) = Unit {0}
 
 -- an answer with what the machine of the judge holds then
-pub record JudgedBy {S : Type 0} (gave : S → S → List ℕ → Type 0) (ended : S → Bool) (old new : S) (result : Result Verdict JudgeFault) (held : Held) : Type 0 where
+pub record JudgedBy {S : Type 0} (gave : S → S → List ℕ → Type 0) (ended : S → Bool) (old new : S)
+    (result : Result Verdict JudgeFault) (held : Held) : Type 0 where
   pub judged : Judged gave ended old new result
   pub leads : IfOk result (LeadsAfter judged.given held)
 

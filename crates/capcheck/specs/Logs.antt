@@ -1,5 +1,6 @@
 -- Logs, how they begin, and the first fault of bytes that are none. All of it is this profile's own.
-use Rattle.std.specs.Prelude.{◌≡◌, ◌≢◌, ℕ, ◌+◌, ◌≤◌, ◌==◌, Bool, true, false, not, nat_eq, nat_lt, ◌⊎◌, List, [], ◌∷◌, ◌++◌, length, map, flat_map, Option, Some, None, IsTrue}
+use Rattle.std.specs.Prelude.{◌≡◌, ◌≢◌, ℕ, ◌+◌, ◌≤◌, ◌==◌, Bool, true, false, not, nat_eq, nat_lt, ◌⊎◌, List, [], ◌∷◌, ◌++◌, length, map}
+use Rattle.std.specs.Prelude.{flat_map, Option, Some, None, IsTrue}
 use Rattle.std.specs.List.{AllByRecursion, IsDistinct}
 use Rattle.cap_bounds.specs.Bounds.{IsSound}
 use Rattle.cap_log.specs.declared.lines.Line.{Line}
@@ -11,11 +12,13 @@ use Rattle.cap_log.specs.Lines.{spelling, IsInRange, Spells}
 use Rattle.cap_log.specs.Front.{FrontIs}
 use Rattle.cap_ops.specs.Tests.{first_of}
 use Rattle.cap_machine.specs.declared.refusal.Refusal.{Refusal}
-use Rattle.cap_machine.specs.declared.refusal.Refusal.TheVariants.{BadHeader, LineTooLong, BadLine, Misplaced, Truncated, WrongCount, BadMode}
+use Rattle.cap_machine.specs.declared.refusal.Refusal.TheVariants.{BadHeader, LineTooLong, BadLine, Misplaced, Truncated}
+use Rattle.cap_machine.specs.declared.refusal.Refusal.TheVariants.{WrongCount, BadMode}
 use Rattle.cap_machine.specs.declared.rules.Rules.{Rules}
 use Rattle.cap_machine.specs.declared.rules.Rules.TheVariants.{One, TwoStrict, TwoClear}
 use Rattle.cap_machine.specs.States.{State, DeclaredRoot, key_of, start}
-use Rattle.cap_machine.specs.Accounts.{Account, most_roots, most_granules, most_steps, granule_of, named_by, row_in, is_new, root_tests, step_tests}
+use Rattle.cap_machine.specs.Accounts.{Account, most_roots, most_granules, most_steps, granule_of, named_by, row_in, is_new}
+use Rattle.cap_machine.specs.Accounts.{root_tests, step_tests}
 pub use Rattle.cap_machine.specs.RunAccounts.{after_roots, after_steps, account_after}
 use Rattle.cap_machine.specs.Runs.{IsRun, last_of}
 
@@ -57,7 +60,8 @@ pub record RunsBy (rules : Rules) (roots : List DeclaredRoot) (steps : List step
   pub few_roots : length roots ≤ most_roots
   pub few_granules : (account_after rules roots steps).granules ≤ most_granules rules
   pub few_steps : length steps ≤ most_steps
-  pub run : (states : List State) × IsRun rules (start roots) steps states × (last_of (start roots) states ≡ (account_after rules roots steps).state)
+  pub run : (states : List State) × IsRun rules (start roots) steps states
+      × (last_of (start roots) states ≡ (account_after rules roots steps).state)
 
 -- a beginning that is accepted
 abbrev pub IsAccepted : Beginning → Type 0

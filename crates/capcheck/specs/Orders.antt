@@ -16,7 +16,8 @@ option_word false word = []
 -- the words ask for this order (this profile's own)
 abbrev pub Asks : List (List ℕ) → Order → Type 0
 Asks words (Explain memory tag hex) =
-    (words ≡ codes "explain" ∷ (option_word memory (codes "--memory") ++ option_word tag (codes "--tag") ++ hex.now ∷ [])) × IsTrue (is_operand hex.now)
+    (words ≡ codes "explain" ∷ (option_word memory (codes "--memory") ++ option_word tag (codes "--tag") ++ hex.now ∷ []))
+    × IsTrue (is_operand hex.now)
 Asks words (Round base length) =
     (words ≡ codes "round" ∷ base.now ∷ length.now ∷ []) × IsTrue (is_operand base.now) × IsTrue (is_operand length.now)
 Asks words (Judge origins None) = words ≡ codes "judge" ∷ option_word origins (codes "--origins")

@@ -55,7 +55,8 @@ EndsNext reading text NoMemory = (beginning : Beginning) → StandsFor reading b
 -- this very line, in what a machine holds: its first test that holds, or no test holds and it names a granule for the first time
 abbrev pub EndsFor : Held → Line → StepEnd → Type 0
 EndsFor held line (Refused refusal) = first_of (line_tests (account_of held) line) ≡ Some refusal
-EndsFor held line NoMemory = (first_of (line_tests (account_of held) line) ≡ None) × IsTrue (is_new (account_of held) (named_by_line (account_of held) line))
+EndsFor held line NoMemory =
+    (first_of (line_tests (account_of held) line) ≡ None) × IsTrue (is_new (account_of held) (named_by_line (account_of held) line))
 
 -- the bytes are the text of a beginning that the progress stands for, and this rest, which begins with this line
 pub record IsAt (bytes : List ℕ) (reading : Reading) (rest : List ℕ) (line : ℕ) : Type 0 where

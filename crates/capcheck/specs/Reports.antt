@@ -18,15 +18,17 @@ Tells true bytes (Yes steps roots) text =
 
 -- with a verdict its text was taken, without one nothing, and where the sink failed a beginning of the text
 abbrev pub IsReportOf : Bool → List ℕ → Bool → (List ℕ → Type 0) → Result Verdict JudgeToFault → Type 0
-IsReportOf asked bytes ended took (Ok verdict) = IsAnswerOf bytes ended (Ok verdict) × (text : List ℕ) × Tells asked bytes verdict text × took text
+IsReportOf asked bytes ended took (Ok verdict) =
+    IsAnswerOf bytes ended (Ok verdict) × (text : List ℕ) × Tells asked bytes verdict text × took text
 IsReportOf asked bytes ended took (Err Pull) = IsAnswerOf bytes ended (Err judge_faults.Pull) × took []
 IsReportOf asked bytes ended took (Err NoMemory) = IsAnswerOf bytes ended (Err judge_faults.NoMemory) × took []
 IsReportOf asked bytes ended took (Err Push) =
-    (verdict : Verdict) × IsAnswerOf bytes ended (Ok verdict) × (text : List ℕ) × Tells asked bytes verdict text × (n : ℕ) × took (take n text)
+    (verdict : Verdict) × IsAnswerOf bytes ended (Ok verdict) × (text : List ℕ) × Tells asked bytes verdict text
+    × (n : ℕ) × took (take n text)
 
 -- an answer is that of the bytes that the source gave in the call, and of those that the sink took
-pub record Reported {S K : Type 0} (asked : Bool) (gave : S → S → List ℕ → Type 0) (ended : S → Bool) (took : K → K → List ℕ → Type 0) (old new : S) (before after : K)
-    (result : Result Verdict JudgeToFault) : Type 0 where
+pub record Reported {S K : Type 0} (asked : Bool) (gave : S → S → List ℕ → Type 0) (ended : S → Bool) (took : K → K → List ℕ → Type 0)
+    (old new : S) (before after : K) (result : Result Verdict JudgeToFault) : Type 0 where
   pub given : List ℕ
   pub gives : gave old new given
   pub report : IsReportOf asked given (ended new) (took before after) result

@@ -1,5 +1,6 @@
 -- Vector files, and the first line of one that fails. All of it is this profile's own.
-use Rattle.std.specs.Prelude.{◌≡◌, ◌≢◌, ℕ, ◌+◌, ◌-◌, ◌^◌, ◌<◌, ◌⊎◌, ⊤, Bool, true, false, List, [], ◌∷◌, ◌++◌, length, flat_map, Result, IfOk, IfErr, codes, decimal}
+use Rattle.std.specs.Prelude.{◌≡◌, ◌≢◌, ℕ, ◌+◌, ◌-◌, ◌^◌, ◌<◌, ◌⊎◌, ⊤, Bool, true, false, List, [], ◌∷◌, ◌++◌, length, flat_map, Result}
+use Rattle.std.specs.Prelude.{IfOk, IfErr, codes, decimal}
 use Rattle.std.specs.List.{AllByRecursion}
 use Rattle.cap_log.specs.Front.{IsCut, FrontIs}
 use Rattle.cap_log.specs.declared.sources.PullFault.{PullFault}
@@ -55,7 +56,8 @@ pub record BreaksOff (bytes : List ℕ) : Type 0 where
   pub cut : IsCut rest
 
 -- an answer is that of the bytes that the source gave in the call
-pub record Checked {S : Type 0} (gave : S → S → List ℕ → Type 0) (ended : S → Bool) (old new : S) (result : Result VectorVerdict PullFault) : Type 0 where
+pub record Checked {S : Type 0} (gave : S → S → List ℕ → Type 0) (ended : S → Bool) (old new : S)
+    (result : Result VectorVerdict PullFault) : Type 0 where
   pub given : List ℕ
   pub gives : gave old new given
   pub verdict : IfOk result (IsVectorVerdictOf given (ended new))

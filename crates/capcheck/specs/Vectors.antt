@@ -45,7 +45,8 @@ flag_digit false = codes "0"
 -- the one line of a vector, without its line feed
 abbrev pub spelling : Vector → List ℕ
 spelling (Bounds word base top sound) =
-    codes "bounds " ++ hex_digits 32 word ++ codes " = " ++ hex_digits 16 base ++ codes " " ++ hex_digits 17 top ++ codes " " ++ flag_digit sound
+    codes "bounds " ++ hex_digits 32 word ++ codes " = " ++ hex_digits 16 base
+    ++ codes " " ++ hex_digits 17 top ++ codes " " ++ flag_digit sound
 spelling (Keeps word address keeps) =
     codes "keeps " ++ hex_digits 32 word ++ codes " " ++ hex_digits 16 address ++ codes " = " ++ flag_digit keeps
 spelling (Round base size base_rounded top_rounded ie e exact) =

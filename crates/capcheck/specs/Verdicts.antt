@@ -76,10 +76,12 @@ FaultEscapes Nothing rest = ⊥
 FaultEscapes NoMode rest = ⊥
 FaultEscapes (Body rules roots steps) rest =
     let account = account_after rules roots steps in
-    (text : List ℕ) × (more : List ℕ) × (step : Step) × IsLine rest text more × SpellsBy account.rules text (Stepping step) × Escapes account.rules account.state step
+    (text : List ℕ) × (more : List ℕ) × (step : Step) × IsLine rest text more
+    × SpellsBy account.rules text (Stepping step) × Escapes account.rules account.state step
 FaultEscapes (Whole rules roots steps) rest = ⊥
 
 -- a no names BoundsEscape exactly for such a line: the test of CSetBounds (UCAM-CL-TR-987)
 abbrev pub EscapesExactly : List ℕ → Verdict → Type 0
 EscapesExactly bytes (Yes steps roots) = Unit {0}
-EscapesExactly bytes (No line refusal) = (fault : IsFirstFault bytes line refusal) → (refusal ≡ BoundsEscape) ↔ FaultEscapes fault.beginning fault.rest
+EscapesExactly bytes (No line refusal) =
+    (fault : IsFirstFault bytes line refusal) → (refusal ≡ BoundsEscape) ↔ FaultEscapes fault.beginning fault.rest

@@ -95,7 +95,8 @@ fn put_type_line(buffer: &mut [u8], at: usize, otype: u32) -> usize
     requires { at + 21 ≤ length buffer.old }
     ensures from { at ≤ result }
     ensures fits { result ≤ at + 21 }
-    ensures written { take result buffer.new ≡ take at buffer.old ++ text_line (codes "otype") (hex_digits 5 otype ++ codes " " ++ type_name otype) }
+    ensures written { take result buffer.new ≡ take at buffer.old
+        ++ text_line (codes "otype") (hex_digits 5 otype ++ codes " " ++ type_name otype) }
     ensures rest { (k : ℕ) → result ≤ k → drop k buffer.new ≡ drop k buffer.old }
 {
     let at = put(buffer, at, b"otype ");

@@ -14,7 +14,8 @@ use std::alloc::Global;
 use std::io::{Read, Write};
 
 /// Judges what a reader gives, writes the line of the verdict and, where they are asked for, those of
-/// origins, and answers the status that goes with the verdict. An error of the reader, want of memory and an error of the writer are faults.
+/// origins, and answers the status that goes with the verdict. An error of the reader, want of memory and an
+/// error of the writer are faults.
 pub fn judge_reader<R: Read + Drop, O: Write>(
     alloc: Global,
     origins: bool,
@@ -42,7 +43,8 @@ fn report<S: Source, O: Write>(
     source: &mut S,
     out: &mut O,
 ) -> Result<Verdict, JudgeToFault>
-    ensures reported { Reported origins S.gave S.ended (λ a b xs. Appends (O.contents a) (O.contents b) xs) source.old source.new out.old out.new result }
+    ensures reported { Reported origins S.gave S.ended (λ a b xs. Appends (O.contents a) (O.contents b) xs)
+        source.old source.new out.old out.new result }
 {
     let mut sink = WriteSink::new(out);
     if origins {

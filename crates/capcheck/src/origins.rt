@@ -75,7 +75,8 @@ fn push_place<M: TaggedStore, K: Sink>(
 ) -> Result<(), PushFault>
     requires { IsPlace place }
     ensures ok { OnOk result (K.took sink.old sink.new (held_lines (held_of M.contents machine.now) (key_of place) 1)) }
-    ensures err { OnErr result ((n : ℕ) × K.took sink.old sink.new (take n (held_lines (held_of M.contents machine.now) (key_of place) 1))) }
+    ensures err { OnErr result ((n : ℕ)
+        × K.took sink.old sink.new (take n (held_lines (held_of M.contents machine.now) (key_of place) 1))) }
     ensures counted { OnOk result (K.faults sink.new ≡ K.faults sink.old) }
     ensures fault_counted { OnErr result (K.faults sink.new ≡ next_count (K.faults sink.old)) }
 {

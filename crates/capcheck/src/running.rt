@@ -81,7 +81,8 @@ fn judge_input<R: Read + Drop, O: Write>(
 ) -> Result<u8, Fault>
     ensures ok { IfOk result (λ status. status ≤ 1) }
     ensures err { IfErr result (λ fault. status_of fault ≡ 3) }
-    ensures printed { IfOk result (λ status. (text : List ℕ) × Prints (Some (Judge origins None)) (known_bytes R.remaining input) text status
+    ensures printed { IfOk result (λ status. (text : List ℕ)
+        × Prints (Some (Judge origins None)) (known_bytes R.remaining input) text status
         × Appends (O.contents out.old) (O.contents out.new) text) }
 {
     match input {

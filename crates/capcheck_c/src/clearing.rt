@@ -96,8 +96,8 @@ pub extern "C" fn capcheck_seal_clear(source: Capability, authority: Capability)
 pub extern "C" fn capcheck_unseal_clear(source: Capability, authority: Capability) -> Capability
     ensures result_is { cap_of result
         ≡ clear_result (unseal_tests (cap_of source) (cap_of authority)) (unseal_result (cap_of source) (cap_of authority)) }
-    ensures strict { IsStrictWhereTagged (unseal_tests (cap_of source) (cap_of authority)) (unseal_result (cap_of source) (cap_of authority))
-        (cap_of result) }
+    ensures strict { IsStrictWhereTagged (unseal_tests (cap_of source) (cap_of authority))
+        (unseal_result (cap_of source) (cap_of authority)) (cap_of result) }
     ensures tag { result.tag ≤ 1 }
     ensures stays_within { StaysWithin (cap_of result) (cap_of source) }
 {

@@ -1,5 +1,6 @@
 -- Why the map that a list of entries is keeps the laws of a store.
-use Rattle.std.proofs.Common.{◌≡◌, ℕ, suc, ◌+◌, ◌^◌, ◌<◌, ◌≢◌, true, false, cond, eqb, List, [], ◌∷◌, map, length, get_or, Option, Some, None, is_some, sym, refl, ap, subst, ◌∙◌, arith}
+use Rattle.std.proofs.Common.{◌≡◌, ℕ, suc, ◌+◌, ◌^◌, ◌<◌, ◌≢◌, true, false, cond, eqb, List, [], ◌∷◌, map, length, get_or, Option, Some}
+use Rattle.std.proofs.Common.{None, is_some, sym, refl, ap, subst, ◌∙◌, arith}
 use Rattle.std.specs.Ordering.{nat_cmp}
 use Rattle.std.specs.Cmp.{nat_cmp_total, unsigned_tied}
 use Rattle.std.specs.FinMap as map
@@ -25,7 +26,8 @@ found (x ∷ l) q = cond (eqb q x.granule) (Some (entry_of x)) (found l q)
 
 find-keyed : (l : List Listed) (q : ℕ) → find nat_cmp q (map keyed l) ≡ found l q
 find-keyed [] q = refl
-find-keyed (x ∷ l) q = ap (λ b. cond b (Some (entry_of x)) (find nat_cmp q (map keyed l))) (unsigned_tied q x.granule) ∙ ap (cond (eqb q x.granule) (Some (entry_of x))) (find-keyed l q)
+find-keyed (x ∷ l) q = ap (λ b. cond b (Some (entry_of x)) (find nat_cmp q (map keyed l))) (unsigned_tied q x.granule)
+    ∙ ap (cond (eqb q x.granule) (Some (entry_of x))) (find-keyed l q)
 
 -- the map has it
 pub get-contents_of : (l : List Listed) (q : ℕ) → map.get (contents_of l) q ≡ found l q
@@ -50,7 +52,8 @@ found_stored (x ∷ l) all q entry is =
     elim (eqb q x.granule) as (λ b. eqb q x.granule ≡ b → cond b (Some (entry_of x)) (found l q) ≡ Some entry → IsStored q entry) [
       | true ↦ λ same here.
           subst (λ granule. IsStored granule entry) (sym (eqb-true q x.granule same))
-          (subst (IsStored x.granule) (same_Some (entry_of x) entry here) (All-head (λ listed. IsStored listed.granule (entry_of listed)) x l all))
+          (subst (IsStored x.granule) (same_Some (entry_of x) entry here)
+          (All-head (λ listed. IsStored listed.granule (entry_of listed)) x l all))
       | false ↦ λ differs later. found_stored l (All-tail (λ listed. IsStored listed.granule (entry_of listed)) x l all) q entry later
     ] refl is
 
@@ -63,14 +66,18 @@ abbrev pub RisesFar : List Listed → Type 0
 RisesFar l = (i j : ℕ) → i < j → j < length l → granule_at l i < granule_at l j
 
 pub rises_far : (l : List Listed) → IsRising l → RisesFar l
-rises_far l rising i j lt in_range = below_from_sorted (granules_of l) i j 0 (sorted_from_strictly_increasing (granules_of l) rising) lt (rw length-map in_range)
+rises_far l rising i j lt in_range =
+    below_from_sorted (granules_of l) i j 0 (sorted_from_strictly_increasing (granules_of l) rising) lt (rw length-map in_range)
 
 len_by_tail : (l : List Listed) → RisesFar l → map.len (contents_of l) ≡ length l
 len_by_tail [] far = map.len-empty nat_cmp Entry
 len_by_tail (x ∷ l) far =
-    let absent : found l x.granule ≡ None = found_absent l x.granule (λ j lt same. omega (arith, far 0 (suc j) (omega arith) (omega arith))) in
+    let absent : found l x.granule ≡ None =
+    found_absent l x.granule (λ j lt same. omega (arith, far 0 (suc j) (omega arith) (omega arith))) in
     let tail : map.len (contents_of l) ≡ length l = len_by_tail l (λ i j lt in_range. far (suc i) (suc j) (omega arith) (omega arith)) in
-    let added : map.len (contents_of (x ∷ l)) ≡ map.len (contents_of l) + 1 = map.len-insert nat_cmp_total (contents_of l) x.granule (entry_of x) ∙ ap (λ o. cond (is_some o) (map.len (contents_of l)) (map.len (contents_of l) + 1)) (get-contents_of l x.granule ∙ absent) in
+    let added : map.len (contents_of (x ∷ l)) ≡ map.len (contents_of l) + 1 =
+    map.len-insert nat_cmp_total (contents_of l) x.granule (entry_of x)
+    ∙ ap (λ o. cond (is_some o) (map.len (contents_of l)) (map.len (contents_of l) + 1)) (get-contents_of l x.granule ∙ absent) in
     omega arith
 
 -- a list whose granules rise has as many entries as its map

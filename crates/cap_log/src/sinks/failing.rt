@@ -40,9 +40,11 @@ impl<K: Sink> Sink for FailingSink<K> {
         ensures fits { IfOk result (λ n. n ≤ length piece.now) }
         ensures some { IfOk result (λ n. 0 < length piece.now → 0 < n) }
         ensures bytes { IfOk result (λ n. K.took self.old.inner self.new.inner (take n piece.now)) }
-        ensures counted { OnOk result ((K.faults self.new.inner + own_faults self.new.waits) % 2 ^ 64 ≡ (K.faults self.old.inner + own_faults self.old.waits) % 2 ^ 64) }
+        ensures counted { OnOk result ((K.faults self.new.inner + own_faults self.new.waits) % 2 ^ 64
+            ≡ (K.faults self.old.inner + own_faults self.old.waits) % 2 ^ 64) }
         ensures nothing_taken { OnErr result (K.took self.old.inner self.new.inner []) }
-        ensures fault_counted { OnErr result ((K.faults self.new.inner + own_faults self.new.waits) % 2 ^ 64 ≡ next_count ((K.faults self.old.inner + own_faults self.old.waits) % 2 ^ 64)) }
+        ensures fault_counted { OnErr result ((K.faults self.new.inner + own_faults self.new.waits) % 2 ^ 64
+            ≡ next_count ((K.faults self.old.inner + own_faults self.old.waits) % 2 ^ 64)) }
 
         // One push fails, and leaves the inner sink as it is. All others are passed on.
         ensures failing { self.old.waits ≡ Some 0 → IsErr result × (self.new.inner ≡ self.old.inner) × (self.new.waits ≡ None) }

@@ -48,7 +48,10 @@ impl<'a> Sink for SliceSink<'a> {
 
     ghost nothing = { λ s. (refl, WritesInside-nothing s.taken s.room.now s.fits) };
 
-    ghost joined = { λ a b c xs ys h k. (k.0 ∙ h.0, WritesInside-joined a.taken b.taken c.taken xs ys a.room.now b.room.now c.room.now h.1 k.1) };
+    ghost joined = { λ a b c xs ys h k. (
+      k.0 ∙ h.0,
+      WritesInside-joined a.taken b.taken c.taken xs ys a.room.now b.room.now c.room.now h.1 k.1,
+    ) };
 
     fn push(&mut self, piece: &[u8]) -> Result<usize, PushFault>
         ensures fits { IfOk result (λ n. n ≤ length piece.now) }

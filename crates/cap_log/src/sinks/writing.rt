@@ -33,7 +33,10 @@ impl<'a, W: Write> Sink for WriteSink<'a, W> {
 
     ghost nothing = { λ s. (refl, Appends-nothing (W.contents s.writer.now)) };
 
-    ghost joined = { λ a b c xs ys h k. (k.0 ∙ h.0, Appends-joined (W.contents a.writer.now) (W.contents b.writer.now) (W.contents c.writer.now) xs ys h.1 k.1) };
+    ghost joined = { λ a b c xs ys h k. (
+      k.0 ∙ h.0,
+      Appends-joined (W.contents a.writer.now) (W.contents b.writer.now) (W.contents c.writer.now) xs ys h.1 k.1,
+    ) };
 
     fn push(&mut self, piece: &[u8]) -> Result<usize, PushFault> {
         if piece.is_empty() {

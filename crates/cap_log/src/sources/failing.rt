@@ -46,10 +46,12 @@ impl<S: Source> Source for FailingSource<S> {
         ensures fits { IfOk result (λ n. n ≤ length piece.new) }
         ensures bytes { IfOk result (λ n. S.gave self.old.inner self.new.inner (take n piece.new)) }
         ensures end { IfOk result (λ n. (if self.new.is_failed then false else S.ended self.new.inner) ≡ is_end (length piece.new) n) }
-        ensures counted { OnOk result ((S.faults self.new.inner + own_faults self.new.waits) % 2 ^ 64 ≡ (S.faults self.old.inner + own_faults self.old.waits) % 2 ^ 64) }
+        ensures counted { OnOk result ((S.faults self.new.inner + own_faults self.new.waits) % 2 ^ 64
+            ≡ (S.faults self.old.inner + own_faults self.old.waits) % 2 ^ 64) }
         ensures nothing_given { OnErr result (S.gave self.old.inner self.new.inner []) }
         ensures no_end { OnErr result ((if self.new.is_failed then false else S.ended self.new.inner) ≡ false) }
-        ensures fault_counted { OnErr result ((S.faults self.new.inner + own_faults self.new.waits) % 2 ^ 64 ≡ next_count ((S.faults self.old.inner + own_faults self.old.waits) % 2 ^ 64)) }
+        ensures fault_counted { OnErr result ((S.faults self.new.inner + own_faults self.new.waits) % 2 ^ 64
+            ≡ next_count ((S.faults self.old.inner + own_faults self.old.waits) % 2 ^ 64)) }
 
         // One pull fails, and leaves the inner source as it is. All others are passed on.
         ensures failing { self.old.waits ≡ Some 0 → IsErr result × (self.new.inner ≡ self.old.inner) × (self.new.waits ≡ None) }

@@ -22,7 +22,8 @@ pub struct Request {
 /// refused as a bad word where one of them is not of this form, and as a bad request where the request
 /// ends above 2^64.
 pub fn read_request(base: &str, length: &str) -> Result<Request, Fault>
-    ensures ok { IfOk result (λ request. SpellsRequest base.now length.now request.base request.length × (request.base + request.length ≤ 2 ^ 64)) }
+    ensures ok { IfOk result (λ request. SpellsRequest base.now length.now request.base request.length
+        × (request.base + request.length ≤ 2 ^ 64)) }
     ensures err { IfErr result (λ fault. RefusesRequest base.now length.now fault) }
 {
     let Some(base) = read_u64(base.as_bytes()) else {
