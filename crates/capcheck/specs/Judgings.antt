@@ -11,7 +11,8 @@ use Rattle.capcheck.specs.declared.verdict.Verdict.{Verdict}
 use Rattle.capcheck.specs.declared.verdict.Verdict.TheVariants.{Yes, No}
 use Rattle.capcheck.specs.declared.verdict.JudgeFault.{JudgeFault}
 use Rattle.capcheck.specs.declared.verdict.JudgeFault.TheVariants.{Pull, NoMemory}
-use Rattle.capcheck.specs.Logs.{Beginning, lines_of, text_of, account_after, IsAccepted, IsLogOf, IsFirstFault, MayLackMemory, NamesNoGranules}
+use Rattle.capcheck.specs.Logs.{Beginning, lines_of, text_of, account_after, IsAccepted, IsLogOf}
+use Rattle.capcheck.specs.Logs.{IsFirstFault, MayLackMemory, NamesNoGranules}
 use Rattle.capcheck.specs.Progresses.{IsAt, Reading}
 use Rattle.capcheck.specs.Verdicts.{IsVerdict, EscapesExactly, GuardsAuthority}
 

@@ -13,7 +13,8 @@ use Rattle.cap_machine.specs.Accounts.{is_new}
 use Rattle.cap_machine.specs.Helds.{Held, account_of, held_of}
 use Rattle.tagmem.specs.Granules.{Granules}
 use Rattle.capcheck.specs.declared.progress.Progress.{Progress}
-use Rattle.capcheck.specs.Logs.{Beginning, Nothing, NoMode, Body, Whole, SpellsBy, lines_of, text_of, account_after, RunsBy, RefusesWhole, WantsMemory, line_tests, named_by_line}
+use Rattle.capcheck.specs.Logs.{Beginning, Nothing, NoMode, Body, Whole, SpellsBy, lines_of, text_of, account_after}
+use Rattle.capcheck.specs.Logs.{RunsBy, RefusesWhole, WantsMemory, line_tests, named_by_line}
 
 -- how far a log was read: what the machine holds, and whether the end line has come
 pub record Reading : Type 0 where
@@ -71,12 +72,14 @@ HasRead gave old new reading rest line = (given : List ℕ) × gave old new give
 
 -- a line at the front of the bytes, with its line feed, was taken, and this rest is left
 abbrev pub TakesFront : Reading → List ℕ → Reading → List ℕ → Type 0
-TakesFront old bytes new rest = (line : Line) × Begins IsInRange spelling 10 bytes line rest × ((text : List ℕ) → Spells text line → GoesOn old text new)
+TakesFront old bytes new rest =
+    (line : Line) × Begins IsInRange spelling 10 bytes line rest × ((text : List ℕ) → Spells text line → GoesOn old text new)
 
 -- a line at the front of the bytes, with its line feed, was not taken
 abbrev pub EndsFront : Reading → List ℕ → StepEnd → Type 0
 EndsFront reading bytes end =
-    (line : Line) × (rest : List ℕ) × Begins IsInRange spelling 10 bytes line rest × ((text : List ℕ) → Spells text line → EndsNext reading text end)
+    (line : Line) × (rest : List ℕ) × Begins IsInRange spelling 10 bytes line rest
+    × ((text : List ℕ) → Spells text line → EndsNext reading text end)
 
 -- wherever the judge was at the line that these bytes begin with, it is now at a later one, which the rest begins with
 abbrev pub IsLaterAt : Reading → List ℕ → ℕ → Reading → List ℕ → ℕ → Type 0

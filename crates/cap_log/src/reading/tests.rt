@@ -1,7 +1,9 @@
 //! Lines that are read, each form at the ends of its ranges, and texts that are no line.
 
 use super::{read_line, take_line};
+use crate::heads::{AccessStep, Head, NumberStep, RegisterStep};
 use crate::lines::{Line, Mode, Place, Step};
+use crate::operands::{take_access_step, take_number_step, take_operands, take_register_step};
 use cap_word::{Cap, Word};
 use std::process::Abort;
 
@@ -249,15 +251,72 @@ fn refuses_other_accesses(rt: HostRuntime) {
     refuses(&rt, b"store c1 0 1 = 00");
 }
 
-// The line at the front of these bytes, and what stands behind it.
-fn takes(rt: &impl Abort, bytes: &[u8], line: Line, behind: &[u8]) {
-    match take_line(bytes) {
+// A line was taken, and this stands behind it.
+fn is_taken(rt: &impl Abort, taken: Option<(Line, &[u8])>, line: Line, behind: &[u8]) {
+    match taken {
         Some((found, rest)) => {
             assert_eq!(rt; found, line);
             assert_eq!(rt; rest, behind);
         }
         None => assert!(rt; false),
     }
+}
+
+// The line at the front of these bytes, and what stands behind it.
+fn takes(rt: &impl Abort, bytes: &[u8], line: Line, behind: &[u8]) {
+    is_taken(rt, take_line(bytes), line, behind);
+}
+
+#[test]
+fn takes_operands_behind_a_head(rt: HostRuntime) {
+    let moved = Line::Step(Step::Move {
+        target: 31,
+        source: 0,
+        result: NOTHING,
+    });
+    let text = b"c31 c0 = 0 00000000000000000000000000000000\nend";
+    is_taken(
+        &rt,
+        take_register_step(RegisterStep::Move, text),
+        moved,
+        b"end",
+    );
+    is_taken(
+        &rt,
+        take_operands(Head::Registers(RegisterStep::Move), text),
+        moved,
+        b"end",
+    );
+    assert!(rt; take_register_step(RegisterStep::Seal, text).is_none());
+    let masked = Line::Step(Step::AndPerm {
+        target: 1,
+        source: 2,
+        mask: 4,
+        result: NOTHING,
+    });
+    let text = b"c1 c2 0000000000000004 = 0 00000000000000000000000000000000\n";
+    is_taken(
+        &rt,
+        take_number_step(NumberStep::AndPerm, text),
+        masked,
+        b"",
+    );
+    assert!(rt; take_number_step(NumberStep::AndPerm, b"c1 c2 0\n").is_none());
+    let stored = Line::Step(Step::StoreCap {
+        source: 3,
+        authority: 4,
+        offset: -2048,
+    });
+    is_taken(
+        &rt,
+        take_access_step(AccessStep::StoreCap, b"c3 c4 -2048\n\n"),
+        stored,
+        b"\n",
+    );
+    assert!(rt; take_access_step(AccessStep::StoreCap, b"c3 c4 -2049\n").is_none());
+    is_taken(&rt, take_operands(Head::End, b"7\nx"), Line::End(7), b"x");
+    assert!(rt; take_operands(Head::End, b"7").is_none());
+    assert!(rt; take_operands(Head::Version, b"3\n").is_none());
 }
 
 #[test]

@@ -45,6 +45,19 @@ fn pieces_of_one_size(rt: HostRuntime) {
 }
 
 #[test]
+fn what_is_kept_can_be_consumed(rt: HostRuntime) {
+    let mut source = SliceSource::new(TEXT, &[]);
+    let mut lines = Lines::new();
+    assert_eq!(rt; lines.kept(), b"".as_slice());
+    gives(&rt, &mut lines, &mut source, Ok(Next::Line(b"capcheck 1")));
+    assert_eq!(rt; lines.kept(), b"\nend 0\n".as_slice());
+    lines.consume(1);
+    assert_eq!(rt; lines.kept(), b"end 0\n".as_slice());
+    gives(&rt, &mut lines, &mut source, Ok(Next::Line(b"end 0")));
+    gives(&rt, &mut lines, &mut source, Ok(Next::Finished));
+}
+
+#[test]
 fn one_cut(rt: HostRuntime) {
     for at in 0..TEXT.len() + 2 {
         gives_the_text(&rt, &[at]);
