@@ -36,7 +36,7 @@ pub use crate::fronts::finding::front;
 pub use crate::heads::{AccessStep, Head, NumberStep, RegisterStep};
 pub use crate::lines::{Line, Mode, Place, Step};
 pub use crate::nexts::Next;
-pub use crate::operands::{take_access_step, take_number_step, take_operands, take_register_step};
+pub use crate::operands::take_operands;
 pub use crate::parts::decimals::Count;
 pub use crate::parts::hexadecimals::{Number, WideNumber};
 pub use crate::parts::signs::{Equals, Flag};

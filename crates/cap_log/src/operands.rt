@@ -41,7 +41,11 @@ type CapStored = (Register, (Register, Offset));
 
 /// Takes what stands behind a line's head and its space, with the line feed: the line, and what comes
 /// behind it. `None` where no operands of such a line and a line feed stand there.
-pub fn take_operands(head: Head, bytes: &[u8]) -> Option<(Line, &[u8])>
+///
+/// `COPY` changes nothing. Who knows the head takes a number of its own: then the compiler makes it a copy that
+/// nothing else calls, with the other heads left out.
+#[inline(always)]
+pub fn take_operands<const COPY: u8>(head: Head, bytes: &[u8]) -> Option<(Line, &[u8])>
     ensures some { IfSome result (λ p. Begins IsInRange spelling 10 (head_spelling head ++ 32 ∷ bytes.now) p.0 p.1.now) }
     ensures none { IfNone result (BeginsWithNone IsInRange spelling 10 (head_spelling head ++ 32 ∷ bytes.now)) }
 {
@@ -60,41 +64,14 @@ pub fn take_operands(head: Head, bytes: &[u8]) -> Option<(Line, &[u8])>
             let ((place, word), rest) = <(Place, Word)>::take(bytes, b'\n')?;
             Some((Line::Root(place, word), rest))
         }
-        Head::Registers(kind) => read_register_step::<false>(kind, bytes),
-        Head::Number(kind) => read_number_step::<false>(kind, bytes),
-        Head::Access(kind) => read_access_step::<false>(kind, bytes),
+        Head::Registers(kind) => read_register_step::<COPY>(kind, bytes),
+        Head::Number(kind) => read_number_step::<COPY>(kind, bytes),
+        Head::Access(kind) => read_access_step::<COPY>(kind, bytes),
         Head::End => {
             let (count, rest) = Count::take(bytes, b'\n')?;
             Some((Line::End(count.0), rest))
         }
     }
-}
-
-/// Takes what stands behind the head of a step whose operands are registers, as [`take_operands`] does.
-#[inline(always)]
-pub fn take_register_step(kind: RegisterStep, bytes: &[u8]) -> Option<(Line, &[u8])>
-    ensures some { IfSome result (λ p. Begins IsInRange spelling 10 (head_spelling (head.Registers kind) ++ 32 ∷ bytes.now) p.0 p.1.now) }
-    ensures none { IfNone result (BeginsWithNone IsInRange spelling 10 (head_spelling (head.Registers kind) ++ 32 ∷ bytes.now)) }
-{
-    read_register_step::<true>(kind, bytes)
-}
-
-/// Takes what stands behind the head of a step with a number, as [`take_operands`] does.
-#[inline(always)]
-pub fn take_number_step(kind: NumberStep, bytes: &[u8]) -> Option<(Line, &[u8])>
-    ensures some { IfSome result (λ p. Begins IsInRange spelling 10 (head_spelling (head.Number kind) ++ 32 ∷ bytes.now) p.0 p.1.now) }
-    ensures none { IfNone result (BeginsWithNone IsInRange spelling 10 (head_spelling (head.Number kind) ++ 32 ∷ bytes.now)) }
-{
-    read_number_step::<true>(kind, bytes)
-}
-
-/// Takes what stands behind the head of a step that reads or writes memory, as [`take_operands`] does.
-#[inline(always)]
-pub fn take_access_step(kind: AccessStep, bytes: &[u8]) -> Option<(Line, &[u8])>
-    ensures some { IfSome result (λ p. Begins IsInRange spelling 10 (head_spelling (head.Access kind) ++ 32 ∷ bytes.now) p.0 p.1.now) }
-    ensures none { IfNone result (BeginsWithNone IsInRange spelling 10 (head_spelling (head.Access kind) ++ 32 ∷ bytes.now)) }
-{
-    read_access_step::<true>(kind, bytes)
 }
 
 // Reads the number of a version.
@@ -123,10 +100,9 @@ fn read_mode(word: &[u8]) -> Option<Mode>
     }
 }
 
-// A step whose operands are registers. Each of these three readers has a copy for whoever knows the head, that
-// nothing else calls: so it is compiled into its caller, and nothing of the line goes through memory.
+// A step whose operands are registers.
 #[inline(always)]
-fn read_register_step<const ALONE: bool>(kind: RegisterStep, bytes: &[u8]) -> Option<(Line, &[u8])>
+fn read_register_step<const COPY: u8>(kind: RegisterStep, bytes: &[u8]) -> Option<(Line, &[u8])>
     ensures some { IfSome result (λ p. Begins IsInRange spelling 10 (head_spelling (head.Registers kind) ++ 32 ∷ bytes.now) p.0 p.1.now) }
     ensures none { IfNone result (BeginsWithNone IsInRange spelling 10 (head_spelling (head.Registers kind) ++ 32 ∷ bytes.now)) }
 {
@@ -182,7 +158,7 @@ fn read_register_step<const ALONE: bool>(kind: RegisterStep, bytes: &[u8]) -> Op
 
 // A step whose operands are two registers and a number.
 #[inline(always)]
-fn read_number_step<const ALONE: bool>(kind: NumberStep, bytes: &[u8]) -> Option<(Line, &[u8])>
+fn read_number_step<const COPY: u8>(kind: NumberStep, bytes: &[u8]) -> Option<(Line, &[u8])>
     ensures some { IfSome result (λ p. Begins IsInRange spelling 10 (head_spelling (head.Number kind) ++ 32 ∷ bytes.now) p.0 p.1.now) }
     ensures none { IfNone result (BeginsWithNone IsInRange spelling 10 (head_spelling (head.Number kind) ++ 32 ∷ bytes.now)) }
 {
@@ -229,7 +205,7 @@ fn read_number_step<const ALONE: bool>(kind: NumberStep, bytes: &[u8]) -> Option
 
 // A step with an authority and an offset.
 #[inline(always)]
-fn read_access_step<const ALONE: bool>(kind: AccessStep, bytes: &[u8]) -> Option<(Line, &[u8])>
+fn read_access_step<const COPY: u8>(kind: AccessStep, bytes: &[u8]) -> Option<(Line, &[u8])>
     ensures some { IfSome result (λ p. Begins IsInRange spelling 10 (head_spelling (head.Access kind) ++ 32 ∷ bytes.now) p.0 p.1.now) }
     ensures none { IfNone result (BeginsWithNone IsInRange spelling 10 (head_spelling (head.Access kind) ++ 32 ∷ bytes.now)) }
 {

@@ -6,15 +6,12 @@ ghost use Rattle.cap_log.specs.declared.heads.Head.TheVariants as head;
 ghost use Rattle.capcheck.specs.Progresses.{EndsFront, TakesFront, reading_of};
 
 use crate::progress::Progress;
-use cap_log::{
-    AccessStep, Head, NumberStep, Part, RegisterStep, take_access_step, take_number_step,
-    take_operands, take_register_step,
-};
+use cap_log::{AccessStep, Head, NumberStep, Part, RegisterStep, take_operands};
 use cap_machine::StepEnd;
 use tagmem::TaggedStore;
 
-// Each sort of line is read and taken in a function of its own: there it is known which steps may come, and no
-// line goes through memory.
+// Each kind of step is read and made in a copy of its own, which the compiler makes without the other kinds: so
+// no step goes through memory.
 impl<M: TaggedStore> Progress<M> {
     /// Takes the line at the front of some bytes: what comes behind its line feed, or `None`, and nothing has
     /// changed, where no line that has a form stands there whole.
@@ -30,82 +27,51 @@ impl<M: TaggedStore> Progress<M> {
             return Ok(None);
         };
         match head {
-            Head::Registers(kind) => self.take_registers(kind, operands),
-            Head::Number(kind) => self.take_number(kind, operands),
-            Head::Access(kind) => self.take_access(kind, operands),
-            Head::Version | Head::Mode | Head::Root | Head::End => self.take_other(head, operands),
+            Head::Registers(RegisterStep::Move) => {
+                self.take_behind::<1>(Head::Registers(RegisterStep::Move), operands)
+            }
+            Head::Registers(RegisterStep::ClearTag) => {
+                self.take_behind::<2>(Head::Registers(RegisterStep::ClearTag), operands)
+            }
+            Head::Registers(RegisterStep::Seal) => {
+                self.take_behind::<3>(Head::Registers(RegisterStep::Seal), operands)
+            }
+            Head::Registers(RegisterStep::Unseal) => {
+                self.take_behind::<4>(Head::Registers(RegisterStep::Unseal), operands)
+            }
+            Head::Number(NumberStep::SetBounds) => {
+                self.take_behind::<5>(Head::Number(NumberStep::SetBounds), operands)
+            }
+            Head::Number(NumberStep::SetBoundsExact) => {
+                self.take_behind::<6>(Head::Number(NumberStep::SetBoundsExact), operands)
+            }
+            Head::Number(NumberStep::SetAddr) => {
+                self.take_behind::<7>(Head::Number(NumberStep::SetAddr), operands)
+            }
+            Head::Number(NumberStep::AndPerm) => {
+                self.take_behind::<8>(Head::Number(NumberStep::AndPerm), operands)
+            }
+            Head::Access(AccessStep::LoadCap) => {
+                self.take_behind::<9>(Head::Access(AccessStep::LoadCap), operands)
+            }
+            Head::Access(AccessStep::StoreCap) => {
+                self.take_behind::<10>(Head::Access(AccessStep::StoreCap), operands)
+            }
+            Head::Access(AccessStep::Load) => {
+                self.take_behind::<11>(Head::Access(AccessStep::Load), operands)
+            }
+            Head::Access(AccessStep::Store) => {
+                self.take_behind::<12>(Head::Access(AccessStep::Store), operands)
+            }
+            Head::Version | Head::Mode | Head::Root | Head::End => {
+                self.take_behind::<0>(head, operands)
+            }
         }
     }
 
-    // Takes a step whose operands are registers, from behind its head.
+    // Takes the line that has this head, from behind it.
     #[inline(never)]
-    fn take_registers<'a>(
-        &mut self,
-        kind: RegisterStep,
-        operands: &'a [u8],
-    ) -> Result<Option<&'a [u8]>, StepEnd>
-        requires unended { self.old.ended ≡ false }
-        ensures some { IfOk result (λ taken. IfSome taken (λ rest. TakesFront (reading_of M.contents self.old)
-            (head_spelling (head.Registers kind) ++ 32 ∷ operands.now) (reading_of M.contents self.new) rest.now)) }
-        ensures none { IfOk result (λ taken. IfNone taken (self.new ≡ self.old)) }
-        ensures err { IfErr result (EndsFront (reading_of M.contents self.old) (head_spelling (head.Registers kind) ++ 32 ∷ operands.now)) }
-    {
-        let Some((line, rest)) = take_register_step(kind, operands) else {
-            return Ok(None);
-        };
-        match self.take_known(&line) {
-            Ok(()) => Ok(Some(rest)),
-            Err(end) => Err(end),
-        }
-    }
-
-    // Takes a step with a number, from behind its head.
-    #[inline(never)]
-    fn take_number<'a>(
-        &mut self,
-        kind: NumberStep,
-        operands: &'a [u8],
-    ) -> Result<Option<&'a [u8]>, StepEnd>
-        requires unended { self.old.ended ≡ false }
-        ensures some { IfOk result (λ taken. IfSome taken (λ rest. TakesFront (reading_of M.contents self.old)
-            (head_spelling (head.Number kind) ++ 32 ∷ operands.now) (reading_of M.contents self.new) rest.now)) }
-        ensures none { IfOk result (λ taken. IfNone taken (self.new ≡ self.old)) }
-        ensures err { IfErr result (EndsFront (reading_of M.contents self.old) (head_spelling (head.Number kind) ++ 32 ∷ operands.now)) }
-    {
-        let Some((line, rest)) = take_number_step(kind, operands) else {
-            return Ok(None);
-        };
-        match self.take_known(&line) {
-            Ok(()) => Ok(Some(rest)),
-            Err(end) => Err(end),
-        }
-    }
-
-    // Takes a step that reads or writes memory, from behind its head.
-    #[inline(never)]
-    fn take_access<'a>(
-        &mut self,
-        kind: AccessStep,
-        operands: &'a [u8],
-    ) -> Result<Option<&'a [u8]>, StepEnd>
-        requires unended { self.old.ended ≡ false }
-        ensures some { IfOk result (λ taken. IfSome taken (λ rest. TakesFront (reading_of M.contents self.old)
-            (head_spelling (head.Access kind) ++ 32 ∷ operands.now) (reading_of M.contents self.new) rest.now)) }
-        ensures none { IfOk result (λ taken. IfNone taken (self.new ≡ self.old)) }
-        ensures err { IfErr result (EndsFront (reading_of M.contents self.old) (head_spelling (head.Access kind) ++ 32 ∷ operands.now)) }
-    {
-        let Some((line, rest)) = take_access_step(kind, operands) else {
-            return Ok(None);
-        };
-        match self.take_known(&line) {
-            Ok(()) => Ok(Some(rest)),
-            Err(end) => Err(end),
-        }
-    }
-
-    // Takes any line, from behind its head.
-    #[inline(never)]
-    fn take_other<'a>(
+    fn take_behind<'a, const COPY: u8>(
         &mut self,
         head: Head,
         operands: &'a [u8],
@@ -116,7 +82,7 @@ impl<M: TaggedStore> Progress<M> {
         ensures none { IfOk result (λ taken. IfNone taken (self.new ≡ self.old)) }
         ensures err { IfErr result (EndsFront (reading_of M.contents self.old) (head_spelling head ++ 32 ∷ operands.now)) }
     {
-        let Some((line, rest)) = take_operands(head, operands) else {
+        let Some((line, rest)) = take_operands::<COPY>(head, operands) else {
             return Ok(None);
         };
         match self.take_known(&line) {

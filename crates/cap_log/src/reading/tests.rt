@@ -3,7 +3,7 @@
 use super::{read_line, take_line};
 use crate::heads::{AccessStep, Head, NumberStep, RegisterStep};
 use crate::lines::{Line, Mode, Place, Step};
-use crate::operands::{take_access_step, take_number_step, take_operands, take_register_step};
+use crate::operands::take_operands;
 use cap_word::{Cap, Word};
 use std::process::Abort;
 
@@ -277,46 +277,48 @@ fn takes_operands_behind_a_head(rt: HostRuntime) {
     let text = b"c31 c0 = 0 00000000000000000000000000000000\nend";
     is_taken(
         &rt,
-        take_register_step(RegisterStep::Move, text),
+        take_operands::<0>(Head::Registers(RegisterStep::Move), text),
         moved,
         b"end",
     );
     is_taken(
         &rt,
-        take_operands(Head::Registers(RegisterStep::Move), text),
+        take_operands::<1>(Head::Registers(RegisterStep::Move), text),
         moved,
         b"end",
     );
-    assert!(rt; take_register_step(RegisterStep::Seal, text).is_none());
+    assert!(rt; take_operands::<0>(Head::Registers(RegisterStep::Seal), text).is_none());
     let masked = Line::Step(Step::AndPerm {
         target: 1,
         source: 2,
         mask: 4,
         result: NOTHING,
     });
+    let masking = Head::Number(NumberStep::AndPerm);
     let text = b"c1 c2 0000000000000004 = 0 00000000000000000000000000000000\n";
-    is_taken(
-        &rt,
-        take_number_step(NumberStep::AndPerm, text),
-        masked,
-        b"",
-    );
-    assert!(rt; take_number_step(NumberStep::AndPerm, b"c1 c2 0\n").is_none());
+    is_taken(&rt, take_operands::<0>(masking, text), masked, b"");
+    assert!(rt; take_operands::<0>(masking, b"c1 c2 0\n").is_none());
     let stored = Line::Step(Step::StoreCap {
         source: 3,
         authority: 4,
         offset: -2048,
     });
+    let storing = Head::Access(AccessStep::StoreCap);
     is_taken(
         &rt,
-        take_access_step(AccessStep::StoreCap, b"c3 c4 -2048\n\n"),
+        take_operands::<0>(storing, b"c3 c4 -2048\n\n"),
         stored,
         b"\n",
     );
-    assert!(rt; take_access_step(AccessStep::StoreCap, b"c3 c4 -2049\n").is_none());
-    is_taken(&rt, take_operands(Head::End, b"7\nx"), Line::End(7), b"x");
-    assert!(rt; take_operands(Head::End, b"7").is_none());
-    assert!(rt; take_operands(Head::Version, b"3\n").is_none());
+    assert!(rt; take_operands::<0>(storing, b"c3 c4 -2049\n").is_none());
+    is_taken(
+        &rt,
+        take_operands::<0>(Head::End, b"7\nx"),
+        Line::End(7),
+        b"x",
+    );
+    assert!(rt; take_operands::<0>(Head::End, b"7").is_none());
+    assert!(rt; take_operands::<0>(Head::Version, b"3\n").is_none());
 }
 
 #[test]
