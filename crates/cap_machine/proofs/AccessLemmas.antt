@@ -70,12 +70,12 @@ lie_inside rules roots steps states sound ranges run moment step access at is =
     let grant = granted state step access free is in
     let below = in_range steps moment step at in
     let root = one_root rules roots steps states sound ranges run moment (omega arith) access.authority grant.tag in
-    let within = root.2 in (
+    let reach = root.2 in (
       root.0,
       root.1,
       record {
-        from = omega (arith, within.inside.0, grant.allowed.from);
-        until = omega (arith, within.inside.1, grant.allowed.until);
-        permitted = within.fewer access.permission grant.allowed.permits;
+        from = omega (arith, reach.inside.0, grant.allowed.from);
+        until = omega (arith, reach.inside.1, grant.allowed.until);
+        permitted = reach.fewer access.permission grant.allowed.permits;
       },
     )

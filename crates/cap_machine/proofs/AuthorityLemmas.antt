@@ -1,4 +1,4 @@
--- Each tagged capability of a run descends from one root, and lies within it; so does each access.
+-- Each tagged capability of a run descends from one root, and reaches no more; so does each access.
 use Rattle.std.proofs.Common.{◌≡◌, ℕ, zero, suc, ◌≤◌, inl, inr, Bool, true, false, ◌∷◌, [], List, length, take, refl, sym, ap, subst, ◌∙◌, arith, Option, Some, None, Contains}
 use Rattle.std.specs.Bool.{if◌then◌else◌}
 use Rattle.std.specs.List.{AllByRecursion}
@@ -10,8 +10,8 @@ use Rattle.cap_bounds.specs.Bounds.{IsSound}
 use Rattle.cap_log.specs.declared.lines.Place.{Place}
 use Rattle.cap_log.specs.declared.lines.Step.{Step}
 use Rattle.cap_log.specs.Lines.{IsStepInRange}
-use Rattle.cap_ops.specs.Authority.{IsWithin}
-use Rattle.cap_ops.proofs.WithinLemmas.{IsWithin-refl, IsWithin-trans}
+use Rattle.cap_ops.specs.Authority.{ReachesNoMore}
+use Rattle.cap_ops.proofs.ReachLemmas.{ReachesNoMore-refl, ReachesNoMore-trans}
 use Rattle.cap_machine.specs.declared.rules.Rules.{Rules}
 use Rattle.cap_machine.specs.States.{State, DeclaredRoot, key_of, tagged, start}
 use Rattle.cap_machine.specs.Steps.{Leads, row_of, row_by, state_with}
@@ -19,11 +19,11 @@ use Rattle.cap_machine.specs.Runs.{IsRun, state_at, last_of, hits, parent_in, pa
 use Rattle.cap_machine.specs.Parents.{IsSoundState, ComesFrom}
 use Rattle.cap_machine.proofs.StepLemmas.{WritesWithin, writes_within_by, hits-row_by}
 
--- what a tagged place holds after a write lies within what the place before the write held that it comes from
+-- what a tagged place holds after a write reaches no more than what the place before the write held that it comes from
 record Came (old new : State) (hit : Bool) (parent : Option Place) (key from : ℕ) : Type 0 where
   pub by : parent_in hit (new key).tag parent key ≡ Some from
   pub tag : (old from).tag ≡ true
-  pub within : IsWithin (new key).word.0 (old from).word.0
+  pub no_more : ReachesNoMore (new key).word.0 (old from).word.0
   pub sound : IsSound (new key).word.0
 
 -- at the place that is written
@@ -38,7 +38,7 @@ came_there old new hit (Some parent) write key sound within there is held =
       record {
         by = ap (λ (b : Bool). parent_in b (new key).tag (Some parent) key) there ∙ ap (λ (b : Bool). if b then Some (key_of parent) else None) held;
         tag = tagged_from;
-        within = subst (λ (cap : Cap). IsWithin cap.word.0 (old (key_of parent)).word.0) (sym is) (within.within held_there sound_from);
+        no_more = subst (λ (cap : Cap). ReachesNoMore cap.word.0 (old (key_of parent)).word.0) (sym is) (within.no_more held_there sound_from);
         sound = subst (λ (cap : Cap). IsSound cap.word.0) (sym is) (within.sound held_there sound_from);
       },
     )
@@ -52,7 +52,7 @@ came_here old new hit parent key sound elsewhere is held =
       record {
         by = ap (λ (b : Bool). parent_in b (new key).tag parent key) elsewhere;
         tag = held_here;
-        within = subst (λ (cap : Cap). IsWithin cap.word.0 (old key).word.0) (sym is) (IsWithin-refl (old key).word.0);
+        no_more = subst (λ (cap : Cap). ReachesNoMore cap.word.0 (old key).word.0) (sym is) (ReachesNoMore-refl (old key).word.0);
         sound = subst (λ (cap : Cap). IsSound cap.word.0) (sym is) (sound key held_here);
       },
     )
@@ -81,7 +81,7 @@ one_back rules old step new key range sound leads held =
       record {
         parent = ap (λ (hit : Bool). parent_in hit (after key).tag row.parent key) (sym (hits-row_by rules row key)) ∙ from.by;
         tag = from.tag;
-        within = from.within;
+        no_more = from.no_more;
         sound = from.sound;
       },
     )
@@ -98,16 +98,16 @@ sound_along rules state (step ∷ steps) [] range sound run = absurd run
 sound_along rules state (step ∷ steps) (next ∷ states) range sound run =
     sound_along rules next steps states range.1 (sound_after rules state step next range.0 sound run.0) run.1
 
--- the chain of parents of a tagged place leads back to a tagged place that it lies within
+-- the chain of parents of a tagged place leads back to a tagged place, and it reaches no more than that
 pub record ChainsTo (state : State) (steps : List Step) (states : List State) (cap : Cap) (key from : ℕ) : Type 0 where
   pub descends : Descends state steps states key from
   pub tag : (state from).tag ≡ true
-  pub within : IsWithin cap.word.0 (state from).word.0
+  pub no_more : ReachesNoMore cap.word.0 (state from).word.0
 
 pub back : (rules : Rules) (state : State) (steps : List Step) (states : List State) (moment key : ℕ) → AllByRecursion IsStepInRange steps → IsSoundState state
     → IsRun rules state steps states → moment ≤ length steps → (state_at state states moment key).tag ≡ true
     → (from : ℕ) × ChainsTo state (take moment steps) (take moment states) (state_at state states moment key) key from
-back rules state steps states zero key ranges sound run within held = (key, record { descends = refl; tag = held; within = IsWithin-refl (state key).word.0 })
+back rules state steps states zero key ranges sound run within held = (key, record { descends = refl; tag = held; no_more = ReachesNoMore-refl (state key).word.0 })
 back rules state [] states (suc moment) key ranges sound run within held = absurd (omega arith)
 back rules state (step ∷ steps) [] (suc moment) key ranges sound run within held = absurd run
 back rules state (step ∷ steps) (next ∷ states) (suc moment) key ranges sound run within held =
@@ -117,7 +117,7 @@ back rules state (step ∷ steps) (next ∷ states) (suc moment) key ranges soun
       record {
         descends = (later.0, later.1.descends, earlier.1.parent);
         tag = earlier.1.tag;
-        within = IsWithin-trans _ _ _ later.1.within earlier.1.within;
+        no_more = ReachesNoMore-trans _ _ _ later.1.no_more earlier.1.no_more;
       },
     )
 
@@ -139,8 +139,8 @@ rooted_at (root ∷ roots) key held =
       | inl same ↦ (root, (0, omega arith, refl), same.1, ap there same.0)
       | inr unlike ↦
           let rest = rooted_at roots key (ap (λ (cap : Cap). cap.tag) (sym (ap there unlike.0)) ∙ held) in
-          let place = rest.1 in
-          (rest.0, (suc place.0, omega (arith, place.1), place.2), rest.2, ap there unlike.0 ∙ rest.3)
+          let contained = rest.1 in
+          (rest.0, (suc contained.0, omega (arith, contained.1), contained.2), rest.2, ap there unlike.0 ∙ rest.3)
     ]
 
 pub start_sound : (roots : List DeclaredRoot) → AreSound roots → IsSoundState (start roots)
@@ -148,7 +148,7 @@ start_sound roots sound key held =
     let root = rooted_at roots key held in
     subst (λ (cap : Cap). IsSound cap.word.0) (sym root.3) (sound root.0 root.1)
 
--- a tagged place at a moment of a run descends from one root, and lies within it
+-- a tagged place at a moment of a run descends from one root, and reaches no more
 pub one_root : (rules : Rules) (roots : List DeclaredRoot) (steps : List Step) (states : List State) → AreSound roots → AllByRecursion IsStepInRange steps → IsRun rules (start roots) steps states
     → AuthorityNeverGrows roots steps states
 one_root rules roots steps states sound ranges run moment within key held =
@@ -161,5 +161,5 @@ one_root rules roots steps states sound ranges run moment within key held =
         descends = leads_there;
         only = λ from other. one_chain (start roots) (take moment steps) (take moment states) key from (key_of root.0.place) other leads_there;
       },
-      subst (λ (cap : Cap). IsWithin (state_at (start roots) states moment key).word.0 cap.word.0) root.3 chain.1.within,
+      subst (λ (cap : Cap). ReachesNoMore (state_at (start roots) states moment key).word.0 cap.word.0) root.3 chain.1.no_more,
     )

@@ -75,9 +75,9 @@ coded_choice : (b : Bool) (x y : Cap) (m n : ℕ) → IsCoded x.tag m → IsCode
 coded_choice true x y m n h k = h
 coded_choice false x y m n h k = k
 
-coded_put : (state : State) (codes : ℕ → ℕ) (place : ℕ) (cap : Cap) (code : ℕ) → AreCoded state codes → IsCoded cap.tag code
-    → AreCoded (put state place cap) (put codes place code)
-coded_put state codes place cap code all one key = coded_choice (place == key) cap (state key) code (codes key) one (all key)
+coded_put : (state : State) (codes : ℕ → ℕ) (key : ℕ) (cap : Cap) (code : ℕ) → AreCoded state codes → IsCoded cap.tag code
+    → AreCoded (put state key cap) (put codes key code)
+coded_put state codes key cap code all one other = coded_choice (key == other) cap (state other) code (codes other) one (all other)
 
 -- a register that holds another capability, with its code
 pub coded_register : (registers : List Cap) (codes : List ℕ) (memory : Granules) (target : ℕ) (cap : Cap) (code : ℕ) → length registers ≡ 32 → length codes ≡ 32 → target ≤ 31
@@ -109,8 +109,8 @@ choice_under : {A B : Type 0} (f : A → B) (b : Bool) (x y : A) → f (if b the
 choice_under f true x y = refl
 choice_under f false x y = refl
 
-pub origins-put : (codes : ℕ → ℕ) (place code : ℕ) → origins_by (put codes place code) ≡ put (origins_by codes) place (place_at code)
-origins-put codes place code = fun_ext (λ key. choice_under place_at (place == key) code (codes key))
+pub origins-put : (codes : ℕ → ℕ) (key code : ℕ) → origins_by (put codes key code) ≡ put (origins_by codes) key (place_at code)
+origins-put codes key code = fun_ext (λ other. choice_under place_at (key == other) code (codes other))
 
 -- where a result is tagged, the place that it comes from has this code
 abbrev pub IsFrom : Held → Step → Cap → ℕ → Type 0

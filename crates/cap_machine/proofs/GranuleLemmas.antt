@@ -31,39 +31,39 @@ unfolding cap_of
 granule_cap-absent memory granule absent =
     ap (λ (o : Option Entry). cap_of (unwrap_or o blank)) absent ∙ ap (λ (n : ℕ). let cap : Cap = record { tag = false; word = record { 0 = n } } in cap) zero_word
 
--- the number of the bytes from a place on
-pub number_of-drop : (bytes : List ℕ) (place : ℕ) → ((i : ℕ) → get_or bytes i 0 < 256) → number_of bytes / 2 ^ (8 * place) ≡ number_of (drop place bytes)
+-- the number of the bytes from an index on
+pub number_of-drop : (bytes : List ℕ) (byte_index : ℕ) → ((i : ℕ) → get_or bytes i 0 < 256) → number_of bytes / 2 ^ (8 * byte_index) ≡ number_of (drop byte_index bytes)
 unfolding number_of
 number_of-drop bytes zero small = div-one (number_of bytes)
-number_of-drop [] (suc place) small = zero-div (2 ^ (8 * suc place))
-number_of-drop (x ∷ xs) (suc place) small =
+number_of-drop [] (suc byte_index) small = zero-div (2 ^ (8 * suc byte_index))
+number_of-drop (x ∷ xs) (suc byte_index) small =
     let first : x < 256 = small 0 in
-    let power : 2 ^ (8 * suc place) ≡ 256 * 2 ^ (8 * place) = ap (λ (n : ℕ). 2 ^ n) (let f : 8 * suc place ≡ 8 + 8 * place = omega arith in f) ∙ pow-add 2 8 (8 * place) in
+    let power : 2 ^ (8 * suc byte_index) ≡ 256 * 2 ^ (8 * byte_index) = ap (λ (n : ℕ). 2 ^ n) (let f : 8 * suc byte_index ≡ 8 + 8 * byte_index = omega arith in f) ∙ pow-add 2 8 (8 * byte_index) in
     let rest : (x + 256 * number_of xs) / 256 ≡ number_of xs = omega arith in
     ap (λ (n : ℕ). (x + 256 * number_of xs) / n) power
-    ∙ sym (div-div-eq-div-mul (x + 256 * number_of xs) 256 (2 ^ (8 * place)))
-    ∙ ap (λ (n : ℕ). n / 2 ^ (8 * place)) rest
-    ∙ number_of-drop xs place (λ i. small (suc i))
+    ∙ sym (div-div-eq-div-mul (x + 256 * number_of xs) 256 (2 ^ (8 * byte_index)))
+    ∙ ap (λ (n : ℕ). n / 2 ^ (8 * byte_index)) rest
+    ∙ number_of-drop xs byte_index (λ i. small (suc i))
 
 next_byte : (bytes : List ℕ) (i : ℕ) → i < length bytes → number_of (drop i bytes) ≡ get_or bytes i 0 + 256 * number_of (drop (i + 1) bytes)
 unfolding number_of
 next_byte bytes i h = at_drop_more number_of bytes i 0 h
 
-pub number_at-low_1 : (bytes : List ℕ) (place : ℕ) → length bytes ≡ 16 → ((i : ℕ) → get_or bytes i 0 < 256) → place + 1 ≤ 16
-    → number_of (drop place bytes) % 256 ≡ number_at bytes place 1
-number_at-low_1 bytes place sixteen small inside = omega (arith, next_byte bytes (place) (omega arith), small (place))
+pub number_at-low_1 : (bytes : List ℕ) (byte_index : ℕ) → length bytes ≡ 16 → ((i : ℕ) → get_or bytes i 0 < 256) → byte_index + 1 ≤ 16
+    → number_of (drop byte_index bytes) % 256 ≡ number_at bytes byte_index 1
+number_at-low_1 bytes byte_index sixteen small inside = omega (arith, next_byte bytes byte_index (omega arith), small byte_index)
 
-pub number_at-low_2 : (bytes : List ℕ) (place : ℕ) → length bytes ≡ 16 → ((i : ℕ) → get_or bytes i 0 < 256) → place + 2 ≤ 16
-    → number_of (drop place bytes) % 65536 ≡ number_at bytes place 2
-number_at-low_2 bytes place sixteen small inside = omega (arith, next_byte bytes (place) (omega arith), small (place), next_byte bytes (place + 1) (omega arith), small (place + 1))
+pub number_at-low_2 : (bytes : List ℕ) (byte_index : ℕ) → length bytes ≡ 16 → ((i : ℕ) → get_or bytes i 0 < 256) → byte_index + 2 ≤ 16
+    → number_of (drop byte_index bytes) % 65536 ≡ number_at bytes byte_index 2
+number_at-low_2 bytes byte_index sixteen small inside = omega (arith, next_byte bytes byte_index (omega arith), small byte_index, next_byte bytes (byte_index + 1) (omega arith), small (byte_index + 1))
 
-pub number_at-low_4 : (bytes : List ℕ) (place : ℕ) → length bytes ≡ 16 → ((i : ℕ) → get_or bytes i 0 < 256) → place + 4 ≤ 16
-    → number_of (drop place bytes) % 4294967296 ≡ number_at bytes place 4
-number_at-low_4 bytes place sixteen small inside = omega (arith, next_byte bytes (place) (omega arith), small (place), next_byte bytes (place + 1) (omega arith), small (place + 1), next_byte bytes (place + 1 + 1) (omega arith), small (place + 1 + 1), next_byte bytes (place + 1 + 1 + 1) (omega arith), small (place + 1 + 1 + 1))
+pub number_at-low_4 : (bytes : List ℕ) (byte_index : ℕ) → length bytes ≡ 16 → ((i : ℕ) → get_or bytes i 0 < 256) → byte_index + 4 ≤ 16
+    → number_of (drop byte_index bytes) % 4294967296 ≡ number_at bytes byte_index 4
+number_at-low_4 bytes byte_index sixteen small inside = omega (arith, next_byte bytes byte_index (omega arith), small byte_index, next_byte bytes (byte_index + 1) (omega arith), small (byte_index + 1), next_byte bytes (byte_index + 1 + 1) (omega arith), small (byte_index + 1 + 1), next_byte bytes (byte_index + 1 + 1 + 1) (omega arith), small (byte_index + 1 + 1 + 1))
 
-pub number_at-low_8 : (bytes : List ℕ) (place : ℕ) → length bytes ≡ 16 → ((i : ℕ) → get_or bytes i 0 < 256) → place + 8 ≤ 16
-    → number_of (drop place bytes) % 18446744073709551616 ≡ number_at bytes place 8
-number_at-low_8 bytes place sixteen small inside = omega (arith, next_byte bytes (place) (omega arith), small (place), next_byte bytes (place + 1) (omega arith), small (place + 1), next_byte bytes (place + 1 + 1) (omega arith), small (place + 1 + 1), next_byte bytes (place + 1 + 1 + 1) (omega arith), small (place + 1 + 1 + 1), next_byte bytes (place + 1 + 1 + 1 + 1) (omega arith), small (place + 1 + 1 + 1 + 1), next_byte bytes (place + 1 + 1 + 1 + 1 + 1) (omega arith), small (place + 1 + 1 + 1 + 1 + 1), next_byte bytes (place + 1 + 1 + 1 + 1 + 1 + 1) (omega arith), small (place + 1 + 1 + 1 + 1 + 1 + 1), next_byte bytes (place + 1 + 1 + 1 + 1 + 1 + 1 + 1) (omega arith), small (place + 1 + 1 + 1 + 1 + 1 + 1 + 1))
+pub number_at-low_8 : (bytes : List ℕ) (byte_index : ℕ) → length bytes ≡ 16 → ((i : ℕ) → get_or bytes i 0 < 256) → byte_index + 8 ≤ 16
+    → number_of (drop byte_index bytes) % 18446744073709551616 ≡ number_at bytes byte_index 8
+number_at-low_8 bytes byte_index sixteen small inside = omega (arith, next_byte bytes byte_index (omega arith), small byte_index, next_byte bytes (byte_index + 1) (omega arith), small (byte_index + 1), next_byte bytes (byte_index + 1 + 1) (omega arith), small (byte_index + 1 + 1), next_byte bytes (byte_index + 1 + 1 + 1) (omega arith), small (byte_index + 1 + 1 + 1), next_byte bytes (byte_index + 1 + 1 + 1 + 1) (omega arith), small (byte_index + 1 + 1 + 1 + 1), next_byte bytes (byte_index + 1 + 1 + 1 + 1 + 1) (omega arith), small (byte_index + 1 + 1 + 1 + 1 + 1), next_byte bytes (byte_index + 1 + 1 + 1 + 1 + 1 + 1) (omega arith), small (byte_index + 1 + 1 + 1 + 1 + 1 + 1), next_byte bytes (byte_index + 1 + 1 + 1 + 1 + 1 + 1 + 1) (omega arith), small (byte_index + 1 + 1 + 1 + 1 + 1 + 1 + 1))
 
 -- the bytes that std's conversion gives, as many as are taken
 pub taken_bytes : (k n i v : ℕ) → k ≤ n → take k (bytes_low_first i n v) ≡ low_bytes k (v / 256 ^ i)

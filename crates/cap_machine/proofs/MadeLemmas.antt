@@ -291,10 +291,10 @@ pub granule_bytes : (held : Held) (granule : ℕ) → AreStored held.memory → 
 granule_bytes held granule stored_all =
     let bytes = bytes_at held.memory granule in
     let sixteen = length-bytes_at held.memory stored_all granule in
-    let place : granule_key granule - 32 ≡ granule = omega arith in
+    let same : granule_key granule - 32 ≡ granule = omega arith in
     let past : nat_lt (granule_key granule) 32 ≡ false = le-ltb (granule_key granule) 32 (omega arith) in
     ap (λ (b : Bool). memory_of (let c : Cap = if b then get_or held.registers (granule_key granule) untagged_null else granule_cap held.memory (granule_key granule - 32) in c).word.0) past
-    ∙ ap (λ (g : ℕ). memory_of (stored_word (bytes_at held.memory g))) place
+    ∙ ap (λ (g : ℕ). memory_of (stored_word (bytes_at held.memory g))) same
     ∙ memory_of-stored_word bytes sixteen (λ i. byte_small bytes i (bytes_at_fit held.memory stored_all granule))
 
 -- a stored value

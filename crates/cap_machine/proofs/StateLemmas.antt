@@ -97,8 +97,8 @@ granule_of_key : {A : Type 0} (told : Entry → A) (memory : Granules) (granule 
 granule_of_key told memory granule entry key high =
     elim (eqb_tells (granule_key granule) key) [
       | inl same ↦
-          let place : key - 32 ≡ granule = omega arith in
-          ap (telling told (map.insert memory granule entry)) place
+          let number_is : key - 32 ≡ granule = omega arith in
+          ap (telling told (map.insert memory granule entry)) number_is
           ∙ ap told (entry_at-put_same memory granule entry)
           ∙ sym (cond-true (granule_key granule == key) (told entry) _ same.0)
       | inr unlike ↦

@@ -1,4 +1,4 @@
--- What a step writes lies within what its parent place held.
+-- What a step writes stays within what its parent place held.
 use Rattle.std.proofs.Common.{◌≡◌, ℕ, Bool, true, false, List, Option, Some, None, refl, sym, ap, ◌∙◌}
 use Rattle.cap_word.specs.declared.word.Cap.{Cap}
 use Rattle.cap_log.specs.declared.lines.Place.{Place}
@@ -10,7 +10,7 @@ use Rattle.cap_ops.specs.Operations.{clear_result}
 use Rattle.cap_ops.specs.Tests.{first_of}
 use Rattle.cap_ops.proofs.ClearLemmas.{StaysWithin-clear, clear_result-none, clear_result-some}
 use Rattle.cap_ops.specs.Authority.{StaysWithin}
-use Rattle.cap_ops.proofs.WithinLemmas.{StaysWithin-refl}
+use Rattle.cap_ops.proofs.ReachLemmas.{StaysWithin-refl}
 use Rattle.cap_ops.proofs.Derivations.{StaysWithin-and_perm, StaysWithin-seal, StaysWithin-unseal, StaysWithin-loaded, StaysWithin-cleared}
 use Rattle.cap_ops.proofs.NarrowingLemmas.{StaysWithin-set_bounds}
 use Rattle.cap_ops.proofs.AddressLemmas.{StaysWithin-set_addr}

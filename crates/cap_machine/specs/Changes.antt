@@ -90,8 +90,8 @@ with_cap_put held granule stored code =
 
 -- the machine with a value's bytes put into a granule, after one step more
 abbrev pub with_value_put : Held → ℕ → ℕ → ℕ → ℕ → Held
-with_value_put held granule place size value =
-    record held { memory = with_bytes held.memory granule place (low_bytes size value); steps = held.steps + 1 }
+with_value_put held granule byte_index size value =
+    record held { memory = with_bytes held.memory granule byte_index (low_bytes size value); steps = held.steps + 1 }
 
 -- what a machine answers where a put passes a limit or memory for it is refused, and nothing changes
 abbrev pub EndsPut : Held → ℕ → StepEnd → Held → Type 0

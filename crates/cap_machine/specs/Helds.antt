@@ -45,7 +45,7 @@ held_of contents machine = record {
 abbrev pub state_of : Held → State
 state_of held = places_of held.registers held.memory
 
--- the code of each place's origin
+-- the code of each place's origin, by the place's key
 abbrev pub code_in : Held → ℕ → ℕ
 code_in held = codes_of held.codes held.memory
 

@@ -5,11 +5,11 @@ use Rattle.cap_log.specs.declared.lines.Step.{Step}
 use Rattle.cap_machine.specs.States.{State}
 use Rattle.cap_machine.specs.Runs.{parent_of}
 
--- the origin of each place, by the place's number (this profile's own, as are all below)
+-- the origin of each place, by the place's key (this profile's own, as are all below)
 abbrev pub Origins : Type 0
 Origins = ℕ → Option Place
 
--- the origin of a place that may be none
+-- the origin of a place, by its key, where there is one
 abbrev pub origin_at : Origins → Option ℕ → Option Place
 origin_at origins None = None
 origin_at origins (Some key) = origins key

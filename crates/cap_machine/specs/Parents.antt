@@ -1,9 +1,9 @@
--- What a step leaves of authority: each tagged capability after it lies within the one that it comes from.
+-- What a step leaves of authority: each tagged capability after it reaches no more than the one that it comes from.
 use Rattle.std.specs.Prelude.{◌≡◌, ℕ, Some, IsTrue}
 use Rattle.cap_log.specs.declared.lines.Step.{Step}
 use Rattle.cap_word.specs.declared.word.Cap.{Cap}
 use Rattle.cap_bounds.specs.Bounds.{IsSound}
-use Rattle.cap_ops.specs.Authority.{IsWithin}
+use Rattle.cap_ops.specs.Authority.{ReachesNoMore}
 use Rattle.cap_machine.specs.States.{State}
 use Rattle.cap_machine.specs.Runs.{parent_of}
 
@@ -20,7 +20,7 @@ IsSoundState state = (key : ℕ) → IsSoundCap (state key)
 pub record ComesFrom (old : State) (step : Step) (new : State) (key from : ℕ) : Type 0 where
   pub parent : parent_of old step new key ≡ Some from
   pub tag : IsTrue (old from).tag
-  pub within : IsWithin (new key).word.0 (old from).word.0
+  pub no_more : ReachesNoMore (new key).word.0 (old from).word.0
   pub sound : IsSound (new key).word.0
 
 -- each place that is tagged after a step comes so from one before it

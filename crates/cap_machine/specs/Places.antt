@@ -11,7 +11,7 @@ use Rattle.cap_machine.specs.States.{State, untagged_null}
 abbrev pub granule_cap : Granules → ℕ → Cap
 granule_cap memory granule = record { tag = tag_at memory granule; word = record { 0 = stored_word (bytes_at memory granule) } }
 
--- what is told of each place, by the place's number, where it is told of registers and of granules
+-- what is told of each place, by the place's key, where it is told of registers and of granules
 abbrev pub at_places : {A : Type 0} → List A → A → (ℕ → A) → ℕ → A
 at_places registers default granules key = if nat_lt key 32 then slice_index_or registers key default else granules (key - 32)
 
@@ -23,11 +23,11 @@ places_of registers memory = at_places registers untagged_null (granule_cap memo
 abbrev pub codes_of : List ℕ → Granules → ℕ → ℕ
 codes_of codes memory = at_places codes 0 (code_at memory)
 
--- the place that has this number as its origin's code; 0 is none
+-- the place that the code of an origin is the key of; 0 is none
 abbrev pub place_at : ℕ → Option Place
 place_at code = if code == 0 then None else (if nat_lt code 32 then Some (Register code) else Some (Granule (code - 32)))
 
--- a code is a place's, or 0 exactly where there is no tag
+-- a code is a place's key, or 0 exactly where there is no tag
 abbrev pub IsCoded : Bool → ℕ → Type 0
 IsCoded tag code = IsCodeFor tag code × (code < 2 ^ 60 + 32)
 

@@ -5,7 +5,7 @@ use Rattle.cap_log.specs.declared.lines.Step.{Step}
 use Rattle.cap_log.specs.declared.lines.Place.{Place}
 use Rattle.cap_word.specs.declared.word.Cap.{Cap}
 use Rattle.cap_bounds.specs.Bounds.{base_of, top_of, IsSound}
-use Rattle.cap_ops.specs.Authority.{IsWithin}
+use Rattle.cap_ops.specs.Authority.{ReachesNoMore}
 use Rattle.cap_ops.specs.Permissions.{has_permission}
 use Rattle.cap_machine.specs.declared.rules.Rules.{Rules}
 use Rattle.cap_machine.specs.States.{State, DeclaredRoot, key_of, start}
@@ -30,13 +30,13 @@ abbrev pub last_of : State → List State → State
 last_of state [] = state
 last_of state (next ∷ states) = last_of next states
 
--- whether a write is to a place
+-- whether a write is to the place of a key
 abbrev pub hits : Option (Place × Cap) → ℕ → Bool
 hits None key = false
 hits (Some write) key = key_of write.0 == key
 
--- the place that a place's capability comes from in a step: the step's parent place where the step wrote to it and it is tagged then,
--- none where the step wrote to it and it is not, and the place itself where the step did not write to it
+-- the place, by its key, that a place's capability comes from in a step: the step's parent place where the step wrote to it and it is
+-- tagged then, none where the step wrote to it and it is not, and the place itself where the step did not write to it
 abbrev pub parent_in : Bool → Bool → Option Place → ℕ → Option ℕ
 parent_in hit held parent key = if hit then (if held then option_map key_of parent else None) else Some key
 
@@ -44,7 +44,7 @@ parent_in hit held parent key = if hit then (if held then option_map key_of pare
 abbrev pub parent_of : State → Step → State → ℕ → Option ℕ
 parent_of state step next key = let row = row_of state step in parent_in (hits row.writes key) (next key).tag row.parent key
 
--- the chain of parents from a place after a run of steps leads back to a place before it
+-- the chain of parents from a place after a run of steps leads back to a place before it, both by their keys
 abbrev pub Descends : State → List Step → List State → ℕ → ℕ → Type 0
 Descends state [] states key from = key ≡ from
 Descends state (step ∷ steps) [] key from = ⊥
@@ -64,7 +64,7 @@ abbrev pub AuthorityNeverGrows : List DeclaredRoot → List Step → List State 
 AuthorityNeverGrows roots steps states =
     (moment : ℕ) → moment ≤ length steps → (key : ℕ) → IsTrue (state_at (start roots) states moment key).tag
     → (root : DeclaredRoot) × DescendsFrom roots steps states moment key root
-    × IsWithin (state_at (start roots) states moment key).word.0 root.word.0
+    × ReachesNoMore (state_at (start roots) states moment key).word.0 root.word.0
 
 -- an access lies inside a root's bounds, and the root has its permission
 pub record LiesInside (access : Access) (root : DeclaredRoot) : Type 0 where

@@ -16,16 +16,16 @@ untagged_null = record { tag = false; word = record { 0 = null_word } }
 abbrev pub tagged : Word → Cap
 tagged word = record { tag = true; word = word }
 
--- the number of a granule's place (this profile's own)
+-- the key of a granule: its number and 32 more (this profile's own)
 abbrev pub granule_key : ℕ → ℕ
 granule_key granule = granule + 32
 
--- the number of a place: a register's own, and for memory its granule's and 32 more (this profile's own)
+-- the key of a place, which is its number among all places: a register's own, and for memory its granule's (this profile's own)
 abbrev pub key_of : Place → ℕ
 key_of (Register n) = n
 key_of (Granule g) = granule_key g
 
--- what each place holds, by the place's number. Number 0 is c0, which is no place: it reads as NULL, and nothing writes it
+-- what each place holds, by the place's key. Key 0 is that of c0, which is no place: it reads as NULL, and nothing writes it
 abbrev pub State : Type 0
 State = ℕ → Cap
 
@@ -33,9 +33,9 @@ State = ℕ → Cap
 abbrev pub blank : State
 blank key = untagged_null
 
--- what is told of each place, with something else told of one: a state with another capability there, say
+-- what is told of each key, with something else told of one: a state with another capability there, say
 abbrev pub put : {A : Type 0} → (ℕ → A) → ℕ → A → ℕ → A
-put places place value = λ key. if place == key then value else places key
+put told key value = λ other. if key == other then value else told other
 
 -- a root of a log: a tagged capability that a place holds from the start
 pub record DeclaredRoot : Type 0 where

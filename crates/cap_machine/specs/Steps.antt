@@ -65,10 +65,10 @@ abbrev pub access_through : State → ℕ → Kind → ℤ → ℕ → Access
 access_through state register kind offset bytes =
     record { authority = register; address = address_through state register offset; size = bytes; permission = permission_for kind }
 
--- a granule's capability after a write of a value's bytes, least significant first, from a place in it on: its tag is clear
+-- a granule's capability after a write of a value's bytes, least significant first, from a byte index on: its tag is clear
 abbrev pub with_value : Cap → ℕ → ℕ → ℕ → Cap
-with_value cap place size value =
-    record { tag = false; word = record { 0 = stored_word (overwritten (memory_of cap.word.0) place (low_bytes size value)) } }
+with_value cap byte_index size value =
+    record { tag = false; word = record { 0 = stored_word (overwritten (memory_of cap.word.0) byte_index (low_bytes size value)) } }
 
 -- the machine's table: the row of each step in a state. The result is the machine's own, whatever the line records
 abbrev pub row_of : State → Step → Row

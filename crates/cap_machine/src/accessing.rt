@@ -180,22 +180,22 @@ impl<M: TaggedStore> Machine<M> {
     fn put_value_counted(
         &mut self,
         granule: u64,
-        at: u8,
+        byte_index: u8,
         size: u8,
         value: u64,
     ) -> Result<(), StepEnd>
         requires in_memory { granule < 2 ^ 60 }
-        requires inside { at + size ≤ 16 }
+        requires inside { byte_index + size ≤ 16 }
         requires sized { IsDataSize size }
         ensures { MatchResult result
             (λ _. (is_past_limits (held_of M.contents self.old) granule ≡ false)
-            × (held_of M.contents self.new ≡ with_value_put (held_of M.contents self.old) granule at size value))
+            × (held_of M.contents self.new ≡ with_value_put (held_of M.contents self.old) granule byte_index size value))
             (λ end. EndsPut (held_of M.contents self.old) granule end (held_of M.contents self.new)) }
     {
         if self.is_past_limits(granule) {
             return Err(StepEnd::Refused(Refusal::LimitPassed));
         }
-        match put_number(&mut self.memory, granule, at, size, value) {
+        match put_number(&mut self.memory, granule, byte_index, size, value) {
             Ok(()) => {
                 self.steps += 1;
                 Ok(())

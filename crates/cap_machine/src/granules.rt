@@ -45,47 +45,47 @@ pub fn put_capability<M: TaggedStore>(
     memory.put_cap(granule, cap.tag, to_memory(cap.word), code)
 }
 
-/// The number that `size` bytes of a granule spell from byte `at` on, the least significant first.
-pub fn number_in<M: TaggedStore>(memory: &M, granule: u64, at: u8, size: u8) -> u64
+/// The number that `size` bytes of a granule spell from a byte index on, the least significant first.
+pub fn number_in<M: TaggedStore>(memory: &M, granule: u64, byte_index: u8, size: u8) -> u64
     requires in_memory { granule < 2 ^ 60 }
-    requires inside { at + size ≤ 16 }
+    requires inside { byte_index + size ≤ 16 }
     requires sized { IsDataSize size }
-    ensures { result ≡ number_at (bytes_at (M.contents memory.now) granule) at size }
+    ensures { result ≡ number_at (bytes_at (M.contents memory.now) granule) byte_index size }
 {
     match memory.get(granule) {
-        Some(entry) => number_from(&entry.1, at, size),
+        Some(entry) => number_from(&entry.1, byte_index, size),
         None => 0,
     }
 }
 
-/// Writes the `size` low bytes of a value into a granule, the least significant first, from byte `at`
+/// Writes the `size` low bytes of a value into a granule, the least significant first, from a byte index
 /// on, and clears its tag. A refused put changes nothing.
 pub fn put_number<M: TaggedStore>(
     memory: &mut M,
     granule: u64,
-    at: u8,
+    byte_index: u8,
     size: u8,
     value: u64,
 ) -> Result<(), NoMemory>
     requires in_memory { granule < 2 ^ 60 }
-    requires inside { at + size ≤ 16 }
+    requires inside { byte_index + size ≤ 16 }
     requires sized { IsDataSize size }
     requires room { HasRoom (M.contents memory.old) granule }
-    ensures ok { OnOk result (M.contents memory.new ≡ with_bytes (M.contents memory.old) granule at (low_bytes size value)) }
+    ensures ok { OnOk result (M.contents memory.new ≡ with_bytes (M.contents memory.old) granule byte_index (low_bytes size value)) }
     ensures err { OnErr result (M.contents memory.new ≡ M.contents memory.old) }
     ensures only_new { OnErr result (map.get (M.contents memory.old) granule ≡ None) }
 {
     let bytes = value.to_le_bytes();
-    memory.put_bytes(granule, at, &bytes[..size as usize])
+    memory.put_bytes(granule, byte_index, &bytes[..size as usize])
 }
 
-// The number that `size` of sixteen bytes spell from byte `at` on.
-fn number_from(bytes: &[u8; 16], at: u8, size: u8) -> u64
-    requires inside { at + size ≤ 16 }
+// The number that `size` of sixteen bytes spell from a byte index on.
+fn number_from(bytes: &[u8; 16], byte_index: u8, size: u8) -> u64
+    requires inside { byte_index + size ≤ 16 }
     requires sized { IsDataSize size }
-    ensures { result ≡ number_at bytes.now at size }
+    ensures { result ≡ number_at bytes.now byte_index size }
 {
-    let rest = u128::from_le_bytes(*bytes) >> (8 * u32::from(at));
+    let rest = u128::from_le_bytes(*bytes) >> (8 * u32::from(byte_index));
     if size == 1 {
         (rest & 0xff) as u64
     } else if size == 2 {

@@ -12,9 +12,9 @@ ghost use Rattle.cap_machine.specs.Origins.{Origins, origins_along};
 ghost use Rattle.cap_machine.specs.RunAccounts.{OriginsAreRoots, account_after};
 ghost use Rattle.cap_machine.specs.Parents.{IsSoundState, StaysWithinParents};
 
-/// Where each tagged capability of a state is sound, each one after a step is sound too, and lies within
-/// what the place held before the step that it comes from: a place that the step does not write keeps its
-/// own, and a result comes from the step's source, or for `lc` from the granule.
+/// Where each tagged capability of a state is sound, each one after a step is sound too, and reaches no more
+/// than what the place held before the step that it comes from: a place that the step does not write keeps
+/// its own, and a result comes from the step's source, or for `lc` from the granule.
 pub fn steps_stay_within()
     ensures { (rules : Rules) (old : State) (step : Step) (new : State) → IsStepInRange step → IsSoundState old
         → Leads rules old step new → StaysWithinParents old step new }

@@ -1,5 +1,5 @@
-//! Codes of origins: the number of the root's place, which is a register's own, or a granule's and 32 more,
-//! and 0 for none.
+//! Codes of origins: the key of the root's place, which is a register's own number, or a granule's and 32
+//! more, and 0 for none.
 
 ghost use Rattle.std.specs.Prelude.{◌≡◌};
 ghost use Rattle.cap_machine.specs.Changes.{code_for};

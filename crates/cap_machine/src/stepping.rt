@@ -39,9 +39,9 @@ impl<M: TaggedStore> Machine<M> {
     /// granule, and never the authority. So a granule gets with `sc` the origin of the register that is stored,
     /// where that is tagged. What has no tag has no origin: `store` clears its granule's.
     ///
-    /// A step keeps every tagged word sound, and each tagged capability after it lies within what the place
-    /// held before that it comes from. By strict rules a step is refused by `BoundsEscape` exactly where it
-    /// sets bounds of a tagged, unsealed source and those that it asks for, before any rounding, do not lie
+    /// A step keeps every tagged word sound, and each tagged capability after it reaches no more than what the
+    /// place held before that it comes from. By strict rules a step is refused by `BoundsEscape` exactly where
+    /// it sets bounds of a tagged, unsealed source and those that it asks for, before any rounding, do not lie
     /// inside the source's, which is the test of the instruction CSetBounds. In clear mode no step is, and
     /// `setbounds` of such a source loses its tag exactly there.
     #[inline(always)]

@@ -302,11 +302,11 @@ impl<M: TaggedStore> TaggedStore for Refusing<M> {
         self.inner.put_cap(granule, tag, bytes, code)
     }
 
-    fn put_bytes(&mut self, granule: u64, at: u8, bytes: &[u8]) -> Result<(), NoMemory> {
+    fn put_bytes(&mut self, granule: u64, byte_index: u8, bytes: &[u8]) -> Result<(), NoMemory> {
         if self.is_refused(granule) {
             return Err(NoMemory);
         }
-        self.inner.put_bytes(granule, at, bytes)
+        self.inner.put_bytes(granule, byte_index, bytes)
     }
 
     fn count(&self) -> u32 {

@@ -13,7 +13,7 @@ use Rattle.cap_ops.specs.Operations.{is_kept_at, set_addr_tests, set_addr_result
 use Rattle.cap_ops.specs.Permissions.{is_sealed}
 use Rattle.cap_ops.specs.Tests.{first_of}
 use Rattle.cap_ops.proofs.ReplacedFields.{perms_of-high}
-use Rattle.cap_ops.proofs.WithinLemmas.{IsWithin-same, StaysWithin-words}
+use Rattle.cap_ops.proofs.ReachLemmas.{ReachesNoMore-same, StaysWithin-words}
 use Rattle.cap_ops.proofs.PermissionLemmas.{IsFewer-same}
 use Rattle.cap_ops.proofs.TestLemmas.{EndsWith, first_of-on_tagged, none_hold-tagged}
 
@@ -35,7 +35,7 @@ StaysWithin-set_addr source address fits h =
     StaysWithin-words (set_addr_result source address) source refl (λ tagged sound.
     let fail = none_hold-tagged source ((is_sealed w, SourceSealed) ∷ (not (is_kept_at w address), NotRepresentable) ∷ []) tagged h in
     let kept = KeepsBounds-kept w address (not-false _ fail.1.0) in
-    (IsWithin-same v w kept.0 kept.1 (IsFewer-same v w (perms_of-high v w high)), IsSound-with_address w address fits kept sound))
+    (ReachesNoMore-same v w kept.0 kept.1 (IsFewer-same v w (perms_of-high v w high)), IsSound-with_address w address fits kept sound))
 
 -- what a new address is refused with
 first_fault : Bool → Bool → Bool → Option OpFault

@@ -17,7 +17,7 @@ use Rattle.cap_ops.proofs.TestLemmas.{EndsWith}
 pub StaysWithin-untagged : (cap source : Cap) → StaysWithin (cleared cap) source
 StaysWithin-untagged cap source = record {
   from_tagged = λ held. absurd (false≢true held);
-  within = λ held sound. absurd (false≢true held);
+  no_more = λ held sound. absurd (false≢true held);
   sound = λ held sound. absurd (false≢true held);
 }
 

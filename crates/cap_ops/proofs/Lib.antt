@@ -4,7 +4,7 @@ pub mod ClearLemmas
 pub mod Derivations
 pub mod NarrowingLemmas
 pub mod PermissionLemmas
+pub mod ReachLemmas
 pub mod ReplacedFields
 pub mod TestLemmas
-pub mod WithinLemmas
 mod ResultLemmas

@@ -10,12 +10,12 @@ use Rattle.cap_bounds.proofs.LeastRounding.{IsInside-rounded, IsInside-requested
 use Rattle.cap_bounds.proofs.RoundedWords.{AreFields-rounded, base_of-rounded_word, top_of-rounded_word, IsSound-rounded_word}
 use Rattle.cap_ops.specs.declared.faults.OpFault.{OpFault}
 use Rattle.cap_ops.specs.declared.faults.OpFault.TheVariants.{SourceSealed, BoundsEscape, NotExact}
-use Rattle.cap_ops.specs.Authority.{IsWithin, StaysWithin}
+use Rattle.cap_ops.specs.Authority.{ReachesNoMore, StaysWithin}
 use Rattle.cap_ops.specs.Operations.{covers, is_exact, set_bounds_tests, set_bounds_result, with_word}
 use Rattle.cap_ops.specs.Permissions.{is_sealed}
 use Rattle.cap_ops.specs.Tests.{first_of}
 use Rattle.cap_ops.proofs.ReplacedFields.{perms_of-high}
-use Rattle.cap_ops.proofs.WithinLemmas.{StaysWithin-words}
+use Rattle.cap_ops.proofs.ReachLemmas.{StaysWithin-words}
 use Rattle.cap_ops.proofs.PermissionLemmas.{IsFewer-same}
 use Rattle.cap_ops.proofs.TestLemmas.{EndsWith, IsInside-covers, covers-inside, first_of-on_tagged, none_hold-tagged}
 
@@ -27,9 +27,9 @@ pub is_exact-IsExact : (base length : ℕ) → IsExact base length → is_exact 
 unfolding is_exact
 is_exact-IsExact base length h = and_from _ _ (eq-eqb _ _ h.0) (eq-eqb _ _ h.1)
 
--- the word of a request inside a sound word lies within it, and is sound
-within_rounded : (w base length : ℕ) → base < 2 ^ 64 → length < 2 ^ 64 → IsInside (rounded_base base length) (rounded_top base length) (base_of w) (top_of w) → IsSound w → IsWithin (rounded_word w base length) w × IsSound (rounded_word w base length)
-within_rounded w base length base_fits length_fits inside sound =
+-- the word of a request inside a sound word reaches no more than it, and is sound
+no_more_rounded : (w base length : ℕ) → base < 2 ^ 64 → length < 2 ^ 64 → IsInside (rounded_base base length) (rounded_top base length) (base_of w) (top_of w) → IsSound w → ReachesNoMore (rounded_word w base length) w × IsSound (rounded_word w base length)
+no_more_rounded w base length base_fits length_fits inside sound =
     let requested = IsInside-requested base length (base_of w) (top_of w) inside in
     let ends : base + length ≤ 2 ^ 64 = omega arith in
     let high = above-bounded_word w (rounded_ie length) (rounded_exponent base length) (rounded_b base length) (rounded_t base length) base base_fits (AreFields-rounded base length length_fits) in
@@ -50,7 +50,7 @@ StaysWithin-set_bounds source length exact fits h =
     let base_fits : base < 2 ^ 64 = omega arith in
     StaysWithin-words (set_bounds_result source length) source refl (λ tagged sound.
     let fail = none_hold-tagged source ((is_sealed w, SourceSealed) ∷ (not (covers w (rounded_base base length) (rounded_top base length)), BoundsEscape) ∷ (exact && not (is_exact base length), NotExact) ∷ []) tagged h in
-    within_rounded w base length base_fits fits (IsInside-covers w _ _ (not-false _ fail.1.0)) sound)
+    no_more_rounded w base length base_fits fits (IsInside-covers w _ _ (not-false _ fail.1.0)) sound)
 
 -- what new bounds are refused with
 first_fault : Bool → Bool → Bool → Bool → Option OpFault

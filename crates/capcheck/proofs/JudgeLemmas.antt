@@ -207,7 +207,7 @@ steps_in_range (root ∷ roots) made h = steps_in_range roots made h.1
 pub are_sound : (roots : List DeclaredRoot) → AllByRecursion (λ (root : DeclaredRoot). IsSound root.word.0) roots → AreSound roots
 are_sound [] all root there = absurd (omega (arith, there.1))
 are_sound (first ∷ roots) all root (zero, below, is) = subst (λ (r : DeclaredRoot). IsSound r.word.0) is all.0
-are_sound (first ∷ roots) all root (suc place, below, is) = are_sound roots all.1 root (place, omega arith, is)
+are_sound (first ∷ roots) all root (suc index, below, is) = are_sound roots all.1 root (index, omega arith, is)
 
 -- what holds of each line of a log holds of those behind its header
 pub behind_header : (rules_are : Rules) (lines : List Line) → AllByRecursion IsInRange (header_lines rules_are ++ lines) → AllByRecursion IsInRange lines

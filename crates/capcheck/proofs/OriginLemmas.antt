@@ -103,9 +103,9 @@ began n [] ys zs = taken n ys zs
 began n (x ∷ xs) ys zs = let rest = began n xs ys zs in (suc rest.0, ap (λ (l : List ℕ). x ∷ l) rest.1)
 
 -- one line more
-pub one_more : (origins : ℕ → Option Place) (key done place next : ℕ) → place ≡ key + done → next ≡ done + 1
-    → lines_from origins key done ++ lines_from origins place 1 ≡ lines_from origins key next
-one_more origins key done place next here more =
+pub one_more : (origins : ℕ → Option Place) (key done key_behind next : ℕ) → key_behind ≡ key + done → next ≡ done + 1
+    → lines_from origins key done ++ lines_from origins key_behind 1 ≡ lines_from origins key next
+one_more origins key done key_behind next here more =
     ap (λ (k : ℕ). lines_from origins key done ++ lines_from origins k 1) here ∙ sym (ap (lines_from origins key) more ∙ lines_split origins key done 1)
 
 -- the same where it is the last
@@ -114,9 +114,9 @@ behind n [] ys = (n, refl)
 behind n (x ∷ xs) ys = let rest = behind n xs ys in (suc rest.0, ap (λ (l : List ℕ). x ∷ l) rest.1)
 
 -- a beginning of one line behind those before it
-pub stopped : (origins : ℕ → Option Place) (key done place count n : ℕ) → place ≡ key + done → done < count
-    → (m : ℕ) × (lines_from origins key done ++ take n (lines_from origins place 1) ≡ take m (lines_from origins key count))
-stopped origins key done place count n here less =
+pub stopped : (origins : ℕ → Option Place) (key done key_behind count n : ℕ) → key_behind ≡ key + done → done < count
+    → (m : ℕ) × (lines_from origins key done ++ take n (lines_from origins key_behind 1) ≡ take m (lines_from origins key count))
+stopped origins key done key_behind count n here less =
     let rest = count - done - 1 in
     let sum : count ≡ done + (1 + rest) = omega arith in
     let m = began n (lines_from origins key done) (lines_from origins (key + done) 1) (lines_from origins ((key + done) + 1) rest) in (

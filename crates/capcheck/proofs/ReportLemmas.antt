@@ -32,7 +32,7 @@ use Rattle.capcheck.specs.Reports.{Tells}
 use Rattle.capcheck.proofs.JudgeLemmas.{are_sound, steps_in_range, behind_header}
 use Rattle.capcheck.proofs.OriginLemmas.{origins_from-zero, origins_from-suc, unput}
 
--- the place with a number
+-- the place with a key
 place_of-low : (key : ℕ) → key < 32 → place_of key ≡ Register key
 place_of-low key low = cond-true (nat_lt key 32) (Register key) (Granule (key - 32)) (lt-ltb key 32 low)
 
@@ -53,7 +53,7 @@ key_of-place_of key =
       | inr high ↦ let back : key - 32 + 32 ≡ key = omega arith in ap key_of (place_of-high key high) ∙ back
     ]
 
--- the numbers of the places
+-- the keys of the places
 abbrev keys : List Origin → List ℕ
 keys origins = map (λ (origin : Origin). key_of origin.place) origins
 

@@ -255,10 +255,10 @@ module _ (reading : Reading) (line : ℕ) (before after : List ℕ) (known : Lin
       → IsAnswerOf given ended (answer_at line end)
   kept_ended ended (Refused refusal) unended refused =
       let whole = kept_line before after known taken.0 taken.1 in
-      let place = behind given before reading line here in
+      let stands_behind = behind given before reading line here in
       answer_ok given ended (No line refusal)
       (no_stands given ended line refusal
-      (λ more. refused_behind (given ++ more) (before ++ more) here.beginning line refusal (behind_more given before more here.beginning place) here.line_is
+      (λ more. refused_behind (given ++ more) (before ++ more) here.beginning line refusal (behind_more given before more here.beginning stands_behind) here.line_is
       (unended_here given before reading line here unended)
       (inr (inr (spelling known, after ++ more, IsLine-more before (spelling known) after more whole, refused (spelling known) (taken.0, refl) here.beginning here.stands)))))
   kept_ended ended ends.NoMemory unended wants =

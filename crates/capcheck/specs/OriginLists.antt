@@ -8,7 +8,7 @@ use Rattle.capcheck.specs.declared.verdict.Verdict.TheVariants.{Yes, No}
 use Rattle.capcheck.specs.Origins.{Origin, origin_lines}
 use Rattle.capcheck.specs.VerdictLines.{verdict_line}
 
--- the place with a number
+-- the place with a key
 abbrev pub place_of : ℕ → Place
 place_of key = if nat_lt key 32 then Register key else Granule (key - 32)
 
@@ -17,7 +17,7 @@ abbrev pub listed : Place → Option Place → List Origin
 listed place None = []
 listed place (Some root) = record { place = place; root = root } ∷ []
 
--- the origins of so many places from a number on
+-- the origins of so many places, from a key on
 unfoldable pub origins_from : (ℕ → Option Place) → ℕ → ℕ → List Origin
 origins_from origins key zero = []
 origins_from origins key (suc count) = listed (place_of key) (origins key) ++ origins_from origins (key + 1) count
@@ -26,7 +26,7 @@ origins_from origins key (suc count) = listed (place_of key) (origins key) ++ or
 abbrev pub lines_from : (ℕ → Option Place) → ℕ → ℕ → List ℕ
 lines_from origins key count = origin_lines (origins_from origins key count)
 
--- the lines of so many places from a number on, by what a machine holds
+-- the lines of so many places, from a key on, by what a machine holds
 abbrev pub held_lines : Held → ℕ → ℕ → List ℕ
 held_lines held key count = lines_from (account_of held).origin key count
 

@@ -21,7 +21,7 @@ fault_text Read = codes "capcheck: read fault\n"
 fault_text Write = codes "capcheck: write fault\n"
 fault_text NoMemory = codes "capcheck: no memory\n"
 
--- the exit status of what was done, or of the fault in its place
+-- the exit status of what was done, or of the fault that came instead
 abbrev pub exit_status : Result ℕ Fault → ℕ
 exit_status (Ok status) = status
 exit_status (Err fault) = status_of fault

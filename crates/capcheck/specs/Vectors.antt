@@ -15,7 +15,7 @@ pub data Vector : Type 0 where
   Round : (base size base_rounded top_rounded : ℕ) (ie : Bool) (e : ℕ) (exact : Bool) → Vector
   Memory : (word : ℕ) (bytes : List ℕ) → Vector
 
--- each number has as many digits as its place has
+-- each number fits the digits that it is written with
 abbrev pub IsInRange : Vector → Type 0
 IsInRange (Bounds word base top sound) = (word < 2 ^ 128) × (base < 2 ^ 64) × (top < 2 ^ 68)
 IsInRange (Keeps word address keeps) = (word < 2 ^ 128) × (address < 2 ^ 64)

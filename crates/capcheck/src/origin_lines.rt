@@ -24,7 +24,7 @@ pub fn origin_text(place: Place, root: Place, buffer: &mut [u8; 64]) -> usize
     put(buffer, at, b"\n")
 }
 
-// Writes a place as a log spells it at a place of the buffer, and answers the place behind it. Nothing else
+// Writes a place as a log spells it at an index of the buffer, and answers the index behind it. Nothing else
 // of the buffer changes.
 fn put_place(buffer: &mut [u8], at: usize, place: Place) -> usize
     requires place { IsPlace place }

@@ -6,7 +6,7 @@ ghost use Rattle.capcheck.specs.TextLines.{text_line, yes_or_no};
 
 use crate::buffers::{put, put_decimal, put_hex};
 
-/// Writes a line whose value is text at a place of the buffer, and answers the place behind it. Nothing
+/// Writes a line whose value is text at an index of the buffer, and answers the index behind it. Nothing
 /// else of the buffer changes.
 pub fn put_line(buffer: &mut [u8], at: usize, name: &[u8], value: &[u8]) -> usize
     requires { at + length name.now + length value.now + 2 ≤ length buffer.old }

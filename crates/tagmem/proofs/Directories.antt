@@ -35,14 +35,14 @@ IsDirectory-same boxes old new same known =
     let alike : (q : ℕ) → tree.get nat_cmp new q ≡ tree.get nat_cmp old q = λ q. ap (lookup (tree.is_at (nat_cmp q))) same in
     record { has = λ i lt. alike _ ∙ known.has i lt; right = λ n i is. known.right n i (sym (alike n) ∙ is) }
 
--- a page in the place of another of its number keeps it
-pub IsDirectory-set : {Z : Type 0} (boxes : List (Box Page Z)) (directory : BTreeMap ℕ ℕ) (new : Box Page Z) (place : ℕ)
-    → IsPageAt boxes new.value.number place → IsDirectory boxes directory → IsDirectory (set boxes place new) directory
-IsDirectory-set boxes directory new place at known =
-    let same : map number_of (set boxes place new) ≡ map number_of boxes =
-    map-set_same number_of boxes place new new (sym at.has_number ∙ get_or-map number_of boxes place new 0 at.in_range) in
-    let long : length (set boxes place new) ≡ length boxes = length-set boxes place new in
-    let number_is : (i : ℕ) → number_at (set boxes place new) i ≡ number_at boxes i = λ i. ap (λ ns. get_or ns i 0) same in
+-- a page at the index of another of its number keeps it
+pub IsDirectory-set : {Z : Type 0} (boxes : List (Box Page Z)) (directory : BTreeMap ℕ ℕ) (new : Box Page Z) (index : ℕ)
+    → IsPageAt boxes new.value.number index → IsDirectory boxes directory → IsDirectory (set boxes index new) directory
+IsDirectory-set boxes directory new index at known =
+    let same : map number_of (set boxes index new) ≡ map number_of boxes =
+    map-set_same number_of boxes index new new (sym at.has_number ∙ get_or-map number_of boxes index new 0 at.in_range) in
+    let long : length (set boxes index new) ≡ length boxes = length-set boxes index new in
+    let number_is : (i : ℕ) → number_at (set boxes index new) i ≡ number_at boxes i = λ i. ap (λ ns. get_or ns i 0) same in
     record {
       has = λ i lt. ap (tree.get nat_cmp directory) (number_is i) ∙ known.has i (omega (arith, long));
       right = λ n i is.
@@ -50,19 +50,19 @@ IsDirectory-set boxes directory new place at known =
           record { in_range = omega (arith, long, was.in_range); has_number = number_is i ∙ was.has_number };
     }
 
--- a page more, at a place behind the others
-module _ {Z : Type 0} (boxes : List (Box Page Z)) (box : Box Page Z) (number place : ℕ)
-    (its_number : box.value.number ≡ number) (last : place ≡ length boxes) where
+-- a page more, at the index behind the others
+module _ {Z : Type 0} (boxes : List (Box Page Z)) (box : Box Page Z) (number index : ℕ)
+    (its_number : box.value.number ≡ number) (last : index ≡ length boxes) where
   length-push : length (boxes ++ box ∷ []) ≡ length boxes + 1
   length-push = length-append boxes (box ∷ [])
 
   numbers : map number_of (boxes ++ box ∷ []) ≡ map number_of boxes ++ box.value.number ∷ []
   numbers = map-append number_of boxes (box ∷ [])
 
-  number_at-last : number_at (boxes ++ box ∷ []) place ≡ number
+  number_at-last : number_at (boxes ++ box ∷ []) index ≡ number
   number_at-last =
-      let many : length (map number_of boxes) ≡ place = length-map boxes number_of ∙ sym last in
-      ap (λ ns. get_or ns place 0) numbers ∙ get_or_push _ box.value.number 0 place many ∙ its_number
+      let many : length (map number_of boxes) ≡ index = length-map boxes number_of ∙ sym last in
+      ap (λ ns. get_or ns index 0) numbers ∙ get_or_push _ box.value.number 0 index many ∙ its_number
 
   number_at-before : (i : ℕ) → i < length boxes → number_at (boxes ++ box ∷ []) i ≡ number_at boxes i
   number_at-before i lt =
@@ -70,22 +70,22 @@ module _ {Z : Type 0} (boxes : List (Box Page Z)) (box : Box Page Z) (number pla
       ap (λ ns. get_or ns i 0) numbers ∙ get_or_append_left (map number_of boxes) (box.value.number ∷ []) 0 i (omega arith)
 
   -- is there
-  pub IsPageAt-push : IsPageAt (boxes ++ box ∷ []) number place
+  pub IsPageAt-push : IsPageAt (boxes ++ box ∷ []) number index
   IsPageAt-push = record { in_range = omega (arith, length-push, last); has_number = number_at-last }
 
-  -- and a directory with its place is one of the pages with it
+  -- and a directory with its index is one of the pages with it
   pub IsDirectory-push : (old new : BTreeMap ℕ ℕ) → IsAbsent boxes number → IsDirectory boxes old
-      → Updates nat_cmp old new number (Some place) → IsDirectory (boxes ++ box ∷ []) new
+      → Updates nat_cmp old new number (Some index) → IsDirectory (boxes ++ box ∷ []) new
   IsDirectory-push old new absent known updates = record { has = has; right = right }
     where
-      told : (q : ℕ) → tree.get nat_cmp new q ≡ cond (eqb number q) (Some place) (tree.get nat_cmp old q)
-      told q = updates.0 q ∙ ap (λ b. cond b (Some place) (tree.get nat_cmp old q)) (unsigned_tied number q)
+      told : (q : ℕ) → tree.get nat_cmp new q ≡ cond (eqb number q) (Some index) (tree.get nat_cmp old q)
+      told q = updates.0 q ∙ ap (λ b. cond b (Some index) (tree.get nat_cmp old q)) (unsigned_tied number q)
 
-      told_own : (q : ℕ) → eqb number q ≡ true → tree.get nat_cmp new q ≡ Some place
-      told_own q same = told q ∙ ap (λ b. cond b (Some place) (tree.get nat_cmp old q)) same
+      told_own : (q : ℕ) → eqb number q ≡ true → tree.get nat_cmp new q ≡ Some index
+      told_own q same = told q ∙ ap (λ b. cond b (Some index) (tree.get nat_cmp old q)) same
 
       told_other : (q : ℕ) → eqb number q ≡ false → tree.get nat_cmp new q ≡ tree.get nat_cmp old q
-      told_other q differs = told q ∙ ap (λ b. cond b (Some place) (tree.get nat_cmp old q)) differs
+      told_other q differs = told q ∙ ap (λ b. cond b (Some index) (tree.get nat_cmp old q)) differs
 
       has : (i : ℕ) → i < length (boxes ++ box ∷ []) → tree.get nat_cmp new (number_at (boxes ++ box ∷ []) i) ≡ Some i
       has i lt =
@@ -101,9 +101,9 @@ module _ {Z : Type 0} (boxes : List (Box Page Z)) (box : Box Page Z) (number pla
       right n i is =
           elim (eqb number n) as (λ b. eqb number n ≡ b → IsPageAt (boxes ++ box ∷ []) n i) [
             | true ↦ λ same.
-                let here : place ≡ i = same_Some _ _ (sym (told_own n same) ∙ is) in
+                let here : index ≡ i = same_Some _ _ (sym (told_own n same) ∙ is) in
                 subst (λ k. IsPageAt (boxes ++ box ∷ []) n k) here
-                (subst (λ m. IsPageAt (boxes ++ box ∷ []) m place) (eqb-true _ _ same) IsPageAt-push)
+                (subst (λ m. IsPageAt (boxes ++ box ∷ []) m index) (eqb-true _ _ same) IsPageAt-push)
             | false ↦ λ differs.
                 let was : IsPageAt boxes n i = known.right n i (sym (told_other n differs) ∙ is) in
                 let below = was.in_range in

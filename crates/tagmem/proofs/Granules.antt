@@ -62,14 +62,14 @@ each-tried (Ok _) P old put new ok err p q = subst P (sym ok) p
 each-tried (Err _) P old put new ok err p q = subst P (sym err) q
 
 -- a write keeps how many bytes there are
-pub length-overwritten : (bytes : List ℕ) (from : ℕ) (new : List ℕ) → from + length new ≤ length bytes → length (overwritten bytes from new) ≡ length bytes
-length-overwritten bytes from new inside =
-    let taken : length (take from bytes) ≡ from = length-take-le from bytes (omega arith) in
+pub length-overwritten : (bytes : List ℕ) (byte_index : ℕ) (new : List ℕ) → byte_index + length new ≤ length bytes → length (overwritten bytes byte_index new) ≡ length bytes
+length-overwritten bytes byte_index new inside =
+    let taken : length (take byte_index bytes) ≡ byte_index = length-take-le byte_index bytes (omega arith) in
     simp (length-append, length-drop) (omega arith)
 
 -- and what holds of each byte, old and new
-pub All-overwritten : (P : ℕ → Type 0) (bytes : List ℕ) (from : ℕ) (new : List ℕ) → All P bytes → All P new → All P (overwritten bytes from new)
-All-overwritten P bytes from new all all_new = All-append P _ _ (All-append P _ _ (All-take P from bytes all) all_new) (All-drop P (from + length new) bytes all)
+pub All-overwritten : (P : ℕ → Type 0) (bytes : List ℕ) (byte_index : ℕ) (new : List ℕ) → All P bytes → All P new → All P (overwritten bytes byte_index new)
+All-overwritten P bytes byte_index new all all_new = All-append P _ _ (All-append P _ _ (All-take P byte_index bytes all) all_new) (All-drop P (byte_index + length new) bytes all)
 
 -- a write of all the bytes leaves none of the old
 pub overwritten_whole : (bytes new : List ℕ) → length new ≡ length bytes → overwritten bytes 0 new ≡ new
@@ -78,34 +78,34 @@ overwritten_whole bytes new same =
     ap (λ tail. new ++ tail) rest ∙ append-nil new
 
 -- the bytes before a write stay
-pub get_or-overwritten_before : (bytes : List ℕ) (from : ℕ) (new : List ℕ) (i d : ℕ) → from ≤ length bytes → i < from → get_or (overwritten bytes from new) i d ≡ get_or bytes i d
-get_or-overwritten_before bytes from new i d inside lt =
-    let taken : length (take from bytes) ≡ from = length-take-le from bytes inside in
-    let first : length (take from bytes ++ new) ≡ from + length new = length-append (take from bytes) new ∙ ap (λ n. n + length new) taken in
-    get_or_append_left (take from bytes ++ new) _ d i (omega arith) ∙ get_or_append_left (take from bytes) new d i (omega arith) ∙ get_or-take from bytes i d lt
+pub get_or-overwritten_before : (bytes : List ℕ) (byte_index : ℕ) (new : List ℕ) (i d : ℕ) → byte_index ≤ length bytes → i < byte_index → get_or (overwritten bytes byte_index new) i d ≡ get_or bytes i d
+get_or-overwritten_before bytes byte_index new i d inside lt =
+    let taken : length (take byte_index bytes) ≡ byte_index = length-take-le byte_index bytes inside in
+    let first : length (take byte_index bytes ++ new) ≡ byte_index + length new = length-append (take byte_index bytes) new ∙ ap (λ n. n + length new) taken in
+    get_or_append_left (take byte_index bytes ++ new) _ d i (omega arith) ∙ get_or_append_left (take byte_index bytes) new d i (omega arith) ∙ get_or-take byte_index bytes i d lt
 
 -- those in it are the new ones
-pub get_or-overwritten_in : (bytes : List ℕ) (from : ℕ) (new : List ℕ) (i d : ℕ) → from ≤ length bytes → i < length new → get_or (overwritten bytes from new) (from + i) d ≡ get_or new i d
-get_or-overwritten_in bytes from new i d inside lt =
-    let taken : length (take from bytes) ≡ from = length-take-le from bytes inside in
-    let first : length (take from bytes ++ new) ≡ from + length new = length-append (take from bytes) new ∙ ap (λ n. n + length new) taken in
-    let place : from + i - from ≡ i = omega arith in
-    get_or_append_left (take from bytes ++ new) _ d (from + i) (omega arith) ∙ get_or-append_right (take from bytes) new from (from + i) d taken (omega arith) ∙ ap (λ j. get_or new j d) place
+pub get_or-overwritten_in : (bytes : List ℕ) (byte_index : ℕ) (new : List ℕ) (i d : ℕ) → byte_index ≤ length bytes → i < length new → get_or (overwritten bytes byte_index new) (byte_index + i) d ≡ get_or new i d
+get_or-overwritten_in bytes byte_index new i d inside lt =
+    let taken : length (take byte_index bytes) ≡ byte_index = length-take-le byte_index bytes inside in
+    let first : length (take byte_index bytes ++ new) ≡ byte_index + length new = length-append (take byte_index bytes) new ∙ ap (λ n. n + length new) taken in
+    let index : byte_index + i - byte_index ≡ i = omega arith in
+    get_or_append_left (take byte_index bytes ++ new) _ d (byte_index + i) (omega arith) ∙ get_or-append_right (take byte_index bytes) new byte_index (byte_index + i) d taken (omega arith) ∙ ap (λ j. get_or new j d) index
 
 -- and those after it stay
-pub get_or-overwritten_after : (bytes : List ℕ) (from : ℕ) (new : List ℕ) (i d : ℕ) → from ≤ length bytes → from + length new ≤ i → get_or (overwritten bytes from new) i d ≡ get_or bytes i d
-get_or-overwritten_after bytes from new i d inside le =
-    let taken : length (take from bytes) ≡ from = length-take-le from bytes inside in
-    let first : length (take from bytes ++ new) ≡ from + length new = length-append (take from bytes) new ∙ ap (λ n. n + length new) taken in
-    let place : from + length new + (i - (from + length new)) ≡ i = omega arith in
-    get_or-append_right (take from bytes ++ new) _ (from + length new) i d first le ∙ get_or-drop (from + length new) bytes (i - (from + length new)) d ∙ ap (λ j. get_or bytes j d) place
+pub get_or-overwritten_after : (bytes : List ℕ) (byte_index : ℕ) (new : List ℕ) (i d : ℕ) → byte_index ≤ length bytes → byte_index + length new ≤ i → get_or (overwritten bytes byte_index new) i d ≡ get_or bytes i d
+get_or-overwritten_after bytes byte_index new i d inside le =
+    let taken : length (take byte_index bytes) ≡ byte_index = length-take-le byte_index bytes inside in
+    let first : length (take byte_index bytes ++ new) ≡ byte_index + length new = length-append (take byte_index bytes) new ∙ ap (λ n. n + length new) taken in
+    let index : byte_index + length new + (i - (byte_index + length new)) ≡ i = omega arith in
+    get_or-append_right (take byte_index bytes ++ new) _ (byte_index + length new) i d first le ∙ get_or-drop (byte_index + length new) bytes (i - (byte_index + length new)) d ∙ ap (λ j. get_or bytes j d) index
 
 -- a write inside a granule leaves a granule
-pub IsStored-overwritten : (granule : ℕ) (old : Entry) (tag : Bool) (from : ℕ) (new : List ℕ) (code : ℕ) → IsStored granule old → from + length new ≤ 16 → All (λ byte. byte < 256) new → code < 2 ^ 64 → IsCodeFor tag code → IsStored granule (tag, overwritten old.1 from new, code)
-IsStored-overwritten granule old tag from new code stored inside fits small is_for = record {
+pub IsStored-overwritten : (granule : ℕ) (old : Entry) (tag : Bool) (byte_index : ℕ) (new : List ℕ) (code : ℕ) → IsStored granule old → byte_index + length new ≤ 16 → All (λ byte. byte < 256) new → code < 2 ^ 64 → IsCodeFor tag code → IsStored granule (tag, overwritten old.1 byte_index new, code)
+IsStored-overwritten granule old tag byte_index new code stored inside fits small is_for = record {
   in_memory = stored.in_memory;
-  sixteen = length-overwritten old.1 from new (omega (arith, stored.sixteen)) ∙ stored.sixteen;
-  bytes = All-overwritten (λ byte. byte < 256) old.1 from new stored.bytes fits;
+  sixteen = length-overwritten old.1 byte_index new (omega (arith, stored.sixteen)) ∙ stored.sixteen;
+  bytes = All-overwritten (λ byte. byte < 256) old.1 byte_index new stored.bytes fits;
   code = small;
   coded = is_for;
 }

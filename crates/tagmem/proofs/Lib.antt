@@ -1,9 +1,9 @@
 pub mod Granules
 mod Added
 mod Directories
+mod Indexes
 mod Listed
 mod NextPut
 mod Pages
-mod Places
 mod Slots
 mod Writes

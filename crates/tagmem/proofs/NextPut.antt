@@ -25,11 +25,11 @@ next_after m from to (Some next) le none after =
     (omega (arith, after.0), after.1, λ q from_le lt. grind (arith, none q, after.2 q))
 
 module _ {Z : Type 0} (boxes : List (Box Page Z)) where
-  module _ (directory : BTreeMap ℕ ℕ) (known : IsDirectory boxes directory) (n slot place : ℕ) (box : Box Page Z)
-      (at : IsPageAt boxes n place) (read : box ≡ get_or boxes place box) where
+  module _ (directory : BTreeMap ℕ ℕ) (known : IsDirectory boxes directory) (n slot index : ℕ) (box : Box Page Z)
+      (at : IsPageAt boxes n index) (read : box ≡ get_or boxes index box) where
     get_own : (q : ℕ) → q / 256 ≡ n → map.get (contents_of boxes) q ≡ get_or (slots_of box.value) (q % 256) None
     get_own q own =
-        get_present boxes directory known q place box (subst (λ m. IsPageAt boxes m place) (sym own) at)
+        get_present boxes directory known q index box (subst (λ m. IsPageAt boxes m index) (sym own) at)
         ∙ ap (λ (b : Box Page Z). get_or (slots_of b.value) (q % 256) None) (sym read)
 
     -- a page of which no slot from one on was put
@@ -44,26 +44,26 @@ module _ {Z : Type 0} (boxes : List (Box Page Z)) where
         get_or-eq_default (slots_of box.value) None (let wide = length-slots_of box.value in omega arith) in
         let small : first < 256 = grind (arith, found.1, past) in
         let own : get_or (slots_of box.value) first None ≡ map.get (contents_of boxes) (256 * n + first) =
-        let place_is : first ≡ (256 * n + first) % 256 = omega arith in
-        ap (λ i. get_or (slots_of box.value) i None) place_is ∙ sym (get_own (256 * n + first) (omega arith)) in
+        let index_is : first ≡ (256 * n + first) % 256 = omega arith in
+        ap (λ i. get_or (slots_of box.value) i None) index_is ∙ sym (get_own (256 * n + first) (omega arith)) in
         (omega (arith, found.0), λ is. found.1 (own ∙ is), λ q le lt. get_own q (omega arith) ∙ found.2 (q % 256) (omega arith) (omega arith))
 
 -- a page has a granule that was put, so a number of which none was has no page
 pub absent_from_none_put : {Z : Type 0} (boxes : List (Box Page Z)) (directory : BTreeMap ℕ ℕ) → IsDirectory boxes directory → EachUsed boxes
     → (n : ℕ) → NonePut (contents_of boxes) (256 * n) (256 * n + 256) → IsAbsent boxes n
-absent_from_none_put [] directory known used n none place lt is = omega arith
-absent_from_none_put (first ∷ rest) directory known used n none place lt is =
+absent_from_none_put [] directory known used n none index lt is = omega arith
+absent_from_none_put (first ∷ rest) directory known used n none index lt is =
     let boxes = first ∷ rest in
-    let box = get_or boxes place first in
+    let box = get_or boxes index first in
     let inside : (slot : ℕ) → slot < 256 → get_or (slots_of box.value) slot None ≡ None = λ slot small.
     let q = 256 * n + slot in
     let own : n ≡ q / 256 = omega arith in
-    let place_is : slot ≡ q % 256 = omega arith in
-    ap (λ i. get_or (slots_of box.value) i None) place_is
-    ∙ sym (get_present boxes directory known q place first (record { in_range = lt; has_number = is ∙ own })) ∙ none q (omega arith) (omega arith) in
+    let index_is : slot ≡ q % 256 = omega arith in
+    ap (λ i. get_or (slots_of box.value) i None) index_is
+    ∙ sym (get_present boxes directory known q index first (record { in_range = lt; has_number = is ∙ own })) ∙ none q (omega arith) (omega arith) in
     let past : (slot : ℕ) → 256 ≤ slot → get_or (slots_of box.value) slot None ≡ None = λ slot large.
     get_or-eq_default (slots_of box.value) None (let wide = length-slots_of box.value in omega arith) in
-    All-get_or (λ (box : Box Page _). IsUsed box.value) boxes place first lt used (λ slot. grind (arith, inside slot, past slot))
+    All-get_or (λ (box : Box Page _). IsUsed box.value) boxes index first lt used (λ slot. grind (arith, inside slot, past slot))
 
 -- where a granule's own page has none from it on
 module _ {Z : Type 0} (boxes : List (Box Page Z)) (g : ℕ) (none : NonePut (contents_of boxes) g (256 * (g / 256) + 256)) where

@@ -93,16 +93,16 @@ find-entries_of (box ∷ boxes) q =
 get-contents_of : {Z : Type 0} (boxes : List (Box Page Z)) (q : ℕ) → map.get (contents_of boxes) q ≡ found boxes q
 get-contents_of boxes q = get-from_entries nat_cmp_total (entries_of boxes) q ∙ find-entries_of boxes q
 
--- no page before a place has the number
+-- no page before an index has the number
 abbrev NoneBefore : {Z : Type 0} → List (Box Page Z) → ℕ → ℕ → Type 0
-NoneBefore boxes number place = (i : ℕ) → i < place → number_at boxes i ≢ number
+NoneBefore boxes number index = (i : ℕ) → i < index → number_at boxes i ≢ number
 
 -- the same in the pages after the first
-module _ {Z : Type 0} (box : Box Page Z) (boxes : List (Box Page Z)) (number place : ℕ) where
-  none_in_tail : NoneBefore (box ∷ boxes) number (suc place) → NoneBefore boxes number place
+module _ {Z : Type 0} (box : Box Page Z) (boxes : List (Box Page Z)) (number index : ℕ) where
+  none_in_tail : NoneBefore (box ∷ boxes) number (suc index) → NoneBefore boxes number index
   none_in_tail none i lt = none (suc i) (omega arith)
 
-  at_in_tail : IsPageAt (box ∷ boxes) number (suc place) → IsPageAt boxes number place
+  at_in_tail : IsPageAt (box ∷ boxes) number (suc index) → IsPageAt boxes number index
   at_in_tail at = record { in_range = omega (arith, at.in_range); has_number = at.has_number }
 
 -- a page says nothing of another page's granules
@@ -119,16 +119,16 @@ found_absent (box ∷ boxes) q absent =
     rw (in_page-other box.value q (absent 0 (omega arith))) (found_absent boxes q (none_in_tail box boxes _ _ absent))
 
 -- what is found of a granule is what its page says, where no other has its number
-found_present : {Z : Type 0} (boxes : List (Box Page Z)) (q place : ℕ) (d : Box Page Z) → IsPageAt boxes (q / 256) place
-    → ((i : ℕ) → i < length boxes → number_at boxes i ≡ q / 256 → i ≡ place)
-    → found boxes q ≡ get_or (slots_of (get_or boxes place d).value) (q % 256) None
-found_present [] q place d at only = absurd (omega (arith, at.in_range))
+found_present : {Z : Type 0} (boxes : List (Box Page Z)) (q index : ℕ) (d : Box Page Z) → IsPageAt boxes (q / 256) index
+    → ((i : ℕ) → i < length boxes → number_at boxes i ≡ q / 256 → i ≡ index)
+    → found boxes q ≡ get_or (slots_of (get_or boxes index d).value) (q % 256) None
+found_present [] q index d at only = absurd (omega (arith, at.in_range))
 found_present (box ∷ boxes) q zero d at only =
     let rest = found_absent boxes q (λ i lt is. omega (arith, only (suc i) (omega arith) is)) in
     rw (rest, in_page-own box.value q at.has_number) (option_or-None _)
-found_present (box ∷ boxes) q (suc place) d at only =
+found_present (box ∷ boxes) q (suc index) d at only =
     let first : box.value.number ≢ q / 256 = λ is. omega (arith, only 0 (omega arith) is) in
-    let later = found_present boxes q place d (at_in_tail box boxes _ _ at) (λ i lt is. omega (arith, only (suc i) (omega arith) is)) in
+    let later = found_present boxes q index d (at_in_tail box boxes _ _ at) (λ i lt is. omega (arith, only (suc i) (omega arith) is)) in
     rw (in_page-other box.value q first) later
 
 -- a page that differs from another in one slot says the same of every granule but one
@@ -149,16 +149,16 @@ option_or-cond true entry first rest = refl
 option_or-cond false entry first rest = refl
 
 -- the same of pages, one of which is changed
-found-set : {Z : Type 0} (boxes : List (Box Page Z)) (new d : Box Page Z) (place g : ℕ) (entry : Entry) → IsPageAt boxes (g / 256) place
-    → NoneBefore boxes (g / 256) place → new.value.number ≡ g / 256
-    → slots_of new.value ≡ set (slots_of (get_or boxes place d).value) (g % 256) (Some entry)
-    → (q : ℕ) → found (set boxes place new) q ≡ cond (eqb q g) (Some entry) (found boxes q)
-found-set [] new d place g entry at none number are q = absurd (omega (arith, at.in_range))
+found-set : {Z : Type 0} (boxes : List (Box Page Z)) (new d : Box Page Z) (index g : ℕ) (entry : Entry) → IsPageAt boxes (g / 256) index
+    → NoneBefore boxes (g / 256) index → new.value.number ≡ g / 256
+    → slots_of new.value ≡ set (slots_of (get_or boxes index d).value) (g % 256) (Some entry)
+    → (q : ℕ) → found (set boxes index new) q ≡ cond (eqb q g) (Some entry) (found boxes q)
+found-set [] new d index g entry at none number are q = absurd (omega (arith, at.in_range))
 found-set (box ∷ boxes) new d zero g entry at none number are q =
     ap (λ o. option_or o (found boxes q)) (in_page-set box.value new.value g entry at.has_number number are q)
     ∙ option_or-cond (eqb q g) entry (in_page box.value q) (found boxes q)
-found-set (box ∷ boxes) new d (suc place) g entry at none number are q =
-    let later = found-set boxes new d place g entry (at_in_tail box boxes _ _ at) (none_in_tail box boxes _ _ none) number are q in
+found-set (box ∷ boxes) new d (suc index) g entry at none number are q =
+    let later = found-set boxes new d index g entry (at_in_tail box boxes _ _ at) (none_in_tail box boxes _ _ none) number are q in
     rw later (by_test (eqb q g) refl (in_page-other box.value g (none 0 (omega arith))))
   where
     by_test : (b : Bool) → eqb q g ≡ b → in_page box.value g ≡ None
@@ -169,30 +169,30 @@ found-set (box ∷ boxes) new d (suc place) g entry at none number are q =
 
 -- where a directory tells of pages
 module _ {Z : Type 0} (boxes : List (Box Page Z)) (directory : BTreeMap ℕ ℕ) (known : IsDirectory boxes directory) where
-  -- each number has one place at most
-  one_place : (number place i : ℕ) → IsPageAt boxes number place → i < length boxes → number_at boxes i ≡ number → i ≡ place
-  one_place number place i at lt is =
-      same_Some i place (sym (known.has i lt) ∙ ap (tree.get nat_cmp directory) (is ∙ sym at.has_number) ∙ known.has place at.in_range)
+  -- each number has one index at most
+  one_index : (number index i : ℕ) → IsPageAt boxes number index → i < length boxes → number_at boxes i ≡ number → i ≡ index
+  one_index number index i at lt is =
+      same_Some i index (sym (known.has i lt) ∙ ap (tree.get nat_cmp directory) (is ∙ sym at.has_number) ∙ known.has index at.in_range)
 
   -- a number that it doesn't have is absent
   pub absent_from_none : (number : ℕ) → tree.get nat_cmp directory number ≡ None → IsAbsent boxes number
   absent_from_none number none i lt is = none-some i (sym none ∙ ap (tree.get nat_cmp directory) (sym is) ∙ known.has i lt)
 
   -- what stands in a granule is what its page says
-  pub get_present : (q place : ℕ) (d : Box Page Z) → IsPageAt boxes (q / 256) place
-      → map.get (contents_of boxes) q ≡ get_or (slots_of (get_or boxes place d).value) (q % 256) None
-  get_present q place d at = get-contents_of boxes q ∙ found_present boxes q place d at (λ i lt is. one_place _ place i at lt is)
+  pub get_present : (q index : ℕ) (d : Box Page Z) → IsPageAt boxes (q / 256) index
+      → map.get (contents_of boxes) q ≡ get_or (slots_of (get_or boxes index d).value) (q % 256) None
+  get_present q index d at = get-contents_of boxes q ∙ found_present boxes q index d at (λ i lt is. one_index _ index i at lt is)
 
   -- a put in its page changes that granule alone
-  pub contents_of-set : (new d : Box Page Z) (place g : ℕ) (entry : Entry) → IsPageAt boxes (g / 256) place → new.value.number ≡ g / 256
-      → slots_of new.value ≡ set (slots_of (get_or boxes place d).value) (g % 256) (Some entry)
-      → contents_of (set boxes place new) ≡ map.insert (contents_of boxes) g entry
-  contents_of-set new d place g entry at number are = same_map nat_cmp_total nat_cmp-IsAntisymmetric _ _ (λ q.
-      get-contents_of (set boxes place new) q ∙ found-set boxes new d place g entry at none number are q
+  pub contents_of-set : (new d : Box Page Z) (index g : ℕ) (entry : Entry) → IsPageAt boxes (g / 256) index → new.value.number ≡ g / 256
+      → slots_of new.value ≡ set (slots_of (get_or boxes index d).value) (g % 256) (Some entry)
+      → contents_of (set boxes index new) ≡ map.insert (contents_of boxes) g entry
+  contents_of-set new d index g entry at number are = same_map nat_cmp_total nat_cmp-IsAntisymmetric _ _ (λ q.
+      get-contents_of (set boxes index new) q ∙ found-set boxes new d index g entry at none number are q
       ∙ ap (cond (eqb q g) (Some entry)) (sym (get-contents_of boxes q)) ∙ sym (get-put (contents_of boxes) g entry q))
     where
-      none : NoneBefore boxes (g / 256) place
-      none i lt is = omega (arith, one_place _ place i at (omega (arith, at.in_range)) is)
+      none : NoneBefore boxes (g / 256) index
+      none i lt is = omega (arith, one_index _ index i at (omega (arith, at.in_range)) is)
 
 -- a granule whose page is absent was never put
 pub get_absent : {Z : Type 0} (boxes : List (Box Page Z)) (q : ℕ) → IsAbsent boxes (q / 256) → map.get (contents_of boxes) q ≡ None

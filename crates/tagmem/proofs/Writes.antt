@@ -36,36 +36,36 @@ room_for_one : (o : Option Entry) (n : ℕ) → n < 2 ^ 32 → (o ≡ None → n
 room_for_one None n small room = omega (arith, room refl)
 room_for_one (Some entry) n small room = omega arith
 
--- a box was read at the place of a granule's page
-pub record IsRead {Z : Type 0} (boxes : List (Box Page Z)) (directory : BTreeMap ℕ ℕ) (place g : ℕ) (box : Box Page Z) : Type 0 where
+-- a box was read at the index of a granule's page
+pub record IsRead {Z : Type 0} (boxes : List (Box Page Z)) (directory : BTreeMap ℕ ℕ) (index g : ℕ) (box : Box Page Z) : Type 0 where
   pub known : IsDirectory boxes directory
-  pub found : IsPageAt boxes (g / 256) place
-  pub is : box ≡ get_or boxes place box
+  pub found : IsPageAt boxes (g / 256) index
+  pub is : box ≡ get_or boxes index box
 
 -- a page has a write in one slot, and is else the same
-pub record IsWritten (old new : Page) (slot : ℕ) (tag : Bool) (at : ℕ) (bytes : List ℕ) (code : ℕ) : Type 0 where
+pub record IsWritten (old new : Page) (slot : ℕ) (tag : Bool) (byte_index : ℕ) (bytes : List ℕ) (code : ℕ) : Type 0 where
   pub number : new.number ≡ old.number
-  pub slots : slots_of new ≡ set (slots_of old) slot (Some (tag, overwritten (bytes_in (slots_of old) slot) at bytes, code))
+  pub slots : slots_of new ≡ set (slots_of old) slot (Some (tag, overwritten (bytes_in (slots_of old) slot) byte_index bytes, code))
 
 -- a page with a write in one slot has one that was put
-pub IsUsed-written : (old new : Page) (slot : ℕ) (tag : Bool) (at : ℕ) (bytes : List ℕ) (code : ℕ)
-    → slot < 256 → IsWritten old new slot tag at bytes code → IsUsed new
-IsUsed-written old new slot tag at bytes code small written none =
+pub IsUsed-written : (old new : Page) (slot : ℕ) (tag : Bool) (byte_index : ℕ) (bytes : List ℕ) (code : ℕ)
+    → slot < 256 → IsWritten old new slot tag byte_index bytes code → IsUsed new
+IsUsed-written old new slot tag byte_index bytes code small written none =
     let wide = length-slots_of old in
     none-some _ (sym (none slot) ∙ ap (λ slots. get_or slots slot None) written.slots ∙ get_or-set_same (slots_of old) slot _ None (omega arith))
 
-module _ {Z : Type 0} (boxes : List (Box Page Z)) (directory : BTreeMap ℕ ℕ) (place g : ℕ) (box : Box Page Z)
-    (read : IsRead boxes directory place g box) where
+module _ {Z : Type 0} (boxes : List (Box Page Z)) (directory : BTreeMap ℕ ℕ) (index g : ℕ) (box : Box Page Z)
+    (read : IsRead boxes directory index g box) where
   -- what stood in the granule
   get_read : map.get (contents_of boxes) g ≡ get_or (slots_of box.value) (g % 256) None
   get_read =
-      get_present boxes directory read.known g place box read.found
+      get_present boxes directory read.known g index box read.found
       ∙ ap (λ (b : Box Page Z). get_or (slots_of b.value) (g % 256) None) (sym read.is)
 
   number_read : box.value.number ≡ g / 256
   number_read =
       ap (λ (b : Box Page Z). b.value.number) read.is
-      ∙ sym (get_or-map (λ (b : Box Page Z). b.value.number) boxes place box 0 read.found.in_range) ∙ read.found.has_number
+      ∙ sym (get_or-map (λ (b : Box Page Z). b.value.number) boxes index box 0 read.found.in_range) ∙ read.found.has_number
 
   -- there is room for one more entry where none stood there
   pub len_fits : map.len (contents_of boxes) < 2 ^ 32 → HasRoom (contents_of boxes) g
@@ -74,35 +74,35 @@ module _ {Z : Type 0} (boxes : List (Box Page Z)) (directory : BTreeMap ℕ ℕ)
       subst (λ o. map.len (contents_of boxes) + bool_byte (is_none o) < 2 ^ 32) get_read
       (room_for_one (map.get (contents_of boxes) g) _ small room)
 
-  module _ (page : Page) (tag : Bool) (at : ℕ) (bytes : List ℕ) (code : ℕ)
-      (written : IsWritten box.value page (g % 256) tag at bytes code) where
-    pub IsDirectory-write : IsDirectory (set boxes place (with_value box page)) directory
+  module _ (page : Page) (tag : Bool) (byte_index : ℕ) (bytes : List ℕ) (code : ℕ)
+      (written : IsWritten box.value page (g % 256) tag byte_index bytes code) where
+    pub IsDirectory-write : IsDirectory (set boxes index (with_value box page)) directory
     IsDirectory-write =
-        IsDirectory-set boxes directory (with_value box page) place
-        (subst (λ n. IsPageAt boxes n place) (sym (written.number ∙ number_read)) read.found) read.known
+        IsDirectory-set boxes directory (with_value box page) index
+        (subst (λ n. IsPageAt boxes n index) (sym (written.number ∙ number_read)) read.found) read.known
 
-    pub EachUsed-write : EachUsed boxes → EachUsed (set boxes place (with_value box page))
+    pub EachUsed-write : EachUsed boxes → EachUsed (set boxes index (with_value box page))
     EachUsed-write used =
-        let one = IsUsed-written box.value page (g % 256) tag at bytes code (omega arith) written in
-        All-set (λ (box : Box Page Z). IsUsed box.value) boxes place (with_value box page) one used
+        let one = IsUsed-written box.value page (g % 256) tag byte_index bytes code (omega arith) written in
+        All-set (λ (box : Box Page Z). IsUsed box.value) boxes index (with_value box page) one used
 
     -- the map has the write, and is else the same
-    pub contents_of-write : contents_of (set boxes place (with_value box page)) ≡ with_write (contents_of boxes) g tag at bytes code
+    pub contents_of-write : contents_of (set boxes index (with_value box page)) ≡ with_write (contents_of boxes) g tag byte_index bytes code
     contents_of-write =
         let was : bytes_in (slots_of box.value) (g % 256) ≡ bytes_at (contents_of boxes) g =
         ap (λ o. (unwrap_or o blank).1) (sym get_read) in
-        contents_of-set boxes directory read.known (with_value box page) box place g _ read.found (written.number ∙ number_read)
+        contents_of-set boxes directory read.known (with_value box page) box index g _ read.found (written.number ∙ number_read)
         (rw (← was, ← read.is) written.slots)
 
-    pub AreStored-write : g < 2 ^ 60 → at + length bytes ≤ 16 → All (λ byte. byte < 256) bytes → code < 2 ^ 64 → IsCodeFor tag code
+    pub AreStored-write : g < 2 ^ 60 → byte_index + length bytes ≤ 16 → All (λ byte. byte < 256) bytes → code < 2 ^ 64 → IsCodeFor tag code
         → AreStored (contents_of boxes)
-        → AreStored (contents_of (set boxes place (with_value box page)))
+        → AreStored (contents_of (set boxes index (with_value box page)))
     AreStored-write in_memory inside fits small is_for stored =
         let stood = IsStored-entry_at (contents_of boxes) stored g in_memory in
-        let stands = IsStored-overwritten g (entry_at (contents_of boxes) g) tag at bytes code stood inside fits small is_for in
+        let stands = IsStored-overwritten g (entry_at (contents_of boxes) g) tag byte_index bytes code stood inside fits small is_for in
         rw contents_of-write (AreStored-put (contents_of boxes) g _ stands stored)
 
-    pub len-write : map.len (contents_of (set boxes place (with_value box page)))
+    pub len-write : map.len (contents_of (set boxes index (with_value box page)))
         ≡ map.len (contents_of boxes) + bool_byte (is_none (get_or (slots_of box.value) (g % 256) None))
     len-write =
         ap map.len contents_of-write ∙ len-put (contents_of boxes) g _ ∙ one_more (map.get (contents_of boxes) g) _

@@ -41,9 +41,9 @@ code_at m granule = let entry = entry_at m granule in entry.2
 abbrev pub IsCodeFor : Bool → ℕ → Type 0
 IsCodeFor tag code = (code ≡ 0) ↔ (tag ≡ false)
 
--- the bytes after a write of new ones from place `from` on: those before and after them stay (this profile's own)
+-- the bytes after a write of new ones from a byte index on: those before and after them stay (this profile's own)
 abbrev pub overwritten : List ℕ → ℕ → List ℕ → List ℕ
-overwritten bytes from new = take from bytes ++ new ++ drop (from + length new) bytes
+overwritten bytes byte_index new = take byte_index bytes ++ new ++ drop (byte_index + length new) bytes
 
 -- the map after a granule's tag, bytes and code are set: every other granule stays (this profile's own)
 abbrev pub with_cap : Granules → ℕ → Bool → List ℕ → ℕ → Granules
@@ -51,11 +51,11 @@ with_cap m granule tag bytes code = insert m granule (tag, bytes, code)
 
 -- the map after a write of bytes inside a granule, which clears its tag and its code (UCAM-CL-TR-987, stores of data clear tags)
 abbrev pub with_bytes : Granules → ℕ → ℕ → List ℕ → Granules
-with_bytes m granule from new = insert m granule (false, overwritten (bytes_at m granule) from new, 0)
+with_bytes m granule byte_index new = insert m granule (false, overwritten (bytes_at m granule) byte_index new, 0)
 
 -- the map after a write of bytes inside a granule, which sets its tag and its code: its other bytes stay (this profile's own)
 abbrev pub with_write : Granules → ℕ → Bool → ℕ → List ℕ → ℕ → Granules
-with_write m granule tag from new code = insert m granule (tag, overwritten (bytes_at m granule) from new, code)
+with_write m granule tag byte_index new code = insert m granule (tag, overwritten (bytes_at m granule) byte_index new, code)
 
 -- no granule from one number to below another was put (this profile's own)
 abbrev pub NonePut : Granules → ℕ → ℕ → Type 0

@@ -15,7 +15,7 @@ use Rattle.tagmem.specs.declared.list_store.Listed.{Listed}
 use Rattle.tagmem.specs.Granules.{Entry, IsStored, AreStored}
 use Rattle.tagmem.specs.Listed.{entry_of, keyed, contents_of, granules_of, IsRising, AllStored}
 
--- the granule of the entry at a place
+-- the granule of the entry at an index
 abbrev pub granule_at : List Listed → ℕ → ℕ
 granule_at l i = get_or (granules_of l) i 0
 
@@ -33,7 +33,7 @@ find-keyed (x ∷ l) q = ap (λ b. cond b (Some (entry_of x)) (find nat_cmp q (m
 pub get-contents_of : (l : List Listed) (q : ℕ) → map.get (contents_of l) q ≡ found l q
 get-contents_of l q = get-from_entries nat_cmp_total (map keyed l) q ∙ find-keyed l q
 
--- no entry before place i is the granule's
+-- no entry before index i is the granule's
 abbrev pub NoneBefore : List Listed → ℕ → ℕ → Type 0
 NoneBefore l k i = (j : ℕ) → j < i → granule_at l j ≢ k
 

@@ -29,13 +29,13 @@ IsRising entries = IsStrictlyIncreasing (granules_of entries)
 abbrev pub AllStored : List Listed → Type 0
 AllStored entries = All (λ listed. IsStored listed.granule (entry_of listed)) entries
 
--- the entry at a place is the granule's
-pub record IsAt (entries : List Listed) (granule place : ℕ) : Type 0 where
-  pub in_range : place < length entries
-  pub has_granule : slice_index (granules_of entries) place ≡ granule
+-- the entry at an index is the granule's
+pub record IsAt (entries : List Listed) (granule index : ℕ) : Type 0 where
+  pub in_range : index < length entries
+  pub has_granule : slice_index (granules_of entries) index ≡ granule
 
--- the granule has no entry, and its own would go at a place: lower granules before it, higher ones from it on
-pub record IsGapFor (entries : List Listed) (granule place : ℕ) : Type 0 where
-  pub in_range : place ≤ length entries
-  pub lower_before : (i : ℕ) → i < place → slice_index (granules_of entries) i < granule
-  pub higher_after : (i : ℕ) → place ≤ i → i < length entries → granule < slice_index (granules_of entries) i
+-- the granule has no entry, and its own would go at an index: lower granules before it, higher ones from it on
+pub record IsGapFor (entries : List Listed) (granule index : ℕ) : Type 0 where
+  pub in_range : index ≤ length entries
+  pub lower_before : (i : ℕ) → i < index → slice_index (granules_of entries) i < granule
+  pub higher_after : (i : ℕ) → index ≤ i → i < length entries → granule < slice_index (granules_of entries) i

@@ -65,18 +65,18 @@ entries_of (box ∷ boxes) = entries_from (256 * box.value.number) (slots_of box
 abbrev pub contents_of : {Z : Type 0} → List (Box Page Z) → Granules
 contents_of boxes = from_entries (entries_of boxes)
 
--- the number of the page at a place
+-- the number of the page at an index
 abbrev pub number_at : {Z : Type 0} → List (Box Page Z) → ℕ → ℕ
-number_at boxes place = slice_index (map (λ box. box.value.number) boxes) place
+number_at boxes index = slice_index (map (λ box. box.value.number) boxes) index
 
--- the page at a place has the number
-pub record IsPageAt {Z : Type 0} (boxes : List (Box Page Z)) (number place : ℕ) : Type 0 where
-  pub in_range : place < length boxes
-  pub has_number : number_at boxes place ≡ number
+-- the page at an index has the number
+pub record IsPageAt {Z : Type 0} (boxes : List (Box Page Z)) (number index : ℕ) : Type 0 where
+  pub in_range : index < length boxes
+  pub has_number : number_at boxes index ≡ number
 
 -- no page has the number
 abbrev pub IsAbsent : {Z : Type 0} → List (Box Page Z) → ℕ → Type 0
-IsAbsent boxes number = (place : ℕ) → place < length boxes → number_at boxes place ≢ number
+IsAbsent boxes number = (index : ℕ) → index < length boxes → number_at boxes index ≢ number
 
 -- the least number from one on that a page has, where one has
 abbrev pub IsNextPage : {Z : Type 0} → List (Box Page Z) → ℕ → Option ℕ → Type 0
@@ -84,7 +84,7 @@ IsNextPage boxes from None = (number : ℕ) → from ≤ number → IsAbsent box
 IsNextPage boxes from (Some next) =
     (from ≤ next) × (IsAbsent boxes next → ⊥) × ((number : ℕ) → from ≤ number → number < next → IsAbsent boxes number)
 
--- a directory says of each number where its page is, and of no other
+-- a directory says of each number the index of its page, and of no other
 pub record IsDirectory {Z : Type 0} (boxes : List (Box Page Z)) (directory : BTreeMap ℕ ℕ) : Type 0 where
-  pub has : (place : ℕ) → place < length boxes → tree.get nat_cmp directory (number_at boxes place) ≡ Some place
-  pub right : (number place : ℕ) → tree.get nat_cmp directory number ≡ Some place → IsPageAt boxes number place
+  pub has : (index : ℕ) → index < length boxes → tree.get nat_cmp directory (number_at boxes index) ≡ Some index
+  pub right : (number index : ℕ) → tree.get nat_cmp directory number ≡ Some index → IsPageAt boxes number index

@@ -37,8 +37,8 @@ impl ListStore {
         }
     }
 
-    // Where the granule's entry is, or where it would go.
-    fn place(&self, granule: u64) -> Result<usize, usize>
+    // The index of the granule's entry, or the one at which it would go.
+    fn index_of(&self, granule: u64) -> Result<usize, usize>
         ensures found { IfOk result (IsAt self.now.entries.items granule) }
         ensures absent { IfErr result (IsGapFor self.now.entries.items granule) }
     {
@@ -46,65 +46,65 @@ impl ListStore {
             .binary_search_by_key(&granule, |listed| listed.granule)
     }
 
-    // Puts an entry in the place of the granule's own.
-    fn replace(&mut self, place: usize, listed: Listed)
+    // Puts an entry at the index of the granule's own.
+    fn replace(&mut self, index: usize, listed: Listed)
         requires stored { IsStored listed.granule (entry_of listed) }
-        requires found { IsAt self.old.entries.items listed.granule place }
+        requires found { IsAt self.old.entries.items listed.granule index }
         ensures { contents_of self.new.entries.items
             ≡ map.insert (contents_of self.old.entries.items) listed.granule (entry_of listed) }
     {
-        self.entries[place] = listed;
+        self.entries[index] = listed;
     }
 
     // Adds an entry where it goes.
-    fn insert(&mut self, place: usize, listed: Listed) -> Result<(), NoMemory>
+    fn insert(&mut self, index: usize, listed: Listed) -> Result<(), NoMemory>
         requires stored { IsStored listed.granule (entry_of listed) }
-        requires absent { IsGapFor self.old.entries.items listed.granule place }
+        requires absent { IsGapFor self.old.entries.items listed.granule index }
         requires room { vec_len self.old.entries < 4294967295 }
         ensures ok { OnOk result (contents_of self.new.entries.items
             ≡ map.insert (contents_of self.old.entries.items) listed.granule (entry_of listed)) }
         ensures err { OnErr result (self.new.entries.items ≡ self.old.entries.items) }
     {
-        self.entries.insert(place, listed).map_err(|_| NoMemory)
+        self.entries.insert(index, listed).map_err(|_| NoMemory)
     }
 
-    // Writes bytes inside a granule from its byte `at` on, over zeros where it was never put, and
-    // sets its tag and its code.
+    // Writes bytes inside a granule from a byte index on, over zeros where it was never put, and sets
+    // its tag and its code.
     fn put(
         &mut self,
         granule: u64,
         tag: bool,
-        at: u8,
+        byte_index: u8,
         bytes: &[u8],
         code: u64,
     ) -> Result<(), NoMemory>
         requires in_memory { granule < 2 ^ 60 }
         requires coded { IsCodeFor tag code }
-        requires inside { at + length bytes.now ≤ 16 }
+        requires inside { byte_index + length bytes.now ≤ 16 }
         requires room { HasRoom (contents_of self.old.entries.items) granule }
         ensures ok { OnOk result (contents_of self.new.entries.items
-            ≡ with_write (contents_of self.old.entries.items) granule tag at bytes.now code) }
+            ≡ with_write (contents_of self.old.entries.items) granule tag byte_index bytes.now code) }
         ensures err { OnErr result (self.new.entries.items ≡ self.old.entries.items) }
         ensures only_new { OnErr result (map.get (contents_of self.old.entries.items) granule ≡ None) }
     {
-        match self.place(granule) {
-            Ok(place) => {
-                let mut listed = self.entries[place];
+        match self.index_of(granule) {
+            Ok(index) => {
+                let mut listed = self.entries[index];
                 listed.tag = tag;
                 listed.code = code;
-                overwrite(&mut listed.bytes, at, bytes);
-                self.replace(place, listed);
+                overwrite(&mut listed.bytes, byte_index, bytes);
+                self.replace(index, listed);
                 Ok(())
             }
-            Err(place) => {
+            Err(index) => {
                 let mut listed = Listed {
                     granule,
                     tag,
                     bytes: [0; 16],
                     code,
                 };
-                overwrite(&mut listed.bytes, at, bytes);
-                self.insert(place, listed)
+                overwrite(&mut listed.bytes, byte_index, bytes);
+                self.insert(index, listed)
             }
         }
     }
@@ -118,9 +118,9 @@ impl TaggedStore for ListStore {
     ghost count_fits = { λ s. len_fits s.entries.items s.rising s.counted };
 
     fn get(&self, granule: u64) -> Option<(bool, [u8; 16])> {
-        match self.place(granule) {
-            Ok(place) => {
-                let listed = &self.entries[place];
+        match self.index_of(granule) {
+            Ok(index) => {
+                let listed = &self.entries[index];
                 let bytes = listed.bytes;
                 Some((listed.tag, bytes))
             }
@@ -129,16 +129,16 @@ impl TaggedStore for ListStore {
     }
 
     fn code(&self, granule: u64) -> u64 {
-        match self.place(granule) {
-            Ok(place) => self.entries[place].code,
+        match self.index_of(granule) {
+            Ok(index) => self.entries[index].code,
             Err(_) => 0,
         }
     }
 
     fn next_put(&self, granule: u64) -> Option<u64> {
-        match self.place(granule) {
+        match self.index_of(granule) {
             Ok(_) => Some(granule),
-            Err(place) => match self.entries.get(place) {
+            Err(index) => match self.entries.get(index) {
                 Some(listed) => Some(listed.granule),
                 None => None,
             },
@@ -155,8 +155,8 @@ impl TaggedStore for ListStore {
         self.put(granule, tag, 0, &bytes, code)
     }
 
-    fn put_bytes(&mut self, granule: u64, at: u8, bytes: &[u8]) -> Result<(), NoMemory> {
-        self.put(granule, false, at, bytes, 0)
+    fn put_bytes(&mut self, granule: u64, byte_index: u8, bytes: &[u8]) -> Result<(), NoMemory> {
+        self.put(granule, false, byte_index, bytes, 0)
     }
 
     fn count(&self) -> u32 {

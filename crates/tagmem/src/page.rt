@@ -62,22 +62,29 @@ impl Page {
         None
     }
 
-    // Writes bytes inside a granule from its byte `at` on, over zeros where it was never put, and
-    // sets its tag and its code. Says whether it was never put.
+    // Writes bytes inside a granule from a byte index on, over zeros where it was never put, and sets
+    // its tag and its code. Says whether it was never put.
     #[inline(always)]
-    pub(crate) fn put(&mut self, slot: u8, tag: bool, at: u8, bytes: &[u8], code: u64) -> bool
-        requires { at + length bytes.now ≤ 16 }
+    pub(crate) fn put(
+        &mut self,
+        slot: u8,
+        tag: bool,
+        byte_index: u8,
+        bytes: &[u8],
+        code: u64,
+    ) -> bool
+        requires { byte_index + length bytes.now ≤ 16 }
         ensures first { result ≡ is_none (slice_index_or (slots_of self.old) slot None) }
         ensures number { self.new.number ≡ self.old.number }
         ensures slots { let old = slots_of self.old in
-            slots_of self.new ≡ slice_set old slot (Some (tag, overwritten (bytes_in old slot) at bytes.now, code)) }
+            slots_of self.new ≡ slice_set old slot (Some (tag, overwritten (bytes_in old slot) byte_index bytes.now, code)) }
     {
         let old = self.slots[slot as usize];
         let mut written = match old {
             Some(entry) => entry.1,
             None => [0; 16],
         };
-        overwrite(&mut written, at, bytes);
+        overwrite(&mut written, byte_index, bytes);
         self.slots[slot as usize] = Some((tag, written));
         self.codes[slot as usize] = code;
         old.is_none()

@@ -11,7 +11,7 @@ use std::array;
 use std::cell::Cell;
 use std::collections::BTreeMap;
 
-// How many places are remembered.
+// How many indexes are remembered.
 const REMEMBERED: usize = 1024;
 
 /// A store that keeps its entries in pages of 256 granules, each of which has one that was put. A put
@@ -20,10 +20,10 @@ const REMEMBERED: usize = 1024;
 #[derive(Drop)]
 pub struct PageStore {
     pages: Vec<Box<Page>>,
-    // Where each page is, by its number.
+    // The index of each page, by its number.
     directory: BTreeMap<u64, usize>,
-    // Where pages were last found, by the low bits of their numbers. Each is tested when it is used,
-    // so any places do.
+    // The indexes at which pages were last found, by the low bits of their numbers. Each is tested
+    // when it is used, so any do.
     remembered: [Cell<usize>; REMEMBERED],
     count: u32,
     ghost known: { IsDirectory pages.items directory },
@@ -46,9 +46,9 @@ impl PageStore {
         }
     }
 
-    // Where a page is.
+    // The index of the page with a number.
     #[inline(always)]
-    fn place(&self, number: u64) -> Option<usize>
+    fn index_of(&self, number: u64) -> Option<usize>
         ensures { MatchOption result (IsAbsent self.now.pages.items number) (IsPageAt self.now.pages.items number) }
     {
         let remembered = &self.remembered[(number % REMEMBERED as u64) as usize];
@@ -59,9 +59,9 @@ impl PageStore {
             return Some(last);
         }
         match self.directory.get(&number) {
-            Some(place) => {
-                remembered.set(*place);
-                Some(*place)
+            Some(index) => {
+                remembered.set(*index);
+                Some(*index)
             }
             None => None,
         }
@@ -84,8 +84,8 @@ impl PageStore {
             (NonePut contents from (256 * number + 256))
             (λ first. IsNextPut contents from (Some first)) }
     {
-        match self.place(number) {
-            Some(place) => match self.pages[place].first_from(slot) {
+        match self.index_of(number) {
+            Some(index) => match self.pages[index].first_from(slot) {
                 Some(first) => Some(u64::from(first) + 256 * number),
                 None => None,
             },
@@ -93,22 +93,22 @@ impl PageStore {
         }
     }
 
-    // Adds a page, of which one granule is put: bytes over zeros from its byte `at` on.
+    // Adds a page, of which one granule is put: bytes over zeros from a byte index on.
     fn add_page(
         &mut self,
         granule: u64,
         tag: bool,
-        at: u8,
+        byte_index: u8,
         bytes: &[u8],
         code: u64,
     ) -> Result<(), NoMemory>
         requires in_memory { granule < 2 ^ 60 }
         requires coded { IsCodeFor tag code }
         requires absent { IsAbsent self.old.pages.items (granule / 256) }
-        requires inside { at + length bytes.now ≤ 16 }
+        requires inside { byte_index + length bytes.now ≤ 16 }
         requires room { HasRoom (contents_of self.old.pages.items) granule }
         ensures ok { OnOk result (contents_of self.new.pages.items
-            ≡ with_write (contents_of self.old.pages.items) granule tag at bytes.now code) }
+            ≡ with_write (contents_of self.old.pages.items) granule tag byte_index bytes.now code) }
         ensures err { OnErr result (contents_of self.new.pages.items ≡ contents_of self.old.pages.items) }
     {
         let number = granule / 256;
@@ -119,11 +119,11 @@ impl PageStore {
         let Ok(()) = self.pages.reserve(1) else {
             return Err(NoMemory);
         };
-        let place = self.pages.len();
-        let Ok(_) = self.directory.insert(number, place) else {
+        let index = self.pages.len();
+        let Ok(_) = self.directory.insert(number, index) else {
             return Err(NoMemory);
         };
-        page.put((granule % 256) as u8, tag, at, bytes, code);
+        page.put((granule % 256) as u8, tag, byte_index, bytes, code);
         self.count += 1;
         self.pages.push_reserved(page);
         Ok(())
@@ -131,46 +131,54 @@ impl PageStore {
 
     // Writes bytes inside a granule of a page that is there, and counts it where it was never put.
     #[inline(always)]
-    fn write(&mut self, place: usize, granule: u64, tag: bool, at: u8, bytes: &[u8], code: u64)
+    fn write(
+        &mut self,
+        index: usize,
+        granule: u64,
+        tag: bool,
+        byte_index: u8,
+        bytes: &[u8],
+        code: u64,
+    )
         requires in_memory { granule < 2 ^ 60 }
         requires coded { IsCodeFor tag code }
-        requires found { IsPageAt self.old.pages.items (granule / 256) place }
-        requires inside { at + length bytes.now ≤ 16 }
+        requires found { IsPageAt self.old.pages.items (granule / 256) index }
+        requires inside { byte_index + length bytes.now ≤ 16 }
         requires room { HasRoom (contents_of self.old.pages.items) granule }
         ensures { contents_of self.new.pages.items
-            ≡ with_write (contents_of self.old.pages.items) granule tag at bytes.now code }
+            ≡ with_write (contents_of self.old.pages.items) granule tag byte_index bytes.now code }
     {
-        let page = &mut self.pages[place];
-        let first = page.put((granule % 256) as u8, tag, at, bytes, code);
+        let page = &mut self.pages[index];
+        let first = page.put((granule % 256) as u8, tag, byte_index, bytes, code);
         self.count += u32::from(first);
     }
 
-    // Writes bytes inside a granule from its byte `at` on, over zeros where it was never put, and
-    // sets its tag and its code.
+    // Writes bytes inside a granule from a byte index on, over zeros where it was never put, and sets
+    // its tag and its code.
     #[inline(always)]
     fn put(
         &mut self,
         granule: u64,
         tag: bool,
-        at: u8,
+        byte_index: u8,
         bytes: &[u8],
         code: u64,
     ) -> Result<(), NoMemory>
         requires in_memory { granule < 2 ^ 60 }
         requires coded { IsCodeFor tag code }
-        requires inside { at + length bytes.now ≤ 16 }
+        requires inside { byte_index + length bytes.now ≤ 16 }
         requires room { HasRoom (contents_of self.old.pages.items) granule }
         ensures ok { OnOk result (contents_of self.new.pages.items
-            ≡ with_write (contents_of self.old.pages.items) granule tag at bytes.now code) }
+            ≡ with_write (contents_of self.old.pages.items) granule tag byte_index bytes.now code) }
         ensures err { OnErr result (contents_of self.new.pages.items ≡ contents_of self.old.pages.items) }
         ensures only_new { OnErr result (map.get (contents_of self.old.pages.items) granule ≡ None) }
     {
-        match self.place(granule / 256) {
-            Some(place) => {
-                self.write(place, granule, tag, at, bytes, code);
+        match self.index_of(granule / 256) {
+            Some(index) => {
+                self.write(index, granule, tag, byte_index, bytes, code);
                 Ok(())
             }
-            None => self.add_page(granule, tag, at, bytes, code),
+            None => self.add_page(granule, tag, byte_index, bytes, code),
         }
     }
 }
@@ -184,16 +192,16 @@ impl TaggedStore for PageStore {
 
     #[inline(always)]
     fn get(&self, granule: u64) -> Option<(bool, [u8; 16])> {
-        match self.place(granule / 256) {
-            Some(place) => self.pages[place].get((granule % 256) as u8),
+        match self.index_of(granule / 256) {
+            Some(index) => self.pages[index].get((granule % 256) as u8),
             None => None,
         }
     }
 
     #[inline(always)]
     fn code(&self, granule: u64) -> u64 {
-        match self.place(granule / 256) {
-            Some(place) => self.pages[place].code((granule % 256) as u8),
+        match self.index_of(granule / 256) {
+            Some(index) => self.pages[index].code((granule % 256) as u8),
             None => 0,
         }
     }
@@ -220,8 +228,8 @@ impl TaggedStore for PageStore {
     }
 
     #[inline(always)]
-    fn put_bytes(&mut self, granule: u64, at: u8, bytes: &[u8]) -> Result<(), NoMemory> {
-        self.put(granule, false, at, bytes, 0)
+    fn put_bytes(&mut self, granule: u64, byte_index: u8, bytes: &[u8]) -> Result<(), NoMemory> {
+        self.put(granule, false, byte_index, bytes, 0)
     }
 
     fn count(&self) -> u32 {

@@ -50,14 +50,14 @@ pub trait TaggedStore: Drop {
         ensures err { OnErr result (contents self.new ≡ contents self.old) }
         ensures only_new { OnErr result (map.get (contents self.old) granule ≡ None) };
 
-    /// Writes one to sixteen bytes inside a granule, from its byte `at` on, and clears its tag and its
+    /// Writes one to sixteen bytes inside a granule, from a byte index on, and clears its tag and its
     /// code. Its other bytes stay, and are zero where it was never put. Errors are those of `put_cap`.
-    fn put_bytes(&mut self, granule: u64, at: u8, bytes: &[u8]) -> Result<(), NoMemory>
+    fn put_bytes(&mut self, granule: u64, byte_index: u8, bytes: &[u8]) -> Result<(), NoMemory>
         requires in_memory { granule < 2 ^ 60 }
         requires some { 0 < length bytes.now }
-        requires inside { at + length bytes.now ≤ 16 }
+        requires inside { byte_index + length bytes.now ≤ 16 }
         requires room { HasRoom (contents self.old) granule }
-        ensures ok { OnOk result (contents self.new ≡ with_bytes (contents self.old) granule at bytes.now) }
+        ensures ok { OnOk result (contents self.new ≡ with_bytes (contents self.old) granule byte_index bytes.now) }
         ensures err { OnErr result (contents self.new ≡ contents self.old) }
         ensures only_new { OnErr result (map.get (contents self.old) granule ≡ None) };
 

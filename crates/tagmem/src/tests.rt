@@ -32,15 +32,21 @@ fn put_cap<S: TaggedStore>(
     }
 }
 
-fn put_bytes<S: TaggedStore>(rt: &impl Abort, store: &mut S, granule: u64, at: u8, bytes: &[u8])
+fn put_bytes<S: TaggedStore>(
+    rt: &impl Abort,
+    store: &mut S,
+    granule: u64,
+    byte_index: u8,
+    bytes: &[u8],
+)
     requires in_memory { granule < 2 ^ 60 }
     requires some { 0 < length bytes.now }
-    requires inside { at + length bytes.now ≤ 16 }
+    requires inside { byte_index + length bytes.now ≤ 16 }
 {
     assert!(rt; store.count() < u32::MAX);
-    if store.put_bytes(granule, at, bytes).is_err() {
+    if store.put_bytes(granule, byte_index, bytes).is_err() {
         assert!(rt; store.count() < u32::MAX);
-        assert_eq!(rt; store.put_bytes(granule, at, bytes), Ok(()));
+        assert_eq!(rt; store.put_bytes(granule, byte_index, bytes), Ok(()));
     }
 }
 
@@ -126,16 +132,16 @@ struct Plain {
 }
 
 impl Plain {
-    fn write(&mut self, slot: usize, tag: bool, at: usize, bytes: &[u8], code: u64)
+    fn write(&mut self, slot: usize, tag: bool, byte_index: usize, bytes: &[u8], code: u64)
         requires slot_in { slot < 48 }
-        requires inside { at + length bytes.now ≤ 16 }
+        requires inside { byte_index + length bytes.now ≤ 16 }
     {
         self.put[slot] = true;
         self.tags[slot] = tag;
         self.codes[slot] = code;
         let kept = &mut self.bytes[slot];
         for i in 0..bytes.len() {
-            kept[at + i] = bytes[i];
+            kept[byte_index + i] = bytes[i];
         }
     }
 }
@@ -188,29 +194,29 @@ fn put_beside<S: TaggedStore>(
     store: &mut S,
     plain: &mut Plain,
     slot: usize,
-    at: u8,
+    byte_index: u8,
     bytes: [u8; 16],
     code: u64,
 )
     requires slot_in { slot < 48 }
-    requires inside { at < 16 }
+    requires inside { byte_index < 16 }
     requires coded { 0 < code }
 {
     let granule = granule_of(slot);
     assert!(rt; store.count() < u32::MAX);
-    if at == 0 {
+    if byte_index == 0 {
         if store.put_cap(granule, true, bytes, code).is_err() {
             assert_agree(rt, store, plain);
             put_cap(rt, store, granule, true, bytes, code);
         }
         plain.write(slot, true, 0, &bytes, code);
     } else {
-        let written = &bytes[..16 - at as usize];
-        if store.put_bytes(granule, at, written).is_err() {
+        let written = &bytes[..16 - byte_index as usize];
+        if store.put_bytes(granule, byte_index, written).is_err() {
             assert_agree(rt, store, plain);
-            put_bytes(rt, store, granule, at, written);
+            put_bytes(rt, store, granule, byte_index, written);
         }
-        plain.write(slot, false, at as usize, written, 0);
+        plain.write(slot, false, byte_index as usize, written, 0);
     }
     assert_agree(rt, store, plain);
 }
@@ -227,10 +233,10 @@ fn agrees_with_a_plain_list<S: TaggedStore>(rt: &impl Abort, store: &mut S) {
     for _ in 0..400 {
         random = random.wrapping_mul(1664525).wrapping_add(1013904223);
         let slot = (random >> 24) as usize % SLOTS;
-        let at = ((random >> 20) & 15) as u8;
+        let byte_index = ((random >> 20) & 15) as u8;
         let bytes = bytes_from(((random >> 12) & 0xff) as u8);
         let code = u64::from(random) + 1;
-        put_beside(rt, store, &mut plain, slot, at, bytes, code);
+        put_beside(rt, store, &mut plain, slot, byte_index, bytes, code);
     }
 }
 
@@ -335,7 +341,7 @@ fn a_list_and_pages_agree(rt: HostRuntime) {
         random = random.wrapping_mul(1664525).wrapping_add(1013904223);
         let granule = end_of_page(random >> 20);
         let read = end_of_page(random >> 15);
-        let at = (random >> 28) as u8;
+        let byte_index = (random >> 28) as u8;
         let bytes = bytes_from(((random >> 12) & 0xff) as u8);
         if random & 0x80000 == 0 {
             let tag = random & 0x40000 == 0;
@@ -343,9 +349,9 @@ fn a_list_and_pages_agree(rt: HostRuntime) {
             put_cap(&rt, list, granule, tag, bytes, code);
             put_cap(&rt, pages, granule, tag, bytes, code);
         } else {
-            let written = &bytes[..16 - at as usize];
-            put_bytes(&rt, list, granule, at, written);
-            put_bytes(&rt, pages, granule, at, written);
+            let written = &bytes[..16 - byte_index as usize];
+            put_bytes(&rt, list, granule, byte_index, written);
+            put_bytes(&rt, pages, granule, byte_index, written);
         }
         assert_eq!(rt; pages.get(granule), list.get(granule));
         assert_eq!(rt; pages.get(read), list.get(read));

@@ -33,7 +33,7 @@ impl Text {
         self.put(&digits[16..]);
     }
 
-    // Gives what fits of the text from a place on, and answers how many bytes.
+    // Gives what fits of the text from an index on, and answers how many bytes.
     fn give(&self, from: usize, piece: &mut [u8]) -> usize
         ensures { result ≤ length piece.new }
     {

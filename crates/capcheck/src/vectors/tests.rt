@@ -63,12 +63,12 @@ fn checks(rt: &impl Abort, file: &[u8], line: &[u8]) {
     assert!(rt; text[length..].iter().all(|byte| *byte == b'.'));
 }
 
-// A vector file with another byte at a place.
+// A vector file with another byte at an index.
 fn altered(alloc: Global, file: &[u8], at: usize, byte: u8) -> Result<Vec<u8>, AllocError> {
     let mut bytes = Vec::new(alloc);
     bytes.extend_from_slice(file)?;
-    if let Some(place) = bytes.get_mut(at) {
-        *place = byte;
+    if let Some(old) = bytes.get_mut(at) {
+        *old = byte;
     }
     Ok(bytes)
 }

@@ -12,5 +12,5 @@ pub returns-clause-ok : goal.returns-clause-ok
 returns-clause-ok g c =
     let memory = g.M.TaggedStore.contents c.args.memory.now in
     on_ok_weaker c.put_bytes.result
-    (λ put. put ∙ ap (λ (bytes : List ℕ). with_bytes memory c.args.granule c.args.at bytes) (ap (take c.args.size) c.to_le_bytes-bytes.ensures ∙ low_taken c.args.size c.args.value (few c.args.size c.requires.sized)))
+    (λ put. put ∙ ap (λ (bytes : List ℕ). with_bytes memory c.args.granule c.args.byte_index bytes) (ap (take c.args.size) c.to_le_bytes-bytes.ensures ∙ low_taken c.args.size c.args.value (few c.args.size c.requires.sized)))
     c.put_bytes.ensures.ok

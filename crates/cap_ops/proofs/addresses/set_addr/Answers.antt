@@ -1,7 +1,7 @@
 use Rattle.std.proofs.Common.{◌^◌, ◌<◌, Ok, Err, ◌∙◌, sym, arith}
 use Rattle.cap_ops.proofs.AddressLemmas.{NotRepresentable-exact, NotRepresentable-near, StaysWithin-set_addr}
 use Rattle.cap_ops.proofs.ResultLemmas.{moved_so}
-use Rattle.cap_ops.proofs.WithinLemmas.{StaysWithin-same}
+use Rattle.cap_ops.proofs.ReachLemmas.{StaysWithin-same}
 use Rattle.cap_ops.proofs.addresses.set_addr.Goals as goal
 
 pub returns-in-Some-clause-range : goal.returns-in-Some-clause-range

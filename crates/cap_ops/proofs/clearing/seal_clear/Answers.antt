@@ -3,7 +3,7 @@ use Rattle.cap_word.specs.declared.word.Cap.{Cap}
 use Rattle.cap_ops.specs.Operations.{Clears, seal_tests, seal_result}
 use Rattle.cap_ops.proofs.ClearLemmas.{StaysWithin-clear, clear_result-outcome, strict_where_tagged}
 use Rattle.cap_ops.proofs.Derivations.{StaysWithin-seal}
-use Rattle.cap_ops.proofs.WithinLemmas.{StaysWithin-same}
+use Rattle.cap_ops.proofs.ReachLemmas.{StaysWithin-same}
 use Rattle.cap_ops.proofs.clearing.seal_clear.Goals as goal
 
 pub returns-clause-result_is : goal.returns-clause-result_is

@@ -3,7 +3,7 @@ use Rattle.cap_word.specs.declared.word.Cap.{Cap}
 use Rattle.cap_ops.specs.Operations.{Clears, set_addr_tests, set_addr_result}
 use Rattle.cap_ops.proofs.ClearLemmas.{StaysWithin-clear, clear_result-outcome, strict_where_tagged}
 use Rattle.cap_ops.proofs.AddressLemmas.{StaysWithin-set_addr}
-use Rattle.cap_ops.proofs.WithinLemmas.{StaysWithin-same}
+use Rattle.cap_ops.proofs.ReachLemmas.{StaysWithin-same}
 use Rattle.cap_ops.proofs.clearing.set_addr_clear.Goals as goal
 
 pub returns-clause-result_is : goal.returns-clause-result_is

@@ -3,7 +3,7 @@ use Rattle.cap_word.specs.declared.word.Cap.{Cap}
 use Rattle.cap_ops.specs.Operations.{Clears, set_bounds_tests, set_bounds_result}
 use Rattle.cap_ops.proofs.ClearLemmas.{StaysWithin-clear, clear_result-outcome, strict_where_tagged, untagged_where_beyond}
 use Rattle.cap_ops.proofs.NarrowingLemmas.{StaysWithin-set_bounds}
-use Rattle.cap_ops.proofs.WithinLemmas.{StaysWithin-same}
+use Rattle.cap_ops.proofs.ReachLemmas.{StaysWithin-same}
 use Rattle.cap_ops.proofs.clearing.set_bounds_clear.Goals as goal
 
 pub returns-clause-result_is : goal.returns-clause-result_is

@@ -3,7 +3,7 @@ use Rattle.cap_word.specs.declared.word.Cap.{Cap}
 use Rattle.cap_ops.specs.Operations.{Clears, unseal_tests, unseal_result}
 use Rattle.cap_ops.proofs.ClearLemmas.{StaysWithin-clear, clear_result-outcome, strict_where_tagged}
 use Rattle.cap_ops.proofs.Derivations.{StaysWithin-unseal}
-use Rattle.cap_ops.proofs.WithinLemmas.{StaysWithin-same}
+use Rattle.cap_ops.proofs.ReachLemmas.{StaysWithin-same}
 use Rattle.cap_ops.proofs.clearing.unseal_clear.Goals as goal
 
 pub returns-clause-result_is : goal.returns-clause-result_is

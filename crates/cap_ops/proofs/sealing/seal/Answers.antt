@@ -1,7 +1,7 @@
 use Rattle.std.proofs.Common.{◌∙◌, sym}
 use Rattle.cap_ops.proofs.Derivations.{StaysWithin-seal}
 use Rattle.cap_ops.proofs.ResultLemmas.{sealed_so}
-use Rattle.cap_ops.proofs.WithinLemmas.{StaysWithin-same}
+use Rattle.cap_ops.proofs.ReachLemmas.{StaysWithin-same}
 use Rattle.cap_ops.proofs.sealing.seal.Goals as goal
 
 pub returns-in-None-clause-stays_within : goal.returns-in-None-clause-stays_within

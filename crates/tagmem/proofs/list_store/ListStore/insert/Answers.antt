@@ -2,7 +2,7 @@ use Rattle.std.proofs.Common.{◌≡◌, ◌^◌, ◌<◌, length, cond, is_ok, 
 use Rattle.std.specs.List.{insert}
 use Rattle.std.proofs.lemmas.List.Edits.{length-insert}
 use Rattle.tagmem.specs.Listed.{contents_of, IsRising, AllStored}
-use Rattle.tagmem.proofs.Places.{contents_of-insert, IsRising-insert, AllStored-insert, tried, OnOk-from_is_ok}
+use Rattle.tagmem.proofs.Indexes.{contents_of-insert, IsRising-insert, AllStored-insert, tried, OnOk-from_is_ok}
 use Rattle.tagmem.proofs.list_store.ListStore.insert.Goals as goal
 
 -- the list with one entry more keeps the facts, and so does the list as it was
@@ -10,18 +10,18 @@ pub invariant_of-self : goal.invariant_of-self
 invariant_of-self c =
     let s = c.args.self.now in
     let old = s.entries.items in
-    let new = insert old c.args.place c.args.listed in
+    let new = insert old c.args.index c.args.listed in
     let kept = c.insert.ensures.items in
-    let longer = length-insert old c.args.place c.args.listed c.requires.absent.in_range in
+    let longer = length-insert old c.args.index c.args.listed c.requires.absent.in_range in
     record {
-      rising = tried IsRising _ _ new old kept (IsRising-insert old c.args.listed c.args.place s.rising c.requires.absent) s.rising;
-      stored = tried AllStored _ _ new old kept (AllStored-insert old c.args.listed c.args.place s.stored c.requires.stored) s.stored;
+      rising = tried IsRising _ _ new old kept (IsRising-insert old c.args.listed c.args.index s.rising c.requires.absent) s.rising;
+      stored = tried AllStored _ _ new old kept (AllStored-insert old c.args.listed c.args.index s.stored c.requires.stored) s.stored;
       counted = tried (λ l. length l < 2 ^ 32) _ _ new old kept (omega (arith, s.entries.ok.0)) s.counted;
     }
 
 pub returns-clause-ok : goal.returns-clause-ok
 returns-clause-ok c = OnOk-from_is_ok c.map_err.result _ (λ ok.
     let old = c.args.self.now.entries.items in
-    let new = insert old c.args.place c.args.listed in
+    let new = insert old c.args.index c.args.listed in
     let grew : is_ok c.insert.result ≡ true = sym c.map_err.ensures.variant ∙ ok in
-    ap contents_of (c.insert.ensures.items ∙ ap (λ b. cond b new old) grew) ∙ contents_of-insert old c.args.listed c.args.place c.requires.absent)
+    ap contents_of (c.insert.ensures.items ∙ ap (λ b. cond b new old) grew) ∙ contents_of-insert old c.args.listed c.args.index c.requires.absent)

@@ -4,7 +4,7 @@ use Rattle.std.proofs.lemmas.List.Elements.{All-set}
 use Rattle.tagmem.specs.declared.list_store.Listed.{Listed}
 use Rattle.tagmem.specs.Granules.{IsStored}
 use Rattle.tagmem.specs.Listed.{entry_of}
-use Rattle.tagmem.proofs.Places.{contents_of-set, IsRising-set}
+use Rattle.tagmem.proofs.Indexes.{contents_of-set, IsRising-set}
 use Rattle.tagmem.proofs.list_store.ListStore.replace.Goals as goal
 
 -- the granules, and how many, stay
@@ -12,10 +12,10 @@ pub invariant_of-self : goal.invariant_of-self
 invariant_of-self c =
     let s = c.args.self.now in
     record {
-      rising = IsRising-set s.entries.items c.args.listed c.args.place s.rising c.requires.found;
-      stored = All-set (λ (listed : Listed). IsStored listed.granule (entry_of listed)) s.entries.items c.args.place c.args.listed c.requires.stored s.stored;
+      rising = IsRising-set s.entries.items c.args.listed c.args.index s.rising c.requires.found;
+      stored = All-set (λ (listed : Listed). IsStored listed.granule (entry_of listed)) s.entries.items c.args.index c.args.listed c.requires.stored s.stored;
       counted = omega (arith, length-set {A = Listed}, s.counted);
     }
 
 pub returns : goal.returns
-returns c = contents_of-set c.args.self.now.entries.items c.args.listed c.args.place c.args.self.now.rising c.requires.found
+returns c = contents_of-set c.args.self.now.entries.items c.args.listed c.args.index c.args.self.now.rising c.requires.found

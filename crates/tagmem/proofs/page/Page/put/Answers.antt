@@ -28,4 +28,4 @@ returns-clause-slots c =
     ∙ sym (ap (λ o. (unwrap_or o blank).1) stands) in
     each_coded-set page.slots page.codes c.args.slot (Some (c.args.tag, c.overwrite.new.granule)) c.args.code
     ∙ ap (λ bytes. set (slots_of page) c.args.slot (Some (c.args.tag, bytes, c.args.code)))
-    (c.overwrite.ensures ∙ ap (λ bytes. overwritten bytes c.args.at c.args.bytes.now) was)
+    (c.overwrite.ensures ∙ ap (λ bytes. overwritten bytes c.args.byte_index c.args.bytes.now) was)

@@ -34,10 +34,10 @@ returns-clause-ok c =
     let items = c.push_reserved.ensures.items ∙ ap (λ items. items ++ box ∷ []) c.reserve.ensures.items in
     let number = ap (λ (page : Page). page.number) c.in-Ok.ensures.ok ∙ c.new.ensures.number in
     let none = rw (← c.in-Ok.ensures.ok) at c.new.ensures.slots in
-    let last : c.len-place.result ≡ length s.pages.items = omega (arith, s.pages.ok.0, c.len-place.ensures, c.reserve.ensures.len) in
-    let written : IsWritten c.in-Ok.page.value c.put.new.self (c.args.granule % 256) c.args.tag c.args.at c.args.bytes.now c.args.code =
+    let last : c.len-index.result ≡ length s.pages.items = omega (arith, s.pages.ok.0, c.len-index.ensures, c.reserve.ensures.len) in
+    let written : IsWritten c.in-Ok.page.value c.put.new.self (c.args.granule % 256) c.args.tag c.args.byte_index c.args.bytes.now c.args.code =
     rw (← c.deref_mut.ensures.value) (record { number = c.put.ensures.number; slots = c.put.ensures.slots }) in
-    let added : IsAdded s.pages.items s.directory c.insert.new.self c.len-place.result c.args.granule c.in-Ok.page c.put.new.self _ _ _ _ = record {
+    let added : IsAdded s.pages.items s.directory c.insert.new.self c.len-index.result c.args.granule c.in-Ok.page c.put.new.self _ _ _ _ = record {
       known = s.known;
       used = s.used;
       absent = c.requires.absent;
@@ -56,10 +56,10 @@ invariant_of-self-2 c =
     let items = c.push_reserved.ensures.items ∙ ap (λ items. items ++ box ∷ []) c.reserve.ensures.items in
     let number = ap (λ (page : Page). page.number) c.in-Ok.ensures.ok ∙ c.new.ensures.number in
     let none = rw (← c.in-Ok.ensures.ok) at c.new.ensures.slots in
-    let last : c.len-place.result ≡ length s.pages.items = omega (arith, s.pages.ok.0, c.len-place.ensures, c.reserve.ensures.len) in
-    let written : IsWritten c.in-Ok.page.value c.put.new.self (c.args.granule % 256) c.args.tag c.args.at c.args.bytes.now c.args.code =
+    let last : c.len-index.result ≡ length s.pages.items = omega (arith, s.pages.ok.0, c.len-index.ensures, c.reserve.ensures.len) in
+    let written : IsWritten c.in-Ok.page.value c.put.new.self (c.args.granule % 256) c.args.tag c.args.byte_index c.args.bytes.now c.args.code =
     rw (← c.deref_mut.ensures.value) (record { number = c.put.ensures.number; slots = c.put.ensures.slots }) in
-    let added : IsAdded s.pages.items s.directory c.insert.new.self c.len-place.result c.args.granule c.in-Ok.page c.put.new.self _ _ _ _ = record {
+    let added : IsAdded s.pages.items s.directory c.insert.new.self c.len-index.result c.args.granule c.in-Ok.page c.put.new.self _ _ _ _ = record {
       known = s.known;
       used = s.used;
       absent = c.requires.absent;

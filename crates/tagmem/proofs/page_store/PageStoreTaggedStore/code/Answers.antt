@@ -10,7 +10,7 @@ pub returns-in-Some : goal.returns-in-Some
 returns-in-Some c =
     let s = c.args.self.now in
     let says = λ (page : Page). code_in (slots_of page) (c.args.granule % 256) in
-    let stands = get_present s.pages.items s.directory s.known c.args.granule c.in-Some.place c.index.result.now c.in-Some.ensures in
+    let stands = get_present s.pages.items s.directory s.known c.args.granule c.in-Some.index c.index.result.now c.in-Some.ensures in
     c.code.ensures ∙ ap says c.deref.ensures ∙ ap (λ box. says box.value) c.index.ensures ∙ sym (ap (λ o. (unwrap_or o blank).2) stands)
 
 -- or it is absent

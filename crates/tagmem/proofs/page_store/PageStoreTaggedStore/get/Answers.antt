@@ -11,7 +11,7 @@ returns-in-Some c =
     let s = c.args.self.now in
     let says = λ (page : Page). shown (get_or (slots_of page) (c.args.granule % 256) None) in
     c.get.ensures ∙ ap says c.deref.ensures ∙ ap (λ box. says box.value) c.index.ensures
-    ∙ sym (ap shown (get_present s.pages.items s.directory s.known c.args.granule c.in-Some.place c.index.result.now c.in-Some.ensures))
+    ∙ sym (ap shown (get_present s.pages.items s.directory s.known c.args.granule c.in-Some.index c.index.result.now c.in-Some.ensures))
 
 -- or it is absent
 pub returns-in-None : goal.returns-in-None

@@ -2,8 +2,8 @@ use Rattle.std.proofs.Common.{rules}
 use Rattle.std.proofs.lemmas.List.Sorted.{answers_always}
 use Rattle.tagmem.specs.declared.list_store.Listed.{Listed}
 use Rattle.tagmem.specs.ListLaws.{rises_far}
-use Rattle.tagmem.proofs.Places.{searched}
-use Rattle.tagmem.proofs.list_store.ListStore.place.Goals as goal
+use Rattle.tagmem.proofs.Indexes.{searched}
+use Rattle.tagmem.proofs.list_store.ListStore.index_of.Goals as goal
 
 -- the closure gives an entry's granule, and the slice is the store's entries
 pub returns : goal.returns
