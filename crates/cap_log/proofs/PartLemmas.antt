@@ -1,7 +1,6 @@
 -- The parts of a line, one by one: each value in range has one short spelling, without a line feed.
 use Rattle.std.proofs.Common.{◌≡◌, ◌≢◌, ℕ, zero, suc, ◌+◌, ◌*◌, ◌%◌, ◌<◌, ◌≤◌, ◌^◌, ℤ, pos, negsuc, Bool, true, false, eqb, List, [], ◌∷◌, ◌++◌, length, get_or, take, drop, sym, ap, subst, ◌∙◌, refl, inl, inr, arith, decimal, codes}
 use Rattle.std.specs.Fmt.{signed_decimal}
-use Rattle.std.proofs.Math.Nat as nat
 use Rattle.std.specs.Cmp.Lexicographic.{pointwise}
 use Rattle.std.proofs.lemmas.Bool.{false≢true}
 use Rattle.std.proofs.lemmas.Fmt.{decimal_injective, length-decimal-le, signed_decimal_injective}
@@ -9,7 +8,7 @@ use Rattle.std.proofs.lemmas.List.{length-append, take_at}
 use Rattle.std.proofs.lemmas.List.Elements.{All-append, All-cons}
 use Rattle.cap_word.specs.Digits.{hex_digits}
 use Rattle.cap_word.specs.declared.word.Cap.{Cap}
-use Rattle.cap_word.proofs.DigitLemmas.{length-hex_digits}
+use Rattle.cap_word.proofs.DigitLemmas.{length-hex_digits, pow_256}
 use Rattle.cap_log.specs.Lines.{IsDataSize, IsDataValue, IsNumber, IsOffset, IsPlace, IsRegister, IsTarget, IsWordNumber, place_spelling, register_spelling, tag_spelling}
 use Rattle.cap_log.specs.Parts.{Begins, BeginsWithNone, HasNoSpace, IsSized, loaded_spelling, result_spelling, stored_spelling, tag_front}
 use Rattle.cap_log.specs.declared.lines.Place.{Place}
@@ -136,13 +135,6 @@ size-small n (inr (inr (inr e))) = (omega arith, omega arith)
 
 pub size-spaceless : (n : ℕ) → IsDataSize n → HasNoSpace (decimal n)
 size-spaceless n fits = let small = size-small n fits in Lacks-decimal 32 n (omega arith) (omega arith)
-
--- a power of 256 is one of 16
-pub pow_256 : (k : ℕ) → 256 ^ k ≡ 16 ^ (2 * k)
-pow_256 zero = refl
-pow_256 (suc k) =
-    let twice : 2 * suc k ≡ suc (suc (2 * k)) = omega arith in
-    rw twice (omega (arith, nat.pow-suc 256 k, pow_256 k, nat.pow-suc 16 (suc (2 * k)), nat.pow-suc 16 (2 * k)))
 
 -- values of a size
 pub value-same : (size m n : ℕ) → IsDataValue size m → IsDataValue size n → hex_digits (2 * size) m ≡ hex_digits (2 * size) n → m ≡ n

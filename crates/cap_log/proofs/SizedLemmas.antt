@@ -6,13 +6,13 @@ use borrow.Rule.Slice.PartMut.{put_mid}
 use Rattle.std.proofs.lemmas.List.{append-nil, append_assoc, drop_all, drop_at, length-append, length-drop, length-replicate, take-replicate, take_all}
 use Rattle.std.proofs.lemmas.Fmt.{decimal_digit, decimal_injective}
 use Rattle.cap_word.specs.Digits.{hex_digit, hex_digits}
-use Rattle.cap_word.proofs.DigitLemmas.{length-hex_digits}
+use Rattle.cap_word.proofs.DigitLemmas.{length-hex_digits, pow_256}
 use Rattle.cap_log.specs.Lines.{IsDataSize, IsDataValue}
 use Rattle.cap_log.specs.Parts.{Begins, BeginsWithNone, IsSized, Writes, loaded_spelling, stored_spelling}
 use Rattle.cap_log.proofs.Cuts.{same_cut}
 use Rattle.cap_word.proofs.ReadingLemmas.{digit_value-hex_digit}
 use Rattle.cap_log.proofs.WriteLemmas.{length-Writes}
-use Rattle.cap_log.proofs.PartLemmas.{pow_256, size-small, size-spaceless}
+use Rattle.cap_log.proofs.PartLemmas.{size-small, size-spaceless}
 
 -- a size is one of four texts
 pub size_text : (n : ℕ) → n < 10 → decimal n ≡ (48 + n) ∷ []

@@ -1,6 +1,7 @@
 -- Each access of a run lies inside the root that its authority descends from.
 use Rattle.std.proofs.Common.{◌≡◌, ℕ, ℤ, zero, suc, ◌<◌, Bool, true, false, not, List, [], ◌∷◌, length, refl, sym, ap, subst, ◌∙◌, arith, Some, None, slice_get}
 use Rattle.std.specs.List.{AllByRecursion}
+use Rattle.std.proofs.lemmas.Bool.{not-false}
 use Rattle.std.proofs.lemmas.Option.{same_Some, none-some}
 use Rattle.cap_word.specs.declared.word.Cap.{Cap}
 use Rattle.cap_log.specs.declared.lines.Step.{Step}
@@ -19,10 +20,6 @@ use Rattle.cap_machine.specs.Runs.{IsRun, state_at, AccessesLieInside, AreSound}
 use Rattle.cap_machine.proofs.AuthorityLemmas.{one_root}
 use Rattle.cap_machine.proofs.StepLemmas.{row_by-access}
 
-not_false : (b : Bool) → not b ≡ false → b ≡ true
-not_false true h = refl
-not_false false h = sym h
-
 -- an access that no test refuses has a tagged authority, and is allowed by it
 pub record IsGranted (state : State) (access : Access) : Type 0 where
   pub tag : (state access.authority).tag ≡ true
@@ -30,7 +27,7 @@ pub record IsGranted (state : State) (access : Access) : Type 0 where
 
 tag_tested : (authority : Cap) (kind : Kind) (offset : ℤ) (size : ℕ) → first_of (access_tests authority kind offset size) ≡ None → authority.tag ≡ true
 unfolding access_tests
-tag_tested authority kind offset size free = not_false authority.tag (none_hold (access_tests authority kind offset size) free).0
+tag_tested authority kind offset size free = not-false authority.tag (none_hold (access_tests authority kind offset size) free).0
 
 granted_to : (state : State) (register : ℕ) (kind : Kind) (offset : ℤ) (bytes : ℕ) (access : Access)
     → first_of (access_tests (state register) kind offset bytes) ≡ None

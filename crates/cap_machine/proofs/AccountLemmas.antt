@@ -1,5 +1,6 @@
 -- Accounts: how they grow, and the roots and steps of which no test holds.
-use Rattle.std.proofs.Common.{◌≡◌, ℕ, ◌+◌, ◌<◌, ◌≤◌, Bool, true, false, not, ◌&&◌, ◌||◌, nat_le, List, [], ◌∷◌, Option, Some, None, refl, sym, ap, ◌∙◌, eq-eqb, arith}
+use Rattle.std.proofs.Common.{◌≡◌, ℕ, ◌+◌, ◌<◌, ◌≤◌, Bool, true, false, not, ◌&&◌, ◌||◌, nat_le, List, [], ◌∷◌, length}
+use Rattle.std.proofs.Common.{Option, Some, None, refl, sym, ap, ◌∙◌, eq-eqb, arith}
 use Rattle.std.specs.Bool.{if◌then◌else◌}
 use Rattle.std.proofs.lemmas.Bool.{false≢true, and_from, or_from, le-leb, lt-leb}
 use Rattle.cap_word.specs.declared.word.Word.{Word}
@@ -8,9 +9,11 @@ use Rattle.cap_log.specs.declared.lines.Place.{Place}
 use Rattle.cap_log.specs.declared.lines.Step.{Step}
 use Rattle.cap_ops.specs.Tests.{first_of}
 use Rattle.cap_ops.proofs.TestLemmas.{NoneHold}
-use Rattle.cap_machine.specs.States.{State, key_of}
+use Rattle.cap_machine.specs.States.{State, DeclaredRoot, key_of}
 use Rattle.cap_machine.specs.Steps.{Leads, is_recorded}
-use Rattle.cap_machine.specs.Accounts.{Account, most_roots, most_granules, most_steps, granule_of, named_by, row_in, passes_granule_limit, naming, with_root, with_step, root_tests, step_tests}
+use Rattle.cap_machine.specs.Accounts.{Account, no_account, most_roots, most_granules, most_steps, granule_of, named_by, row_in, passes_granule_limit, naming, with_root, with_step, root_tests, step_tests}
+use Rattle.cap_machine.specs.declared.rules.Rules.{Rules}
+use Rattle.cap_machine.specs.RunAccounts.{after_roots, after_steps, account_after}
 use Rattle.cap_machine.proofs.MadeLemmas.{first_mapped-none, ending}
 
 -- an account grows into another by so many roots and steps: its rules stay, and no granule that was named is taken away
@@ -40,6 +43,29 @@ pub with_step-grows : (account : Account) (step : Step) → Grows account (with_
 with_step-grows account step =
     let named = naming-grows account (named_by (row_in account step)) in
     record { rules_stay = named.rules_stay; roots_are = named.roots_are; steps_are = refl; granules_stay = named.granules_stay }
+
+-- and by roots and steps one after another
+pub after_roots-grows : (account : Account) (roots : List DeclaredRoot) → Grows account (after_roots account roots) (length roots) 0
+after_roots-grows account [] = record { rules_stay = refl; roots_are = omega arith; steps_are = omega arith; granules_stay = omega arith }
+after_roots-grows account (root ∷ roots) =
+    let one = with_root-grows account root.place root.word in
+    let rest = after_roots-grows (with_root account root.place root.word) roots in
+    record { rules_stay = rest.rules_stay ∙ one.rules_stay; roots_are = omega arith; steps_are = omega arith; granules_stay = omega arith }
+
+pub after_steps-grows : (account : Account) (steps : List Step) → Grows account (after_steps account steps) 0 (length steps)
+after_steps-grows account [] = record { rules_stay = refl; roots_are = omega arith; steps_are = omega arith; granules_stay = omega arith }
+after_steps-grows account (step ∷ steps) =
+    let one = with_step-grows account step in
+    let rest = after_steps-grows (with_step account step) steps in
+    record { rules_stay = rest.rules_stay ∙ one.rules_stay; roots_are = omega arith; steps_are = omega arith; granules_stay = omega arith }
+
+pub account_after-grows : (rules_are : Rules) (roots : List DeclaredRoot) (steps : List Step)
+    → Grows (no_account rules_are) (account_after rules_are roots steps) (length roots) (length steps)
+account_after-grows rules_are roots steps =
+    let first = after_roots-grows (no_account rules_are) roots in
+    let rest = after_steps-grows (after_roots (no_account rules_are) roots) steps in
+    let rules_stay = rest.rules_stay ∙ first.rules_stay in
+    record { rules_stay = rules_stay; roots_are = omega arith; steps_are = omega arith; granules_stay = omega arith }
 
 not_passed : (named : Bool) (granules most : ℕ) → (if named then granules else granules + 1) ≤ most
     → (not named && nat_le most granules) ≡ false

@@ -3,7 +3,7 @@ use Rattle.std.proofs.Common.{◌≡◌, ℕ, ◌+◌, ◌-◌, ◌^◌, ◌<◌
 use Rattle.std.specs.Bool.{if◌then◌else◌}
 use Rattle.std.proofs.Math.ListN.{set}
 use Rattle.std.proofs.Math.Path.{fun_ext}
-use Rattle.std.proofs.lemmas.Bool.{cond-true, cond-false, false≢true, cases_lt, lt-ltb, le-ltb}
+use Rattle.std.proofs.lemmas.Bool.{cond-true, cond-false, false≢true, cases_lt, lt-ltb, le-ltb, ne_eqb}
 use Rattle.std.proofs.lemmas.Bool.Decides.{eqb_tells}
 use Rattle.std.specs.FinMap as map
 use Rattle.cap_word.specs.declared.word.Cap.{Cap}
@@ -20,17 +20,18 @@ use Rattle.cap_machine.specs.Runs.{hits, parent_in}
 use Rattle.cap_machine.specs.Accounts.{row_in}
 use Rattle.cap_machine.specs.Helds.{Held, state_of, code_in, account_of}
 use Rattle.cap_machine.specs.Changes.{code_for}
-use Rattle.cap_machine.proofs.StateLemmas.{cap_of, state-register, state-granule, codes-register, codes-granule, unlike_false}
+use Rattle.cap_machine.proofs.GranuleLemmas.{cap_of}
+use Rattle.cap_machine.proofs.StateLemmas.{state-register, state-granule, codes-register, codes-granule}
 use Rattle.cap_machine.proofs.StepLemmas.{hits-row_by}
 
 -- the places that codes are of
 pub place_at-key : (place : Place) → IsPlace place → place_at (key_of place) ≡ Some place
 place_at-key (Register n) range =
-    cond-false (n == 0) _ _ (unlike_false n 0 (λ e. let f : n ≡ 0 = e in omega (arith, range.0))) ∙ cond-true (nat_lt n 32) _ _ (lt-ltb n 32 (omega (arith, range.1)))
+    cond-false (n == 0) _ _ (ne_eqb n 0 (λ e. let f : n ≡ 0 = e in omega (arith, range.0))) ∙ cond-true (nat_lt n 32) _ _ (lt-ltb n 32 (omega (arith, range.1)))
 place_at-key (Granule g) range =
     let past : nat_lt (g + 32) 32 ≡ false = le-ltb (g + 32) 32 (omega arith) in
     let back : g + 32 - 32 ≡ g = omega arith in
-    cond-false (g + 32 == 0) _ _ (unlike_false (g + 32) 0 (λ e. let f : g + 32 ≡ 0 = e in omega arith)) ∙ cond-false (nat_lt (g + 32) 32) _ _ past
+    cond-false (g + 32 == 0) _ _ (ne_eqb (g + 32) 0 (λ e. let f : g + 32 ≡ 0 = e in omega arith)) ∙ cond-false (nat_lt (g + 32) 32) _ _ past
     ∙ ap (λ (h : ℕ). Some (Granule h)) back
 
 pub place_in_range : (code : ℕ) → code < 2 ^ 60 + 32 → IfSome (place_at code) IsPlace

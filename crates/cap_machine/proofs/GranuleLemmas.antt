@@ -1,7 +1,6 @@
 -- Granules as capabilities and as numbers.
 use Rattle.std.proofs.Common.{◌≡◌, ℕ, zero, suc, ◌+◌, ◌*◌, ◌/◌, ◌%◌, ◌^◌, ◌<◌, ◌≤◌, false, List, [], ◌∷◌, length, drop, take, get_or, refl, sym, ap, ◌∙◌, arith, Option, Some, None, IfSome}
 use Rattle.std.proofs.Math.Nat.{div-div-eq-div-mul, pow-suc, pow-zero, div-one, zero-div}
-use Rattle.std.proofs.lemmas.List.{at_drop_more}
 use Rattle.std.proofs.lemmas.Nat.{pow-add}
 use Rattle.std.specs.Prelude.{unwrap_or, replicate}
 use Rattle.std.specs.FinMap as map
@@ -9,25 +8,22 @@ use Rattle.std.specs.Int.{byte_at, bytes_low_first, to_le_bytes, w64}
 use Rattle.cap_word.specs.Word.{null_word}
 use Rattle.cap_word.specs.Memory.{number_of, stored_word, low_bytes}
 use Rattle.cap_word.specs.declared.word.Cap.{Cap}
+use Rattle.cap_word.proofs.Bytes.{byte_at_is, number_of_drop}
 use Rattle.tagmem.specs.Granules.{Granules, AreStored, Entry, IsNextPut, blank}
 use Rattle.cap_machine.specs.States.{untagged_null}
 use Rattle.cap_machine.specs.Helds.{granule_cap}
 use Rattle.cap_machine.specs.Values.{number_at}
 
-byte_at_is : (i n : ℕ) → byte_at i n ≡ n / 256 ^ i % 256
-byte_at_is zero n = ap (λ (x : ℕ). x % 256) (sym (ap (λ (x : ℕ). n / x) (pow-zero 256) ∙ div-one n))
-byte_at_is (suc i) n = refl
-
 zero_word : stored_word (replicate 16 0) ≡ null_word
 unfolding number_of
 zero_word = refl
 
-cap_of : Entry → Cap
+-- the capability of a granule's entry
+abbrev pub cap_of : Entry → Cap
 cap_of entry = record { tag = entry.0; word = record { 0 = stored_word entry.1 } }
 
 -- a granule that was never put holds NULL without a tag
 pub granule_cap-absent : (memory : Granules) (granule : ℕ) → map.get memory granule ≡ None → granule_cap memory granule ≡ untagged_null
-unfolding cap_of
 granule_cap-absent memory granule absent =
     ap (λ (o : Option Entry). cap_of (unwrap_or o blank)) absent ∙ ap (λ (n : ℕ). let cap : Cap = record { tag = false; word = record { 0 = n } } in cap) zero_word
 
@@ -45,25 +41,21 @@ number_of-drop (x ∷ xs) (suc byte_index) small =
     ∙ ap (λ (n : ℕ). n / 2 ^ (8 * byte_index)) rest
     ∙ number_of-drop xs byte_index (λ i. small (suc i))
 
-next_byte : (bytes : List ℕ) (i : ℕ) → i < length bytes → number_of (drop i bytes) ≡ get_or bytes i 0 + 256 * number_of (drop (i + 1) bytes)
-unfolding number_of
-next_byte bytes i h = at_drop_more number_of bytes i 0 h
-
 pub number_at-low_1 : (bytes : List ℕ) (byte_index : ℕ) → length bytes ≡ 16 → ((i : ℕ) → get_or bytes i 0 < 256) → byte_index + 1 ≤ 16
     → number_of (drop byte_index bytes) % 256 ≡ number_at bytes byte_index 1
-number_at-low_1 bytes byte_index sixteen small inside = omega (arith, next_byte bytes byte_index (omega arith), small byte_index)
+number_at-low_1 bytes byte_index sixteen small inside = omega (arith, number_of_drop bytes (byte_index) (omega arith), small (byte_index))
 
 pub number_at-low_2 : (bytes : List ℕ) (byte_index : ℕ) → length bytes ≡ 16 → ((i : ℕ) → get_or bytes i 0 < 256) → byte_index + 2 ≤ 16
     → number_of (drop byte_index bytes) % 65536 ≡ number_at bytes byte_index 2
-number_at-low_2 bytes byte_index sixteen small inside = omega (arith, next_byte bytes byte_index (omega arith), small byte_index, next_byte bytes (byte_index + 1) (omega arith), small (byte_index + 1))
+number_at-low_2 bytes byte_index sixteen small inside = omega (arith, number_of_drop bytes (byte_index) (omega arith), small (byte_index), number_of_drop bytes (byte_index + 1) (omega arith), small (byte_index + 1))
 
 pub number_at-low_4 : (bytes : List ℕ) (byte_index : ℕ) → length bytes ≡ 16 → ((i : ℕ) → get_or bytes i 0 < 256) → byte_index + 4 ≤ 16
     → number_of (drop byte_index bytes) % 4294967296 ≡ number_at bytes byte_index 4
-number_at-low_4 bytes byte_index sixteen small inside = omega (arith, next_byte bytes byte_index (omega arith), small byte_index, next_byte bytes (byte_index + 1) (omega arith), small (byte_index + 1), next_byte bytes (byte_index + 1 + 1) (omega arith), small (byte_index + 1 + 1), next_byte bytes (byte_index + 1 + 1 + 1) (omega arith), small (byte_index + 1 + 1 + 1))
+number_at-low_4 bytes byte_index sixteen small inside = omega (arith, number_of_drop bytes (byte_index) (omega arith), small (byte_index), number_of_drop bytes (byte_index + 1) (omega arith), small (byte_index + 1), number_of_drop bytes (byte_index + 1 + 1) (omega arith), small (byte_index + 1 + 1), number_of_drop bytes (byte_index + 1 + 1 + 1) (omega arith), small (byte_index + 1 + 1 + 1))
 
 pub number_at-low_8 : (bytes : List ℕ) (byte_index : ℕ) → length bytes ≡ 16 → ((i : ℕ) → get_or bytes i 0 < 256) → byte_index + 8 ≤ 16
     → number_of (drop byte_index bytes) % 18446744073709551616 ≡ number_at bytes byte_index 8
-number_at-low_8 bytes byte_index sixteen small inside = omega (arith, next_byte bytes byte_index (omega arith), small byte_index, next_byte bytes (byte_index + 1) (omega arith), small (byte_index + 1), next_byte bytes (byte_index + 1 + 1) (omega arith), small (byte_index + 1 + 1), next_byte bytes (byte_index + 1 + 1 + 1) (omega arith), small (byte_index + 1 + 1 + 1), next_byte bytes (byte_index + 1 + 1 + 1 + 1) (omega arith), small (byte_index + 1 + 1 + 1 + 1), next_byte bytes (byte_index + 1 + 1 + 1 + 1 + 1) (omega arith), small (byte_index + 1 + 1 + 1 + 1 + 1), next_byte bytes (byte_index + 1 + 1 + 1 + 1 + 1 + 1) (omega arith), small (byte_index + 1 + 1 + 1 + 1 + 1 + 1), next_byte bytes (byte_index + 1 + 1 + 1 + 1 + 1 + 1 + 1) (omega arith), small (byte_index + 1 + 1 + 1 + 1 + 1 + 1 + 1))
+number_at-low_8 bytes byte_index sixteen small inside = omega (arith, number_of_drop bytes (byte_index) (omega arith), small (byte_index), number_of_drop bytes (byte_index + 1) (omega arith), small (byte_index + 1), number_of_drop bytes (byte_index + 1 + 1) (omega arith), small (byte_index + 1 + 1), number_of_drop bytes (byte_index + 1 + 1 + 1) (omega arith), small (byte_index + 1 + 1 + 1), number_of_drop bytes (byte_index + 1 + 1 + 1 + 1) (omega arith), small (byte_index + 1 + 1 + 1 + 1), number_of_drop bytes (byte_index + 1 + 1 + 1 + 1 + 1) (omega arith), small (byte_index + 1 + 1 + 1 + 1 + 1), number_of_drop bytes (byte_index + 1 + 1 + 1 + 1 + 1 + 1) (omega arith), small (byte_index + 1 + 1 + 1 + 1 + 1 + 1), number_of_drop bytes (byte_index + 1 + 1 + 1 + 1 + 1 + 1 + 1) (omega arith), small (byte_index + 1 + 1 + 1 + 1 + 1 + 1 + 1))
 
 -- the bytes that std's conversion gives, as many as are taken
 pub taken_bytes : (k n i v : ℕ) → k ≤ n → take k (bytes_low_first i n v) ≡ low_bytes k (v / 256 ^ i)

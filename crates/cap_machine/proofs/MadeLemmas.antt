@@ -6,6 +6,7 @@ use Rattle.std.specs.Prelude.{FitsSigned}
 use Rattle.std.specs.Int.{w16, cast_signed, cast_unsigned}
 use Rattle.std.proofs.lemmas.Int.{to_z-of_z}
 use Rattle.std.proofs.Math.ListN.{set}
+use Rattle.std.proofs.Math.Bool.{or-false}
 use Rattle.std.proofs.lemmas.Bool.{false≢true, cases_lt, le-ltb, eq-eqb, lt-leb}
 use Rattle.std.proofs.lemmas.List.{get_or_past}
 use Rattle.std.proofs.lemmas.List.Elements.{All-get_or}
@@ -39,7 +40,8 @@ use Rattle.cap_machine.specs.Places.{IsCoded, codes_of, place_at}
 use Rattle.cap_machine.specs.Helds.{Held, Makes, EndsBy, EndsStep, state_of, code_in, account_of, tests_by, value_by, granule_cap}
 use Rattle.cap_machine.specs.Changes.{Derives, EndsAccess, EndsPut, IsOperation, IsSource, code_for, last_tests, is_past_limits, result_in, with_register, with_cap_put, with_value_put}
 use Rattle.cap_machine.specs.Values.{number_at}
-use Rattle.cap_machine.proofs.StateLemmas.{account_with, state-register, state-granule, codes-register, codes-granule, named-put, named_in, also_named, cap_of}
+use Rattle.cap_machine.proofs.GranuleLemmas.{cap_of}
+use Rattle.cap_machine.proofs.StateLemmas.{account_with, state-register, state-granule, codes-register, codes-granule, named-put, named_in, also_named}
 use Rattle.cap_machine.proofs.CodeLemmas.{IsFrom, code-register, code_for-coded, origins_by, origins-put, origin-written}
 use Rattle.cap_machine.proofs.StepLemmas.{WritesWithin, row_by-access, writes_within_by}
 
@@ -55,14 +57,6 @@ pub first_mapped-none : (tests : List (Bool × OpFault)) (rest : List (Bool × R
 first_mapped-none [] rest h = refl
 first_mapped-none ((true, found) ∷ tests) rest h = absurd (none-some found (sym h))
 first_mapped-none ((false, found) ∷ tests) rest h = first_mapped-none tests rest h
-
-or_false : (b : Bool) → (b || false) ≡ b
-or_false true = refl
-or_false false = refl
-
-pub not_false : (b : Bool) → not b ≡ false → b ≡ true
-not_false true h = refl
-not_false false h = sym h
 
 -- the row of an access
 same_row : (old : Held) (step : Step) (access : Access) → (row_of (state_of old) step).access ≡ Some access → row_in (account_of old) step ≡ row_of (state_of old) step
@@ -90,7 +84,7 @@ tail_unnamed : (old : Held) (step : Step) (recorded : Bool) → named_by (row_in
 tail_unnamed old step recorded named same =
     ap (λ (r : Bool). first_of (ending r (nat_le most_steps old.steps || passes_granule_limit (account_of old) (named_by (row_in (account_of old) step))))) same
     ∙ ap (λ (o : Option ℕ). first_of (ending recorded (nat_le most_steps old.steps || passes_granule_limit (account_of old) o))) named
-    ∙ ap (λ (b : Bool). first_of (ending recorded b)) (or_false (nat_le most_steps old.steps))
+    ∙ ap (λ (b : Bool). first_of (ending recorded b)) (or-false (nat_le most_steps old.steps))
 
 -- a step that names a granule and records nothing
 tail_named : (old : Held) (step : Step) (granule : ℕ) (past : Bool) → named_by (row_in (account_of old) step) ≡ Some granule → is_recorded (row_in (account_of old) step) ≡ true

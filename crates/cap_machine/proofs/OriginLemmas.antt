@@ -15,7 +15,7 @@ use Rattle.cap_machine.specs.Origins.{Origins, origin_at, origins_after, origins
 use Rattle.cap_machine.specs.Accounts.{Account, no_account, with_root, with_step}
 use Rattle.cap_machine.specs.Helds.{Held, state_of}
 use Rattle.cap_machine.specs.RunAccounts.{OriginsAreRoots, after_roots, after_steps, account_after}
-use Rattle.cap_machine.proofs.AccountLemmas.{with_root-grows, with_step-grows}
+use Rattle.cap_machine.proofs.AccountLemmas.{with_step-grows, after_roots-grows}
 use Rattle.cap_machine.proofs.AuthorityLemmas.{one_root}
 use Rattle.cap_machine.proofs.GranuleLemmas.{granule_cap-absent}
 use Rattle.cap_machine.proofs.SoundLemmas.{granule_state}
@@ -71,13 +71,6 @@ origin-root account (first ∷ roots) root distinct (zero, below, same) =
 origin-root account (first ∷ roots) root distinct (suc i, below, same) =
     origin-root (with_root account first.place first.word) roots root distinct.1 (i, omega (arith, below), same)
 
--- the rules of an account stay
-roots-rules : (account : Account) (roots : List DeclaredRoot) → (after_roots account roots).rules ≡ account.rules
-roots-rules account [] = refl
-roots-rules account (root ∷ roots) =
-    let one = with_root-grows account root.place root.word in
-    roots-rules (with_root account root.place root.word) roots ∙ one.rules_stay
-
 -- the account after a run has its last state, and the origins along it
 pub after_run : (account : Account) (steps : List Step) (states : List State) → IsRun account.rules account.state steps states
     → ((after_steps account steps).state ≡ last_of account.state states)
@@ -113,7 +106,8 @@ pub origins_found : (rules : Rules) (roots : List DeclaredRoot) (steps : List St
 origins_found rules roots steps states sound distinct ranges run key held =
     let rooted = after_roots (no_account rules) roots in
     let began : rooted.state ≡ start roots = fun_ext (λ k. state-start (no_account rules) roots k distinct refl) in
-    let ran = subst (λ (r : Rules). IsRun r rooted.state steps states) (sym (roots-rules (no_account rules) roots)) (subst (λ (s : State). IsRun rules s steps states) (sym began) run) in
+    let grown = after_roots-grows (no_account rules) roots in
+    let ran = subst (λ (r : Rules). IsRun r rooted.state steps states) (sym grown.rules_stay) (subst (λ (s : State). IsRun rules s steps states) (sym began) run) in
     let after = after_run rooted steps states ran in
     let last = last_moment rules (start roots) steps states run in
     let state_is = after.0 ∙ ap (λ (s : State). last_of s states) began ∙ sym last.0 in

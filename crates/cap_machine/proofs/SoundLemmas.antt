@@ -15,7 +15,8 @@ use Rattle.tagmem.specs.Granules.{Granules, Entry}
 use Rattle.cap_machine.specs.States.{State, blank, put, granule_key, untagged_null}
 use Rattle.cap_machine.specs.Places.{places_of, granule_cap}
 use Rattle.cap_machine.specs.Parents.{IsSoundCap, IsSoundState}
-use Rattle.cap_machine.proofs.StateLemmas.{state-register, state-granule, cap_of}
+use Rattle.cap_machine.proofs.GranuleLemmas.{cap_of}
+use Rattle.cap_machine.proofs.StateLemmas.{state-register, state-granule}
 
 either : (b : Bool) (x y : Cap) → IsSoundCap x → IsSoundCap y → IsSoundCap (if b then x else y)
 either true x y h k = h

@@ -4,7 +4,7 @@ use Rattle.std.specs.Bool.{if◌then◌else◌}
 use Rattle.std.proofs.Math.ListN.{replicate, set}
 use Rattle.std.proofs.Math.Path.{fun_ext}
 use Rattle.std.proofs.lemmas.List.{get_or-replicate, get_or_past, length-replicate, get_or-set_same, get_or-set_other}
-use Rattle.std.proofs.lemmas.Bool.{cond-true, cond-false, cases_lt, lt-ltb, le-ltb, eq-eqb}
+use Rattle.std.proofs.lemmas.Bool.{cond-true, cond-false, cases_lt, lt-ltb, le-ltb, eq-eqb, ne_eqb}
 use Rattle.std.proofs.lemmas.Bool.Decides.{eqb_tells}
 use Rattle.std.specs.FinMap as map
 use Rattle.std.specs.Ordering.{nat_cmp}
@@ -18,7 +18,7 @@ use Rattle.cap_machine.specs.Origins.{Origins}
 use Rattle.cap_machine.specs.declared.rules.Rules.{Rules}
 use Rattle.cap_machine.specs.Accounts.{Account, no_account}
 use Rattle.cap_machine.specs.Helds.{granule_cap, account_of}
-use Rattle.cap_machine.proofs.GranuleLemmas.{granule_cap-absent}
+use Rattle.cap_machine.proofs.GranuleLemmas.{cap_of, granule_cap-absent}
 
 -- n copies of a value have it at each index, and past their end the default is that value
 copies : {A : Type 0} (n key : ℕ) (a d : A) → a ≡ d → get_or (replicate n a) key d ≡ d
@@ -43,12 +43,6 @@ pub blank_code : (memory : Granules) (key : ℕ) → memory ≡ map.empty → co
 blank_code memory key empty =
     choice_same (nat_lt key 32) _ _ 0 (copies 32 key 0 0 refl)
     (ap (λ (m : Granules). code_at m (key - 32)) empty ∙ ap (λ (e : Entry). e.2) (entry_at-empty (key - 32)))
-
-abbrev pub cap_of : Entry → Cap
-cap_of entry = record { tag = entry.0; word = record { 0 = stored_word entry.1 } }
-
-pub unlike_false : (a b : ℕ) → a ≢ b → (a == b) ≡ false
-unlike_false a b h = elim (eqb_tells a b) [ inl same ↦ absurd (h same.1) | inr unlike ↦ unlike.0 ]
 
 -- two tests of the same numbers, the other way round
 eqb-turned : (a b : ℕ) → (a == b) ≡ (b == a)
@@ -116,7 +110,7 @@ granule_key_put registers default told memory granule entry key =
           let other : granule_key granule ≢ key = λ e. absurd (let f : granule + 32 ≡ key = e in omega arith) in
           cond-true (nat_lt key 32) _ _ low
           ∙ sym (cond-true (nat_lt key 32) _ _ low)
-          ∙ sym (cond-false (granule_key granule == key) (told entry) _ (unlike_false (granule_key granule) key other))
+          ∙ sym (cond-false (granule_key granule == key) (told entry) _ (ne_eqb (granule_key granule) key other))
       | inr high ↦
           let past = le-ltb key 32 high in
           cond-false (nat_lt key 32) _ _ past

@@ -40,7 +40,8 @@ unfolding low_bytes
 length-low_bytes zero n = refl
 length-low_bytes (suc k) n = ap suc (length-low_bytes k (n / 256))
 
-byte_at_is : (i n : ℕ) → byte_at i n ≡ n / 256 ^ i % 256
+-- a byte of a number
+pub byte_at_is : (i n : ℕ) → byte_at i n ≡ n / 256 ^ i % 256
 byte_at_is zero n = ap (λ (x : ℕ). x % 256) (sym (ap (λ (x : ℕ). n / x) (pow-zero 256) ∙ div-one n))
 byte_at_is (suc i) n = refl
 
@@ -84,7 +85,8 @@ low_bytes-number_of (x ∷ xs) h =
     ap (λ y. y ∷ low_bytes (length xs) ((x + 256 * number_of xs) / 256)) low ∙ ap (λ y. x ∷ low_bytes (length xs) y) high
     ∙ ap (λ y. x ∷ y) (low_bytes-number_of xs (λ i. h (suc i)))
 
-number_of_drop : (bytes : List ℕ) (i : ℕ) → i < length bytes
+-- the first byte and the others
+pub number_of_drop : (bytes : List ℕ) (i : ℕ) → i < length bytes
     → number_of (drop i bytes) ≡ get_or bytes i 0 + 256 * number_of (drop (i + 1) bytes)
 unfolding number_of
 number_of_drop bytes i h = at_drop_more number_of bytes i 0 h

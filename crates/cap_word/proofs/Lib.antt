@@ -1,5 +1,5 @@
 pub mod Bytes
 pub mod DigitLemmas
-mod TextLemmas
+pub mod TextLemmas
 pub mod LaneLemmas
 pub mod ReadingLemmas

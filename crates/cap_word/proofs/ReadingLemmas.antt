@@ -85,7 +85,7 @@ turned p c h l = grind arith
 low_digit : (p c h l : ℕ) → 0 < p → (h * (p * (16 * c)) + l) / p % 16 ≡ l / p % 16
 low_digit p c h l pos = rw (turned p c h l, nat.add-mul-div_left l (16 * (h * c)) pos) (omega arith)
 
-pow_pos_16 : (m : ℕ) → 0 < 16 ^ m
+pub pow_pos_16 : (m : ℕ) → 0 < 16 ^ m
 pow_pos_16 zero = omega arith
 pow_pos_16 (suc m) = omega (arith, nat.pow-suc 16 m, pow_pos_16 m)
 

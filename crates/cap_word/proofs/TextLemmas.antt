@@ -11,6 +11,7 @@ pub at_ok : {T E P : Type 0} (r : Result T E) → IsOk r → OnOk r P → P
 at_ok (Ok x) ok p = p
 at_ok (Err e) ok p = absurd (false≢true ok)
 
+-- the bytes of a number are as many as are asked for
 pub length-bytes : (k n : ℕ) → length (bytes_high_first k n) ≡ k
 length-bytes k n =
     let len = length-encode_with Rattle.hex.specs.Hex.lower_digits (bytes_high_first k n) in

@@ -27,7 +27,8 @@ use Rattle.capcheck.specs.Logs.{Beginning, Nothing, NoMode, Body, Whole, header_
 use Rattle.capcheck.specs.Verdicts.{IsYes, IsGuarded, GuardsAuthority, IsFault}
 use Rattle.capcheck.specs.Judgings.{IsBehind, LeadsTo}
 use Rattle.capcheck.specs.Progresses.{Reading, StandsFor, GoesOn, EndsNext, IsAt}
-use Rattle.capcheck.proofs.LogLemmas.{AllByRecursion-append, length-push}
+use Rattle.capcheck.proofs.BeginningLemmas.{accepted_in_range}
+use Rattle.capcheck.proofs.LogLemmas.{length-push}
 
 -- one line more
 pub text_push : (lines : List Line) (line : Line) (rest : List ℕ)
@@ -122,20 +123,10 @@ wants_none (Body rules_are roots steps) text wants none =
     not_new account (named_by_line account wants.line) (none wants.line account wants.spelled.0) wants.first
 wants_none (Whole rules_are roots steps) text wants none = wants
 
--- the lines of an accepted beginning are in range
-in_range : (beginning : Beginning) → IsAccepted beginning → AllByRecursion IsInRange (lines_of beginning)
-in_range Nothing accepted = tt
-in_range NoMode accepted = (inr refl, tt)
-in_range (Body rules_are roots steps) accepted = accepted.grammar
-in_range (Whole rules_are roots steps) accepted =
-    let few = accepted.few_steps in
-    let end : length steps < 2 ^ 32 = omega arith in
-    AllByRecursion-append IsInRange (body_lines rules_are roots steps) (lines.End (length steps) ∷ []) accepted.grammar (end, tt)
-
 pub no_lack : (bytes : List ℕ) → NamesNoGranules bytes → MayLackMemory bytes → ⊥
 no_lack bytes none lack =
     wants_none lack.beginning lack.line lack.wants
-    (λ line account spelled. none (lines_of lack.beginning) lack.line lack.more line account (in_range lack.beginning lack.accepted) lack.bytes_are spelled)
+    (λ line account spelled. none (lines_of lack.beginning) lack.line lack.more line account (accepted_in_range lack.beginning lack.accepted) lack.bytes_are spelled)
 
 -- a log without lines that name granules has a verdict
 pub answered : (bytes : List ℕ) (result : Result Verdict JudgeFault) → IfErr result (IsFault bytes) → NamesNoGranules bytes → IsOk result

@@ -2,7 +2,7 @@
 use Rattle.std.proofs.Common.{◌≡◌, ℕ, ◌+◌, Bool, true, false, ◌==◌, ◌||◌, nat_eq, List, [], ◌∷◌, ◌++◌, length, map, refl, sym, ap, ◌∙◌, append_assoc, append-nil, arith, rules}
 use Rattle.std.specs.Bool.{if◌then◌else◌}
 use Rattle.std.specs.List.{AllByRecursion, IsDistinct, list_any}
-use Rattle.std.proofs.lemmas.Bool.{false≢true, eqb-true, eqb-false}
+use Rattle.std.proofs.lemmas.Bool.{eqb-true, eqb-false, or_parts}
 use Rattle.cap_word.specs.declared.word.Cap.{Cap}
 use Rattle.cap_log.specs.declared.lines.Place.{Place}
 use Rattle.cap_log.specs.declared.lines.Line.{Line}
@@ -20,11 +20,6 @@ pub AllByRecursion-append : {X : Type 0} (P : X → Type 0) (xs ys : List X) →
 AllByRecursion-append P [] ys h k = k
 AllByRecursion-append P (x ∷ xs) ys h k = (h.0, AllByRecursion-append P xs ys h.1 k)
 
--- neither of two tests holds
-or_false : (a b : Bool) → (a || b) ≡ false → (a ≡ false) × (b ≡ false)
-or_false true b h = absurd (false≢true (sym h))
-or_false false b h = (refl, h)
-
 tag_of_choice : (b : Bool) (x y : Cap) (any : Bool) → x.tag ≡ true → y.tag ≡ any → (if b then x else y).tag ≡ (b || any)
 tag_of_choice true x y any h k = h
 tag_of_choice false x y any h k = k
@@ -40,7 +35,7 @@ pub IsDistinct-push : (xs : List ℕ) (x : ℕ) → IsDistinct nat_eq xs → lis
 unfolding IsDistinct
 IsDistinct-push [] x h new = (tt, tt)
 IsDistinct-push (y ∷ xs) x h new =
-    let parts = or_false (nat_eq y x) (list_any (λ z. nat_eq z x) xs) new in
+    let parts = or_parts (nat_eq y x) (list_any (λ z. nat_eq z x) xs) new in
     (AllByRecursion-append (λ z. nat_eq y z ≡ false) xs (x ∷ []) h.0 (parts.0, tt), IsDistinct-push xs x h.1 parts.1)
 
 -- a place is taken exactly where the start has a tag there
@@ -54,7 +49,7 @@ pub start-push : (roots : List DeclaredRoot) (root : DeclaredRoot) (key : ℕ) �
     → start (roots ++ root ∷ []) key ≡ (if key_of root.place == key then tagged root.word else start roots key)
 start-push [] root key new = refl
 start-push (first ∷ roots) root key new =
-    let parts = or_false (key_of first.place == key_of root.place) (list_any (λ (r : DeclaredRoot). key_of r.place == key_of root.place) roots) new in
+    let parts = or_parts (key_of first.place == key_of root.place) (list_any (λ (r : DeclaredRoot). key_of r.place == key_of root.place) roots) new in
     ap (λ (cap : Cap). if key_of first.place == key then tagged first.word else cap) (start-push roots root key parts.1)
     ∙ choices (key_of first.place == key) (key_of root.place == key) _ _ _
     (λ a b. eqb-false _ _ parts.0 (eqb-true _ _ a ∙ sym (eqb-true _ _ b)))

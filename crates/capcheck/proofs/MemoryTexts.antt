@@ -11,12 +11,8 @@ use Rattle.cap_word.specs.Memory.{low_bytes, memory_of}
 use Rattle.cap_word.specs.Word.{null_word}
 use Rattle.cap_word.proofs.Bytes.{length-memory_of}
 use Rattle.cap_word.proofs.DigitLemmas.{hex_of_bytes, IsBytes-bytes_high_first}
+use Rattle.cap_word.proofs.ReadingLemmas.{pow_pos_16}
 use Rattle.capcheck.specs.TextLines.{bytes_text}
-
--- at an `Ok` what holds of an `Ok` holds
-pub at_ok : {T E P : Type 0} (r : Result T E) → IsOk r → OnOk r P → P
-at_ok (Ok x) ok p = p
-at_ok (Err e) ok p = absurd (false≢true ok)
 
 two_digits : (byte : ℕ) → byte < 256 → hex_digits 2 byte ≡ hex_digit (byte / 16) ∷ hex_digit (byte % 16) ∷ []
 unfolding hex_digits
@@ -39,10 +35,6 @@ IsBytes-low_bytes (suc k) n (suc i) = IsBytes-low_bytes k (n / 256) i
 pub IsBytes-memory_of : (w : ℕ) → IsBytes (memory_of w)
 IsBytes-memory_of w = IsBytes-low_bytes 16 (bit_xor w null_word)
 
-sixteenths : (k : ℕ) → 0 < 16 ^ k
-sixteenths zero = lit< tt
-sixteenths (suc k) = omega (arith, sixteenths k, pow-suc 16 k)
-
 -- the last digits don't depend on what stands above them
 hex_digits-higher : (k c n : ℕ) → hex_digits k (c * 16 ^ k + n) ≡ hex_digits k n
 unfolding hex_digits
@@ -50,7 +42,7 @@ hex_digits-higher zero c n = refl
 hex_digits-higher (suc k) c n =
     let power = pow-suc 16 k in
     let regrouped : c * 16 ^ suc k + n ≡ (c * 16) * 16 ^ k + n = rw (power) (omega arith) in
-    let quotient = mul-add-div_right {m = 16 ^ k} (sixteenths k) (c * 16) n in
+    let quotient = mul-add-div_right {m = 16 ^ k} (pow_pos_16 k) (c * 16) n in
     let digit : (c * 16 + n / 16 ^ k) % 16 ≡ n / 16 ^ k % 16 = omega arith in
     ap (hex_digits (suc k)) regrouped
     ∙ ap (λ (d : ℕ). hex_digit (d % 16) ∷ hex_digits k ((c * 16) * 16 ^ k + n)) quotient

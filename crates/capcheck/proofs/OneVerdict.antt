@@ -1,8 +1,8 @@
 -- No bytes have two verdicts: each verdict comes from a reading of the bytes that stops.
-use Rattle.std.proofs.Common.{◌≡◌, ℕ, ◌+◌, ◌≤◌, inl, inr, true, false, not, ◌==◌, nat_eq, List, [], ◌∷◌, ◌++◌, length, map, refl, sym, ap, subst, ◌∙◌, append-nil, arith, eq-eqb, IsTrue}
+use Rattle.std.proofs.Common.{◌≡◌, ℕ, ◌+◌, ◌≤◌, inl, inr, true, not, nat_eq, List, [], ◌∷◌, ◌++◌, length, map, refl, sym, ap, subst, ◌∙◌, append-nil, arith, eq-eqb, IsTrue}
 use Rattle.std.specs.List.{AllByRecursion, IsDistinct}
 use Rattle.std.proofs.Math.Path.{fun_ext}
-use Rattle.std.proofs.lemmas.Bool.{false≢true, cond-true, cond-false, eqb-false, false_from_ne_true, le-ltb, ne_eqb}
+use Rattle.std.proofs.lemmas.Bool.{false≢true, cond-false, eqb-false, false_from_ne_true, le-ltb}
 use Rattle.std.proofs.lemmas.Bool.Decides.{eqb_tells}
 use Rattle.cap_bounds.specs.Bounds.{IsSound}
 use Rattle.cap_word.specs.declared.word.Cap.{Cap}
@@ -12,27 +12,21 @@ use Rattle.cap_log.specs.declared.lines.Step as steps_module
 use Rattle.cap_machine.specs.declared.refusal.Refusal.{Refusal}
 use Rattle.cap_machine.specs.declared.rules.Rules.{Rules}
 use Rattle.cap_machine.specs.declared.rules.Rules.TheVariants.{One, TwoStrict, TwoClear}
-use Rattle.cap_machine.specs.States.{State, DeclaredRoot, blank, key_of, tagged, untagged_null, start}
+use Rattle.cap_machine.specs.States.{State, DeclaredRoot, blank, key_of, tagged, start}
 use Rattle.cap_machine.specs.Steps.{Leads}
 use Rattle.cap_machine.specs.Accounts.{Account, no_account, most_roots, most_granules, most_steps, with_root, with_step}
 use Rattle.cap_machine.specs.Runs.{IsRun}
-use Rattle.cap_machine.proofs.AccountLemmas.{with_root-grows, with_step-grows, first_of-none, root_free, step_free}
+use Rattle.cap_machine.proofs.AccountLemmas.{with_root-grows, with_step-grows, after_roots-grows, after_steps-grows, account_after-grows}
+use Rattle.cap_machine.proofs.AccountLemmas.{first_of-none, root_free, step_free}
+use Rattle.cap_machine.proofs.OriginLemmas.{keys, IsFree, state-start}
 use Rattle.capcheck.specs.declared.verdict.Verdict.{Verdict}
 use Rattle.capcheck.specs.declared.verdict.Verdict.TheVariants.{Yes, No}
 use Rattle.capcheck.specs.Logs.{Beginning, Nothing, NoMode, Body, Whole, header_lines, body_lines, lines_of, text_of, after_roots, after_steps, account_after, RunsBy, IsAccepted, has_form, line_tests, Refuses}
 use Rattle.capcheck.specs.Verdicts.{IsVerdict}
-use Rattle.capcheck.proofs.BeginningLemmas.{after_roots-grows, after_steps-grows, account_after-grows, accepted_in_range}
+use Rattle.capcheck.proofs.BeginningLemmas.{accepted_in_range}
 use Rattle.capcheck.proofs.OneReading.{Stage, Unread, Versioned, Within, Ended, Reads, Answers, Reads-append, one_reading, answer_stops, one_answer}
 
--- Distinct roots, and the state that they make
-
--- the numbers of the roots' places
-abbrev keys : List DeclaredRoot → List ℕ
-keys roots = map (λ (root : DeclaredRoot). key_of root.place) roots
-
--- no root has this place
-abbrev IsFree : ℕ → List DeclaredRoot → Type 0
-IsFree key roots = AllByRecursion (λ (other : ℕ). nat_eq key other ≡ false) (keys roots)
+-- Distinct roots
 
 -- no root has a place that has a tag
 abbrev AreFree : State → List DeclaredRoot → Type 0
@@ -47,29 +41,6 @@ still_free account root roots own free key held =
       | inr unlike ↦
           let kept = cond-false _ (tagged root.word) (account.state key) unlike.0 in
           (free key (ap (λ (cap : Cap). cap.tag) (sym kept) ∙ held)).1
-    ]
-
--- roots leave the other places as they are
-state-free : (account : Account) (roots : List DeclaredRoot) (key : ℕ) → IsFree key roots
-    → (after_roots account roots).state key ≡ account.state key
-state-free account [] key free = refl
-state-free account (root ∷ roots) key free =
-    let other : (key_of root.place == key) ≡ false = ne_eqb _ key (λ same. eqb-false key _ free.0 (sym same)) in
-    state-free (with_root account root.place root.word) roots key free.1 ∙ cond-false _ _ _ other
-
--- roots at distinct places, put one after another, make the state that a run starts from
-state-start : (account : Account) (roots : List DeclaredRoot) (key : ℕ) → IsDistinct nat_eq (keys roots)
-    → account.state key ≡ untagged_null → (after_roots account roots).state key ≡ start roots key
-unfolding IsDistinct
-state-start account [] key distinct null = null
-state-start account (root ∷ roots) key distinct null =
-    let after = with_root account root.place root.word in
-    elim (eqb_tells (key_of root.place) key) [
-      | inl same ↦
-          let free = subst (λ (k : ℕ). IsFree k roots) same.1 distinct.0 in
-          state-free after roots key free ∙ cond-true _ _ _ same.0 ∙ sym (cond-true _ _ _ same.0)
-      | inr unlike ↦
-          state-start after roots key distinct.1 (cond-false _ _ _ unlike.0 ∙ null) ∙ sym (cond-false _ _ _ unlike.0)
     ]
 
 -- What is accepted is read

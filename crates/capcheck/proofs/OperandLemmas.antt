@@ -3,19 +3,15 @@ use Rattle.std.proofs.Common.{◌≡◌, Bool, true, false, ℕ, ◌+◌, ◌*�
 use Rattle.std.specs.Int.{w64, bytes_high_first, from_be_bytes}
 use Rattle.std.proofs.lemmas.Nat.{from_be_bytes-to_be_bytes_8}
 use Rattle.hex.specs.Hex.{decode_sized}
-use Rattle.hex.proofs.HexLemmas.{decode_sized-encode_lower, length-encode_with}
+use Rattle.hex.proofs.HexLemmas.{decode_sized-encode_lower}
 use Rattle.cap_word.specs.Digits.{hex_digits}
-use Rattle.cap_word.proofs.DigitLemmas.{hex_of_bytes, length-hex_digits, IsBytes-bytes_high_first}
+use Rattle.cap_word.proofs.DigitLemmas.{hex_of_bytes, IsBytes-bytes_high_first}
+use Rattle.cap_word.proofs.TextLemmas.{length-bytes}
 use Rattle.capcheck.specs.declared.faults.Fault.{Fault}
 use Rattle.capcheck.specs.declared.faults.Fault.TheVariants.{BadWords, BadWord, BadRequest, Read, Write, NoMemory}
 use Rattle.capcheck.specs.Statuses.{status_of}
 use Rattle.capcheck.specs.Operands.{SpellsRequest, RefusesRequest, SpellsWord}
 use Rattle.capcheck.proofs.MemoryTexts.{spelled_memory}
-
-length-bytes : (k n : ℕ) → length (bytes_high_first k n) ≡ k
-length-bytes k n =
-    let doubled = length-encode_with Rattle.hex.specs.Hex.lower_digits (bytes_high_first k n) in
-    omega (arith, sym doubled ∙ ap length (hex_of_bytes k n) ∙ length-hex_digits (2 * k) n)
 
 -- the digits of a number, decoded
 decoded : (k n : ℕ) → decode_sized (hex_digits (2 * k) n) k ≡ Ok (bytes_high_first k n)

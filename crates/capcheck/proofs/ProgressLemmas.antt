@@ -3,7 +3,7 @@ use Rattle.std.proofs.Common.{IfErr, Result, Ok, Err, ◌≡◌, ℕ, ◌+◌, �
 use Rattle.std.proofs.Math.Path.{fun_ext}
 use Rattle.std.specs.Bool.{if◌then◌else◌}
 use Rattle.std.specs.List.{AllByRecursion, IsDistinct}
-use Rattle.std.proofs.lemmas.Bool.{false≢true, eqb-true, lt-ltb, leb-true, leb-false, and_parts}
+use Rattle.std.proofs.lemmas.Bool.{false≢true, eqb-true, lt-ltb, leb-true, leb-false, and_parts, not-false, or_parts}
 use Rattle.std.proofs.lemmas.Option.{none-some}
 use Rattle.cap_bounds.specs.Bounds.{IsSound, is_sound}
 use Rattle.cap_word.specs.declared.word.Word.{Word}
@@ -13,8 +13,9 @@ use Rattle.cap_log.specs.declared.lines.Line.TheVariants.{Root, Step, End}
 use Rattle.cap_log.specs.declared.lines.Step as steps_module
 use Rattle.cap_log.specs.Lines.{Spells, IsInRange, IsStepInRange, IsPlace}
 use Rattle.cap_ops.specs.Tests.{first_of}
+use Rattle.cap_ops.proofs.TestLemmas.{none_hold}
 use Rattle.cap_machine.specs.declared.refusal.Refusal.{Refusal}
-use Rattle.cap_machine.specs.declared.refusal.Refusal.TheVariants.{BadLine, Misplaced, PlaceTaken, UnsoundRoot, WrongResult, LimitPassed}
+use Rattle.cap_machine.specs.declared.refusal.Refusal.TheVariants.{BadLine, Misplaced, WrongResult, LimitPassed}
 use Rattle.cap_machine.specs.declared.ends.StepEnd.{StepEnd}
 use Rattle.cap_machine.specs.declared.ends.StepEnd.TheVariants.{Refused, NoMemory}
 use Rattle.cap_machine.specs.declared.rules.Rules.{Rules}
@@ -24,6 +25,7 @@ use Rattle.cap_machine.specs.Steps.{Leads, Row, is_recorded}
 use Rattle.cap_machine.specs.Accounts.{Account, no_account, most_roots, most_granules, most_steps, granule_of, named_by, row_in, passes_granule_limit, naming, with_root, with_step, root_tests, row_tests, as_line_test}
 use Rattle.cap_machine.specs.Runs.{IsRun, last_of}
 use Rattle.cap_machine.specs.Helds.{Held, Makes, EndsStep, Takes as Declares, EndsRoot, state_of, account_of}
+use Rattle.cap_machine.proofs.AccountLemmas.{with_root-grows, with_step-grows, account_after-grows}
 use Rattle.capcheck.specs.Logs.{has_form, Beginning, Nothing, NoMode, Body, Whole, body_lines, after_roots, after_steps, account_after, RunsBy, SpellsBy, NamesFirst, RefusesWhole, WantsMemory, line_tests}
 use Rattle.capcheck.specs.Progresses.{Reading, Reaches, StandsFor, Takes, EndsFor, EndsNext}
 use Rattle.capcheck.proofs.LogLemmas.{AllByRecursion-append, IsDistinct-push, tag-start, start-push, IsRun-push, last_of-push, map-push, length-push, steps_push, roots_push, list_any-map, after_roots-push, after_steps-push}
@@ -46,18 +48,6 @@ none_after [] ys h = h
 none_after ((true, fault) ∷ xs) ys h = absurd (none-some fault (sym h))
 none_after ((false, fault) ∷ xs) ys h = none_after xs ys h
 
-no_first : {F : Type 0} (test : Bool) (fault : F) (tests : List (Bool × F)) → first_of ((test, fault) ∷ tests) ≡ None → (test ≡ false) × (first_of tests ≡ None)
-no_first true fault tests h = absurd (none-some fault (sym h))
-no_first false fault tests h = (refl, h)
-
-or_false : (a b : Bool) → (a || b) ≡ false → (a ≡ false) × (b ≡ false)
-or_false true b h = absurd (false≢true (sym h))
-or_false false b h = (refl, h)
-
-not_false : (b : Bool) → not b ≡ false → b ≡ true
-not_false true h = refl
-not_false false h = sym h
-
 -- naming a granule within the limit keeps to it
 few_named : (named : Bool) (granules most : ℕ) → (not named && nat_le most granules) ≡ false → granules ≤ most
     → (if named then granules else granules + 1) ≤ most
@@ -69,46 +59,33 @@ naming_few : (account : Account) (granule : Option ℕ) → passes_granule_limit
 naming_few account None within few = few
 naming_few account (Some granule) within few = few_named (account.is_named granule) account.granules (most_granules account.rules) within few
 
-naming-rules : (account : Account) (granule : Option ℕ) → (naming account granule).rules ≡ account.rules
-naming-rules account None = refl
-naming-rules account (Some granule) = refl
-
-naming-roots : (account : Account) (granule : Option ℕ) → (naming account granule).roots ≡ account.roots
-naming-roots account None = refl
-naming-roots account (Some granule) = refl
-
+-- a step leaves the count of roots, and a root that of steps
 naming_roots : (old new : Held) (step : steps_module.Step) → Makes old step new → new.roots ≡ old.roots
-naming_roots old new step makes = ap (λ (a : Account). a.roots) makes.account ∙ naming-roots (account_of old) (named_by (row_in (account_of old) step))
-
-naming-steps : (account : Account) (granule : Option ℕ) → (naming account granule).steps ≡ account.steps
-naming-steps account None = refl
-naming-steps account (Some granule) = refl
+naming_roots old new step makes =
+    let grown = with_step-grows (account_of old) step in
+    let none : old.roots + 0 ≡ old.roots = omega arith in
+    ap (λ (a : Account). a.roots) makes.account ∙ grown.roots_are ∙ none
 
 naming_steps : (old new : Held) (root : DeclaredRoot) → Declares old root.place root.word new → new.steps ≡ old.steps
-naming_steps old new root declares = ap (λ (a : Account). a.steps) declares.account ∙ naming-steps (account_of old) (granule_of root.place)
+naming_steps old new root declares =
+    let grown = with_root-grows (account_of old) root.place root.word in
+    let none : old.steps + 0 ≡ old.steps = omega arith in
+    ap (λ (a : Account). a.steps) declares.account ∙ grown.steps_are ∙ none
 
 -- rules stay
-after_roots-rules : (account : Account) (roots : List DeclaredRoot) → (after_roots account roots).rules ≡ account.rules
-after_roots-rules account [] = refl
-after_roots-rules account (root ∷ roots) = after_roots-rules (with_root account root.place root.word) roots ∙ naming-rules account (granule_of root.place)
-
-after_steps-rules : (account : Account) (steps : List steps_module.Step) → (after_steps account steps).rules ≡ account.rules
-after_steps-rules account [] = refl
-after_steps-rules account (step ∷ steps) = after_steps-rules (with_step account step) steps ∙ naming-rules account (named_by (row_in account step))
-
-pub account_after-rules : (rules_are : Rules) (roots : List DeclaredRoot) (steps : List steps_module.Step) → (account_after rules_are roots steps).rules ≡ rules_are
-account_after-rules rules_are roots steps = after_steps-rules (after_roots (no_account rules_are) roots) steps ∙ after_roots-rules (no_account rules_are) roots
-
-pub same_rules : (held : Held) (rules_are : Rules) (roots : List DeclaredRoot) (steps : List steps_module.Step) → Reaches held rules_are roots steps → held.rules ≡ rules_are
-same_rules held rules_are roots steps reaches = ap (λ (a : Account). a.rules) reaches.account ∙ account_after-rules rules_are roots steps
+same_rules : (held : Held) (rules_are : Rules) (roots : List DeclaredRoot) (steps : List steps_module.Step) → Reaches held rules_are roots steps → held.rules ≡ rules_are
+same_rules held rules_are roots steps reaches =
+    let grown = account_after-grows rules_are roots steps in
+    ap (λ (a : Account). a.rules) reaches.account ∙ grown.rules_stay
 
 -- what the last test of a step says where it doesn't hold
 step_within : (account : Account) (row : Row) → first_of (row_tests account row) ≡ None
     → (nat_le most_steps account.steps ≡ false) × (passes_granule_limit account (named_by row) ≡ false)
 step_within account row free =
-    let last = none_after (map as_line_test row.tests) ((not (is_recorded row), WrongResult) ∷ (nat_le most_steps account.steps || passes_granule_limit account (named_by row), LimitPassed) ∷ []) free in
-    let limit = no_first (not (is_recorded row)) WrongResult ((nat_le most_steps account.steps || passes_granule_limit account (named_by row), LimitPassed) ∷ []) last in
-    or_false _ _ (no_first (nat_le most_steps account.steps || passes_granule_limit account (named_by row)) LimitPassed [] limit.1).0
+    let limit = nat_le most_steps account.steps || passes_granule_limit account (named_by row) in
+    let last = (not (is_recorded row), WrongResult) ∷ (limit, LimitPassed) ∷ [] in
+    let free_last = none_hold last (none_after (map as_line_test row.tests) last free) in
+    or_parts _ _ free_last.1.0
 
 -- a limit on granules that an account keeps, seen from what a machine holds
 few_held : (held : Held) (rules_are : Rules) (roots : List DeclaredRoot) (steps : List steps_module.Step) → Reaches held rules_are roots steps
@@ -174,14 +151,10 @@ no_states rules_are state (next ∷ states) run = absurd run
 root_free : (account : Account) (place : Place) (word : Word) → first_of (root_tests account place word) ≡ None
     → ((account.state (key_of place)).tag ≡ false) × IsSound word.0 × (nat_le most_roots account.roots ≡ false) × (passes_granule_limit account (granule_of place) ≡ false)
 root_free account place word free =
-    let taken = (account.state (key_of place)).tag in
-    let limit = nat_le most_roots account.roots || passes_granule_limit account (granule_of place) in
-    let first = no_first taken PlaceTaken ((not (is_sound word.0), UnsoundRoot) ∷ (limit, LimitPassed) ∷ []) free in
-    let second = no_first (not (is_sound word.0)) UnsoundRoot ((limit, LimitPassed) ∷ []) first.1 in
-    let third = no_first limit LimitPassed [] second.1 in
-    let sound = and_parts _ _ (not_false _ second.0) in
-    let last = or_false _ _ third.0 in
-    (first.0, (eqb-true _ _ sound.0, leb-true _ _ sound.1), last.0, last.1)
+    let none = none_hold (root_tests account place word) free in
+    let sound = and_parts _ _ (not-false _ none.1.0) in
+    let last = or_parts _ _ none.1.1.0 in
+    (none.0, (eqb-true _ _ sound.0, leb-true _ _ sound.1), last.0, last.1)
 
 -- a root goes on from roots
 root_on : (rules_are : Rules) (roots : List DeclaredRoot) (root : DeclaredRoot) (old new : Held) → Reaches old rules_are roots []

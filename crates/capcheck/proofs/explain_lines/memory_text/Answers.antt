@@ -2,7 +2,8 @@ use Rattle.std.proofs.Common.{◌∙◌, ap, length, arith}
 use Rattle.hex.specs.Hex.{encode_lower}
 use Rattle.cap_word.specs.Memory.{memory_of}
 use Rattle.cap_word.proofs.Bytes.{length-memory_of}
-use Rattle.capcheck.proofs.MemoryTexts.{at_ok, bytes_text-is, IsBytes-memory_of}
+use Rattle.cap_word.proofs.TextLemmas.{at_ok}
+use Rattle.capcheck.proofs.MemoryTexts.{bytes_text-is, IsBytes-memory_of}
 use Rattle.capcheck.proofs.explain_lines.memory_text.Goals as goal
 
 pub returns : goal.returns

@@ -1,12 +1,11 @@
 use Rattle.std.proofs.Common.{ℕ, sym, ap, ◌∙◌, refl, rules, true, false, Ok, Err}
-use Rattle.std.proofs.lemmas.Bool.{eq-eqb}
+use Rattle.std.proofs.lemmas.Bool.{eq-eqb, ne_eqb}
 use Rattle.cap_log.specs.declared.lines.Step.TheVariants as steps
 use Rattle.cap_ops.specs.declared.kinds.Kind.TheVariants as kinds
 use Rattle.cap_machine.specs.Changes.{Reaches}
 use Rattle.cap_machine.specs.Helds.{held_of, state_of}
 use Rattle.cap_machine.specs.States.{value_at}
 use Rattle.cap_machine.proofs.MadeLemmas.{value_in, loaded_value, load_refused, faulted_as, passed}
-use Rattle.cap_machine.proofs.StateLemmas.{unlike_false}
 use Rattle.cap_machine.proofs.machine.Machine.load.Goals as goal
 
 pub returns-then-number_in-value : goal.returns-then-number_in-value
@@ -17,7 +16,7 @@ returns-then-number_in-value g c =
     let read = c.number_in.ensures ∙ sym (value_in old address c.args.size (g.met.M.TaggedStore.are_stored c.args.self.now.memory) c.in-Ok.ensures.in_one_granule)
     ∙ ap (λ (a : ℕ). value_at (state_of old) a c.args.size) out.1 in
     load_refused old c.args.authority c.args.offset c.args.size c.args.value false _ out.0
-    (unlike_false c.args.value _ (λ e. c.if-number_in-value.true (read ∙ sym e))) refl
+    (ne_eqb c.args.value _ (λ e. c.if-number_in-value.true (read ∙ sym e))) refl
 
 pub returns-then-self-ge-MOST_STEPS : goal.returns-then-self-ge-MOST_STEPS
 returns-then-self-ge-MOST_STEPS g c =
