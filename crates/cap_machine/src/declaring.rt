@@ -88,11 +88,21 @@ impl<M: TaggedStore> Machine<M> {
     }
 
     // Whether naming a granule passes the limit on granules.
+    #[inline(always)]
     pub(crate) fn granule_passes_limit(&self, granule: u64) -> bool
         requires { granule < 2 ^ 60 }
         ensures { result ≡ passes_granule_limit (account_of (held_of M.contents self.now)) (Some granule) }
     {
-        self.memory.count() >= self.rules.most_granules() && self.memory.get(granule).is_none()
+        self.memory.count() >= self.rules.most_granules() && self.is_unnamed(granule)
+    }
+
+    // Whether no root, `sc` or `store` has named a granule.
+    #[inline(never)]
+    fn is_unnamed(&self, granule: u64) -> bool
+        requires { granule < 2 ^ 60 }
+        ensures { result ≡ is_new (account_of (held_of M.contents self.now)) (Some granule) }
+    {
+        self.memory.get(granule).is_none()
     }
 
     // Puts a root into a place, and counts nothing. A refused put changes nothing.

@@ -12,6 +12,7 @@ use cap_word::{Cap, from_memory, null, to_memory};
 use tagmem::{NoMemory, TaggedStore};
 
 /// The capability that a granule holds: NULL without a tag where it was never put.
+#[inline(always)]
 pub fn capability_at<M: TaggedStore>(memory: &M, granule: u64) -> Cap
     requires { granule < 2 ^ 60 }
     ensures { result ≡ granule_cap (M.contents memory.now) granule }
@@ -29,6 +30,7 @@ pub fn capability_at<M: TaggedStore>(memory: &M, granule: u64) -> Cap
 }
 
 /// Puts a capability, and the code of its origin, into a granule. A refused put changes nothing.
+#[inline(always)]
 pub fn put_capability<M: TaggedStore>(
     memory: &mut M,
     granule: u64,
@@ -46,6 +48,7 @@ pub fn put_capability<M: TaggedStore>(
 }
 
 /// The number that `size` bytes of a granule spell from a byte index on, the least significant first.
+#[inline(always)]
 pub fn number_in<M: TaggedStore>(memory: &M, granule: u64, byte_index: u8, size: u8) -> u64
     requires in_memory { granule < 2 ^ 60 }
     requires inside { byte_index + size ≤ 16 }
@@ -60,6 +63,7 @@ pub fn number_in<M: TaggedStore>(memory: &M, granule: u64, byte_index: u8, size:
 
 /// Writes the `size` low bytes of a value into a granule, the least significant first, from a byte index
 /// on, and clears its tag. A refused put changes nothing.
+#[inline(always)]
 pub fn put_number<M: TaggedStore>(
     memory: &mut M,
     granule: u64,
@@ -80,6 +84,7 @@ pub fn put_number<M: TaggedStore>(
 }
 
 // The number that `size` of sixteen bytes spell from a byte index on.
+#[inline(always)]
 fn number_from(bytes: &[u8; 16], byte_index: u8, size: u8) -> u64
     requires inside { byte_index + size ≤ 16 }
     requires sized { IsDataSize size }

@@ -80,6 +80,7 @@ impl<M: TaggedStore> Machine<M> {
 
     /// What a granule holds, which is the sixteen bytes from address `16 * granule` on: NULL without a tag
     /// where nothing was put.
+    #[inline(always)]
     pub fn granule(&self, granule: u64) -> Cap
         requires { granule < 2 ^ 60 }
         ensures holds { result ≡ state_of (held_of M.contents self.now) (granule_key granule) }

@@ -55,12 +55,13 @@ impl<M: TaggedStore> Machine<M> {
         ensures clears { OnOk result
             (ClearsBeyond self.old.rules (state_of (held_of M.contents self.old)) step.now (state_of (held_of M.contents self.new))) }
     {
-        self.make(step)
+        self.make::<0>(step)
     }
 
-    // Makes a step and counts it, or refuses it.
+    /// Makes a step as [`step`](Machine::step) does. `COPY` changes nothing: who knows the kind of the step takes
+    /// a number of its own, and has a copy without the other kinds.
     #[inline(always)]
-    fn make(&mut self, step: &Step) -> Result<(), StepEnd>
+    pub fn make<const COPY: u8>(&mut self, step: &Step) -> Result<(), StepEnd>
         requires { IsStepInRange step.now }
         ensures { AnswersStep (held_of M.contents self.old) step.now result (held_of M.contents self.new) }
     {

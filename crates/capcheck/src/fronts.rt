@@ -85,7 +85,7 @@ impl<M: TaggedStore> Progress<M> {
         let Some((line, rest)) = take_operands::<COPY>(head, operands) else {
             return Ok(None);
         };
-        match self.take_known(&line) {
+        match self.take_known::<COPY>(&line) {
             Ok(()) => Ok(Some(rest)),
             Err(end) => Err(end),
         }

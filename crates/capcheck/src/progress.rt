@@ -54,14 +54,14 @@ impl<M: TaggedStore> Progress<M> {
         ensures err { IfErr result (λ end. EndsNext (reading_of M.contents self.old) text.now end) }
     {
         match read_line(text) {
-            Some(line) => self.take_known(&line),
+            Some(line) => self.take_known::<0>(&line),
             None => Err(StepEnd::Refused(Refusal::BadLine)),
         }
     }
 
     /// Takes the next line, whatever bytes spell it, as `take_line` takes these.
     #[inline(always)]
-    pub fn take_known(&mut self, line: &Line) -> Result<(), StepEnd>
+    pub fn take_known<const COPY: u8>(&mut self, line: &Line) -> Result<(), StepEnd>
         requires in_range { IsInRange line.now }
         requires unended { self.old.ended ≡ false }
         ensures ok { OnOk result ((text : List ℕ) → Spells text line.now
@@ -69,7 +69,7 @@ impl<M: TaggedStore> Progress<M> {
         ensures err { IfErr result (λ end. (text : List ℕ) → Spells text line.now → EndsNext (reading_of M.contents self.old) text end) }
     {
         if has_form(self.machine.rules(), line) {
-            self.take(line)
+            self.take::<COPY>(line)
         } else {
             Err(StepEnd::Refused(Refusal::BadLine))
         }
@@ -77,7 +77,7 @@ impl<M: TaggedStore> Progress<M> {
 
     // Takes a line that has a form, after the header.
     #[inline(always)]
-    fn take(&mut self, line: &Line) -> Result<(), StepEnd>
+    fn take<const COPY: u8>(&mut self, line: &Line) -> Result<(), StepEnd>
         requires in_range { IsInRange line.now }
         requires unended { self.old.ended ≡ false }
         ensures ok { OnOk result (Takes (reading_of M.contents self.old) line.now (reading_of M.contents self.new)) }
@@ -86,7 +86,7 @@ impl<M: TaggedStore> Progress<M> {
         match *line {
             Line::Version(_) | Line::Mode(_) => Err(StepEnd::Refused(Refusal::Misplaced)),
             Line::Root(place, word) => self.take_root(place, word),
-            Line::Step(step) => self.machine.step(&step),
+            Line::Step(step) => self.machine.make::<COPY>(&step),
             Line::End(count) => self.take_end(count),
         }
     }

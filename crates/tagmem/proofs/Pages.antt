@@ -16,13 +16,21 @@ use Rattle.std.proofs.lemmas.List.{get_or-set_same, get_or-set_other}
 use Rattle.std.proofs.Math.ListN.{get_or-eq_default}
 use Rattle.tagmem.specs.declared.page.Page.{Page}
 use Rattle.tagmem.specs.Granules.{Entry}
-use Rattle.tagmem.specs.Pages.{slots_of, with_slot, entries_from, entries_of, contents_of, number_at, IsPageAt, IsAbsent, IsDirectory}
+use Rattle.tagmem.specs.Pages.{slots_of, slot_with, with_slot, entries_from, entries_of, contents_of, number_at, IsPageAt, IsAbsent, IsDirectory}
 use Rattle.tagmem.proofs.Granules.{get-put}
-use Rattle.tagmem.proofs.Slots.{length-each_coded}
+use Rattle.tagmem.proofs.Slots.{length-slots_with, get_or-slots_with}
 
 -- a page has 256 slots
 pub length-slots_of : (page : Page) → length (slots_of page) ≡ 256
-length-slots_of page = length-each_coded page.slots page.codes (page.whole ∙ sym page.each_has_code) ∙ page.whole
+length-slots_of page =
+    length-slots_with page.tags page.rows page.codes (page.each_has_tag ∙ sym page.each_has_row) (page.each_has_tag ∙ sym page.each_has_code)
+    ∙ page.each_has_tag
+
+-- a slot of a page is its tag with its bytes and its code
+pub get_or-slots_of : (page : Page) (slot : ℕ)
+    → get_or (slots_of page) slot None ≡ slot_with (get_or page.tags slot None) (get_or page.rows slot []) (get_or page.codes slot 0)
+get_or-slots_of page slot =
+    get_or-slots_with page.tags page.rows page.codes slot (page.each_has_tag ∙ sym page.each_has_row) (page.each_has_tag ∙ sym page.each_has_code)
 
 -- what a page says of a granule
 abbrev pub in_page : Page → ℕ → Option Entry

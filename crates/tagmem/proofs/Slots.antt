@@ -1,57 +1,66 @@
--- Slots with their codes, one by one.
+-- Slots, one by one.
 use Rattle.std.proofs.Common.{◌≡◌, ◌≢◌, ℕ, zero, suc, Bool, true, false, true≢false, List, [], ◌∷◌, length, get_or, set}
 use Rattle.std.proofs.Common.{Option, Some, None, is_some, is_none, unwrap_or, sym, refl, ap, arith}
 use Rattle.std.proofs.lemmas.Option.{none-some}
 use Rattle.tagmem.specs.Granules.{blank, shown}
-use Rattle.tagmem.specs.Pages.{coded, each_coded}
+use Rattle.tagmem.specs.Pages.{slot_with, slots_with}
 
--- there are as many as there are slots
-pub length-each_coded : (slots : List (Option (Bool × List ℕ))) (codes : List ℕ) → length slots ≡ length codes
-    → length (each_coded slots codes) ≡ length slots
-length-each_coded [] codes same = refl
-length-each_coded (slot ∷ slots) [] same = absurd (omega arith)
-length-each_coded (slot ∷ slots) (code ∷ codes) same = ap suc (length-each_coded slots codes (omega arith))
+-- there are as many as there are tags
+pub length-slots_with : (tags : List (Option Bool)) (rows : List (List ℕ)) (codes : List ℕ) → length tags ≡ length rows
+    → length tags ≡ length codes → length (slots_with tags rows codes) ≡ length tags
+length-slots_with [] rows codes same equal = refl
+length-slots_with (tag ∷ tags) [] codes same equal = absurd (omega arith)
+length-slots_with (tag ∷ tags) (row ∷ rows) [] same equal = absurd (omega arith)
+length-slots_with (tag ∷ tags) (row ∷ rows) (code ∷ codes) same equal =
+    ap suc (length-slots_with tags rows codes (omega arith) (omega arith))
 
--- each is a slot with its code
-pub get_or-each_coded : (slots : List (Option (Bool × List ℕ))) (codes : List ℕ) (i : ℕ) → length slots ≡ length codes
-    → get_or (each_coded slots codes) i None ≡ coded (get_or slots i None) (get_or codes i 0)
-get_or-each_coded [] codes i same = refl
-get_or-each_coded (slot ∷ slots) [] i same = absurd (omega arith)
-get_or-each_coded (slot ∷ slots) (code ∷ codes) zero same = refl
-get_or-each_coded (slot ∷ slots) (code ∷ codes) (suc i) same = get_or-each_coded slots codes i (omega arith)
+-- each is a tag with its bytes and its code
+pub get_or-slots_with : (tags : List (Option Bool)) (rows : List (List ℕ)) (codes : List ℕ) (i : ℕ) → length tags ≡ length rows
+    → length tags ≡ length codes
+    → get_or (slots_with tags rows codes) i None ≡ slot_with (get_or tags i None) (get_or rows i []) (get_or codes i 0)
+get_or-slots_with [] rows codes i same equal = refl
+get_or-slots_with (tag ∷ tags) [] codes i same equal = absurd (omega arith)
+get_or-slots_with (tag ∷ tags) (row ∷ rows) [] i same equal = absurd (omega arith)
+get_or-slots_with (tag ∷ tags) (row ∷ rows) (code ∷ codes) zero same equal = refl
+get_or-slots_with (tag ∷ tags) (row ∷ rows) (code ∷ codes) (suc i) same equal =
+    get_or-slots_with tags rows codes i (omega arith) (omega arith)
 
--- a slot set with its code is one of them set
-pub each_coded-set : (slots : List (Option (Bool × List ℕ))) (codes : List ℕ) (i : ℕ) (slot : Option (Bool × List ℕ)) (code : ℕ)
-    → each_coded (set slots i slot) (set codes i code) ≡ set (each_coded slots codes) i (coded slot code)
-each_coded-set [] codes i slot code = refl
-each_coded-set (x ∷ slots) [] zero slot code = refl
-each_coded-set (x ∷ slots) [] (suc i) slot code = refl
-each_coded-set (x ∷ slots) (c ∷ codes) zero slot code = refl
-each_coded-set (x ∷ slots) (c ∷ codes) (suc i) slot code = ap (λ rest. coded x c ∷ rest) (each_coded-set slots codes i slot code)
+-- a tag set with its bytes and its code is one of them set
+pub slots_with-set : (tags : List (Option Bool)) (rows : List (List ℕ)) (codes : List ℕ) (i : ℕ) (tag : Option Bool) (row : List ℕ) (code : ℕ)
+    → slots_with (set tags i tag) (set rows i row) (set codes i code) ≡ set (slots_with tags rows codes) i (slot_with tag row code)
+slots_with-set [] rows codes i tag row code = refl
+slots_with-set (t ∷ tags) [] codes zero tag row code = refl
+slots_with-set (t ∷ tags) [] codes (suc i) tag row code = refl
+slots_with-set (t ∷ tags) (r ∷ rows) [] zero tag row code = refl
+slots_with-set (t ∷ tags) (r ∷ rows) [] (suc i) tag row code = refl
+slots_with-set (t ∷ tags) (r ∷ rows) (c ∷ codes) zero tag row code = refl
+slots_with-set (t ∷ tags) (r ∷ rows) (c ∷ codes) (suc i) tag row code =
+    ap (λ rest. slot_with t r c ∷ rest) (slots_with-set tags rows codes i tag row code)
 
--- a code takes nothing from its slot
-pub shown-coded : (slot : Option (Bool × List ℕ)) (code : ℕ) → shown (coded slot code) ≡ slot
-shown-coded None code = refl
-shown-coded (Some stored) code = refl
+-- what is shown of a slot
+pub shown-slot_with : (tag : Bool) (row : List ℕ) (code : ℕ) → shown (slot_with (Some tag) row code) ≡ Some (tag, row)
+shown-slot_with tag row code = refl
 
-pub is_none-coded : (slot : Option (Bool × List ℕ)) (code : ℕ) → is_none (coded slot code) ≡ is_none slot
-is_none-coded None code = refl
-is_none-coded (Some stored) code = refl
+pub is_none-slot_with : (tag : Option Bool) (row : List ℕ) (code : ℕ) → is_none (slot_with tag row code) ≡ is_none tag
+is_none-slot_with None row code = refl
+is_none-slot_with (Some tag) row code = refl
 
--- the code of a slot, where it was put and where it wasn't
-pub code-coded_none : (slot : Option (Bool × List ℕ)) (code : ℕ) → is_some slot ≡ false → (unwrap_or (coded slot code) blank).2 ≡ 0
-code-coded_none None code none = refl
-code-coded_none (Some stored) code none = absurd (true≢false none)
+-- the bytes and the code of a slot, where what was never put has none
+pub bytes-slot_with : (tag : Option Bool) (row : List ℕ) (code : ℕ) → (tag ≡ None → row ≡ blank.1)
+    → (unwrap_or (slot_with tag row code) blank).1 ≡ row
+bytes-slot_with None row code none = sym (none refl)
+bytes-slot_with (Some tag) row code none = refl
 
-pub code-coded_some : (slot : Option (Bool × List ℕ)) (code : ℕ) → is_some slot ≡ true → (unwrap_or (coded slot code) blank).2 ≡ code
-code-coded_some None code some = absurd (true≢false (sym some))
-code-coded_some (Some stored) code some = refl
+pub code-slot_with : (tag : Option Bool) (row : List ℕ) (code : ℕ) → (tag ≡ None → code ≡ 0)
+    → (unwrap_or (slot_with tag row code) blank).2 ≡ code
+code-slot_with None row code none = sym (none refl)
+code-slot_with (Some tag) row code none = refl
 
--- there is an entry where there is a slot
-pub coded_none : (slot : Option (Bool × List ℕ)) (code : ℕ) → is_some slot ≡ false → coded slot code ≡ None
-coded_none None code none = refl
-coded_none (Some stored) code none = absurd (true≢false none)
+-- there is an entry where there is a tag
+pub slot_with-none : (tag : Option Bool) (row : List ℕ) (code : ℕ) → is_some tag ≡ false → slot_with tag row code ≡ None
+slot_with-none None row code none = refl
+slot_with-none (Some tag) row code none = absurd (true≢false none)
 
-pub coded_some : (slot : Option (Bool × List ℕ)) (code : ℕ) → is_some slot ≡ true → coded slot code ≢ None
-coded_some None code some is = true≢false (sym some)
-coded_some (Some stored) code some is = none-some _ (sym is)
+pub slot_with-some : (tag : Option Bool) (row : List ℕ) (code : ℕ) → is_some tag ≡ true → slot_with tag row code ≢ None
+slot_with-some None row code some is = true≢false (sym some)
+slot_with-some (Some tag) row code some is = none-some _ (sym is)

@@ -1,6 +1,6 @@
 -- Tagged memory as a finite map. Granule g is the sixteen bytes from address 16 * g on, with one tag (UCAM-CL-TR-987, tagged memory).
-use Rattle.std.specs.Prelude.{◌≡◌, ◌≢◌, ℕ, ◌+◌, ◌^◌, ◌<◌, ◌≤◌, ◌↔◌, Bool, false, List, ◌++◌, length, take, drop, replicate, All}
-use Rattle.std.specs.Prelude.{Option, Some, None, unwrap_or}
+use Rattle.std.specs.Prelude.{◌≡◌, ◌≢◌, ℕ, ◌+◌, ◌^◌, ◌<◌, ◌≤◌, ◌↔◌, Bool, false, List, [], ◌++◌, length, take, drop, replicate, All}
+use Rattle.std.specs.Prelude.{Option, Some, None, unwrap_or, slice_index, slice_index_or}
 use Rattle.std.specs.Ordering.{nat_cmp}
 use Rattle.std.specs.FinMap.{FinMap, get, insert, len}
 
@@ -20,6 +20,11 @@ Granules = FinMap nat_cmp Entry
 -- what stands in a granule that was never put: no tag, zero bytes, and no origin (this profile's own)
 abbrev pub blank : Entry
 blank = (false, replicate 16 0, 0)
+
+-- of tags, bytes and codes side by side: what was never put has zero bytes and the code 0 (this profile's own)
+abbrev pub IsBlankWhereUnput : List (Option Bool) → List (List ℕ) → List ℕ → Type 0
+IsBlankWhereUnput tags rows codes = (slot : ℕ) → slot < length tags → slice_index_or tags slot None ≡ None
+    → (slice_index_or rows slot [] ≡ blank.1) × (slice_index codes slot ≡ 0)
 
 -- what stands in a granule, put or not (this profile's own)
 abbrev pub entry_at : Granules → ℕ → Entry

@@ -8,20 +8,21 @@ use Rattle.std.specs.FinMap.{from_entries}
 use Rattle.tagmem.specs.declared.page.Page.{Page}
 use Rattle.tagmem.specs.Granules.{Entry, Granules, blank}
 
--- a slot with its code, where it was put
-abbrev pub coded : Option (Bool × List ℕ) → ℕ → Option Entry
-coded None code = None
-coded (Some stored) code = Some (stored.0, stored.1, code)
+-- a slot, where it was put: its tag, and its bytes and its code beside that
+abbrev pub slot_with : Option Bool → List ℕ → ℕ → Option Entry
+slot_with None row code = None
+slot_with (Some tag) row code = Some (tag, row, code)
 
--- slots with their codes
-abbrev pub each_coded : List (Option (Bool × List ℕ)) → List ℕ → List (Option Entry)
-each_coded [] codes = []
-each_coded (slot ∷ slots) [] = []
-each_coded (slot ∷ slots) (code ∷ codes) = coded slot code ∷ each_coded slots codes
+-- the slots that tags, bytes and codes side by side are
+abbrev pub slots_with : List (Option Bool) → List (List ℕ) → List ℕ → List (Option Entry)
+slots_with [] rows codes = []
+slots_with (tag ∷ tags) [] codes = []
+slots_with (tag ∷ tags) (row ∷ rows) [] = []
+slots_with (tag ∷ tags) (row ∷ rows) (code ∷ codes) = slot_with tag row code ∷ slots_with tags rows codes
 
 -- what stands in each granule of a page, where it was put: all that is said of how a page keeps it
 abbrev pub slots_of : Page → List (Option Entry)
-slots_of page = each_coded page.slots page.codes
+slots_of page = slots_with page.tags page.rows page.codes
 
 -- the bytes of a slot, put or not
 abbrev pub bytes_in : List (Option Entry) → ℕ → List ℕ

@@ -1,18 +1,22 @@
 //! A page: 256 granules that stand side by side.
 ghost use Rattle.std.specs.Prelude.{◌≡◌, ◌+◌, ◌≤◌, ℕ, length, is_none, None, Some, slice_index_or, slice_set};
-ghost use Rattle.tagmem.specs.Granules.{overwritten, shown};
+ghost use Rattle.tagmem.specs.Granules.{IsBlankWhereUnput, overwritten, shown};
 
 use crate::overwriting::overwrite;
 
-// Page `number` has the granules from `256 * number` on: what stands in each that was put, and its
-// code beside it.
+// Page `number` has the granules from `256 * number` on. What was never put has no tag, zero bytes and the
+// code 0.
 #[derive(Drop)]
 pub(crate) struct Page {
     pub(crate) number: u64,
-    slots: [Option<(bool, [u8; 16])>; 256],
+    // The tag of each granule that was put.
+    tags: [Option<bool>; 256],
+    rows: [[u8; 16]; 256],
     codes: [u64; 256],
-    ghost whole: { length slots ≡ 256 },
+    ghost each_has_tag: { length tags ≡ 256 },
+    ghost each_has_row: { length rows ≡ 256 },
     ghost each_has_code: { length codes ≡ 256 },
+    ghost blank: { IsBlankWhereUnput tags rows codes },
 }
 
 impl Page {
@@ -25,7 +29,8 @@ impl Page {
     {
         Page {
             number,
-            slots: [None; 256],
+            tags: [None; 256],
+            rows: [[0; 16]; 256],
             codes: [0; 256],
         }
     }
@@ -35,7 +40,10 @@ impl Page {
     pub(crate) fn get(&self, slot: u8) -> Option<(bool, [u8; 16])>
         ensures { result ≡ shown (slice_index_or (slots_of self.now) slot None) }
     {
-        self.slots[slot as usize]
+        match self.tags[slot as usize] {
+            Some(tag) => Some((tag, self.rows[slot as usize])),
+            None => None,
+        }
     }
 
     // The code of a granule, and 0 where it was never put.
@@ -43,11 +51,7 @@ impl Page {
     pub(crate) fn code(&self, slot: u8) -> u64
         ensures { result ≡ code_in (slots_of self.now) slot }
     {
-        if self.slots[slot as usize].is_none() {
-            0
-        } else {
-            self.codes[slot as usize]
-        }
+        self.codes[slot as usize]
     }
 
     // The first slot from one on that was put.
@@ -55,7 +59,7 @@ impl Page {
         ensures { IsFirstFrom (slots_of self.now) slot result }
     {
         for i in slot as usize..256 {
-            if self.slots[i].is_some() {
+            if self.tags[i].is_some() {
                 return Some(i as u8);
             }
         }
@@ -79,13 +83,9 @@ impl Page {
         ensures slots { let old = slots_of self.old in
             slots_of self.new ≡ slice_set old slot (Some (tag, overwritten (bytes_in old slot) byte_index bytes.now, code)) }
     {
-        let old = self.slots[slot as usize];
-        let mut written = match old {
-            Some(entry) => entry.1,
-            None => [0; 16],
-        };
-        overwrite(&mut written, byte_index, bytes);
-        self.slots[slot as usize] = Some((tag, written));
+        let old = self.tags[slot as usize];
+        overwrite(&mut self.rows[slot as usize], byte_index, bytes);
+        self.tags[slot as usize] = Some(tag);
         self.codes[slot as usize] = code;
         old.is_none()
     }

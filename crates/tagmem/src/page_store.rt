@@ -51,16 +51,23 @@ impl PageStore {
     fn index_of(&self, number: u64) -> Option<usize>
         ensures { MatchOption result (IsAbsent self.now.pages.items number) (IsPageAt self.now.pages.items number) }
     {
-        let remembered = &self.remembered[(number % REMEMBERED as u64) as usize];
-        let last = remembered.get();
+        let last = self.remembered[(number % REMEMBERED as u64) as usize].get();
         if let Some(page) = self.pages.get(last)
             && page.number == number
         {
             return Some(last);
         }
+        self.search(number)
+    }
+
+    // Where a page is by the directory, which is remembered.
+    #[inline(never)]
+    fn search(&self, number: u64) -> Option<usize>
+        ensures { MatchOption result (IsAbsent self.now.pages.items number) (IsPageAt self.now.pages.items number) }
+    {
         match self.directory.get(&number) {
             Some(index) => {
-                remembered.set(*index);
+                self.remembered[(number % REMEMBERED as u64) as usize].set(*index);
                 Some(*index)
             }
             None => None,

@@ -1,16 +1,11 @@
-use Rattle.std.proofs.Common.{unwrap_or, sym, ap, ◌∙◌}
+use Rattle.std.proofs.Common.{unwrap_or, sym, ap, ◌∙◌, arith}
 use Rattle.tagmem.specs.Granules.{blank}
-use Rattle.tagmem.proofs.Slots.{get_or-each_coded, code-coded_none, code-coded_some}
+use Rattle.tagmem.proofs.Pages.{get_or-slots_of}
+use Rattle.tagmem.proofs.Slots.{code-slot_with}
 use Rattle.tagmem.proofs.page.Page.code.Goals as goal
 
-pub returns-then-is_none : goal.returns-then-is_none
-returns-then-is_none c =
+pub returns : goal.returns
+returns c =
     let page = c.args.self.now in
-    let stands = get_or-each_coded page.slots page.codes c.args.slot (page.whole ∙ sym page.each_has_code) in
-    sym (ap (λ o. (unwrap_or o blank).2) stands ∙ code-coded_none _ _ c.if-is_none.ensures)
-
-pub returns-else-is_none : goal.returns-else-is_none
-returns-else-is_none c =
-    let page = c.args.self.now in
-    let stands = get_or-each_coded page.slots page.codes c.args.slot (page.whole ∙ sym page.each_has_code) in
-    sym (ap (λ o. (unwrap_or o blank).2) stands ∙ code-coded_some _ _ c.if-is_none.ensures)
+    let stands = get_or-slots_of page c.args.slot in
+    sym (ap (λ o. (unwrap_or o blank).2) stands ∙ code-slot_with _ _ _ (λ none. (page.blank c.args.slot (omega (arith, page.each_has_tag, c.ranges.slot.fits)) none).1))

@@ -1,22 +1,20 @@
 use Rattle.std.proofs.Common.{◌≡◌, ◌≤◌, get_or, None, sym, ap, ◌∙◌, arith}
 use Rattle.std.proofs.Math.ListN.{get_or-eq_default}
 use Rattle.tagmem.specs.Pages.{slots_of}
-use Rattle.tagmem.proofs.Slots.{get_or-each_coded, coded_none, coded_some}
-use Rattle.tagmem.proofs.Pages.{length-slots_of}
+use Rattle.tagmem.proofs.Slots.{slot_with-none, slot_with-some}
+use Rattle.tagmem.proofs.Pages.{length-slots_of, get_or-slots_of}
 use Rattle.tagmem.proofs.page.Page.first_from.Goals as goal
 
 pub returns-then-is_some : goal.returns-then-is_some
 returns-then-is_some c =
-    let page = c.args.self.now in
-    let stands = get_or-each_coded page.slots page.codes c.loop-i.i (page.whole ∙ sym page.each_has_code) in
-    (c.loop-i.auto.i, λ is. coded_some _ _ (sym c.if-is_some.ensures) (sym stands ∙ is), c.loop-i.invariant)
+    let stands = get_or-slots_of c.args.self.now c.loop-i.i in
+    (c.loop-i.auto.i, λ is. slot_with-some _ _ _ (sym c.if-is_some.ensures) (sym stands ∙ is), c.loop-i.invariant)
 
 pub loop-i-preserved : goal.loop-i-preserved
 loop-i-preserved c = λ k le lt.
     let page = c.args.self.now in
-    let stands = get_or-each_coded page.slots page.codes c.loop-i.i (page.whole ∙ sym page.each_has_code) in
     let here : k ≡ c.loop-i.i → get_or (slots_of page) k None ≡ None = λ same.
-    ap (λ i. get_or (slots_of page) i None) same ∙ stands ∙ coded_none _ _ (sym c.if-is_some.ensures) in
+    ap (λ i. get_or (slots_of page) i None) same ∙ get_or-slots_of page c.loop-i.i ∙ slot_with-none _ _ _ (sym c.if-is_some.ensures) in
     grind (arith, c.loop-i.invariant k, here)
 
 -- past the last slot there is none

@@ -1,16 +1,21 @@
-use Rattle.std.proofs.Common.{◌≡◌, ℕ, zero, suc, Bool, List, [], ◌∷◌, get_or, replicate, Option, None, refl}
-use Rattle.tagmem.specs.Pages.{each_coded}
+use Rattle.std.proofs.Common.{◌≡◌, ℕ, ◌<◌, zero, suc, Bool, List, [], ◌∷◌, get_or, replicate, Option, None, refl}
+use Rattle.std.proofs.lemmas.List.{get_or-replicate}
+use Rattle.tagmem.specs.Pages.{slots_with}
 use Rattle.tagmem.proofs.page.Page.new.Goals as goal
 
--- a slot that was never put
-abbrev nothing : Option (Bool × List ℕ)
+-- a granule that was never put
+abbrev nothing : Option Bool
 nothing = None
 
-none_there : (n i : ℕ) (codes : List ℕ) → get_or (each_coded (replicate n nothing) codes) i None ≡ None
-none_there zero i codes = refl
-none_there (suc n) i [] = refl
-none_there (suc n) zero (code ∷ codes) = refl
-none_there (suc n) (suc i) (code ∷ codes) = none_there n i codes
+none_there : (n i : ℕ) (rows : List (List ℕ)) (codes : List ℕ) → get_or (slots_with (replicate n nothing) rows codes) i None ≡ None
+none_there zero i rows codes = refl
+none_there (suc n) i [] codes = refl
+none_there (suc n) i (row ∷ rows) [] = refl
+none_there (suc n) zero (row ∷ rows) (code ∷ codes) = refl
+none_there (suc n) (suc i) (row ∷ rows) (code ∷ codes) = none_there n i rows codes
 
 pub returns-clause-slots : goal.returns-clause-slots
-returns-clause-slots c = λ i. none_there 256 i (replicate 256 0)
+returns-clause-slots c = λ i. none_there 256 i (replicate 256 (replicate 16 0)) (replicate 256 0)
+
+pub invariant_of-result-clause-blank : goal.invariant_of-result-clause-blank
+invariant_of-result-clause-blank c = λ slot lt none. (get_or-replicate 256 slot (replicate 16 0) [] lt, get_or-replicate 256 slot 0 0 lt)
