@@ -11,7 +11,7 @@ use Rattle.cap_log.specs.Lines.{IsDataSize, IsDataValue}
 use Rattle.cap_log.specs.Parts.{Begins, BeginsWithNone, IsSized, Writes, loaded_spelling, stored_spelling}
 use Rattle.cap_log.proofs.Cuts.{same_cut}
 use Rattle.cap_word.proofs.ReadingLemmas.{digit_value-hex_digit}
-use Rattle.cap_log.proofs.WriteLemmas.{length-Writes}
+use Rattle.cap_log.proofs.WriteLemmas.{whole, length-Writes}
 use Rattle.cap_log.proofs.PartLemmas.{size-small, size-spaceless}
 
 -- a size is one of four texts
@@ -156,7 +156,7 @@ wide_text digits new end writes long =
     let ends = writes.ends in
     let all : end ≡ 32 = omega arith in
     let back : drop {A = ℕ} end (replicate 32 48) ≡ [] = drop_all end (replicate 32 48) (omega (arith, length-replicate {A = ℕ} 32 48)) in
-    writes.whole ∙ (ap (λ (xs : List ℕ). xs ++ (digits ++ drop end (replicate 32 48))) (take-replicate 15 32 48 (omega arith))
+    whole 15 end digits (replicate 32 48) new writes ∙ (ap (λ (xs : List ℕ). xs ++ (digits ++ drop end (replicate 32 48))) (take-replicate 15 32 48 (omega arith))
     ∙ (ap (λ (xs : List ℕ). replicate 15 48 ++ (digits ++ xs)) back ∙ ap (λ (xs : List ℕ). replicate 15 48 ++ xs) (append-nil digits)))
 
 pub wide_read : (digits text : List ℕ) (n : ℕ) → text ≡ replicate 15 48 ++ digits → n < 2 ^ 128 → text ≡ hex_digits 32 n → (n < 2 ^ 68) × (digits ≡ hex_digits 17 n)

@@ -101,4 +101,5 @@ stored_spelling size value = join_with_byte 32 (decimal size ∷ hex_digits (2 *
 -- new is old with the text written from a place on, up to an end
 pub record Writes (at : ℕ) (text old new : List ℕ) (end : ℕ) : Type 0 where
   pub ends : end ≡ at + length text
-  pub whole : new ≡ take at old ++ (text ++ drop end old)
+  pub written : take end new ≡ take at old ++ text
+  pub rest : (k : ℕ) → end ≤ k → drop k new ≡ drop k old

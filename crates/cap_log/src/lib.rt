@@ -13,10 +13,12 @@
 //! [`WideNumber`] and `cap_word`'s `Word` serve other files of lines too.
 //!
 //! A [`Source`] gives bytes a piece at a time, and [`Lines`] are the lines of what it gives, however
-//! it is cut. A [`Sink`] takes bytes a piece at a time, and [`push_all`] pushes a whole text. Nothing
-//! here takes memory.
+//! it is cut. A [`Sink`] takes bytes a piece at a time, and [`push_all`] pushes a whole text. The
+//! functions of [`buffers`] put texts and numbers into a buffer, one behind the other. Nothing here
+//! takes memory.
 #![tactic(auto)]
 
+pub mod buffers;
 mod fronts;
 mod heads;
 mod lines;

@@ -12,7 +12,7 @@ pub mod results;
 pub mod signs;
 pub mod sized;
 
-use crate::parts::cutting::put;
+use crate::buffers::put;
 
 /// A part of a line: its values in range have one spelling each.
 pub trait Part: Copy {

@@ -6,12 +6,12 @@ ghost use Rattle.cap_log.specs.Lines.{IsInRange, Spells, spelling};
 ghost use Rattle.cap_log.specs.Parts.{Begins, BeginsWithNone};
 ghost use Rattle.cap_log.specs.declared.lines.Line.{Line};
 
+use crate::buffers::put;
 use crate::fronts::finding::LINE_LIMIT;
 use crate::heads::Head;
 use crate::lines::Line;
 use crate::operands::take_operands;
 use crate::parts::Part;
-use crate::parts::cutting::put;
 
 /// Takes a line and its line feed from the front of some bytes: the line, and what comes behind it.
 /// `None` where no line and a line feed stand there.

@@ -6,10 +6,10 @@ ghost use Rattle.cap_log.specs.Parts.{Writes};
 ghost use Rattle.cap_log.specs.declared.lines.Line.{Line};
 ghost use Rattle.cap_log.specs.declared.lines.Line.TheVariants as line;
 
+use crate::buffers::put;
 use crate::heads::{AccessStep, Head, NumberStep, RegisterStep};
 use crate::lines::{Line, Mode, Place, Step};
 use crate::parts::Part;
-use crate::parts::cutting::put;
 use crate::parts::decimals::Count;
 use crate::parts::hexadecimals::Number;
 use crate::parts::offsets::Offset;

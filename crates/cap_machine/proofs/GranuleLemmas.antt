@@ -4,7 +4,7 @@ use Rattle.std.proofs.Math.Nat.{div-div-eq-div-mul, pow-suc, pow-zero, div-one, 
 use Rattle.std.proofs.lemmas.Nat.{pow-add}
 use Rattle.std.specs.Prelude.{unwrap_or, replicate}
 use Rattle.std.specs.FinMap as map
-use Rattle.std.specs.Int.{byte_at, bytes_low_first, to_le_bytes, w64}
+use Rattle.std.specs.Int.{bytes_low_first, to_le_bytes, w64}
 use Rattle.cap_word.specs.Word.{null_word}
 use Rattle.cap_word.specs.Memory.{number_of, stored_word, low_bytes}
 use Rattle.cap_word.specs.declared.word.Cap.{Cap}

@@ -11,7 +11,6 @@ use Rattle.std.specs.Ordering.{nat_cmp}
 use Rattle.cap_word.specs.declared.word.Cap.{Cap}
 use Rattle.tagmem.specs.Granules.{Granules, Entry, entry_at, code_at}
 use Rattle.tagmem.proofs.Granules.{get-put, entry_at-empty, entry_at-put_same, entry_at-put_other}
-use Rattle.cap_word.specs.Memory.{stored_word}
 use Rattle.cap_machine.specs.States.{State, blank, untagged_null, put, granule_key}
 use Rattle.cap_machine.specs.Places.{at_places, places_of, codes_of, place_at}
 use Rattle.cap_machine.specs.Origins.{Origins}

@@ -1,8 +1,6 @@
--- Lines one after another, and the last digits of a number.
-use Rattle.std.proofs.Common.{◌≡◌, ℕ, zero, suc, ◌+◌, ◌-◌, ◌≤◌, List, ◌++◌, length, take, drop, codes, ap, ◌∙◌, append_assoc, arith}
-use Rattle.std.proofs.Math.Seq.{take-length}
-use Rattle.cap_word.specs.Digits.{hex_digits}
-use Rattle.cap_word.proofs.DigitLemmas.{hex_digits-suc, length-hex_digits}
+-- Lines one after another, and the length of a number in decimal.
+use Rattle.std.proofs.Common.{◌≡◌, ℕ, ◌^◌, ◌<◌, ◌≤◌, List, ◌++◌, length, codes, decimal, append_assoc, arith, lit<}
+use Rattle.std.proofs.lemmas.Fmt.{length-decimal-le}
 use Rattle.capcheck.specs.TextLines.{text_line}
 
 -- a line behind what stands there
@@ -10,19 +8,9 @@ pub line_after : (front name value : List ℕ) → front ++ name ++ codes " " ++
 unfolding text_line
 line_after front name value = simp append_assoc
 
-drop_first : (j k n : ℕ) → drop j (hex_digits (j + k) n) ≡ hex_digits k n
-drop_first zero k n = ap (λ (m : ℕ). hex_digits m n) (let e : zero + k ≡ k = omega arith in e)
-drop_first (suc j) k n =
-    let e : suc j + k ≡ suc (j + k) = omega arith in
-    ap (λ (m : ℕ). drop (suc j) (hex_digits m n)) e ∙ ap (drop (suc j)) (hex_digits-suc (j + k) n) ∙ drop_first j k n
-
--- the last k digits of several, as a slice
-pub last_digits : (m k n : ℕ) → k ≤ m → take (m - (m - k)) (drop (m - k) (hex_digits m n)) ≡ hex_digits k n
-last_digits m k n few =
-    let e : m ≡ (m - k) + k = omega arith in
-    let count : m - (m - k) ≡ length (hex_digits k n) = omega (arith, length-hex_digits k n) in
-    ap (λ (l : ℕ). take (m - (m - k)) (drop (m - k) (hex_digits l n))) e ∙ ap (take (m - (m - k))) (drop_first (m - k) k n)
-    ∙ ap (λ (l : ℕ). take l (hex_digits k n)) count ∙ take-length (hex_digits k n)
+-- a number of 64 bits has twenty digits at most
+pub short_decimal : (n : ℕ) → n < 2 ^ 64 → length (decimal n) ≤ 20
+short_decimal n small = length-decimal-le 20 n (lit< tt) (omega arith) small
 
 -- three lines behind what stands there
 pub three_after : (front a b c : List ℕ) → front ++ a ++ b ++ c ≡ front ++ (a ++ b ++ c)

@@ -1,8 +1,7 @@
 -- The bytes of a word in memory as text.
-use Rattle.std.proofs.Common.{◌≡◌, ℕ, zero, suc, ◌+◌, ◌*◌, ◌/◌, ◌%◌, ◌^◌, ◌<◌, ◌≤◌, List, [], ◌∷◌, length, refl, sym, ap, subst, ◌∙◌, arith, lit<, Result, Ok, Err, OnOk, IsOk}
+use Rattle.std.proofs.Common.{◌≡◌, ℕ, zero, suc, ◌+◌, ◌*◌, ◌/◌, ◌%◌, ◌^◌, ◌<◌, ◌≤◌, List, [], ◌∷◌, length, refl, sym, ap, subst, ◌∙◌, arith, lit<}
 use Rattle.std.proofs.Math.Nat.{div-one, pow-suc, mul-add-div_right, mul-le-mul_right, div-div-eq-div-mul}
 use Rattle.std.proofs.lemmas.Nat.{div-mul-add}
-use Rattle.std.proofs.lemmas.Bool.{false≢true}
 use Rattle.std.specs.Int.{bytes_high_first}
 use Rattle.std.specs.Prelude.{bit_xor}
 use Rattle.hex.specs.Hex.{encode_with, encode_lower, IsBytes}

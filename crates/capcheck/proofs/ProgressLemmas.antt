@@ -5,7 +5,7 @@ use Rattle.std.specs.Bool.{if◌then◌else◌}
 use Rattle.std.specs.List.{AllByRecursion, IsDistinct}
 use Rattle.std.proofs.lemmas.Bool.{false≢true, eqb-true, lt-ltb, leb-true, leb-false, and_parts, not-false, or_parts}
 use Rattle.std.proofs.lemmas.Option.{none-some}
-use Rattle.cap_bounds.specs.Bounds.{IsSound, is_sound}
+use Rattle.cap_bounds.specs.Bounds.{IsSound}
 use Rattle.cap_word.specs.declared.word.Word.{Word}
 use Rattle.cap_log.specs.declared.lines.Place.{Place}
 use Rattle.cap_log.specs.declared.lines.Line.{Line}
@@ -26,7 +26,7 @@ use Rattle.cap_machine.specs.Accounts.{Account, no_account, most_roots, most_gra
 use Rattle.cap_machine.specs.Runs.{IsRun, last_of}
 use Rattle.cap_machine.specs.Helds.{Held, Makes, EndsStep, Takes as Declares, EndsRoot, state_of, account_of}
 use Rattle.cap_machine.proofs.AccountLemmas.{with_root-grows, with_step-grows, account_after-grows}
-use Rattle.capcheck.specs.Logs.{has_form, Beginning, Nothing, NoMode, Body, Whole, body_lines, after_roots, after_steps, account_after, RunsBy, SpellsBy, NamesFirst, RefusesWhole, WantsMemory, line_tests}
+use Rattle.capcheck.specs.Logs.{has_form, Beginning, Nothing, NoMode, Body, Whole, body_lines, after_roots, account_after, RunsBy, SpellsBy, NamesFirst, RefusesWhole, WantsMemory, line_tests}
 use Rattle.capcheck.specs.Progresses.{Reading, Reaches, StandsFor, Takes, EndsFor, EndsNext}
 use Rattle.capcheck.proofs.LogLemmas.{AllByRecursion-append, IsDistinct-push, tag-start, start-push, IsRun-push, last_of-push, map-push, length-push, steps_push, roots_push, list_any-map, after_roots-push, after_steps-push}
 

@@ -6,9 +6,9 @@ ghost use Rattle.cap_word.specs.Memory.{memory_of};
 ghost use Rattle.capcheck.specs.ExplainLines.{bounds_lines, explain_lines, mantissa_lines, permission_lines, type_name, word_lines};
 ghost use Rattle.capcheck.specs.TextLines.{bytes_text, text_line};
 
-use crate::buffers::{put, put_hex};
 use crate::text_lines::{put_answer_line, put_decimal_line, put_hex_line, put_line};
 use cap_bounds::{Interval, bounds, mantissa, sound};
+use cap_log::buffers::{put, put_hex};
 use cap_ops::perm_view;
 use cap_word::{Word, split, to_memory, word_text};
 

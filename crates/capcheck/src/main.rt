@@ -2,7 +2,6 @@
 //! capabilities, and checks vector files.
 #![tactic(auto)]
 
-mod buffers;
 mod checking;
 pub mod explain_lines;
 pub mod faults;

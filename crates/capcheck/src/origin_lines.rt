@@ -4,8 +4,8 @@ ghost use Rattle.std.specs.Prelude.{◌≡◌, ℕ, ◌+◌, ◌≤◌, ◌++◌
 ghost use Rattle.cap_log.specs.Lines.{IsPlace, place_spelling};
 ghost use Rattle.capcheck.specs.OriginLines.{origin_line};
 
-use crate::buffers::{put, put_decimal, put_hex};
 use cap_log::Place;
+use cap_log::buffers::{put, put_decimal, put_hex};
 
 /// Writes the line of an origin, `origin PLACE ROOT` with its line feed and both places as a log spells
 /// them, at the front of the buffer, and answers its length. The rest of the buffer stays as it was.
@@ -26,6 +26,7 @@ pub fn origin_text(place: Place, root: Place, buffer: &mut [u8; 64]) -> usize
 
 // Writes a place as a log spells it at an index of the buffer, and answers the index behind it. Nothing else
 // of the buffer changes.
+#[tactic(auto, using(crate::proofs::LineLemmas::short_decimal))]
 fn put_place(buffer: &mut [u8], at: usize, place: Place) -> usize
     requires place { IsPlace place }
     requires room { at + 21 ≤ length buffer.old }

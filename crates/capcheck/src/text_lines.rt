@@ -4,7 +4,7 @@ ghost use Rattle.std.specs.Prelude.{◌≡◌, ℕ, ◌+◌, ◌<◌, ◌≤◌,
 ghost use Rattle.cap_word.specs.Digits.{hex_digits};
 ghost use Rattle.capcheck.specs.TextLines.{text_line, yes_or_no};
 
-use crate::buffers::{put, put_decimal, put_hex};
+use cap_log::buffers::{put, put_decimal, put_hex};
 
 /// Writes a line whose value is text at an index of the buffer, and answers the index behind it. Nothing
 /// else of the buffer changes.
@@ -35,6 +35,7 @@ pub fn put_hex_line(buffer: &mut [u8], at: usize, name: &[u8], digits: usize, nu
 }
 
 /// Writes a line whose value is a number in decimal, as [`put_line`] does.
+#[tactic(auto, using(crate::proofs::LineLemmas::short_decimal))]
 pub fn put_decimal_line(buffer: &mut [u8], at: usize, name: &[u8], number: u8) -> usize
     requires { at + length name.now + 22 ≤ length buffer.old }
     ensures end { result ≡ at + length name.now + length (decimal number) + 2 }

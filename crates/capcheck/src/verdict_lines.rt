@@ -4,8 +4,8 @@ ghost use Rattle.std.specs.Prelude.{◌≡◌, ◌≤◌, ◌+◌, length, take,
 ghost use Rattle.capcheck.specs.VerdictLines.{verdict_line};
 ghost use Rattle.capcheck.specs.declared.verdict.Verdict.TheVariants.{Yes, No};
 
-use crate::buffers::{put, put_decimal};
 use crate::verdict::Verdict;
+use cap_log::buffers::{put, put_decimal};
 use cap_machine::Refusal;
 
 /// Writes the line of a verdict, `yes STEPS ROOTS` or `no LINE NUMBER NAME` with its line feed, at the
@@ -22,6 +22,7 @@ pub fn verdict_text(verdict: &Verdict, buffer: &mut [u8; 64]) -> usize
     }
 }
 
+#[tactic(auto, using(crate::proofs::LineLemmas::short_decimal))]
 fn yes_text(steps: u32, roots: u32, buffer: &mut [u8; 64]) -> usize
     ensures line { take result buffer.new ≡ verdict_line (Yes steps roots) }
     ensures length { result ≡ length (verdict_line (Yes steps roots)) }
@@ -35,6 +36,7 @@ fn yes_text(steps: u32, roots: u32, buffer: &mut [u8; 64]) -> usize
     put(buffer, at, b"\n")
 }
 
+#[tactic(auto, using(crate::proofs::LineLemmas::short_decimal))]
 fn no_text(line: u64, refusal: Refusal, buffer: &mut [u8; 64]) -> usize
     ensures line { take result buffer.new ≡ verdict_line (No line refusal) }
     ensures length { result ≡ length (verdict_line (No line refusal)) }

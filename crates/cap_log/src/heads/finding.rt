@@ -5,8 +5,9 @@ ghost use Rattle.cap_log.specs.Heads.{IsHead, head_spelling};
 ghost use Rattle.cap_log.specs.Parts.{Begins, BeginsWithNone};
 ghost use Rattle.cap_log.specs.Spaceless.{head-spaceless};
 
+use crate::buffers::put;
 use crate::heads::{AccessStep, Head, NumberStep, RegisterStep};
-use crate::parts::cutting::{behind, put};
+use crate::parts::cutting::behind;
 use crate::parts::{Part, Single};
 
 impl Part for Head {

@@ -1,7 +1,7 @@
-//! Words at the front of some bytes, and bytes put into a buffer.
+//! Words at the front of some bytes.
 
-ghost use Rattle.std.specs.Prelude.{◌≡◌, ℕ, List, ◌∷◌, ◌++◌, IfNone, IfSome, ◌+◌, ◌≤◌, length};
-ghost use Rattle.cap_log.specs.Parts.{BeginsWithout, IsCutAt, Lacks, Writes};
+ghost use Rattle.std.specs.Prelude.{◌≡◌, ℕ, List, ◌∷◌, ◌++◌, IfNone, IfSome, length};
+ghost use Rattle.cap_log.specs.Parts.{BeginsWithout, IsCutAt, Lacks};
 
 /// Cuts some bytes at the first byte of a kind, or answers `None` where there is none.
 pub fn split_end(bytes: &[u8], end: u8) -> Option<(&[u8], &[u8])>
@@ -42,14 +42,4 @@ pub fn behind<'a, const N: usize>(bytes: &'a [u8], text: &[u8; N], end: u8) -> O
     }
     let (first, rest) = others.split_first()?;
     if *first == end { Some(rest) } else { None }
-}
-
-/// Puts a text into the buffer from a place on, and answers where it ends.
-pub fn put(buffer: &mut [u8], at: usize, text: &[u8]) -> usize
-    requires { at + length text.now ≤ length buffer.old }
-    ensures { Writes at text.now buffer.old buffer.new result }
-{
-    let end = at + text.len();
-    buffer[at..end].copy_from_slice(text);
-    end
 }

@@ -1,12 +1,11 @@
 //! Decimal numbers.
 
-ghost use Rattle.std.specs.Prelude.{◌≡◌, ◌↔◌, IsTrue, ◌+◌, ◌<◌, ◌≤◌, ◌^◌, length, IfSome, IfNone, decimal};
-ghost use Rattle.cap_log.specs.Parts.{Begins, BeginsWithNone, IsCount, IsEnd, IsFrom, IsFrontNumber, Writes};
+ghost use Rattle.std.specs.Prelude.{◌≡◌, ◌↔◌, IsTrue, ◌<◌, ◌≤◌, ◌^◌, IfSome, IfNone, decimal};
+ghost use Rattle.cap_log.specs.Parts.{Begins, BeginsWithNone, IsCount, IsEnd, IsFrom, IsFrontNumber};
 ghost use Rattle.cap_log.specs.Spaceless.{decimal-spaceless};
 
-use crate::parts::cutting::put;
+use crate::buffers::put_decimal;
 use crate::parts::{Part, Single};
-use itoa::Buffer;
 
 /// The most digits that a number below 2^32 has.
 const COUNT_DIGITS: usize = 10;
@@ -30,7 +29,7 @@ impl Part for Count {
     }
 
     fn write(&self, buffer: &mut [u8], at: usize) -> usize {
-        write_decimal(buffer, at, self.0)
+        put_decimal(buffer, at, u64::from(self.0))
     }
 }
 
@@ -95,13 +94,4 @@ fn front_digits(bytes: &[u8], most: usize) -> (u64, usize)
         value = value * 10 + u64::from(bytes[index] - b'0');
     }
     (value, most)
-}
-
-/// Writes a decimal number.
-pub fn write_decimal(buffer: &mut [u8], at: usize, number: u32) -> usize
-    requires { at + length (decimal number) ≤ length buffer.old }
-    ensures { Writes at (decimal number) buffer.old buffer.new result }
-{
-    let mut digits = Buffer::new();
-    put(buffer, at, digits.format(number).as_bytes())
 }

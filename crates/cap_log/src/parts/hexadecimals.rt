@@ -6,9 +6,10 @@ ghost use Rattle.cap_log.specs.Lines.{IsNumber};
 ghost use Rattle.cap_log.specs.Parts.{IsWideNumber, Reads, Writes};
 ghost use Rattle.cap_log.specs.Spaceless.{digits-spaceless, number-spaceless};
 
-use crate::parts::cutting::{put, split_fixed};
+use crate::buffers::{put, put_hex};
+use crate::parts::cutting::split_fixed;
 use crate::parts::{Part, Single};
-use cap_word::{Word, read_u64, read_word, word_text};
+use cap_word::{read_u64, read_word};
 
 /// A length, an address or a mask: sixteen hexadecimal digits.
 #[derive(Clone, Copy, Debug, PartialEq, Eq)]
@@ -52,7 +53,7 @@ impl Part for WideNumber {
     }
 
     fn write(&self, buffer: &mut [u8], at: usize) -> usize {
-        write_digits(buffer, at, self.0, 17)
+        put_hex(buffer, at, 17, self.0)
     }
 }
 
@@ -76,15 +77,5 @@ pub fn write_number(buffer: &mut [u8], at: usize, number: u64) -> usize
     requires { at + 16 ≤ length buffer.old }
     ensures { Writes at (hex_digits 16 number) buffer.old buffer.new result }
 {
-    write_digits(buffer, at, u128::from(number), 16)
-}
-
-/// Writes the last digits of a number, so many.
-pub fn write_digits(buffer: &mut [u8], at: usize, number: u128, count: usize) -> usize
-    requires few { count ≤ 32 }
-    requires room { at + count ≤ length buffer.old }
-    ensures { Writes at (hex_digits count number) buffer.old buffer.new result }
-{
-    let text = word_text(Word(number));
-    put(buffer, at, &text[32 - count..])
+    put_hex(buffer, at, 16, u128::from(number))
 }

@@ -4,7 +4,7 @@ ghost use Rattle.std.specs.Fmt.{signed_decimal};
 ghost use Rattle.cap_log.specs.Lines.{IsOffset};
 ghost use Rattle.cap_log.specs.Spaceless.{offset-spaceless};
 
-use crate::parts::cutting::put;
+use crate::buffers::put;
 use crate::parts::decimals::take_decimal;
 use crate::parts::{Part, Single};
 use itoa::Buffer;

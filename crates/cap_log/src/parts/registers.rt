@@ -5,9 +5,8 @@ ghost use Rattle.cap_log.specs.Lines.{IsPlace, IsRegister, IsTarget, place_spell
 ghost use Rattle.cap_log.specs.Parts.{Begins, BeginsWithNone, IsEnd, Writes};
 ghost use Rattle.cap_log.specs.Spaceless.{place-spaceless, register-spaceless};
 
+use crate::buffers::{put, put_decimal};
 use crate::lines::Place;
-use crate::parts::cutting::put;
-use crate::parts::decimals::write_decimal;
 use crate::parts::hexadecimals::{Number, write_number};
 use crate::parts::{Part, Single};
 
@@ -141,5 +140,5 @@ fn write_register(buffer: &mut [u8], at: usize, register: u8) -> usize
     ensures { Writes at (register_spelling register) buffer.old buffer.new result }
 {
     let next = put(buffer, at, b"c");
-    write_decimal(buffer, next, u32::from(register))
+    put_decimal(buffer, next, u64::from(register))
 }

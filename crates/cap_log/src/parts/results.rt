@@ -5,7 +5,8 @@ ghost use Rattle.cap_log.specs.Lines.{IsWordNumber};
 ghost use Rattle.cap_log.specs.Parts.{IsAny, Reads, result_spelling, tag_front};
 ghost use Rattle.cap_log.specs.Spaceless.{digits-spaceless};
 
-use crate::parts::cutting::{put, split_fixed};
+use crate::buffers::put;
+use crate::parts::cutting::split_fixed;
 use crate::parts::{Part, Single};
 use cap_word::{Cap, Word, read_word, word_text};
 

@@ -4,7 +4,8 @@ ghost use Rattle.cap_log.specs.Lines.{tag_spelling};
 ghost use Rattle.cap_log.specs.Parts.{IsAny, Reads, equals_spelling};
 ghost use Rattle.cap_log.specs.Spaceless.{equals-spaceless, tag-spaceless};
 
-use crate::parts::cutting::{put, split_fixed};
+use crate::buffers::put;
+use crate::parts::cutting::split_fixed;
 use crate::parts::{Part, Single};
 
 /// An equals sign.

@@ -5,10 +5,9 @@ ghost use Rattle.cap_word.specs.Digits.{hex_digits};
 ghost use Rattle.cap_log.specs.Lines.{IsDataSize, IsDataValue};
 ghost use Rattle.cap_log.specs.Parts.{Begins, BeginsWithNone, IsSized, Reads, loaded_spelling, stored_spelling};
 
+use crate::buffers::{put, put_decimal, put_hex};
 use crate::parts::Part;
-use crate::parts::cutting::{put, split_fixed};
-use crate::parts::decimals::write_decimal;
-use crate::parts::hexadecimals::write_digits;
+use crate::parts::cutting::split_fixed;
 use cap_word::read_u64;
 
 /// The size and the value that a load records: the size, `= ` and the value's digits.
@@ -34,13 +33,13 @@ impl Part for Loaded {
     }
 
     fn write(&self, buffer: &mut [u8], at: usize) -> usize {
-        let next = write_decimal(buffer, at, u32::from(self.size));
+        let next = put_decimal(buffer, at, u64::from(self.size));
         let digits = put(buffer, next, b" = ");
-        write_digits(
+        put_hex(
             buffer,
             digits,
-            u128::from(self.value),
             2 * usize::from(self.size),
+            u128::from(self.value),
         )
     }
 }
@@ -67,13 +66,13 @@ impl Part for Stored {
     }
 
     fn write(&self, buffer: &mut [u8], at: usize) -> usize {
-        let next = write_decimal(buffer, at, u32::from(self.size));
+        let next = put_decimal(buffer, at, u64::from(self.size));
         let digits = put(buffer, next, b" ");
-        write_digits(
+        put_hex(
             buffer,
             digits,
-            u128::from(self.value),
             2 * usize::from(self.size),
+            u128::from(self.value),
         )
     }
 }

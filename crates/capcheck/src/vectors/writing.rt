@@ -7,9 +7,9 @@ ghost use Rattle.cap_bounds.specs.Bounds.{base_of, top_of};
 ghost use Rattle.cap_bounds.specs.Rounding.{rounded_base, rounded_top, rounded_ie, rounded_exponent};
 ghost use Rattle.capcheck.specs.Vectors.{Bounds, Keeps, Round, Memory, States, flag_digit};
 
-use crate::buffers::{put, put_decimal, put_hex};
 use crate::explain_lines::memory_text;
 use cap_bounds::{Interval, Rounded, bounds, keeps_bounds, round, sound};
+use cap_log::buffers::{put, put_decimal, put_hex};
 use cap_word::Word;
 
 /// Writes what a word decodes to at the front of the buffer, and answers the line's length.
@@ -56,6 +56,7 @@ pub fn write_round(base: u64, length: u64, buffer: &mut [u8; 128]) -> usize
 }
 
 // Writes what a request is rounded to.
+#[tactic(auto, using(crate::proofs::LineLemmas::short_decimal))]
 fn put_rounded(buffer: &mut [u8; 128], at: usize, rounded: &Rounded) -> usize
     requires { at ≤ 64 }
     ensures fits { result ≤ at + 64 }

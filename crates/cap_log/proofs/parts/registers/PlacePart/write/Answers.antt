@@ -13,6 +13,4 @@ write_number-requires c =
 
 pub returns-in-Granule : goal.returns-in-Granule
 returns-in-Granule c =
-    let room = rw c.in-Granule.is at c.requires.room in
-    let ends = c.put-next.ensures.ends in
-    rw c.in-Granule.is (Writes-then _ _ _ _ _ _ _ _ c.put-next.ensures c.write_number.ensures (omega arith))
+    rw c.in-Granule.is (Writes-then _ _ _ _ _ _ _ _ c.put-next.ensures c.write_number.ensures)

@@ -1,17 +1,12 @@
-use Rattle.std.proofs.Common.{arith}
 use Rattle.cap_log.proofs.WriteLemmas.{Writes-then}
 use Rattle.cap_log.proofs.parts.results.RecordedPart.write.Goals as goal
 
 pub returns-then-self : goal.returns-then-self
 returns-then-self c =
-    let room = rw c.if-self.true at c.requires.room in
-    let ends = c.put-digits.ensures.ends in
     let word = rw c.word_text.ensures at c.put.ensures in
-    rw c.if-self.true (Writes-then _ _ _ _ _ _ _ _ c.put-digits.ensures word (omega arith))
+    rw c.if-self.true (Writes-then _ _ _ _ _ _ _ _ c.put-digits.ensures word)
 
 pub returns-else-self : goal.returns-else-self
 returns-else-self c =
-    let room = rw c.if-self.false at c.requires.room in
-    let ends = c.put-digits-else-self.ensures.ends in
     let word = rw c.word_text-else-self.ensures at c.put-else-self.ensures in
-    rw c.if-self.false (Writes-then _ _ _ _ _ _ _ _ c.put-digits-else-self.ensures word (omega arith))
+    rw c.if-self.false (Writes-then _ _ _ _ _ _ _ _ c.put-digits-else-self.ensures word)
