@@ -1,6 +1,6 @@
 //! Decimal numbers.
 
-ghost use Rattle.std.specs.Prelude.{◌≡◌, ◌↔◌, IsTrue, ◌<◌, ◌≤◌, ◌^◌, IfSome, IfNone, decimal};
+ghost use Rattle.std.specs.Prelude.{◌≡◌, ◌↔◌, IsTrue, ◌<◌, ◌≤◌, ◌^◌, IfSome, IfNone, decimal, length};
 ghost use Rattle.cap_log.specs.Parts.{Begins, BeginsWithNone, IsCount, IsEnd, IsFrom, IsFrontNumber};
 ghost use Rattle.cap_log.specs.Spaceless.{decimal-spaceless};
 
@@ -85,7 +85,29 @@ fn front_digits(bytes: &[u8], most: usize) -> (u64, usize)
     requires { most ≤ 10 }
     ensures front { IsFrontNumber most bytes.now result.0 result.1 }
 {
-    let most = bytes.len().min(most);
+    if most < bytes.len() {
+        digits_within(bytes, most)
+    } else {
+        few_digits(bytes)
+    }
+}
+
+// The same where as many bytes as digits stand there at most.
+#[inline(never)]
+fn few_digits(bytes: &[u8]) -> (u64, usize)
+    requires { length bytes.now ≤ 10 }
+    ensures front { IsFrontNumber (length bytes.now) bytes.now result.0 result.1 }
+{
+    digits_within(bytes, bytes.len())
+}
+
+// The same where so many bytes stand there.
+#[inline(always)]
+fn digits_within(bytes: &[u8], most: usize) -> (u64, usize)
+    requires few { most ≤ 10 }
+    requires inside { most ≤ length bytes.now }
+    ensures front { IsFrontNumber most bytes.now result.0 result.1 }
+{
     let mut value: u64 = 0;
     for index in 0..most {
         if !bytes[index].is_ascii_digit() {

@@ -32,7 +32,8 @@ impl Part for Offset {
 
     #[inline(always)]
     fn take(bytes: &[u8], end: u8) -> Option<(Offset, &[u8])> {
-        if let Some(digits) = bytes.strip_prefix(b"-") {
+        let (first, digits) = bytes.split_first()?;
+        if *first == b'-' {
             let (number, rest) = take_decimal(
                 digits,
                 OFFSET_DIGITS,

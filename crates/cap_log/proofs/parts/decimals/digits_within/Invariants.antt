@@ -1,6 +1,6 @@
 use Rattle.std.proofs.Common.{◌≡◌, take}
 use Rattle.std.specs.Str.Parse.{AllDigits, digits_value}
-use Rattle.cap_log.proofs.parts.decimals.front_digits.Given as goal
+use Rattle.cap_log.proofs.parts.decimals.digits_within.Given as goal
 
 -- the digits so far, and their number
 abbrev pub invariant-loop-index : goal.invariant-loop-index
