@@ -25,7 +25,8 @@ pub record IsGranted (state : State) (access : Access) : Type 0 where
   pub tag : (state access.authority).tag ≡ true
   pub allowed : IsAllowed (state access.authority).word.0 access.address access.size access.permission
 
-tag_tested : (authority : Cap) (kind : Kind) (offset : ℤ) (size : ℕ) → first_of (access_tests authority kind offset size) ≡ None → authority.tag ≡ true
+tag_tested : (authority : Cap) (kind : Kind) (offset : ℤ) (size : ℕ) → first_of (access_tests authority kind offset size) ≡ None
+    → authority.tag ≡ true
 unfolding access_tests
 tag_tested authority kind offset size free = not-false authority.tag (none_hold (access_tests authority kind offset size) free).0
 
@@ -37,15 +38,18 @@ granted_to state register kind offset bytes access free is =
     subst (IsGranted state) (same_Some _ access is)
     (record { tag = tag_tested (state register) kind offset bytes free; allowed = IsAllowed-access (state register) kind offset bytes free })
 
-pub granted : (state : State) (step : Step) (access : Access) → first_of (row_of state step).tests ≡ None → (row_of state step).access ≡ Some access → IsGranted state access
+pub granted : (state : State) (step : Step) (access : Access) → first_of (row_of state step).tests ≡ None
+    → (row_of state step).access ≡ Some access → IsGranted state access
 granted state (LoadCap target register offset result) access free is = granted_to state register kinds.LoadCap offset 16 access free is
-granted state (StoreCap source register offset) access free is = granted_to state register (kinds.StoreCap (state source)) offset 16 access free is
+granted state (StoreCap source register offset) access free is =
+    granted_to state register (kinds.StoreCap (state source)) offset 16 access free is
 granted state (Load register offset bytes value) access free is = granted_to state register kinds.LoadData offset bytes access free is
 granted state (Store register offset bytes value) access free is = granted_to state register kinds.StoreData offset bytes access free is
 granted state step access free is = absurd (none-some access is)
 
 -- the step at a moment of a run leads from the state there
-pub leads_at : (rules : Rules) (state : State) (steps : List Step) (states : List State) (moment : ℕ) (step : Step) → IsRun rules state steps states → slice_get steps moment ≡ Some step
+pub leads_at : (rules : Rules) (state : State) (steps : List Step) (states : List State) (moment : ℕ) (step : Step)
+    → IsRun rules state steps states → slice_get steps moment ≡ Some step
     → first_of (row_by rules (row_of (state_at state states moment) step)).tests ≡ None
 leads_at rules state [] states moment step run is = absurd (none-some step is)
 leads_at rules state (first ∷ steps) [] moment step run is = absurd run
@@ -59,7 +63,8 @@ in_range (first ∷ steps) zero step is = omega arith
 in_range (first ∷ steps) (suc moment) step is = let h = in_range steps moment step is in omega arith
 
 -- each access lies inside its root
-pub lie_inside : (rules : Rules) (roots : List DeclaredRoot) (steps : List Step) (states : List State) → AreSound roots → AllByRecursion IsStepInRange steps → IsRun rules (start roots) steps states
+pub lie_inside : (rules : Rules) (roots : List DeclaredRoot) (steps : List Step) (states : List State) → AreSound roots
+    → AllByRecursion IsStepInRange steps → IsRun rules (start roots) steps states
     → AccessesLieInside roots steps states
 lie_inside rules roots steps states sound ranges run moment step access at is =
     let state = state_at (start roots) states moment in

@@ -11,7 +11,9 @@ use Rattle.cap_ops.specs.Tests.{first_of}
 use Rattle.cap_ops.proofs.TestLemmas.{NoneHold}
 use Rattle.cap_machine.specs.States.{State, DeclaredRoot, key_of}
 use Rattle.cap_machine.specs.Steps.{Leads, is_recorded}
-use Rattle.cap_machine.specs.Accounts.{Account, no_account, most_roots, most_granules, most_steps, granule_of, named_by, row_in, passes_granule_limit, naming, with_root, with_step, root_tests, step_tests}
+use Rattle.cap_machine.specs.Accounts.{Account, no_account, most_roots, most_granules, most_steps, granule_of, named_by}
+use Rattle.cap_machine.specs.Accounts.{row_in, passes_granule_limit, naming, with_root, with_step, root_tests}
+use Rattle.cap_machine.specs.Accounts.{step_tests}
 use Rattle.cap_machine.specs.declared.rules.Rules.{Rules}
 use Rattle.cap_machine.specs.RunAccounts.{after_roots, after_steps, account_after}
 use Rattle.cap_machine.proofs.MadeLemmas.{first_mapped-none, ending}

@@ -1,5 +1,6 @@
 -- Codes of origins: what they are after each kind of change, and which origins they make.
-use Rattle.std.proofs.Common.{◌≡◌, ℕ, ◌+◌, ◌-◌, ◌^◌, ◌<◌, ◌≤◌, Bool, true, false, ◌==◌, nat_lt, get_or, List, length, refl, sym, ap, subst, ◌∙◌, arith, lit<, Option, Some, None, option_map, IfSome, inl, inr}
+use Rattle.std.proofs.Common.{◌≡◌, ℕ, ◌+◌, ◌-◌, ◌^◌, ◌<◌, ◌≤◌, Bool, true, false, ◌==◌, nat_lt, get_or, List, length}
+use Rattle.std.proofs.Common.{refl, sym, ap, subst, ◌∙◌, arith, lit<, Option, Some, None, option_map, IfSome, inl, inr}
 use Rattle.std.specs.Bool.{if◌then◌else◌}
 use Rattle.std.proofs.Math.ListN.{set}
 use Rattle.std.proofs.Math.Path.{fun_ext}
@@ -50,7 +51,8 @@ place_in_range code below =
     ]
 
 -- the code of a result whose parent has this one
-pub coded_from : (tag parent_tag : Bool) (code : ℕ) → (tag ≡ true → parent_tag ≡ true) → IsCoded parent_tag code → IsCoded tag (code_for tag code)
+pub coded_from : (tag parent_tag : Bool) (code : ℕ) → (tag ≡ true → parent_tag ≡ true) → IsCoded parent_tag code
+    → IsCoded tag (code_for tag code)
 coded_from true parent_tag code from coded = subst (λ (b : Bool). IsCoded b code) (from refl) coded
 coded_from false parent_tag code from coded = ((λ _. refl, λ _. refl), lit< tt)
 
@@ -64,15 +66,19 @@ code_for-twice false code = refl
 
 -- a root's own code
 pub root_coded : (place : Place) → IsPlace place → IsCoded true (key_of place)
-root_coded (Register n) range = ((λ e. absurd (let f : n ≡ 0 = e in omega (arith, range.0)), λ e. absurd (false≢true (sym e))), omega (arith, range.1))
-root_coded (Granule g) range = ((λ e. absurd (let f : g + 32 ≡ 0 = e in omega arith), λ e. absurd (false≢true (sym e))), let f : g < 2 ^ 60 = range in omega arith)
+root_coded (Register n) range =
+    ((λ e. absurd (let f : n ≡ 0 = e in omega (arith, range.0)), λ e. absurd (false≢true (sym e))), omega (arith, range.1))
+root_coded (Granule g) range =
+    ((λ e. absurd (let f : g + 32 ≡ 0 = e in omega arith), λ e. absurd (false≢true (sym e))), let f : g < 2 ^ 60 = range in omega arith)
 
 -- NULL without a tag everywhere
-pub coded_blank : (state : State) (codes : ℕ → ℕ) → ((key : ℕ) → state key ≡ untagged_null) → ((key : ℕ) → codes key ≡ 0) → AreCoded state codes
+pub coded_blank : (state : State) (codes : ℕ → ℕ) → ((key : ℕ) → state key ≡ untagged_null) → ((key : ℕ) → codes key ≡ 0)
+    → AreCoded state codes
 coded_blank state codes null none key =
     subst (λ (cap : Cap). IsCoded cap.tag (codes key)) (sym (null key)) (subst (IsCoded false) (sym (none key)) ((λ _. refl, λ _. refl), lit< tt))
 
-coded_choice : (b : Bool) (x y : Cap) (m n : ℕ) → IsCoded x.tag m → IsCoded y.tag n → let cap : Cap = if b then x else y in IsCoded cap.tag (if b then m else n)
+coded_choice : (b : Bool) (x y : Cap) (m n : ℕ) → IsCoded x.tag m → IsCoded y.tag n
+    → let cap : Cap = if b then x else y in IsCoded cap.tag (if b then m else n)
 coded_choice true x y m n h k = h
 coded_choice false x y m n h k = k
 
@@ -81,7 +87,8 @@ coded_put : (state : State) (codes : ℕ → ℕ) (key : ℕ) (cap : Cap) (code 
 coded_put state codes key cap code all one other = coded_choice (key == other) cap (state other) code (codes other) one (all other)
 
 -- a register that holds another capability, with its code
-pub coded_register : (registers : List Cap) (codes : List ℕ) (memory : Granules) (target : ℕ) (cap : Cap) (code : ℕ) → length registers ≡ 32 → length codes ≡ 32 → target ≤ 31
+pub coded_register : (registers : List Cap) (codes : List ℕ) (memory : Granules) (target : ℕ) (cap : Cap) (code : ℕ) → length registers ≡ 32
+    → length codes ≡ 32 → target ≤ 31
     → AreCoded (places_of registers memory) (codes_of codes memory) → IsCoded cap.tag code
     → AreCoded (places_of (set registers target cap) memory) (codes_of (set codes target code) memory)
 coded_register registers codes memory target cap code sized coded_so low all one =
@@ -118,7 +125,8 @@ abbrev pub IsFrom : Held → Step → Cap → ℕ → Type 0
 IsFrom held step value code =
     value.tag ≡ true → origin_at (origins_by (code_in held)) (option_map key_of (row_of (state_of held) step).parent) ≡ place_at code
 
-origin_of_result : (origins : Origins) (parent : Option Place) (tag : Bool) (code : ℕ) → (tag ≡ true → origin_at origins (option_map key_of parent) ≡ place_at code)
+origin_of_result : (origins : Origins) (parent : Option Place) (tag : Bool) (code : ℕ)
+    → (tag ≡ true → origin_at origins (option_map key_of parent) ≡ place_at code)
     → place_at (code_for tag code) ≡ origin_at origins (if tag then option_map key_of parent else None)
 origin_of_result origins parent true code from = sym (from refl)
 origin_of_result origins parent false code from = refl
@@ -131,7 +139,8 @@ origin_there origins parent true value other key code from = origin_of_result or
 origin_there origins parent false value other key code from = refl
 
 -- what a step writes has the origin of its parent, and every other place keeps its own
-pub origin-written : (old : Held) (step : Step) (place : Place) (value : Cap) (code : ℕ) → (row_in (account_of old) step).writes ≡ Some (place, value)
+pub origin-written : (old : Held) (step : Step) (place : Place) (value : Cap) (code : ℕ)
+    → (row_in (account_of old) step).writes ≡ Some (place, value)
     → IsFrom old step value code
     → put (origins_by (code_in old)) (key_of place) (place_at (code_for value.tag code))
     ≡ origins_after (origins_by (code_in old)) (state_of old) step (state_with (state_of old) (row_in (account_of old) step).writes)

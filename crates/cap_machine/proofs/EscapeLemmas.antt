@@ -1,11 +1,13 @@
 -- A step that sets bounds is refused for them exactly where the requested ones do not lie inside its source's.
-use Rattle.std.proofs.Common.{◌≡◌, ◌≢◌, ◌↔◌, ℕ, ℤ, ◌^◌, ◌<◌, Bool, true, false, List, [], ◌∷◌, Option, if◌then◌else◌, refl, sym, ap, ◌∙◌, Some, None, Result, Ok, Err, OnOk}
+use Rattle.std.proofs.Common.{◌≡◌, ◌≢◌, ◌↔◌, ℕ, ℤ, ◌^◌, ◌<◌, Bool, true, false, List, [], ◌∷◌, Option, if◌then◌else◌}
+use Rattle.std.proofs.Common.{refl, sym, ap, ◌∙◌, Some, None, Result, Ok, Err, OnOk}
 use Rattle.std.proofs.lemmas.Bool.{eq-eqb}
 use Rattle.std.proofs.lemmas.Option.{none-some, same_Some}
 use Rattle.cap_word.specs.declared.word.Cap.{Cap}
 use Rattle.cap_bounds.specs.Bounds.{IsSound}
 use Rattle.cap_log.specs.declared.lines.Step.{Step}
-use Rattle.cap_log.specs.declared.lines.Step.TheVariants.{Move, ClearTag, SetBounds, SetBoundsExact, SetAddr, AndPerm, Seal, Unseal, LoadCap, StoreCap, Load, Store}
+use Rattle.cap_log.specs.declared.lines.Step.TheVariants.{Move, ClearTag, SetBounds, SetBoundsExact, SetAddr, AndPerm}
+use Rattle.cap_log.specs.declared.lines.Step.TheVariants.{Seal, Unseal, LoadCap, StoreCap, Load, Store}
 use Rattle.cap_log.specs.Lines.{IsStepInRange}
 use Rattle.cap_ops.specs.declared.faults.OpFault.{OpFault}
 use Rattle.cap_ops.specs.declared.faults.OpFault.TheVariants as faults
@@ -14,7 +16,8 @@ use Rattle.cap_ops.specs.declared.kinds.Kind.{Kind}
 use Rattle.cap_ops.specs.declared.kinds.Kind.TheVariants.{LoadData, StoreData}
 use Rattle.cap_ops.specs.declared.kinds.Kind.TheVariants.{LoadCap as LoadCapability, StoreCap as StoreCapability}
 use Rattle.cap_ops.specs.Accesses.{access_tests}
-use Rattle.cap_ops.specs.Operations.{clear_result, set_bounds_tests, set_bounds_result, set_addr_tests, and_perm_tests, seal_tests, unseal_tests}
+use Rattle.cap_ops.specs.Operations.{clear_result, set_bounds_tests, set_bounds_result, set_addr_tests, and_perm_tests}
+use Rattle.cap_ops.specs.Operations.{seal_tests, unseal_tests}
 use Rattle.cap_ops.proofs.ClearLemmas.{untagged_where_beyond}
 use Rattle.cap_ops.specs.Permissions.{is_sealed}
 use Rattle.cap_ops.proofs.TestLemmas.{EndsWith}
@@ -42,16 +45,20 @@ ended tests cap =
       | Some fault ↦ λ is. (Err fault, is)
     ] refl
 
-at_fault : (result : Result Cap OpFault) (tests : List (Bool × OpFault)) (cap : Cap) (fault : OpFault) → EndsWith result tests cap → first_of tests ≡ Some fault → result ≡ Err fault
+at_fault : (result : Result Cap OpFault) (tests : List (Bool × OpFault)) (cap : Cap) (fault : OpFault) → EndsWith result tests cap
+    → first_of tests ≡ Some fault → result ≡ Err fault
 at_fault (Ok made) tests cap fault ends h = let none = ends.0 in cc
-at_fault (Err found) tests cap fault ends h = ap (λ (f : OpFault). let r : Result Cap OpFault = Err f in r) (same_Some found fault (sym ends ∙ h))
+at_fault (Err found) tests cap fault ends h =
+    ap (λ (f : OpFault). let r : Result Cap OpFault = Err f in r) (same_Some found fault (sym ends ∙ h))
 
-fault_at : (result : Result Cap OpFault) (tests : List (Bool × OpFault)) (cap : Cap) (fault : OpFault) → EndsWith result tests cap → result ≡ Err fault → first_of tests ≡ Some fault
+fault_at : (result : Result Cap OpFault) (tests : List (Bool × OpFault)) (cap : Cap) (fault : OpFault) → EndsWith result tests cap
+    → result ≡ Err fault → first_of tests ≡ Some fault
 fault_at (Ok made) tests cap fault ends h = cc
 fault_at (Err found) tests cap fault ends h = cc
 
 -- the first test of new bounds that holds
-escapes : (source : Cap) (length : ℕ) (exact : Bool) → length < 2 ^ 64 → source.tag ≡ true → is_sealed source.word.0 ≡ false → IsSound source.word.0
+escapes : (source : Cap) (length : ℕ) (exact : Bool) → length < 2 ^ 64 → source.tag ≡ true → is_sealed source.word.0 ≡ false
+    → IsSound source.word.0
     → (first_of (set_bounds_tests source length exact) ≡ Some faults.BoundsEscape) ↔ (HasRoomFor source length → ⊥)
 escapes source length exact fits tagged unsealed sound =
     let tests = set_bounds_tests source length exact in
@@ -94,7 +101,8 @@ first_escapes account step h =
       | Some fault ↦ λ is. is ∙ ap (λ (f : OpFault). Some f) (only_escape fault (same_Some _ _ (sym (first_mapped-some tests _ fault is) ∙ h)))
     ] refl
 
-answers : (old new : Held) (step : Step) (result : Result (Unit {0}) StepEnd) → EndsIn old step result new → result ≡ Err (Refused BoundsEscape)
+answers : (old new : Held) (step : Step) (result : Result (Unit {0}) StepEnd) → EndsIn old step result new
+    → result ≡ Err (Refused BoundsEscape)
     → first_of (step_tests (account_of old) step) ≡ Some BoundsEscape
 answers old new step (Ok done) ends h = cc
 answers old new step (Err (Refused refusal)) ends h = let found = ends.0 in cc
@@ -107,7 +115,8 @@ answered old new step (Err (Refused refusal)) ends h = let found = ends.0 in cc
 answered old new step (Err NoMemory) ends h = let free = ends.0 in cc
 
 -- the same by any rules
-escapes_by : (rules : Rules) (source : Cap) (length : ℕ) (exact : Bool) → length < 2 ^ 64 → source.tag ≡ true → is_sealed source.word.0 ≡ false → IsSound source.word.0
+escapes_by : (rules : Rules) (source : Cap) (length : ℕ) (exact : Bool) → length < 2 ^ 64 → source.tag ≡ true
+    → is_sealed source.word.0 ≡ false → IsSound source.word.0
     → (first_of (tests_by rules (set_bounds_tests source length exact)) ≡ Some faults.BoundsEscape) ↔ ((rules ≢ TwoClear) × (HasRoomFor source length → ⊥))
 escapes_by One source length exact fits held unsealed sound =
     let both = escapes source length exact fits held unsealed sound in (λ h. (λ e. cc, both.0 h), λ p. both.1 p.1)
@@ -117,7 +126,8 @@ escapes_by TwoClear source length exact fits held unsealed sound = (λ h. cc, λ
 
 -- what a step that sets bounds asks for
 asks : (rules : Rules) (state : State) (source length : ℕ) (exact : Bool) → length < 2 ^ 64 → IsSoundState state
-    → first_of (tests_by rules (set_bounds_tests (state source) length exact)) ≡ Some faults.BoundsEscape → (rules ≢ TwoClear) × AsksBeyond state (Some (source, length))
+    → first_of (tests_by rules (set_bounds_tests (state source) length exact)) ≡ Some faults.BoundsEscape
+    → (rules ≢ TwoClear) × AsksBeyond state (Some (source, length))
 asks TwoClear state source length exact fits sound h = cc
 asks One state source length exact fits sound h =
     let is = BoundsEscape-source (state source) length exact h in
@@ -127,7 +137,8 @@ asks TwoStrict state source length exact fits sound h =
     ((λ e. cc), (is.0, is.1, (escapes (state source) length exact fits is.0 is.1 (sound source is.0)).0 h))
 
 narrowed : (account : Account) (step : Step) (source length : ℕ) (exact : Bool)
-    → (row_in account step).tests ≡ tests_by account.rules (set_bounds_tests (account.state source) length exact) → length < 2 ^ 64 → IsSoundState account.state
+    → (row_in account step).tests ≡ tests_by account.rules (set_bounds_tests (account.state source) length exact) → length < 2 ^ 64
+    → IsSoundState account.state
     → (first_of (step_tests account step) ≡ Some BoundsEscape) ↔ ((account.rules ≢ TwoClear) × AsksBeyond account.state (Some (source, length)))
 narrowed account step source length exact same fits sound = (
   λ h. asks account.rules account.state source length exact fits sound (sym (ap first_of same) ∙ first_escapes account step h),
@@ -212,7 +223,8 @@ escapes_first account (Load authority offset size value) range sound = never acc
 escapes_first account (Store authority offset size value) range sound = never account (Store authority offset size value) refl
 
 -- a step's answer for its bounds
-pub escape_exact : (old new : Held) (step : Step) (result : Result (Unit {0}) StepEnd) → IsStepInRange step → IsSoundState (state_of old) → EndsIn old step result new
+pub escape_exact : (old new : Held) (step : Step) (result : Result (Unit {0}) StepEnd) → IsStepInRange step → IsSoundState (state_of old)
+    → EndsIn old step result new
     → (result ≡ Err (Refused BoundsEscape)) ↔ Escapes old.rules (state_of old) step
 escape_exact old new step result range sound ends =
     let both = escapes_first (account_of old) step range sound in
@@ -223,7 +235,8 @@ put_there state key cap = ap (λ (b : Bool). if b then cap else state key) (eq-e
 
 -- the tag of new bounds in clear mode
 clears_by : (old : Held) (target source length : ℕ) (recorded : Cap) (new : State) → length < 2 ^ 64 → IsSoundState (state_of old)
-    → Leads old.rules (state_of old) (SetBounds target source length recorded) new → ClearsBeyond old.rules (state_of old) (SetBounds target source length recorded) new
+    → Leads old.rules (state_of old) (SetBounds target source length recorded) new
+    → ClearsBeyond old.rules (state_of old) (SetBounds target source length recorded) new
 clears_by old target source length recorded new fits sound leads mode held unsealed =
     let state = state_of old in
     let row = row_of state (SetBounds target source length recorded) in
@@ -232,7 +245,8 @@ clears_by old target source length recorded new fits sound leads mode held unsea
     let is : new target ≡ made = ap (λ (s : State). s target) after ∙ put_there state target made in
     untagged_where_beyond (state source) length false (new target) fits is refl held unsealed (sound source held)
 
-pub clears_exactly : (old new : Held) (step : Step) (result : Result (Unit {0}) StepEnd) → IsStepInRange step → IsSoundState (state_of old) → EndsIn old step result new
+pub clears_exactly : (old new : Held) (step : Step) (result : Result (Unit {0}) StepEnd) → IsStepInRange step → IsSoundState (state_of old)
+    → EndsIn old step result new
     → OnOk result (ClearsBeyond old.rules (state_of old) step (state_of new))
 clears_exactly old new (SetBounds target source length recorded) (Ok done) range sound ends =
     clears_by old target source length recorded (state_of new) range.2 sound ends.leads
@@ -250,7 +264,8 @@ clears_exactly old new (Store authority offset size value) (Ok done) range sound
 clears_exactly old new step (Err end) range sound ends = tt
 
 -- what a step that is made leaves of authority
-pub step_within : (old new : Held) (step : Step) (result : Result (Unit {0}) StepEnd) → IsStepInRange step → IsSoundState (state_of old) → EndsIn old step result new
+pub step_within : (old new : Held) (step : Step) (result : Result (Unit {0}) StepEnd) → IsStepInRange step → IsSoundState (state_of old)
+    → EndsIn old step result new
     → OnOk result (StaysWithinParents (state_of old) step (state_of new))
 step_within old new step (Ok done) range sound ends = λ key held. one_back old.rules (state_of old) step (state_of new) key range sound ends.leads held
 step_within old new step (Err end) range sound ends = tt

@@ -1,5 +1,7 @@
 -- A machine after a step was made, or refused.
-use Rattle.std.proofs.Common.{◌≡◌, ℕ, ℤ, zero, suc, ◌+◌, ◌*◌, ◌/◌, ◌%◌, ◌^◌, ◌<◌, ◌≤◌, Bool, true, false, not, ◌||◌, nat_le, List, [], ◌∷◌, ◌++◌, map, length, get_or, refl, sym, ap, subst, ◌∙◌, arith, lit<, inl, inr, nat_lt, ◌-◌, Some, None, Option, option_map, Result, Ok, Err, MatchResult, All}
+use Rattle.std.proofs.Common.{◌≡◌, ℕ, ℤ, zero, suc, ◌+◌, ◌*◌, ◌/◌, ◌%◌, ◌^◌, ◌<◌, ◌≤◌, Bool, true, false, not, ◌||◌}
+use Rattle.std.proofs.Common.{nat_le, List, [], ◌∷◌, ◌++◌, map, length, get_or, refl, sym, ap, subst, ◌∙◌, arith, lit<}
+use Rattle.std.proofs.Common.{inl, inr, nat_lt, ◌-◌, Some, None, Option, option_map, Result, Ok, Err, MatchResult, All}
 use Rattle.std.specs.Bool.{if◌then◌else◌}
 use Rattle.std.specs.FinMap as fin
 use Rattle.std.specs.Prelude.{FitsSigned}
@@ -31,17 +33,21 @@ use Rattle.cap_machine.specs.declared.ends.StepEnd.{StepEnd}
 use Rattle.cap_machine.specs.declared.ends.StepEnd.TheVariants.{Refused, NoMemory}
 use Rattle.cap_machine.specs.Refusals.{refusal_of}
 use Rattle.cap_machine.specs.States.{State, untagged_null, granule_key, key_of, put, value_at}
-use Rattle.cap_machine.specs.Steps.{Access, Row, row_of, row_by, operation, is_recorded, is_same_cap, state_with, address_through, granule_through, with_value}
+use Rattle.cap_machine.specs.Steps.{Access, Row, row_of, row_by, operation, is_recorded, is_same_cap, state_with}
+use Rattle.cap_machine.specs.Steps.{address_through, granule_through, with_value}
 use Rattle.cap_machine.specs.declared.rules.Rules.{Rules}
 use Rattle.cap_machine.specs.declared.rules.Rules.TheVariants.{One, TwoStrict, TwoClear}
-use Rattle.cap_machine.specs.Accounts.{Account, as_line_test, step_tests, named_by, row_in, naming, is_new, passes_granule_limit, most_steps}
+use Rattle.cap_machine.specs.Accounts.{Account, as_line_test, step_tests, named_by, row_in, naming, is_new}
+use Rattle.cap_machine.specs.Accounts.{passes_granule_limit, most_steps}
 use Rattle.cap_machine.specs.Origins.{Origins, origin_at, origins_after}
 use Rattle.cap_machine.specs.Places.{IsCoded, codes_of, place_at}
 use Rattle.cap_machine.specs.Helds.{Held, Makes, EndsBy, EndsStep, state_of, code_in, account_of, tests_by, value_by, granule_cap}
-use Rattle.cap_machine.specs.Changes.{Derives, EndsAccess, EndsPut, IsOperation, IsSource, code_for, last_tests, is_past_limits, result_in, with_register, with_cap_put, with_value_put}
+use Rattle.cap_machine.specs.Changes.{Derives, EndsAccess, EndsPut, IsOperation, IsSource, code_for, last_tests}
+use Rattle.cap_machine.specs.Changes.{is_past_limits, result_in, with_register, with_cap_put, with_value_put}
 use Rattle.cap_machine.specs.Values.{number_at}
 use Rattle.cap_machine.proofs.GranuleLemmas.{cap_of}
-use Rattle.cap_machine.proofs.StateLemmas.{account_with, state-register, state-granule, codes-register, codes-granule, named-put, named_in, also_named}
+use Rattle.cap_machine.proofs.StateLemmas.{account_with, state-register, state-granule, codes-register, codes-granule}
+use Rattle.cap_machine.proofs.StateLemmas.{named-put, named_in, also_named}
 use Rattle.cap_machine.proofs.CodeLemmas.{IsFrom, code-register, code_for-coded, origins_by, origins-put, origin-written}
 use Rattle.cap_machine.proofs.StepLemmas.{WritesWithin, row_by-access, writes_within_by}
 
@@ -49,7 +55,8 @@ use Rattle.cap_machine.proofs.StepLemmas.{WritesWithin, row_by-access, writes_wi
 pub first_mapped-some : (tests : List (Bool × OpFault)) (rest : List (Bool × Refusal)) (fault : OpFault) → first_of tests ≡ Some fault
     → first_of (map as_line_test tests ++ rest) ≡ Some (refusal_of fault)
 first_mapped-some [] rest fault h = absurd (none-some fault h)
-first_mapped-some ((true, found) ∷ tests) rest fault h = ap (λ (o : Option OpFault). elim o as (λ _. Option Refusal) [ None ↦ None | Some f ↦ Some (refusal_of f) ]) h
+first_mapped-some ((true, found) ∷ tests) rest fault h =
+    ap (λ (o : Option OpFault). elim o as (λ _. Option Refusal) [ None ↦ None | Some f ↦ Some (refusal_of f) ]) h
 first_mapped-some ((false, found) ∷ tests) rest fault h = first_mapped-some tests rest fault h
 
 pub first_mapped-none : (tests : List (Bool × OpFault)) (rest : List (Bool × Refusal)) → first_of tests ≡ None
@@ -59,7 +66,8 @@ first_mapped-none ((true, found) ∷ tests) rest h = absurd (none-some found (sy
 first_mapped-none ((false, found) ∷ tests) rest h = first_mapped-none tests rest h
 
 -- the row of an access
-same_row : (old : Held) (step : Step) (access : Access) → (row_of (state_of old) step).access ≡ Some access → row_in (account_of old) step ≡ row_of (state_of old) step
+same_row : (old : Held) (step : Step) (access : Access) → (row_of (state_of old) step).access ≡ Some access
+    → row_in (account_of old) step ≡ row_of (state_of old) step
 same_row old step access is = row_by-access old.rules (row_of (state_of old) step) access is
 
 -- the last two tests
@@ -78,7 +86,8 @@ step_tests-free : (old : Held) (step : Step) → first_of (row_in (account_of ol
 step_tests-free old step free = first_mapped-none ((row_in (account_of old) step).tests) _ free
 
 -- a step that names no granule
-tail_unnamed : (old : Held) (step : Step) (recorded : Bool) → named_by (row_in (account_of old) step) ≡ None → is_recorded (row_in (account_of old) step) ≡ recorded
+tail_unnamed : (old : Held) (step : Step) (recorded : Bool) → named_by (row_in (account_of old) step) ≡ None
+    → is_recorded (row_in (account_of old) step) ≡ recorded
     → first_of (ending (is_recorded (row_in (account_of old) step)) (nat_le most_steps old.steps || passes_granule_limit (account_of old) (named_by (row_in (account_of old) step))))
     ≡ first_of (last_tests old recorded)
 tail_unnamed old step recorded named same =
@@ -87,7 +96,8 @@ tail_unnamed old step recorded named same =
     ∙ ap (λ (b : Bool). first_of (ending recorded b)) (or-false (nat_le most_steps old.steps))
 
 -- a step that names a granule and records nothing
-tail_named : (old : Held) (step : Step) (granule : ℕ) (past : Bool) → named_by (row_in (account_of old) step) ≡ Some granule → is_recorded (row_in (account_of old) step) ≡ true
+tail_named : (old : Held) (step : Step) (granule : ℕ) (past : Bool) → named_by (row_in (account_of old) step) ≡ Some granule
+    → is_recorded (row_in (account_of old) step) ≡ true
     → is_past_limits old granule ≡ past
     → first_of (ending (is_recorded (row_in (account_of old) step)) (nat_le most_steps old.steps || passes_granule_limit (account_of old) (named_by (row_in (account_of old) step))))
     ≡ (if past then Some LimitPassed else None)
@@ -105,8 +115,10 @@ stepped_on old step granule =
 
 -- a step that writes a register
 made : (old : Held) (step : Step) (target : ℕ) (value recorded : Cap) (code : ℕ) → named_by (row_in (account_of old) step) ≡ None
-    → (row_in (account_of old) step).writes ≡ Some (Register target, value) → is_recorded (row_in (account_of old) step) ≡ is_same_cap recorded value
-    → length old.registers ≡ 32 → length old.codes ≡ 32 → target ≤ 31 → first_of (row_in (account_of old) step).tests ≡ None → IsFrom old step value code
+    → (row_in (account_of old) step).writes ≡ Some (Register target, value)
+    → is_recorded (row_in (account_of old) step) ≡ is_same_cap recorded value
+    → length old.registers ≡ 32 → length old.codes ≡ 32 → target ≤ 31 → first_of (row_in (account_of old) step).tests ≡ None
+    → IsFrom old step value code
     → first_of (last_tests old (is_same_cap recorded value)) ≡ None → Makes old step (with_register old target value code)
 made old step target value recorded code named writes same sized coded_so low free from last =
     let next = state_with (state_of old) (row_in (account_of old) step).writes in
@@ -123,9 +135,11 @@ made old step target value recorded code named writes same sized coded_so low fr
           ∙ sym (ap (stepped_on old step) named);
     }
 
-refused : (old new : Held) (step : Step) (recorded : Bool) (end : StepEnd) → named_by (row_in (account_of old) step) ≡ None → is_recorded (row_in (account_of old) step) ≡ recorded
+refused : (old new : Held) (step : Step) (recorded : Bool) (end : StepEnd) → named_by (row_in (account_of old) step) ≡ None
+    → is_recorded (row_in (account_of old) step) ≡ recorded
     → first_of (row_in (account_of old) step).tests ≡ None → EndsAccess old (last_tests old recorded) end new → EndsStep old step end new
-refused old new step recorded (Refused refusal) named same free end = (step_tests-free old step free ∙ tail_unnamed old step recorded named same ∙ end.0, end.1)
+refused old new step recorded (Refused refusal) named same free end =
+    (step_tests-free old step free ∙ tail_unnamed old step recorded named same ∙ end.0, end.1)
 refused old new step recorded NoMemory named same free end = absurd end
 
 -- what the end of a step that writes a register answers
@@ -141,8 +155,10 @@ EndsIn old step result new = MatchResult result (λ _. Makes old step new) (λ e
 -- a step that writes a register, from its end's answer to its own
 pub finished : (old new : Held) (step : Step) (target : ℕ) (derived recorded : Cap) (code : ℕ) (result : Result (Unit {0}) StepEnd)
     → named_by (row_in (account_of old) step) ≡ None → (row_in (account_of old) step).writes ≡ Some (Register target, derived)
-    → is_recorded (row_in (account_of old) step) ≡ is_same_cap recorded derived → length old.registers ≡ 32 → length old.codes ≡ 32 → target ≤ 31
-    → first_of (row_in (account_of old) step).tests ≡ None → IsFrom old step derived code → Finishes old target derived recorded code result new → EndsIn old step result new
+    → is_recorded (row_in (account_of old) step) ≡ is_same_cap recorded derived → length old.registers ≡ 32 → length old.codes ≡ 32
+    → target ≤ 31
+    → first_of (row_in (account_of old) step).tests ≡ None → IsFrom old step derived code
+    → Finishes old target derived recorded code result new → EndsIn old step result new
 finished old new step target derived recorded code (Ok done) named writes same sized coded_so low free from ends =
     subst (λ (h : Held). Makes old step h) (sym ends.1) (made old step target derived recorded code named writes same sized coded_so low free from ends.0)
 finished old new step target derived recorded code (Err end) named writes same sized coded_so low free from ends =
@@ -174,16 +190,19 @@ operation_row old step target recorded is =
     ap (row_by old.rules) is.1 ∙ row_by-operation old.rules target is.0 recorded row.tests (result_in row.writes)
 
 -- it has no access
-pub unaccessed : (state : State) (step : Step) (target : ℕ) (recorded : Cap) → IsOperation state step target recorded → (row_of state step).access ≡ None
+pub unaccessed : (state : State) (step : Step) (target : ℕ) (recorded : Cap) → IsOperation state step target recorded
+    → (row_of state step).access ≡ None
 unaccessed state step target recorded is = ap (λ (r : Row). r.access) is.1
 
 -- its result comes from its source
-from_source : (old : Held) (step : Step) (source : ℕ) (derived : Cap) → IsSource (state_of old) step source → IsFrom old step derived (get_or old.codes source 0)
+from_source : (old : Held) (step : Step) (source : ℕ) (derived : Cap) → IsSource (state_of old) step source
+    → IsFrom old step derived (get_or old.codes source 0)
 from_source old step source derived is held =
     ap (λ (o : Option Place). origin_at (origins_by (code_in old)) (option_map key_of o)) is.1 ∙ ap place_at (code-register old source is.0)
 
 -- and stays within it
-pub source_within : (old : Held) (step : Step) (target source : ℕ) (recorded derived : Cap) → IsStepInRange step → IsOperation (state_of old) step target recorded
+pub source_within : (old : Held) (step : Step) (target source : ℕ) (recorded derived : Cap) → IsStepInRange step
+    → IsOperation (state_of old) step target recorded
     → IsSource (state_of old) step source → Derives old step (Ok derived) → StaysWithin derived (state_of old source)
 source_within old step target source recorded derived range is from derives =
     let row = operation_row old step target recorded is in
@@ -195,7 +214,8 @@ source_within old step target source recorded derived range is from derives =
 -- an operation, from its end's answer to the step's
 pub operated : (old new : Held) (step : Step) (target source : ℕ) (recorded derived : Cap) (result : Result (Unit {0}) StepEnd)
     → IsOperation (state_of old) step target recorded → length old.registers ≡ 32 → length old.codes ≡ 32 → target ≤ 31
-    → IsSource (state_of old) step source → Derives old step (Ok derived) → Finishes old target derived recorded (get_or old.codes source 0) result new → EndsIn old step result new
+    → IsSource (state_of old) step source → Derives old step (Ok derived)
+    → Finishes old target derived recorded (get_or old.codes source 0) result new → EndsIn old step result new
 operated old new step target source recorded derived result is sized coded_so low from derives ends =
     let row = operation_row old step target recorded is in
     finished old new step target derived recorded (get_or old.codes source 0) result
@@ -205,15 +225,19 @@ operated old new step target source recorded derived result is sized coded_so lo
 
 -- an operation that refuses
 pub operation_faulted : (old : Held) (step : Step) (target : ℕ) (recorded : Cap) (fault : OpFault) (refusal : Refusal)
-    → IsOperation (state_of old) step target recorded → Derives old step (Err fault) → refusal ≡ refusal_of fault → EndsStep old step (Refused refusal) old
+    → IsOperation (state_of old) step target recorded → Derives old step (Err fault) → refusal ≡ refusal_of fault
+    → EndsStep old step (Refused refusal) old
 operation_faulted old step target recorded fault refusal is derives same =
     let row = operation_row old step target recorded is in
     (first_mapped-some (row_in (account_of old) step).tests _ fault (ap (λ (r : Row). first_of r.tests) row ∙ derives) ∙ ap (λ (r : Refusal). Some r) (sym same), refl)
 
 -- a step that puts an entry into a granule
-put_made : (old : Held) (step : Step) (granule : ℕ) (entry : Entry) (value : Cap) (code : ℕ) → named_by (row_in (account_of old) step) ≡ Some granule
-    → (row_in (account_of old) step).writes ≡ Some (Granule granule, value) → is_recorded (row_in (account_of old) step) ≡ true → cap_of entry ≡ value
-    → entry.2 ≡ code_for value.tag code → IsFrom old step value code → first_of (row_in (account_of old) step).tests ≡ None → is_past_limits old granule ≡ false
+put_made : (old : Held) (step : Step) (granule : ℕ) (entry : Entry) (value : Cap) (code : ℕ)
+    → named_by (row_in (account_of old) step) ≡ Some granule
+    → (row_in (account_of old) step).writes ≡ Some (Granule granule, value) → is_recorded (row_in (account_of old) step) ≡ true
+    → cap_of entry ≡ value
+    → entry.2 ≡ code_for value.tag code → IsFrom old step value code → first_of (row_in (account_of old) step).tests ≡ None
+    → is_past_limits old granule ≡ false
     → Makes old step (record old { memory = fin.insert old.memory granule entry; steps = old.steps + 1 })
 put_made old step granule entry value code named writes same holds code_is from free within =
     let memory = fin.insert old.memory granule entry in
@@ -237,7 +261,8 @@ put_made old step granule entry value code named writes same holds code_is from 
           ∙ sym (ap (stepped_on old step) named);
     }
 
-put_ended : (old new : Held) (step : Step) (granule : ℕ) (end : StepEnd) → named_by (row_in (account_of old) step) ≡ Some granule → is_recorded (row_in (account_of old) step) ≡ true
+put_ended : (old new : Held) (step : Step) (granule : ℕ) (end : StepEnd) → named_by (row_in (account_of old) step) ≡ Some granule
+    → is_recorded (row_in (account_of old) step) ≡ true
     → first_of (row_in (account_of old) step).tests ≡ None → EndsPut old granule end new → EndsStep old step end new
 put_ended old new step granule (Refused refusal) named same free end =
     (step_tests-free old step free ∙ tail_named old step granule true named same end.0 ∙ ap (λ (r : Refusal). Some r) (sym end.1), end.2)
@@ -249,16 +274,22 @@ EndsPutIn old granule after result new =
     MatchResult result (λ _. (is_past_limits old granule ≡ false) × (new ≡ after)) (λ end. EndsPut old granule end new)
 
 put_finished : (old new : Held) (step : Step) (granule : ℕ) (entry : Entry) (value : Cap) (code : ℕ) (result : Result (Unit {0}) StepEnd)
-    → named_by (row_in (account_of old) step) ≡ Some granule → (row_in (account_of old) step).writes ≡ Some (Granule granule, value) → is_recorded (row_in (account_of old) step) ≡ true
-    → cap_of entry ≡ value → entry.2 ≡ code_for value.tag code → IsFrom old step value code → first_of (row_in (account_of old) step).tests ≡ None
-    → EndsPutIn old granule (record old { memory = fin.insert old.memory granule entry; steps = old.steps + 1 }) result new → EndsIn old step result new
+    → named_by (row_in (account_of old) step) ≡ Some granule → (row_in (account_of old) step).writes ≡ Some (Granule granule, value)
+    → is_recorded (row_in (account_of old) step) ≡ true
+    → cap_of entry ≡ value → entry.2 ≡ code_for value.tag code → IsFrom old step value code
+    → first_of (row_in (account_of old) step).tests ≡ None
+    → EndsPutIn old granule (record old { memory = fin.insert old.memory granule entry; steps = old.steps + 1 }) result new
+    → EndsIn old step result new
 put_finished old new step granule entry value code (Ok done) named writes same holds code_is from free put_is =
     subst (λ (h : Held). Makes old step h) (sym put_is.1) (put_made old step granule entry value code named writes same holds code_is from free put_is.0)
-put_finished old new step granule entry value code (Err end) named writes same holds code_is from free put_is = put_ended old new step granule end named same free put_is
+put_finished old new step granule entry value code (Err end) named writes same holds code_is from free put_is =
+    put_ended old new step granule end named same free put_is
 
 -- a stored capability
-pub stored : (old new : Held) (source authority : ℕ) (offset : ℤ) (result : Result (Unit {0}) StepEnd) → (state_of old source).word.0 < 2 ^ 128
-    → source ≤ 31 → IsCoded (state_of old source).tag (code_in old source) → first_of (row_of (state_of old) (steps.StoreCap source authority offset)).tests ≡ None
+pub stored : (old new : Held) (source authority : ℕ) (offset : ℤ) (result : Result (Unit {0}) StepEnd)
+    → (state_of old source).word.0 < 2 ^ 128
+    → source ≤ 31 → IsCoded (state_of old source).tag (code_in old source)
+    → first_of (row_of (state_of old) (steps.StoreCap source authority offset)).tests ≡ None
     → EndsPutIn old (address_through (state_of old) authority offset / 16)
     (with_cap_put old (address_through (state_of old) authority offset / 16) (state_of old source) (get_or old.codes source 0)) result new
     → EndsIn old (steps.StoreCap source authority offset) result new
@@ -281,7 +312,8 @@ byte_small bytes i small =
     ]
 
 -- the bytes of a granule's capability are the granule's
-pub granule_bytes : (held : Held) (granule : ℕ) → AreStored held.memory → memory_of (state_of held (granule_key granule)).word.0 ≡ bytes_at held.memory granule
+pub granule_bytes : (held : Held) (granule : ℕ) → AreStored held.memory
+    → memory_of (state_of held (granule_key granule)).word.0 ≡ bytes_at held.memory granule
 granule_bytes held granule stored_all =
     let bytes = bytes_at held.memory granule in
     let sixteen = length-bytes_at held.memory stored_all granule in
@@ -292,7 +324,8 @@ granule_bytes held granule stored_all =
     ∙ memory_of-stored_word bytes sixteen (λ i. byte_small bytes i (bytes_at_fit held.memory stored_all granule))
 
 -- a stored value
-pub stored_value : (old new : Held) (authority : ℕ) (offset : ℤ) (size value : ℕ) (result : Result (Unit {0}) StepEnd) → AreStored old.memory
+pub stored_value : (old new : Held) (authority : ℕ) (offset : ℤ) (size value : ℕ) (result : Result (Unit {0}) StepEnd)
+    → AreStored old.memory
     → first_of (row_of (state_of old) (steps.Store authority offset size value)).tests ≡ None
     → EndsPutIn old (address_through (state_of old) authority offset / 16)
     (with_value_put old (address_through (state_of old) authority offset / 16) (address_through (state_of old) authority offset % 16) size value) result new
@@ -357,7 +390,8 @@ load_refused old authority offset size value recorded refusal free same found =
     (step_tests-free old step (ap (λ (r : Row). first_of r.tests) row ∙ free) ∙ tail_unnamed old step recorded (ap named_by row) (ap is_recorded row ∙ same) ∙ found, refl)
 
 -- an access that is refused
-pub faulted_as : (old : Held) (step : Step) (access : Access) (fault : OpFault) (refusal : Refusal) → (row_of (state_of old) step).access ≡ Some access
+pub faulted_as : (old : Held) (step : Step) (access : Access) (fault : OpFault) (refusal : Refusal)
+    → (row_of (state_of old) step).access ≡ Some access
     → first_of (row_of (state_of old) step).tests ≡ Some fault → refusal ≡ refusal_of fault → EndsStep old step (Refused refusal) old
 faulted_as old step access fault refusal accesses found is =
     let row = same_row old step access accesses in

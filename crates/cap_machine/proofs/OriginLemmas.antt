@@ -1,5 +1,6 @@
 -- What origins are, carried forward, is what descent is, followed back: so the account's are the places of roots.
-use Rattle.std.proofs.Common.{◌≡◌, ℕ, zero, suc, ◌==◌, nat_eq, false, inl, inr, List, [], ◌∷◌, length, map, take, Some, Contains, refl, sym, ap, subst, ◌∙◌, arith, None}
+use Rattle.std.proofs.Common.{◌≡◌, ℕ, zero, suc, ◌==◌, nat_eq, false, inl, inr, List, [], ◌∷◌, length, map, take, Some}
+use Rattle.std.proofs.Common.{Contains, refl, sym, ap, subst, ◌∙◌, arith, None}
 use Rattle.std.specs.FinMap as fin
 use Rattle.std.specs.List.{AllByRecursion, IsDistinct}
 use Rattle.std.proofs.Math.Path.{fun_ext}
@@ -20,7 +21,8 @@ use Rattle.cap_machine.proofs.AuthorityLemmas.{one_root}
 use Rattle.cap_machine.proofs.GranuleLemmas.{granule_cap-absent}
 use Rattle.cap_machine.proofs.SoundLemmas.{granule_state}
 
-pub traced : (origins : Origins) (state : State) (steps : List Step) (states : List State) (key from : ℕ) → Descends state steps states key from
+pub traced : (origins : Origins) (state : State) (steps : List Step) (states : List State) (key from : ℕ)
+    → Descends state steps states key from
     → origins_along origins state steps states key ≡ origins from
 traced origins state [] states key from back = ap origins back
 traced origins state (step ∷ steps) [] key from back = absurd back
@@ -60,7 +62,8 @@ state-start account (root ∷ roots) key distinct null =
     ]
 
 -- and each is its own origin
-pub origin-root : (account : Account) (roots : List DeclaredRoot) (root : DeclaredRoot) → IsDistinct nat_eq (keys roots) → Contains roots root
+pub origin-root : (account : Account) (roots : List DeclaredRoot) (root : DeclaredRoot) → IsDistinct nat_eq (keys roots)
+    → Contains roots root
     → (after_roots account roots).origin (key_of root.place) ≡ Some root.place
 unfolding IsDistinct
 origin-root account [] root distinct held = absurd (omega (arith, held.1))
@@ -101,8 +104,10 @@ pub state-unnamed : (held : Held) (granule : ℕ) → fin.get held.memory granul
 state-unnamed held granule absent = granule_state held.registers held.memory granule ∙ granule_cap-absent held.memory granule absent
 
 -- so the origin of each tagged place is the place of the one root that it descends from
-pub origins_found : (rules : Rules) (roots : List DeclaredRoot) (steps : List Step) (states : List State) → AreSound roots → IsDistinct nat_eq (keys roots)
-    → AllByRecursion IsStepInRange steps → IsRun rules (start roots) steps states → OriginsAreRoots (account_after rules roots steps) roots steps states
+pub origins_found : (rules : Rules) (roots : List DeclaredRoot) (steps : List Step) (states : List State) → AreSound roots
+    → IsDistinct nat_eq (keys roots)
+    → AllByRecursion IsStepInRange steps → IsRun rules (start roots) steps states
+    → OriginsAreRoots (account_after rules roots steps) roots steps states
 origins_found rules roots steps states sound distinct ranges run key held =
     let rooted = after_roots (no_account rules) roots in
     let began : rooted.state ≡ start roots = fun_ext (λ k. state-start (no_account rules) roots k distinct refl) in

@@ -17,7 +17,8 @@ use Rattle.cap_machine.specs.Places.{codes_of}
 use Rattle.cap_machine.specs.Origins.{Origins}
 use Rattle.cap_machine.specs.Helds.{Held, Takes, state_of, code_in, account_of}
 use Rattle.cap_machine.specs.Changes.{placed}
-use Rattle.cap_machine.proofs.StateLemmas.{account_with, state-register, state-granule, codes-register, codes-granule, named-put, named_in, also_named}
+use Rattle.cap_machine.proofs.StateLemmas.{account_with, state-register, state-granule, codes-register, codes-granule}
+use Rattle.cap_machine.proofs.StateLemmas.{named-put, named_in, also_named}
 use Rattle.cap_machine.proofs.CodeLemmas.{origins_by, origins-put, place_at-key}
 
 pub took : (old : Held) (place : Place) (word : Word) → length old.registers ≡ 32 → length old.codes ≡ 32 → IsPlace place → word.0 < 2 ^ 128

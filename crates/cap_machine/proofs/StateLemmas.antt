@@ -1,5 +1,6 @@
 -- The state of what a machine holds, after each kind of change.
-use Rattle.std.proofs.Common.{◌≡◌, ◌≢◌, ℕ, List, ◌+◌, ◌-◌, ◌<◌, ◌≤◌, inl, inr, Bool, true, false, ◌==◌, ◌||◌, nat_lt, length, get_or, refl, sym, ap, ◌∙◌, arith, Option, Some, None, is_some}
+use Rattle.std.proofs.Common.{◌≡◌, ◌≢◌, ℕ, List, ◌+◌, ◌-◌, ◌<◌, ◌≤◌, inl, inr, Bool, true, false, ◌==◌, ◌||◌, nat_lt}
+use Rattle.std.proofs.Common.{length, get_or, refl, sym, ap, ◌∙◌, arith, Option, Some, None, is_some}
 use Rattle.std.specs.Bool.{if◌then◌else◌}
 use Rattle.std.proofs.Math.ListN.{replicate, set}
 use Rattle.std.proofs.Math.Path.{fun_ext}
@@ -51,7 +52,8 @@ eqb-turned a b =
       | inr unlike ↦ elim (eqb_tells b a) [ inl h ↦ absurd (unlike.1 (sym h.1)) | inr h ↦ unlike.0 ∙ sym h.0 ]
     ]
 
-register_key : {A : Type 0} (registers : List A) (default value : A) (granules : ℕ → A) (target key : ℕ) → length registers ≡ 32 → target ≤ 31
+register_key : {A : Type 0} (registers : List A) (default value : A) (granules : ℕ → A) (target key : ℕ) → length registers ≡ 32
+    → target ≤ 31
     → at_places (set registers target value) default granules key ≡ put (at_places registers default granules) target value key
 register_key registers default value granules target key sized low =
     elim (eqb_tells target key) [
@@ -69,7 +71,8 @@ register_key registers default value granules target key sized low =
 -- a register of which something else is told
 register_put : {A : Type 0} (registers : List A) (default value : A) (granules : ℕ → A) (target : ℕ) → length registers ≡ 32 → target ≤ 31
     → at_places (set registers target value) default granules ≡ put (at_places registers default granules) target value
-register_put registers default value granules target sized low = fun_ext (λ key. register_key registers default value granules target key sized low)
+register_put registers default value granules target sized low =
+    fun_ext (λ key. register_key registers default value granules target key sized low)
 
 -- a register that holds another capability, and that has another code
 pub state-register : (registers : List Cap) (memory : Granules) (target : ℕ) (value : Cap) → length registers ≡ 32 → target ≤ 31
@@ -145,7 +148,8 @@ also_named granule named other = granule == other || named other
 -- a map with a granule put names it
 pub named-put : (memory : Granules) (granule : ℕ) (entry : Entry)
     → named_in (map.insert memory granule entry) ≡ also_named granule (named_in memory)
-named-put memory granule entry = fun_ext (λ other. ap is_some (get-put memory granule entry other) ∙ some_or entry (other == granule) (map.get memory other) ∙ ap (λ b. b || is_some (map.get memory other)) (eqb-turned other granule))
+named-put memory granule entry =
+    fun_ext (λ other. ap is_some (get-put memory granule entry other) ∙ some_or entry (other == granule) (map.get memory other) ∙ ap (λ b. b || is_some (map.get memory other)) (eqb-turned other granule))
 
 -- an account of these
 abbrev pub account_with : Rules → State → Origins → ℕ → ℕ → (ℕ → Bool) → ℕ → Account

@@ -3,7 +3,8 @@ use Rattle.std.proofs.Common.{◌≡◌, ℕ, Bool, true, false, List, Option, S
 use Rattle.cap_word.specs.declared.word.Cap.{Cap}
 use Rattle.cap_log.specs.declared.lines.Place.{Place}
 use Rattle.cap_log.specs.declared.lines.Step.{Step}
-use Rattle.cap_log.specs.declared.lines.Step.TheVariants.{Move, ClearTag, SetBounds, SetBoundsExact, SetAddr, AndPerm, Seal, Unseal, LoadCap, StoreCap, Load, Store}
+use Rattle.cap_log.specs.declared.lines.Step.TheVariants.{Move, ClearTag, SetBounds, SetBoundsExact, SetAddr, AndPerm}
+use Rattle.cap_log.specs.declared.lines.Step.TheVariants.{Seal, Unseal, LoadCap, StoreCap, Load, Store}
 use Rattle.cap_log.specs.Lines.{IsStepInRange}
 use Rattle.cap_ops.specs.declared.faults.OpFault.{OpFault}
 use Rattle.cap_ops.specs.Operations.{clear_result}
@@ -31,13 +32,16 @@ pub writes_within : (state : State) (step : Step) → IsStepInRange step → fir
     → WritesWithin state (row_of state step).parent (row_of state step).writes
 writes_within state (Move target source result) range free = StaysWithin-refl (state source)
 writes_within state (ClearTag target source result) range free = StaysWithin-cleared (state source)
-writes_within state (SetBounds target source requested result) range free = StaysWithin-set_bounds (state source) requested false range.2 free
-writes_within state (SetBoundsExact target source requested result) range free = StaysWithin-set_bounds (state source) requested true range.2 free
+writes_within state (SetBounds target source requested result) range free =
+    StaysWithin-set_bounds (state source) requested false range.2 free
+writes_within state (SetBoundsExact target source requested result) range free =
+    StaysWithin-set_bounds (state source) requested true range.2 free
 writes_within state (SetAddr target source address result) range free = StaysWithin-set_addr (state source) address range.2 free
 writes_within state (AndPerm target source mask result) range free = StaysWithin-and_perm (state source) mask
 writes_within state (Seal target source authority result) range free = StaysWithin-seal (state source) (state authority)
 writes_within state (Unseal target source authority result) range free = StaysWithin-unseal (state source) (state authority)
-writes_within state (LoadCap target authority offset result) range free = StaysWithin-loaded (state authority) (state (granule_key (granule_through state authority offset)))
+writes_within state (LoadCap target authority offset result) range free =
+    StaysWithin-loaded (state authority) (state (granule_key (granule_through state authority offset)))
 writes_within state (StoreCap source authority offset) range free = StaysWithin-refl (state source)
 writes_within state (Load authority offset size value) range free = tt
 writes_within state (Store authority offset size value) range free = λ held. false≢true held
@@ -53,20 +57,24 @@ clear_write_within state tests None (Some write) within =
       | Some fault ↦ λ found held. false≢true (ap (λ (cap : Cap). cap.tag) (sym (clear_result-some tests write.1 fault found)) ∙ held)
     ] refl
 
-clear_row_within : (state : State) (row : Row) (access : Option Access) → (first_of row.tests ≡ None → WritesWithin state row.parent row.writes)
+clear_row_within : (state : State) (row : Row) (access : Option Access)
+    → (first_of row.tests ≡ None → WritesWithin state row.parent row.writes)
     → first_of (clear_row access row).tests ≡ None → WritesWithin state row.parent (clear_row access row).writes
 clear_row_within state row None within free = clear_write_within state row.tests row.parent row.writes within
 clear_row_within state row (Some access) within free = within free
 
 -- what a step writes by any rules
-pub writes_within_by : (rules : Rules) (state : State) (step : Step) → IsStepInRange step → first_of (row_by rules (row_of state step)).tests ≡ None
+pub writes_within_by : (rules : Rules) (state : State) (step : Step) → IsStepInRange step
+    → first_of (row_by rules (row_of state step)).tests ≡ None
     → WritesWithin state (row_of state step).parent (row_by rules (row_of state step)).writes
 writes_within_by One state step range free = writes_within state step range free
 writes_within_by TwoStrict state step range free = writes_within state step range free
-writes_within_by TwoClear state step range free = clear_row_within state (row_of state step) (row_of state step).access (writes_within state step range) free
+writes_within_by TwoClear state step range free =
+    clear_row_within state (row_of state step) (row_of state step).access (writes_within state step range) free
 
 -- rules change no place
-hits-clear_write : (tests : List (Bool × OpFault)) (write : Option (Place × Cap)) (key : ℕ) → hits (clear_write tests write) key ≡ hits write key
+hits-clear_write : (tests : List (Bool × OpFault)) (write : Option (Place × Cap)) (key : ℕ)
+    → hits (clear_write tests write) key ≡ hits write key
 hits-clear_write tests None key = refl
 hits-clear_write tests (Some write) key = refl
 

@@ -1,5 +1,6 @@
 -- What was reported, and then flushed.
-use Rattle.std.proofs.Common.{◌≡◌, ◌≤◌, ℕ, Bool, true, false, List, [], ◌++◌, length, take, Option, None, Some, Result, Ok, Err, IfOk, IfErr, refl, sym, ap, subst, ◌∙◌, append-nil, arith}
+use Rattle.std.proofs.Common.{◌≡◌, ◌≤◌, ℕ, Bool, true, false, List, [], ◌++◌, length, take, Option, None, Some, Result}
+use Rattle.std.proofs.Common.{Ok, Err, IfOk, IfErr, refl, sym, ap, subst, ◌∙◌, append-nil, arith}
 use Rattle.std.proofs.Math.Seq.{take-length}
 use Rattle.std.specs.Io.KnownBytes.{Keeps, Appends, Consumes}
 use Rattle.capcheck.specs.declared.faults.Fault.{Fault}
@@ -28,10 +29,12 @@ flushed_all a b c bytes h k = subst (Appends a c) (sym (take-length bytes)) (flu
 
 -- the verdict on the given bytes is theirs
 verdict_given : (given : List ℕ) (ended : Bool) (verdict : Verdict) → IsAnswerOf given ended (Ok verdict) → IsVerdict given verdict
-verdict_given given ended verdict answer = (of_all given given [] ended (Ok verdict) (sym (append-nil given)) (λ e. refl) answer (λ e. cc)).0
+verdict_given given ended verdict answer =
+    (of_all given given [] ended (Ok verdict) (sym (append-nil given)) (λ e. refl) answer (λ e. cc)).0
 
 -- a text for all bytes given, where a yes says that they are all
-told_known : (asked : Bool) (known given rest : List ℕ) (ended : Bool) (verdict : Verdict) (text : List ℕ) → known ≡ given ++ rest → (ended ≡ true → rest ≡ [])
+told_known : (asked : Bool) (known given rest : List ℕ) (ended : Bool) (verdict : Verdict) (text : List ℕ) → known ≡ given ++ rest
+    → (ended ≡ true → rest ≡ [])
     → IsVerdictOf given ended verdict → Tells asked given verdict text → Tells asked known verdict text
 told_known false known given rest ended verdict text are end is tells = tells
 told_known true known given rest ended (No line refusal) text are end is tells = tells
@@ -40,10 +43,12 @@ told_known true known given rest true (Yes steps roots) text are end is tells =
 told_known true known given rest false (Yes steps roots) text are end is tells = absurd is
 
 -- what was printed for an input
-printed : (asked : Bool) (left rest : Option (List ℕ)) (given : List ℕ) (ended : Bool) (verdict : Verdict) (text : List ℕ) → Consumes left rest given
+printed : (asked : Bool) (left rest : Option (List ℕ)) (given : List ℕ) (ended : Bool) (verdict : Verdict) (text : List ℕ)
+    → Consumes left rest given
     → (ended ≡ true → (xs : List ℕ) → rest ≡ Some xs → xs ≡ []) → IsAnswerOf given ended (Ok verdict) → Tells asked given verdict text
     → Prints (Some (Judge asked None)) left text (verdict_status verdict)
-printed asked None rest given ended verdict text gives all answer tells = (given, tt, verdict, verdict_given given ended verdict answer, tells, refl)
+printed asked None rest given ended verdict text gives all answer tells =
+    (given, tt, verdict, verdict_given given ended verdict answer, tells, refl)
 printed asked (Some bytes) None given ended verdict text gives all answer tells = absurd gives
 printed asked (Some bytes) (Some rest) given ended verdict text gives all answer tells =
     let end = λ (e : ended ≡ true). all e rest refl in (
@@ -77,11 +82,13 @@ few_status : (verdict : Verdict) → verdict_status verdict ≤ 1
 few_status (Yes steps roots) = omega arith
 few_status (No line refusal) = omega arith
 
-pub done_ok : (asked : Bool) (left before after : Option (List ℕ)) (result : Result ℕ Fault) → IsInputDone asked left before after result → IfOk result (λ status. status ≤ 1)
+pub done_ok : (asked : Bool) (left before after : Option (List ℕ)) (result : Result ℕ Fault) → IsInputDone asked left before after result
+    → IfOk result (λ status. status ≤ 1)
 done_ok asked left before after (Ok status) done = let few = few_status done.written.0 in let is = done.written.5 in omega arith
 done_ok asked left before after (Err fault) done = tt
 
-pub done_err : (asked : Bool) (left before after : Option (List ℕ)) (result : Result ℕ Fault) → IsInputDone asked left before after result → IfErr result (λ fault. status_of fault ≡ 3)
+pub done_err : (asked : Bool) (left before after : Option (List ℕ)) (result : Result ℕ Fault) → IsInputDone asked left before after result
+    → IfErr result (λ fault. status_of fault ≡ 3)
 done_err asked left before after (Ok status) done = tt
 done_err asked left before after (Err faults.Read) done = refl
 done_err asked left before after (Err faults.Write) done = refl

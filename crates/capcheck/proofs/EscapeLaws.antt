@@ -9,7 +9,8 @@ use Rattle.cap_log.proofs.FrontLemmas.{IsLine-same, IsLine-not_too_long, IsLine-
 use Rattle.cap_log.proofs.SpellingLemmas.{one_spelling}
 use Rattle.cap_ops.specs.Tests.{first_of}
 use Rattle.cap_machine.specs.declared.refusal.Refusal.{Refusal}
-use Rattle.cap_machine.specs.declared.refusal.Refusal.TheVariants.{BoundsEscape, Misplaced, PlaceTaken, UnsoundRoot, LimitPassed, WrongCount}
+use Rattle.cap_machine.specs.declared.refusal.Refusal.TheVariants.{BoundsEscape, Misplaced, PlaceTaken, UnsoundRoot}
+use Rattle.cap_machine.specs.declared.refusal.Refusal.TheVariants.{LimitPassed, WrongCount}
 use Rattle.cap_machine.specs.declared.rules.Rules.{Rules}
 use Rattle.cap_machine.specs.States.{DeclaredRoot, start}
 use Rattle.cap_machine.specs.Accounts.{Account}
@@ -19,19 +20,22 @@ use Rattle.cap_machine.proofs.AuthorityLemmas.{sound_along, start_sound}
 use Rattle.cap_machine.proofs.EscapeLemmas.{escapes_first}
 use Rattle.capcheck.specs.declared.verdict.Verdict.{Verdict}
 use Rattle.capcheck.specs.declared.verdict.Verdict.TheVariants.{Yes, No}
-use Rattle.capcheck.specs.Logs.{Beginning, Nothing, NoMode, Body, Whole, SpellsBy, account_after, line_tests, IsAccepted, RunsBy, RefusesLine, RefusesWhole, Refuses}
+use Rattle.capcheck.specs.Logs.{Beginning, Nothing, NoMode, Body, Whole, SpellsBy, account_after, line_tests}
+use Rattle.capcheck.specs.Logs.{IsAccepted, RunsBy, RefusesLine, RefusesWhole, Refuses}
 use Rattle.capcheck.specs.Verdicts.{EscapesExactly, FaultEscapes}
 use Rattle.capcheck.proofs.JudgeLemmas.{are_sound, behind_header, steps_in_range}
 
 -- every tagged word of what accepted roots and steps lead to is sound
-account_sound : (rules_are : Rules) (roots : List DeclaredRoot) (steps : List Step) → RunsBy rules_are roots steps → IsSoundState (account_after rules_are roots steps).state
+account_sound : (rules_are : Rules) (roots : List DeclaredRoot) (steps : List Step) → RunsBy rules_are roots steps
+    → IsSoundState (account_after rules_are roots steps).state
 account_sound rules_are roots steps runs =
     let run = runs.run in
     subst IsSoundState run.2
     (sound_along rules_are (start roots) steps run.0 (steps_in_range roots steps (behind_header rules_are _ runs.grammar)) (start_sound roots (are_sound roots runs.sound)) run.1)
 
 -- no other line is refused so
-no_root_test : (a b c d : Bool) → first_of ((a, Misplaced) ∷ (b, PlaceTaken) ∷ (c, UnsoundRoot) ∷ (d, LimitPassed) ∷ []) ≡ Some BoundsEscape → ⊥
+no_root_test : (a b c d : Bool) → first_of ((a, Misplaced) ∷ (b, PlaceTaken) ∷ (c, UnsoundRoot) ∷ (d, LimitPassed) ∷ []) ≡ Some BoundsEscape
+    → ⊥
 no_root_test true b c d h = cc
 no_root_test false true c d h = cc
 no_root_test false false true d h = cc
@@ -43,7 +47,8 @@ no_end_test true h = cc
 no_end_test false h = cc
 
 -- a line whose first test that holds is that of bounds is such a step
-line_escapes : (account : Account) (line : Line) → IsSoundState account.state → (bytes : List ℕ) → SpellsBy account.rules bytes line → first_of (line_tests account line) ≡ Some BoundsEscape
+line_escapes : (account : Account) (line : Line) → IsSoundState account.state → (bytes : List ℕ) → SpellsBy account.rules bytes line
+    → first_of (line_tests account line) ≡ Some BoundsEscape
     → (step : Step) × (line ≡ lines.Step step) × Escapes account.rules account.state step
 line_escapes account (lines.Version version) sound bytes spelled h = absurd cc
 line_escapes account (lines.Mode mode) sound bytes spelled h = absurd cc
@@ -52,7 +57,8 @@ line_escapes account (lines.Step step) sound bytes spelled h = (step, refl, (esc
 line_escapes account (lines.End count) sound bytes spelled h = absurd (no_end_test _ h)
 
 -- what a whole line is refused for
-refused_escapes : (account : Account) (rest text more : List ℕ) (refusal : Refusal) → IsSoundState account.state → IsLine rest text more → RefusesLine account text refusal → refusal ≡ BoundsEscape
+refused_escapes : (account : Account) (rest text more : List ℕ) (refusal : Refusal) → IsSoundState account.state → IsLine rest text more
+    → RefusesLine account text refusal → refusal ≡ BoundsEscape
     → (bytes : List ℕ) × (after : List ℕ) × (step : Step) × IsLine rest bytes after × SpellsBy account.rules bytes (lines.Step step) × Escapes account.rules account.state step
 refused_escapes account rest text more refusal sound whole (inl none) h = absurd (let bad = none.1 in cc)
 refused_escapes account rest text more refusal sound whole (inr found) h =
@@ -60,7 +66,8 @@ refused_escapes account rest text more refusal sound whole (inr found) h =
     (text, more, is.0, whole, subst (SpellsBy account.rules text) is.1 found.1, is.2)
 
 -- and what a step that asks for too much is refused for
-escape_refused : (account : Account) (text : List ℕ) (step : Step) (refusal : Refusal) → IsSoundState account.state → SpellsBy account.rules text (lines.Step step)
+escape_refused : (account : Account) (text : List ℕ) (step : Step) (refusal : Refusal) → IsSoundState account.state
+    → SpellsBy account.rules text (lines.Step step)
     → Escapes account.rules account.state step → RefusesLine account text refusal → refusal ≡ BoundsEscape
 escape_refused account text step refusal sound spelled escapes (inl none) = absurd (none.0 (lines.Step step) spelled)
 escape_refused account text step refusal sound spelled escapes (inr found) =
@@ -68,7 +75,8 @@ escape_refused account text step refusal sound spelled escapes (inr found) =
     let first = (escapes_first account step spelled.0.0 sound).1 escapes in
     same_Some _ _ (sym found.2 ∙ ap (λ (line : Line). first_of (line_tests account line)) same ∙ first)
 
-body_escapes : (rules_are : Rules) (roots : List DeclaredRoot) (steps : List Step) (rest : List ℕ) (refusal : Refusal) → RunsBy rules_are roots steps
+body_escapes : (rules_are : Rules) (roots : List DeclaredRoot) (steps : List Step) (rest : List ℕ) (refusal : Refusal)
+    → RunsBy rules_are roots steps
     → Refuses (Body rules_are roots steps) rest refusal → (refusal ≡ BoundsEscape) ↔ FaultEscapes (Body rules_are roots steps) rest
 body_escapes rules_are roots steps rest refusal runs (inl long) =
     (λ h. absurd (let is = long.1 in cc), λ escapes. absurd (IsLine-not_too_long rest escapes.0 escapes.1 escapes.3 long.0))
@@ -84,7 +92,8 @@ body_escapes rules_are roots steps rest refusal runs (inr (inr line)) =
     )
 
 -- before the body, and after the end line, nothing is refused so
-front_never : (beginning : Beginning) (rest : List ℕ) (refusal : Refusal) → ((text : List ℕ) → RefusesWhole beginning text refusal → refusal ≡ BoundsEscape → ⊥)
+front_never : (beginning : Beginning) (rest : List ℕ) (refusal : Refusal)
+    → ((text : List ℕ) → RefusesWhole beginning text refusal → refusal ≡ BoundsEscape → ⊥)
     → Refuses beginning rest refusal → refusal ≡ BoundsEscape → ⊥
 front_never Nothing rest refusal whole (inl long) h = let is = long.1 in cc
 front_never Nothing rest refusal whole (inr (inl cut)) h = let is = cut.1 in cc
@@ -97,9 +106,12 @@ front_never (Body rules_are roots steps) rest refusal whole (inr (inl cut)) h = 
 front_never (Body rules_are roots steps) rest refusal whole (inr (inr line)) h = whole line.0 line.3 h
 front_never (Whole rules_are roots steps) rest refusal whole refused h = let is = refused.1 in cc
 
-fault_escapes : (beginning : Beginning) (rest : List ℕ) (refusal : Refusal) → IsAccepted beginning → Refuses beginning rest refusal → (refusal ≡ BoundsEscape) ↔ FaultEscapes beginning rest
-fault_escapes Nothing rest refusal accepted refused = (front_never Nothing rest refusal (λ text whole h. let is = whole.1 in cc) refused, λ none. absurd none)
-fault_escapes NoMode rest refusal accepted refused = (front_never NoMode rest refusal (λ text whole h. let is = whole.1 in cc) refused, λ none. absurd none)
+fault_escapes : (beginning : Beginning) (rest : List ℕ) (refusal : Refusal) → IsAccepted beginning → Refuses beginning rest refusal
+    → (refusal ≡ BoundsEscape) ↔ FaultEscapes beginning rest
+fault_escapes Nothing rest refusal accepted refused =
+    (front_never Nothing rest refusal (λ text whole h. let is = whole.1 in cc) refused, λ none. absurd none)
+fault_escapes NoMode rest refusal accepted refused =
+    (front_never NoMode rest refusal (λ text whole h. let is = whole.1 in cc) refused, λ none. absurd none)
 fault_escapes (Body rules_are roots steps) rest refusal accepted refused = body_escapes rules_are roots steps rest refusal accepted refused
 fault_escapes (Whole rules_are roots steps) rest refusal accepted refused = (λ h. let is = refused.1 in cc, λ none. absurd none)
 

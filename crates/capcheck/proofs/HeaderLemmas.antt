@@ -1,5 +1,6 @@
 -- The header of a log, read.
-use Rattle.std.proofs.Common.{◌≡◌, ◌≢◌, ℕ, ◌+◌, inl, inr, false, List, [], ◌∷◌, ◌++◌, length, sym, ap, subst, ◌∙◌, append-nil, Ok, None, Result}
+use Rattle.std.proofs.Common.{◌≡◌, ◌≢◌, ℕ, ◌+◌, inl, inr, false, List, [], ◌∷◌, ◌++◌, length, sym, ap, subst, ◌∙◌}
+use Rattle.std.proofs.Common.{append-nil, Ok, None, Result}
 use Rattle.std.proofs.lemmas.Bool.{false≢true}
 use Rattle.cap_log.specs.declared.lines.Line.{Line}
 use Rattle.cap_log.specs.declared.lines.Line.TheVariants as line_kinds
@@ -26,7 +27,8 @@ use Rattle.capcheck.proofs.JudgeLemmas.{text_push}
 use Rattle.capcheck.proofs.SourceLemmas.{Meets, meets}
 
 -- a line that is read and has no form is no line by the rules
-pub no_form : (rules_are : Rules) (bytes : List ℕ) (line : Line) → Spells bytes line → has_form rules_are line ≡ false → (other : Line) → SpellsBy rules_are bytes other → ⊥
+pub no_form : (rules_are : Rules) (bytes : List ℕ) (line : Line) → Spells bytes line → has_form rules_are line ≡ false → (other : Line)
+    → SpellsBy rules_are bytes other → ⊥
 no_form rules_are bytes line spells formless other by =
     false≢true (sym formless ∙ ap (has_form rules_are) (one_spelling bytes line other spells by.0) ∙ by.1)
 
@@ -39,7 +41,8 @@ at_version gave ended old new before lines answer shown joined nothing none answ
 
 -- one line more behind a beginning
 one_more : {S : Type 0} {gave : S → S → List ℕ → Type 0} {ended : S → _} {old new : S} {lines : Lines} (beginning : Beginning) (line : Line) (text : _)
-    → (m : Meets gave ended old new beginning lines (Ok (nexts.Line text))) → text.now ≡ spelling line → m.given ≡ text_of (lines_of beginning ++ line ∷ []) ++ kept lines
+    → (m : Meets gave ended old new beginning lines (Ok (nexts.Line text))) → text.now ≡ spelling line
+    → m.given ≡ text_of (lines_of beginning ++ line ∷ []) ++ kept lines
 one_more {S} {gave} {ended} {old} {new} {lines} beginning line text m spelled =
     m.here.bytes_are
     ∙ ap (λ (r : List ℕ). text_of (lines_of beginning) ++ r) (m.next.0.whole ∙ ap (λ (t : List ℕ). t ++ 10 ∷ kept lines) spelled)
@@ -54,8 +57,10 @@ version_two text version spells other = elim (spells.0) [
 
 -- at the mode line
 pub at_mode : {S : Type 0} (gave : S → S → List ℕ → Type 0) (ended : S → _) (a b c : S) (first second : Lines) (text : _) (version : ℕ) (answer shown : Result Next PullFault)
-    → ((x y z : S) (xs ys : List ℕ) → gave x y xs → gave y z ys → gave x z (xs ++ ys)) → Meets gave ended a b Nothing first (Ok (nexts.Line text))
-    → Spells text.now (line_kinds.Version version) → version ≢ 1 → (over_of first ≡ None → Answered gave ended b c (kept first) second answer) → answer ≡ shown
+    → ((x y z : S) (xs ys : List ℕ) → gave x y xs → gave y z ys → gave x z (xs ++ ys))
+    → Meets gave ended a b Nothing first (Ok (nexts.Line text))
+    → Spells text.now (line_kinds.Version version) → version ≢ 1
+    → (over_of first ≡ None → Answered gave ended b c (kept first) second answer) → answer ≡ shown
     → Meets gave ended a c NoMode second shown
 at_mode gave ended a b c first second text version answer shown joined m spells other answered same =
     let two = version_two text.now version spells other in
@@ -64,12 +69,14 @@ at_mode gave ended a b c first second text version answer shown joined m spells 
 
 -- behind the header of version 1
 pub read_one : {S : Type 0} {gave : S → S → List ℕ → Type 0} {ended : S → _} {old new : S} {lines : Lines} (text : _)
-    → Meets gave ended old new Nothing lines (Ok (nexts.Line text)) → Spells text.now (line_kinds.Version 1) → ReadsHeader gave old new lines One
+    → Meets gave ended old new Nothing lines (Ok (nexts.Line text)) → Spells text.now (line_kinds.Version 1)
+    → ReadsHeader gave old new lines One
 read_one text m spells = record { given = m.given; gives = m.gives; text = one_more Nothing (line_kinds.Version 1) text m spells.1; more = m.next.1 }
 
 -- behind the header of version 2
 pub read_two : {S : Type 0} {gave : S → S → List ℕ → Type 0} {ended : S → _} {old new : S} {lines : Lines} (text : _) (mode : Mode)
-    → Meets gave ended old new NoMode lines (Ok (nexts.Line text)) → Spells text.now (line_kinds.Mode mode) → ReadsHeader gave old new lines (rules_of mode)
+    → Meets gave ended old new NoMode lines (Ok (nexts.Line text)) → Spells text.now (line_kinds.Mode mode)
+    → ReadsHeader gave old new lines (rules_of mode)
 read_two text modes.Strict m spells = record { given = m.given; gives = m.gives; text = one_more NoMode (line_kinds.Mode modes.Strict) text m spells.1; more = m.next.1 }
 read_two text modes.Clear m spells = record { given = m.given; gives = m.gives; text = one_more NoMode (line_kinds.Mode modes.Clear) text m spells.1; more = m.next.1 }
 

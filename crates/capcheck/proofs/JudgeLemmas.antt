@@ -1,5 +1,6 @@
 -- Where the judge is, and what it may answer there.
-use Rattle.std.proofs.Common.{◌≡◌, ◌≢◌, ℕ, zero, suc, ◌+◌, true, false, List, [], ◌∷◌, ◌++◌, length, map, refl, sym, ap, subst, ◌∙◌, append-nil, append_assoc, arith, Result, Ok, Err, IsOk, IfOk, IfErr}
+use Rattle.std.proofs.Common.{◌≡◌, ◌≢◌, ℕ, zero, suc, ◌+◌, true, false, List, [], ◌∷◌, ◌++◌, length, map, refl, sym, ap}
+use Rattle.std.proofs.Common.{subst, ◌∙◌, append-nil, append_assoc, arith, Result, Ok, Err, IsOk, IfOk, IfErr}
 use Rattle.std.specs.List.{AllByRecursion}
 use Rattle.std.proofs.lemmas.Grind.{flat_map-append}
 use Rattle.std.proofs.lemmas.Bool.{false≢true}
@@ -23,7 +24,9 @@ use Rattle.capcheck.specs.declared.verdict.Verdict.{Verdict}
 use Rattle.capcheck.specs.declared.verdict.Verdict.TheVariants.{Yes, No}
 use Rattle.capcheck.specs.declared.verdict.JudgeFault.{JudgeFault}
 use Rattle.capcheck.specs.declared.verdict.JudgeFault.TheVariants as faults
-use Rattle.capcheck.specs.Logs.{Beginning, Nothing, NoMode, Body, Whole, header_lines, lines_of, text_of, account_after, IsAccepted, RefusesFront, Refuses, IsFirstFault, WantsMemory, MayLackMemory, NamesNoGranules, named_by_line}
+use Rattle.capcheck.specs.Logs.{Beginning, Nothing, NoMode, Body, Whole, header_lines, lines_of, text_of, account_after}
+use Rattle.capcheck.specs.Logs.{IsAccepted, RefusesFront, Refuses, IsFirstFault, WantsMemory, MayLackMemory}
+use Rattle.capcheck.specs.Logs.{NamesNoGranules, named_by_line}
 use Rattle.capcheck.specs.Verdicts.{IsYes, IsGuarded, GuardsAuthority, IsFault}
 use Rattle.capcheck.specs.Judgings.{IsBehind, LeadsTo}
 use Rattle.capcheck.specs.Progresses.{Reading, StandsFor, GoesOn, EndsNext, IsAt}
@@ -76,17 +79,20 @@ unended (Whole rules_are roots steps) reading stands is = absurd (false≢true (
 pub behind : (bytes rest : List ℕ) (reading : Reading) (line : ℕ) (here : IsAt bytes reading rest line) → IsBehind bytes here.beginning rest
 behind bytes rest reading line here = record { bytes_are = here.bytes_are; accepted = accepted here.beginning reading here.stands }
 
-pub unended_here : (bytes rest : List ℕ) (reading : Reading) (line : ℕ) (here : IsAt bytes reading rest line) → reading.ended ≡ false → IsUnended here.beginning
+pub unended_here : (bytes rest : List ℕ) (reading : Reading) (line : ℕ) (here : IsAt bytes reading rest line) → reading.ended ≡ false
+    → IsUnended here.beginning
 unended_here bytes rest reading line here is = unended here.beginning reading here.stands is
 
 -- the line behind a beginning can be refused by its front
-front_refused : (beginning : Beginning) (rest : List ℕ) (refusal : Refusal) → IsUnended beginning → RefusesFront beginning rest refusal → Refuses beginning rest refusal
+front_refused : (beginning : Beginning) (rest : List ℕ) (refusal : Refusal) → IsUnended beginning → RefusesFront beginning rest refusal
+    → Refuses beginning rest refusal
 front_refused Nothing rest refusal unended refused = refused
 front_refused NoMode rest refusal unended refused = refused
 front_refused (Body rules_are roots steps) rest refusal unended refused = refused
 front_refused (Whole rules_are roots steps) rest refusal unended refused = absurd unended
 
-pub refused_behind : (bytes rest : List ℕ) (beginning : Beginning) (line : ℕ) (refusal : Refusal) → IsBehind bytes beginning rest → line ≡ length (lines_of beginning) + 1
+pub refused_behind : (bytes rest : List ℕ) (beginning : Beginning) (line : ℕ) (refusal : Refusal) → IsBehind bytes beginning rest
+    → line ≡ length (lines_of beginning) + 1
     → IsUnended beginning → RefusesFront beginning rest refusal → IsFirstFault bytes line refusal
 refused_behind bytes rest beginning line refusal here number unended refused = record {
   beginning = beginning;
@@ -189,7 +195,8 @@ misplaced bytes rest reading line here ended more = record {
 
 -- the steps of lines in range are in range
 pub steps_in_range : (roots : List DeclaredRoot) (made : List Step)
-    → AllByRecursion IsInRange (map (λ (root : DeclaredRoot). lines.Root root.place root.word) roots ++ map lines.Step made) → AllByRecursion IsStepInRange made
+    → AllByRecursion IsInRange (map (λ (root : DeclaredRoot). lines.Root root.place root.word) roots ++ map lines.Step made)
+    → AllByRecursion IsStepInRange made
 steps_in_range [] [] h = tt
 steps_in_range [] (step ∷ made) h = (h.0, steps_in_range [] made h.1)
 steps_in_range (root ∷ roots) made h = steps_in_range roots made h.1
@@ -201,7 +208,8 @@ are_sound (first ∷ roots) all root (zero, below, is) = subst (λ (r : Declared
 are_sound (first ∷ roots) all root (suc index, below, is) = are_sound roots all.1 root (index, omega arith, is)
 
 -- what holds of each line of a log holds of those behind its header
-pub behind_header : (rules_are : Rules) (lines : List Line) → AllByRecursion IsInRange (header_lines rules_are ++ lines) → AllByRecursion IsInRange lines
+pub behind_header : (rules_are : Rules) (lines : List Line) → AllByRecursion IsInRange (header_lines rules_are ++ lines)
+    → AllByRecursion IsInRange lines
 behind_header One lines all = all.1
 behind_header TwoStrict lines all = all.1.1
 behind_header TwoClear lines all = all.1.1

@@ -1,5 +1,6 @@
 -- Beginnings of a log with one line more.
-use Rattle.std.proofs.Common.{◌≡◌, ℕ, ◌+◌, Bool, true, false, ◌==◌, ◌||◌, nat_eq, List, [], ◌∷◌, ◌++◌, length, map, refl, sym, ap, ◌∙◌, append_assoc, append-nil, arith, rules}
+use Rattle.std.proofs.Common.{◌≡◌, ℕ, ◌+◌, Bool, true, false, ◌==◌, ◌||◌, nat_eq, List, [], ◌∷◌, ◌++◌, length, map}
+use Rattle.std.proofs.Common.{refl, sym, ap, ◌∙◌, append_assoc, append-nil, arith, rules}
 use Rattle.std.specs.Bool.{if◌then◌else◌}
 use Rattle.std.specs.List.{AllByRecursion, IsDistinct, list_any}
 use Rattle.std.proofs.lemmas.Bool.{eqb-true, eqb-false, or_parts}
@@ -16,7 +17,8 @@ use Rattle.cap_machine.specs.Runs.{IsRun, last_of}
 use Rattle.capcheck.specs.Logs.{header_lines, body_lines, after_roots, after_steps}
 
 -- what holds of each element of two lists holds of each element of both together
-pub AllByRecursion-append : {X : Type 0} (P : X → Type 0) (xs ys : List X) → AllByRecursion P xs → AllByRecursion P ys → AllByRecursion P (xs ++ ys)
+pub AllByRecursion-append : {X : Type 0} (P : X → Type 0) (xs ys : List X) → AllByRecursion P xs → AllByRecursion P ys
+    → AllByRecursion P (xs ++ ys)
 AllByRecursion-append P [] ys h k = k
 AllByRecursion-append P (x ∷ xs) ys h k = (h.0, AllByRecursion-append P xs ys h.1 k)
 
@@ -24,14 +26,16 @@ tag_of_choice : (b : Bool) (x y : Cap) (any : Bool) → x.tag ≡ true → y.tag
 tag_of_choice true x y any h k = h
 tag_of_choice false x y any h k = k
 
-choices : (a b : Bool) (x y z : Cap) → (a ≡ true → b ≡ true → ⊥) → (if a then x else (if b then y else z)) ≡ (if b then y else (if a then x else z))
+choices : (a b : Bool) (x y z : Cap) → (a ≡ true → b ≡ true → ⊥)
+    → (if a then x else (if b then y else z)) ≡ (if b then y else (if a then x else z))
 choices true true x y z h = absurd (h refl refl)
 choices true false x y z h = refl
 choices false true x y z h = refl
 choices false false x y z h = refl
 
 -- one key more, which is none of those before
-pub IsDistinct-push : (xs : List ℕ) (x : ℕ) → IsDistinct nat_eq xs → list_any (λ y. nat_eq y x) xs ≡ false → IsDistinct nat_eq (xs ++ x ∷ [])
+pub IsDistinct-push : (xs : List ℕ) (x : ℕ) → IsDistinct nat_eq xs → list_any (λ y. nat_eq y x) xs ≡ false
+    → IsDistinct nat_eq (xs ++ x ∷ [])
 unfolding IsDistinct
 IsDistinct-push [] x h new = (tt, tt)
 IsDistinct-push (y ∷ xs) x h new =
@@ -45,7 +49,8 @@ tag-start (root ∷ roots) place =
     tag_of_choice (key_of root.place == key_of place) (tagged root.word) (start roots (key_of place)) _ refl (tag-start roots place)
 
 -- one root more, at a place that is none of those before
-pub start-push : (roots : List DeclaredRoot) (root : DeclaredRoot) (key : ℕ) → list_any (λ (r : DeclaredRoot). key_of r.place == key_of root.place) roots ≡ false
+pub start-push : (roots : List DeclaredRoot) (root : DeclaredRoot) (key : ℕ)
+    → list_any (λ (r : DeclaredRoot). key_of r.place == key_of root.place) roots ≡ false
     → start (roots ++ root ∷ []) key ≡ (if key_of root.place == key then tagged root.word else start roots key)
 start-push [] root key new = refl
 start-push (first ∷ roots) root key new =
@@ -56,9 +61,11 @@ start-push (first ∷ roots) root key new =
 
 -- one step more
 pub IsRun-push : (rules : Rules) (state : State) (steps : List steps_module.Step) (states : List State) (step : steps_module.Step) (next : State)
-    → IsRun rules state steps states → Leads rules (last_of state states) step next → IsRun rules state (steps ++ step ∷ []) (states ++ next ∷ [])
+    → IsRun rules state steps states → Leads rules (last_of state states) step next
+    → IsRun rules state (steps ++ step ∷ []) (states ++ next ∷ [])
 IsRun-push rules state [] [] step next run leads = (leads, tt)
-IsRun-push rules state (first ∷ steps) (middle ∷ states) step next run leads = (run.0, IsRun-push rules middle steps states step next run.1 leads)
+IsRun-push rules state (first ∷ steps) (middle ∷ states) step next run leads =
+    (run.0, IsRun-push rules middle steps states step next run.1 leads)
 IsRun-push rules state [] (middle ∷ states) step next run leads = absurd run
 IsRun-push rules state (first ∷ steps) [] step next run leads = absurd run
 

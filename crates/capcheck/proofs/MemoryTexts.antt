@@ -1,5 +1,6 @@
 -- The bytes of a word in memory as text.
-use Rattle.std.proofs.Common.{◌≡◌, ℕ, zero, suc, ◌+◌, ◌*◌, ◌/◌, ◌%◌, ◌^◌, ◌<◌, ◌≤◌, List, [], ◌∷◌, length, refl, sym, ap, subst, ◌∙◌, arith, lit<}
+use Rattle.std.proofs.Common.{◌≡◌, ℕ, zero, suc, ◌+◌, ◌*◌, ◌/◌, ◌%◌, ◌^◌, ◌<◌, ◌≤◌, List, [], ◌∷◌, length, refl, sym}
+use Rattle.std.proofs.Common.{ap, subst, ◌∙◌, arith, lit<}
 use Rattle.std.proofs.Math.Nat.{div-one, pow-suc, mul-add-div_right, mul-le-mul_right, div-div-eq-div-mul}
 use Rattle.std.proofs.lemmas.Nat.{div-mul-add}
 use Rattle.std.specs.Int.{bytes_high_first}
@@ -60,7 +61,8 @@ hex_digits-byte k byte n small fits =
     rw (halved, quotient, high, hex_digits-higher k byte n) refl
 
 -- bytes as text are the digits of a number
-spelled_bytes : (bytes : List ℕ) → IsBytes bytes → (n : ℕ) × (n < 16 ^ (2 * length bytes)) × (encode_lower bytes ≡ hex_digits (2 * length bytes) n)
+spelled_bytes : (bytes : List ℕ) → IsBytes bytes
+    → (n : ℕ) × (n < 16 ^ (2 * length bytes)) × (encode_lower bytes ≡ hex_digits (2 * length bytes) n)
 unfolding encode_with hex_digits
 spelled_bytes [] small = (0, lit< tt, refl)
 spelled_bytes (byte ∷ bytes) small =

@@ -1,5 +1,6 @@
 -- No bytes have two verdicts: each verdict comes from a reading of the bytes that stops.
-use Rattle.std.proofs.Common.{◌≡◌, ℕ, ◌+◌, ◌≤◌, inl, inr, true, not, nat_eq, List, [], ◌∷◌, ◌++◌, length, map, refl, sym, ap, subst, ◌∙◌, append-nil, arith, eq-eqb, IsTrue}
+use Rattle.std.proofs.Common.{◌≡◌, ℕ, ◌+◌, ◌≤◌, inl, inr, true, not, nat_eq, List, [], ◌∷◌, ◌++◌, length, map, refl}
+use Rattle.std.proofs.Common.{sym, ap, subst, ◌∙◌, append-nil, arith, eq-eqb, IsTrue}
 use Rattle.std.specs.List.{AllByRecursion, IsDistinct}
 use Rattle.std.proofs.Math.Path.{fun_ext}
 use Rattle.std.proofs.lemmas.Bool.{false≢true, cond-false, eqb-false, false_from_ne_true, le-ltb}
@@ -21,10 +22,13 @@ use Rattle.cap_machine.proofs.AccountLemmas.{first_of-none, root_free, step_free
 use Rattle.cap_machine.proofs.OriginLemmas.{keys, IsFree, state-start}
 use Rattle.capcheck.specs.declared.verdict.Verdict.{Verdict}
 use Rattle.capcheck.specs.declared.verdict.Verdict.TheVariants.{Yes, No}
-use Rattle.capcheck.specs.Logs.{Beginning, Nothing, NoMode, Body, Whole, header_lines, body_lines, lines_of, text_of, after_roots, after_steps, account_after, RunsBy, IsAccepted, has_form, line_tests, Refuses}
+use Rattle.capcheck.specs.Logs.{Beginning, Nothing, NoMode, Body, Whole, header_lines, body_lines, lines_of, text_of}
+use Rattle.capcheck.specs.Logs.{after_roots, after_steps, account_after, RunsBy, IsAccepted, has_form, line_tests}
+use Rattle.capcheck.specs.Logs.{Refuses}
 use Rattle.capcheck.specs.Verdicts.{IsVerdict}
 use Rattle.capcheck.proofs.BeginningLemmas.{accepted_in_range}
-use Rattle.capcheck.proofs.OneReading.{Stage, Unread, Versioned, Within, Ended, Reads, Answers, Reads-append, one_reading, answer_stops, one_answer}
+use Rattle.capcheck.proofs.OneReading.{Stage, Unread, Versioned, Within, Ended, Reads, Answers, Reads-append}
+use Rattle.capcheck.proofs.OneReading.{one_reading, answer_stops, one_answer}
 
 -- Distinct roots
 

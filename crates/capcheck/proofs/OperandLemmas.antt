@@ -44,6 +44,7 @@ refused_request base_word length_word Write impossible = absurd impossible
 refused_request base_word length_word NoMemory impossible = absurd impossible
 
 -- a text that isn't the digits of a number of 128 bits spells no word, in neither way
-pub no_word : (memory : Bool) (text : List ℕ) → ((n : ℕ) → n < 2 ^ 128 → text ≡ hex_digits 32 n → ⊥) → (w : ℕ) → w < 2 ^ 128 → SpellsWord memory text w → ⊥
+pub no_word : (memory : Bool) (text : List ℕ) → ((n : ℕ) → n < 2 ^ 128 → text ≡ hex_digits 32 n → ⊥) → (w : ℕ) → w < 2 ^ 128
+    → SpellsWord memory text w → ⊥
 no_word false text none w fits spelled = none w fits spelled
 no_word true text none w fits spelled = let number = spelled_memory w in none number.0 number.1 (spelled ∙ number.2)

@@ -1,5 +1,7 @@
 -- The lines of origins, place after place.
-use Rattle.std.proofs.Common.{◌≡◌, ℕ, zero, suc, ◌+◌, ◌-◌, ◌≤◌, ◌<◌, List, [], ◌∷◌, ◌++◌, take, Option, Some, None, refl, sym, ap, subst, ◌∙◌, append-nil, append_assoc, arith, nat_lt, slice_index_or, unwrap_or, Result, Ok, Err, OnOk, OnErr}
+use Rattle.std.proofs.Common.{◌≡◌, ℕ, zero, suc, ◌+◌, ◌-◌, ◌≤◌, ◌<◌, List, [], ◌∷◌, ◌++◌, take, Option, Some, None}
+use Rattle.std.proofs.Common.{refl, sym, ap, subst, ◌∙◌, append-nil, append_assoc, arith, nat_lt, slice_index_or}
+use Rattle.std.proofs.Common.{unwrap_or, Result, Ok, Err, OnOk, OnErr}
 use Rattle.std.specs.FinMap.{get}
 use Rattle.std.proofs.lemmas.Bool.{cond-false, le-ltb}
 use Rattle.std.proofs.lemmas.Grind.{flat_map-append}
@@ -27,18 +29,21 @@ pub origins_from-zero : (origins : ℕ → Option Place) (key : ℕ) → origins
 unfolding origins_from
 origins_from-zero origins key = refl
 
-pub origins_from-suc : (origins : ℕ → Option Place) (key count : ℕ) → origins_from origins key (suc count) ≡ listed (place_of key) (origins key) ++ origins_from origins (key + 1) count
+pub origins_from-suc : (origins : ℕ → Option Place) (key count : ℕ)
+    → origins_from origins key (suc count) ≡ listed (place_of key) (origins key) ++ origins_from origins (key + 1) count
 unfolding origins_from
 origins_from-suc origins key count = refl
 
 -- one place's line
-pub one_line : (origins : ℕ → Option Place) (place : Place) → IsPlace place → lines_from origins (key_of place) 1 ≡ origin_lines (listed place (origins (key_of place)))
+pub one_line : (origins : ℕ → Option Place) (place : Place) → IsPlace place
+    → lines_from origins (key_of place) 1 ≡ origin_lines (listed place (origins (key_of place)))
 one_line origins place is =
     ap origin_lines (origins_from-suc origins (key_of place) 0 ∙ ap (λ (l : List Origin). listed (place_of (key_of place)) (origins (key_of place)) ++ l) (origins_from-zero origins (key_of place + 1))
     ∙ append-nil _ ∙ ap (λ (p : Place). listed p (origins (key_of place))) (place_of-key_of place is))
 
 -- so many places, and so many more
-origins_split : (origins : ℕ → Option Place) (key a b : ℕ) → origins_from origins key (a + b) ≡ origins_from origins key a ++ origins_from origins (key + a) b
+origins_split : (origins : ℕ → Option Place) (key a b : ℕ)
+    → origins_from origins key (a + b) ≡ origins_from origins key a ++ origins_from origins (key + a) b
 origins_split origins key zero b =
     let none : 0 + b ≡ b = omega arith in
     let here : key ≡ key + 0 = omega arith in
@@ -54,18 +59,22 @@ origins_split origins key (suc a) b =
     ∙ ap (λ (l : List Origin). l ++ origins_from origins ((key + 1) + a) b) (sym (origins_from-suc origins key a))
     ∙ ap (λ (k : ℕ). origins_from origins key (suc a) ++ origins_from origins k b) behind
 
-pub lines_split : (origins : ℕ → Option Place) (key a b : ℕ) → lines_from origins key (a + b) ≡ lines_from origins key a ++ lines_from origins (key + a) b
-lines_split origins key a b = ap origin_lines (origins_split origins key a b) ∙ lines_append (origins_from origins key a) (origins_from origins (key + a) b)
+pub lines_split : (origins : ℕ → Option Place) (key a b : ℕ)
+    → lines_from origins key (a + b) ≡ lines_from origins key a ++ lines_from origins (key + a) b
+lines_split origins key a b =
+    ap origin_lines (origins_split origins key a b) ∙ lines_append (origins_from origins key a) (origins_from origins (key + a) b)
 
 -- places without an origin have no lines
-origins_none : (origins : ℕ → Option Place) (key count : ℕ) → ((k : ℕ) → key ≤ k → k < key + count → origins k ≡ None) → origins_from origins key count ≡ []
+origins_none : (origins : ℕ → Option Place) (key count : ℕ) → ((k : ℕ) → key ≤ k → k < key + count → origins k ≡ None)
+    → origins_from origins key count ≡ []
 origins_none origins key zero none = origins_from-zero origins key
 origins_none origins key (suc count) none =
     origins_from-suc origins key count
     ∙ ap (λ (o : Option Place). listed (place_of key) o ++ origins_from origins (key + 1) count) (none key (omega arith) (omega arith))
     ∙ origins_none origins (key + 1) count (λ k from until. none k (omega arith) (omega arith))
 
-lines_skip : (origins : ℕ → Option Place) (key a b : ℕ) → a ≤ b → ((k : ℕ) → key + a ≤ k → k < key + b → origins k ≡ None) → lines_from origins key a ≡ lines_from origins key b
+lines_skip : (origins : ℕ → Option Place) (key a b : ℕ) → a ≤ b → ((k : ℕ) → key + a ≤ k → k < key + b → origins k ≡ None)
+    → lines_from origins key a ≡ lines_from origins key b
 lines_skip origins key a b least none =
     let sum : b ≡ a + (b - a) = omega arith in
     sym
@@ -130,12 +139,14 @@ stopped origins key done key_behind count n here less =
     )
 
 -- the line of a place that has an origin, and of one that has none
-pub line_of : (origins : ℕ → Option Place) (place root : Place) (text : List ℕ) → IsPlace place → origins (key_of place) ≡ Some root → text ≡ origin_line place root
+pub line_of : (origins : ℕ → Option Place) (place root : Place) (text : List ℕ) → IsPlace place → origins (key_of place) ≡ Some root
+    → text ≡ origin_line place root
     → text ≡ lines_from origins (key_of place) 1
 line_of origins place root text is some spelled =
     spelled ∙ sym (one_line origins place is ∙ ap (λ (o : Option Place). origin_lines (listed place o)) some ∙ append-nil (origin_line place root))
 
-pub no_line : (origins : ℕ → Option Place) (place : Place) → IsPlace place → origins (key_of place) ≡ None → [] ≡ lines_from origins (key_of place) 1
+pub no_line : (origins : ℕ → Option Place) (place : Place) → IsPlace place → origins (key_of place) ≡ None
+    → [] ≡ lines_from origins (key_of place) 1
 no_line origins place is none = sym (one_line origins place is ∙ ap (λ (o : Option Place). origin_lines (listed place o)) none)
 
 -- no lines yet

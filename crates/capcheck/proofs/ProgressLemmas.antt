@@ -1,5 +1,7 @@
 -- What the judge's progress stands for, with one line more.
-use Rattle.std.proofs.Common.{IfErr, Result, Ok, Err, ◌≡◌, ℕ, ◌+◌, ◌^◌, ◌<◌, ◌≤◌, Bool, true, false, not, ◌&&◌, ◌||◌, nat_eq, nat_le, nat_lt, List, [], ◌∷◌, ◌++◌, map, refl, sym, ap, subst, ◌∙◌, arith, tests, lit≤, inl, inr, Some, None, Option}
+use Rattle.std.proofs.Common.{IfErr, Result, Ok, Err, ◌≡◌, ℕ, ◌+◌, ◌^◌, ◌<◌, ◌≤◌, Bool, true, false, not, ◌&&◌, ◌||◌}
+use Rattle.std.proofs.Common.{nat_eq, nat_le, nat_lt, List, [], ◌∷◌, ◌++◌, map, refl, sym, ap, subst, ◌∙◌, arith, tests}
+use Rattle.std.proofs.Common.{lit≤, inl, inr, Some, None, Option}
 use Rattle.std.proofs.Math.Path.{fun_ext}
 use Rattle.std.specs.Bool.{if◌then◌else◌}
 use Rattle.std.specs.List.{AllByRecursion, IsDistinct}
@@ -22,13 +24,18 @@ use Rattle.cap_machine.specs.declared.rules.Rules.{Rules}
 use Rattle.cap_machine.specs.declared.rules.Rules.TheVariants.{One, TwoStrict, TwoClear}
 use Rattle.cap_machine.specs.States.{State, DeclaredRoot, key_of, put, tagged, start}
 use Rattle.cap_machine.specs.Steps.{Leads, Row, is_recorded}
-use Rattle.cap_machine.specs.Accounts.{Account, no_account, most_roots, most_granules, most_steps, granule_of, named_by, row_in, passes_granule_limit, naming, with_root, with_step, root_tests, row_tests, as_line_test}
+use Rattle.cap_machine.specs.Accounts.{Account, no_account, most_roots, most_granules, most_steps, granule_of, named_by}
+use Rattle.cap_machine.specs.Accounts.{row_in, passes_granule_limit, naming, with_root, with_step, root_tests}
+use Rattle.cap_machine.specs.Accounts.{row_tests, as_line_test}
 use Rattle.cap_machine.specs.Runs.{IsRun, last_of}
 use Rattle.cap_machine.specs.Helds.{Held, Makes, EndsStep, Takes as Declares, EndsRoot, state_of, account_of}
 use Rattle.cap_machine.proofs.AccountLemmas.{with_root-grows, with_step-grows, account_after-grows}
-use Rattle.capcheck.specs.Logs.{has_form, Beginning, Nothing, NoMode, Body, Whole, body_lines, after_roots, account_after, RunsBy, SpellsBy, NamesFirst, RefusesWhole, WantsMemory, line_tests}
+use Rattle.capcheck.specs.Logs.{has_form, Beginning, Nothing, NoMode, Body, Whole, body_lines, after_roots}
+use Rattle.capcheck.specs.Logs.{account_after, RunsBy, SpellsBy, NamesFirst, RefusesWhole, WantsMemory, line_tests}
 use Rattle.capcheck.specs.Progresses.{Reading, Reaches, StandsFor, Takes, EndsFor, EndsNext}
-use Rattle.capcheck.proofs.LogLemmas.{AllByRecursion-append, IsDistinct-push, tag-start, start-push, IsRun-push, last_of-push, map-push, length-push, steps_push, roots_push, list_any-map, after_roots-push, after_steps-push}
+use Rattle.capcheck.proofs.LogLemmas.{AllByRecursion-append, IsDistinct-push, tag-start, start-push, IsRun-push}
+use Rattle.capcheck.proofs.LogLemmas.{last_of-push, map-push, length-push, steps_push, roots_push, list_any-map}
+use Rattle.capcheck.proofs.LogLemmas.{after_roots-push, after_steps-push}
 
 -- the end line closes a body
 pub ended : (reading : Reading) (count : ℕ) → reading.ended ≡ false → count ≡ reading.held.steps
@@ -54,10 +61,12 @@ few_named : (named : Bool) (granules most : ℕ) → (not named && nat_le most g
 few_named true granules most within few = few
 few_named false granules most within few = let below = leb-false most granules within in omega arith
 
-naming_few : (account : Account) (granule : Option ℕ) → passes_granule_limit account granule ≡ false → account.granules ≤ most_granules account.rules
+naming_few : (account : Account) (granule : Option ℕ) → passes_granule_limit account granule ≡ false
+    → account.granules ≤ most_granules account.rules
     → (naming account granule).granules ≤ most_granules account.rules
 naming_few account None within few = few
-naming_few account (Some granule) within few = few_named (account.is_named granule) account.granules (most_granules account.rules) within few
+naming_few account (Some granule) within few =
+    few_named (account.is_named granule) account.granules (most_granules account.rules) within few
 
 -- a step leaves the count of roots, and a root that of steps
 naming_roots : (old new : Held) (step : steps_module.Step) → Makes old step new → new.roots ≡ old.roots
@@ -73,7 +82,8 @@ naming_steps old new root declares =
     ap (λ (a : Account). a.steps) declares.account ∙ grown.steps_are ∙ none
 
 -- rules stay
-same_rules : (held : Held) (rules_are : Rules) (roots : List DeclaredRoot) (steps : List steps_module.Step) → Reaches held rules_are roots steps → held.rules ≡ rules_are
+same_rules : (held : Held) (rules_are : Rules) (roots : List DeclaredRoot) (steps : List steps_module.Step)
+    → Reaches held rules_are roots steps → held.rules ≡ rules_are
 same_rules held rules_are roots steps reaches =
     let grown = account_after-grows rules_are roots steps in
     ap (λ (a : Account). a.rules) reaches.account ∙ grown.rules_stay
@@ -88,7 +98,8 @@ step_within account row free =
     or_parts _ _ free_last.1.0
 
 -- a limit on granules that an account keeps, seen from what a machine holds
-few_held : (held : Held) (rules_are : Rules) (roots : List DeclaredRoot) (steps : List steps_module.Step) → Reaches held rules_are roots steps
+few_held : (held : Held) (rules_are : Rules) (roots : List DeclaredRoot) (steps : List steps_module.Step)
+    → Reaches held rules_are roots steps
     → (account_of held).granules ≤ most_granules held.rules
 few_held held rules_are roots steps reaches =
     subst (λ (r : Rules). (account_of held).granules ≤ most_granules r) (sym (same_rules held rules_are roots steps reaches))
@@ -196,11 +207,13 @@ pub rooted : (old new : Reading) (place : Place) (word : Word) → old.ended ≡
     → IsPlace place → word.0 < 2 ^ 128 → Declares old.held place word new.held → Takes old (Root place word) new
 rooted old new place word unended still rootless place_range word_range declares Nothing stands = absurd stands
 rooted old new place word unended still rootless place_range word_range declares NoMode stands = absurd stands
-rooted old new place word unended still rootless place_range word_range declares (Body rules_are roots (step ∷ steps)) stands = absurd (let counted = stands.1.steps_are in omega arith)
+rooted old new place word unended still rootless place_range word_range declares (Body rules_are roots (step ∷ steps)) stands =
+    absurd (let counted = stands.1.steps_are in omega arith)
 rooted old new place word unended still rootless place_range word_range declares (Body rules_are roots []) stands =
     let root : DeclaredRoot = record { place = place; word = word } in
     (Body rules_are (roots ++ root ∷ []) [], (still, root_on rules_are roots root old.held new.held stands.1 place_range word_range declares), roots_push rules_are roots root)
-rooted old new place word unended still rootless place_range word_range declares (Whole rules_are roots steps) stands = absurd (false≢true (sym unended ∙ stands.0))
+rooted old new place word unended still rootless place_range word_range declares (Whole rules_are roots steps) stands =
+    absurd (false≢true (sym unended ∙ stands.0))
 
 -- a header is in range
 header_in_range : (rules_are : Rules) → AllByRecursion IsInRange (body_lines rules_are [] [])
@@ -243,14 +256,16 @@ known_refused reading text line refusal (Body rules_are roots steps) unended spe
       subst (λ (a : Account). SpellsBy a.rules text line) stands.1.account spells,
       subst (λ (a : Account). first_of (line_tests a line) ≡ Some refusal) stands.1.account found,
     )
-known_refused reading text line refusal (Whole rules_are roots steps) unended spells found stands = absurd (false≢true (sym unended ∙ stands.0))
+known_refused reading text line refusal (Whole rules_are roots steps) unended spells found stands =
+    absurd (false≢true (sym unended ∙ stands.0))
 
 -- a line that wants memory
 known_wants : (reading : Reading) (text : List ℕ) (beginning : Beginning) → reading.ended ≡ false
     → NamesFirst (account_of reading.held) text → StandsFor reading beginning → WantsMemory beginning text
 known_wants reading text Nothing unended wants stands = absurd stands
 known_wants reading text NoMode unended wants stands = absurd stands
-known_wants reading text (Body rules_are roots steps) unended wants stands = subst (λ (a : Account). NamesFirst a text) stands.1.account wants
+known_wants reading text (Body rules_are roots steps) unended wants stands =
+    subst (λ (a : Account). NamesFirst a text) stands.1.account wants
 known_wants reading text (Whole rules_are roots steps) unended wants stands = absurd (false≢true (sym unended ∙ stands.0))
 
 pub line_known : (reading : Reading) (text : List ℕ) (line : Line) (end : StepEnd) → reading.ended ≡ false
@@ -280,9 +295,13 @@ pub line_unknown : (reading : Reading) (text : List ℕ) → reading.ended ≡ f
 line_unknown reading text unended none = λ beginning stands. unknown reading text beginning unended none stands
 
 -- a root that is not taken
-pub root_ended : (old new : Held) (place : Place) (word : Word) (end : StepEnd) → old.steps ≡ 0 → EndsRoot old place word end new → EndsFor old (Root place word) end
-root_ended old new place word (Refused refusal) few ends = ap (λ (n : ℕ). first_of ((nat_lt 0 n, Misplaced) ∷ root_tests (account_of old) place word)) few ∙ ends.0
-root_ended old new place word NoMemory few ends = (ap (λ (n : ℕ). first_of ((nat_lt 0 n, Misplaced) ∷ root_tests (account_of old) place word)) few ∙ ends.0, ends.1)
+pub root_ended : (old new : Held) (place : Place) (word : Word) (end : StepEnd) → old.steps ≡ 0 → EndsRoot old place word end new
+    → EndsFor old (Root place word) end
+root_ended old new place word (Refused refusal) few ends =
+    ap (λ (n : ℕ). first_of ((nat_lt 0 n, Misplaced) ∷ root_tests (account_of old) place word)) few ∙ ends.0
+root_ended old new place word NoMemory few ends =
+    (ap (λ (n : ℕ). first_of ((nat_lt 0 n, Misplaced) ∷ root_tests (account_of old) place word)) few ∙ ends.0, ends.1)
 
 pub root_misplaced : (old : Held) (place : Place) (word : Word) → 0 < old.steps → EndsFor old (Root place word) (Refused Misplaced)
-root_misplaced old place word some = ap (λ (b : Bool). first_of ((b, Misplaced) ∷ root_tests (account_of old) place word)) (lt-ltb 0 old.steps some)
+root_misplaced old place word some =
+    ap (λ (b : Bool). first_of ((b, Misplaced) ∷ root_tests (account_of old) place word)) (lt-ltb 0 old.steps some)

@@ -1,5 +1,7 @@
 -- The report of what a machine holds is that of the log that led to it.
-use Rattle.std.proofs.Common.{◌≡◌, ℕ, zero, suc, ◌+◌, ◌-◌, ◌^◌, ◌<◌, ◌≤◌, nat_lt, slice_index_or, inl, inr, Bool, true, false, List, [], ◌∷◌, ◌++◌, length, map, Option, Some, None, Contains, IsTrue, refl, sym, ap, subst, ◌∙◌, arith}
+use Rattle.std.proofs.Common.{◌≡◌, ℕ, zero, suc, ◌+◌, ◌-◌, ◌^◌, ◌<◌, ◌≤◌, nat_lt, slice_index_or, inl, inr, Bool, true}
+use Rattle.std.proofs.Common.{false, List, [], ◌∷◌, ◌++◌, length, map, Option, Some, None, Contains, IsTrue, refl, sym}
+use Rattle.std.proofs.Common.{ap, subst, ◌∙◌, arith}
 use Rattle.std.specs.List.{AllByRecursion}
 use Rattle.std.specs.List.Sorted.{IsStrictlySortedBy}
 use Rattle.std.specs.Ordering.{nat_cmp}
@@ -58,13 +60,15 @@ abbrev keys : List Origin → List ℕ
 keys origins = map (λ (origin : Origin). key_of origin.place) origins
 
 -- what holds of the origin of each place that has one holds of all
-all_listed : (P : Origin → Type 0) (key : ℕ) (origin : Option Place) (rest : List Origin) → ((root : Place) → origin ≡ Some root → P (record { place = place_of key; root = root }))
+all_listed : (P : Origin → Type 0) (key : ℕ) (origin : Option Place) (rest : List Origin)
+    → ((root : Place) → origin ≡ Some root → P (record { place = place_of key; root = root }))
     → AllByRecursion P rest → AllByRecursion P (listed (place_of key) origin ++ rest)
 all_listed P key None rest one all = all
 all_listed P key (Some root) rest one all = (one root refl, all)
 
 all_from : (P : Origin → Type 0) (origins : ℕ → Option Place) (key count : ℕ)
-    → ((k : ℕ) (root : Place) → key ≤ k → k < key + count → origins k ≡ Some root → P (record { place = place_of k; root = root })) → AllByRecursion P (origins_from origins key count)
+    → ((k : ℕ) (root : Place) → key ≤ k → k < key + count → origins k ≡ Some root → P (record { place = place_of k; root = root }))
+    → AllByRecursion P (origins_from origins key count)
 all_from P origins key zero one = subst (AllByRecursion P) (sym (origins_from-zero origins key)) tt
 all_from P origins key (suc count) one =
     subst (AllByRecursion P) (sym (origins_from-suc origins key count))
@@ -72,13 +76,15 @@ all_from P origins key (suc count) one =
     (all_from P origins (key + 1) count (λ k root from until is. one k root (omega arith) (omega arith) is)))
 
 -- they rise
-all_above : (key : ℕ) (rest : List Origin) → AllByRecursion (λ (origin : Origin). key < key_of origin.place) rest → AllByRecursion (λ y. nat_cmp (key_of (place_of key)) y ≡ Less) (keys rest)
+all_above : (key : ℕ) (rest : List Origin) → AllByRecursion (λ (origin : Origin). key < key_of origin.place) rest
+    → AllByRecursion (λ y. nat_cmp (key_of (place_of key)) y ≡ Less) (keys rest)
 all_above key [] all = tt
 all_above key (origin ∷ rest) all =
     let less = subst (λ (k : ℕ). k < key_of origin.place) (sym (key_of-place_of key)) all.0 in
     (sym (nat_cmp_is (key_of (place_of key)) (key_of origin.place) Less less), all_above key rest all.1)
 
-rising_listed : (key : ℕ) (origin : Option Place) (rest : List Origin) → AllByRecursion (λ (o : Origin). key < key_of o.place) rest → IsStrictlySortedBy nat_cmp (keys rest)
+rising_listed : (key : ℕ) (origin : Option Place) (rest : List Origin) → AllByRecursion (λ (o : Origin). key < key_of o.place) rest
+    → IsStrictlySortedBy nat_cmp (keys rest)
     → IsStrictlySortedBy nat_cmp (keys (listed (place_of key) origin ++ rest))
 unfolding IsStrictlySortedBy
 rising_listed key None rest above rising = rising
@@ -89,7 +95,8 @@ unfolding IsStrictlySortedBy
 rising_none = tt
 
 rising_from : (origins : ℕ → Option Place) (key count : ℕ) → IsStrictlySortedBy nat_cmp (keys (origins_from origins key count))
-rising_from origins key zero = subst (λ (l : List Origin). IsStrictlySortedBy nat_cmp (keys l)) (sym (origins_from-zero origins key)) rising_none
+rising_from origins key zero =
+    subst (λ (l : List Origin). IsStrictlySortedBy nat_cmp (keys l)) (sym (origins_from-zero origins key)) rising_none
 rising_from origins key (suc count) =
     subst (λ (l : List Origin). IsStrictlySortedBy nat_cmp (keys l)) (sym (origins_from-suc origins key count))
     (rising_listed key (origins key) (origins_from origins (key + 1) count)
@@ -101,7 +108,8 @@ one_there : (key : ℕ) (origin : Option Place) (root : Place) → origin ≡ So
 one_there key None root is = absurd (none-some root is)
 one_there key (Some other) root is = (0, omega arith, key_of-place_of key)
 
-there : (origins : ℕ → Option Place) (key count k : ℕ) (root : Place) → key ≤ k → k < key + count → origins k ≡ Some root → Contains (keys (origins_from origins key count)) k
+there : (origins : ℕ → Option Place) (key count k : ℕ) (root : Place) → key ≤ k → k < key + count → origins k ≡ Some root
+    → Contains (keys (origins_from origins key count)) k
 there origins key zero k root from until is = absurd (omega arith)
 there origins key (suc count) k root from until is =
     let first = listed (place_of key) (origins key) in
@@ -128,11 +136,13 @@ tagged_by true code root coded is = refl
 tagged_by false code root coded is = absurd (none-some root (sym (ap place_at (coded.0.1 refl)) ∙ is))
 
 -- no other place has an origin
-past : (held : Held) → AreStored held.memory → (granule : ℕ) → 2 ^ 60 ≤ granule → (entry : Option Entry) → get held.memory granule ≡ entry → get held.memory granule ≡ None
+past : (held : Held) → AreStored held.memory → (granule : ℕ) → 2 ^ 60 ≤ granule → (entry : Option Entry) → get held.memory granule ≡ entry
+    → get held.memory granule ≡ None
 past held stored granule high None is = is
 past held stored granule high (Some entry) is = let low = stored granule entry is in absurd (omega (arith, low.in_memory, high))
 
-inside : (held : Held) → IsHeld held → (key : ℕ) (root : Place) → (account_of held).origin key ≡ Some root → (1 ≤ key) × (key < 1 + (31 + 2 ^ 60))
+inside : (held : Held) → IsHeld held → (key : ℕ) (root : Place) → (account_of held).origin key ≡ Some root
+    → (1 ≤ key) × (key < 1 + (31 + 2 ^ 60))
 inside held is zero root some =
     absurd (false≢true (sym (ap (λ (cap : Cap). cap.tag) is.zero_is) ∙ tagged_by _ _ root (is.coded 0) some))
 inside held is (suc k) root some =
@@ -193,11 +203,13 @@ module _ (bytes : List ℕ) (held : Held) (is : IsHeld held) (to : LeadsTo bytes
   }
 
 -- a report tells of the bytes that led to what the machine holds
-pub tells : (bytes : List ℕ) (held : Held) (verdict : Verdict) → IsHeld held → LeadsAfter bytes held verdict → Tells true bytes verdict (report_text held verdict)
+pub tells : (bytes : List ℕ) (held : Held) (verdict : Verdict) → IsHeld held → LeadsAfter bytes held verdict
+    → Tells true bytes verdict (report_text held verdict)
 tells bytes held (Yes steps roots) is to = (origins_from (account_of held).origin 1 (31 + 2 ^ 60), are_origins bytes held is to, refl)
 tells bytes held (No line refusal) is to = refl
 
 -- the text after a yes
 pub yes_text : (held : Held) (verdict : Verdict) (steps roots : ℕ) → verdict ≡ Yes steps roots
     → verdict_line verdict ++ held_lines held 1 (31 + 2 ^ 60) ≡ report_text held verdict
-yes_text held verdict steps roots is = subst (λ (v : Verdict). verdict_line v ++ held_lines held 1 (31 + 2 ^ 60) ≡ report_text held v) (sym is) refl
+yes_text held verdict steps roots is =
+    subst (λ (v : Verdict). verdict_line v ++ held_lines held 1 (31 + 2 ^ 60) ≡ report_text held v) (sym is) refl

@@ -1,5 +1,7 @@
 -- The judge over a source: where it is, and what it may answer there.
-use Rattle.std.proofs.Common.{◌≡◌, ◌≢◌, ℕ, ◌+◌, ◌≤◌, inl, inr, Bool, true, false, List, [], ◌∷◌, ◌++◌, length, map, refl, sym, ap, subst, ◌∙◌, append-nil, append_assoc, arith, None, Result, Ok, Err, IfOk, IfErr}
+use Rattle.std.proofs.Common.{◌≡◌, ◌≢◌, ℕ, ◌+◌, ◌≤◌, inl, inr, Bool, true, false, List, [], ◌∷◌, ◌++◌, length, map}
+use Rattle.std.proofs.Common.{refl, sym, ap, subst, ◌∙◌, append-nil, append_assoc, arith, None, Result, Ok, Err, IfOk}
+use Rattle.std.proofs.Common.{IfErr}
 use Rattle.std.specs.Bool.{if◌then◌else◌}
 use Rattle.std.proofs.lemmas.List.{length-append, length-map, take-append-le}
 use Rattle.std.proofs.lemmas.List.Elements.{All-nil}
@@ -28,21 +30,25 @@ use Rattle.capcheck.specs.declared.verdict.Verdict.{Verdict}
 use Rattle.capcheck.specs.declared.verdict.Verdict.TheVariants.{Yes, No}
 use Rattle.capcheck.specs.declared.verdict.JudgeFault.{JudgeFault}
 use Rattle.capcheck.specs.declared.verdict.JudgeFault.TheVariants.{Pull, NoMemory}
-use Rattle.capcheck.specs.Logs.{Beginning, Nothing, NoMode, Body, Whole, header_lines, body_lines, lines_of, text_of, IsAccepted, RefusesFront, RefusesWhole, IsFirstFault, MayLackMemory}
+use Rattle.capcheck.specs.Logs.{Beginning, Nothing, NoMode, Body, Whole, header_lines, body_lines, lines_of, text_of}
+use Rattle.capcheck.specs.Logs.{IsAccepted, RefusesFront, RefusesWhole, IsFirstFault, MayLackMemory}
 use Rattle.capcheck.specs.Verdicts.{answer_at, EscapesExactly, IsVerdict, IsFault}
 use Rattle.capcheck.specs.Progresses.{Reading, EndsNext, GoesOn, IsAt, IsLaterAt, HasRead}
 use Rattle.capcheck.specs.Judgings.{IsVerdictOf, IsBehind, BeginsLog, IsAnswerOf, Judged, LeadsAfter, JudgedBy, IsNoYes, refusal_in}
 use Rattle.capcheck.proofs.EscapeLaws.{escapes_exactly}
-use Rattle.capcheck.proofs.JudgeLemmas.{IsUnended, goes_on, behind, unended_here, refused_behind, wants_memory, misplaced, yes, leads, guarded, guards, no_lack}
+use Rattle.capcheck.proofs.JudgeLemmas.{IsUnended, goes_on, behind, unended_here, refused_behind, wants_memory}
+use Rattle.capcheck.proofs.JudgeLemmas.{misplaced, yes, leads, guarded, guards, no_lack}
 
 -- more bytes behind all
-behind_more : (bytes rest more : List ℕ) (beginning : Beginning) → IsBehind bytes beginning rest → IsBehind (bytes ++ more) beginning (rest ++ more)
+behind_more : (bytes rest more : List ℕ) (beginning : Beginning) → IsBehind bytes beginning rest
+    → IsBehind (bytes ++ more) beginning (rest ++ more)
 behind_more bytes rest more beginning here = record {
   bytes_are = ap (λ (l : List ℕ). l ++ more) here.bytes_are ∙ append_assoc (text_of (lines_of beginning)) rest more;
   accepted = here.accepted;
 }
 
-at_more : (bytes rest more : List ℕ) (reading : Reading) (line : ℕ) → IsAt bytes reading rest line → IsAt (bytes ++ more) reading (rest ++ more) line
+at_more : (bytes rest more : List ℕ) (reading : Reading) (line : ℕ) → IsAt bytes reading rest line
+    → IsAt (bytes ++ more) reading (rest ++ more) line
 at_more bytes rest more reading line here = record {
   beginning = here.beginning;
   stands = here.stands;
@@ -79,7 +85,8 @@ nothing_cut : (rest : List ℕ) → rest ≡ [] → IsCut rest
 nothing_cut rest none = subst IsCut (sym none) (omega arith, All-nil (λ b. b ≢ 10))
 
 -- a no that stands whatever follows
-no_stands : (bytes : List ℕ) (ended : Bool) (line : ℕ) (refusal : Refusal) → ((more : List ℕ) → IsFirstFault (bytes ++ more) line refusal) → IsVerdictOf bytes ended (No line refusal)
+no_stands : (bytes : List ℕ) (ended : Bool) (line : ℕ) (refusal : Refusal) → ((more : List ℕ) → IsFirstFault (bytes ++ more) line refusal)
+    → IsVerdictOf bytes ended (No line refusal)
 no_stands bytes true line refusal all = subst (λ (b : List ℕ). IsFirstFault b line refusal) (append-nil bytes) (all [])
 no_stands bytes false line refusal all = all
 
@@ -92,7 +99,8 @@ pub record Meets {S : Type 0} (gave : S → S → List ℕ → Type 0) (ended : 
   pub next : IsNext rest (ended new) (kept lines) (over_of lines) answer
 
 pub meets : {S : Type 0} (gave : S → S → List ℕ → Type 0) (ended : S → Bool) (a b c : S) (beginning : Beginning) (before : List ℕ) (lines : Lines) (answer shown : Result Next PullFault)
-    → ((x y z : S) (xs ys : List ℕ) → gave x y xs → gave y z ys → gave x z (xs ++ ys)) → ((given : List ℕ) × gave a b given × IsBehind given beginning before)
+    → ((x y z : S) (xs ys : List ℕ) → gave x y xs → gave y z ys → gave x z (xs ++ ys))
+    → ((given : List ℕ) × gave a b given × IsBehind given beginning before)
     → Answered gave ended b c before lines answer → answer ≡ shown → Meets gave ended a c beginning lines shown
 meets gave ended a b c beginning before lines answer shown joined so_far answered same = record {
   given = so_far.0 ++ answered.given;
@@ -120,7 +128,8 @@ answer_ok given ended verdict is =
 answer_memory : (given : List ℕ) (ended : Bool) → MayLackMemory given → IsAnswerOf given ended (Err NoMemory)
 answer_memory given ended lack = record { verdict = tt; authority = tt; escape = tt; fault = lack; answers = λ none e. no_lack given none lack }
 
-pub judged_ok : {S : Type 0} (gave : S → S → List ℕ → Type 0) (ended : S → Bool) (old new : S) (given : List ℕ) (verdict : Verdict) → gave old new given
+pub judged_ok : {S : Type 0} (gave : S → S → List ℕ → Type 0) (ended : S → Bool) (old new : S) (given : List ℕ) (verdict : Verdict)
+    → gave old new given
     → IsVerdictOf given (ended new) verdict → Judged gave ended old new (Ok verdict)
 judged_ok gave ended old new given verdict gives is = record { given = given; gives = gives; answer = answer_ok given (ended new) verdict is }
 
@@ -246,7 +255,8 @@ pub later_read : {S : Type 0} (gave : S → S → List ℕ → Type 0) (begun so
 later_read gave begun source old before first new rest line on so_far = (so_far.0, so_far.1, on so_far.0 so_far.2)
 
 -- a line that is kept whole
-kept_line : (before after : List ℕ) (known : Line) → IsInRange known → before ≡ spelling known ++ 10 ∷ after → IsLine before (spelling known) after
+kept_line : (before after : List ℕ) (known : Line) → IsInRange known → before ≡ spelling known ++ 10 ∷ after
+    → IsLine before (spelling known) after
 kept_line before after known range is = subst (λ (b : List ℕ). IsLine b (spelling known) after) (sym is) (IsLine-spelling known range after)
 
 module _ (reading : Reading) (line : ℕ) (before after : List ℕ) (known : Line) (taken : IsInRange known × (before ≡ spelling known ++ 10 ∷ after))
@@ -290,7 +300,8 @@ few_body rules_are roots steps =
 few_lines : (beginning : Beginning) → IsAccepted beginning → length (lines_of beginning) ≤ 4294971394
 few_lines Nothing accepted = omega arith
 few_lines NoMode accepted = omega arith
-few_lines (Body rules_are roots steps) accepted = omega (arith, accepted.few_roots, accepted.few_steps, few_header rules_are, few_body rules_are roots steps)
+few_lines (Body rules_are roots steps) accepted =
+    omega (arith, accepted.few_roots, accepted.few_steps, few_header rules_are, few_body rules_are roots steps)
 few_lines (Whole rules_are roots steps) accepted =
     omega (
       arith,
@@ -315,19 +326,23 @@ lack-more bytes more lack = record {
   wants = lack.wants;
 }
 
-whole_verdict : (given rest : List ℕ) (ended : Bool) (verdict : Verdict) → (ended ≡ true → rest ≡ []) → IsVerdictOf given ended verdict → IsVerdict (given ++ rest) verdict
-whole_verdict given rest true verdict end is = subst (λ (b : List ℕ). IsVerdict b verdict) (sym (ap (λ (r : List ℕ). given ++ r) (end refl) ∙ append-nil given)) is
+whole_verdict : (given rest : List ℕ) (ended : Bool) (verdict : Verdict) → (ended ≡ true → rest ≡ []) → IsVerdictOf given ended verdict
+    → IsVerdict (given ++ rest) verdict
+whole_verdict given rest true verdict end is =
+    subst (λ (b : List ℕ). IsVerdict b verdict) (sym (ap (λ (r : List ℕ). given ++ r) (end refl) ∙ append-nil given)) is
 whole_verdict given rest false (Yes steps roots) end is = absurd is
 whole_verdict given rest false (No line refusal) end is = is rest
 
-whole_answer : (given rest : List ℕ) (ended : Bool) (result : Result Verdict JudgeFault) → (ended ≡ true → rest ≡ []) → IsAnswerOf given ended result → result ≢ Err Pull
+whole_answer : (given rest : List ℕ) (ended : Bool) (result : Result Verdict JudgeFault) → (ended ≡ true → rest ≡ [])
+    → IsAnswerOf given ended result → result ≢ Err Pull
     → IfOk result (IsVerdict (given ++ rest)) × IfErr result (IsFault (given ++ rest))
 whole_answer given rest ended (Ok verdict) end answer no_pull = (whole_verdict given rest ended verdict end answer.verdict, tt)
 whole_answer given rest ended (Err Pull) end answer no_pull = absurd (no_pull refl)
 whole_answer given rest ended (Err NoMemory) end answer no_pull = (tt, lack-more given rest answer.fault)
 
 -- what an answer for bytes given out of all bytes says of all
-pub of_all : (bytes given rest : List ℕ) (ended : Bool) (result : Result Verdict JudgeFault) → bytes ≡ given ++ rest → (ended ≡ true → rest ≡ []) → IsAnswerOf given ended result
+pub of_all : (bytes given rest : List ℕ) (ended : Bool) (result : Result Verdict JudgeFault) → bytes ≡ given ++ rest
+    → (ended ≡ true → rest ≡ []) → IsAnswerOf given ended result
     → result ≢ Err Pull → IfOk result (IsVerdict bytes) × IfErr result (IsFault bytes)
 of_all bytes given rest ended result are end answer no_pull =
     subst (λ (b : List ℕ). IfOk result (IsVerdict b) × IfErr result (IsFault b)) (sym are) (whole_answer given rest ended result end answer no_pull)

@@ -1,5 +1,6 @@
 -- Where the check of a vector file is, and what it may answer there.
-use Rattle.std.proofs.Common.{◌≡◌, ◌≢◌, ℕ, ◌+◌, ◌<◌, inl, inr, Bool, true, false, List, [], ◌∷◌, ◌++◌, refl, sym, ap, subst, ◌∙◌, append-nil, append_assoc, arith, lit<, Option, Some, Result, Ok, Err, IfOk}
+use Rattle.std.proofs.Common.{◌≡◌, ◌≢◌, ℕ, ◌+◌, ◌<◌, inl, inr, Bool, true, false, List, [], ◌∷◌, ◌++◌, refl, sym, ap}
+use Rattle.std.proofs.Common.{subst, ◌∙◌, append-nil, append_assoc, arith, lit<, Option, Some, Result, Ok, Err, IfOk}
 use Rattle.std.proofs.lemmas.Grind.{flat_map-append}
 use Rattle.std.specs.Io.KnownBytes.{Appends}
 use Rattle.cap_log.specs.Front.{IsLine, FrontIs}
@@ -32,13 +33,15 @@ begins_more bytes rest more count here = record {
 }
 
 -- one line more
-text_push : (vectors : List Vector) (vector : Vector) (rest : List ℕ) → text_of (vectors ++ vector ∷ []) ++ rest ≡ text_of vectors ++ (spelling vector ++ 10 ∷ rest)
+text_push : (vectors : List Vector) (vector : Vector) (rest : List ℕ)
+    → text_of (vectors ++ vector ∷ []) ++ rest ≡ text_of vectors ++ (spelling vector ++ 10 ∷ rest)
 text_push vectors vector rest =
     let piece = λ (v : Vector). spelling v ++ 10 ∷ [] in
     ap (λ (text : List ℕ). text ++ rest) (flat_map-append piece vectors (vector ∷ []))
     ∙ simp (append_assoc)
 
-goes_on : (bytes rest line left : List ℕ) (count : ℕ) → BeginsTrue bytes count rest → IsLine rest line left → IsTrueLine line → count + 1 < last_line
+goes_on : (bytes rest line left : List ℕ) (count : ℕ) → BeginsTrue bytes count rest → IsLine rest line left → IsTrueLine line
+    → count + 1 < last_line
     → BeginsTrue bytes (count + 1) left
 goes_on bytes rest line left count here whole stated few = record {
   vectors = here.vectors ++ stated.0 ∷ [];
@@ -52,7 +55,8 @@ goes_on bytes rest line left count here whole stated few = record {
 }
 
 -- a fail that stands whatever follows
-fail_stands : (bytes : List ℕ) (ended : Bool) (line : ℕ) → ((more : List ℕ) → FailsFirst (bytes ++ more) line) → IsVectorVerdictOf bytes ended (Fail line)
+fail_stands : (bytes : List ℕ) (ended : Bool) (line : ℕ) → ((more : List ℕ) → FailsFirst (bytes ++ more) line)
+    → IsVectorVerdictOf bytes ended (Fail line)
 fail_stands bytes true line all = subst (λ (b : List ℕ). FailsFirst b line) (append-nil bytes) (all [])
 fail_stands bytes false line all = all
 
@@ -65,7 +69,8 @@ pub record Passes {S : Type 0} (gave : S → S → List ℕ → Type 0) (ended :
   pub next : IsNext rest (ended new) (kept lines) (over_of lines) answer
 
 pub passes : {S : Type 0} (gave : S → S → List ℕ → Type 0) (ended : S → Bool) (a b c : S) (count : ℕ) (before : List ℕ) (lines : Lines) (answer shown : Result Next PullFault)
-    → ((x y z : S) (xs ys : List ℕ) → gave x y xs → gave y z ys → gave x z (xs ++ ys)) → ((given : List ℕ) × gave a b given × BeginsTrue given count before)
+    → ((x y z : S) (xs ys : List ℕ) → gave x y xs → gave y z ys → gave x z (xs ++ ys))
+    → ((given : List ℕ) × gave a b given × BeginsTrue given count before)
     → Answered gave ended b c before lines answer → answer ≡ shown → Passes gave ended a c count lines shown
 passes gave ended a b c count before lines answer shown joined so_far answered same = record {
   given = so_far.0 ++ answered.given;

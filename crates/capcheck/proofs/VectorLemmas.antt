@@ -1,5 +1,6 @@
 -- The lines of vectors: where their operands stand, and that operands have one true line.
-use Rattle.std.proofs.Common.{◌≡◌, ℕ, ◌+◌, ◌-◌, Bool, List, ◌++◌, length, take, drop, codes, decimal, sym, ap, subst, ◌∙◌, arith, append_assoc}
+use Rattle.std.proofs.Common.{◌≡◌, ℕ, ◌+◌, ◌-◌, Bool, List, ◌++◌, length, take, drop, codes, decimal, sym, ap, subst}
+use Rattle.std.proofs.Common.{◌∙◌, arith, append_assoc}
 use Rattle.std.proofs.lemmas.Bool.Decides.{same_from_decides}
 use Rattle.std.proofs.lemmas.List.{drop_at, length-append, take_at}
 use Rattle.cap_word.specs.Digits.{hex_digits}
@@ -16,18 +17,23 @@ slice_at line front middle rest at k is before long =
     ∙ ap (take k) (drop_at front (middle ++ rest) at before) ∙ take_at middle rest k long
 
 -- it lies within the line
-pub slice_within : (line front middle rest : List ℕ) → line ≡ front ++ (middle ++ rest) → length line ≡ length front + (length middle + length rest)
+pub slice_within : (line front middle rest : List ℕ) → line ≡ front ++ (middle ++ rest)
+    → length line ≡ length front + (length middle + length rest)
 slice_within line front middle rest is = ap length is ∙ simp (length-append)
 
 -- the front of a line up to its second operand
 pub front_of_two : (head : List ℕ) (k n m : ℕ) → length head ≡ m → length (head ++ hex_digits k n ++ codes " ") ≡ m + k + 1
-front_of_two head k n m is = omega (arith, length-append (head ++ hex_digits k n) (codes " "), length-append head (hex_digits k n), length-hex_digits k n)
+front_of_two head k n m is =
+    omega (arith, length-append (head ++ hex_digits k n) (codes " "), length-append head (hex_digits k n), length-hex_digits k n)
 
 -- the operands of each line
-pub bounds_word : (w base top : ℕ) (answer : Bool) → (rest : List ℕ) × (spelling (Bounds w base top answer) ≡ codes "bounds " ++ (hex_digits 32 w ++ rest))
-bounds_word w base top answer = (codes " = " ++ (hex_digits 16 base ++ (codes " " ++ (hex_digits 17 top ++ (codes " " ++ flag_digit answer)))), simp append_assoc)
+pub bounds_word : (w base top : ℕ) (answer : Bool)
+    → (rest : List ℕ) × (spelling (Bounds w base top answer) ≡ codes "bounds " ++ (hex_digits 32 w ++ rest))
+bounds_word w base top answer =
+    (codes " = " ++ (hex_digits 16 base ++ (codes " " ++ (hex_digits 17 top ++ (codes " " ++ flag_digit answer)))), simp append_assoc)
 
-pub keeps_word : (w address : ℕ) (answer : Bool) → (rest : List ℕ) × (spelling (Keeps w address answer) ≡ codes "keeps " ++ (hex_digits 32 w ++ rest))
+pub keeps_word : (w address : ℕ) (answer : Bool)
+    → (rest : List ℕ) × (spelling (Keeps w address answer) ≡ codes "keeps " ++ (hex_digits 32 w ++ rest))
 keeps_word w address answer = (codes " " ++ (hex_digits 16 address ++ (codes " = " ++ flag_digit answer)), simp append_assoc)
 
 pub keeps_address : (w address : ℕ) (answer : Bool)
@@ -60,7 +66,8 @@ round_length base size base_rounded top_rounded ie e exact = (
 )
 
 -- operands have one true line
-pub same_bounds : (line written : List ℕ) (w v base top base' top' : ℕ) (answer answer' : Bool) → v ≡ w → States line (Bounds w base top answer)
+pub same_bounds : (line written : List ℕ) (w v base top base' top' : ℕ) (answer answer' : Bool) → v ≡ w
+    → States line (Bounds w base top answer)
     → States written (Bounds v base' top' answer') → line ≡ written
 same_bounds line written w v base top base' top' answer answer' is h k =
     let first = h.true_vector.holds in
@@ -69,7 +76,8 @@ same_bounds line written w v base top base' top' answer answer' is h k =
     let one : Bounds w base top answer ≡ Bounds v base' top' answer' = cc in
     h.spelled ∙ ap spelling one ∙ sym k.spelled
 
-pub same_keeps : (line written : List ℕ) (w v address address' : ℕ) (answer answer' : Bool) → v ≡ w → address' ≡ address → States line (Keeps w address answer)
+pub same_keeps : (line written : List ℕ) (w v address address' : ℕ) (answer answer' : Bool) → v ≡ w → address' ≡ address
+    → States line (Keeps w address answer)
     → States written (Keeps v address' answer') → line ≡ written
 same_keeps line written w v address address' answer answer' is also h k =
     let first = h.true_vector.holds in
@@ -90,7 +98,8 @@ same_round line written base size base' size' base_rounded top_rounded base_roun
     let one : Round base size base_rounded top_rounded ie e exact ≡ Round base' size' base_rounded' top_rounded' ie' e' exact' = cc in
     h.spelled ∙ ap spelling one ∙ sym k.spelled
 
-pub same_memory : (line written : List ℕ) (w v : ℕ) (bytes bytes' : List ℕ) → v ≡ w → States line (Memory w bytes) → States written (Memory v bytes') → line ≡ written
+pub same_memory : (line written : List ℕ) (w v : ℕ) (bytes bytes' : List ℕ) → v ≡ w → States line (Memory w bytes)
+    → States written (Memory v bytes') → line ≡ written
 same_memory line written w v bytes bytes' is h k =
     let first = h.true_vector.holds in
     let second = k.true_vector.holds in

@@ -20,7 +20,8 @@ not_two bytes rest lines one are = one (text_of lines ++ rest) are
 behind : List DeclaredRoot → List steps_module.Step → List Line
 behind roots steps = map (λ (root : DeclaredRoot). Root root.place root.word) roots ++ map Step steps
 
-begins_one : (bytes rest : List ℕ) (beginning : Beginning) → IsOfVersionOne bytes → bytes ≡ text_of (lines_of beginning) ++ rest → BeginsOne beginning
+begins_one : (bytes rest : List ℕ) (beginning : Beginning) → IsOfVersionOne bytes → bytes ≡ text_of (lines_of beginning) ++ rest
+    → BeginsOne beginning
 unfolding behind
 begins_one bytes rest Nothing one are = tt
 begins_one bytes rest NoMode one are = absurd (not_two bytes rest [] one are)
@@ -28,9 +29,13 @@ begins_one bytes rest (Body One roots steps) one are = refl
 begins_one bytes rest (Body TwoStrict roots steps) one are = absurd (not_two bytes rest (Mode Strict ∷ behind roots steps) one are)
 begins_one bytes rest (Body TwoClear roots steps) one are = absurd (not_two bytes rest (Mode Clear ∷ behind roots steps) one are)
 begins_one bytes rest (Whole One roots steps) one are = refl
-begins_one bytes rest (Whole TwoStrict roots steps) one are = absurd (not_two bytes rest (Mode Strict ∷ (behind roots steps ++ End (length steps) ∷ [])) one are)
-begins_one bytes rest (Whole TwoClear roots steps) one are = absurd (not_two bytes rest (Mode Clear ∷ (behind roots steps ++ End (length steps) ∷ [])) one are)
+begins_one bytes rest (Whole TwoStrict roots steps) one are =
+    absurd (not_two bytes rest (Mode Strict ∷ (behind roots steps ++ End (length steps) ∷ [])) one are)
+begins_one bytes rest (Whole TwoClear roots steps) one are =
+    absurd (not_two bytes rest (Mode Clear ∷ (behind roots steps ++ End (length steps) ∷ [])) one are)
 
-pub by_version_one : (bytes : List ℕ) (verdict : Verdict) → IsOfVersionOne bytes → (is : IsVerdict bytes verdict) → IsByVersionOne bytes verdict is
-by_version_one bytes (Yes steps roots) one is = begins_one bytes [] (Whole is.rules is.roots is.steps) one (is.log.bytes_are ∙ sym (append-nil _))
+pub by_version_one : (bytes : List ℕ) (verdict : Verdict) → IsOfVersionOne bytes → (is : IsVerdict bytes verdict)
+    → IsByVersionOne bytes verdict is
+by_version_one bytes (Yes steps roots) one is =
+    begins_one bytes [] (Whole is.rules is.roots is.steps) one (is.log.bytes_are ∙ sym (append-nil _))
 by_version_one bytes (No line refusal) one is = begins_one bytes is.rest is.beginning one is.bytes_are

@@ -8,4 +8,5 @@ pub returns-in-Some-clause-err : goal.returns-in-Some-clause-err
 returns-in-Some-clause-err g c = done_err _ _ _ _ _ c.judge_reader.ensures.done
 
 pub returns-in-Some-clause-printed : goal.returns-in-Some-clause-printed
-returns-in-Some-clause-printed g c = input_prints c.args.origins g.R.Read.remaining c.args.input _ _ _ _ c.in-Some.is c.judge_reader.ensures.done
+returns-in-Some-clause-printed g c =
+    input_prints c.args.origins g.R.Read.remaining c.args.input _ _ _ _ c.in-Some.is c.judge_reader.ensures.done

@@ -5,7 +5,8 @@ use Rattle.cap_machine.specs.declared.refusal.Refusal.TheVariants.{Truncated, Li
 use Rattle.capcheck.specs.Judgings.{JudgedBy}
 use Rattle.capcheck.specs.Progresses.{HasRead, reading_of}
 use Rattle.capcheck.proofs.JudgeLemmas.{goes_on}
-use Rattle.capcheck.proofs.SourceLemmas.{meets_at, at_met, pulled, finished_at, truncated_at, too_long_at, after_end, line_ended, few_at, over_after, later_read, judged_no, no_refused, no_answer}
+use Rattle.capcheck.proofs.SourceLemmas.{meets_at, at_met, pulled, finished_at, truncated_at, too_long_at, after_end}
+use Rattle.capcheck.proofs.SourceLemmas.{line_ended, few_at, over_after, later_read, judged_no, no_refused, no_answer}
 use Rattle.capcheck.proofs.progress.Progress.judge_rest.Goals as goal
 
 pub lines-init : goal.lines-init
