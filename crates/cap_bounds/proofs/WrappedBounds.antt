@@ -33,6 +33,16 @@ from_units units y n c v small h unit =
     let e : m * v + 2 ^ 64 * (k * v + 4) ≡ n * (2048 * v) + 2 ^ 64 * v = omega (arith, f, g, unit) in
     same_mod (m * v) (n * (2048 * v)) (k * v + 4) v e
 
+-- units raised by 2 ^ 11 and lowered by B's eighths, down to a multiple of 2 ^ 14, where c windows have 2 ^ 66 addresses
+abbrev raised_sum : ℕ → ℕ → ℕ
+raised_sum units b = (units + 2048) % 2 ^ 64 + (2 ^ 64 - (b - b % 2048))
+
+floored : (units b c : ℕ) → b < 2 ^ 14 → 0 < c
+    → 2 ^ 14 * (((units + 16384 * c) / 2048 + 1 - b / 2048) / 8) + 2 ^ 64
+    ≡ raised_sum units b % 2 ^ 64 - raised_sum units b % 2 ^ 64 % 16384
+    + 2 ^ 64 * ((units + 2048) / 2 ^ 64 + raised_sum units b / 2 ^ 64) + 16384 * c
+floored units b c hb hc = omega arith
+
 module _ (e b a : ℕ) (he : e ≤ 52) (hb : b < 2 ^ 14) where
   -- the address, 2 ^ 66 higher, in units
   units_is : (a + 2 ^ 66) / 2 ^ e ≡ a / 2 ^ e + 16384 * 2 ^ (52 - e)
@@ -71,6 +81,28 @@ module _ (e b a : ℕ) (he : e ≤ 52) (hb : b < 2 ^ 14) where
   pub base_wrapped : (window_start_at e b a % 2 ^ 64 + (2048 + b % 2048) * 2 ^ e % 2 ^ 64) % 2 ^ 64 ≡ raw_base_at e b a % 2 ^ 64
   base_wrapped = omega (arith, raw_base_from_start e b a he hb)
 
+  -- the base is B above such a multiple
+  pub base_floored : (raised_sum (a / 2 ^ e) b % 2 ^ 64 - raised_sum (a / 2 ^ e) b % 2 ^ 64 % 16384 + b) % 2 ^ 64 * 2 ^ e % 2 ^ 64
+      ≡ raw_base_at e b a % 2 ^ 64
+  unfolding raw_base_at
+  base_floored =
+      let v = 2 ^ e in
+      let c = 2 ^ (52 - e) in
+      let units = a / 2 ^ e in
+      let t = ((units + 16384 * c) / 2048 + 1 - b / 2048) / 8 in
+      let floor = raised_sum units b % 2 ^ 64 - raised_sum units b % 2 ^ 64 % 16384 in
+      let j = (units + 2048) / 2 ^ 64 + raised_sum units b / 2 ^ 64 in
+      let m = (floor + b) % 2 ^ 64 in
+      let k = (floor + b) / 2 ^ 64 in
+      let unit : c * v ≡ 2 ^ 52 = sym (pow_split 52 (52 - e) e (omega arith)) in
+      let whole : m + 2 ^ 64 * k ≡ floor + b = omega arith in
+      let f : (m + 2 ^ 64 * k) * v ≡ (floor + b) * v = ap (λ (x : ℕ). x * v) whole in
+      let g : (2 ^ 14 * t + 2 ^ 64) * v ≡ (floor + 2 ^ 64 * j + 16384 * c) * v =
+      ap (λ (x : ℕ). x * v) (floored units b c hb (pow_pos (52 - e))) in
+      let same : m * v + 2 ^ 64 * (k * v + j * v + 4) ≡ (2 ^ 14 * t + b) * v + 2 ^ 64 * v = omega (arith, f, g, unit) in
+      same_mod (m * v) ((2 ^ 14 * t + b) * v) (k * v + j * v + 4) v same
+      ∙ ap (λ (x : ℕ). (2 ^ 14 * ((x + 1 - b / 2048) / 8) + b) * 2 ^ e % 2 ^ 64) (sym eighths_is)
+
 -- from the cut exponent 51 on the windows are multiples of 2 ^ 65
 far_sum : (t b d v k : ℕ) → 16384 * v ≡ k * 2 ^ 65 → ((2 ^ 14 * t + b) * v + d * v) % 2 ^ 65 ≡ (b + d) * v % 2 ^ 65
 far_sum t b d v k h =
@@ -85,6 +117,17 @@ top_without_address e b a d h =
     let windows : 16384 * 2 ^ e ≡ 2 ^ (e - 51) * 2 ^ 65 = sym (pow_split (e + 14) 14 e (omega arith)) ∙ size_covers e h in
     sym (far_sum (((a + 2 ^ 66) / 2 ^ (e + 11) + 1 - b / 2 ^ 11) / 8) b d (2 ^ e) (2 ^ (e - 51)) windows)
     ∙ sym (top_at-uncorrected e (raw_base_at e b a) (d * 2 ^ e) h)
+
+-- bytes in the bounds of a sound word, by how far the first of them and the last byte in bounds lie above the base
+pub in_bounds : (base length top address count first last : ℕ) → base + length ≡ top → top ≤ 2 ^ 64 → address < 2 ^ 64 → 0 < count → 0 < length
+    → first ≡ (address + (2 ^ 64 - base)) % 2 ^ 64 → last ≡ (length % 2 ^ 64 + (2 ^ 64 - 1)) % 2 ^ 64
+    → first ≤ last → count - 1 ≤ last - first → (base ≤ address) × (address + count ≤ top)
+in_bounds base length top address count first last whole fits small some long first_is last_is order room = (omega arith, omega arith)
+
+pub bounds_in : (base length top address count first last : ℕ) → base + length ≡ top → top ≤ 2 ^ 64 → address < 2 ^ 64 → 0 < count
+    → first ≡ (address + (2 ^ 64 - base)) % 2 ^ 64 → last ≡ (length % 2 ^ 64 + (2 ^ 64 - 1)) % 2 ^ 64
+    → base ≤ address → address + count ≤ top → (first ≤ last) × (count - 1 ≤ last - first)
+bounds_in base length top address count first last whole fits small some first_is last_is from until = (omega arith, omega arith)
 
 pub units_shifted : (e n : ℕ) → e ≤ 52 → n < 2 ^ 15 → n * 2 ^ e % 2 ^ 128 ≡ n * 2 ^ e
 units_shifted e n he hn = shl_whole n 15 e 128 hn (omega arith)

@@ -114,15 +114,16 @@ pub(crate) fn window_from(cut_exponent: u32, b: u64, address: u64) -> u64
     units.wrapping_sub(above_start) << cut_exponent
 }
 
-/// The base of a word: B lies 2^11 units and its low eleven bits above the window's start.
+/// The base of a word, in units its window's start with B added: windows begin at multiples of 2^14 units where
+/// the address is raised by 2^11 units and lowered by those of B's three high bits.
 #[inline(always)]
 fn base_from(cut_exponent: u32, b: u64, address: u64) -> u64
     requires exponent_fits { cut_exponent ≤ 52 }
     requires b_fits { b < 2 ^ 14 }
     ensures { result ≡ raw_base_at cut_exponent b address % 2 ^ 64 }
 {
-    let above_start = (0x800 + (b & 0x7ff)) << cut_exponent;
-    window_from(cut_exponent, b, address).wrapping_add(above_start)
+    let raised = (address >> cut_exponent).wrapping_add(0x800).wrapping_sub(b - b % 0x800);
+    (raised - raised % 0x4000).wrapping_add(b) << cut_exponent
 }
 
 /// The top from the cut exponent 51 on, where it hangs on no address: it is cut to 65 bits.
@@ -210,6 +211,31 @@ pub fn bounds(word: Word) -> Interval
 {
     let Decoded { base, top, .. } = decode(word);
     Interval { base, top }
+}
+
+/// Whether so many bytes from an address on, one at least, lie in the bounds of a sound word. It says what
+/// [`bounds`] say, by numbers of 64 bits alone.
+#[inline(always)]
+pub fn sound_word_holds(word: Word, address: u64, count: u8) -> bool
+    requires sound { IsSound word.0 }
+    requires some { 0 < count }
+    ensures { IsTrue result ↔ IsInside address (address + count) (base_of word.0) (top_of word.0) }
+{
+    let Scale {
+        cut_exponent,
+        b,
+        span,
+    } = scale_of(word);
+    if span == 0 {
+        return false;
+    }
+    // How far the first of the bytes and the last byte in bounds lie above the base.
+    let first = address.wrapping_sub(base_from(cut_exponent, b, word.address()));
+    let last = (span << cut_exponent).wrapping_sub(1);
+    if first > last {
+        return false;
+    }
+    last - first >= u64::from(count - 1)
 }
 
 /// Whether a word is sound: its top is its base plus its length, and is at most 2^64.

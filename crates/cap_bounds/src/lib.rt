@@ -9,7 +9,7 @@ mod plain;
 mod range;
 mod rounding;
 
-pub use crate::decoding::{Interval, bounds, bounds_are_unique, mantissa, sound};
+pub use crate::decoding::{Interval, bounds, bounds_are_unique, mantissa, sound, sound_word_holds};
 pub use crate::lengths::{align_mask, least_law, round_length};
 pub use crate::range::{keeps_bounds, reach};
 pub use crate::rounding::{Rounded, round, with_bounds};

@@ -22,7 +22,7 @@ use crate::ends::StepEnd;
 use crate::granules::{number_in, put_capability, put_number};
 use crate::machine::{MOST_STEPS, Machine};
 use crate::refusal::Refusal;
-use cap_ops::{Access, Kind, OpFault, loaded, may_access};
+use cap_ops::{Access, Kind, OpFault, loaded, may_access_soundly};
 use cap_word::Cap;
 use tagmem::{NoMemory, TaggedStore};
 
@@ -37,7 +37,7 @@ impl<M: TaggedStore> Machine<M> {
         ensures in_one_granule { IfOk result (λ address. address % 16 + size ≤ 16) }
     {
         let access = Access { kind, offset, size };
-        may_access(self.register(authority), access)
+        may_access_soundly(self.register(authority), access)
     }
 
     // The code of a granule's origin, looked up only for a tag.

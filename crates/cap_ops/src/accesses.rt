@@ -1,6 +1,6 @@
 //! Accesses to memory through an authority.
 
-ghost use Rattle.std.specs.Prelude.{◌≡◌, ◌<◌, ◌≤◌, ◌%◌, ◌+◌, ◌↔◌, None, Some, MatchResult, IfOk, IsTrue};
+ghost use Rattle.std.specs.Prelude.{◌≡◌, ◌<◌, ◌≤◌, ◌%◌, ◌+◌, ◌↔◌, None, Some, true, MatchResult, IfOk, IsTrue};
 ghost use Rattle.cap_ops.specs.Accesses.{
   IsAllowed,
   access_address,
@@ -9,6 +9,7 @@ ghost use Rattle.cap_ops.specs.Accesses.{
   permission_for,
   stored_tests,
 };
+ghost use Rattle.cap_bounds.specs.Bounds.{IsSound};
 ghost use Rattle.cap_ops.specs.Authority.{StaysWithin};
 ghost use Rattle.cap_ops.specs.Operations.{covers};
 ghost use Rattle.cap_ops.specs.Sizes.{size_fits};
@@ -22,7 +23,7 @@ use crate::bits::{
 use crate::faults::OpFault;
 use crate::kinds::Kind;
 use crate::sealing::sealed;
-use cap_bounds::bounds;
+use cap_bounds::{bounds, sound_word_holds};
 use cap_word::{Cap, Word};
 
 /// The number of the permission that a kind of access needs.
@@ -37,13 +38,19 @@ fn needed(kind: Kind) -> u32
     }
 }
 
-/// Whether `size` bytes from an address on lie in a word's bounds.
+/// Whether `size` bytes from an address on lie in a word's bounds. Those of a sound word need 64 bits only.
 #[tactic(auto, unfolding(crate::specs::Operations::covers))]
-#[inline(never)]
-fn holds_bytes(word: Word, address: u64, size: u8) -> bool
+#[inline(always)]
+fn holds_bytes<const SOUND: bool>(word: Word, address: u64, size: u8) -> bool
+    requires sound { SOUND ≡ true → IsSound word.0 }
+    requires some { 0 < size }
     ensures { result ≡ covers word.0 address (address + size) }
 {
-    bounds(word).contains(address, u128::from(address) + u128::from(size))
+    if SOUND {
+        sound_word_holds(word, address, size)
+    } else {
+        bounds(word).contains(address, u128::from(address) + u128::from(size))
+    }
 }
 
 /// Whether an address is a multiple of the size of an access, which is a power of two.
@@ -85,8 +92,9 @@ fn target_of(authority: Word, offset: i16) -> u64
 /// The first test that refuses an access at an address.
 #[tactic(auto, unfolding(crate::specs::Accesses::access_tests))]
 #[inline(always)]
-fn access_fault(authority: Cap, access: Access, address: u64) -> Option<OpFault>
-    requires { address ≡ access_address authority.word.0 access.offset }
+fn access_fault<const SOUND: bool>(authority: Cap, access: Access, address: u64) -> Option<OpFault>
+    requires sound { SOUND ≡ true → IsTrue authority.tag → IsSound authority.word.0 }
+    requires address { address ≡ access_address authority.word.0 access.offset }
     ensures { result ≡ first_of (access_tests authority access.kind access.offset access.size) }
 {
     let word = authority.word;
@@ -96,7 +104,7 @@ fn access_fault(authority: Cap, access: Access, address: u64) -> Option<OpFault>
         Some(OpFault::AuthoritySealed)
     } else if !permits(word, needed(access.kind)) {
         Some(OpFault::AuthorityPermission)
-    } else if !holds_bytes(word, address, access.size) {
+    } else if !holds_bytes::<SOUND>(word, address, access.size) {
         Some(OpFault::AuthorityBounds)
     } else if !is_aligned(address, access) {
         Some(OpFault::Misaligned)
@@ -120,8 +128,37 @@ pub fn may_access(authority: Cap, access: Access) -> Result<u64, OpFault>
     ensures allowed { IfOk result (λ address. IsAllowed authority.word.0 address access.size (permission_for access.kind)) }
     ensures in_one_granule { IfOk result (λ address. address % 16 + access.size ≤ 16) }
 {
+    access_by::<false>(authority, access)
+}
+
+/// Answers as [`may_access`] does for an authority whose word is sound where it is tagged, as each that a machine
+/// holds is, by numbers of 64 bits alone.
+#[inline(always)]
+pub fn may_access_soundly(authority: Cap, access: Access) -> Result<u64, OpFault>
+    requires sound { IsTrue authority.tag → IsSound authority.word.0 }
+    ensures outcome { MatchResult result
+        (λ address. (first_of (access_tests authority access.kind access.offset access.size) ≡ None)
+        × (address ≡ access_address authority.word.0 access.offset))
+        (λ fault. first_of (access_tests authority access.kind access.offset access.size) ≡ Some fault) }
+    ensures allowed { IfOk result (λ address. IsAllowed authority.word.0 address access.size (permission_for access.kind)) }
+    ensures in_one_granule { IfOk result (λ address. address % 16 + access.size ≤ 16) }
+{
+    access_by::<true>(authority, access)
+}
+
+/// The answer to both, for an authority that is known to be sound where it is tagged, or for any.
+#[inline(always)]
+fn access_by<const SOUND: bool>(authority: Cap, access: Access) -> Result<u64, OpFault>
+    requires sound { SOUND ≡ true → IsTrue authority.tag → IsSound authority.word.0 }
+    ensures outcome { MatchResult result
+        (λ address. (first_of (access_tests authority access.kind access.offset access.size) ≡ None)
+        × (address ≡ access_address authority.word.0 access.offset))
+        (λ fault. first_of (access_tests authority access.kind access.offset access.size) ≡ Some fault) }
+    ensures allowed { IfOk result (λ address. IsAllowed authority.word.0 address access.size (permission_for access.kind)) }
+    ensures in_one_granule { IfOk result (λ address. address % 16 + access.size ≤ 16) }
+{
     let target = target_of(authority.word, access.offset);
-    match access_fault(authority, access, target) {
+    match access_fault::<SOUND>(authority, access, target) {
         Some(fault) => Err(fault),
         None => Ok(target),
     }

@@ -17,7 +17,7 @@ mod samples;
 mod sealing;
 
 pub use crate::access::Access;
-pub use crate::accesses::{loaded, may_access};
+pub use crate::accesses::{loaded, may_access, may_access_soundly};
 pub use crate::addresses::set_addr;
 pub use crate::clearing::{
     and_perm_clear, seal_clear, set_addr_clear, set_bounds_clear, unseal_clear,

@@ -3,11 +3,11 @@
 ghost use Rattle.std.specs.Prelude.{◌≡◌, ◌-◌, ◌*◌, ◌≤◌, ◌++◌, length, replicate, decimal, IfSome, IfNone};
 ghost use Rattle.cap_word.specs.Digits.{hex_digits};
 ghost use Rattle.cap_log.specs.Lines.{IsDataSize, IsDataValue};
-ghost use Rattle.cap_log.specs.Parts.{Begins, BeginsWithNone, IsSized, Reads, loaded_spelling, stored_spelling};
+ghost use Rattle.cap_log.specs.Parts.{Begins, BeginsWithNone, IsEnd, IsSized, Reads, loaded_spelling, stored_spelling};
 
 use crate::buffers::{put, put_decimal, put_hex};
 use crate::parts::Part;
-use crate::parts::cutting::split_fixed;
+use crate::parts::cutting::{behind, split_fixed};
 use cap_word::read_u64;
 
 /// The size and the value that a load records: the size, `= ` and the value's digits.
@@ -24,12 +24,14 @@ impl Part for Loaded {
 
     ghost spelled = { λ loaded. loaded_spelling loaded.size loaded.value };
 
+    // Eight bytes come first, since they are the most usual.
     #[inline(always)]
     fn take(bytes: &[u8], end: u8) -> Option<(Loaded, &[u8])> {
-        let (size, rest) = take_size(bytes)?;
-        let digits = rest.strip_prefix(b"= ")?;
-        let (value, rest) = take_value(digits, size, end)?;
-        Some((Loaded { size, value }, rest))
+        let Some(digits) = behind(bytes, b"8 =", b' ') else {
+            return take_loaded(bytes, end);
+        };
+        let (value, rest) = take_value(digits, 8, end)?;
+        Some((Loaded { size: 8, value }, rest))
     }
 
     fn write(&self, buffer: &mut [u8], at: usize) -> usize {
@@ -58,11 +60,14 @@ impl Part for Stored {
 
     ghost spelled = { λ stored. stored_spelling stored.size stored.value };
 
+    // Eight bytes come first here too.
     #[inline(always)]
     fn take(bytes: &[u8], end: u8) -> Option<(Stored, &[u8])> {
-        let (size, digits) = take_size(bytes)?;
-        let (value, rest) = take_value(digits, size, end)?;
-        Some((Stored { size, value }, rest))
+        let Some(digits) = behind(bytes, b"8", b' ') else {
+            return take_stored(bytes, end);
+        };
+        let (value, rest) = take_value(digits, 8, end)?;
+        Some((Stored { size: 8, value }, rest))
     }
 
     fn write(&self, buffer: &mut [u8], at: usize) -> usize {
@@ -75,6 +80,35 @@ impl Part for Stored {
             u128::from(self.value),
         )
     }
+}
+
+// Takes what a load of any size records.
+#[inline(never)]
+fn take_loaded(bytes: &[u8], end: u8) -> Option<(Loaded, &[u8])>
+    requires { IsEnd end }
+    ensures some { IfSome result (λ p. let loaded = p.0 in
+        Begins (λ (v : Loaded). IsSized v.size v.value) (λ (v : Loaded). loaded_spelling v.size v.value) end bytes.now loaded p.1.now) }
+    ensures none { IfNone result
+        (BeginsWithNone (λ (v : Loaded). IsSized v.size v.value) (λ (v : Loaded). loaded_spelling v.size v.value) end bytes.now) }
+{
+    let (size, rest) = take_size(bytes)?;
+    let digits = rest.strip_prefix(b"= ")?;
+    let (value, rest) = take_value(digits, size, end)?;
+    Some((Loaded { size, value }, rest))
+}
+
+// Takes what a store of any size has.
+#[inline(never)]
+fn take_stored(bytes: &[u8], end: u8) -> Option<(Stored, &[u8])>
+    requires { IsEnd end }
+    ensures some { IfSome result (λ p. let stored = p.0 in
+        Begins (λ (v : Stored). IsSized v.size v.value) (λ (v : Stored). stored_spelling v.size v.value) end bytes.now stored p.1.now) }
+    ensures none { IfNone result
+        (BeginsWithNone (λ (v : Stored). IsSized v.size v.value) (λ (v : Stored). stored_spelling v.size v.value) end bytes.now) }
+{
+    let (size, digits) = take_size(bytes)?;
+    let (value, rest) = take_value(digits, size, end)?;
+    Some((Stored { size, value }, rest))
 }
 
 // Takes a size, 1, 2, 4 or 8, and a space.

@@ -8,7 +8,7 @@ use Rattle.cap_ops.specs.declared.access.Access.{Access}
 use Rattle.cap_ops.specs.Tests.{first_of}
 use Rattle.cap_ops.specs.Accesses.{IsAllowed, access_address, access_tests, permission_for}
 use Rattle.cap_ops.proofs.AccessLemmas.{IsAllowed-access, in_granule}
-use Rattle.cap_ops.proofs.accesses.may_access.Goals as goal
+use Rattle.cap_ops.proofs.accesses.access_by.Goals as goal
 
 -- what the tests that all failed leave
 allowed : (authority : Cap) (access : Access) (target : ℕ) (fault : Option OpFault) → FitsSigned w16 access.offset → target ≡ access_address authority.word.0 (cast_signed w16 (cast_unsigned w16 access.offset))
@@ -19,12 +19,12 @@ allowed authority access target fault fits at first none =
     subst P (sym (at ∙ ap (access_address w) (to_z-of_z w16 access.offset fits))) (IsAllowed-access authority access.kind access.offset access.size (sym first ∙ none))
 
 pub returns-in-None-clause-allowed : goal.returns-in-None-clause-allowed
-returns-in-None-clause-allowed c =
+returns-in-None-clause-allowed g c =
     let fits : FitsSigned w16 c.args.access.offset = search rules in
     allowed c.args.authority c.args.access _ _ fits c.target_of-target.ensures c.access_fault.ensures c.in-None.is
 
 pub returns-in-None-clause-in_one_granule : goal.returns-in-None-clause-in_one_granule
-returns-in-None-clause-in_one_granule c =
+returns-in-None-clause-in_one_granule g c =
     let access = c.args.access in
     let fits : FitsSigned w16 access.offset = search rules in
     let met = allowed c.args.authority access _ _ fits c.target_of-target.ensures c.access_fault.ensures c.in-None.is in

@@ -1,0 +1,62 @@
+use Rattle.std.proofs.Common.{◌≡◌, ◌+◌, ◌-◌, ◌*◌, ◌%◌, ◌^◌, ◌≤◌, refl, sym, ◌∙◌, ap, arith}
+use Rattle.std.proofs.Math.Nat.{le-mul_of_pos_right}
+use Rattle.std.proofs.lemmas.Bool.{false≢true, le-leb, leb-true}
+use Rattle.std.proofs.lemmas.Nat.{pow_pos}
+use Rattle.cap_word.specs.Fields.{address_of}
+use Rattle.cap_bounds.specs.Bounds.{base_of, length_of, top_of, raw_base_at}
+use Rattle.cap_bounds.proofs.Decoded.{decoded_base, decoded_length}
+use Rattle.cap_bounds.proofs.WrappedBounds.{in_bounds, bounds_in}
+use Rattle.cap_bounds.proofs.decoding.sound_word_holds.Goals as goal
+
+pub returns-then-span-eq0 : goal.returns-then-span-eq0
+returns-then-span-eq0 c =
+    let w = c.args.word.0 in
+    let s = c.scale_of-cut_exponent in
+    let raw = raw_base_at s.result.cut_exponent s.result.b (address_of w) in
+    let length : s.result.span * 2 ^ s.result.cut_exponent ≡ length_of w =
+    decoded_length w s.result.cut_exponent s.result.b s.result.span (address_of w) raw
+    s.ensures.cut_exponent s.ensures.b s.ensures.span refl refl in
+    let none : s.result.span * 2 ^ s.result.cut_exponent ≡ 0 * 2 ^ s.result.cut_exponent =
+    ap (λ n. n * 2 ^ s.result.cut_exponent) c.if-span-eq0.true in
+    (λ is. absurd (false≢true is), λ inside. absurd (omega (arith, length, none, c.requires.sound.0, c.requires.some, inside.0, inside.1)))
+
+pub returns-then-first-last : goal.returns-then-first-last
+returns-then-first-last c =
+    let w = c.args.word.0 in
+    let s = c.scale_of-cut_exponent in
+    let raw = raw_base_at s.result.cut_exponent s.result.b c.address.result in
+    let length : s.result.span * 2 ^ s.result.cut_exponent ≡ length_of w =
+    decoded_length w s.result.cut_exponent s.result.b s.result.span c.address.result raw
+    s.ensures.cut_exponent s.ensures.b s.ensures.span c.address.ensures refl in
+    let base : c.base_from.result ≡ base_of w =
+    c.base_from.ensures ∙ decoded_base w s.result.cut_exponent s.result.b s.result.span c.address.result raw
+    s.ensures.cut_exponent s.ensures.b s.ensures.span c.address.ensures refl in
+    let first = (c.args.address + (2 ^ 64 - c.base_from.result)) % 2 ^ 64 in
+    let last = (s.result.span * 2 ^ s.result.cut_exponent % 2 ^ 64 + (2 ^ 64 - 1)) % 2 ^ 64 in
+    let within = bounds_in (base_of w) (length_of w) (top_of w) c.args.address c.args.count first last c.requires.sound.0 c.requires.sound.1 (omega arith)
+    c.requires.some (ap (λ x. (c.args.address + (2 ^ 64 - x)) % 2 ^ 64) base) (ap (λ x. (x % 2 ^ 64 + (2 ^ 64 - 1)) % 2 ^ 64) length) in
+    (λ is. absurd (false≢true is), λ inside. absurd (omega (arith, (within inside.0 inside.1).0, c.if-first-last.true)))
+
+pub returns : goal.returns
+returns c =
+    let w = c.args.word.0 in
+    let s = c.scale_of-cut_exponent in
+    let raw = raw_base_at s.result.cut_exponent s.result.b c.address.result in
+    let length : s.result.span * 2 ^ s.result.cut_exponent ≡ length_of w =
+    decoded_length w s.result.cut_exponent s.result.b s.result.span c.address.result raw
+    s.ensures.cut_exponent s.ensures.b s.ensures.span c.address.ensures refl in
+    let base : c.base_from.result ≡ base_of w =
+    c.base_from.ensures ∙ decoded_base w s.result.cut_exponent s.result.b s.result.span c.address.result raw
+    s.ensures.cut_exponent s.ensures.b s.ensures.span c.address.ensures refl in
+    let some : s.result.span ≤ s.result.span * 2 ^ s.result.cut_exponent = le-mul_of_pos_right s.result.span (pow_pos s.result.cut_exponent) in
+    let first = (c.args.address + (2 ^ 64 - c.base_from.result)) % 2 ^ 64 in
+    let last = (s.result.span * 2 ^ s.result.cut_exponent % 2 ^ 64 + (2 ^ 64 - 1)) % 2 ^ 64 in
+    let first_is = ap (λ x. (c.args.address + (2 ^ 64 - x)) % 2 ^ 64) base in
+    let last_is = ap (λ x. (x % 2 ^ 64 + (2 ^ 64 - 1)) % 2 ^ 64) length in
+    let to = in_bounds (base_of w) (length_of w) (top_of w) c.args.address c.args.count first last c.requires.sound.0 c.requires.sound.1 (omega arith)
+    c.requires.some (omega (arith, some, length, c.if-span-eq0.false)) first_is last_is c.if-first-last.false in
+    let from = bounds_in (base_of w) (length_of w) (top_of w) c.args.address c.args.count first last c.requires.sound.0 c.requires.sound.1 (omega arith)
+    c.requires.some first_is last_is in (
+      λ is. to (omega (arith, leb-true _ _ is, c.from.ensures)),
+      λ inside. le-leb _ _ (omega (arith, (from inside.0 inside.1).1, c.from.ensures)),
+    )
