@@ -63,9 +63,13 @@ implied false q h e = absurd (false≢true e)
 
 -- lanes that pass the tests of each byte and of each digit
 pub lane_of : (f : ℕ → ℕ) → agree_below (λ b. not (ltb (f b) 16) || eqb b (hex_digit (f b))) (λ _. true) 256 ≡ true
+    → agree_below (λ b. not (ltb (f b) 128) || ltb (f b) 16) (λ _. true) 256 ≡ true
     → agree_below (λ d. eqb (f (hex_digit d)) d) (λ _. true) 16 ≡ true
     → (b : ℕ) → b < 256 → IsLaneOf b (f b)
-lane_of f bytes digits b small = record {
+lane_of f bytes others digits b small = record {
+  apart = λ below.
+      let test = agree_below_at (λ b. not (ltb (f b) 128) || ltb (f b) 16) (λ _. true) 256 b others small in
+      ltb-true (f b) 16 (implied (ltb (f b) 128) (ltb (f b) 16) test (lt-ltb (f b) 128 below));
   names = λ low.
       let test = agree_below_at (λ b. not (ltb (f b) 16) || eqb b (hex_digit (f b))) (λ _. true) 256 b bytes small in
       eqb-true b (hex_digit (f b)) (implied (ltb (f b) 16) (eqb b (hex_digit (f b))) test (lt-ltb (f b) 16 low));
@@ -151,42 +155,43 @@ module _ (less sub add : ℕ → ℕ → ℕ) (zero ten a six more other : ℕ) 
       (test-is zero ten) (from-is zero) letters-is
 
   pub lane_at : agree_below (λ b. not (ltb (lane b) 16) || eqb b (hex_digit (lane b))) (λ _. true) 256 ≡ true
+      → agree_below (λ b. not (ltb (lane b) 128) || ltb (lane b) 16) (λ _. true) 256 ≡ true
       → agree_below (λ d. eqb (lane (hex_digit d)) d) (λ _. true) 16 ≡ true
       → (i : ℕ) → i < 16 → IsLaneOf (get_or v i 0) (get_or lanes i 0)
-  lane_at bytes digits i lt =
+  lane_at bytes others digits i lt =
       let at : get_or lanes i 0 ≡ lane (get_or v i 0) = ap (λ (l : List ℕ). get_or l i 0) lanes-is
       ∙ get_or-map lane v i 0 0 (omega arith) in
-      rw at (lane_of lane bytes digits (get_or v i 0) (below_256 v fits i lt))
+      rw at (lane_of lane bytes others digits (get_or v i 0) (below_256 v fits i lt))
 
--- the mask of the lanes that are 16 or more
+-- the mask of the lanes that are 128 or more
 module _ (v : List ℕ) (fits : (length v ≡ 16) × Each1 (Fits w8) v) (le : ℕ → ℕ → ℕ) where
   sixteen : length v ≡ 16
   sixteen = fits.0
 
   abbrev mask : ℕ
-  mask = mask_l (map (top 7) (zip2 le (replicate 16 16) v)) % 2 ^ 64
+  mask = mask_l (map (top 7) (zip2 le (replicate 16 128) v)) % 2 ^ 64
 
-  mask-is : mask ≡ mask_l (map (λ x. top 7 (le 16 x)) v)
+  mask-is : mask ≡ mask_l (map (λ x. top 7 (le 128 x)) v)
   mask-is =
-      let each = ap (map (top 7)) (zip2_splat_left le 16 16 v sixteen) ∙ map-map (top 7) (λ x. le 16 x) v in
+      let each = ap (map (top 7)) (zip2_splat_left le 128 16 v sixteen) ∙ map-map (top 7) (λ x. le 128 x) v in
       ap (λ l. mask_l l % 2 ^ 64) each
-      ∙ mask_l-mod (map (λ x. top 7 (le 16 x)) v) 64 (omega (arith, length-map v (λ x. top 7 (le 16 x)), sixteen))
+      ∙ mask_l-mod (map (λ x. top 7 (le 128 x)) v) 64 (omega (arith, length-map v (λ x. top 7 (le 128 x)), sixteen))
 
-  at : agree_below (λ x. top 7 (le 16 x)) (λ x. not (ltb x 16)) 256 ≡ true → (i : ℕ) → i < 16
-      → top 7 (le 16 (get_or v i 0)) ≡ not (ltb (get_or v i 0) 16)
-  at test i lt = agree_below_at (λ x. top 7 (le 16 x)) (λ x. not (ltb x 16)) 256 (get_or v i 0) test (below_256 v fits i lt)
+  at : agree_below (λ x. top 7 (le 128 x)) (λ x. not (ltb x 128)) 256 ≡ true → (i : ℕ) → i < 16
+      → top 7 (le 128 (get_or v i 0)) ≡ not (ltb (get_or v i 0) 128)
+  at test i lt = agree_below_at (λ x. top 7 (le 128 x)) (λ x. not (ltb x 128)) 256 (get_or v i 0) test (below_256 v fits i lt)
 
-  pub all_low : agree_below (λ x. top 7 (le 16 x)) (λ x. not (ltb x 16)) 256 ≡ true → eqb mask 0 ≡ true → (i : ℕ) → i < 16
-      → get_or v i 0 < 16
+  pub all_low : agree_below (λ x. top 7 (le 128 x)) (λ x. not (ltb x 128)) 256 ≡ true → eqb mask 0 ≡ true → (i : ℕ) → i < 16
+      → get_or v i 0 < 128
   all_low test none i lt =
-      ltb-true (get_or v i 0) 16
-      (not-false _ (sym (at test i lt) ∙ none_masked (λ x. top 7 (le 16 x)) v (sym mask-is ∙ eqb-true mask 0 none) i (omega arith)))
+      ltb-true (get_or v i 0) 128
+      (not-false _ (sym (at test i lt) ∙ none_masked (λ x. top 7 (le 128 x)) v (sym mask-is ∙ eqb-true mask 0 none) i (omega arith)))
 
-  pub not_all_low : agree_below (λ x. top 7 (le 16 x)) (λ x. not (ltb x 16)) 256 ≡ true → eqb mask 0 ≡ false
+  pub not_all_low : agree_below (λ x. top 7 (le 128 x)) (λ x. not (ltb x 128)) 256 ≡ true → eqb mask 0 ≡ false
       → ((i : ℕ) → i < 16 → get_or v i 0 < 16) → ⊥
   not_all_low test some low =
-      let none = mask-is ∙ mask_none (λ x. top 7 (le 16 x)) v
-      (λ i lt. at test i (omega arith) ∙ ap not (lt-ltb (get_or v i 0) 16 (low i (omega arith)))) in
+      let none = mask-is ∙ mask_none (λ x. top 7 (le 128 x)) v
+      (λ i lt. at test i (omega arith) ∙ ap not (lt-ltb (get_or v i 0) 128 (omega (arith, low i (omega arith))))) in
       false≢true (sym some ∙ eq-eqb mask 0 none)
 
 -- a byte of two digits

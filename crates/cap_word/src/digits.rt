@@ -19,13 +19,14 @@ fn values(bytes: u8x16) -> u8x16
     decimal.simd_lt(u8x16::splat(10)).select(decimal, other)
 }
 
-// Whether each lane is the value of a digit.
+// Whether each lane is the value of a digit: no other has its highest bit clear.
 #[inline(always)]
 fn are_digits(values: u8x16) -> bool
+    requires { (i : ℕ) → i < 16 → slice_index values i < 128 → slice_index values i < 16 }
     ensures yes { result ≡ true → (i : ℕ) → i < 16 → slice_index values i < 16 }
     ensures no { result ≡ false → ((i : ℕ) → i < 16 → slice_index values i < 16) → ⊥ }
 {
-    values.simd_ge(u8x16::splat(16)).to_bitmask() == 0
+    values.simd_ge(u8x16::splat(128)).to_bitmask() == 0
 }
 
 // The bytes that pairs of digits spell.

@@ -9,21 +9,15 @@ pub(crate) fn overwrite(granule: &mut [u8; 16], byte_index: u8, bytes: &[u8])
     ensures { granule.new ≡ overwritten granule.old byte_index bytes.now }
 {
     let from = byte_index as usize;
+    if let Some(all) = bytes.first_chunk::<16>() {
+        *granule = *all;
+        return;
+    }
     match bytes.len() {
-        4 => overwrite_with::<4>(granule, from, bytes),
         8 => overwrite_with::<8>(granule, from, bytes),
-        16 => overwrite_with::<16>(granule, from, bytes),
+        4 => overwrite_with::<4>(granule, from, bytes),
         _ => overwrite_any(granule, from, bytes),
     }
-}
-
-// Writes however many bytes.
-#[inline(never)]
-fn overwrite_any(granule: &mut [u8; 16], from: usize, bytes: &[u8])
-    requires { from + length bytes.now ≤ 16 }
-    ensures { granule.new ≡ overwritten granule.old from bytes.now }
-{
-    granule[from..from + bytes.len()].copy_from_slice(bytes);
 }
 
 // Writes so many bytes.
@@ -34,4 +28,13 @@ fn overwrite_with<const COUNT: usize>(granule: &mut [u8; 16], from: usize, bytes
     ensures { granule.new ≡ overwritten granule.old from bytes.now }
 {
     granule[from..from + COUNT].copy_from_slice(&bytes[..COUNT]);
+}
+
+// Writes however many bytes.
+#[inline(never)]
+fn overwrite_any(granule: &mut [u8; 16], from: usize, bytes: &[u8])
+    requires { from + length bytes.now ≤ 16 }
+    ensures { granule.new ≡ overwritten granule.old from bytes.now }
+{
+    granule[from..from + bytes.len()].copy_from_slice(bytes);
 }

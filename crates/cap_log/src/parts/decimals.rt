@@ -71,12 +71,12 @@ pub fn take_decimal(
 }
 
 // Whether so many digits, of which this is the first, are a number's, where the byte behind them ends it or
-// not, and it lies in its range or not. All is computed, since a branch for each would cost more.
+// not, and it lies in its range or not.
 #[inline(always)]
 fn is_number(first: u8, count: usize, is_ended: bool, is_in_range: bool) -> bool
     ensures { IsTrue result ↔ (0 < count) × IsTrue is_ended × IsTrue is_in_range × ((first ≡ 48) → (count ≡ 1)) }
 {
-    (count > 0) & is_ended & is_in_range & ((count == 1) | (first != b'0'))
+    count > 0 && is_ended && is_in_range && (first != b'0' || count == 1)
 }
 
 // The number that the digits at the front spell, so many at most, and how many they are.
