@@ -1,5 +1,5 @@
 -- One clause on both variants of a result, taken apart.
-use Rattle.std.proofs.Common.{Result, Ok, Err, MatchResult, OnOk, IfErr}
+use Rattle.std.proofs.Common.{Result, Ok, Err, MatchResult, OnOk, IfOk, IfErr}
 
 -- what follows at an `Ok` from what a clause on both variants says there
 pub ok_part : {T E P X : Type 0} (r : Result T E) (Q : E → Type 0) → (P → X) → MatchResult r (λ _. P) Q → OnOk r X
@@ -11,3 +11,12 @@ pub err_part : {T E : Type 0} (P : Type 0) (r : Result T E) (Q X : E → Type 0)
     → IfErr r X
 err_part P (Ok v) Q X f h = tt
 err_part P (Err e) Q X f h = f e h
+
+-- what follows from a clause on one variant
+pub ok_follows : {T E : Type 0} (r : Result T E) (P X : T → Type 0) → ((v : T) → P v → X v) → IfOk r P → IfOk r X
+ok_follows (Ok v) P X f h = f v h
+ok_follows (Err e) P X f h = tt
+
+pub err_follows : {T E : Type 0} (r : Result T E) (P X : E → Type 0) → ((e : E) → P e → X e) → IfErr r P → IfErr r X
+err_follows (Ok v) P X f h = tt
+err_follows (Err e) P X f h = f e h

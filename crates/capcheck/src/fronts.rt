@@ -10,19 +10,35 @@ use cap_log::{AccessStep, Head, NumberStep, Part, RegisterStep, take_operands};
 use cap_machine::StepEnd;
 use tagmem::TaggedStore;
 
+// The most bytes that a line has, with its line feed.
+const MOST_BYTES: usize = 96;
+
+// The most bytes that a head has, with the space behind it.
+const MOST_HEAD_BYTES: usize = 15;
+
 // Each kind of step is read and made in a copy of its own, which the compiler makes without the other kinds: so
-// no step goes through memory.
+// no step goes through memory. Where a line of any length has room, nothing else tests how many bytes are left.
 impl<M: TaggedStore> Progress<M> {
     /// Takes the line at the front of some bytes: what comes behind its line feed, or `None`, and nothing has
-    /// changed, where no line that has a form stands there whole.
+    /// changed, where no line that has a form stands there whole. Where they are not the `LAST` bytes that are
+    /// there, the answer is `None` too where there might be fewer of them than of a line.
     #[inline(always)]
-    pub fn take_front<'a>(&mut self, bytes: &'a [u8]) -> Result<Option<&'a [u8]>, StepEnd>
+    pub fn take_front<'a, const LAST: bool>(
+        &mut self,
+        bytes: &'a [u8],
+    ) -> Result<Option<&'a [u8]>, StepEnd>
         requires unended { self.old.ended ≡ false }
         ensures some { IfOk result (λ taken. IfSome taken (λ rest. TakesFront (reading_of M.contents self.old) bytes.now
             (reading_of M.contents self.new) rest.now)) }
         ensures none { IfOk result (λ taken. IfNone taken (self.new ≡ self.old)) }
         ensures err { IfErr result (EndsFront (reading_of M.contents self.old) bytes.now) }
     {
+        if LAST {
+            return self.take_last(bytes);
+        }
+        if bytes.len() < MOST_BYTES {
+            return Ok(None);
+        }
         let Some((head, operands)) = Head::take(bytes, b' ') else {
             return Ok(None);
         };
@@ -63,15 +79,63 @@ impl<M: TaggedStore> Progress<M> {
             Head::Access(AccessStep::Store) => {
                 self.take_behind::<12>(Head::Access(AccessStep::Store), operands)
             }
-            Head::Version | Head::Mode | Head::Root | Head::End => {
-                self.take_behind::<0>(head, operands)
-            }
+            Head::Version | Head::Mode | Head::Root | Head::End => self.take_any(head, operands),
         }
     }
 
-    // Takes the line that has this head, from behind it.
+    // Takes the line at the front of the last bytes that are there.
+    #[inline(never)]
+    fn take_last<'a>(&mut self, bytes: &'a [u8]) -> Result<Option<&'a [u8]>, StepEnd>
+        requires unended { self.old.ended ≡ false }
+        ensures some { IfOk result (λ taken. IfSome taken (λ rest. TakesFront (reading_of M.contents self.old) bytes.now
+            (reading_of M.contents self.new) rest.now)) }
+        ensures none { IfOk result (λ taken. IfNone taken (self.new ≡ self.old)) }
+        ensures err { IfErr result (EndsFront (reading_of M.contents self.old) bytes.now) }
+    {
+        let Some((head, operands)) = Head::take(bytes, b' ') else {
+            return Ok(None);
+        };
+        self.take_any(head, operands)
+    }
+
+    // Takes a line of any kind, from behind its head.
+    #[inline(never)]
+    fn take_any<'a>(
+        &mut self,
+        head: Head,
+        operands: &'a [u8],
+    ) -> Result<Option<&'a [u8]>, StepEnd>
+        requires unended { self.old.ended ≡ false }
+        ensures some { IfOk result (λ taken. IfSome taken (λ rest. TakesFront (reading_of M.contents self.old)
+            (head_spelling head ++ 32 ∷ operands.now) (reading_of M.contents self.new) rest.now)) }
+        ensures none { IfOk result (λ taken. IfNone taken (self.new ≡ self.old)) }
+        ensures err { IfErr result (EndsFront (reading_of M.contents self.old) (head_spelling head ++ 32 ∷ operands.now)) }
+    {
+        self.take_operands::<0>(head, operands)
+    }
+
+    // Takes a line of a kind that is known, from behind its head.
     #[inline(never)]
     fn take_behind<'a, const COPY: u8>(
+        &mut self,
+        head: Head,
+        operands: &'a [u8],
+    ) -> Result<Option<&'a [u8]>, StepEnd>
+        requires unended { self.old.ended ≡ false }
+        ensures some { IfOk result (λ taken. IfSome taken (λ rest. TakesFront (reading_of M.contents self.old)
+            (head_spelling head ++ 32 ∷ operands.now) (reading_of M.contents self.new) rest.now)) }
+        ensures none { IfOk result (λ taken. IfNone taken (self.new ≡ self.old)) }
+        ensures err { IfErr result (EndsFront (reading_of M.contents self.old) (head_spelling head ++ 32 ∷ operands.now)) }
+    {
+        if operands.len() < MOST_BYTES - MOST_HEAD_BYTES {
+            return Ok(None);
+        }
+        self.take_operands::<COPY>(head, operands)
+    }
+
+    // Takes the operands and makes the line.
+    #[inline(always)]
+    fn take_operands<'a, const COPY: u8>(
         &mut self,
         head: Head,
         operands: &'a [u8],

@@ -107,13 +107,33 @@ impl<M: TaggedStore> Progress<M> {
         ensures err { IfErr result (λ answer. IsNoYes answer × AnswersAt (reading_of M.contents self.old) bytes.now first answer) }
         ensures no_pull { IfErr result (λ answer. answer ≢ Err Pull) }
     {
+        match self.take_fronts::<false>(bytes, first) {
+            Ok((next, last)) => self.take_fronts::<true>(last, next),
+            Err(answer) => Err(answer),
+        }
+    }
+
+    // Takes lines so as long as `take_front` takes one.
+    fn take_fronts<'a, const LAST: bool>(
+        &mut self,
+        bytes: &'a [u8],
+        first: u64,
+    ) -> Result<(u64, &'a [u8]), Result<Verdict, JudgeFault>>
+        requires here { (given : List ℕ) × IsAt given (reading_of M.contents self.old) bytes.now first }
+        ensures ok { IfOk result (λ p. IsLaterAt (reading_of M.contents self.old) bytes.now first
+            (reading_of M.contents self.new) p.1.now p.0) }
+        ensures rest { IfOk result (λ p. (front : List ℕ) × (bytes.now ≡ front ++ p.1.now)) }
+        ensures after { IfOk result (λ p. first ≤ p.0) }
+        ensures err { IfErr result (λ answer. IsNoYes answer × AnswersAt (reading_of M.contents self.old) bytes.now first answer) }
+        ensures no_pull { IfErr result (λ answer. answer ≢ Err Pull) }
+    {
         let mut line = first;
         let mut rest = bytes;
         'front: loop {
             if self.ended {
                 return Ok((line, rest));
             }
-            match self.take_front(rest) {
+            match self.take_front::<LAST>(rest) {
                 Ok(Some(behind)) => {
                     rest = behind;
                     line += 1;

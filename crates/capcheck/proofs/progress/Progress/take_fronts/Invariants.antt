@@ -1,6 +1,6 @@
 use Rattle.std.proofs.Common.{◌≡◌, ◌-◌, ◌≤◌, ◌++◌, ℕ, List}
 use Rattle.capcheck.specs.Progresses.{IsLaterAt, reading_of}
-use Rattle.capcheck.proofs.progress.Progress.take_lines.Given as goal
+use Rattle.capcheck.proofs.progress.Progress.take_fronts.Given as goal
 
 -- the judge is at the line that the rest begins with
 abbrev pub invariant-front : goal.invariant-front
