@@ -122,7 +122,9 @@ fn base_from(cut_exponent: u32, b: u64, address: u64) -> u64
     requires b_fits { b < 2 ^ 14 }
     ensures { result ≡ raw_base_at cut_exponent b address % 2 ^ 64 }
 {
-    let raised = (address >> cut_exponent).wrapping_add(0x800).wrapping_sub(b - b % 0x800);
+    let raised = (address >> cut_exponent)
+        .wrapping_add(0x800)
+        .wrapping_sub(b - b % 0x800);
     (raised - raised % 0x4000).wrapping_add(b) << cut_exponent
 }
 

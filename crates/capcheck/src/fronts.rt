@@ -100,11 +100,7 @@ impl<M: TaggedStore> Progress<M> {
 
     // Takes a line of any kind, from behind its head.
     #[inline(never)]
-    fn take_any<'a>(
-        &mut self,
-        head: Head,
-        operands: &'a [u8],
-    ) -> Result<Option<&'a [u8]>, StepEnd>
+    fn take_any<'a>(&mut self, head: Head, operands: &'a [u8]) -> Result<Option<&'a [u8]>, StepEnd>
         requires unended { self.old.ended ≡ false }
         ensures some { IfOk result (λ taken. IfSome taken (λ rest. TakesFront (reading_of M.contents self.old)
             (head_spelling head ++ 32 ∷ operands.now) (reading_of M.contents self.new) rest.now)) }

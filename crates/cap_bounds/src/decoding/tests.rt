@@ -14,6 +14,32 @@ fn agrees(rt: &impl Abort, word: Word) {
         corrected_bounds(word),
         "the corrected bounds of {word:?}"
     );
+    let top = (top & 0xffff_ffff_ffff_ffff) as u64;
+    for count in [1, 2, 8, 16] {
+        let last = top.wrapping_sub(u64::from(count));
+        for first in [
+            base,
+            base.wrapping_sub(1),
+            last,
+            last.wrapping_add(1),
+            !base,
+        ] {
+            holds_as_defined(rt, word, first, count);
+        }
+    }
+}
+
+/// Asserts of a sound word that the code holds the bytes that the definition does.
+fn holds_as_defined(rt: &impl Abort, word: Word, first: u64, count: u8) {
+    if count > 0 && sound(word) {
+        let plain = plain_bounds(word);
+        let end = i128::from(first) + i128::from(count);
+        assert_eq!(rt;
+            sound_word_holds(word, first, count),
+            plain.base <= i128::from(first) && end <= plain.top,
+            "{count} bytes from {first:x} in {word:?}"
+        );
+    }
 }
 
 #[test]

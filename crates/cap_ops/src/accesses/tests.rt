@@ -3,11 +3,12 @@
 ghost use Rattle.std.specs.Prelude.{◌≤ℤ◌, pos, neg_ℤ, IsTrue};
 ghost use Rattle.cap_ops.specs.Sizes.{size_fits};
 
-use super::{loaded, may_access};
+use super::{loaded, may_access, may_access_soundly};
 use crate::access::Access;
 use crate::faults::OpFault;
 use crate::kinds::Kind;
 use crate::samples::{ALL, NULL, SEALED, tagged, untagged};
+use cap_bounds::sound;
 use cap_word::Cap;
 use std::process::Abort;
 
@@ -40,12 +41,20 @@ fn at(kind: Kind, offset: i16, size: u8) -> Access
     Access { kind, offset, size }
 }
 
+// Asserts an answer, and that a sound authority has the same by 64 bits alone.
+fn answers(rt: &impl Abort, authority: Cap, access: Access, answer: Result<u64, OpFault>) {
+    assert_eq!(rt; may_access(authority, access), answer);
+    if sound(authority.word) {
+        assert_eq!(rt; may_access_soundly(authority, access), answer);
+    }
+}
+
 fn allows(rt: &impl Abort, authority: u128, access: Access, address: u64) {
-    assert_eq!(rt; may_access(tagged(authority), access), Ok(address));
+    answers(rt, tagged(authority), access, Ok(address));
 }
 
 fn refuses(rt: &impl Abort, authority: u128, access: Access, fault: OpFault) {
-    assert_eq!(rt; may_access(tagged(authority), access), Err(fault));
+    answers(rt, tagged(authority), access, Err(fault));
 }
 
 #[test]

@@ -13,6 +13,8 @@ returns-in_err-value-clause-none c = rw c.from_residual.ensures (λ a rest begin
 pub returns-clause-some : goal.returns-clause-some
 returns-clause-some c =
     let size = eight c.args.bytes.now c.in-Some.digits.now c.in-Some.ensures.some in
-    let value = c.in_ok-value.ensures.some in
-    ((size.0, value.0), size.1 ∙ ap (λ (digits : List ℕ). decimal 8 ++ 32 ∷ digits) value.1
-    ∙ sym (append_assoc (decimal 8) (32 ∷ hex_digits 16 c.in_ok-value.value) (c.args.end ∷ c.in_ok-value.rest.now)))
+    let value = c.in_ok-value.ensures.some in (
+      (size.0, value.0),
+      size.1 ∙ ap (λ (digits : List ℕ). decimal 8 ++ 32 ∷ digits) value.1
+          ∙ sym (append_assoc (decimal 8) (32 ∷ hex_digits 16 c.in_ok-value.value) (c.args.end ∷ c.in_ok-value.rest.now)),
+    )
