@@ -1,8 +1,7 @@
 -- What the results of operations hold: object type, sealedness, Global, address.
-use Rattle.std.proofs.Common.{◌≡◌, ℕ, ◌+◌, ◌*◌, ◌/◌, ◌%◌, ◌^◌, ◌<◌, ◌≤◌, Bool, true, false, ◌&&◌, not, ◌==◌, IsTrue, IsFalse, Some, None, refl, sym, ap, subst, ◌∙◌, arith, lit<}
+use Rattle.std.proofs.Common.{◌≡◌, ℕ, ◌+◌, ◌*◌, ◌/◌, ◌%◌, ◌^◌, ◌<◌, ◌≤◌, Bool, true, false, ◌&&◌, not, ◌==◌, IsTrue, IsFalse, None, refl, ap, ◌∙◌, arith, lit<}
 use Rattle.std.proofs.lemmas.Bool.{not-false, ltb-false, eqb-true, false_from_ne_true}
 use Rattle.std.proofs.lemmas.Nat.Bits.{bit_at_lowest}
-use Rattle.std.specs.Int.{bit_at}
 use Rattle.cap_word.specs.declared.word.Cap.{Cap}
 use Rattle.cap_word.specs.Fields.{address_of, bit_of, otype_of, perms_of}
 use Rattle.cap_bounds.specs.Range.{with_address}

@@ -1,4 +1,4 @@
-use Rattle.std.proofs.Common.{◌≡◌, ◌^◌, ◌<◌, subst, arith}
+use Rattle.std.proofs.Common.{◌^◌, ◌<◌, subst, arith}
 use Rattle.cap_word.specs.declared.word.Cap.{Cap}
 use Rattle.cap_ops.specs.Operations.{Clears, set_bounds_tests, set_bounds_result}
 use Rattle.cap_ops.proofs.ClearLemmas.{StaysWithin-clear, clear_result-outcome, strict_where_tagged, untagged_where_beyond}

@@ -1,8 +1,4 @@
-use Rattle.std.proofs.Common.{◌≡◌, ℕ, ◌^◌, ◌<◌, Bool, Ok, Err, ◌∙◌, ap, arith}
-use Rattle.cap_word.specs.declared.word.Cap.{Cap}
-use Rattle.cap_word.specs.Fields.{address_of}
-use Rattle.cap_bounds.specs.Rounding.{HasRounding, bounded_word, rounded_ie, rounded_exponent, rounded_b, rounded_t}
-use Rattle.cap_ops.specs.Operations.{set_bounds_result, with_word}
+use Rattle.std.proofs.Common.{◌^◌, ◌<◌, Ok, Err, arith}
 use Rattle.cap_ops.proofs.NarrowingLemmas.{BoundsEscape-exact, StaysWithin-set_bounds, set_bounds_result-made}
 use Rattle.cap_ops.proofs.ReachLemmas.{StaysWithin-same}
 use Rattle.cap_ops.proofs.narrowing.set_bounds.Goals as goal

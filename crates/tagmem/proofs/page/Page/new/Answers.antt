@@ -1,4 +1,4 @@
-use Rattle.std.proofs.Common.{◌≡◌, ℕ, ◌<◌, zero, suc, Bool, List, [], ◌∷◌, get_or, replicate, Option, None, refl}
+use Rattle.std.proofs.Common.{◌≡◌, ℕ, zero, suc, Bool, List, [], ◌∷◌, get_or, replicate, Option, None, refl}
 use Rattle.std.proofs.lemmas.List.{get_or-replicate}
 use Rattle.tagmem.specs.Pages.{slots_with}
 use Rattle.tagmem.proofs.page.Page.new.Goals as goal

@@ -1,4 +1,4 @@
-use Rattle.std.proofs.Common.{◌≡◌, List, [], ℕ, None, Some, get_or, set, is_none, unwrap_or, sym, ap, ◌∙◌, arith}
+use Rattle.std.proofs.Common.{◌≡◌, [], None, Some, get_or, set, is_none, unwrap_or, sym, ap, ◌∙◌, arith}
 use Rattle.tagmem.specs.Granules.{blank, overwritten}
 use Rattle.tagmem.specs.Pages.{slots_of, bytes_in}
 use Rattle.tagmem.proofs.Pages.{get_or-slots_of}

@@ -1,4 +1,4 @@
-use Rattle.std.proofs.Common.{sym, ◌∙◌, arith, rules}
+use Rattle.std.proofs.Common.{◌∙◌, arith, rules}
 use Rattle.cap_log.proofs.OffsetLemmas.{no_negative}
 use Rattle.cap_log.proofs.parts.offsets.OffsetPart.take.Goals as goal
 
