@@ -98,7 +98,7 @@ loaded_spelling size value = join_with_byte 32 (decimal size ∷ codes "=" ∷ h
 abbrev pub stored_spelling : ℕ → ℕ → List ℕ
 stored_spelling size value = join_with_byte 32 (decimal size ∷ hex_digits (2 * size) value ∷ [])
 
--- new is old with the text written from a place on, up to an end
+-- new is old with the text written from an index on, up to an end
 pub record Writes (at : ℕ) (text old new : List ℕ) (end : ℕ) : Type 0 where
   pub ends : end ≡ at + length text
   pub written : take end new ≡ take at old ++ text

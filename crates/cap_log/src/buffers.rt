@@ -6,7 +6,7 @@ ghost use Rattle.cap_log.specs.Parts.{Writes};
 
 use cap_word::{Word, word_text};
 
-/// Writes a text at a place of the buffer, and answers the place behind it. Nothing else of the buffer
+/// Writes a text at an index of the buffer, and answers the index behind it. Nothing else of the buffer
 /// changes.
 pub fn put(buffer: &mut [u8], at: usize, text: &[u8]) -> usize
     requires { at + length text.now ≤ length buffer.old }
@@ -17,7 +17,7 @@ pub fn put(buffer: &mut [u8], at: usize, text: &[u8]) -> usize
     end
 }
 
-/// Writes a number in decimal at a place of the buffer, and answers the place behind it. Nothing else
+/// Writes a number in decimal at an index of the buffer, and answers the index behind it. Nothing else
 /// of the buffer changes.
 pub fn put_decimal(buffer: &mut [u8], at: usize, number: u64) -> usize
     requires { at + length (decimal number) ≤ length buffer.old }
@@ -29,8 +29,8 @@ pub fn put_decimal(buffer: &mut [u8], at: usize, number: u64) -> usize
     put(buffer, at, digits.format(number).as_bytes())
 }
 
-/// Writes the last lower-case hexadecimal digits of a number, as many as `digits`, at a place of the
-/// buffer, and answers the place behind them. Nothing else of the buffer changes.
+/// Writes the last lower-case hexadecimal digits of a number, as many as `digits`, at an index of the
+/// buffer, and answers the index behind them. Nothing else of the buffer changes.
 pub fn put_hex(buffer: &mut [u8], at: usize, digits: usize, number: u128) -> usize
     requires few { digits ≤ 32 }
     requires room { at + digits ≤ length buffer.old }

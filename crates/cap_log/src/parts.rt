@@ -29,7 +29,7 @@ pub trait Part: Copy {
         ensures some { IfSome result (λ p. Begins fits spelled end bytes.now p.0 p.1.now) }
         ensures none { IfNone result (BeginsWithNone fits spelled end bytes.now) };
 
-    /// Writes the part into the buffer from a place on, and answers where it ends.
+    /// Writes the part into the buffer from an index on, and answers where it ends.
     fn write(&self, buffer: &mut [u8], at: usize) -> usize
         requires in_range { fits self.now }
         requires room { at + length (spelled self.now) ≤ length buffer.old }

@@ -15,7 +15,7 @@ use Rattle.cap_machine.specs.States.{State, granule_key, put, tagged}
 use Rattle.cap_machine.specs.Accounts.{root_tests}
 use Rattle.cap_machine.specs.Places.{codes_of}
 use Rattle.cap_machine.specs.Origins.{Origins}
-use Rattle.cap_machine.specs.Helds.{Held, Takes, state_of, code_in, account_of}
+use Rattle.cap_machine.specs.Helds.{Held, TakesRoot, state_of, code_in, account_of}
 use Rattle.cap_machine.specs.Changes.{placed}
 use Rattle.cap_machine.proofs.StateLemmas.{account_with, state-register, state-granule, codes-register, codes-granule}
 use Rattle.cap_machine.proofs.StateLemmas.{named-put, named_in, also_named}
@@ -23,7 +23,7 @@ use Rattle.cap_machine.proofs.CodeLemmas.{origins_by, origins-put, place_at-key}
 
 pub took : (old : Held) (place : Place) (word : Word) → length old.registers ≡ 32 → length old.codes ≡ 32 → IsPlace place → word.0 < 2 ^ 128
     → first_of (root_tests (account_of old) place word) ≡ None
-    → Takes old place word (let after = placed old place word in record after { roots = after.roots + 1 })
+    → TakesRoot old place word (let after = placed old place word in record after { roots = after.roots + 1 })
 took old (Register n) word sized coded_so range fits free = record {
   tests = free;
   account =

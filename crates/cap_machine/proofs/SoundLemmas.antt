@@ -12,7 +12,7 @@ use Rattle.cap_word.specs.Memory.{memory_of}
 use Rattle.cap_word.proofs.Bytes.{stored_word-memory_of}
 use Rattle.cap_bounds.specs.Bounds.{IsSound}
 use Rattle.tagmem.specs.Granules.{Granules, Entry}
-use Rattle.cap_machine.specs.States.{State, blank, put, granule_key, untagged_null}
+use Rattle.cap_machine.specs.States.{State, null_state, put, granule_key, untagged_null}
 use Rattle.cap_machine.specs.Places.{places_of, granule_cap}
 use Rattle.cap_machine.specs.Parents.{IsSoundCap, IsSoundState}
 use Rattle.cap_machine.proofs.GranuleLemmas.{cap_of}
@@ -27,8 +27,8 @@ pub IsSoundState-put : (state : State) (key : ℕ) (cap : Cap) → IsSoundState 
 IsSoundState-put state key cap all one other = either (key == other) cap (state other) one (all other)
 
 -- NULL without a tag everywhere
-pub IsSoundState-blank : (state : State) → ((key : ℕ) → state key ≡ blank key) → IsSoundState state
-IsSoundState-blank state empty key held = absurd (false≢true (sym (ap (λ (cap : Cap). cap.tag) (empty key)) ∙ held))
+pub IsSoundState-null_state : (state : State) → ((key : ℕ) → state key ≡ null_state key) → IsSoundState state
+IsSoundState-null_state state empty key held = absurd (false≢true (sym (ap (λ (cap : Cap). cap.tag) (empty key)) ∙ held))
 
 -- a register that holds another sound capability
 pub sound_register : (registers : List Cap) (memory : Granules) (target : ℕ) (cap : Cap) → length registers ≡ 32 → target ≤ 31

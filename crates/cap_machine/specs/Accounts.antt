@@ -12,7 +12,7 @@ use Rattle.cap_machine.specs.declared.refusal.Refusal.TheVariants.{PlaceTaken, U
 use Rattle.cap_machine.specs.declared.rules.Rules.{Rules}
 use Rattle.cap_machine.specs.declared.rules.Rules.TheVariants.{One, TwoStrict, TwoClear}
 use Rattle.cap_machine.specs.Refusals.{refusal_of}
-use Rattle.cap_machine.specs.States.{State, key_of, blank, put, tagged}
+use Rattle.cap_machine.specs.States.{State, key_of, null_state, put, tagged}
 pub use Rattle.cap_machine.specs.Steps.{granule_of, named_by}
 use Rattle.cap_machine.specs.Steps.{Row, row_of, row_by, is_recorded, state_with}
 use Rattle.cap_machine.specs.Origins.{Origins, origins_after}
@@ -31,7 +31,7 @@ pub record Account : Type 0 where
 -- before anything was declared
 abbrev pub no_account : Rules → Account
 no_account rules_are =
-    record { rules = rules_are; state = blank; origin = λ key. None; roots = 0; steps = 0; is_named = λ granule. false; granules = 0 }
+    record { rules = rules_are; state = null_state; origin = λ key. None; roots = 0; steps = 0; is_named = λ granule. false; granules = 0 }
 
 -- the greatest number of roots
 abbrev pub most_roots : ℕ

@@ -63,8 +63,8 @@ abbrev pub Derives : Held → Step → Result Cap OpFault → Type 0
 Derives held step outcome = let row = row_of (state_of held) step in EndsBy held.rules row.tests (result_in row.writes) outcome
 
 -- whether an access through a register is allowed: where it is, its address, and otherwise the first test that holds
-abbrev pub Reaches : State → ℕ → Kind → ℤ → ℕ → Result ℕ OpFault → Type 0
-Reaches state authority kind offset size result =
+abbrev pub ReachesAddress : State → ℕ → Kind → ℤ → ℕ → Result ℕ OpFault → Type 0
+ReachesAddress state authority kind offset size result =
     let tests = access_tests (state authority) kind offset size in
     MatchResult result
     (λ address. (first_of tests ≡ None) × (address ≡ address_through state authority offset))

@@ -99,7 +99,7 @@ abbrev pub AnswersStep : {A : Type 0} → Held → Step → Result A StepEnd →
 AnswersStep old step result new = MatchResult result (λ _. Makes old step new) (λ end. EndsStep old step end new)
 
 -- the machine took the root: no test of it holds, and the account is that after it
-pub record Takes (old : Held) (place : Place) (word : Word) (new : Held) : Type 0 where
+pub record TakesRoot (old : Held) (place : Place) (word : Word) (new : Held) : Type 0 where
   pub tests : first_of (root_tests (account_of old) place word) ≡ None
   pub account : account_of new ≡ with_root (account_of old) place word
 

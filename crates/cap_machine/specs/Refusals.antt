@@ -11,32 +11,32 @@ use Rattle.cap_machine.specs.declared.refusal.Refusal.TheVariants.{Misaligned, S
 use Rattle.cap_machine.specs.declared.refusal.Refusal.TheVariants.{LimitPassed, BadMode}
 
 -- a refusal's number (this profile's own)
-abbrev pub number_of : Refusal → ℕ
-number_of BadHeader = 1
-number_of LineTooLong = 2
-number_of BadLine = 3
-number_of Misplaced = 4
-number_of Truncated = 5
-number_of WrongCount = 6
-number_of PlaceTaken = 7
-number_of UnsoundRoot = 8
-number_of SourceUntagged = 9
-number_of SourceSealed = 10
-number_of BoundsEscape = 11
-number_of NotExact = 12
-number_of NotRepresentable = 13
-number_of AuthorityUntagged = 14
-number_of AuthoritySealed = 15
-number_of AuthorityPermission = 16
-number_of AuthorityBounds = 17
-number_of TypeOutOfRange = 18
-number_of TypeMismatch = 19
-number_of Misaligned = 20
-number_of StoreCapPermission = 21
-number_of StoreLocalPermission = 22
-number_of WrongResult = 23
-number_of LimitPassed = 24
-number_of BadMode = 25
+abbrev pub refusal_number : Refusal → ℕ
+refusal_number BadHeader = 1
+refusal_number LineTooLong = 2
+refusal_number BadLine = 3
+refusal_number Misplaced = 4
+refusal_number Truncated = 5
+refusal_number WrongCount = 6
+refusal_number PlaceTaken = 7
+refusal_number UnsoundRoot = 8
+refusal_number SourceUntagged = 9
+refusal_number SourceSealed = 10
+refusal_number BoundsEscape = 11
+refusal_number NotExact = 12
+refusal_number NotRepresentable = 13
+refusal_number AuthorityUntagged = 14
+refusal_number AuthoritySealed = 15
+refusal_number AuthorityPermission = 16
+refusal_number AuthorityBounds = 17
+refusal_number TypeOutOfRange = 18
+refusal_number TypeMismatch = 19
+refusal_number Misaligned = 20
+refusal_number StoreCapPermission = 21
+refusal_number StoreLocalPermission = 22
+refusal_number WrongResult = 23
+refusal_number LimitPassed = 24
+refusal_number BadMode = 25
 
 -- a refusal's name (this profile's own)
 abbrev pub name_of : Refusal → List ℕ

@@ -30,8 +30,8 @@ abbrev pub State : Type 0
 State = ℕ → Cap
 
 -- NULL without a tag everywhere: memory is zero then
-abbrev pub blank : State
-blank key = untagged_null
+abbrev pub null_state : State
+null_state key = untagged_null
 
 -- what is told of each key, with something else told of one: a state with another capability there, say
 abbrev pub put : {A : Type 0} → (ℕ → A) → ℕ → A → ℕ → A
@@ -48,7 +48,7 @@ is_taken roots place = list_any (λ root. key_of root.place == key_of place) roo
 
 -- the state after the roots were declared: each root's word, tagged, at its place, and NULL without a tag elsewhere
 abbrev pub start : List DeclaredRoot → State
-start [] = blank
+start [] = null_state
 start (root ∷ roots) = put (start roots) (key_of root.place) (tagged root.word)
 
 -- the byte of memory at an address

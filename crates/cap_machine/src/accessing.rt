@@ -7,7 +7,7 @@ ghost use Rattle.cap_log.specs.declared.lines.Step.TheVariants as steps;
 ghost use Rattle.cap_ops.specs.Sizes.{size_fits};
 ghost use Rattle.cap_machine.specs.Changes.{
   EndsPut,
-  Reaches,
+  ReachesAddress,
   code_for,
   is_past_limits,
   with_cap_put,
@@ -33,7 +33,7 @@ impl<M: TaggedStore> Machine<M> {
         requires authority { authority ≤ 31 }
         requires offset { IsOffset offset }
         requires sized { IsTrue (size_fits kind size) }
-        ensures outcome { Reaches (state_of (held_of M.contents self.now)) authority kind offset size result }
+        ensures outcome { ReachesAddress (state_of (held_of M.contents self.now)) authority kind offset size result }
         ensures in_one_granule { IfOk result (λ address. address % 16 + size ≤ 16) }
     {
         let access = Access { kind, offset, size };

@@ -14,7 +14,7 @@ ghost use Rattle.cap_machine.specs.Accounts.{
   root_tests,
 };
 ghost use Rattle.cap_machine.specs.Changes.{Placed};
-ghost use Rattle.cap_machine.specs.Helds.{EndsRoot, Takes, held_of, state_of, account_of};
+ghost use Rattle.cap_machine.specs.Helds.{EndsRoot, TakesRoot, held_of, state_of, account_of};
 
 use crate::ends::StepEnd;
 use crate::granules::put_capability;
@@ -34,7 +34,7 @@ impl<M: TaggedStore> Machine<M> {
     pub fn declare(&mut self, place: Place, word: Word) -> Result<(), StepEnd>
         requires { IsPlace place }
         ensures { MatchResult result
-            (λ _. Takes (held_of M.contents self.old) place word (held_of M.contents self.new))
+            (λ _. TakesRoot (held_of M.contents self.old) place word (held_of M.contents self.new))
             (λ end. EndsRoot (held_of M.contents self.old) place word end (held_of M.contents self.new)) }
     {
         if let Some(refusal) = self.root_fault(place, word) {

@@ -61,11 +61,11 @@ pub enum Refusal {
 }
 
 impl Refusal {
-    ghost use Rattle.cap_machine.specs.Refusals.{name_of, number_of};
+    ghost use Rattle.cap_machine.specs.Refusals.{name_of, refusal_number};
 
     /// The number that a verdict line shows, 1 to 25.
     pub fn number(&self) -> u8
-        ensures number { result ≡ number_of self.now }
+        ensures number { result ≡ refusal_number self.now }
         ensures range { (1 ≤ result) × (result ≤ 25) }
     {
         *self as u8

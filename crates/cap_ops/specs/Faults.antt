@@ -7,18 +7,18 @@ use Rattle.cap_ops.specs.declared.faults.OpFault.TheVariants.{TypeOutOfRange, Ty
 use Rattle.cap_ops.specs.declared.faults.OpFault.TheVariants.{StoreCapPermission, StoreLocalPermission}
 
 -- the number of a refusal
-abbrev pub number_of : OpFault → ℕ
-number_of SourceUntagged = 9
-number_of SourceSealed = 10
-number_of BoundsEscape = 11
-number_of NotExact = 12
-number_of NotRepresentable = 13
-number_of AuthorityUntagged = 14
-number_of AuthoritySealed = 15
-number_of AuthorityPermission = 16
-number_of AuthorityBounds = 17
-number_of TypeOutOfRange = 18
-number_of TypeMismatch = 19
-number_of Misaligned = 20
-number_of StoreCapPermission = 21
-number_of StoreLocalPermission = 22
+abbrev pub fault_number : OpFault → ℕ
+fault_number SourceUntagged = 9
+fault_number SourceSealed = 10
+fault_number BoundsEscape = 11
+fault_number NotExact = 12
+fault_number NotRepresentable = 13
+fault_number AuthorityUntagged = 14
+fault_number AuthoritySealed = 15
+fault_number AuthorityPermission = 16
+fault_number AuthorityBounds = 17
+fault_number TypeOutOfRange = 18
+fault_number TypeMismatch = 19
+fault_number Misaligned = 20
+fault_number StoreCapPermission = 21
+fault_number StoreLocalPermission = 22

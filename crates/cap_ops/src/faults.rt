@@ -36,11 +36,11 @@ pub enum OpFault {
 
 impl OpFault {
     ghost use Rattle.std.specs.Prelude.{◌≡◌};
-    ghost use Rattle.cap_ops.specs.Faults.{number_of};
+    ghost use Rattle.cap_ops.specs.Faults.{fault_number};
 
     /// The number of the refusal, 9 to 22.
     pub fn number(&self) -> u8
-        ensures { result ≡ number_of self.now }
+        ensures { result ≡ fault_number self.now }
     {
         match self {
             OpFault::SourceUntagged => 9,

@@ -13,7 +13,7 @@ use Rattle.cap_log.specs.declared.lines.Step as steps_module
 use Rattle.cap_machine.specs.declared.refusal.Refusal.{Refusal}
 use Rattle.cap_machine.specs.declared.rules.Rules.{Rules}
 use Rattle.cap_machine.specs.declared.rules.Rules.TheVariants.{One, TwoStrict, TwoClear}
-use Rattle.cap_machine.specs.States.{State, DeclaredRoot, blank, key_of, tagged, start}
+use Rattle.cap_machine.specs.States.{State, DeclaredRoot, null_state, key_of, tagged, start}
 use Rattle.cap_machine.specs.Steps.{Leads}
 use Rattle.cap_machine.specs.Accounts.{Account, no_account, most_roots, most_granules, most_steps, with_root, with_step}
 use Rattle.cap_machine.specs.Runs.{IsRun}
@@ -111,7 +111,7 @@ body_read rules_are roots steps runs =
     let few_roots = runs.few_roots in
     let few_steps = runs.few_steps in
     let few_granules = runs.few_granules in
-    let free = λ (key : ℕ) (held : IsTrue (blank key).tag). absurd (false≢true held) in
+    let free = λ (key : ℕ) (held : IsTrue (null_state key).tag). absurd (false≢true held) in
     let roots_are = roots_read rules_are first roots refl refl runs.distinct free runs.sound (omega arith) (omega arith) in
     let steps_are = steps_read rules_are rooted steps runs.run.0 by_roots.rules_stay run (omega arith) few_granules in
     Reads-append Unread (Within first) (Within last) (header_lines rules_are) _ (header_read rules_are)

@@ -28,7 +28,7 @@ use Rattle.cap_machine.specs.Accounts.{Account, no_account, most_roots, most_gra
 use Rattle.cap_machine.specs.Accounts.{row_in, passes_granule_limit, naming, with_root, with_step, root_tests}
 use Rattle.cap_machine.specs.Accounts.{row_tests, as_line_test}
 use Rattle.cap_machine.specs.Runs.{IsRun, last_of}
-use Rattle.cap_machine.specs.Helds.{Held, Makes, EndsStep, Takes as Declares, EndsRoot, state_of, account_of}
+use Rattle.cap_machine.specs.Helds.{Held, Makes, EndsStep, TakesRoot, EndsRoot, state_of, account_of}
 use Rattle.cap_machine.proofs.AccountLemmas.{with_root-grows, with_step-grows, account_after-grows}
 use Rattle.capcheck.specs.Logs.{has_form, Beginning, Nothing, NoMode, Body, Whole, body_lines, after_roots}
 use Rattle.capcheck.specs.Logs.{account_after, RunsBy, SpellsBy, NamesFirst, RefusesWhole, WantsMemory, line_tests}
@@ -75,7 +75,7 @@ naming_roots old new step makes =
     let none : old.roots + 0 ≡ old.roots = omega arith in
     ap (λ (a : Account). a.roots) makes.account ∙ grown.roots_are ∙ none
 
-naming_steps : (old new : Held) (root : DeclaredRoot) → Declares old root.place root.word new → new.steps ≡ old.steps
+naming_steps : (old new : Held) (root : DeclaredRoot) → TakesRoot old root.place root.word new → new.steps ≡ old.steps
 naming_steps old new root declares =
     let grown = with_root-grows (account_of old) root.place root.word in
     let none : old.steps + 0 ≡ old.steps = omega arith in
@@ -169,7 +169,7 @@ root_free account place word free =
 
 -- a root goes on from roots
 root_on : (rules_are : Rules) (roots : List DeclaredRoot) (root : DeclaredRoot) (old new : Held) → Reaches old rules_are roots []
-    → IsPlace root.place → root.word.0 < 2 ^ 128 → Declares old root.place root.word new → Reaches new rules_are (roots ++ root ∷ []) []
+    → IsPlace root.place → root.word.0 < 2 ^ 128 → TakesRoot old root.place root.word new → Reaches new rules_are (roots ++ root ∷ []) []
 root_on rules_are roots root old new reaches place_range word_range declares =
     let runs = reaches.runs in
     let states = runs.run.0 in
@@ -204,7 +204,7 @@ root_on rules_are roots root old new reaches place_range word_range declares =
     }
 
 pub rooted : (old new : Reading) (place : Place) (word : Word) → old.ended ≡ false → new.ended ≡ false → old.held.steps ≡ 0
-    → IsPlace place → word.0 < 2 ^ 128 → Declares old.held place word new.held → Takes old (Root place word) new
+    → IsPlace place → word.0 < 2 ^ 128 → TakesRoot old.held place word new.held → Takes old (Root place word) new
 rooted old new place word unended still rootless place_range word_range declares Nothing stands = absurd stands
 rooted old new place word unended still rootless place_range word_range declares NoMode stands = absurd stands
 rooted old new place word unended still rootless place_range word_range declares (Body rules_are roots (step ∷ steps)) stands =

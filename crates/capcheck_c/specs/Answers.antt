@@ -9,7 +9,7 @@ use Rattle.cap_ops.specs.declared.faults.OpFault.TheVariants.{TypeOutOfRange, Ty
 use Rattle.cap_ops.specs.declared.faults.OpFault.TheVariants.{StoreCapPermission, StoreLocalPermission}
 use Rattle.cap_ops.specs.declared.kinds.Kind.{Kind}
 use Rattle.cap_ops.specs.Accesses.{IsAllowed, access_address, access_tests, permission_for}
-use Rattle.cap_ops.specs.Faults.{number_of}
+use Rattle.cap_ops.specs.Faults.{fault_number}
 use Rattle.cap_ops.specs.Sizes.{size_fits}
 use Rattle.cap_ops.specs.Tests.{first_of}
 use Rattle.capcheck_c.specs.Passed.{cap_of, no_cap}
@@ -22,7 +22,7 @@ abbrev pub Answers : List (Bool × OpFault) → Cap → Made → Type 0
 Answers tests result made =
     MatchOption (first_of tests)
     ((made.refusal ≡ 0) × (cap_of made.cap ≡ result))
-    (λ fault. (made.refusal ≡ number_of fault) × (cap_of made.cap ≡ no_cap))
+    (λ fault. (made.refusal ≡ fault_number fault) × (cap_of made.cap ≡ no_cap))
 
 -- an access of a kind has such offsets and sizes
 abbrev pub IsAccess : Kind → ℤ → ℕ → Type 0
@@ -38,28 +38,28 @@ bad_argument = 255
 pub record AnswersAccess (authority : Cap) (kind : Kind) (offset : ℤ) (size : ℕ) (answer : AccessAnswer) : Type 0 where
   pub outcome : IsAccess kind offset size → MatchOption (first_of (access_tests authority kind offset size))
       ((answer.refusal ≡ 0) × (answer.address ≡ access_address authority.word.0 offset))
-      (λ fault. (answer.refusal ≡ number_of fault) × (answer.address ≡ 0))
+      (λ fault. (answer.refusal ≡ fault_number fault) × (answer.address ≡ 0))
   pub allowed : answer.refusal ≡ 0 → IsAllowed authority.word.0 answer.address size (permission_for kind)
   pub in_one_granule : answer.refusal ≡ 0 → answer.address % 16 + size ≤ 16
   pub bad : (answer.refusal ≡ bad_argument) ↔ (¬ IsAccess kind offset size)
   pub zero : ¬ IsAccess kind offset size → answer.address ≡ 0
 
 -- the name of a refusal, as the variant is spelled
-abbrev pub name_of : OpFault → List ℕ
-name_of SourceUntagged = codes "SourceUntagged"
-name_of SourceSealed = codes "SourceSealed"
-name_of BoundsEscape = codes "BoundsEscape"
-name_of NotExact = codes "NotExact"
-name_of NotRepresentable = codes "NotRepresentable"
-name_of AuthorityUntagged = codes "AuthorityUntagged"
-name_of AuthoritySealed = codes "AuthoritySealed"
-name_of AuthorityPermission = codes "AuthorityPermission"
-name_of AuthorityBounds = codes "AuthorityBounds"
-name_of TypeOutOfRange = codes "TypeOutOfRange"
-name_of TypeMismatch = codes "TypeMismatch"
-name_of Misaligned = codes "Misaligned"
-name_of StoreCapPermission = codes "StoreCapPermission"
-name_of StoreLocalPermission = codes "StoreLocalPermission"
+abbrev pub fault_name : OpFault → List ℕ
+fault_name SourceUntagged = codes "SourceUntagged"
+fault_name SourceSealed = codes "SourceSealed"
+fault_name BoundsEscape = codes "BoundsEscape"
+fault_name NotExact = codes "NotExact"
+fault_name NotRepresentable = codes "NotRepresentable"
+fault_name AuthorityUntagged = codes "AuthorityUntagged"
+fault_name AuthoritySealed = codes "AuthoritySealed"
+fault_name AuthorityPermission = codes "AuthorityPermission"
+fault_name AuthorityBounds = codes "AuthorityBounds"
+fault_name TypeOutOfRange = codes "TypeOutOfRange"
+fault_name TypeMismatch = codes "TypeMismatch"
+fault_name Misaligned = codes "Misaligned"
+fault_name StoreCapPermission = codes "StoreCapPermission"
+fault_name StoreLocalPermission = codes "StoreLocalPermission"
 
 -- 24 bytes that hold a text as a C string: the text, and bytes 0 behind it
 abbrev pub c_string : List ℕ → List ℕ

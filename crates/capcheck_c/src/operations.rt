@@ -5,7 +5,7 @@ ghost use Rattle.cap_word.specs.Fields.{address_of, otype_of};
 ghost use Rattle.cap_bounds.specs.Bounds.{IsInside, IsSound, base_of, top_of};
 ghost use Rattle.cap_bounds.specs.Range.{IsRepresentable};
 ghost use Rattle.cap_ops.specs.Authority.{StaysWithin};
-ghost use Rattle.cap_ops.specs.Faults.{number_of};
+ghost use Rattle.cap_ops.specs.Faults.{fault_number};
 ghost use Rattle.cap_ops.specs.Operations.{
   and_perm_result,
   and_perm_tests,
@@ -42,7 +42,7 @@ fn no_capability() -> Capability
 fn made_from(outcome: Result<Cap, OpFault>) -> Made
     ensures outcome { MatchResult outcome
         (λ cap. (result.refusal ≡ 0) × (cap_of result.cap ≡ cap))
-        (λ fault. (result.refusal ≡ number_of fault) × (cap_of result.cap ≡ no_cap)) }
+        (λ fault. (result.refusal ≡ fault_number fault) × (cap_of result.cap ≡ no_cap)) }
     ensures tag { result.cap.tag ≤ 1 }
 {
     match outcome {

@@ -1,16 +1,16 @@
 //! The names of refusals.
 
 ghost use Rattle.std.specs.Prelude.{◌≡◌, ◌≢◌, ◌≤◌, [], codes, length, MatchOption};
-ghost use Rattle.cap_ops.specs.Faults.{number_of};
+ghost use Rattle.cap_ops.specs.Faults.{fault_number};
 ghost use Rattle.cap_ops.specs.declared.faults.OpFault.{OpFault};
-ghost use Rattle.capcheck_c.specs.Answers.{bad_argument, c_string, name_of};
+ghost use Rattle.capcheck_c.specs.Answers.{bad_argument, c_string, fault_name};
 
 use crate::values::RefusalName;
 use cap_ops::OpFault;
 
 /// The refusal that a number stands for.
 fn fault_of(refusal: u8) -> Option<OpFault>
-    ensures { MatchOption result ((fault : OpFault) → refusal ≢ number_of fault) (λ fault. refusal ≡ number_of fault) }
+    ensures { MatchOption result ((fault : OpFault) → refusal ≢ fault_number fault) (λ fault. refusal ≡ fault_number fault) }
 {
     match refusal {
         9 => Some(OpFault::SourceUntagged),
@@ -33,7 +33,7 @@ fn fault_of(refusal: u8) -> Option<OpFault>
 
 /// A refusal's name.
 fn name(fault: OpFault) -> &'static [u8]
-    ensures value { result.now ≡ name_of fault }
+    ensures value { result.now ≡ fault_name fault }
     ensures short { length result.now ≤ 20 }
 {
     match fault {
@@ -68,9 +68,9 @@ fn as_c_string(text: &[u8]) -> RefusalName
 /// in a verdict line; `BadArgument` of 255; and an empty string of every other number.
 #[unsafe(no_mangle)]
 pub extern "C" fn capcheck_refusal_name(refusal: u8) -> RefusalName
-    ensures named { (fault : OpFault) → refusal ≡ number_of fault → result.text ≡ c_string (name_of fault) }
+    ensures named { (fault : OpFault) → refusal ≡ fault_number fault → result.text ≡ c_string (fault_name fault) }
     ensures bad_argument { refusal ≡ bad_argument → result.text ≡ c_string (codes "BadArgument") }
-    ensures other { refusal ≢ bad_argument → ((fault : OpFault) → refusal ≢ number_of fault) → result.text ≡ c_string [] }
+    ensures other { refusal ≢ bad_argument → ((fault : OpFault) → refusal ≢ fault_number fault) → result.text ≡ c_string [] }
 {
     match fault_of(refusal) {
         Some(fault) => as_c_string(name(fault)),

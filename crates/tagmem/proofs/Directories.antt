@@ -15,11 +15,11 @@ use Rattle.std.proofs.Math.ListN.{length-set}
 use Rattle.std.proofs.Math.Seq.{map-set_same}
 use Rattle.tagmem.specs.declared.page.Page.{Page}
 use Rattle.tagmem.specs.Granules.{Entry}
-use Rattle.tagmem.specs.Pages.{slots_of, with_slot, entries_from, entries_of, number_at, IsPageAt, IsAbsent, IsDirectory}
+use Rattle.tagmem.specs.Pages.{slots_of, with_slot, entries_from, entries_of, page_number_at, IsPageAt, IsAbsent, IsDirectory}
 
 -- the number of the page in a box
-abbrev number_of : {Z : Type 0} → Box Page Z → ℕ
-number_of box = box.value.number
+abbrev box_number : {Z : Type 0} → Box Page Z → ℕ
+box_number box = box.value.number
 
 -- no pages have an empty directory
 pub IsDirectory-empty : {Z : Type 0} (directory : BTreeMap ℕ ℕ) → directory.entries ≡ [] → IsDirectory {Z = Z} [] directory
@@ -39,10 +39,10 @@ IsDirectory-same boxes old new same known =
 pub IsDirectory-set : {Z : Type 0} (boxes : List (Box Page Z)) (directory : BTreeMap ℕ ℕ) (new : Box Page Z) (index : ℕ)
     → IsPageAt boxes new.value.number index → IsDirectory boxes directory → IsDirectory (set boxes index new) directory
 IsDirectory-set boxes directory new index at known =
-    let same : map number_of (set boxes index new) ≡ map number_of boxes =
-    map-set_same number_of boxes index new new (sym at.has_number ∙ get_or-map number_of boxes index new 0 at.in_range) in
+    let same : map box_number (set boxes index new) ≡ map box_number boxes =
+    map-set_same box_number boxes index new new (sym at.has_number ∙ get_or-map box_number boxes index new 0 at.in_range) in
     let long : length (set boxes index new) ≡ length boxes = length-set boxes index new in
-    let number_is : (i : ℕ) → number_at (set boxes index new) i ≡ number_at boxes i = λ i. ap (λ ns. get_or ns i 0) same in
+    let number_is : (i : ℕ) → page_number_at (set boxes index new) i ≡ page_number_at boxes i = λ i. ap (λ ns. get_or ns i 0) same in
     record {
       has = λ i lt. ap (tree.get nat_cmp directory) (number_is i) ∙ known.has i (omega (arith, long));
       right = λ n i is.
@@ -56,22 +56,22 @@ module _ {Z : Type 0} (boxes : List (Box Page Z)) (box : Box Page Z) (number ind
   length-push : length (boxes ++ box ∷ []) ≡ length boxes + 1
   length-push = length-append boxes (box ∷ [])
 
-  numbers : map number_of (boxes ++ box ∷ []) ≡ map number_of boxes ++ box.value.number ∷ []
-  numbers = map-append number_of boxes (box ∷ [])
+  numbers : map box_number (boxes ++ box ∷ []) ≡ map box_number boxes ++ box.value.number ∷ []
+  numbers = map-append box_number boxes (box ∷ [])
 
-  number_at-last : number_at (boxes ++ box ∷ []) index ≡ number
-  number_at-last =
-      let many : length (map number_of boxes) ≡ index = length-map boxes number_of ∙ sym last in
+  page_number_at-last : page_number_at (boxes ++ box ∷ []) index ≡ number
+  page_number_at-last =
+      let many : length (map box_number boxes) ≡ index = length-map boxes box_number ∙ sym last in
       ap (λ ns. get_or ns index 0) numbers ∙ get_or_push _ box.value.number 0 index many ∙ its_number
 
-  number_at-before : (i : ℕ) → i < length boxes → number_at (boxes ++ box ∷ []) i ≡ number_at boxes i
-  number_at-before i lt =
-      let many : length (map number_of boxes) ≡ length boxes = length-map boxes number_of in
-      ap (λ ns. get_or ns i 0) numbers ∙ get_or_append_left (map number_of boxes) (box.value.number ∷ []) 0 i (omega arith)
+  page_number_at-before : (i : ℕ) → i < length boxes → page_number_at (boxes ++ box ∷ []) i ≡ page_number_at boxes i
+  page_number_at-before i lt =
+      let many : length (map box_number boxes) ≡ length boxes = length-map boxes box_number in
+      ap (λ ns. get_or ns i 0) numbers ∙ get_or_append_left (map box_number boxes) (box.value.number ∷ []) 0 i (omega arith)
 
   -- is there
   pub IsPageAt-push : IsPageAt (boxes ++ box ∷ []) number index
-  IsPageAt-push = record { in_range = omega (arith, length-push, last); has_number = number_at-last }
+  IsPageAt-push = record { in_range = omega (arith, length-push, last); has_number = page_number_at-last }
 
   -- and a directory with its index is one of the pages with it
   pub IsDirectory-push : (old new : BTreeMap ℕ ℕ) → IsAbsent boxes number → IsDirectory boxes old
@@ -87,14 +87,14 @@ module _ {Z : Type 0} (boxes : List (Box Page Z)) (box : Box Page Z) (number ind
       told_other : (q : ℕ) → eqb number q ≡ false → tree.get nat_cmp new q ≡ tree.get nat_cmp old q
       told_other q differs = told q ∙ ap (λ b. cond b (Some index) (tree.get nat_cmp old q)) differs
 
-      has : (i : ℕ) → i < length (boxes ++ box ∷ []) → tree.get nat_cmp new (number_at (boxes ++ box ∷ []) i) ≡ Some i
+      has : (i : ℕ) → i < length (boxes ++ box ∷ []) → tree.get nat_cmp new (page_number_at (boxes ++ box ∷ []) i) ≡ Some i
       has i lt =
-          elim (eqb number (number_at (boxes ++ box ∷ []) i))
-          as (λ b. eqb number (number_at (boxes ++ box ∷ []) i) ≡ b → tree.get nat_cmp new (number_at (boxes ++ box ∷ []) i) ≡ Some i) [
-            | true ↦ λ same. told_own _ same ∙ ap Some (grind (arith, length-push, last, absent i, number_at-before i, eqb-true _ _ same))
+          elim (eqb number (page_number_at (boxes ++ box ∷ []) i))
+          as (λ b. eqb number (page_number_at (boxes ++ box ∷ []) i) ≡ b → tree.get nat_cmp new (page_number_at (boxes ++ box ∷ []) i) ≡ Some i) [
+            | true ↦ λ same. told_own _ same ∙ ap Some (grind (arith, length-push, last, absent i, page_number_at-before i, eqb-true _ _ same))
             | false ↦ λ differs.
-                let before : i < length boxes = grind (arith, nat_tests, length-push, last, number_at-last) in
-                told_other _ differs ∙ ap (tree.get nat_cmp old) (number_at-before i before) ∙ known.has i before
+                let before : i < length boxes = grind (arith, nat_tests, length-push, last, page_number_at-last) in
+                told_other _ differs ∙ ap (tree.get nat_cmp old) (page_number_at-before i before) ∙ known.has i before
           ] refl
 
       right : (n i : ℕ) → tree.get nat_cmp new n ≡ Some i → IsPageAt (boxes ++ box ∷ []) n i
@@ -107,7 +107,7 @@ module _ {Z : Type 0} (boxes : List (Box Page Z)) (box : Box Page Z) (number ind
             | false ↦ λ differs.
                 let was : IsPageAt boxes n i = known.right n i (sym (told_other n differs) ∙ is) in
                 let below = was.in_range in
-                record { in_range = omega (arith, length-push, below); has_number = number_at-before i below ∙ was.has_number }
+                record { in_range = omega (arith, length-push, below); has_number = page_number_at-before i below ∙ was.has_number }
           ] refl
 
 entries_from-none : (g : ℕ) (slots : List (Option Entry)) → ((i : ℕ) → get_or slots i None ≡ None) → entries_from g slots ≡ []

@@ -14,7 +14,7 @@ use Rattle.std.proofs.lemmas.List.Sorted.{IsNonDecreasingBy-from_default}
 use Rattle.tagmem.specs.declared.list_store.Listed.{Listed}
 use Rattle.std.proofs.lemmas.Option.{none-some}
 use Rattle.tagmem.specs.Granules.{IsStored, IsNextPut}
-use Rattle.tagmem.specs.Listed.{entry_of, contents_of, granules_of, IsRising, AllStored, IsAt, IsGapFor}
+use Rattle.tagmem.specs.Listed.{entry_of, contents_of, granules_of, IsRising, AllStored, IsEntryAt, IsGapFor}
 use Rattle.tagmem.specs.ListLaws.{granule_at, get-contents_of, NoneBefore, found_absent, RisesFar, rises_far}
 use Rattle.tagmem.proofs.Listed.{contents_of-put, found_present, found-set, found-insert}
 
@@ -36,7 +36,7 @@ module _ (l : List Listed) (far : RisesFar l) (k : ℕ) where
       grind (arith, nat_tests))
 
   -- a binary search ends at the granule's entry, or at the gap for it
-  pub searched : (r : Result ℕ ℕ) → IsSearchInRange r (length l) → IsBinarySearchResult (λ listed. nat_cmp listed.granule k) l r → record { found : IfOk r (IsAt l k); absent : IfErr r (IsGapFor l k) }
+  pub searched : (r : Result ℕ ℕ) → IsSearchInRange r (length l) → IsBinarySearchResult (λ listed. nat_cmp listed.granule k) l r → record { found : IfOk r (IsEntryAt l k); absent : IfErr r (IsGapFor l k) }
   searched (Ok index) in_range equal = record { found = record { in_range = in_range; has_granule = granule_at-get_or l index nothing in_range ∙ ranked _ k _ (sym (equal nothing)) }; absent = tt }
   searched (Err index) in_range parted =
       let le_length : index ≤ length l = in_range in
@@ -55,7 +55,7 @@ module _ (l : List Listed) (far : RisesFar l) (k : ℕ) where
         };
       }
 
-module _ (l : List Listed) (rising : IsRising l) (k index : ℕ) (at : IsAt l k index) where
+module _ (l : List Listed) (rising : IsRising l) (k index : ℕ) (at : IsEntryAt l k index) where
   -- the granules before the index are lower, so none is k
   none_before_at : NoneBefore l k index
   none_before_at j lt same = omega (arith, rises_far l rising j index lt at.in_range, at.has_granule)
@@ -89,7 +89,7 @@ get_in_gap l k index gap = get-contents_of l k ∙ found_absent l k (λ j lt sam
 
 module _ (l : List Listed) (x : Listed) (index : ℕ) where
   -- an entry at the index of the granule's own changes that granule alone
-  pub contents_of-set : IsRising l → IsAt l x.granule index → contents_of (set l index x) ≡ map.insert (contents_of l) x.granule (entry_of x)
+  pub contents_of-set : IsRising l → IsEntryAt l x.granule index → contents_of (set l index x) ≡ map.insert (contents_of l) x.granule (entry_of x)
   contents_of-set rising at = contents_of-put l (set l index x) x (found-set l x index at (none_before_at l rising x.granule index at))
 
   -- so does a new entry in its gap
@@ -97,7 +97,7 @@ module _ (l : List Listed) (x : Listed) (index : ℕ) where
   contents_of-insert gap = contents_of-put l (insert l index x) x (found-insert l x index (λ j lt same. omega (arith, gap.lower_before j lt)))
 
   -- the first keeps each granule
-  pub IsRising-set : IsRising l → IsAt l x.granule index → IsRising (set l index x)
+  pub IsRising-set : IsRising l → IsEntryAt l x.granule index → IsRising (set l index x)
   IsRising-set rising at =
       let same : granules_of (set l index x) ≡ granules_of l = map-set_same (λ listed. listed.granule) l index x nothing (sym at.has_granule ∙ granule_at-get_or l index nothing at.in_range) in
       subst IsStrictlyIncreasing (sym same) rising
@@ -135,7 +135,7 @@ OnErr-from (Ok _) P p = tt
 OnErr-from (Err _) P p = p
 
 -- a granule that has an entry is the next that was put
-pub next_put-at : (l : List Listed) → IsRising l → (k index : ℕ) → IsAt l k index → IsNextPut (contents_of l) k (Some k)
+pub next_put-at : (l : List Listed) → IsRising l → (k index : ℕ) → IsEntryAt l k index → IsNextPut (contents_of l) k (Some k)
 next_put-at l rising k index at =
     (omega arith, λ is. none-some _ (sym is ∙ get_at l rising k index at nothing), λ q le lt. absurd (omega arith))
 
@@ -154,7 +154,7 @@ module _ (l : List Listed) (k index : ℕ) (gap : IsGapFor l k index) where
       let granule_is : granule_at l index ≡ x.granule =
       granule_at-get_or l index x lt ∙ sym (ap (λ (listed : Listed). listed.granule) read) in
       let above = gap.higher_after index (omega arith) lt in
-      let at : IsAt l x.granule index = record { in_range = lt; has_granule = granule_is } in (
+      let at : IsEntryAt l x.granule index = record { in_range = lt; has_granule = granule_is } in (
         omega (arith, above, granule_is),
         λ is. none-some _ (sym is ∙ get_at l rising x.granule index at nothing),
         λ q le below. get_in_gap l q index (gap_above q le (λ i after in_range.

@@ -16,7 +16,7 @@ use Rattle.std.proofs.lemmas.List.{get_or-set_same, get_or-set_other}
 use Rattle.std.proofs.Math.ListN.{get_or-eq_default}
 use Rattle.tagmem.specs.declared.page.Page.{Page}
 use Rattle.tagmem.specs.Granules.{Entry}
-use Rattle.tagmem.specs.Pages.{slots_of, slot_with, with_slot, entries_from, entries_of, contents_of, number_at, IsPageAt, IsAbsent, IsDirectory}
+use Rattle.tagmem.specs.Pages.{slots_of, slot_with, with_slot, entries_from, entries_of, contents_of, page_number_at, IsPageAt, IsAbsent, IsDirectory}
 use Rattle.tagmem.proofs.Granules.{get-put}
 use Rattle.tagmem.proofs.Slots.{length-slots_with, get_or-slots_with}
 
@@ -103,7 +103,7 @@ get-contents_of boxes q = get-from_entries nat_cmp_total (entries_of boxes) q �
 
 -- no page before an index has the number
 abbrev NoneBefore : {Z : Type 0} → List (Box Page Z) → ℕ → ℕ → Type 0
-NoneBefore boxes number index = (i : ℕ) → i < index → number_at boxes i ≢ number
+NoneBefore boxes number index = (i : ℕ) → i < index → page_number_at boxes i ≢ number
 
 -- the same in the pages after the first
 module _ {Z : Type 0} (box : Box Page Z) (boxes : List (Box Page Z)) (number index : ℕ) where
@@ -128,7 +128,7 @@ found_absent (box ∷ boxes) q absent =
 
 -- what is found of a granule is what its page says, where no other has its number
 found_present : {Z : Type 0} (boxes : List (Box Page Z)) (q index : ℕ) (d : Box Page Z) → IsPageAt boxes (q / 256) index
-    → ((i : ℕ) → i < length boxes → number_at boxes i ≡ q / 256 → i ≡ index)
+    → ((i : ℕ) → i < length boxes → page_number_at boxes i ≡ q / 256 → i ≡ index)
     → found boxes q ≡ get_or (slots_of (get_or boxes index d).value) (q % 256) None
 found_present [] q index d at only = absurd (omega (arith, at.in_range))
 found_present (box ∷ boxes) q zero d at only =
@@ -178,7 +178,7 @@ found-set (box ∷ boxes) new d (suc index) g entry at none number are q =
 -- where a directory tells of pages
 module _ {Z : Type 0} (boxes : List (Box Page Z)) (directory : BTreeMap ℕ ℕ) (known : IsDirectory boxes directory) where
   -- each number has one index at most
-  one_index : (number index i : ℕ) → IsPageAt boxes number index → i < length boxes → number_at boxes i ≡ number → i ≡ index
+  one_index : (number index i : ℕ) → IsPageAt boxes number index → i < length boxes → page_number_at boxes i ≡ number → i ≡ index
   one_index number index i at lt is =
       same_Some i index (sym (known.has i lt) ∙ ap (tree.get nat_cmp directory) (is ∙ sym at.has_number) ∙ known.has index at.in_range)
 

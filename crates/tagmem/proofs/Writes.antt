@@ -12,7 +12,7 @@ use Rattle.std.proofs.lemmas.List.Elements.{All-set}
 use Rattle.std.proofs.lemmas.Option.{none-some, same_Some}
 use Rattle.tagmem.specs.declared.page.Page.{Page}
 use Rattle.tagmem.specs.Granules.{Entry, Granules, blank, entry_at, bytes_at, overwritten, with_write, HasRoom, IsCodeFor, IsStored, AreStored}
-use Rattle.tagmem.specs.Pages.{slots_of, bytes_in, contents_of, IsUsed, EachUsed, IsPageAt, IsDirectory}
+use Rattle.tagmem.specs.Pages.{slots_of, bytes_in_slot, contents_of, IsUsed, EachUsed, IsPageAt, IsDirectory}
 use Rattle.tagmem.proofs.Granules.{get-put, len-put, IsStored-overwritten, IsStored-entry_at}
 use Rattle.tagmem.proofs.Pages.{length-slots_of, get_present, contents_of-set}
 use Rattle.tagmem.proofs.Directories.{IsDirectory-set}
@@ -45,7 +45,7 @@ pub record IsRead {Z : Type 0} (boxes : List (Box Page Z)) (directory : BTreeMap
 -- a page has a write in one slot, and is else the same
 pub record IsWritten (old new : Page) (slot : ℕ) (tag : Bool) (byte_index : ℕ) (bytes : List ℕ) (code : ℕ) : Type 0 where
   pub number : new.number ≡ old.number
-  pub slots : slots_of new ≡ set (slots_of old) slot (Some (tag, overwritten (bytes_in (slots_of old) slot) byte_index bytes, code))
+  pub slots : slots_of new ≡ set (slots_of old) slot (Some (tag, overwritten (bytes_in_slot (slots_of old) slot) byte_index bytes, code))
 
 -- a page with a write in one slot has one that was put
 pub IsUsed-written : (old new : Page) (slot : ℕ) (tag : Bool) (byte_index : ℕ) (bytes : List ℕ) (code : ℕ)
@@ -89,7 +89,7 @@ module _ {Z : Type 0} (boxes : List (Box Page Z)) (directory : BTreeMap ℕ ℕ)
     -- the map has the write, and is else the same
     pub contents_of-write : contents_of (set boxes index (with_value box page)) ≡ with_write (contents_of boxes) g tag byte_index bytes code
     contents_of-write =
-        let was : bytes_in (slots_of box.value) (g % 256) ≡ bytes_at (contents_of boxes) g =
+        let was : bytes_in_slot (slots_of box.value) (g % 256) ≡ bytes_at (contents_of boxes) g =
         ap (λ o. (unwrap_or o blank).1) (sym get_read) in
         contents_of-set boxes directory read.known (with_value box page) box index g _ read.found (written.number ∙ number_read)
         (rw (← was, ← read.is) written.slots)

@@ -30,7 +30,7 @@ abbrev pub AllStored : List Listed → Type 0
 AllStored entries = All (λ listed. IsStored listed.granule (entry_of listed)) entries
 
 -- the entry at an index is the granule's
-pub record IsAt (entries : List Listed) (granule index : ℕ) : Type 0 where
+pub record IsEntryAt (entries : List Listed) (granule index : ℕ) : Type 0 where
   pub in_range : index < length entries
   pub has_granule : slice_index (granules_of entries) index ≡ granule
 

@@ -25,12 +25,12 @@ abbrev pub slots_of : Page → List (Option Entry)
 slots_of page = slots_with page.tags page.rows page.codes
 
 -- the bytes of a slot, put or not
-abbrev pub bytes_in : List (Option Entry) → ℕ → List ℕ
-bytes_in slots slot = let entry = unwrap_or (slice_index_or slots slot None) blank in entry.1
+abbrev pub bytes_in_slot : List (Option Entry) → ℕ → List ℕ
+bytes_in_slot slots slot = let entry = unwrap_or (slice_index_or slots slot None) blank in entry.1
 
 -- the code of a slot, put or not
-abbrev pub code_in : List (Option Entry) → ℕ → ℕ
-code_in slots slot = let entry = unwrap_or (slice_index_or slots slot None) blank in entry.2
+abbrev pub code_in_slot : List (Option Entry) → ℕ → ℕ
+code_in_slot slots slot = let entry = unwrap_or (slice_index_or slots slot None) blank in entry.2
 
 -- the first slot from one on that was put, where there is one
 abbrev pub IsFirstFrom : List (Option Entry) → ℕ → Option ℕ → Type 0
@@ -67,17 +67,17 @@ abbrev pub contents_of : {Z : Type 0} → List (Box Page Z) → Granules
 contents_of boxes = from_entries (entries_of boxes)
 
 -- the number of the page at an index
-abbrev pub number_at : {Z : Type 0} → List (Box Page Z) → ℕ → ℕ
-number_at boxes index = slice_index (map (λ box. box.value.number) boxes) index
+abbrev pub page_number_at : {Z : Type 0} → List (Box Page Z) → ℕ → ℕ
+page_number_at boxes index = slice_index (map (λ box. box.value.number) boxes) index
 
 -- the page at an index has the number
 pub record IsPageAt {Z : Type 0} (boxes : List (Box Page Z)) (number index : ℕ) : Type 0 where
   pub in_range : index < length boxes
-  pub has_number : number_at boxes index ≡ number
+  pub has_number : page_number_at boxes index ≡ number
 
 -- no page has the number
 abbrev pub IsAbsent : {Z : Type 0} → List (Box Page Z) → ℕ → Type 0
-IsAbsent boxes number = (index : ℕ) → index < length boxes → number_at boxes index ≢ number
+IsAbsent boxes number = (index : ℕ) → index < length boxes → page_number_at boxes index ≢ number
 
 -- the least number from one on that a page has, where one has
 abbrev pub IsNextPage : {Z : Type 0} → List (Box Page Z) → ℕ → Option ℕ → Type 0
@@ -87,5 +87,5 @@ IsNextPage boxes from (Some next) =
 
 -- a directory says of each number the index of its page, and of no other
 pub record IsDirectory {Z : Type 0} (boxes : List (Box Page Z)) (directory : BTreeMap ℕ ℕ) : Type 0 where
-  pub has : (index : ℕ) → index < length boxes → tree.get nat_cmp directory (number_at boxes index) ≡ Some index
+  pub has : (index : ℕ) → index < length boxes → tree.get nat_cmp directory (page_number_at boxes index) ≡ Some index
   pub right : (number index : ℕ) → tree.get nat_cmp directory number ≡ Some index → IsPageAt boxes number index

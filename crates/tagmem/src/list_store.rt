@@ -2,7 +2,7 @@
 ghost use Rattle.std.specs.Prelude.{◌≡◌, ◌^◌, ◌<◌, ◌+◌, ◌≤◌, length, None, vec_len, OnOk, OnErr, IfOk, IfErr};
 ghost use Rattle.std.specs.FinMap as map;
 ghost use Rattle.tagmem.specs.Granules.{with_write, HasRoom, IsCodeFor, IsStored};
-ghost use Rattle.tagmem.specs.Listed.{contents_of, entry_of, IsRising, AllStored, IsAt, IsGapFor};
+ghost use Rattle.tagmem.specs.Listed.{contents_of, entry_of, IsRising, AllStored, IsEntryAt, IsGapFor};
 ghost use Rattle.tagmem.specs.ListLaws.{AreStored-contents_of, len_fits};
 
 use crate::overwriting::overwrite;
@@ -39,7 +39,7 @@ impl ListStore {
 
     // The index of the granule's entry, or the one at which it would go.
     fn index_of(&self, granule: u64) -> Result<usize, usize>
-        ensures found { IfOk result (IsAt self.now.entries.items granule) }
+        ensures found { IfOk result (IsEntryAt self.now.entries.items granule) }
         ensures absent { IfErr result (IsGapFor self.now.entries.items granule) }
     {
         self.entries
@@ -49,7 +49,7 @@ impl ListStore {
     // Puts an entry at the index of the granule's own.
     fn replace(&mut self, index: usize, listed: Listed)
         requires stored { IsStored listed.granule (entry_of listed) }
-        requires found { IsAt self.old.entries.items listed.granule index }
+        requires found { IsEntryAt self.old.entries.items listed.granule index }
         ensures { contents_of self.new.entries.items
             ≡ map.insert (contents_of self.old.entries.items) listed.granule (entry_of listed) }
     {

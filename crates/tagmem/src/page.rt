@@ -20,7 +20,7 @@ pub(crate) struct Page {
 }
 
 impl Page {
-    ghost use Rattle.tagmem.specs.Pages.{slots_of, bytes_in, code_in, IsFirstFrom};
+    ghost use Rattle.tagmem.specs.Pages.{slots_of, bytes_in_slot, code_in_slot, IsFirstFrom};
 
     // A page of which no granule was put.
     pub(crate) fn new(number: u64) -> Page
@@ -49,7 +49,7 @@ impl Page {
     // The code of a granule, and 0 where it was never put.
     #[inline(always)]
     pub(crate) fn code(&self, slot: u8) -> u64
-        ensures { result ≡ code_in (slots_of self.now) slot }
+        ensures { result ≡ code_in_slot (slots_of self.now) slot }
     {
         self.codes[slot as usize]
     }
@@ -81,7 +81,7 @@ impl Page {
         ensures first { result ≡ is_none (slice_index_or (slots_of self.old) slot None) }
         ensures number { self.new.number ≡ self.old.number }
         ensures slots { let old = slots_of self.old in
-            slots_of self.new ≡ slice_set old slot (Some (tag, overwritten (bytes_in old slot) byte_index bytes.now, code)) }
+            slots_of self.new ≡ slice_set old slot (Some (tag, overwritten (bytes_in_slot old slot) byte_index bytes.now, code)) }
     {
         let old = self.tags[slot as usize];
         overwrite(&mut self.rows[slot as usize], byte_index, bytes);

@@ -5,7 +5,7 @@ use Rattle.cap_ops.specs.declared.kinds.Kind.TheVariants as kinds
 use Rattle.cap_ops.specs.Accesses.{loaded_result}
 use Rattle.cap_machine.specs.States.{granule_key}
 use Rattle.cap_machine.specs.Steps.{granule_through}
-use Rattle.cap_machine.specs.Changes.{Reaches}
+use Rattle.cap_machine.specs.Changes.{ReachesAddress}
 use Rattle.cap_machine.specs.Helds.{code_in, held_of, state_of}
 use Rattle.cap_machine.specs.Changes.{code_for}
 use Rattle.cap_machine.proofs.MadeLemmas.{Finishes, loaded_cap, faulted_as, passed}
@@ -18,7 +18,7 @@ returns-in-Ok g c =
     let state = state_of old in
     let target = c.args.target in
     let recorded = c.args.recorded in
-    let out = passed (λ o. Reaches (state_of old) c.args.authority kinds.LoadCap o 16 (Ok c.in-Ok.address)) c.args.offset (search rules) c.in-Ok.ensures.outcome in
+    let out = passed (λ o. ReachesAddress (state_of old) c.args.authority kinds.LoadCap o 16 (Ok c.in-Ok.address)) c.args.offset (search rules) c.in-Ok.ensures.outcome in
     let same : granule_key (c.in-Ok.address / 16) ≡ granule_key (granule_through state c.args.authority c.args.offset) = ap (λ (a : ℕ). granule_key (a / 16)) out.1 in
     let derived = c.loaded-derived.ensures.result_is ∙ ap (λ (a : Cap). loaded_result a c.granule.result) c.register.ensures.holds
     ∙ ap (loaded_result (state c.args.authority)) c.granule.ensures.holds in
@@ -31,5 +31,5 @@ pub returns-in-Err : goal.returns-in-Err
 returns-in-Err g c =
     let old = held_of g.M.TaggedStore.contents c.args.self.now in
     faulted_as old (steps.LoadCap c.args.target c.args.authority c.args.offset c.args.recorded) _ c.in-Err.fault c.from.result refl
-    (passed (λ o. Reaches (state_of old) c.args.authority kinds.LoadCap o 16 (Err c.in-Err.fault)) c.args.offset (search rules) c.in-Err.ensures.outcome)
+    (passed (λ o. ReachesAddress (state_of old) c.args.authority kinds.LoadCap o 16 (Err c.in-Err.fault)) c.args.offset (search rules) c.in-Err.ensures.outcome)
     c.from.ensures

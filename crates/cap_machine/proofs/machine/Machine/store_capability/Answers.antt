@@ -4,7 +4,7 @@ use Rattle.cap_log.specs.declared.lines.Step.TheVariants as steps
 use Rattle.cap_ops.specs.declared.kinds.Kind.TheVariants as kinds
 use Rattle.cap_ops.specs.Tests.{first_of}
 use Rattle.cap_ops.specs.Accesses.{access_address, access_tests}
-use Rattle.cap_machine.specs.Changes.{Reaches}
+use Rattle.cap_machine.specs.Changes.{ReachesAddress}
 use Rattle.cap_machine.specs.Helds.{held_of, state_of}
 use Rattle.cap_machine.specs.Changes.{with_cap_put}
 use Rattle.cap_machine.proofs.MadeLemmas.{EndsPutIn, stored, faulted_as, passed}
@@ -21,7 +21,7 @@ returns-in-Ok g c =
     let is = c.register-stored.ensures.holds in
     let out = subst (λ (cap : Cap). (first_of (access_tests (state c.args.authority) (kinds.StoreCap cap) c.args.offset 16) ≡ None)
     × (address ≡ access_address (state c.args.authority).word.0 c.args.offset)) is
-    (passed (λ o. Reaches (state_of old) c.args.authority (kinds.StoreCap c.register-stored.result) o 16 (Ok c.in-Ok.address)) c.args.offset (search rules) c.in-Ok.ensures.outcome) in
+    (passed (λ o. ReachesAddress (state_of old) c.args.authority (kinds.StoreCap c.register-stored.result) o 16 (Ok c.in-Ok.address)) c.args.offset (search rules) c.in-Ok.ensures.outcome) in
     let put_there = subst (λ (cap : Cap). EndsPutIn old (address / 16) (with_cap_put old (address / 16) cap code) c.put_counted.result new) is c.put_counted.ensures in
     let put_through = subst (λ (a : ℕ). EndsPutIn old (a / 16) (with_cap_put old (a / 16) (state c.args.source) code) c.put_counted.result new) out.1 put_there in
     stored old new c.args.source c.args.authority c.args.offset c.put_counted.result (subst (λ (cap : Cap). cap.word.0 < 2 ^ 128) is (search rules))
@@ -32,5 +32,5 @@ returns-in-Err g c =
     let old = held_of g.M.TaggedStore.contents c.args.self.now in
     let found = subst (λ (cap : Cap). first_of (access_tests (state_of old c.args.authority) (kinds.StoreCap cap) c.args.offset 16) ≡ Some c.in-Err.fault)
     c.register-stored.ensures.holds
-    (passed (λ o. Reaches (state_of old) c.args.authority (kinds.StoreCap c.register-stored.result) o 16 (Err c.in-Err.fault)) c.args.offset (search rules) c.in-Err.ensures.outcome) in
+    (passed (λ o. ReachesAddress (state_of old) c.args.authority (kinds.StoreCap c.register-stored.result) o 16 (Err c.in-Err.fault)) c.args.offset (search rules) c.in-Err.ensures.outcome) in
     faulted_as old (steps.StoreCap c.args.source c.args.authority c.args.offset) _ c.in-Err.fault c.from.result refl found c.from.ensures
