@@ -1,18 +1,20 @@
 #!/bin/sh
 # Writes a log of version 1 with a million steps, or STEPS:
-# sh bench/million.sh moves|memory|mixed|up|down|random|thirty|blocks [STEPS]
+# sh bench/million.sh moves|memory|mixed|varied|up|down|random|thirty|blocks [STEPS]
 # It can be judged from a pipe: sh bench/million.sh moves 10000000 | crates/capcheck/out/capcheck judge
 #
 # moves   copies c1 to each other register in turn
 # memory  stores and loads a capability, and stores and loads eight bytes, granule after granule
 # mixed   all of these and changes of addresses, permissions and tags, over 65,000 granules
+# varied  as a program with an allocator: bounds of 64 bytes are set for each of 12,000 objects in turn, values of
+#         1, 2, 4 and 8 bytes and a pointer are stored there and loaded, and pointers are moved and restricted
 #
 # The others are hostile to a store of granules:
 #
 # up, down, random   stores a capability in 65,536 granules that lie 4096 bytes apart, in that order
 # thirty             stores and loads eight bytes through thirty registers in turn, 4 MB apart
 # blocks             stores a byte in each granule from the lowest on; 65,792 steps fill 65,536 granules
-kind=${1:?moves, memory, mixed, up, down, random, thirty or blocks}
+kind=${1:?moves, memory, mixed, varied, up, down, random, thirty or blocks}
 exec awk -v kind="$kind" -v steps="${2:-1000000}" '
 function memory(i,   offset) {
     offset = (int(i / 4) * 16) % 4096 - 2048
@@ -31,6 +33,33 @@ function mixed(i,   address) {
     if (i % 8 == 5) return "move c5 c2 = 1 ffff1ffffc018004" address
     if (i % 8 == 6) return "andperm c6 c5 0000000000000004 = 1 00041ffffc018004" address
     return "cleartag c7 c2 = 0 ffff1ffffc018004" address
+}
+function varied(i,   object, at, next_at, bounds, here, pointer, short) {
+    object = int(i / 16)
+    at = 65536 + 64 * (object * 37 % 12000)
+    bounds = sprintf("ffff1fff%08x", 4160749568 + (at + 64) % 4096 * 16384 + at % 16384)
+    here = "c" (3 + object % 13)
+    pointer = "c" (16 + object % 13)
+    next_at = sprintf("%016x", at + 8)
+    at = sprintf("%016x", at)
+    short = sprintf("%04x", object % 65536)
+    i %= 16
+    if (i == 0) return "setaddr c2 c1 " at " = 1 ffff1ffffc018004" at
+    if (i == 1) return "setbounds " here " c2 0000000000000040 = 1 " bounds at
+    if (i == 2) return "store " here " 0 8 000000000000" short
+    if (i == 3) return "store " here " 8 4 cafe" short
+    if (i == 4) return "store " here " 12 2 " short
+    if (i == 5) return "store " here " 14 1 7f"
+    if (i == 6) return "sc c1 " here " 16"
+    if (i == 7) return "load " here " 0 8 = 000000000000" short
+    if (i == 8) return "load " here " 8 4 = cafe" short
+    if (i == 9) return "lc " pointer " " here " 16 = 1 " root
+    if (i == 10) return "move c30 " here " = 1 " bounds at
+    if (i == 11) return "andperm c31 c30 0000000000000004 = 1 0004" substr(bounds, 5) at
+    if (i == 12) return "load c31 14 1 = 7f"
+    if (i == 13) return "load " here " 12 2 = " short
+    if (i == 14) return "setaddr c30 " here " " next_at " = 1 " bounds next_at
+    return "cleartag c29 c30 = 0 " bounds next_at
 }
 function far(i,   place, address) {
     place = int(i / 2) % 65536
@@ -62,6 +91,7 @@ BEGIN {
         if (kind == "moves") print "move c" (2 + i % 30) " c1 = 1 " root
         else if (kind == "memory") print memory(i)
         else if (kind == "mixed") print mixed(i)
+        else if (kind == "varied") print varied(i)
         else if (kind == "thirty") print thirty(i)
         else if (kind == "blocks") print blocks(i)
         else print far(i)
