@@ -77,10 +77,6 @@ module _ (e b a : ℕ) (he : e ≤ 52) (hb : b < 2 ^ 14) where
       ∙ ap (λ (x : ℕ). n * x % 2 ^ 64) (sym (eighth_is e))
       ∙ ap (λ (x : ℕ). eighth_of b x * 2 ^ (e + 11) % 2 ^ 64) (sym eighths_is)
 
-  -- the base lies 2 ^ 11 units and more above the window's start
-  pub base_wrapped : (window_start_at e b a % 2 ^ 64 + (2048 + b % 2048) * 2 ^ e % 2 ^ 64) % 2 ^ 64 ≡ raw_base_at e b a % 2 ^ 64
-  base_wrapped = omega (arith, raw_base_from_start e b a he hb)
-
   -- the base is B above such a multiple
   pub base_floored : (raised_sum (a / 2 ^ e) b % 2 ^ 64 - raised_sum (a / 2 ^ e) b % 2 ^ 64 % 16384 + b) % 2 ^ 64 * 2 ^ e % 2 ^ 64
       ≡ raw_base_at e b a % 2 ^ 64

@@ -457,3 +457,23 @@ fn refusals_have_numbers_and_names(rt: HostRuntime) {
     );
     assert_eq!(rt; Refusal::from(OpFault::Misaligned).number(), 20);
 }
+
+// Each copy of `make` makes the step that `step` makes.
+#[test]
+fn copies_make_the_same_step(rt: HostRuntime) {
+    let move_line = b"move c2 c1 = 1 ffff1ffffc0180040000000000000000";
+    let mut machine = machine_after(
+        &rt,
+        rt.alloc(),
+        &["root c1 ffff1ffffc0180040000000000000000"],
+    );
+    match read_line(move_line) {
+        Some(Line::Step(step)) => {
+            assert_eq!(rt; machine.make::<1>(&step), Ok(()));
+            is(&rt, machine.register(2), true, ALL);
+            assert_eq!(rt; machine.make::<2>(&step), Ok(()));
+            assert_eq!(rt; machine.steps(), 2);
+        }
+        _ => panic!(rt; "no step"),
+    }
+}

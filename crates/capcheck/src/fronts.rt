@@ -110,7 +110,8 @@ impl<M: TaggedStore> Progress<M> {
         self.take_operands::<0>(head, operands)
     }
 
-    // Takes a line of a kind that is known, from behind its head.
+    // Takes a line of a kind that is known, from behind its head. Where a line of any length had room, so many bytes
+    // are left that the first test never holds; the compiler sees by it that no later one does.
     #[inline(never)]
     fn take_behind<'a, const COPY: u8>(
         &mut self,

@@ -37,10 +37,7 @@ slots_with-set (t ∷ tags) (r ∷ rows) (c ∷ codes) zero tag row code = refl
 slots_with-set (t ∷ tags) (r ∷ rows) (c ∷ codes) (suc i) tag row code =
     ap (λ rest. slot_with t r c ∷ rest) (slots_with-set tags rows codes i tag row code)
 
--- what is shown of a slot
-pub shown-slot_with : (tag : Bool) (row : List ℕ) (code : ℕ) → shown (slot_with (Some tag) row code) ≡ Some (tag, row)
-shown-slot_with tag row code = refl
-
+-- there is nothing where there is no tag
 pub is_none-slot_with : (tag : Option Bool) (row : List ℕ) (code : ℕ) → is_none (slot_with tag row code) ≡ is_none tag
 is_none-slot_with None row code = refl
 is_none-slot_with (Some tag) row code = refl
