@@ -9,7 +9,7 @@ use Rattle.std.proofs.lemmas.List.Elements.{All-append, All-cons}
 use Rattle.cap_word.specs.Digits.{hex_digits}
 use Rattle.cap_word.specs.declared.word.Cap.{Cap}
 use Rattle.cap_word.proofs.DigitLemmas.{length-hex_digits, pow_256}
-use Rattle.cap_log.specs.Lines.{IsDataSize, IsDataValue, IsNumber, IsOffset, IsPlace, IsRegister, IsTarget, IsWordNumber, place_spelling, register_spelling, tag_spelling}
+use Rattle.cap_log.specs.Lines.{IsDataSize, IsDataValue, IsNumber, IsOffset, IsPlace, IsRegister, IsTarget, IsWord, place_spelling, register_spelling, tag_spelling}
 use Rattle.cap_log.specs.Parts.{Begins, BeginsWithNone, HasNoSpace, IsSized, loaded_spelling, result_spelling, stored_spelling, tag_front}
 use Rattle.cap_log.specs.declared.lines.Place.{Place}
 use Rattle.cap_log.specs.declared.lines.Place.TheVariants.{Register, Granule}
@@ -72,7 +72,7 @@ pub place-operand : IsOperand IsPlace place_spelling 17
 place-operand = record { one = place-one; plain = place-plain; short = place-short }
 
 -- words
-pub word-operand : IsOperand IsWordNumber (hex_digits 32) 32
+pub word-operand : IsOperand IsWord (hex_digits 32) 32
 word-operand = record {
   one = λ m n small small' e. hex_digits-same 32 m n small small' e;
   plain = λ n small. Lacks-hex 10 32 n refl;
@@ -102,7 +102,7 @@ take_result false x more = refl
 result_of : Bool → ℕ → Cap
 result_of tag n = record { tag = tag; word = record { 0 = n } }
 
-pub result-operand : IsOperand (λ r. IsWordNumber r.word.0) result_spelling 36
+pub result-operand : IsOperand (λ r. IsWord r.word.0) result_spelling 36
 unfolding result_of
 result-operand = record {
   one = λ a b small small' e.

@@ -1,13 +1,14 @@
 -- Lines by their heads: what stands behind the head, and the line that head and operands make.
-use Rattle.std.proofs.Common.{append_assoc, ◌≡◌, ◌≢◌, ℕ, ◌+◌, ◌<◌, ◌≤◌, ◌^◌, List, ◌∷◌, ◌++◌, length, sym, ap, subst, ◌∙◌, refl, arith, inl, inr, decimal, codes, lit≤, if◌then◌else◌}
+use Rattle.std.proofs.Common.{append_assoc, ◌≡◌, ◌≢◌, ℕ, ◌<◌, ◌≤◌, ◌^◌, List, ◌∷◌, ◌++◌, length, sym, ap, subst, ◌∙◌, refl, arith, inl, inr, decimal, codes, lit≤, if◌then◌else◌}
 use Rattle.std.specs.Fmt.{signed_decimal}
+use Rattle.std.proofs.lemmas.Fmt.{decimal_digit, decimal_injective, length-decimal-le}
 use Rattle.std.specs.Str.{bytes_eq}
 use Rattle.cap_word.specs.Digits.{hex_digits}
 use Rattle.cap_word.specs.declared.word.Word.{Word}
 use Rattle.cap_log.specs.Front.{HasNoFeed}
 use Rattle.cap_log.specs.Heads.{IsHead, head_spelling}
-use Rattle.cap_log.specs.Lines.{IsInRange, IsMode, IsNumber, IsVersion, IsOffset, IsPlace, IsRegister, IsTarget, IsWordNumber, mode_spelling, version_spelling, place_spelling, register_spelling, spelling}
-use Rattle.cap_log.specs.Parts.{Begins, BeginsWithNone, FitsBoth, IsSized, loaded_spelling, result_spelling, spaced, stored_spelling}
+use Rattle.cap_log.specs.Lines.{IsInRange, IsNumber, IsVersion, IsOffset, IsPlace, IsRegister, IsTarget, IsWord, mode_spelling, place_spelling, register_spelling, spelling}
+use Rattle.cap_log.specs.Parts.{Begins, BeginsWithNone, FitsBoth, IsMode, IsSized, loaded_spelling, result_spelling, spaced, stored_spelling}
 use Rattle.cap_log.specs.declared.heads.Head.{Head}
 use Rattle.cap_log.specs.declared.heads.Head.TheVariants as head
 use Rattle.cap_log.specs.declared.heads.RegisterStep.TheVariants as registers
@@ -30,7 +31,7 @@ use Rattle.cap_log.specs.declared.parts.sized.Stored.{Stored}
 use Rattle.cap_log.proofs.Cuts.{Lacks-by_test, same_cut}
 use Rattle.cap_log.specs.Spaceless.{Lacks-head, head-spaceless}
 use Rattle.cap_log.proofs.OperandLemmas.{FitsBoth-operand, IsOperand, longer, mapped}
-use Rattle.cap_log.proofs.PartLemmas.{count-operand, loaded-operand, number-operand, number-spaceless, offset-operand, offset-spaceless, place-operand, place-spaceless, register-operand, register-spaceless, result-operand, stored-operand, target-operand, word-operand}
+use Rattle.cap_log.proofs.PartLemmas.{Lacks-decimal, count-operand, loaded-operand, number-operand, number-spaceless, offset-operand, offset-spaceless, place-operand, place-spaceless, register-operand, register-spaceless, result-operand, stored-operand, target-operand, word-operand}
 
 -- the parts, as the code has them
 abbrev pub FitsRegister : Register → Type 0
@@ -58,7 +59,7 @@ abbrev pub offset_text : Offset → List ℕ
 offset_text = λ (a : Offset). signed_decimal a.0
 
 abbrev pub FitsRecorded : Recorded → Type 0
-FitsRecorded = λ (a : Recorded). IsWordNumber a.0.word.0
+FitsRecorded = λ (a : Recorded). IsWord a.0.word.0
 
 abbrev pub recorded_text : Recorded → List ℕ
 recorded_text = λ (a : Recorded). result_spelling a.0
@@ -82,7 +83,7 @@ abbrev pub count_text : Count → List ℕ
 count_text = λ (a : Count). decimal a.0
 
 abbrev pub FitsWord : Word → Type 0
-FitsWord = λ (a : Word). IsWordNumber a.0
+FitsWord = λ (a : Word). IsWord a.0
 
 abbrev pub word_text : Word → List ℕ
 word_text = λ (a : Word). hex_digits 32 a.0
@@ -119,7 +120,7 @@ Fits (head.Access access.Store) = FitsBoth FitsRegister register_text (FitsBoth 
 Fits head.End = FitsCount
 
 abbrev pub spelled : (h : Head) → Operands h → List ℕ
-spelled head.Version = version_spelling
+spelled head.Version = decimal
 spelled head.Mode = mode_spelling
 spelled head.Root = spaced place_spelling word_text
 spelled (head.Registers registers.Move) = spaced target_text (spaced register_text recorded_text)
@@ -363,7 +364,7 @@ offset_part : IsOperand FitsOffset offset_text 5
 offset_part = mapped IsOffset signed_decimal 5 offset-operand (λ (a : Offset). a.0) (λ x. record { 0 = x }) (λ _. refl)
 
 recorded_part : IsOperand FitsRecorded recorded_text 36
-recorded_part = mapped (λ r. IsWordNumber r.word.0) result_spelling 36 result-operand (λ (a : Recorded). a.0) (λ x. record { 0 = x }) (λ _. refl)
+recorded_part = mapped (λ r. IsWord r.word.0) result_spelling 36 result-operand (λ (a : Recorded). a.0) (λ x. record { 0 = x }) (λ _. refl)
 
 loaded_part : IsOperand FitsLoaded loaded_text 20
 loaded_part = mapped (λ (x : ℕ × ℕ). IsSized x.0 x.1) (λ x. loaded_spelling x.0 x.1) 20 loaded-operand (λ (a : Loaded). (a.size, a.value)) (λ x. record { size = x.0; value = x.1 }) (λ _. refl)
@@ -375,28 +376,26 @@ count_part : IsOperand FitsCount count_text 10
 count_part = mapped (λ n. n < 2 ^ 32) decimal 10 count-operand (λ (a : Count). a.0) (λ x. record { 0 = x }) (λ _. refl)
 
 word_part : IsOperand FitsWord word_text 32
-word_part = mapped IsWordNumber (hex_digits 32) 32 word-operand (λ (a : Word). a.0) (λ x. record { 0 = x }) (λ _. refl)
+word_part = mapped IsWord (hex_digits 32) 32 word-operand (λ (a : Word). a.0) (λ x. record { 0 = x }) (λ _. refl)
 
 pub version_two : (version : ℕ) → IsVersion version → version ≢ 1 → version ≡ 2
 version_two version (inl one) other = absurd (other one)
 version_two version (inr two) other = two
 
-pub no_version : (rest : List ℕ) → (rest ≡ codes "1" → ⊥) → (rest ≡ codes "2" → ⊥) → (version : ℕ) → IsVersion version → rest ≡ version_spelling version → ⊥
-no_version rest first second version (inl one) e = first (e ∙ ap version_spelling one)
-no_version rest first second version (inr two) e = second (e ∙ ap version_spelling two)
+pub no_version : (rest : List ℕ) → (rest ≡ codes "1" → ⊥) → (rest ≡ codes "2" → ⊥) → (version : ℕ) → IsVersion version → rest ≡ decimal version → ⊥
+no_version rest first second version (inl one) e = first (e ∙ ap decimal one ∙ decimal_digit 1 (omega arith))
+no_version rest first second version (inr two) e = second (e ∙ ap decimal two ∙ decimal_digit 2 (omega arith))
 
-one_version : (a b : ℕ) → IsVersion a → IsVersion b → version_spelling a ≡ version_spelling b → a ≡ b
-one_version a b (inl x) (inl y) e = x ∙ sym y
-one_version a b (inr x) (inr y) e = x ∙ sym y
-one_version a b (inl x) (inr y) e = let h : 48 + a ≡ 48 + b = cc in omega arith
-one_version a b (inr x) (inl y) e = let h : 48 + a ≡ 48 + b = cc in omega arith
+version-small : (n : ℕ) → IsVersion n → (1 ≤ n) × (n ≤ 2)
+version-small n (inl one) = (omega arith, omega arith)
+version-small n (inr two) = (omega arith, omega arith)
 
-plain_version : (a : ℕ) → IsVersion a → HasNoFeed (version_spelling a)
-plain_version a (inl x) = subst (λ (n : ℕ). HasNoFeed (version_spelling n)) (sym x) (Lacks-by_test 10 (codes "1") refl)
-plain_version a (inr x) = subst (λ (n : ℕ). HasNoFeed (version_spelling n)) (sym x) (Lacks-by_test 10 (codes "2") refl)
-
-pub version-operand : IsOperand IsVersion version_spelling 1
-version-operand = record { one = one_version; plain = plain_version; short = λ a fits. lit≤ tt }
+pub version-operand : IsOperand IsVersion decimal 1
+version-operand = record {
+  one = λ a b fits fits' e. decimal_injective a b (omega (arith, version-small a fits)) (omega (arith, version-small b fits')) e;
+  plain = λ n fits. let small = version-small n fits in Lacks-decimal 10 n (omega arith) (omega arith);
+  short = λ n fits. let small = version-small n fits in length-decimal-le 1 n (omega arith) (omega arith) (omega arith);
+}
 
 one_mode : (a b : Mode) → mode_spelling a ≡ mode_spelling b → a ≡ b
 one_mode modes.Strict modes.Strict e = refl
@@ -416,7 +415,7 @@ pub mode-operand : IsOperand IsMode mode_spelling 6
 mode-operand = record { one = λ a b fits fits' e. one_mode a b e; plain = λ a fits. plain_mode a; short = λ a fits. short_mode a }
 
 pub shape : (h : Head) → IsOperand (Fits h) (spelled h) 80
-shape head.Version = longer IsVersion version_spelling 1 80 version-operand (lit≤ tt)
+shape head.Version = longer IsVersion decimal 1 80 version-operand (lit≤ tt)
 shape head.Mode = longer IsMode mode_spelling 6 80 mode-operand (lit≤ tt)
 shape head.Root = longer (FitsBoth IsPlace place_spelling FitsWord) (spaced place_spelling word_text) 50 80 (FitsBoth-operand IsPlace place_spelling 17 FitsWord word_text 32 place-operand word_part) (lit≤ tt)
 shape (head.Registers registers.Move) = longer (FitsBoth FitsTarget target_text (FitsBoth FitsRegister register_text FitsRecorded)) (spaced target_text (spaced register_text recorded_text)) 44 80 (FitsBoth-operand FitsTarget target_text 3 (FitsBoth FitsRegister register_text FitsRecorded) (spaced register_text recorded_text) 40 target_part (FitsBoth-operand FitsRegister register_text 3 FitsRecorded recorded_text 36 register_part recorded_part)) (lit≤ tt)

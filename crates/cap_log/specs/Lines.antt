@@ -1,5 +1,5 @@
 -- The grammar of a log's lines: what each line is spelled as, and which lines have a spelling. All of it is this profile's own.
-use Rattle.std.specs.Prelude.{◌≡◌, ℕ, ◌+◌, ◌*◌, ◌^◌, ◌<◌, ◌≤◌, ℤ, pos, negsuc, ◌≤ℤ◌, Bool, true, false, ◌⊎◌, List, [], ◌∷◌, ◌++◌}
+use Rattle.std.specs.Prelude.{◌≡◌, ℕ, ◌*◌, ◌^◌, ◌<◌, ◌≤◌, ℤ, pos, negsuc, ◌≤ℤ◌, Bool, true, false, ◌⊎◌, List, [], ◌∷◌, ◌++◌}
 use Rattle.std.specs.Prelude.{codes, decimal}
 use Rattle.std.specs.Fmt.{signed_decimal}
 use Rattle.std.specs.List.{join_with_byte}
@@ -38,8 +38,8 @@ place_spelling (Register n) = register_spelling n
 place_spelling (Granule n) = codes "@" ++ hex_digits 16 (16 * n)
 
 -- the number of a word
-abbrev pub IsWordNumber : ℕ → Type 0
-IsWordNumber n = n < 2 ^ 128
+abbrev pub IsWord : ℕ → Type 0
+IsWord n = n < 2 ^ 128
 
 -- a length, an address or a mask
 abbrev pub IsNumber : ℕ → Type 0
@@ -61,14 +61,6 @@ IsDataValue size value = value < 256 ^ size
 abbrev pub IsVersion : ℕ → Type 0
 IsVersion version = (version ≡ 1) ⊎ (version ≡ 2)
 
--- a version's number: one digit
-abbrev pub version_spelling : ℕ → List ℕ
-version_spelling version = (48 + version) ∷ []
-
--- each mode has a spelling
-abbrev pub IsMode : Mode → Type 0
-IsMode mode = Unit {0}
-
 -- a mode's name
 abbrev pub mode_spelling : Mode → List ℕ
 mode_spelling Strict = codes "strict"
@@ -83,24 +75,22 @@ tag_spelling false = codes "0"
 abbrev pub result_words : Cap → List (List ℕ)
 result_words result = codes "=" ∷ tag_spelling result.tag ∷ hex_digits 32 result.word.0 ∷ []
 
+-- the words of an operation from a register to a register: its name, both registers, what else it takes, and its result
+abbrev pub operation_words : List ℕ → ℕ → ℕ → List (List ℕ) → Cap → List (List ℕ)
+operation_words name target source more result = name ∷ register_spelling target ∷ register_spelling source ∷ more ++ result_words result
+
 -- the words of a step
 abbrev pub step_words : Step → List (List ℕ)
-step_words (Move target source result) = codes "move" ∷ register_spelling target ∷ register_spelling source ∷ result_words result
-step_words (ClearTag target source result) = codes "cleartag" ∷ register_spelling target ∷ register_spelling source ∷ result_words result
-step_words (SetBounds target source length result) =
-    codes "setbounds" ∷ register_spelling target ∷ register_spelling source ∷ hex_digits 16 length ∷ result_words result
+step_words (Move target source result) = operation_words (codes "move") target source [] result
+step_words (ClearTag target source result) = operation_words (codes "cleartag") target source [] result
+step_words (SetBounds target source length result) = operation_words (codes "setbounds") target source (hex_digits 16 length ∷ []) result
 step_words (SetBoundsExact target source length result) =
-    codes "setboundsexact" ∷ register_spelling target ∷ register_spelling source ∷ hex_digits 16 length ∷ result_words result
-step_words (SetAddr target source address result) =
-    codes "setaddr" ∷ register_spelling target ∷ register_spelling source ∷ hex_digits 16 address ∷ result_words result
-step_words (AndPerm target source mask result) =
-    codes "andperm" ∷ register_spelling target ∷ register_spelling source ∷ hex_digits 16 mask ∷ result_words result
-step_words (Seal target source authority result) =
-    codes "seal" ∷ register_spelling target ∷ register_spelling source ∷ register_spelling authority ∷ result_words result
-step_words (Unseal target source authority result) =
-    codes "unseal" ∷ register_spelling target ∷ register_spelling source ∷ register_spelling authority ∷ result_words result
-step_words (LoadCap target authority offset result) =
-    codes "lc" ∷ register_spelling target ∷ register_spelling authority ∷ signed_decimal offset ∷ result_words result
+    operation_words (codes "setboundsexact") target source (hex_digits 16 length ∷ []) result
+step_words (SetAddr target source address result) = operation_words (codes "setaddr") target source (hex_digits 16 address ∷ []) result
+step_words (AndPerm target source mask result) = operation_words (codes "andperm") target source (hex_digits 16 mask ∷ []) result
+step_words (Seal target source authority result) = operation_words (codes "seal") target source (register_spelling authority ∷ []) result
+step_words (Unseal target source authority result) = operation_words (codes "unseal") target source (register_spelling authority ∷ []) result
+step_words (LoadCap target authority offset result) = operation_words (codes "lc") target authority (signed_decimal offset ∷ []) result
 step_words (StoreCap source authority offset) =
     codes "sc" ∷ register_spelling source ∷ register_spelling authority ∷ signed_decimal offset ∷ []
 step_words (Load authority offset size value) =
@@ -110,7 +100,7 @@ step_words (Store authority offset size value) =
 
 -- the words of a line
 abbrev pub line_words : Line → List (List ℕ)
-line_words (Version version) = codes "capcheck" ∷ version_spelling version ∷ []
+line_words (Version version) = codes "capcheck" ∷ decimal version ∷ []
 line_words (Moding mode) = codes "mode" ∷ mode_spelling mode ∷ []
 line_words (Root place word) = codes "root" ∷ place_spelling place ∷ hex_digits 32 word.0 ∷ []
 line_words (Stepping step) = step_words step
@@ -122,19 +112,15 @@ spelling line = join_with_byte 32 (line_words line)
 
 -- the numbers of a step are such as a step has
 abbrev pub IsStepInRange : Step → Type 0
-IsStepInRange (Move target source result) = IsTarget target × IsRegister source × IsWordNumber result.word.0
-IsStepInRange (ClearTag target source result) = IsTarget target × IsRegister source × IsWordNumber result.word.0
-IsStepInRange (SetBounds target source length result) = IsTarget target × IsRegister source × IsNumber length × IsWordNumber result.word.0
-IsStepInRange (SetBoundsExact target source length result) =
-    IsTarget target × IsRegister source × IsNumber length × IsWordNumber result.word.0
-IsStepInRange (SetAddr target source address result) = IsTarget target × IsRegister source × IsNumber address × IsWordNumber result.word.0
-IsStepInRange (AndPerm target source mask result) = IsTarget target × IsRegister source × IsNumber mask × IsWordNumber result.word.0
-IsStepInRange (Seal target source authority result) =
-    IsTarget target × IsRegister source × IsRegister authority × IsWordNumber result.word.0
-IsStepInRange (Unseal target source authority result) =
-    IsTarget target × IsRegister source × IsRegister authority × IsWordNumber result.word.0
-IsStepInRange (LoadCap target authority offset result) =
-    IsTarget target × IsRegister authority × IsOffset offset × IsWordNumber result.word.0
+IsStepInRange (Move target source result) = IsTarget target × IsRegister source × IsWord result.word.0
+IsStepInRange (ClearTag target source result) = IsTarget target × IsRegister source × IsWord result.word.0
+IsStepInRange (SetBounds target source length result) = IsTarget target × IsRegister source × IsNumber length × IsWord result.word.0
+IsStepInRange (SetBoundsExact target source length result) = IsTarget target × IsRegister source × IsNumber length × IsWord result.word.0
+IsStepInRange (SetAddr target source address result) = IsTarget target × IsRegister source × IsNumber address × IsWord result.word.0
+IsStepInRange (AndPerm target source mask result) = IsTarget target × IsRegister source × IsNumber mask × IsWord result.word.0
+IsStepInRange (Seal target source authority result) = IsTarget target × IsRegister source × IsRegister authority × IsWord result.word.0
+IsStepInRange (Unseal target source authority result) = IsTarget target × IsRegister source × IsRegister authority × IsWord result.word.0
+IsStepInRange (LoadCap target authority offset result) = IsTarget target × IsRegister authority × IsOffset offset × IsWord result.word.0
 IsStepInRange (StoreCap source authority offset) = IsRegister source × IsRegister authority × IsOffset offset
 IsStepInRange (Load authority offset size value) = IsRegister authority × IsOffset offset × IsDataSize size × IsDataValue size value
 IsStepInRange (Store authority offset size value) = IsRegister authority × IsOffset offset × IsDataSize size × IsDataValue size value
@@ -142,8 +128,8 @@ IsStepInRange (Store authority offset size value) = IsRegister authority × IsOf
 -- the numbers of a line are such as a line has
 abbrev pub IsInRange : Line → Type 0
 IsInRange (Version version) = IsVersion version
-IsInRange (Moding mode) = IsMode mode
-IsInRange (Root place word) = IsPlace place × IsWordNumber word.0
+IsInRange (Moding mode) = Unit {0}
+IsInRange (Root place word) = IsPlace place × IsWord word.0
 IsInRange (Stepping step) = IsStepInRange step
 IsInRange (End steps) = steps < 2 ^ 32
 

@@ -5,12 +5,17 @@ use Rattle.std.specs.List.{join_with_byte}
 use Rattle.std.specs.Str.Parse.{AllDigits, digits_value}
 use Rattle.cap_word.specs.Digits.{hex_digits}
 use Rattle.cap_word.specs.declared.word.Cap.{Cap}
+use Rattle.cap_log.specs.declared.lines.Mode.{Mode}
 use Rattle.cap_log.specs.Lines.{IsDataSize, IsDataValue, result_words}
 
 -- the value in range whose spelling the bytes are, or none where they are no such value's
 abbrev pub Reads : {A : Type 0} → (A → Type 0) → (A → List ℕ) → List ℕ → Option A → Type 0
 Reads {A} Fits spelled bytes None = (a : A) → Fits a → bytes ≡ spelled a → ⊥
 Reads {A} Fits spelled bytes (Some a) = Fits a × (bytes ≡ spelled a)
+
+-- each mode has a name
+abbrev pub IsMode : Mode → Type 0
+IsMode mode = Unit {0}
 
 -- no byte is this one
 abbrev pub Lacks : ℕ → List ℕ → Type 0

@@ -1,9 +1,9 @@
 //! What stands behind the first word of a line, with its line feed: one function for each kind of line.
 
-ghost use Rattle.std.specs.Prelude.{◌∷◌, ◌++◌, IfSome, IfNone};
+ghost use Rattle.std.specs.Prelude.{◌∷◌, ◌++◌, decimal, IfSome, IfNone};
 ghost use Rattle.cap_log.specs.Heads.{head_spelling};
-ghost use Rattle.cap_log.specs.Lines.{IsInRange, IsMode, IsVersion, mode_spelling, spelling, version_spelling};
-ghost use Rattle.cap_log.specs.Parts.{Begins, BeginsWithNone, Reads};
+ghost use Rattle.cap_log.specs.Lines.{IsInRange, IsVersion, mode_spelling, spelling};
+ghost use Rattle.cap_log.specs.Parts.{Begins, BeginsWithNone, IsMode, Reads};
 ghost use Rattle.cap_log.specs.declared.heads.Head.TheVariants as head;
 
 use crate::heads::{AccessStep, Head, NumberStep, RegisterStep};
@@ -76,7 +76,7 @@ pub fn take_operands<const COPY: u8>(head: Head, bytes: &[u8]) -> Option<(Line, 
 
 // Reads the number of a version.
 fn read_version(word: &[u8]) -> Option<u8>
-    ensures { Reads IsVersion version_spelling word.now result }
+    ensures { Reads IsVersion decimal word.now result }
 {
     if word == b"1".as_slice() {
         Some(1)

@@ -15,15 +15,16 @@ use Rattle.cap_log.specs.Lines.{IsPlace}
 use Rattle.tagmem.specs.Granules.{Granules, Entry}
 use Rattle.cap_machine.specs.States.{State, key_of, put, granule_key, untagged_null}
 use Rattle.cap_machine.specs.Places.{IsCoded, AreCoded, places_of, codes_of, place_at}
-use Rattle.cap_machine.specs.Origins.{Origins, origin_at, origins_after}
+use Rattle.std.specs.Option.{option_and_then}
+use Rattle.cap_machine.specs.Origins.{Origins, origins_after}
 use Rattle.cap_machine.specs.Steps.{row_of, state_with}
-use Rattle.cap_machine.specs.Runs.{hits, parent_in}
+use Rattle.cap_machine.specs.Runs.{hits}
 use Rattle.cap_machine.specs.Accounts.{row_in}
 use Rattle.cap_machine.specs.Helds.{Held, state_of, code_in, account_of}
 use Rattle.cap_machine.specs.Changes.{code_for}
 use Rattle.cap_machine.proofs.GranuleLemmas.{cap_of}
 use Rattle.cap_machine.proofs.StateLemmas.{state-register, state-granule, codes-register, codes-granule}
-use Rattle.cap_machine.proofs.StepLemmas.{hits-row_by}
+use Rattle.cap_machine.proofs.StepLemmas.{hits-row_by, parent_in}
 
 -- the places that codes are of
 pub place_at-key : (place : Place) → IsPlace place → place_at (key_of place) ≡ Some place
@@ -123,18 +124,18 @@ origins-put codes key code = fun_ext (λ other. choice_under place_at (key == ot
 -- where a result is tagged, the place that it comes from has this code
 abbrev pub IsFrom : Held → Step → Cap → ℕ → Type 0
 IsFrom held step value code =
-    value.tag ≡ true → origin_at (origins_by (code_in held)) (option_map key_of (row_of (state_of held) step).parent) ≡ place_at code
+    value.tag ≡ true → option_and_then (origins_by (code_in held)) (option_map key_of (row_of (state_of held) step).parent) ≡ place_at code
 
 origin_of_result : (origins : Origins) (parent : Option Place) (tag : Bool) (code : ℕ)
-    → (tag ≡ true → origin_at origins (option_map key_of parent) ≡ place_at code)
-    → place_at (code_for tag code) ≡ origin_at origins (if tag then option_map key_of parent else None)
+    → (tag ≡ true → option_and_then origins (option_map key_of parent) ≡ place_at code)
+    → place_at (code_for tag code) ≡ option_and_then origins (if tag then option_map key_of parent else None)
 origin_of_result origins parent true code from = sym (from refl)
 origin_of_result origins parent false code from = refl
 
 origin_there : (origins : Origins) (parent : Option Place) (b : Bool) (value other : Cap) (key code : ℕ)
-    → (value.tag ≡ true → origin_at origins (option_map key_of parent) ≡ place_at code)
+    → (value.tag ≡ true → option_and_then origins (option_map key_of parent) ≡ place_at code)
     → (if b then place_at (code_for value.tag code) else origins key)
-    ≡ origin_at origins (parent_in b (let cap : Cap = if b then value else other in cap.tag) parent key)
+    ≡ option_and_then origins (parent_in b (let cap : Cap = if b then value else other in cap.tag) parent key)
 origin_there origins parent true value other key code from = origin_of_result origins parent value.tag code from
 origin_there origins parent false value other key code from = refl
 
@@ -151,5 +152,5 @@ origin-written old step place value code writes from =
     fun_ext (λ key.
     let hit : hits row.writes key ≡ (key_of place == key) = sym (hits-row_by old.rules row key) ∙ ap (λ (w : Option (Place × Cap)). hits w key) writes in
     origin_there origins row.parent (key_of place == key) value (state key) key code from
-    ∙ ap (λ (b : Bool). origin_at origins (parent_in b (put state (key_of place) value key).tag row.parent key)) (sym hit)
-    ∙ ap (λ (w : Option (Place × Cap)). origin_at origins (parent_in (hits row.writes key) (state_with state w key).tag row.parent key)) (sym writes))
+    ∙ ap (λ (b : Bool). option_and_then origins (parent_in b (put state (key_of place) value key).tag row.parent key)) (sym hit)
+    ∙ ap (λ (w : Option (Place × Cap)). option_and_then origins (parent_in (hits row.writes key) (state_with state w key).tag row.parent key)) (sym writes))

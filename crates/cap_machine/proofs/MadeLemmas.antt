@@ -39,7 +39,8 @@ use Rattle.cap_machine.specs.declared.rules.Rules.{Rules}
 use Rattle.cap_machine.specs.declared.rules.Rules.TheVariants.{One, TwoStrict, TwoClear}
 use Rattle.cap_machine.specs.Accounts.{Account, as_line_test, step_tests, named_by, row_in, naming, is_new}
 use Rattle.cap_machine.specs.Accounts.{passes_granule_limit, most_steps}
-use Rattle.cap_machine.specs.Origins.{Origins, origin_at, origins_after}
+use Rattle.std.specs.Option.{option_and_then}
+use Rattle.cap_machine.specs.Origins.{Origins, origins_after}
 use Rattle.cap_machine.specs.Places.{IsCoded, codes_of, place_at}
 use Rattle.cap_machine.specs.Helds.{Held, Makes, EndsBy, EndsStep, state_of, code_in, account_of, tests_by, value_by, granule_cap}
 use Rattle.cap_machine.specs.Changes.{Derives, EndsAccess, EndsPut, IsOperation, IsSource, code_for, last_tests}
@@ -198,7 +199,7 @@ unaccessed state step target recorded is = ap (λ (r : Row). r.access) is.1
 from_source : (old : Held) (step : Step) (source : ℕ) (derived : Cap) → IsSource (state_of old) step source
     → IsFrom old step derived (get_or old.codes source 0)
 from_source old step source derived is held =
-    ap (λ (o : Option Place). origin_at (origins_by (code_in old)) (option_map key_of o)) is.1 ∙ ap place_at (code-register old source is.0)
+    ap (λ (o : Option Place). option_and_then (origins_by (code_in old)) (option_map key_of o)) is.1 ∙ ap place_at (code-register old source is.0)
 
 -- and stays within it
 pub source_within : (old : Held) (step : Step) (target source : ℕ) (recorded derived : Cap) → IsStepInRange step

@@ -12,7 +12,8 @@ use Rattle.cap_log.specs.Lines.{IsStepInRange}
 use Rattle.cap_machine.specs.declared.rules.Rules.{Rules}
 use Rattle.cap_machine.specs.States.{State, DeclaredRoot, key_of, start, untagged_null, granule_key}
 use Rattle.cap_machine.specs.Runs.{AreSound, Descends, IsRun, last_of, state_at}
-use Rattle.cap_machine.specs.Origins.{Origins, origin_at, origins_after, origins_along}
+use Rattle.std.specs.Option.{option_and_then}
+use Rattle.cap_machine.specs.Origins.{Origins, origins_after, origins_along}
 use Rattle.cap_machine.specs.Accounts.{Account, no_account, with_root, with_step}
 use Rattle.cap_machine.specs.Helds.{Held, state_of}
 use Rattle.cap_machine.specs.RunAccounts.{OriginsAreRoots, after_roots, after_steps, account_after}
@@ -27,7 +28,7 @@ pub traced : (origins : Origins) (state : State) (steps : List Step) (states : L
 traced origins state [] states key from back = ap origins back
 traced origins state (step ∷ steps) [] key from back = absurd back
 traced origins state (step ∷ steps) (next ∷ states) key from back =
-    traced (origins_after origins state step next) next steps states key back.0 back.1 ∙ ap (origin_at origins) back.2
+    traced (origins_after origins state step next) next steps states key back.0 back.1 ∙ ap (option_and_then origins) back.2
 
 -- the numbers of the roots' places
 abbrev pub keys : List DeclaredRoot → List ℕ

@@ -1,5 +1,5 @@
 -- What a step writes stays within what its parent place held.
-use Rattle.std.proofs.Common.{◌≡◌, ℕ, Bool, true, false, List, Option, Some, None, refl, sym, ap, ◌∙◌}
+use Rattle.std.proofs.Common.{◌≡◌, ℕ, Bool, true, false, if◌then◌else◌, List, Option, Some, None, option_map, refl, sym, ap, ◌∙◌}
 use Rattle.cap_word.specs.declared.word.Cap.{Cap}
 use Rattle.cap_log.specs.declared.lines.Place.{Place}
 use Rattle.cap_log.specs.declared.lines.Step.{Step}
@@ -17,7 +17,7 @@ use Rattle.cap_ops.proofs.NarrowingLemmas.{StaysWithin-set_bounds}
 use Rattle.cap_ops.proofs.AddressLemmas.{StaysWithin-set_addr}
 use Rattle.std.proofs.lemmas.Bool.{false≢true}
 use Rattle.cap_machine.specs.States.{State, key_of, granule_key}
-use Rattle.cap_machine.specs.Steps.{Access, Row, row_of, row_by, clear_row, clear_write, granule_through}
+use Rattle.cap_machine.specs.Steps.{Access, Row, row_of, row_by, clear_row, granule_through}
 use Rattle.cap_machine.specs.Runs.{hits}
 use Rattle.cap_machine.specs.declared.rules.Rules.{Rules}
 use Rattle.cap_machine.specs.declared.rules.Rules.TheVariants.{One, TwoStrict, TwoClear}
@@ -46,7 +46,10 @@ writes_within state (StoreCap source authority offset) range free = StaysWithin-
 writes_within state (Load authority offset size value) range free = tt
 writes_within state (Store authority offset size value) range free = λ held. false≢true held
 
--- a write in clear mode
+-- what is written in clear mode
+abbrev clear_write : List (Bool × OpFault) → Option (Place × Cap) → Option (Place × Cap)
+clear_write tests write = option_map (λ (w : Place × Cap). (w.0, clear_result tests w.1)) write
+
 clear_write_within : (state : State) (tests : List (Bool × OpFault)) (parent : Option Place) (write : Option (Place × Cap))
     → (first_of tests ≡ None → WritesWithin state parent write) → WritesWithin state parent (clear_write tests write)
 clear_write_within state tests parent None within = tt
@@ -71,6 +74,10 @@ writes_within_by One state step range free = writes_within state step range free
 writes_within_by TwoStrict state step range free = writes_within state step range free
 writes_within_by TwoClear state step range free =
     clear_row_within state (row_of state step) (row_of state step).access (writes_within state step range) free
+
+-- the place that a place's capability comes from, by whether the step wrote to it and whether it is tagged then
+abbrev pub parent_in : Bool → Bool → Option Place → ℕ → Option ℕ
+parent_in hit held parent key = if hit then (if held then option_map key_of parent else None) else Some key
 
 -- rules change no place
 hits-clear_write : (tests : List (Bool × OpFault)) (write : Option (Place × Cap)) (key : ℕ)

@@ -10,7 +10,7 @@ use Rattle.cap_ops.specs.declared.faults.OpFault.{OpFault}
 use Rattle.cap_machine.specs.declared.refusal.Refusal.{Refusal}
 use Rattle.cap_machine.specs.declared.refusal.Refusal.TheVariants.{PlaceTaken, UnsoundRoot, WrongResult, LimitPassed}
 use Rattle.cap_machine.specs.declared.rules.Rules.{Rules}
-use Rattle.cap_machine.specs.declared.rules.Rules.TheVariants.{One, TwoStrict, TwoClear}
+use Rattle.cap_machine.specs.declared.rules.Rules.TheVariants.{One}
 use Rattle.cap_machine.specs.Refusals.{refusal_of}
 use Rattle.cap_machine.specs.States.{State, key_of, null_state, put, tagged}
 pub use Rattle.cap_machine.specs.Steps.{granule_of, named_by}
@@ -40,8 +40,7 @@ most_roots = 4096
 -- the greatest number of distinct granules that roots, sc and store name
 abbrev pub most_granules : Rules → ℕ
 most_granules One = 65536
-most_granules TwoStrict = 1048576
-most_granules TwoClear = 1048576
+most_granules rules = 1048576
 
 -- the greatest number of steps
 abbrev pub most_steps : ℕ
@@ -70,29 +69,26 @@ naming account (Some granule) = record account {
 
 -- the account after one root more, which is its own origin
 abbrev pub with_root : Account → Place → Word → Account
-with_root account place word =
-    let named = naming account (granule_of place) in
-    record named {
-      state = put account.state (key_of place) (tagged word);
-      origin = put account.origin (key_of place) (Some place);
-      roots = account.roots + 1;
-    }
+with_root account place word = record (naming account (granule_of place)) {
+  state = put account.state (key_of place) (tagged word);
+  origin = put account.origin (key_of place) (Some place);
+  roots = account.roots + 1;
+}
 
 -- the account after one step more: each place has the origin that its parent had
 abbrev pub with_step : Account → Step → Account
 with_step account step =
     let row = row_in account step in
-    let named = naming account (named_by row) in
     let next = state_with account.state row.writes in
-    record named { state = next; origin = origins_after account.origin account.state step next; steps = account.steps + 1 }
+    record (naming account (named_by row)) {
+      state = next; origin = origins_after account.origin account.state step next; steps = account.steps + 1 }
 
 -- the tests of a root, in order: its place has a tagged capability already, its word is not sound, a limit is passed
 abbrev pub root_tests : Account → Place → Word → List (Bool × Refusal)
 root_tests account place word =
     ((account.state (key_of place)).tag, PlaceTaken)
     ∷ (not (is_sound word.0), UnsoundRoot)
-    ∷ (nat_le most_roots account.roots || passes_granule_limit account (granule_of place), LimitPassed)
-    ∷ []
+    ∷ (nat_le most_roots account.roots || passes_granule_limit account (granule_of place), LimitPassed) ∷ []
 
 -- a test of an operation, as a test of a line
 abbrev pub as_line_test : Bool × OpFault → Bool × Refusal
@@ -103,8 +99,7 @@ abbrev pub row_tests : Account → Row → List (Bool × Refusal)
 row_tests account row =
     map as_line_test row.tests
     ++ (not (is_recorded row), WrongResult)
-    ∷ (nat_le most_steps account.steps || passes_granule_limit account (named_by row), LimitPassed)
-    ∷ []
+    ∷ (nat_le most_steps account.steps || passes_granule_limit account (named_by row), LimitPassed) ∷ []
 
 -- the tests of a step, in order
 abbrev pub step_tests : Account → Step → List (Bool × Refusal)

@@ -1,5 +1,6 @@
 -- The place of the root that each capability comes from, carried forward.
-use Rattle.std.specs.Prelude.{ℕ, List, [], ◌∷◌, Option, Some, None}
+use Rattle.std.specs.Prelude.{ℕ, List, [], ◌∷◌, Option}
+use Rattle.std.specs.Option.{option_and_then}
 use Rattle.cap_log.specs.declared.lines.Place.{Place}
 use Rattle.cap_log.specs.declared.lines.Step.{Step}
 use Rattle.cap_machine.specs.States.{State}
@@ -9,14 +10,9 @@ use Rattle.cap_machine.specs.Runs.{parent_of}
 abbrev pub Origins : Type 0
 Origins = ℕ → Option Place
 
--- the origin of a place, by its key, where there is one
-abbrev pub origin_at : Origins → Option ℕ → Option Place
-origin_at origins None = None
-origin_at origins (Some key) = origins key
-
 -- after a step a place has the origin that its parent had
 abbrev pub origins_after : Origins → State → Step → State → Origins
-origins_after origins state step next key = origin_at origins (parent_of state step next key)
+origins_after origins state step next key = option_and_then origins (parent_of state step next key)
 
 -- the origins after a run
 abbrev pub origins_along : Origins → State → List Step → List State → Origins

@@ -16,8 +16,7 @@ use Rattle.cap_machine.specs.Steps.{Leads, row_of}
 abbrev pub IsRun : Rules → State → List Step → List State → Type 0
 IsRun rules state [] [] = Unit {0}
 IsRun rules state (step ∷ steps) (next ∷ states) = Leads rules state step next × IsRun rules next steps states
-IsRun rules state [] (next ∷ states) = ⊥
-IsRun rules state (step ∷ steps) [] = ⊥
+IsRun rules state steps states = ⊥
 
 -- the state at a moment: the first at moment 0, and the one after step k at moment k
 abbrev pub state_at : State → List State → ℕ → State
@@ -35,14 +34,13 @@ abbrev pub hits : Option (Place × Cap) → ℕ → Bool
 hits None key = false
 hits (Some write) key = key_of write.0 == key
 
--- the place, by its key, that a place's capability comes from in a step: the step's parent place where the step wrote to it and it is
--- tagged then, none where the step wrote to it and it is not, and the place itself where the step did not write to it
-abbrev pub parent_in : Bool → Bool → Option Place → ℕ → Option ℕ
-parent_in hit held parent key = if hit then (if held then option_map key_of parent else None) else Some key
-
--- the same of a step from a state to the next
+-- the place, by its key, that a place's capability comes from in a step from a state to the next: the step's parent place where the
+-- step wrote to it and it is tagged then, none where the step wrote to it and it is not, and the place itself where the step did not
+-- write to it
 abbrev pub parent_of : State → Step → State → ℕ → Option ℕ
-parent_of state step next key = let row = row_of state step in parent_in (hits row.writes key) (next key).tag row.parent key
+parent_of state step next key =
+    let row = row_of state step in
+    if hits row.writes key then (if (next key).tag then option_map key_of row.parent else None) else Some key
 
 -- the chain of parents from a place after a run of steps leads back to a place before it, both by their keys
 abbrev pub Descends : State → List Step → List State → ℕ → ℕ → Type 0

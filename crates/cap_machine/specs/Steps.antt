@@ -1,5 +1,7 @@
 -- One step of the machine (the operations and accesses of UCAM-CL-TR-987 for CHERI-RISC-V).
-use Rattle.std.specs.Prelude.{◌≡◌, ℕ, ℤ, ◌/◌, ◌%◌, Bool, true, false, ◌==◌, ◌&&◌, not, if◌then◌else◌, List, [], Option, Some, None, IsTrue}
+use Rattle.std.specs.Prelude.{◌≡◌, ℕ, ℤ, ◌/◌, ◌%◌, Bool, true, false, ◌==◌, ◌&&◌, List, [], Option, Some, None, IsTrue, option_map}
+use Rattle.std.specs.Bool.{beq}
+use Rattle.std.specs.Option.{option_and_then}
 use Rattle.cap_word.specs.declared.word.Cap.{Cap}
 use Rattle.cap_word.specs.Memory.{low_bytes, memory_of, stored_word}
 use Rattle.cap_log.specs.declared.lines.Place.{Place}
@@ -16,7 +18,7 @@ use Rattle.cap_ops.specs.Operations.{and_perm_tests, and_perm_result, seal_tests
 use Rattle.cap_ops.specs.Accesses.{access_address, access_tests, loaded_result, permission_for}
 use Rattle.tagmem.specs.Granules.{overwritten}
 use Rattle.cap_machine.specs.declared.rules.Rules.{Rules}
-use Rattle.cap_machine.specs.declared.rules.Rules.TheVariants.{One, TwoStrict, TwoClear}
+use Rattle.cap_machine.specs.declared.rules.Rules.TheVariants.{TwoClear}
 use Rattle.cap_machine.specs.States.{State, granule_key, key_of, put, value_at}
 
 -- an access to memory: the register that is its authority, its address and size, and the permission that it needs
@@ -43,14 +45,13 @@ pub record Row : Type 0 where
 
 -- the row of an operation from a register to a register
 abbrev pub operation : ℕ → ℕ → Cap → List (Bool × OpFault) → Cap → Row
-operation target source recorded tests_are result =
-    record {
-      tests = tests_are;
-      writes = Some (Register target, result);
-      parent = Some (Register source);
-      records = Written recorded;
-      access = None;
-    }
+operation target source recorded tests_are result = record {
+  tests = tests_are;
+  writes = Some (Register target, result);
+  parent = Some (Register source);
+  records = Written recorded;
+  access = None;
+}
 
 -- the address of an access through a register
 abbrev pub address_through : State → ℕ → ℤ → ℕ
@@ -60,10 +61,16 @@ address_through state authority offset = access_address (state authority).word.0
 abbrev pub granule_through : State → ℕ → ℤ → ℕ
 granule_through state authority offset = address_through state authority offset / 16
 
--- the access of a kind through a register
-abbrev pub access_through : State → ℕ → Kind → ℤ → ℕ → Access
-access_through state register kind offset bytes =
-    record { authority = register; address = address_through state register offset; size = bytes; permission = permission_for kind }
+-- the row of an access of a kind through a register, where nothing is written and nothing recorded
+abbrev pub access_through : State → ℕ → Kind → ℤ → ℕ → Row
+access_through state register kind offset bytes = record {
+  tests = access_tests (state register) kind offset bytes;
+  writes = None;
+  parent = None;
+  records = Nothing;
+  access = Some (record {
+    authority = register; address = address_through state register offset; size = bytes; permission = permission_for kind });
+}
 
 -- a granule's capability after a write of a value's bytes, least significant first, from a byte index on: its tag is clear
 abbrev pub with_value : Cap → ℕ → ℕ → ℕ → Cap
@@ -86,42 +93,27 @@ row_of state (Seal target source authority recorded) =
     operation target source recorded (seal_tests (state source) (state authority)) (seal_result (state source) (state authority))
 row_of state (Unseal target source authority recorded) =
     operation target source recorded (unseal_tests (state source) (state authority)) (unseal_result (state source) (state authority))
-row_of state (LoadCap target authority offset recorded) = let granule = granule_through state authority offset in record {
-  tests = access_tests (state authority) kinds.LoadCap offset 16;
+row_of state (LoadCap target authority offset recorded) =
+    let granule = granule_through state authority offset in record (access_through state authority kinds.LoadCap offset 16) {
   writes = Some (Register target, loaded_result (state authority) (state (granule_key granule)));
   parent = Some (Granule granule);
   records = Written recorded;
-  access = Some (access_through state authority kinds.LoadCap offset 16);
 }
-row_of state (StoreCap source authority offset) = record {
-  tests = access_tests (state authority) (kinds.StoreCap (state source)) offset 16;
+row_of state (StoreCap source authority offset) = record (access_through state authority (kinds.StoreCap (state source)) offset 16) {
   writes = Some (Granule (granule_through state authority offset), state source);
   parent = Some (Register source);
-  records = Nothing;
-  access = Some (access_through state authority (kinds.StoreCap (state source)) offset 16);
 }
-row_of state (Load authority offset size value) = record {
-  tests = access_tests (state authority) kinds.LoadData offset size;
-  writes = None;
-  parent = None;
+row_of state (Load authority offset size value) = record (access_through state authority kinds.LoadData offset size) {
   records = Read value (value_at state (address_through state authority offset) size);
-  access = Some (access_through state authority kinds.LoadData offset size);
 }
-row_of state (Store authority offset size value) = let granule = granule_through state authority offset in record {
-  tests = access_tests (state authority) kinds.StoreData offset size;
+row_of state (Store authority offset size value) =
+    let granule = granule_through state authority offset in record (access_through state authority kinds.StoreData offset size) {
   writes = Some (Granule granule, with_value (state (granule_key granule)) (address_through state authority offset % 16) size value);
-  parent = None;
-  records = Nothing;
-  access = Some (access_through state authority kinds.StoreData offset size);
 }
-
--- whether two tags are the same
-abbrev pub is_same_tag : Bool → Bool → Bool
-is_same_tag a b = if a then b else not b
 
 -- whether two capabilities are the same: tag and word
 abbrev pub is_same_cap : Cap → Cap → Bool
-is_same_cap a b = is_same_tag a.tag b.tag && (a.word.0 == b.word.0)
+is_same_cap a b = beq a.tag b.tag && (a.word.0 == b.word.0)
 
 -- whether what is written, or read, is what a line records
 abbrev pub agrees : Option (Place × Cap) → Recorded → Bool
@@ -139,35 +131,24 @@ abbrev pub granule_of : Place → Option ℕ
 granule_of (Register n) = None
 granule_of (Granule g) = Some g
 
--- the granule that a write names
-abbrev pub named_in : Option (Place × Cap) → Option ℕ
-named_in None = None
-named_in (Some write) = granule_of write.0
-
 -- the granule that a row names: the one that an sc or a store writes
 abbrev pub named_by : Row → Option ℕ
-named_by row = named_in row.writes
+named_by row = option_and_then (λ write. granule_of write.0) row.writes
 
 -- the state after a write
 abbrev pub state_with : State → Option (Place × Cap) → State
 state_with state None = state
 state_with state (Some write) = put state (key_of write.0) write.1
 
--- what is written in clear mode
-abbrev pub clear_write : List (Bool × OpFault) → Option (Place × Cap) → Option (Place × Cap)
-clear_write tests None = None
-clear_write tests (Some write) = Some (write.0, clear_result tests write.1)
-
 -- a row in clear mode: an operation on registers meets no test, and its result loses its tag where one holds; an access stays as it is
 abbrev pub clear_row : Option Access → Row → Row
-clear_row None row = record row { tests = []; writes = clear_write row.tests row.writes }
+clear_row None row = record row { tests = []; writes = option_map (λ write. (write.0, clear_result row.tests write.1)) row.writes }
 clear_row (Some access) row = row
 
 -- a row by the rules
 abbrev pub row_by : Rules → Row → Row
-row_by One row = row
-row_by TwoStrict row = row
 row_by TwoClear row = clear_row row.access row
+row_by rules row = row
 
 -- the step leads, by the rules, from one state to the next: no test of it holds, the line records what the machine has, and the place
 -- that it writes is all that changes

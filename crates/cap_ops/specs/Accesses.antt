@@ -29,16 +29,11 @@ permission_for (StoreCap stored) = permit_store
 -- a tagged capability is only stored by an authority with Store Capability, and one that is not global
 -- only with Store Local Capability too
 abbrev pub stored_tests : ℕ → Kind → List (Bool × OpFault)
-stored_tests w LoadData = []
-stored_tests w StoreData = []
-stored_tests w LoadCap = []
 stored_tests w (StoreCap stored) =
+    let is_local = not (has_permission stored.word.0 global) in
     (stored.tag && not (has_permission w permit_store_capability), StoreCapPermission)
-    ∷ (
-      stored.tag && not (has_permission stored.word.0 global) && not (has_permission w permit_store_local_capability),
-      StoreLocalPermission,
-    )
-    ∷ []
+    ∷ (stored.tag && is_local && not (has_permission w permit_store_local_capability), StoreLocalPermission) ∷ []
+stored_tests w kind = []
 
 -- the tests of an access of a kind, at an offset, of a size
 unfoldable pub access_tests : Cap → Kind → ℤ → ℕ → List (Bool × OpFault)
@@ -61,5 +56,4 @@ pub record IsAllowed (w address size permission : ℕ) : Type 0 where
 
 -- a capability that is read keeps its tag where the authority has Load Capability
 unfoldable pub loaded_result : Cap → Cap → Cap
-loaded_result authority stored =
-    record stored { tag = stored.tag && has_permission authority.word.0 permit_load_capability }
+loaded_result authority stored = record stored { tag = stored.tag && has_permission authority.word.0 permit_load_capability }

@@ -70,8 +70,7 @@ set_bounds_tests source length exact =
     on_tagged source (
     (is_sealed w, SourceSealed)
     ∷ (not (covers w (rounded_base base length) (rounded_top base length)), BoundsEscape)
-    ∷ (exact && not (is_exact base length), NotExact)
-    ∷ [])
+    ∷ (exact && not (is_exact base length), NotExact) ∷ [])
 
 -- the source with the rounded bounds of the length from its address on
 unfoldable pub set_bounds_result : Cap → ℕ → Cap
@@ -80,10 +79,7 @@ set_bounds_result source length = with_word source (rounded_word source.word.0 (
 -- a new address is to keep the bounds
 unfoldable pub set_addr_tests : Cap → ℕ → List (Bool × OpFault)
 set_addr_tests source address =
-    on_tagged source (
-    (is_sealed source.word.0, SourceSealed)
-    ∷ (not (is_kept_at source.word.0 address), NotRepresentable)
-    ∷ [])
+    on_tagged source ((is_sealed source.word.0, SourceSealed) ∷ (not (is_kept_at source.word.0 address), NotRepresentable) ∷ [])
 
 -- the source with another address
 unfoldable pub set_addr_result : Cap → ℕ → Cap
@@ -95,8 +91,7 @@ and_perm_tests source = on_tagged source ((is_sealed source.word.0, SourceSealed
 
 -- the source with those of its permissions that the mask has too, both in the view
 unfoldable pub and_perm_result : Cap → ℕ → Cap
-and_perm_result source mask =
-    with_word source (with_perms source.word.0 (perms_from_view (bit_and (perm_view_of source.word.0) mask)))
+and_perm_result source mask = with_word source (with_perms source.word.0 (perms_from_view (bit_and (perm_view_of source.word.0) mask)))
 
 -- an authority for object types is to be tagged and unsealed, to have the permission, and to hold its
 -- own address, which is the type
@@ -106,8 +101,7 @@ type_authority_tests authority permission =
     (not authority.tag, AuthorityUntagged)
     ∷ (is_sealed w, AuthoritySealed)
     ∷ (not (has_permission w permission), AuthorityPermission)
-    ∷ (not (holds_address w (address_of w)), AuthorityBounds)
-    ∷ []
+    ∷ (not (holds_address w (address_of w)), AuthorityBounds) ∷ []
 
 -- sealing: the authority first, then the type that it gives, then the source
 unfoldable pub seal_tests : Cap → Cap → List (Bool × OpFault)
@@ -115,8 +109,7 @@ seal_tests source authority =
     type_authority_tests authority permit_seal
     ++ (nat_lt greatest_type (address_of authority.word.0), TypeOutOfRange)
     ∷ (not source.tag, SourceUntagged)
-    ∷ (is_sealed source.word.0, SourceSealed)
-    ∷ []
+    ∷ (is_sealed source.word.0, SourceSealed) ∷ []
 
 -- the source with the authority's address as its object type, cut to 18 bits: the tests let no other pass
 unfoldable pub seal_result : Cap → Cap → Cap
@@ -127,8 +120,7 @@ unfoldable pub unseal_tests : Cap → Cap → List (Bool × OpFault)
 unseal_tests source authority =
     type_authority_tests authority permit_unseal
     ++ (not source.tag, SourceUntagged)
-    ∷ (not (is_sealed_with source.word.0 (address_of authority.word.0)), TypeMismatch)
-    ∷ []
+    ∷ (not (is_sealed_with source.word.0 (address_of authority.word.0)), TypeMismatch) ∷ []
 
 -- the permissions of a word, Global only where another word has it too
 abbrev pub perms_with_common_global : ℕ → ℕ → ℕ

@@ -11,9 +11,9 @@ use Rattle.cap_log.specs.declared.lines.Line.{Line}
 use Rattle.cap_log.specs.declared.lines.Line.TheVariants as lines
 use Rattle.cap_log.specs.declared.lines.Step.{Step}
 use Rattle.cap_log.specs.Lines.{spelling, IsInRange, IsStepInRange, Spells}
-use Rattle.cap_log.specs.Front.{IsLine}
+use Rattle.cap_log.specs.Front.{FrontIs, IsLine}
 use Rattle.cap_machine.specs.declared.refusal.Refusal.{Refusal}
-use Rattle.cap_machine.specs.declared.refusal.Refusal.TheVariants.{Misplaced}
+use Rattle.cap_machine.specs.declared.refusal.Refusal.TheVariants.{LineTooLong, Misplaced, Truncated}
 use Rattle.cap_machine.specs.declared.ends.StepEnd.TheVariants.{NoMemory}
 use Rattle.cap_machine.specs.States.{State, DeclaredRoot, start}
 use Rattle.cap_machine.specs.declared.rules.Rules.{Rules}
@@ -25,7 +25,7 @@ use Rattle.capcheck.specs.declared.verdict.Verdict.TheVariants.{Yes, No}
 use Rattle.capcheck.specs.declared.verdict.JudgeFault.{JudgeFault}
 use Rattle.capcheck.specs.declared.verdict.JudgeFault.TheVariants as faults
 use Rattle.capcheck.specs.Logs.{Beginning, Nothing, NoMode, Body, Whole, header_lines, lines_of, text_of, account_after}
-use Rattle.capcheck.specs.Logs.{IsAccepted, RefusesFront, Refuses, IsFirstFault, WantsMemory, MayLackMemory}
+use Rattle.capcheck.specs.Logs.{IsAccepted, RefusesWhole, Refuses, IsFirstFault, WantsMemory, MayLackMemory}
 use Rattle.capcheck.specs.Logs.{NamesNoGranules, named_by_line}
 use Rattle.capcheck.specs.Verdicts.{IsYes, IsGuarded, GuardsAuthority, IsFault}
 use Rattle.capcheck.specs.Judgings.{IsBehind, LeadsTo}
@@ -82,6 +82,11 @@ behind bytes rest reading line here = record { bytes_are = here.bytes_are; accep
 pub unended_here : (bytes rest : List ℕ) (reading : Reading) (line : ℕ) (here : IsAt bytes reading rest line) → reading.ended ≡ false
     → IsUnended here.beginning
 unended_here bytes rest reading line here is = unended here.beginning reading here.stands is
+
+-- the front of what follows a beginning is refused
+abbrev pub RefusesFront : Beginning → List ℕ → Refusal → Type 0
+RefusesFront beginning rest refusal =
+    FrontIs rest (refusal ≡ LineTooLong) (refusal ≡ Truncated) (λ line. RefusesWhole beginning line refusal)
 
 -- the line behind a beginning can be refused by its front
 front_refused : (beginning : Beginning) (rest : List ℕ) (refusal : Refusal) → IsUnended beginning → RefusesFront beginning rest refusal
@@ -220,14 +225,10 @@ pub guarded : ((rules_are : Rules) (roots : List DeclaredRoot) (made : List Step
     → ((rules_are : Rules) (roots : List DeclaredRoot) (made : List Step) (states : List State) → AreSound roots → AllByRecursion IsStepInRange made → IsRun rules_are (start roots) made states
     → AccessesLieInside roots made states)
     → (bytes : List ℕ) → IsGuarded bytes
-guarded grows inside bytes = record {
-  authority = λ rules_are roots made states log run.
-      let runs = log.runs in
-      grows rules_are roots made states (are_sound roots runs.sound) (steps_in_range roots made (behind_header rules_are _ runs.grammar)) run;
-  accesses = λ rules_are roots made states log run.
-      let runs = log.runs in
-      inside rules_are roots made states (are_sound roots runs.sound) (steps_in_range roots made (behind_header rules_are _ runs.grammar)) run;
-}
+guarded grows inside bytes rules_are roots made states log run =
+    let sound = are_sound roots log.runs.sound in
+    let in_range = steps_in_range roots made (behind_header rules_are _ log.runs.grammar) in
+    (grows rules_are roots made states sound in_range run, inside rules_are roots made states sound in_range run)
 
 pub guards : (bytes : List ℕ) → IsGuarded bytes → (verdict : Verdict) → GuardsAuthority bytes verdict
 guards bytes all (Yes steps roots) = all

@@ -31,12 +31,12 @@ use Rattle.capcheck.specs.declared.verdict.Verdict.TheVariants.{Yes, No}
 use Rattle.capcheck.specs.declared.verdict.JudgeFault.{JudgeFault}
 use Rattle.capcheck.specs.declared.verdict.JudgeFault.TheVariants.{Pull, NoMemory}
 use Rattle.capcheck.specs.Logs.{Beginning, Nothing, NoMode, Body, Whole, header_lines, body_lines, lines_of, text_of}
-use Rattle.capcheck.specs.Logs.{IsAccepted, RefusesFront, RefusesWhole, IsFirstFault, MayLackMemory}
+use Rattle.capcheck.specs.Logs.{IsAccepted, RefusesWhole, IsFirstFault, MayLackMemory}
 use Rattle.capcheck.specs.Verdicts.{answer_at, EscapesExactly, IsVerdict, IsFault}
 use Rattle.capcheck.specs.Progresses.{Reading, EndsNext, GoesOn, IsAt, IsLaterAt, HasRead}
 use Rattle.capcheck.specs.Judgings.{IsVerdictOf, IsBehind, BeginsLog, IsAnswerOf, Judged, LeadsAfter, JudgedBy, IsNoYes, refusal_in}
 use Rattle.capcheck.proofs.EscapeLaws.{escapes_exactly}
-use Rattle.capcheck.proofs.JudgeLemmas.{IsUnended, goes_on, behind, unended_here, refused_behind, wants_memory}
+use Rattle.capcheck.proofs.JudgeLemmas.{IsUnended, RefusesFront, goes_on, behind, unended_here, refused_behind, wants_memory}
 use Rattle.capcheck.proofs.JudgeLemmas.{misplaced, yes, leads, guarded, guards, no_lack}
 
 -- more bytes behind all

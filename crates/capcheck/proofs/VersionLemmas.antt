@@ -1,5 +1,6 @@
 -- Bytes that do not begin with the line `capcheck 2` have a verdict by the rules of version 1.
-use Rattle.std.proofs.Common.{◌≡◌, ℕ, List, [], ◌∷◌, ◌++◌, length, map, refl, sym, ◌∙◌, append-nil}
+use Rattle.std.proofs.Common.{◌≡◌, ℕ, List, [], ◌∷◌, ◌++◌, length, map, refl, sym, ap, ◌∙◌, append-nil, arith, codes}
+use Rattle.std.proofs.lemmas.Fmt.{decimal_digit}
 use Rattle.cap_log.specs.declared.lines.Line.{Line}
 use Rattle.cap_log.specs.declared.lines.Line.TheVariants.{Version, Mode, Root, Step, End}
 use Rattle.cap_log.specs.declared.lines.Mode.TheVariants.{Strict, Clear}
@@ -15,7 +16,9 @@ use Rattle.capcheck.specs.Verdicts.{IsVerdict, IsOfVersionOne, BeginsOne, IsByVe
 -- a text that begins with the line of version 2
 not_two : (bytes rest : List ℕ) (lines : List Line) → IsOfVersionOne bytes → bytes ≡ text_of (Version 2 ∷ lines) ++ rest → ⊥
 unfolding spelling
-not_two bytes rest lines one are = one (text_of lines ++ rest) are
+not_two bytes rest lines one are =
+    one (text_of lines ++ rest)
+    (are ∙ ap (λ (digits : List ℕ). (((codes "capcheck " ++ digits) ++ 10 ∷ []) ++ text_of lines) ++ rest) (decimal_digit 2 (omega arith)))
 
 behind : List DeclaredRoot → List steps_module.Step → List Line
 behind roots steps = map (λ (root : DeclaredRoot). Root root.place root.word) roots ++ map Step steps

@@ -65,10 +65,9 @@ pub record RunsBy (rules : Rules) (roots : List DeclaredRoot) (steps : List step
 
 -- a beginning that is accepted
 abbrev pub IsAccepted : Beginning → Type 0
-IsAccepted Nothing = Unit {0}
-IsAccepted NoMode = Unit {0}
 IsAccepted (Body rules roots steps) = RunsBy rules roots steps
 IsAccepted (Whole rules roots steps) = RunsBy rules roots steps
+IsAccepted beginning = Unit {0}
 
 -- the bytes are a log whose steps have a run
 pub record IsLogOf (bytes : List ℕ) (rules : Rules) (roots : List DeclaredRoot) (steps : List steps_module.Step) : Type 0 where
@@ -112,15 +111,11 @@ RefusesWhole NoMode bytes refusal = ((mode : modes_module.Mode) → Spells bytes
 RefusesWhole (Body rules roots steps) bytes refusal = RefusesLine (account_after rules roots steps) bytes refusal
 RefusesWhole (Whole rules roots steps) bytes refusal = ⊥
 
--- what follows a beginning is refused: its front is too long, or cut, or a whole line that is refused
-abbrev pub RefusesFront : Beginning → List ℕ → Refusal → Type 0
-RefusesFront beginning rest refusal =
-    FrontIs rest (refusal ≡ LineTooLong) (refusal ≡ Truncated) (λ line. RefusesWhole beginning line refusal)
-
--- what follows a beginning is refused; after the end line any byte is misplaced
+-- what follows a beginning is refused: after the end line any byte is misplaced; before it the front is too long, or cut, or a whole
+-- line that is refused
 abbrev pub Refuses : Beginning → List ℕ → Refusal → Type 0
 Refuses (Whole rules roots steps) rest refusal = (rest ≢ []) × (refusal ≡ Misplaced)
-Refuses beginning rest refusal = RefusesFront beginning rest refusal
+Refuses beginning rest refusal = FrontIs rest (refusal ≡ LineTooLong) (refusal ≡ Truncated) (λ line. RefusesWhole beginning line refusal)
 
 -- the bytes are the text of a beginning that is accepted, and a rest that is refused: the line after the beginning is the first fault
 pub record IsFirstFault (bytes : List ℕ) (number : ℕ) (refusal : Refusal) : Type 0 where

@@ -33,11 +33,9 @@ IsVerdict bytes (Yes steps roots) = IsYes bytes steps roots
 IsVerdict bytes (No line refusal) = IsFirstFault bytes line refusal
 
 -- along every run that the bytes as a log have, authority never grows and each access lies inside its root (this profile's own)
-pub record IsGuarded (bytes : List ℕ) : Type 0 where
-  pub authority : (rules : Rules) (roots : List DeclaredRoot) (steps : List Step) (states : List State) → IsLogOf bytes rules roots steps
-      → IsRun rules (start roots) steps states → AuthorityNeverGrows roots steps states
-  pub accesses : (rules : Rules) (roots : List DeclaredRoot) (steps : List Step) (states : List State) → IsLogOf bytes rules roots steps
-      → IsRun rules (start roots) steps states → AccessesLieInside roots steps states
+abbrev pub IsGuarded : List ℕ → Type 0
+IsGuarded bytes = (rules : Rules) (roots : List DeclaredRoot) (steps : List Step) (states : List State) → IsLogOf bytes rules roots steps
+    → IsRun rules (start roots) steps states → AuthorityNeverGrows roots steps states × AccessesLieInside roots steps states
 
 -- after a yes: what the bytes are a log of is guarded
 abbrev pub GuardsAuthority : List ℕ → Verdict → Type 0

@@ -1,7 +1,7 @@
 //! Words, and the results that steps record.
 
 ghost use Rattle.cap_word.specs.Digits.{hex_digits};
-ghost use Rattle.cap_log.specs.Lines.{IsWordNumber};
+ghost use Rattle.cap_log.specs.Lines.{IsWord};
 ghost use Rattle.cap_log.specs.Parts.{IsAny, Reads, result_spelling, tag_front};
 ghost use Rattle.cap_log.specs.Spaceless.{digits-spaceless};
 
@@ -11,7 +11,7 @@ use crate::parts::{Part, Single};
 use cap_word::{Cap, Word, read_word, word_text};
 
 impl Part for Word {
-    ghost fits = { λ word. IsWordNumber word.0 };
+    ghost fits = { λ word. IsWord word.0 };
 
     ghost spelled = { λ word. hex_digits 32 word.0 };
 
@@ -36,7 +36,7 @@ impl Single for Word {
 pub struct Recorded(pub Cap);
 
 impl Part for Recorded {
-    ghost fits = { λ recorded. IsWordNumber recorded.0.word.0 };
+    ghost fits = { λ recorded. IsWord recorded.0.word.0 };
 
     ghost spelled = { λ recorded. result_spelling recorded.0 };
 

@@ -1,6 +1,8 @@
 use Rattle.cap_log.specs.declared.heads.Head.TheVariants as head
 use Rattle.cap_log.proofs.Shapes.{mode-operand, no_operands, takes-made, version-operand}
-use Rattle.cap_log.specs.Lines.{IsMode, IsVersion, mode_spelling, version_spelling}
+use Rattle.std.proofs.Common.{decimal}
+use Rattle.cap_log.specs.Lines.{IsVersion, mode_spelling}
+use Rattle.cap_log.specs.Parts.{IsMode}
 use Rattle.cap_log.proofs.TakeLemmas.{none_ended, none_read, taken}
 use Rattle.cap_log.proofs.operands.take_operands.Goals as goal
 
@@ -18,18 +20,18 @@ returns-in_ok-count-in-End-clause-some g c = rw c.in-End.is (takes-made head.End
 
 pub returns-in_err-word-in-Version-clause-none : goal.returns-in_err-word-in-Version-clause-none
 returns-in_err-word-in-Version-clause-none g c =
-    rw (c.from_residual.ensures, c.in-Version.is) (no_operands head.Version c.args.bytes.now (none_ended IsVersion version_spelling 10 c.args.bytes.now c.in_err-word-in-Version.ensures.none))
+    rw (c.from_residual.ensures, c.in-Version.is) (no_operands head.Version c.args.bytes.now (none_ended IsVersion decimal 10 c.args.bytes.now c.in_err-word-in-Version.ensures.none))
 
 pub returns-in_err-version-in-Version-clause-none : goal.returns-in_err-version-in-Version-clause-none
 returns-in_err-version-in-Version-clause-none g c =
     rw (c.from_residual-in_err-version-in-Version.ensures, c.in-Version.is)
-    (no_operands head.Version c.args.bytes.now (none_read IsVersion version_spelling 10 version-operand.plain c.in_ok-word-in-Version.ensures.some c.in_err-version-in-Version.ensures))
+    (no_operands head.Version c.args.bytes.now (none_read IsVersion decimal 10 version-operand.plain c.in_ok-word-in-Version.ensures.some c.in_err-version-in-Version.ensures))
 
 pub returns-in_ok-version-in-Version-clause-some : goal.returns-in_ok-version-in-Version-clause-some
 returns-in_ok-version-in-Version-clause-some g c =
     let cut = c.in_ok-word-in-Version in
     rw c.in-Version.is (takes-made head.Version c.in_ok-version-in-Version.version c.args.bytes.now cut.rest.now
-    (taken IsVersion version_spelling 10 c.args.bytes.now cut.word.now cut.rest.now _ cut.ensures.some.whole c.in_ok-version-in-Version.ensures))
+    (taken IsVersion decimal 10 c.args.bytes.now cut.word.now cut.rest.now _ cut.ensures.some.whole c.in_ok-version-in-Version.ensures))
 
 pub returns-in_err-word-in-Mode-clause-none : goal.returns-in_err-word-in-Mode-clause-none
 returns-in_err-word-in-Mode-clause-none g c =

@@ -1,4 +1,4 @@
-use Rattle.std.proofs.Common.{◌++◌, List, ℕ, ap, ◌∙◌, sym, append_assoc}
+use Rattle.std.proofs.Common.{◌++◌, List, ℕ, ap, ◌∙◌, append_assoc}
 use Rattle.capcheck.proofs.ResultLemmas.{err_follows, ok_follows}
 use Rattle.capcheck.proofs.progress.Progress.take_lines.Goals as goal
 
