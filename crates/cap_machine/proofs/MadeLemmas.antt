@@ -37,7 +37,7 @@ use Rattle.cap_machine.specs.Steps.{Access, Row, row_of, row_by, operation, is_r
 use Rattle.cap_machine.specs.Steps.{address_through, granule_through, with_value}
 use Rattle.cap_machine.specs.declared.rules.Rules.{Rules}
 use Rattle.cap_machine.specs.declared.rules.Rules.TheVariants.{One, TwoStrict, TwoClear}
-use Rattle.cap_machine.specs.Accounts.{Account, as_line_test, step_tests, named_by, row_in, naming, is_new}
+use Rattle.cap_machine.specs.Accounts.{Account, step_tests, named_by, row_in, naming, is_new}
 use Rattle.cap_machine.specs.Accounts.{passes_granule_limit, most_steps}
 use Rattle.std.specs.Option.{option_and_then}
 use Rattle.cap_machine.specs.Origins.{Origins, origins_after}
@@ -51,6 +51,10 @@ use Rattle.cap_machine.proofs.StateLemmas.{account_with, state-register, state-g
 use Rattle.cap_machine.proofs.StateLemmas.{named-put, named_in, also_named}
 use Rattle.cap_machine.proofs.CodeLemmas.{IsFrom, code-register, code_for-coded, origins_by, origins-put, origin-written}
 use Rattle.cap_machine.proofs.StepLemmas.{WritesWithin, row_by-access, writes_within_by}
+
+-- a test of an operation, as a test of a line
+abbrev as_line_test : Bool × OpFault → Bool × Refusal
+as_line_test test = (test.0, refusal_of test.1)
 
 -- the first of tests of an operation, as tests of a line, before others
 pub first_mapped-some : (tests : List (Bool × OpFault)) (rest : List (Bool × Refusal)) (fault : OpFault) → first_of tests ≡ Some fault

@@ -6,7 +6,6 @@ use Rattle.cap_word.specs.declared.word.Word.{Word}
 use Rattle.cap_log.specs.declared.lines.Place.{Place}
 use Rattle.cap_log.specs.declared.lines.Step.{Step}
 use Rattle.cap_bounds.specs.Bounds.{is_sound}
-use Rattle.cap_ops.specs.declared.faults.OpFault.{OpFault}
 use Rattle.cap_machine.specs.declared.refusal.Refusal.{Refusal}
 use Rattle.cap_machine.specs.declared.refusal.Refusal.TheVariants.{PlaceTaken, UnsoundRoot, WrongResult, LimitPassed}
 use Rattle.cap_machine.specs.declared.rules.Rules.{Rules}
@@ -90,14 +89,10 @@ root_tests account place word =
     ∷ (not (is_sound word.0), UnsoundRoot)
     ∷ (nat_le most_roots account.roots || passes_granule_limit account (granule_of place), LimitPassed) ∷ []
 
--- a test of an operation, as a test of a line
-abbrev pub as_line_test : Bool × OpFault → Bool × Refusal
-as_line_test test = (test.0, refusal_of test.1)
-
 -- the tests of a row, in order: its own, then whether its line records another result than the machine's, and whether a limit is passed
 abbrev pub row_tests : Account → Row → List (Bool × Refusal)
 row_tests account row =
-    map as_line_test row.tests
+    map (λ test. (test.0, refusal_of test.1)) row.tests
     ++ (not (is_recorded row), WrongResult)
     ∷ (nat_le most_steps account.steps || passes_granule_limit account (named_by row), LimitPassed) ∷ []
 

@@ -16,6 +16,8 @@ use Rattle.cap_log.specs.declared.lines.Step as steps_module
 use Rattle.cap_log.specs.Lines.{Spells, IsInRange, IsStepInRange, IsPlace}
 use Rattle.cap_ops.specs.Tests.{first_of}
 use Rattle.cap_ops.proofs.TestLemmas.{none_hold}
+use Rattle.cap_ops.specs.declared.faults.OpFault.{OpFault}
+use Rattle.cap_machine.specs.Refusals.{refusal_of}
 use Rattle.cap_machine.specs.declared.refusal.Refusal.{Refusal}
 use Rattle.cap_machine.specs.declared.refusal.Refusal.TheVariants.{BadLine, Misplaced, WrongResult, LimitPassed}
 use Rattle.cap_machine.specs.declared.ends.StepEnd.{StepEnd}
@@ -26,7 +28,7 @@ use Rattle.cap_machine.specs.States.{State, DeclaredRoot, key_of, put, tagged, s
 use Rattle.cap_machine.specs.Steps.{Leads, Row, is_recorded}
 use Rattle.cap_machine.specs.Accounts.{Account, no_account, most_roots, most_granules, most_steps, granule_of, named_by}
 use Rattle.cap_machine.specs.Accounts.{row_in, passes_granule_limit, naming, with_root, with_step, root_tests}
-use Rattle.cap_machine.specs.Accounts.{row_tests, as_line_test}
+use Rattle.cap_machine.specs.Accounts.{row_tests}
 use Rattle.cap_machine.specs.Runs.{IsRun, last_of}
 use Rattle.cap_machine.specs.Helds.{Held, Makes, EndsStep, TakesRoot, EndsRoot, state_of, account_of}
 use Rattle.cap_machine.proofs.AccountLemmas.{with_root-grows, with_step-grows, account_after-grows}
@@ -94,7 +96,7 @@ step_within : (account : Account) (row : Row) → first_of (row_tests account ro
 step_within account row free =
     let limit = nat_le most_steps account.steps || passes_granule_limit account (named_by row) in
     let last = (not (is_recorded row), WrongResult) ∷ (limit, LimitPassed) ∷ [] in
-    let free_last = none_hold last (none_after (map as_line_test row.tests) last free) in
+    let free_last = none_hold last (none_after (map (λ (test : Bool × OpFault). (test.0, refusal_of test.1)) row.tests) last free) in
     or_parts _ _ free_last.1.0
 
 -- a limit on granules that an account keeps, seen from what a machine holds
