@@ -2,11 +2,10 @@
 use Rattle.std.proofs.Common.{◌≡◌, ℕ, zero, suc, ◌+◌, ◌*◌, ◌-◌, ◌/◌, ◌%◌, ◌<◌, ◌≤◌, ◌^◌, List, [], ◌∷◌, ◌++◌, length, take, drop, replicate, refl, sym, ap, subst, ◌∙◌, inl, inr, arith, codes, decimal}
 use Rattle.std.proofs.Math.Nat as nat
 use Rattle.std.specs.Char.{digit_value}
-use borrow.Rule.Slice.PartMut.{put_mid}
-use Rattle.std.proofs.lemmas.List.{append-nil, append_assoc, drop_all, drop_at, length-append, length-drop, length-replicate, take-replicate, take_all}
+use Rattle.std.proofs.lemmas.List.{append-nil, append_assoc, drop_all, drop_at, length-append, length-replicate, take-replicate, take_all}
 use Rattle.std.proofs.lemmas.Fmt.{decimal_digit, decimal_injective}
 use Rattle.cap_word.specs.Digits.{hex_digit, hex_digits}
-use Rattle.cap_word.proofs.DigitLemmas.{length-hex_digits, pow_256}
+use Rattle.cap_word.proofs.DigitLemmas.{length-hex_digits}
 use Rattle.cap_log.specs.Lines.{IsDataSize, IsDataValue}
 use Rattle.cap_log.specs.Parts.{Begins, BeginsWithNone, IsSized, Writes, loaded_spelling, stored_spelling}
 use Rattle.cap_log.proofs.Cuts.{same_cut}
@@ -91,46 +90,6 @@ zeros_small (suc j) k n digits small e =
     let within : n < 0 * 16 ^ (j + k) + 16 ^ (j + k) = subst (λ (q : ℕ). n < q * 16 ^ (j + k) + 16 ^ (j + k)) none (nat.lt-div-mul-add power) in
     let low : n < 16 ^ (j + k) = omega arith in
     zeros_small j k n digits low rest
-
--- sixteen zeros overwritten from the end
-pub zeros_and : (n : ℕ) (text written : List ℕ) → n ≤ 16 → length text ≡ n → written ≡ text → put_mid (16 - n) (16 - (16 - n)) (replicate 16 48) written ≡ replicate (16 - n) 48 ++ text
-zeros_and n text written small long same =
-    let front : take (16 - n) (replicate 16 48) ≡ replicate (16 - n) 48 = take-replicate (16 - n) 16 48 (omega arith) in
-    let back : drop (16 - (16 - n)) (drop (16 - n) (replicate 16 48)) ≡ [] =
-    drop_all (16 - (16 - n)) (drop (16 - n) (replicate 16 48)) (omega (arith, length-drop {A = ℕ} (16 - n) (replicate 16 48), length-replicate {A = ℕ} 16 48)) in
-    ap (λ (xs : List ℕ). xs ++ (written ++ drop (16 - (16 - n)) (drop (16 - n) (replicate 16 48)))) front
-    ∙ ap (λ (xs : List ℕ). replicate (16 - n) 48 ++ (written ++ xs)) back
-    ∙ ap (λ (xs : List ℕ). replicate (16 - n) 48 ++ xs) (append-nil written ∙ same)
-
-places : (size : ℕ) → IsDataSize size → (16 - 2 * size) + 2 * size ≡ 16
-places size fits = omega (arith, size-small size fits)
-
--- the number of digits behind zeros is a value of their size
-pub value_read : (size : ℕ) → IsDataSize size → (digits text : List ℕ) (n : ℕ) → length digits ≡ 2 * size → text ≡ replicate (16 - length digits) 48 ++ digits
-    → n < 2 ^ 64 → text ≡ hex_digits 16 n → IsDataValue size n × (digits ≡ hex_digits (2 * size) n)
-value_read size fits digits text n long zeros small read =
-    let k = 2 * size in
-    let all = places size fits in
-    let whole : replicate (16 - 2 * size) 48 ++ digits ≡ hex_digits ((16 - 2 * size) + 2 * size) n =
-    ap (λ (i : ℕ). replicate (16 - i) 48 ++ digits) (sym long) ∙ (sym zeros ∙ read) ∙ ap (λ (i : ℕ). hex_digits i n) (sym all) in
-    let bound : n < 16 ^ ((16 - 2 * size) + 2 * size) = subst (λ (i : ℕ). n < 16 ^ i) (sym all) small in
-    let value = zeros_small (16 - 2 * size) (2 * size) n digits bound whole in
-    let behind = ap (λ (bs : List ℕ). drop (16 - 2 * size) bs) whole in (
-      subst (λ (p : ℕ). n < p) (sym (pow_256 size)) value,
-      sym (drop_at (replicate (16 - 2 * size) 48) digits (16 - 2 * size) (length-replicate (16 - 2 * size) 48)) ∙ behind ∙ drop-hex_digits (16 - 2 * size) (2 * size) n,
-    )
-
--- where they are no number's, they are no value's
-pub no_value_read : (size : ℕ) → IsDataSize size → (digits text : List ℕ) → length digits ≡ 2 * size → text ≡ replicate (16 - length digits) 48 ++ digits
-    → ((n : ℕ) → n < 2 ^ 64 → text ≡ hex_digits 16 n → ⊥) → (v : ℕ) → IsDataValue size v → digits ≡ hex_digits (2 * size) v → ⊥
-no_value_read size fits digits text long zeros none v small e =
-    let all = places size fits in
-    let value : v < 16 ^ (2 * size) = subst (λ (p : ℕ). v < p) (pow_256 size) small in
-    let bound : 2 * size ≤ 16 = omega (arith, size-small size fits) in
-    let power : 16 ^ (2 * size) ≤ 16 ^ 16 = nat.pow-le-pow_right (omega arith) bound in
-    let whole = hex_digits-zeros (16 - 2 * size) (2 * size) v value in
-    none v (omega arith)
-    (zeros ∙ (ap (λ (i : ℕ). replicate (16 - i) 48 ++ digits) long ∙ ap (λ (bs : List ℕ). replicate (16 - 2 * size) 48 ++ bs) e) ∙ sym whole ∙ ap (λ (i : ℕ). hex_digits i v) all)
 
 -- the last digits of a number's 32
 pub last_digits : (count n : ℕ) (text : List ℕ) → count ≤ 32 → text ≡ hex_digits 32 n → take (32 - (32 - count)) (drop (32 - count) text) ≡ hex_digits count n

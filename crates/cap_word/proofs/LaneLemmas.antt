@@ -11,6 +11,7 @@ use Rattle.std.proofs.Common.{
   ◌%◌,
   ◌^◌,
   ◌<◌,
+  ◌≤◌,
   Bool,
   true,
   false,
@@ -25,6 +26,7 @@ use Rattle.std.proofs.Common.{
   ◌++◌,
   map,
   length,
+  take,
   get_or,
   replicate,
   Fits,
@@ -36,11 +38,13 @@ use Rattle.std.proofs.Common.{
   arith,
 }
 use Rattle.std.proofs.lemmas.Bool.{agree_below, agree_below_at, eqb-true, false≢true, eq-eqb, not-false, lt-ltb, ltb-true}
-use Rattle.std.proofs.lemmas.List.{get_or-map, length-map, get_or_append_left}
+use Rattle.std.proofs.lemmas.List.{get_or-map, get_or-take, length-map, get_or_append_left}
 use Rattle.hex.specs.Hex.{encode_with, encode_lower}
 use lib.Lanes.{Each1, sel_l, mask_l, zip2, top}
 use lib.Bits.{bit_or}
-use Rattle.std.proofs.lemmas.Nat.{or_shifted}
+use Rattle.std.proofs.Math.Arith.{mod-mul}
+use Rattle.std.proofs.Math.Nat.{pow-suc, zero-mod}
+use Rattle.std.proofs.lemmas.Nat.{or_shifted, pow_pos}
 use Rattle.std.proofs.lemmas.Simd.{Each1-get_or, splat_is_map, zip2_splat, zip2_splat_left, map-map, mask_l-mod}
 use Rattle.cap_word.specs.Digits.{hex_digit, hex_digits}
 use Rattle.cap_word.specs.Lanes.{IsLaneOf}
@@ -78,41 +82,60 @@ lane_of f bytes others digits b small = record {
       ap f e ∙ eqb-true (f (hex_digit d)) d test;
 }
 
--- no bit of the mask is set exactly where no lane passes
-pub mask_none : (p : ℕ → Bool) (v : List ℕ) → ((i : ℕ) → i < length v → p (get_or v i 0) ≡ false) → mask_l (map p v) ≡ 0
-mask_none p [] h = refl
-mask_none p (x ∷ v) h =
-    let rest = mask_none p v (λ i lt. h (suc i) (omega arith)) in
-    let first = h 0 (omega arith) in
-    rw (first, rest) refl
+-- the low bits of a mask: its lowest, and those above
+mask_next : (b m k : ℕ) → b < 2 → (b + 2 * m) % 2 ^ suc k ≡ m % 2 ^ k * 2 + b
+mask_next b m k few =
+    let half : (b + 2 * m) / 2 ≡ m = omega arith in
+    let low : (b + 2 * m) % 2 ≡ b = omega arith in
+    ap (λ (p : ℕ). (b + 2 * m) % p) (pow-suc 2 k) ∙ mod-mul (b + 2 * m) (pow_pos k) (omega arith)
+    ∙ ap (λ (q : ℕ). q % 2 ^ k * 2 + (b + 2 * m) % 2) half ∙ ap (λ (r : ℕ). m % 2 ^ k * 2 + r) low
 
-pub none_masked : (p : ℕ → Bool) (v : List ℕ) → mask_l (map p v) ≡ 0 → (i : ℕ) → i < length v → p (get_or v i 0) ≡ false
-none_masked p [] h i lt = absurd (omega arith)
-none_masked p (x ∷ v) h zero lt = first (p x) h where
-  first : (b : Bool) → cond b 1 0 + 2 * mask_l (map p v) ≡ 0 → b ≡ false
+bit_few : (b : Bool) → cond b 1 0 < 2
+bit_few true = omega arith
+bit_few false = omega arith
+
+-- none of the low bits of the mask is set exactly where none of the first lanes passes
+pub mask_none : (k : ℕ) (p : ℕ → Bool) (v : List ℕ) → ((i : ℕ) → i < k → i < length v → p (get_or v i 0) ≡ false)
+    → mask_l (map p v) % 2 ^ k ≡ 0
+mask_none zero p v h = omega arith
+mask_none (suc k) p [] h = zero-mod (2 ^ suc k)
+mask_none (suc k) p (x ∷ v) h =
+    let rest = mask_none k p v (λ i lt few. h (suc i) (omega arith) (omega arith)) in
+    let first = h 0 (omega arith) (omega arith) in
+    mask_next (cond (p x) 1 0) (mask_l (map p v)) k (bit_few (p x)) ∙ rw (first, rest) refl
+
+pub none_masked : (k : ℕ) (p : ℕ → Bool) (v : List ℕ) → mask_l (map p v) % 2 ^ k ≡ 0 → (i : ℕ) → i < k → i < length v
+    → p (get_or v i 0) ≡ false
+none_masked zero p v h i lt few = absurd (omega arith)
+none_masked (suc k) p [] h i lt few = absurd (omega arith)
+none_masked (suc k) p (x ∷ v) h zero lt few = first (p x) (sym (mask_next (cond (p x) 1 0) (mask_l (map p v)) k (bit_few (p x))) ∙ h) where
+  first : (b : Bool) → mask_l (map p v) % 2 ^ k * 2 + cond b 1 0 ≡ 0 → b ≡ false
   first true e = absurd (omega arith)
   first false e = refl
-none_masked p (x ∷ v) h (suc i) lt =
-    let rest : mask_l (map p v) ≡ 0 = omega arith in
-    none_masked p v rest i (omega arith)
+none_masked (suc k) p (x ∷ v) h (suc i) lt few =
+    let both = sym (mask_next (cond (p x) 1 0) (mask_l (map p v)) k (bit_few (p x))) ∙ h in
+    let rest : mask_l (map p v) % 2 ^ k ≡ 0 = omega arith in
+    none_masked k p v rest i (omega arith) (omega arith)
 
--- a text whose pairs are the digits of bytes is their text
-pub spelled : (bs text : List ℕ) → length text ≡ 2 * length bs
-    → ((j : ℕ) → j < length bs
+-- a text whose first pairs are the digits of bytes begins as their text does
+pub spelled : (k : ℕ) (bs text : List ℕ) → length text ≡ 2 * length bs
+    → ((j : ℕ) → j < k → j < length bs
     → (get_or text (2 * j) 0 ≡ hex_digit (get_or bs j 0 / 16)) × (get_or text (2 * j + 1) 0 ≡ hex_digit (get_or bs j 0 % 16)))
-    → text ≡ encode_lower bs
+    → take (2 * k) text ≡ take (2 * k) (encode_lower bs)
 unfolding encode_with
-spelled [] [] long h = refl
-spelled [] (x ∷ text) long h = absurd (omega arith)
-spelled (b ∷ bs) [] long h = absurd (omega arith)
-spelled (b ∷ bs) (x ∷ []) long h = absurd (omega arith)
-spelled (b ∷ bs) (x ∷ y ∷ text) long h =
-    let first = h 0 (omega arith) in
-    let rest = spelled bs text (omega arith) (λ j lt. let at = h (suc j) (omega arith) in
+spelled zero bs text long h = refl
+spelled (suc k) [] [] long h = refl
+spelled (suc k) [] (x ∷ text) long h = absurd (omega arith)
+spelled (suc k) (b ∷ bs) [] long h = absurd (omega arith)
+spelled (suc k) (b ∷ bs) (x ∷ []) long h = absurd (omega arith)
+spelled (suc k) (b ∷ bs) (x ∷ y ∷ text) long h =
+    let first = h 0 (omega arith) (omega arith) in
+    let rest = spelled k bs text (omega arith) (λ j lt few. let at = h (suc j) (omega arith) (omega arith) in
     let twice : 2 * suc j ≡ suc (suc (2 * j)) = omega arith in
     let more : 2 * suc j + 1 ≡ suc (suc (2 * j + 1)) = omega arith in
     (rw twice at at.0, rw more at at.1)) in
-    rw (first.0, first.1, rest) refl
+    let count : 2 * suc k ≡ suc (suc (2 * k)) = omega arith in
+    rw (count, first.0, first.1, rest) refl
 
 -- the lanes of the digits, whatever the three operations and the six numbers are: `zero` and the nine above
 -- it are digits, and so are `a` and those above it, whose value is `ten` more
@@ -181,44 +204,44 @@ module _ (v : List ℕ) (fits : (length v ≡ 16) × Each1 (Fits w8) v) (le : �
       → top 7 (le 128 (get_or v i 0)) ≡ not (ltb (get_or v i 0) 128)
   at test i lt = agree_below_at (λ x. top 7 (le 128 x)) (λ x. not (ltb x 128)) 256 (get_or v i 0) test (below_256 v fits i lt)
 
-  pub all_low : agree_below (λ x. top 7 (le 128 x)) (λ x. not (ltb x 128)) 256 ≡ true → eqb mask 0 ≡ true → (i : ℕ) → i < 16
-      → get_or v i 0 < 128
-  all_low test none i lt =
-      ltb-true (get_or v i 0) 128
-      (not-false _ (sym (at test i lt) ∙ none_masked (λ x. top 7 (le 128 x)) v (sym mask-is ∙ eqb-true mask 0 none) i (omega arith)))
+  pub all_low : agree_below (λ x. top 7 (le 128 x)) (λ x. not (ltb x 128)) 256 ≡ true → (k p : ℕ) → k ≤ 16 → p ≡ 2 ^ k
+      → eqb (mask % p) 0 ≡ true → (i : ℕ) → i < k → get_or v i 0 < 128
+  all_low test k p few power none i lt =
+      let clear = ap (λ (m : ℕ). m % 2 ^ k) (sym mask-is) ∙ ap (λ (q : ℕ). mask % q) (sym power) ∙ eqb-true (mask % p) 0 none in
+      let passes = none_masked k (λ x. top 7 (le 128 x)) v clear i lt (omega arith) in
+      ltb-true (get_or v i 0) 128 (not-false _ (sym (at test i (omega arith)) ∙ passes))
 
-  pub not_all_low : agree_below (λ x. top 7 (le 128 x)) (λ x. not (ltb x 128)) 256 ≡ true → eqb mask 0 ≡ false
-      → ((i : ℕ) → i < 16 → get_or v i 0 < 16) → ⊥
-  not_all_low test some low =
-      let none = mask-is ∙ mask_none (λ x. top 7 (le 128 x)) v
-      (λ i lt. at test i (omega arith) ∙ ap not (lt-ltb (get_or v i 0) 128 (omega (arith, low i (omega arith))))) in
-      false≢true (sym some ∙ eq-eqb mask 0 none)
+  pub not_all_low : agree_below (λ x. top 7 (le 128 x)) (λ x. not (ltb x 128)) 256 ≡ true → (k p : ℕ) → p ≡ 2 ^ k
+      → eqb (mask % p) 0 ≡ false → ((i : ℕ) → i < k → get_or v i 0 < 16) → ⊥
+  not_all_low test k p power some low =
+      let clear = mask_none k (λ x. top 7 (le 128 x)) v
+      (λ i lt few. at test i (omega arith) ∙ ap not (lt-ltb (get_or v i 0) 128 (omega (arith, low i lt)))) in
+      false≢true (sym some ∙ eq-eqb (mask % p) 0 (ap (λ (q : ℕ). mask % q) power ∙ ap (λ (m : ℕ). m % 2 ^ k) mask-is ∙ clear))
 
 -- a byte of two digits
-pub paired : (v : List ℕ) (i j : ℕ) → length v ≡ 16 → ((k : ℕ) → k < 16 → get_or v k 0 < 16) → i < 16 → j < 16
+pub paired : (v : List ℕ) (i j : ℕ) → length v ≡ 16 → i < 16 → j < 16 → get_or v i 0 < 16 → get_or v j 0 < 16
     → bit_or (get_or (v ++ v) i 0 * 16 % 256) (get_or (v ++ v) j 0) ≡ 16 * get_or v i 0 + get_or v j 0
-paired v i j long low first second =
+paired v i j long first second high low =
     let a = get_or_append_left v v 0 i (omega arith) in
     let b = get_or_append_left v v 0 j (omega arith) in
-    let high = low i first in
     let whole : get_or v i 0 * 16 % 256 ≡ get_or v i 0 * 2 ^ 4 = omega arith in
-    rw (a, b, whole) (or_shifted (get_or v i 0) 4 (get_or v j 0) (low j second) ∙ omega arith)
+    rw (a, b, whole) (or_shifted (get_or v i 0) 4 (get_or v j 0) low ∙ omega arith)
 
 abbrev pair : List ℕ → ℕ → ℕ → ℕ
 pair v i j = bit_or (get_or (v ++ v) i 0 * 16 % 256) (get_or (v ++ v) j 0)
 
-pub pairs_at : (v : List ℕ) → length v ≡ 16 → ((k : ℕ) → k < 16 → get_or v k 0 < 16) → (j : ℕ) → j < 8
+pub pairs_at : (v : List ℕ) → length v ≡ 16 → (j : ℕ) → j < 8 → get_or v (2 * j) 0 < 16 → get_or v (2 * j + 1) 0 < 16
     → get_or (pair v 0 1 ∷ pair v 2 3 ∷ pair v 4 5 ∷ pair v 6 7 ∷ pair v 8 9 ∷ pair v 10 11 ∷ pair v 12 13 ∷ pair v 14 15 ∷ []) j 0
     ≡ 16 * get_or v (2 * j) 0 + get_or v (2 * j + 1) 0
-pairs_at v long low zero lt = paired v 0 1 long low (omega arith) (omega arith)
-pairs_at v long low (suc zero) lt = paired v 2 3 long low (omega arith) (omega arith)
-pairs_at v long low (suc (suc zero)) lt = paired v 4 5 long low (omega arith) (omega arith)
-pairs_at v long low (suc (suc (suc zero))) lt = paired v 6 7 long low (omega arith) (omega arith)
-pairs_at v long low (suc (suc (suc (suc zero)))) lt = paired v 8 9 long low (omega arith) (omega arith)
-pairs_at v long low (suc (suc (suc (suc (suc zero))))) lt = paired v 10 11 long low (omega arith) (omega arith)
-pairs_at v long low (suc (suc (suc (suc (suc (suc zero)))))) lt = paired v 12 13 long low (omega arith) (omega arith)
-pairs_at v long low (suc (suc (suc (suc (suc (suc (suc zero))))))) lt = paired v 14 15 long low (omega arith) (omega arith)
-pairs_at v long low (suc (suc (suc (suc (suc (suc (suc (suc j)))))))) lt = absurd (omega arith)
+pairs_at v long zero lt high low = paired v 0 1 long (omega arith) (omega arith) high low
+pairs_at v long (suc zero) lt high low = paired v 2 3 long (omega arith) (omega arith) high low
+pairs_at v long (suc (suc zero)) lt high low = paired v 4 5 long (omega arith) (omega arith) high low
+pairs_at v long (suc (suc (suc zero))) lt high low = paired v 6 7 long (omega arith) (omega arith) high low
+pairs_at v long (suc (suc (suc (suc zero)))) lt high low = paired v 8 9 long (omega arith) (omega arith) high low
+pairs_at v long (suc (suc (suc (suc (suc zero))))) lt high low = paired v 10 11 long (omega arith) (omega arith) high low
+pairs_at v long (suc (suc (suc (suc (suc (suc zero)))))) lt high low = paired v 12 13 long (omega arith) (omega arith) high low
+pairs_at v long (suc (suc (suc (suc (suc (suc (suc zero))))))) lt high low = paired v 14 15 long (omega arith) (omega arith) high low
+pairs_at v long (suc (suc (suc (suc (suc (suc (suc (suc j)))))))) lt high low = absurd (omega arith)
 
 -- the two digits of a byte
 pub pair_spelled : (x y v w b : ℕ) → IsLaneOf x v → IsLaneOf y w → v < 16 → w < 16 → b ≡ 16 * v + w
@@ -237,9 +260,9 @@ get_or-hex_digits (suc k) n (suc i) lt =
     rw back (get_or-hex_digits k n i (omega arith))
 
 -- a lane over a digit of a number is low
-pub digit_at : (k n i : ℕ) → i < k → (text : List ℕ) (v : ℕ) → text ≡ hex_digits k n → IsLaneOf (get_or text i 0) v → v < 16
+pub digit_at : (k n i : ℕ) → i < k → (text : List ℕ) (v : ℕ) → take k text ≡ hex_digits k n → IsLaneOf (get_or text i 0) v → v < 16
 digit_at k n i lt text v e lane =
-    let at = ap (λ (l : List ℕ). get_or l i 0) e ∙ get_or-hex_digits k n i lt in
+    let at = sym (get_or-take k text i 0 lt) ∙ ap (λ (l : List ℕ). get_or l i 0) e ∙ get_or-hex_digits k n i lt in
     let small : n / 16 ^ (k - 1 - i) % 16 < 16 = omega arith in
     let is = lane.reads (n / 16 ^ (k - 1 - i) % 16) small at in
     omega (arith, is)

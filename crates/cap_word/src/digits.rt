@@ -1,6 +1,6 @@
-//! Sixteen hexadecimal digits, read at once as one vector.
+//! Up to sixteen hexadecimal digits, read at once as one vector.
 
-ghost use Rattle.std.specs.Prelude.{◌≡◌, ℕ, ◌<◌, ◌^◌, true, false, slice_index, IfSome, IfNone, ◌+◌, ◌*◌};
+ghost use Rattle.std.specs.Prelude.{◌≡◌, ℕ, ◌<◌, ◌≤◌, ◌^◌, true, false, slice_index, take, IfSome, IfNone, ◌+◌, ◌*◌};
 ghost use Rattle.cap_word.specs.Digits.{hex_digits};
 ghost use Rattle.cap_word.specs.Lanes.{IsLaneOf};
 
@@ -19,36 +19,43 @@ fn values(bytes: u8x16) -> u8x16
     decimal.simd_lt(u8x16::splat(10)).select(decimal, other)
 }
 
-// Whether each lane is the value of a digit: no other has its highest bit clear.
+// Whether the first lanes, so many, are values of digits: no other lane has its highest bit clear.
 #[inline(always)]
-fn are_digits(values: u8x16) -> bool
-    requires { (i : ℕ) → i < 16 → slice_index values i < 128 → slice_index values i < 16 }
-    ensures yes { result ≡ true → (i : ℕ) → i < 16 → slice_index values i < 16 }
-    ensures no { result ≡ false → ((i : ℕ) → i < 16 → slice_index values i < 16) → ⊥ }
+fn are_digits(values: u8x16, count: u8) -> bool
+    requires at_most { count ≤ 16 }
+    requires lanes { (i : ℕ) → i < 16 → slice_index values i < 128 → slice_index values i < 16 }
+    ensures yes { result ≡ true → (i : ℕ) → i < count → slice_index values i < 16 }
+    ensures no { result ≡ false → ((i : ℕ) → i < count → slice_index values i < 16) → ⊥ }
 {
-    values.simd_ge(u8x16::splat(128)).to_bitmask() == 0
+    let others = values.simd_ge(u8x16::splat(128)).to_bitmask();
+    others % (1 << count) == 0
 }
 
-// The bytes that pairs of digits spell.
+// The bytes that pairs of digits spell. What other lanes give is not said.
 #[inline(always)]
 fn pairs(values: u8x16) -> [u8; 8]
-    requires { (i : ℕ) → i < 16 → slice_index values i < 16 }
-    ensures { (j : ℕ) → j < 8 → slice_index result j ≡ 16 * slice_index values (2 * j) + slice_index values (2 * j + 1) }
+    ensures { (j : ℕ) → j < 8 → slice_index values (2 * j) < 16 → slice_index values (2 * j + 1) < 16
+        → slice_index result j ≡ 16 * slice_index values (2 * j) + slice_index values (2 * j + 1) }
 {
     let high = values.swizzle([0, 2, 4, 6, 8, 10, 12, 14]);
     let low = values.swizzle([1, 3, 5, 7, 9, 11, 13, 15]);
     (high << u8x8::splat(4) | low).to_array()
 }
 
-/// The number that sixteen lower-case digits spell; other bytes are `None`.
+/// The number of so many bytes, at most eight, that the lower-case digits at the front of a text spell, two for
+/// each byte. It is `None` where other bytes stand among them. What stands behind them is read too, since a
+/// vector is quickest read whole, and left out.
 #[inline(always)]
-pub(crate) fn read_sixteen(text: &[u8; 16]) -> Option<u64>
-    ensures some { IfSome result (λ n. text.now ≡ hex_digits 16 n) }
-    ensures none { IfNone result ((n : ℕ) → n < 2 ^ 64 → text.now ≡ hex_digits 16 n → ⊥) }
+pub(crate) fn read_front(text: &[u8; 16], size: u8) -> Option<u64>
+    requires at_least { 1 ≤ size }
+    requires at_most { size ≤ 8 }
+    ensures fits { IfSome result (λ n. n < 256 ^ size) }
+    ensures some { IfSome result (λ n. take (2 * size) text.now ≡ hex_digits (2 * size) n) }
+    ensures none { IfNone result ((n : ℕ) → n < 256 ^ size → take (2 * size) text.now ≡ hex_digits (2 * size) n → ⊥) }
 {
     let values = values(u8x16::from_array(*text));
-    if are_digits(values) {
-        Some(u64::from_be_bytes(pairs(values)))
+    if are_digits(values, 2 * size) {
+        Some(u64::from_be_bytes(pairs(values)) >> (64 - 8 * size))
     } else {
         None
     }

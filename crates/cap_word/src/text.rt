@@ -1,9 +1,10 @@
-//! Words and 64-bit numbers as text: a fixed number of lower-case hexadecimal digits.
+//! Words and numbers of up to 64 bits as text: a fixed number of lower-case hexadecimal digits.
 
-ghost use Rattle.std.specs.Prelude.{◌≡◌, ◌↔◌, ℕ, ◌<◌, ◌^◌, List, ◌++◌, Some, IsSome, IsSomeAnd, IfSome, IfNone};
+ghost use Rattle.std.specs.Prelude.{◌≡◌, ◌↔◌, ℕ, ◌*◌, ◌<◌, ◌≤◌, ◌^◌, List, ◌++◌, length, take};
+ghost use Rattle.std.specs.Prelude.{Some, IsSome, IsSomeAnd, IfSome, IfNone};
 ghost use Rattle.cap_word.specs.Digits.{AreHexDigits, hex_digits};
 
-use crate::digits::read_sixteen;
+use crate::digits::read_front;
 use crate::word::Word;
 
 #[cfg(test)]
@@ -52,9 +53,7 @@ pub fn take_u64(bytes: &[u8]) -> Option<(u64, &[u8])>
     ensures some { IfSome result (λ p. bytes.now ≡ hex_digits 16 p.0 ++ p.1.now) }
     ensures none { IfNone result ((n : ℕ) (rest : List ℕ) → n < 2 ^ 64 → bytes.now ≡ hex_digits 16 n ++ rest → ⊥) }
 {
-    let (digits, rest) = bytes.split_first_chunk::<16>()?;
-    let number = read_sixteen(digits)?;
-    Some((number, rest))
+    take_bytes(bytes, 8)
 }
 
 /// Reads a number of 64 bits from sixteen lower-case hexadecimal digits, most significant first.
@@ -70,4 +69,53 @@ pub fn read_u64(text: &[u8]) -> Option<u64>
 {
     let (number, rest) = take_u64(text)?;
     if rest.is_empty() { Some(number) } else { None }
+}
+
+/// Takes a number of so many bytes, at most eight, from the front of some bytes: two lower-case hexadecimal
+/// digits for each, most significant first, and what stands behind them. It is `None` where no such digits
+/// stand there.
+#[inline(always)]
+pub fn take_bytes(bytes: &[u8], size: u8) -> Option<(u64, &[u8])>
+    requires at_least { 1 ≤ size }
+    requires at_most { size ≤ 8 }
+    ensures fits { IfSome result (λ p. p.0 < 256 ^ size) }
+    ensures some { IfSome result (λ p. bytes.now ≡ hex_digits (2 * size) p.0 ++ p.1.now) }
+    ensures none { IfNone result ((n : ℕ) (rest : List ℕ) → n < 256 ^ size
+        → bytes.now ≡ hex_digits (2 * size) n ++ rest → ⊥) }
+{
+    let count = usize::from(2 * size);
+    if bytes.len() < count {
+        return None;
+    }
+    let number = front_number(bytes, size)?;
+    Some((number, &bytes[count..]))
+}
+
+// The number that the digits at the front of some bytes spell. They are read in place where sixteen bytes
+// stand there, as they mostly do.
+#[inline(always)]
+fn front_number(bytes: &[u8], size: u8) -> Option<u64>
+    requires at_least { 1 ≤ size }
+    requires at_most { size ≤ 8 }
+    requires long { 2 * size ≤ length bytes.now }
+    ensures fits { IfSome result (λ n. n < 256 ^ size) }
+    ensures some { IfSome result (λ n. take (2 * size) bytes.now ≡ hex_digits (2 * size) n) }
+    ensures none { IfNone result ((n : ℕ) → n < 256 ^ size → take (2 * size) bytes.now ≡ hex_digits (2 * size) n → ⊥) }
+{
+    if let Some((text, _)) = bytes.split_first_chunk::<16>() {
+        read_front(text, size)
+    } else {
+        read_front(&widened(bytes), size)
+    }
+}
+
+// A text of sixteen bytes that begins with these.
+#[inline(never)]
+fn widened(bytes: &[u8]) -> [u8; 16]
+    requires { length bytes.now ≤ 16 }
+    ensures { take (length bytes.now) result ≡ bytes.now }
+{
+    let mut text = [0u8; 16];
+    text[..bytes.len()].copy_from_slice(bytes);
+    text
 }

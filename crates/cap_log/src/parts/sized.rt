@@ -1,6 +1,6 @@
 //! Values of 1, 2, 4 or 8 bytes: their size, and two hexadecimal digits for each byte.
 
-ghost use Rattle.std.specs.Prelude.{◌≡◌, ◌-◌, ◌*◌, ◌≤◌, ◌++◌, length, replicate, decimal, IfSome, IfNone};
+ghost use Rattle.std.specs.Prelude.{◌*◌, decimal, IfSome, IfNone};
 ghost use Rattle.cap_word.specs.Digits.{hex_digits};
 ghost use Rattle.cap_log.specs.Lines.{IsDataSize, IsDataValue};
 ghost use Rattle.cap_log.specs.Parts.{Begins, BeginsWithNone, IsEnd, IsSized, Reads, loaded_spelling, stored_spelling};
@@ -8,7 +8,7 @@ ghost use Rattle.cap_log.specs.Parts.{Begins, BeginsWithNone, IsEnd, IsSized, Re
 use crate::buffers::{put, put_decimal, put_hex};
 use crate::parts::Part;
 use crate::parts::cutting::{behind, split_fixed};
-use cap_word::read_u64;
+use cap_word::take_bytes;
 
 /// The size and the value that a load records: the size, `= ` and the value's digits.
 #[derive(Clone, Copy)]
@@ -129,8 +129,8 @@ fn take_value(bytes: &[u8], size: u8, end: u8) -> Option<(u64, &[u8])>
     ensures some { IfSome result (λ p. Begins (IsDataValue size) (hex_digits (2 * size)) end bytes.now p.0 p.1.now) }
     ensures none { IfNone result (BeginsWithNone (IsDataValue size) (hex_digits (2 * size)) end bytes.now) }
 {
-    let (digits, rest) = split_fixed(bytes, 2 * usize::from(size), end)?;
-    let value = read_value(digits, size)?;
+    let (value, others) = take_bytes(bytes, size)?;
+    let rest = behind(others, b"", end)?;
     Some((value, rest))
 }
 
@@ -150,33 +150,4 @@ fn read_size(word: &[u8]) -> Option<u8>
     } else {
         None
     }
-}
-
-// Reads a value of so many bytes, from two digits for each.
-#[inline(always)]
-fn read_value(digits: &[u8], size: u8) -> Option<u64>
-    requires { IsDataSize size }
-    ensures { Reads (IsDataValue size) (hex_digits (2 * size)) digits.now result }
-{
-    let count = 2 * usize::from(size);
-    if digits.len() != count {
-        return None;
-    }
-    if size == 8 {
-        return read_u64(digits);
-    }
-    let text = padded(digits);
-    let value = read_u64(&text)?;
-    Some(value)
-}
-
-// The digits behind so many zeros that there are sixteen.
-#[inline(always)]
-fn padded(digits: &[u8]) -> [u8; 16]
-    requires { length digits.now ≤ 16 }
-    ensures { result ≡ replicate (16 - length digits.now) 48 ++ digits.now }
-{
-    let mut text = [b'0'; 16];
-    text[16 - digits.len()..].copy_from_slice(digits);
-    text
 }

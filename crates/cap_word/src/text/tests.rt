@@ -1,4 +1,6 @@
-use crate::text::{read_u64, read_word, take_u64, take_word, word_text};
+ghost use Rattle.std.specs.Prelude.{◌≤◌};
+
+use crate::text::{read_u64, read_word, take_bytes, take_u64, take_word, word_text};
 use crate::word::{Word, null};
 use std::test::Fail;
 
@@ -66,6 +68,46 @@ fn bytes_read_as_digits(rt: HostRuntime) {
             );
         }
     }
+}
+
+/// Whether the number of so many bytes at the front is taken as the plain reader reads it, with others behind
+/// its digits and with none.
+fn is_taken(text: &[u8; 32], size: u8) -> bool
+    requires at_least { 1 ≤ size }
+    requires at_most { size ≤ 8 }
+{
+    let digits = &text[..usize::from(2 * size)];
+    let expected = plain_number(digits);
+    let before_others = take_bytes(text, size).map(|taken| u128::from(taken.0));
+    let alone = take_bytes(digits, size).map(|taken| u128::from(taken.0));
+    before_others == expected && alone == expected
+}
+
+// Each byte at each place among the digits and behind them.
+#[test]
+fn bytes_taken_as_digits(rt: HostRuntime) {
+    for place in 0..16usize {
+        for byte in 0..=255u8 {
+            let mut text = *b"0123456789abcdef = others behind";
+            text[place] = byte;
+            assert!(rt; is_taken(&text, 1), "{byte} at {place}");
+            assert!(rt; is_taken(&text, 2), "{byte} at {place}");
+            assert!(rt; is_taken(&text, 4), "{byte} at {place}");
+            assert!(rt; is_taken(&text, 8), "{byte} at {place}");
+        }
+    }
+}
+
+#[test]
+fn numbers_of_each_size_taken(rt: HostRuntime) {
+    let rest: &[u8] = b" = 1";
+    assert!(rt; take_bytes(b"7f = 1", 1) == Some((0x7f, rest)));
+    assert!(rt; take_bytes(b"7f80 = 1", 2) == Some((0x7f80, rest)));
+    assert!(rt; take_bytes(b"7f80ff01 = 1", 4) == Some((0x7f80_ff01, rest)));
+    assert!(rt; take_bytes(b"7f80ff0123456789 = 1", 8) == Some((0x7f80_ff01_2345_6789, rest)));
+    assert!(rt; take_bytes(b"7f8 = 1", 2).is_none());
+    assert!(rt; take_bytes(b"7f8", 2).is_none());
+    assert!(rt; take_bytes(b"7F = 1", 1).is_none());
 }
 
 #[test]

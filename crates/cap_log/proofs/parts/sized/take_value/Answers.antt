@@ -1,15 +1,10 @@
-use Rattle.std.proofs.Common.{ℕ, ◌*◌, ap, sym, ◌∙◌}
-use Rattle.cap_word.specs.Digits.{hex_digits}
-use Rattle.cap_word.proofs.DigitLemmas.{length-hex_digits}
-use Rattle.cap_log.specs.Lines.{IsDataValue}
-use Rattle.cap_log.proofs.TakeLemmas.{none_fixed, none_so_long}
+use Rattle.std.proofs.Common.{◌*◌, ◌∷◌, drop, sym, ap, ◌∙◌}
+use Rattle.cap_word.proofs.ReadingLemmas.{drop-hex_digits}
 use Rattle.cap_log.proofs.parts.sized.take_value.Goals as goal
 
-pub returns-in_err-digits-clause-none : goal.returns-in_err-digits-clause-none
-returns-in_err-digits-clause-none c =
-    rw c.from_residual.ensures (none_so_long (IsDataValue c.args.size) (hex_digits (2 * c.args.size)) c.args.end (2 * c.from.result) (λ a fits. length-hex_digits (2 * c.args.size) a ∙ ap (λ (k : ℕ). 2 * k) (sym c.from.ensures)) c.args.bytes.now c.in_err-digits.ensures.none)
-
-pub returns-in_err-value-clause-none : goal.returns-in_err-value-clause-none
-returns-in_err-value-clause-none c =
-    rw c.from_residual-in_err-value.ensures (none_fixed (IsDataValue c.args.size) (hex_digits (2 * c.args.size)) c.args.end (2 * c.from.result) (λ a fits. length-hex_digits (2 * c.args.size) a ∙ ap (λ (k : ℕ). 2 * k) (sym c.from.ensures)) c.args.bytes.now c.in_ok-digits.digits.now c.in_ok-digits.rest.now c.in_ok-digits.ensures.some
-    (c.in_err-value.ensures))
+pub returns-in_err-rest-clause-none : goal.returns-in_err-rest-clause-none
+returns-in_err-rest-clause-none c = rw c.from_residual-in_err-rest.ensures (λ a rest begins.
+    c.in_err-rest.ensures.none rest
+    (sym (drop-hex_digits (2 * c.args.size) c.in_ok-value.value c.in_ok-value.others.now)
+    ∙ ap (drop (2 * c.args.size)) (sym c.in_ok-value.ensures.some ∙ begins.1)
+    ∙ drop-hex_digits (2 * c.args.size) a (c.args.end ∷ rest)))
