@@ -82,8 +82,9 @@ impl Part for Stored {
     }
 }
 
-// Takes what a load of any size records.
-#[inline(never)]
+// Takes what a load of any size records. It is put in place, so that no length is tested where it is known that
+// enough bytes are left, as in the judge.
+#[inline(always)]
 fn take_loaded(bytes: &[u8], end: u8) -> Option<(Loaded, &[u8])>
     requires { IsEnd end }
     ensures some { IfSome result (λ p. let loaded = p.0 in
@@ -97,8 +98,8 @@ fn take_loaded(bytes: &[u8], end: u8) -> Option<(Loaded, &[u8])>
     Some((Loaded { size, value }, rest))
 }
 
-// Takes what a store of any size has.
-#[inline(never)]
+// Takes what a store of any size has. It is put in place too.
+#[inline(always)]
 fn take_stored(bytes: &[u8], end: u8) -> Option<(Stored, &[u8])>
     requires { IsEnd end }
     ensures some { IfSome result (λ p. let stored = p.0 in
