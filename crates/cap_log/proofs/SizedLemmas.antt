@@ -1,5 +1,5 @@
 -- Sizes and values behind them: what the readers' answers mean.
-use Rattle.std.proofs.Common.{◌≡◌, ℕ, zero, suc, ◌+◌, ◌*◌, ◌-◌, ◌/◌, ◌%◌, ◌<◌, ◌≤◌, ◌^◌, List, [], ◌∷◌, ◌++◌, length, take, drop, replicate, refl, sym, ap, subst, ◌∙◌, inl, inr, arith, codes, decimal}
+use Rattle.std.proofs.Common.{◌≡◌, ℕ, zero, suc, ◌+◌, ◌*◌, ◌-◌, ◌/◌, ◌%◌, ◌<◌, ◌≤◌, ◌^◌, List, [], ◌∷◌, ◌++◌, length, take, drop, replicate, sym, ap, subst, ◌∙◌, inl, inr, arith, codes, decimal}
 use Rattle.std.proofs.Math.Nat as nat
 use Rattle.std.specs.Char.{digit_value}
 use Rattle.std.proofs.lemmas.List.{append-nil, append_assoc, drop_all, drop_at, length-append, length-replicate, take-replicate, take_all}
@@ -34,10 +34,6 @@ pub same_size : (m n : ℕ) (bytes x y : List ℕ) → Begins IsDataSize decimal
 same_size m n bytes x y h k =
     let parts = same_cut 32 (decimal m) (decimal n) x y (size-spaceless m h.0) (size-spaceless n k.0) (sym h.1 ∙ k.1) in
     (decimal_injective m n (omega (arith, size-small m h.0)) (omega (arith, size-small n k.0)) parts.0, parts.1)
-
--- the size 8 at the front of bytes
-pub eight : (bytes rest : List ℕ) → bytes ≡ codes "8" ++ 32 ∷ rest → Begins IsDataSize decimal 32 bytes 8 rest
-eight bytes rest e = (inr (inr (inr refl)), e ∙ ap (λ (text : List ℕ). text ++ 32 ∷ rest) (sym (size_text 8 (omega arith))))
 
 -- the bytes of a load's or a store's end, cut behind its size
 pub loaded_cut : (size value end : ℕ) (bytes rest : List ℕ) → Begins (λ (v : ℕ). IsSized size v) (λ (v : ℕ). loaded_spelling size v) end bytes value rest

@@ -1,6 +1,6 @@
 //! Values of 1, 2, 4 or 8 bytes: their size, and two hexadecimal digits for each byte.
 
-ghost use Rattle.std.specs.Prelude.{◌*◌, decimal, IfSome, IfNone};
+ghost use Rattle.std.specs.Prelude.{◌≡◌, ℕ, ◌*◌, List, ◌++◌, decimal, IfSome, IfNone};
 ghost use Rattle.cap_word.specs.Digits.{hex_digits};
 ghost use Rattle.cap_log.specs.Lines.{IsDataSize, IsDataValue};
 ghost use Rattle.cap_log.specs.Parts.{Begins, BeginsWithNone, IsEnd, IsSized, Reads, loaded_spelling, stored_spelling};
@@ -8,7 +8,7 @@ ghost use Rattle.cap_log.specs.Parts.{Begins, BeginsWithNone, IsEnd, IsSized, Re
 use crate::buffers::{put, put_decimal, put_hex};
 use crate::parts::Part;
 use crate::parts::cutting::{behind, split_fixed};
-use cap_word::take_bytes;
+use cap_word::{take_bytes, take_u64};
 
 /// The size and the value that a load records: the size, `= ` and the value's digits.
 #[derive(Clone, Copy)]
@@ -24,14 +24,12 @@ impl Part for Loaded {
 
     ghost spelled = { λ loaded. loaded_spelling loaded.size loaded.value };
 
-    // Eight bytes come first, since they are the most usual.
     #[inline(always)]
     fn take(bytes: &[u8], end: u8) -> Option<(Loaded, &[u8])> {
-        let Some(digits) = behind(bytes, b"8 =", b' ') else {
-            return take_loaded(bytes, end);
-        };
-        let (value, rest) = take_value(digits, 8, end)?;
-        Some((Loaded { size: 8, value }, rest))
+        let (size, rest) = take_size(bytes)?;
+        let digits = rest.strip_prefix(b"= ")?;
+        let (value, rest) = take_value(digits, size, end)?;
+        Some((Loaded { size, value }, rest))
     }
 
     fn write(&self, buffer: &mut [u8], at: usize) -> usize {
@@ -60,14 +58,11 @@ impl Part for Stored {
 
     ghost spelled = { λ stored. stored_spelling stored.size stored.value };
 
-    // Eight bytes come first here too.
     #[inline(always)]
     fn take(bytes: &[u8], end: u8) -> Option<(Stored, &[u8])> {
-        let Some(digits) = behind(bytes, b"8", b' ') else {
-            return take_stored(bytes, end);
-        };
-        let (value, rest) = take_value(digits, 8, end)?;
-        Some((Stored { size: 8, value }, rest))
+        let (size, digits) = take_size(bytes)?;
+        let (value, rest) = take_value(digits, size, end)?;
+        Some((Stored { size, value }, rest))
     }
 
     fn write(&self, buffer: &mut [u8], at: usize) -> usize {
@@ -80,36 +75,6 @@ impl Part for Stored {
             u128::from(self.value),
         )
     }
-}
-
-// Takes what a load of any size records. It is put in place, so that no length is tested where it is known that
-// enough bytes are left, as in the judge.
-#[inline(always)]
-fn take_loaded(bytes: &[u8], end: u8) -> Option<(Loaded, &[u8])>
-    requires { IsEnd end }
-    ensures some { IfSome result (λ p. let loaded = p.0 in
-        Begins (λ (v : Loaded). IsSized v.size v.value) (λ (v : Loaded). loaded_spelling v.size v.value) end bytes.now loaded p.1.now) }
-    ensures none { IfNone result
-        (BeginsWithNone (λ (v : Loaded). IsSized v.size v.value) (λ (v : Loaded). loaded_spelling v.size v.value) end bytes.now) }
-{
-    let (size, rest) = take_size(bytes)?;
-    let digits = rest.strip_prefix(b"= ")?;
-    let (value, rest) = take_value(digits, size, end)?;
-    Some((Loaded { size, value }, rest))
-}
-
-// Takes what a store of any size has. It is put in place too.
-#[inline(always)]
-fn take_stored(bytes: &[u8], end: u8) -> Option<(Stored, &[u8])>
-    requires { IsEnd end }
-    ensures some { IfSome result (λ p. let stored = p.0 in
-        Begins (λ (v : Stored). IsSized v.size v.value) (λ (v : Stored). stored_spelling v.size v.value) end bytes.now stored p.1.now) }
-    ensures none { IfNone result
-        (BeginsWithNone (λ (v : Stored). IsSized v.size v.value) (λ (v : Stored). stored_spelling v.size v.value) end bytes.now) }
-{
-    let (size, digits) = take_size(bytes)?;
-    let (value, rest) = take_value(digits, size, end)?;
-    Some((Stored { size, value }, rest))
 }
 
 // Takes a size, 1, 2, 4 or 8, and a space.
@@ -130,9 +95,25 @@ fn take_value(bytes: &[u8], size: u8, end: u8) -> Option<(u64, &[u8])>
     ensures some { IfSome result (λ p. Begins (IsDataValue size) (hex_digits (2 * size)) end bytes.now p.0 p.1.now) }
     ensures none { IfNone result (BeginsWithNone (IsDataValue size) (hex_digits (2 * size)) end bytes.now) }
 {
-    let (value, others) = take_bytes(bytes, size)?;
+    let (value, others) = take_digits(bytes, size)?;
     let rest = behind(others, b"", end)?;
     Some((value, rest))
+}
+
+// Takes the digits of a value. Eight bytes are the most usual, and are read without asking how many.
+#[inline(always)]
+fn take_digits(bytes: &[u8], size: u8) -> Option<(u64, &[u8])>
+    requires { IsDataSize size }
+    ensures fits { IfSome result (λ p. IsDataValue size p.0) }
+    ensures some { IfSome result (λ p. bytes.now ≡ hex_digits (2 * size) p.0 ++ p.1.now) }
+    ensures none { IfNone result ((n : ℕ) (rest : List ℕ) → IsDataValue size n
+        → bytes.now ≡ hex_digits (2 * size) n ++ rest → ⊥) }
+{
+    if size == 8 {
+        take_u64(bytes)
+    } else {
+        take_bytes(bytes, size)
+    }
 }
 
 // Reads a size, 1, 2, 4 or 8.

@@ -1,20 +1,18 @@
-use Rattle.std.proofs.Common.{List, ℕ, ◌∷◌, ◌++◌, ap, drop, sym, ◌∙◌, decimal}
-use Rattle.std.proofs.lemmas.List.{append_assoc}
-use Rattle.cap_word.specs.Digits.{hex_digits}
-use Rattle.cap_log.proofs.SizedLemmas.{eight, loaded_cut, no_sized, same_size}
+use Rattle.std.proofs.Common.{List, ℕ, ap, codes, drop, eqb, sym, take, ◌∙◌}
+use Rattle.std.specs.Cmp.Lexicographic.{pointwise}
+use Rattle.std.proofs.lemmas.Bool.{false≢true}
+use Rattle.cap_log.proofs.SizedLemmas.{loaded_cut, no_sized, same_size}
 use Rattle.cap_log.proofs.parts.sized.LoadedPart.take.Goals as goal
 
-pub returns-in_err-value-clause-none : goal.returns-in_err-value-clause-none
-returns-in_err-value-clause-none c = rw c.from_residual.ensures (λ a rest begins.
-    let size = eight c.args.bytes.now (61 ∷ 32 ∷ c.in-Some.digits.now) c.in-Some.ensures.some in
-    let same = same_size _ _ _ _ _ size (loaded_cut a.size a.value c.args.end c.args.bytes.now rest begins) in
-    no_sized _ a.size a.value c.args.end _ rest same.0 c.in_err-value.ensures.none begins.0.1 (ap (λ (bs : List ℕ). drop 2 bs) same.1))
+pub returns-in_err-size-clause-none : goal.returns-in_err-size-clause-none
+returns-in_err-size-clause-none c = rw c.from_residual.ensures (λ a rest begins. c.in_err-size.ensures.none a.size _ (loaded_cut a.size a.value c.args.end c.args.bytes.now rest begins))
 
-pub returns-clause-some : goal.returns-clause-some
-returns-clause-some c =
-    let size = eight c.args.bytes.now (61 ∷ 32 ∷ c.in-Some.digits.now) c.in-Some.ensures.some in
-    let value = c.in_ok-value.ensures.some in (
-      (size.0, value.0),
-      size.1 ∙ ap (λ (digits : List ℕ). decimal 8 ++ 32 ∷ 61 ∷ 32 ∷ digits) value.1
-          ∙ sym (append_assoc (decimal 8) (32 ∷ 61 ∷ 32 ∷ hex_digits 16 c.in_ok-value.value) (c.args.end ∷ c.in_ok-value.rest.now)),
-    )
+pub returns-in_err-digits-clause-none : goal.returns-in_err-digits-clause-none
+returns-in_err-digits-clause-none c = rw c.from_residual-in_err-digits.ensures (λ a rest begins.
+    let same = same_size _ _ _ _ _ c.in_ok-size.ensures.some (loaded_cut a.size a.value c.args.end c.args.bytes.now rest begins) in
+    false≢true (sym c.in_err-digits.ensures.cases ∙ ap (λ (bs : List ℕ). pointwise eqb (take 2 bs) (codes "= ")) same.1))
+
+pub returns-in_err-value-clause-none : goal.returns-in_err-value-clause-none
+returns-in_err-value-clause-none c = rw c.from_residual-in_err-value.ensures (λ a rest begins.
+    let same = same_size _ _ _ _ _ c.in_ok-size.ensures.some (loaded_cut a.size a.value c.args.end c.args.bytes.now rest begins) in
+    no_sized _ a.size a.value c.args.end _ rest same.0 c.in_err-value.ensures.none begins.0.1 (c.in_ok-digits.ensures.cases.1 ∙ ap (λ (bs : List ℕ). drop 2 bs) same.1))
