@@ -9,7 +9,9 @@ import sys
 import tempfile
 
 HERE = os.path.dirname(os.path.abspath(__file__))
-KINDS = ("moves", "memory", "mixed", "varied")
+LOGS = [(kind, ["sh", os.path.join(HERE, "million.sh"), kind]) for kind in ("moves", "memory", "mixed", "varied")]
+LOGS += [("random " + kind, [sys.executable, os.path.join(HERE, "random_log.py"), kind])
+         for kind in ("moves", "memory", "mixed")]
 
 
 def once(command):
@@ -25,18 +27,18 @@ def once(command):
 def main():
     program = sys.argv[1] if len(sys.argv) > 1 else os.path.join(HERE, "../crates/capcheck/out/capcheck")
     rounds = int(sys.argv[2]) if len(sys.argv) > 2 else 9
-    print("log     bytes     seconds  ns a line  lines a second  wc -l")
+    print("log               bytes  seconds  ns a line  lines a second  wc -l")
     with tempfile.TemporaryDirectory() as folder:
-        for kind in KINDS:
-            log = os.path.join(folder, kind)
+        for name, maker in LOGS:
+            log = os.path.join(folder, name)
             with open(log, "w") as out:
-                subprocess.run(["sh", os.path.join(HERE, "million.sh"), kind], stdout=out, check=True)
+                subprocess.run(maker, stdout=out, check=True)
             judged, counted = [], []
             for _ in range(rounds):
                 judged.append(once([program, "judge", log]))
                 counted.append(once(["wc", "-l", log]))
             seconds = min(judged)
-            print(f"{kind:7} {os.path.getsize(log):9} {seconds:8.3f} {1e3 * seconds:10.0f} {1e6 / seconds:15.0f}"
+            print(f"{name:13} {os.path.getsize(log):9} {seconds:8.3f} {1e3 * seconds:10.0f} {1e6 / seconds:15.0f}"
                   f" {min(counted):6.3f}")
 
 
