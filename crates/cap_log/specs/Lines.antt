@@ -75,22 +75,22 @@ tag_spelling false = codes "0"
 abbrev pub result_words : Cap → List (List ℕ)
 result_words result = codes "=" ∷ tag_spelling result.tag ∷ hex_digits 32 result.word.0 ∷ []
 
--- the words of an operation from a register to a register: its name, both registers, what else it takes, and its result
-abbrev pub operation_words : List ℕ → ℕ → ℕ → List (List ℕ) → Cap → List (List ℕ)
-operation_words name target source more result = name ∷ register_spelling target ∷ register_spelling source ∷ more ++ result_words result
+-- the words of a step that writes a register: its name, that register, the one that it reads first, what else it takes, its result
+abbrev pub register_words : List ℕ → ℕ → ℕ → List (List ℕ) → Cap → List (List ℕ)
+register_words name target source more result = name ∷ register_spelling target ∷ register_spelling source ∷ more ++ result_words result
 
 -- the words of a step
 abbrev pub step_words : Step → List (List ℕ)
-step_words (Move target source result) = operation_words (codes "move") target source [] result
-step_words (ClearTag target source result) = operation_words (codes "cleartag") target source [] result
-step_words (SetBounds target source length result) = operation_words (codes "setbounds") target source (hex_digits 16 length ∷ []) result
+step_words (Move target source result) = register_words (codes "move") target source [] result
+step_words (ClearTag target source result) = register_words (codes "cleartag") target source [] result
+step_words (SetBounds target source length result) = register_words (codes "setbounds") target source (hex_digits 16 length ∷ []) result
 step_words (SetBoundsExact target source length result) =
-    operation_words (codes "setboundsexact") target source (hex_digits 16 length ∷ []) result
-step_words (SetAddr target source address result) = operation_words (codes "setaddr") target source (hex_digits 16 address ∷ []) result
-step_words (AndPerm target source mask result) = operation_words (codes "andperm") target source (hex_digits 16 mask ∷ []) result
-step_words (Seal target source authority result) = operation_words (codes "seal") target source (register_spelling authority ∷ []) result
-step_words (Unseal target source authority result) = operation_words (codes "unseal") target source (register_spelling authority ∷ []) result
-step_words (LoadCap target authority offset result) = operation_words (codes "lc") target authority (signed_decimal offset ∷ []) result
+    register_words (codes "setboundsexact") target source (hex_digits 16 length ∷ []) result
+step_words (SetAddr target source address result) = register_words (codes "setaddr") target source (hex_digits 16 address ∷ []) result
+step_words (AndPerm target source mask result) = register_words (codes "andperm") target source (hex_digits 16 mask ∷ []) result
+step_words (Seal target source authority result) = register_words (codes "seal") target source (register_spelling authority ∷ []) result
+step_words (Unseal target source authority result) = register_words (codes "unseal") target source (register_spelling authority ∷ []) result
+step_words (LoadCap target authority offset result) = register_words (codes "lc") target authority (signed_decimal offset ∷ []) result
 step_words (StoreCap source authority offset) =
     codes "sc" ∷ register_spelling source ∷ register_spelling authority ∷ signed_decimal offset ∷ []
 step_words (Load authority offset size value) =
