@@ -78,9 +78,9 @@ with_root account place word = record (naming account (granule_of place)) {
 abbrev pub with_step : Account → Step → Account
 with_step account step =
     let row = row_in account step in
+    let named = naming account (named_by row) in
     let next = state_with account.state row.writes in
-    record (naming account (named_by row)) {
-      state = next; origin = origins_after account.origin account.state step next; steps = account.steps + 1 }
+    record named { state = next; origin = origins_after account.origin account.state step next; steps = account.steps + 1 }
 
 -- the tests of a root, in order: its place has a tagged capability already, its word is not sound, a limit is passed
 abbrev pub root_tests : Account → Place → Word → List (Bool × Refusal)

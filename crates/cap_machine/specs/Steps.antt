@@ -63,14 +63,15 @@ granule_through state authority offset = address_through state authority offset 
 
 -- the row of an access of a kind through a register, where nothing is written and nothing recorded
 abbrev pub access_through : State → ℕ → Kind → ℤ → ℕ → Row
-access_through state register kind offset bytes = record {
-  tests = access_tests (state register) kind offset bytes;
-  writes = None;
-  parent = None;
-  records = Nothing;
-  access = Some (record {
-    authority = register; address = address_through state register offset; size = bytes; permission = permission_for kind });
-}
+access_through state register kind offset bytes =
+    let reached = address_through state register offset in
+    record {
+      tests = access_tests (state register) kind offset bytes;
+      writes = None;
+      parent = None;
+      records = Nothing;
+      access = Some (record { authority = register; address = reached; size = bytes; permission = permission_for kind });
+    }
 
 -- a granule's capability after a write of a value's bytes, least significant first, from a byte index on: its tag is clear
 abbrev pub with_value : Cap → ℕ → ℕ → ℕ → Cap
@@ -95,10 +96,10 @@ row_of state (Unseal target source authority recorded) =
     operation target source recorded (unseal_tests (state source) (state authority)) (unseal_result (state source) (state authority))
 row_of state (LoadCap target authority offset recorded) =
     let granule = granule_through state authority offset in record (access_through state authority kinds.LoadCap offset 16) {
-  writes = Some (Register target, loaded_result (state authority) (state (granule_key granule)));
-  parent = Some (Granule granule);
-  records = Written recorded;
-}
+      writes = Some (Register target, loaded_result (state authority) (state (granule_key granule)));
+      parent = Some (Granule granule);
+      records = Written recorded;
+    }
 row_of state (StoreCap source authority offset) = record (access_through state authority (kinds.StoreCap (state source)) offset 16) {
   writes = Some (Granule (granule_through state authority offset), state source);
   parent = Some (Register source);
@@ -108,8 +109,8 @@ row_of state (Load authority offset size value) = record (access_through state a
 }
 row_of state (Store authority offset size value) =
     let granule = granule_through state authority offset in record (access_through state authority kinds.StoreData offset size) {
-  writes = Some (Granule granule, with_value (state (granule_key granule)) (address_through state authority offset % 16) size value);
-}
+      writes = Some (Granule granule, with_value (state (granule_key granule)) (address_through state authority offset % 16) size value);
+    }
 
 -- whether two capabilities are the same: tag and word
 abbrev pub is_same_cap : Cap → Cap → Bool
