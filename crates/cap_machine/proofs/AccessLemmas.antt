@@ -76,8 +76,7 @@ lie_inside rules roots steps states sound ranges run moment step access at is =
       root.0,
       root.1,
       record {
-        from = omega (arith, reach.inside.0, grant.allowed.from);
-        until = omega (arith, reach.inside.1, grant.allowed.until);
+        inside = (omega (arith, reach.inside.0, grant.allowed.from), omega (arith, reach.inside.1, grant.allowed.until));
         permitted = reach.fewer access.permission grant.allowed.permits;
       },
     )

@@ -1,10 +1,10 @@
 -- Accounts: how they grow, and the roots and steps of which no test holds.
 use Rattle.std.proofs.Common.{◌≡◌, ℕ, ◌+◌, ◌<◌, ◌≤◌, Bool, true, false, not, ◌&&◌, ◌||◌, nat_le, List, [], ◌∷◌, length}
-use Rattle.std.proofs.Common.{Option, Some, None, refl, sym, ap, ◌∙◌, eq-eqb, arith}
+use Rattle.std.proofs.Common.{Option, Some, None, refl, sym, ap, ◌∙◌, arith}
 use Rattle.std.specs.Bool.{if◌then◌else◌}
-use Rattle.std.proofs.lemmas.Bool.{false≢true, and_from, or_from, le-leb, lt-leb}
+use Rattle.std.proofs.lemmas.Bool.{false≢true, or_from, lt-leb}
 use Rattle.cap_word.specs.declared.word.Word.{Word}
-use Rattle.cap_bounds.specs.Bounds.{IsSound, is_sound}
+use Rattle.cap_bounds.specs.Bounds.{is_sound}
 use Rattle.cap_log.specs.declared.lines.Place.{Place}
 use Rattle.cap_log.specs.declared.lines.Step.{Step}
 use Rattle.cap_ops.specs.Tests.{first_of}
@@ -87,13 +87,12 @@ first_of-none ((true, found) ∷ tests) free = absurd (false≢true (sym free.0)
 first_of-none ((false, found) ∷ tests) free = first_of-none tests free.1
 
 -- no test holds of a sound root at a place without a tag, where the account with it keeps to the limits
-pub root_free : (account : Account) (place : Place) (word : Word) → (account.state (key_of place)).tag ≡ false → IsSound word.0
+pub root_free : (account : Account) (place : Place) (word : Word) → (account.state (key_of place)).tag ≡ false → is_sound word.0 ≡ true
     → account.roots < most_roots → (naming account (granule_of place)).granules ≤ most_granules account.rules
     → NoneHold (root_tests account place word)
 root_free account place word untagged sound few_roots few_granules =
-    let is : is_sound word.0 ≡ true = and_from _ _ (eq-eqb _ _ sound.0) (le-leb _ _ sound.1) in
     let limit = or_from _ _ (lt-leb most_roots account.roots few_roots) (within account (granule_of place) few_granules) in
-    (untagged, (ap not is, (limit, tt)))
+    (untagged, (ap not sound, (limit, tt)))
 
 -- no test holds of a step that leads on, where the account with it keeps to the limits
 pub step_free : (account : Account) (step : Step) (next : State) → Leads account.rules account.state step next

@@ -75,6 +75,11 @@ origin-root account (first ∷ roots) root distinct (zero, below, same) =
 origin-root account (first ∷ roots) root distinct (suc i, below, same) =
     origin-root (with_root account first.place first.word) roots root distinct.1 (i, omega (arith, below), same)
 
+-- after roots at distinct places an account has the state that they make
+pub roots_start : (rules : Rules) (roots : List DeclaredRoot) → IsDistinct nat_eq (keys roots)
+    → (after_roots (no_account rules) roots).state ≡ start roots
+roots_start rules roots distinct = fun_ext (λ key. state-start (no_account rules) roots key distinct refl)
+
 -- the account after a run has its last state, and the origins along it
 pub after_run : (account : Account) (steps : List Step) (states : List State) → IsRun account.rules account.state steps states
     → ((after_steps account steps).state ≡ last_of account.state states)
@@ -91,6 +96,23 @@ after_run account (step ∷ steps) (next ∷ states) run =
       rest.0 ∙ ap (λ (state : State). last_of state states) same,
       rest.1 ∙ ap (λ (state : State). origins_along (origins_after account.origin account.state step state) state steps states) same,
     )
+
+-- a run from roots is one of the account after them
+from_roots : (rules : Rules) (roots : List DeclaredRoot) (steps : List Step) (states : List State) → IsDistinct nat_eq (keys roots)
+    → IsRun rules (start roots) steps states
+    → IsRun (after_roots (no_account rules) roots).rules (after_roots (no_account rules) roots).state steps states
+from_roots rules roots steps states distinct run =
+    let rooted = after_roots (no_account rules) roots in
+    let grown = after_roots-grows (no_account rules) roots in
+    subst (λ (r : Rules). IsRun r rooted.state steps states) (sym grown.rules_stay)
+    (subst (λ (s : State). IsRun rules s steps states) (sym (roots_start rules roots distinct)) run)
+
+-- the last state of a run is that of the account after its roots and steps
+pub last_after : (rules : Rules) (roots : List DeclaredRoot) (steps : List Step) (states : List State) → IsDistinct nat_eq (keys roots)
+    → IsRun rules (start roots) steps states → last_of (start roots) states ≡ (account_after rules roots steps).state
+last_after rules roots steps states distinct run =
+    ap (λ (s : State). last_of s states) (sym (roots_start rules roots distinct))
+    ∙ sym (after_run (after_roots (no_account rules) roots) steps states (from_roots rules roots steps states distinct run)).0
 
 -- the last moment of a run
 last_moment : (rules : Rules) (state : State) (steps : List Step) (states : List State) → IsRun rules state steps states
@@ -111,12 +133,10 @@ pub origins_found : (rules : Rules) (roots : List DeclaredRoot) (steps : List St
     → OriginsAreRoots (account_after rules roots steps) roots steps states
 origins_found rules roots steps states sound distinct ranges run key held =
     let rooted = after_roots (no_account rules) roots in
-    let began : rooted.state ≡ start roots = fun_ext (λ k. state-start (no_account rules) roots k distinct refl) in
-    let grown = after_roots-grows (no_account rules) roots in
-    let ran = subst (λ (r : Rules). IsRun r rooted.state steps states) (sym grown.rules_stay) (subst (λ (s : State). IsRun rules s steps states) (sym began) run) in
-    let after = after_run rooted steps states ran in
+    let began = roots_start rules roots distinct in
+    let after = after_run rooted steps states (from_roots rules roots steps states distinct run) in
     let last = last_moment rules (start roots) steps states run in
-    let state_is = after.0 ∙ ap (λ (s : State). last_of s states) began ∙ sym last.0 in
+    let state_is = sym (last_after rules roots steps states distinct run) ∙ sym last.0 in
     let root = one_root rules roots steps states sound ranges run (length steps) (omega arith) key (ap (λ (s : State). (s key).tag) (sym state_is) ∙ held) in
     let descends = root.1 in
     let whole = subst (λ (l : List Step). Descends (start roots) l (take (length steps) states) key (key_of root.0.place)) (take_all (length steps) steps (omega arith)) descends.descends in

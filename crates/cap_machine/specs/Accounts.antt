@@ -2,6 +2,7 @@
 -- (this profile's own).
 use Rattle.std.specs.Prelude.{ℕ, ◌+◌, Bool, false, ◌==◌, ◌&&◌, ◌||◌, not, nat_le, if◌then◌else◌, List, [], ◌∷◌, ◌++◌, map, Option}
 use Rattle.std.specs.Prelude.{Some, None}
+use Rattle.std.specs.Option.{option_map_or}
 use Rattle.cap_word.specs.declared.word.Word.{Word}
 use Rattle.cap_log.specs.declared.lines.Place.{Place}
 use Rattle.cap_log.specs.declared.lines.Step.{Step}
@@ -51,8 +52,7 @@ row_in account step = row_by account.rules (row_of account.state step)
 
 -- whether a granule is named for the first time
 abbrev pub is_new : Account → Option ℕ → Bool
-is_new account None = false
-is_new account (Some granule) = not (account.is_named granule)
+is_new account named = option_map_or (λ granule. not (account.is_named granule)) named false
 
 -- whether naming a granule passes the limit on granules
 abbrev pub passes_granule_limit : Account → Option ℕ → Bool

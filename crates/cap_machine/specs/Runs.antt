@@ -1,10 +1,11 @@
 -- Runs of the machine, and which root each capability descends from.
 use Rattle.std.specs.Prelude.{◌≡◌, Bool, false, ℕ, zero, suc, ◌+◌, ◌≤◌, ◌==◌, if◌then◌else◌, IsTrue, List, [], ◌∷◌, length, take, Option}
 use Rattle.std.specs.Prelude.{Some, None, option_map, Contains, slice_get}
+use Rattle.std.specs.Option.{option_map_or}
 use Rattle.cap_log.specs.declared.lines.Step.{Step}
 use Rattle.cap_log.specs.declared.lines.Place.{Place}
 use Rattle.cap_word.specs.declared.word.Cap.{Cap}
-use Rattle.cap_bounds.specs.Bounds.{base_of, top_of, IsSound}
+use Rattle.cap_bounds.specs.Bounds.{base_of, top_of, IsInside, IsSound}
 use Rattle.cap_ops.specs.Authority.{ReachesNoMore}
 use Rattle.cap_ops.specs.Permissions.{has_permission}
 use Rattle.cap_machine.specs.declared.rules.Rules.{Rules}
@@ -31,8 +32,7 @@ last_of state (next ∷ states) = last_of next states
 
 -- whether a write is to the place of a key
 abbrev pub hits : Option (Place × Cap) → ℕ → Bool
-hits None key = false
-hits (Some write) key = key_of write.0 == key
+hits write key = option_map_or (λ to. key_of to.0 == key) write false
 
 -- the place, by its key, that a place's capability comes from in a step from a state to the next: the step's parent place where the
 -- step wrote to it and it is tagged then, none where the step wrote to it and it is not, and the place itself where the step did not
@@ -66,8 +66,7 @@ AuthorityNeverGrows roots steps states =
 
 -- an access lies inside a root's bounds, and the root has its permission
 pub record LiesInside (access : Access) (root : DeclaredRoot) : Type 0 where
-  pub from : base_of root.word.0 ≤ access.address
-  pub until : access.address + access.size ≤ top_of root.word.0
+  pub inside : IsInside access.address (access.address + access.size) (base_of root.word.0) (top_of root.word.0)
   pub permitted : IsTrue (has_permission root.word.0 access.permission)
 
 -- each access of a run, at the moment before its step, lies inside the one root that its authority descends from

@@ -1,7 +1,7 @@
 -- One step of the machine (the operations and accesses of UCAM-CL-TR-987 for CHERI-RISC-V).
 use Rattle.std.specs.Prelude.{◌≡◌, ℕ, ℤ, ◌/◌, ◌%◌, Bool, true, false, ◌==◌, ◌&&◌, List, [], Option, Some, None, IsTrue, option_map}
 use Rattle.std.specs.Bool.{beq}
-use Rattle.std.specs.Option.{option_and_then}
+use Rattle.std.specs.Option.{option_and_then, option_map_or}
 use Rattle.cap_word.specs.declared.word.Cap.{Cap}
 use Rattle.cap_word.specs.Memory.{low_bytes, memory_of, stored_word}
 use Rattle.cap_log.specs.declared.lines.Place.{Place}
@@ -13,7 +13,7 @@ use Rattle.cap_ops.specs.declared.faults.OpFault.{OpFault}
 use Rattle.cap_ops.specs.declared.kinds.Kind.{Kind}
 use Rattle.cap_ops.specs.declared.kinds.Kind.TheVariants as kinds
 use Rattle.cap_ops.specs.Tests.{first_of}
-use Rattle.cap_ops.specs.Operations.{cleared, clear_result, set_bounds_tests, set_bounds_result, set_addr_tests, set_addr_result}
+use Rattle.cap_ops.specs.Operations.{with_word, cleared, clear_result, set_bounds_tests, set_bounds_result, set_addr_tests, set_addr_result}
 use Rattle.cap_ops.specs.Operations.{and_perm_tests, and_perm_result, seal_tests, seal_result, unseal_tests, unseal_result}
 use Rattle.cap_ops.specs.Accesses.{access_address, access_tests, loaded_result, permission_for}
 use Rattle.tagmem.specs.Granules.{overwritten}
@@ -76,7 +76,7 @@ access_through state register kind offset bytes =
 -- a granule's capability after a write of a value's bytes, least significant first, from a byte index on: its tag is clear
 abbrev pub with_value : Cap → ℕ → ℕ → ℕ → Cap
 with_value cap byte_index size value =
-    record { tag = false; word = record { 0 = stored_word (overwritten (memory_of cap.word.0) byte_index (low_bytes size value)) } }
+    with_word (cleared cap) (stored_word (overwritten (memory_of cap.word.0) byte_index (low_bytes size value)))
 
 -- the machine's table: the row of each step in a state. The result is the machine's own, whatever the line records
 abbrev pub row_of : State → Step → Row
@@ -119,8 +119,7 @@ is_same_cap a b = beq a.tag b.tag && (a.word.0 == b.word.0)
 -- whether what is written, or read, is what a line records
 abbrev pub agrees : Option (Place × Cap) → Recorded → Bool
 agrees write Nothing = true
-agrees None (Written cap) = true
-agrees (Some write) (Written cap) = is_same_cap cap write.1
+agrees write (Written cap) = option_map_or (λ to. is_same_cap cap to.1) write true
 agrees write (Read value in_memory) = value == in_memory
 
 -- whether the line of a row records what the machine has
@@ -138,8 +137,7 @@ named_by row = option_and_then (λ write. granule_of write.0) row.writes
 
 -- the state after a write
 abbrev pub state_with : State → Option (Place × Cap) → State
-state_with state None = state
-state_with state (Some write) = put state (key_of write.0) write.1
+state_with state write = option_map_or (λ to. put state (key_of to.0) to.1) write state
 
 -- a row in clear mode: an operation on registers meets no test, and its result loses its tag where one holds; an access stays as it is
 abbrev pub clear_row : Option Access → Row → Row

@@ -7,7 +7,7 @@ ghost use Rattle.cap_log.specs.Lines.{IsStepInRange};
 ghost use Rattle.cap_machine.specs.declared.rules.Rules.{Rules};
 ghost use Rattle.cap_machine.specs.States.{DeclaredRoot, State, key_of, start};
 ghost use Rattle.cap_machine.specs.Steps.{Leads};
-ghost use Rattle.cap_machine.specs.Runs.{AccessesLieInside, AreSound, AuthorityNeverGrows, Descends, IsRun};
+ghost use Rattle.cap_machine.specs.Runs.{AccessesLieInside, AreSound, AuthorityNeverGrows, Descends, IsRun, last_of};
 ghost use Rattle.cap_machine.specs.Origins.{Origins, origins_along};
 ghost use Rattle.cap_machine.specs.RunAccounts.{OriginsAreRoots, account_after};
 ghost use Rattle.cap_machine.specs.Parents.{IsSoundState, StaysWithinParents};
@@ -34,6 +34,13 @@ pub fn accesses_lie_inside()
     ensures { (rules : Rules) (roots : List DeclaredRoot) (steps : List Step) (states : List State) → AreSound roots
         → AllByRecursion IsStepInRange steps → IsRun rules (start roots) steps states
         → AccessesLieInside roots steps states }
+{}
+
+/// A run from roots at distinct places ends in the state that the account has after the roots and the steps.
+pub fn runs_end_in_accounts()
+    ensures { (rules : Rules) (roots : List DeclaredRoot) (steps : List Step) (states : List State)
+        → IsDistinct nat_eq (map (λ (root : DeclaredRoot). key_of root.place) roots) → IsRun rules (start roots) steps states
+        → (let account = account_after rules roots steps in last_of (start roots) states ≡ account.state) }
 {}
 
 /// Origins that each step carries forward, from parents, are those that descent leads back to.

@@ -23,6 +23,7 @@ use Rattle.capcheck.specs.declared.verdict.Verdict.TheVariants.{Yes, No}
 use Rattle.capcheck.specs.Logs.{Beginning, Nothing, NoMode, Body, Whole, SpellsBy, account_after, line_tests}
 use Rattle.capcheck.specs.Logs.{IsAccepted, RunsBy, RefusesLine, RefusesWhole, Refuses}
 use Rattle.capcheck.specs.Verdicts.{EscapesExactly, FaultEscapes}
+use Rattle.capcheck.proofs.LogLemmas.{last_state}
 use Rattle.capcheck.proofs.JudgeLemmas.{are_sound, behind_header, steps_in_range}
 
 -- every tagged word of what accepted roots and steps lead to is sound
@@ -30,7 +31,7 @@ account_sound : (rules_are : Rules) (roots : List DeclaredRoot) (steps : List St
     → IsSoundState (account_after rules_are roots steps).state
 account_sound rules_are roots steps runs =
     let run = runs.run in
-    subst IsSoundState run.2
+    subst IsSoundState (last_state rules_are roots steps runs)
     (sound_along rules_are (start roots) steps run.0 (steps_in_range roots steps (behind_header rules_are _ runs.grammar)) (start_sound roots (are_sound roots runs.sound)) run.1)
 
 -- no other line is refused so

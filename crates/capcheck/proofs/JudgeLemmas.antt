@@ -3,14 +3,14 @@ use Rattle.std.proofs.Common.{◌≡◌, ◌≢◌, ℕ, zero, suc, ◌+◌, tru
 use Rattle.std.proofs.Common.{subst, ◌∙◌, append-nil, append_assoc, arith, Result, Ok, Err, IsOk, IfOk, IfErr}
 use Rattle.std.specs.List.{AllByRecursion}
 use Rattle.std.proofs.lemmas.Grind.{flat_map-append}
-use Rattle.std.proofs.lemmas.Bool.{false≢true}
+use Rattle.std.proofs.lemmas.Bool.{false≢true, and_parts, eqb-true, leb-true}
 use Rattle.std.proofs.lemmas.Option.{none-some}
-use Rattle.std.specs.Prelude.{Option, Some, None}
-use Rattle.cap_bounds.specs.Bounds.{IsSound}
+use Rattle.std.specs.Prelude.{Option, Some, None, IsTrue}
+use Rattle.cap_bounds.specs.Bounds.{IsSound, is_sound}
 use Rattle.cap_log.specs.declared.lines.Line.{Line}
 use Rattle.cap_log.specs.declared.lines.Line.TheVariants as lines
 use Rattle.cap_log.specs.declared.lines.Step.{Step}
-use Rattle.cap_log.specs.Lines.{spelling, IsInRange, IsStepInRange, Spells}
+use Rattle.cap_log.specs.Lines.{spelling, IsInRange, IsStepInRange}
 use Rattle.cap_log.specs.Front.{FrontIs, IsLine}
 use Rattle.cap_machine.specs.declared.refusal.Refusal.{Refusal}
 use Rattle.cap_machine.specs.declared.refusal.Refusal.TheVariants.{LineTooLong, Misplaced, Truncated}
@@ -20,17 +20,17 @@ use Rattle.cap_machine.specs.declared.rules.Rules.{Rules}
 use Rattle.cap_machine.specs.declared.rules.Rules.TheVariants.{One, TwoStrict, TwoClear}
 use Rattle.cap_machine.specs.Accounts.{Account, is_new}
 use Rattle.cap_machine.specs.Runs.{AreSound, IsRun, AuthorityNeverGrows, AccessesLieInside}
+use Rattle.cap_machine.proofs.AccountLemmas.{account_after-grows}
 use Rattle.capcheck.specs.declared.verdict.Verdict.{Verdict}
 use Rattle.capcheck.specs.declared.verdict.Verdict.TheVariants.{Yes, No}
 use Rattle.capcheck.specs.declared.verdict.JudgeFault.{JudgeFault}
 use Rattle.capcheck.specs.declared.verdict.JudgeFault.TheVariants as faults
-use Rattle.capcheck.specs.Logs.{Beginning, Nothing, NoMode, Body, Whole, header_lines, lines_of, text_of, account_after}
-use Rattle.capcheck.specs.Logs.{IsAccepted, RefusesWhole, Refuses, IsFirstFault, WantsMemory, MayLackMemory}
+use Rattle.capcheck.specs.Logs.{Beginning, Nothing, NoMode, Body, Whole, header_lines, body_lines, lines_of, text_of, account_after}
+use Rattle.capcheck.specs.Logs.{IsAccepted, SpellsBy, RefusesWhole, Refuses, IsFirstFault, MayLackMemory}
 use Rattle.capcheck.specs.Logs.{NamesNoGranules, named_by_line}
 use Rattle.capcheck.specs.Verdicts.{IsYes, IsGuarded, GuardsAuthority, IsFault}
 use Rattle.capcheck.specs.Judgings.{IsBehind, LeadsTo}
-use Rattle.capcheck.specs.Progresses.{Reading, StandsFor, GoesOn, EndsNext, IsAt}
-use Rattle.capcheck.proofs.BeginningLemmas.{accepted_in_range}
+use Rattle.capcheck.specs.Progresses.{Reading, StandsFor, GoesOn, WantsMemory, EndsNext, IsAt}
 use Rattle.capcheck.proofs.LogLemmas.{length-push}
 
 -- one line more
@@ -109,35 +109,43 @@ refused_behind bytes rest beginning line refusal here number unended refused = r
 }
 
 -- a line that wants memory
+lacks : (bytes text more : List ℕ) (reading : Reading) (beginning : Beginning) → StandsFor reading beginning → WantsMemory beginning text
+    → bytes ≡ text_of (lines_of beginning) ++ text ++ 10 ∷ more → MayLackMemory bytes
+lacks bytes text more reading Nothing stands wants are = absurd wants
+lacks bytes text more reading NoMode stands wants are = absurd wants
+lacks bytes text more reading (Body rules_are roots steps) stands wants are = record {
+  rules = rules_are;
+  roots = roots;
+  steps = steps;
+  line = wants.line;
+  text = text;
+  more = more;
+  bytes_are = are;
+  runs = stands.1.runs;
+  spelled = subst (λ (r : Rules). SpellsBy r text wants.line) (account_after-grows rules_are roots steps).rules_stay wants.spelled;
+  free = wants.free;
+  first = wants.first;
+}
+lacks bytes text more reading (Whole rules_are roots steps) stands wants are = absurd wants
+
 pub wants_memory : (bytes rest text more : List ℕ) (reading : Reading) (line : ℕ) → IsAt bytes reading rest line
     → IsLine rest text more → EndsNext reading text NoMemory → MayLackMemory bytes
-wants_memory bytes rest text more reading line here whole ends = record {
-  beginning = here.beginning;
-  line = text;
-  more = more;
-  bytes_are = here.bytes_are ∙ ap (λ (r : List ℕ). text_of (lines_of here.beginning) ++ r) whole.whole ∙ sym (append_assoc (text_of (lines_of here.beginning)) text (10 ∷ more));
-  accepted = accepted here.beginning reading here.stands;
-  wants = ends here.beginning here.stands;
-}
+wants_memory bytes rest text more reading line here whole ends =
+    lacks bytes text more reading here.beginning here.stands (ends here.beginning here.stands)
+    (here.bytes_are ∙ ap (λ (r : List ℕ). text_of (lines_of here.beginning) ++ r) whole.whole
+    ∙ sym (append_assoc (text_of (lines_of here.beginning)) text (10 ∷ more)))
 
 -- a line that names no granule names none for the first time
 not_new : (account : Account) (granule : Option ℕ) → granule ≡ None → is_new account granule ≡ true → ⊥
 not_new account None none new = false≢true new
 not_new account (Some granule) none new = none-some granule (sym none)
 
-wants_none : (beginning : Beginning) (text : List ℕ) → WantsMemory beginning text
-    → ((line : Line) (account : Account) → Spells text line → named_by_line account line ≡ None) → ⊥
-wants_none Nothing text wants none = wants
-wants_none NoMode text wants none = wants
-wants_none (Body rules_are roots steps) text wants none =
-    let account = account_after rules_are roots steps in
-    not_new account (named_by_line account wants.line) (none wants.line account wants.spelled.0) wants.first
-wants_none (Whole rules_are roots steps) text wants none = wants
-
 pub no_lack : (bytes : List ℕ) → NamesNoGranules bytes → MayLackMemory bytes → ⊥
 no_lack bytes none lack =
-    wants_none lack.beginning lack.line lack.wants
-    (λ line account spelled. none (lines_of lack.beginning) lack.line lack.more line account (accepted_in_range lack.beginning lack.accepted) lack.bytes_are spelled)
+    let account = account_after lack.rules lack.roots lack.steps in
+    let lines = body_lines lack.rules lack.roots lack.steps in
+    not_new account (named_by_line account lack.line)
+    (none lines lack.text lack.more lack.line account lack.runs.grammar lack.bytes_are lack.spelled.0) lack.first
 
 -- a log without lines that name granules has a verdict
 pub answered : (bytes : List ℕ) (result : Result Verdict JudgeFault) → IfErr result (IsFault bytes) → NamesNoGranules bytes → IsOk result
@@ -207,9 +215,10 @@ steps_in_range [] (step ∷ made) h = (h.0, steps_in_range [] made h.1)
 steps_in_range (root ∷ roots) made h = steps_in_range roots made h.1
 
 -- sound roots, one by one
-pub are_sound : (roots : List DeclaredRoot) → AllByRecursion (λ (root : DeclaredRoot). IsSound root.word.0) roots → AreSound roots
+pub are_sound : (roots : List DeclaredRoot) → AllByRecursion (λ (root : DeclaredRoot). IsTrue (is_sound root.word.0)) roots → AreSound roots
 are_sound [] all root there = absurd (omega (arith, there.1))
-are_sound (first ∷ roots) all root (zero, below, is) = subst (λ (r : DeclaredRoot). IsSound r.word.0) is all.0
+are_sound (first ∷ roots) all root (zero, below, is) =
+    let parts = and_parts _ _ all.0 in subst (λ (r : DeclaredRoot). IsSound r.word.0) is (eqb-true _ _ parts.0, leb-true _ _ parts.1)
 are_sound (first ∷ roots) all root (suc index, below, is) = are_sound roots all.1 root (index, omega arith, is)
 
 -- what holds of each line of a log holds of those behind its header

@@ -3,7 +3,7 @@ use Rattle.std.proofs.Common.{◌≡◌, ℕ, ◌+◌, Bool, true, false, ◌==�
 use Rattle.std.proofs.Common.{refl, sym, ap, ◌∙◌, append_assoc, append-nil, arith, rules}
 use Rattle.std.specs.Bool.{if◌then◌else◌}
 use Rattle.std.specs.List.{AllByRecursion, IsDistinct, list_any}
-use Rattle.std.proofs.lemmas.Bool.{eqb-true, eqb-false, or_parts}
+use Rattle.std.proofs.lemmas.Bool.{or_parts}
 use Rattle.cap_word.specs.declared.word.Cap.{Cap}
 use Rattle.cap_log.specs.declared.lines.Place.{Place}
 use Rattle.cap_log.specs.declared.lines.Line.{Line}
@@ -14,7 +14,8 @@ use Rattle.cap_machine.specs.Steps.{Leads}
 use Rattle.cap_machine.specs.declared.rules.Rules.{Rules}
 use Rattle.cap_machine.specs.Accounts.{Account, with_root, with_step}
 use Rattle.cap_machine.specs.Runs.{IsRun, last_of}
-use Rattle.capcheck.specs.Logs.{header_lines, body_lines, after_roots, after_steps}
+use Rattle.cap_machine.proofs.OriginLemmas.{last_after}
+use Rattle.capcheck.specs.Logs.{RunsBy, header_lines, body_lines, account_after, after_roots, after_steps}
 
 -- what holds of each element of two lists holds of each element of both together
 pub AllByRecursion-append : {X : Type 0} (P : X → Type 0) (xs ys : List X) → AllByRecursion P xs → AllByRecursion P ys
@@ -25,13 +26,6 @@ AllByRecursion-append P (x ∷ xs) ys h k = (h.0, AllByRecursion-append P xs ys 
 tag_of_choice : (b : Bool) (x y : Cap) (any : Bool) → x.tag ≡ true → y.tag ≡ any → (if b then x else y).tag ≡ (b || any)
 tag_of_choice true x y any h k = h
 tag_of_choice false x y any h k = k
-
-choices : (a b : Bool) (x y z : Cap) → (a ≡ true → b ≡ true → ⊥)
-    → (if a then x else (if b then y else z)) ≡ (if b then y else (if a then x else z))
-choices true true x y z h = absurd (h refl refl)
-choices true false x y z h = refl
-choices false true x y z h = refl
-choices false false x y z h = refl
 
 -- one key more, which is none of those before
 pub IsDistinct-push : (xs : List ℕ) (x : ℕ) → IsDistinct nat_eq xs → list_any (λ y. nat_eq y x) xs ≡ false
@@ -48,17 +42,6 @@ tag-start [] place = refl
 tag-start (root ∷ roots) place =
     tag_of_choice (key_of root.place == key_of place) (tagged root.word) (start roots (key_of place)) _ refl (tag-start roots place)
 
--- one root more, at a place that is none of those before
-pub start-push : (roots : List DeclaredRoot) (root : DeclaredRoot) (key : ℕ)
-    → list_any (λ (r : DeclaredRoot). key_of r.place == key_of root.place) roots ≡ false
-    → start (roots ++ root ∷ []) key ≡ (if key_of root.place == key then tagged root.word else start roots key)
-start-push [] root key new = refl
-start-push (first ∷ roots) root key new =
-    let parts = or_parts (key_of first.place == key_of root.place) (list_any (λ (r : DeclaredRoot). key_of r.place == key_of root.place) roots) new in
-    ap (λ (cap : Cap). if key_of first.place == key then tagged first.word else cap) (start-push roots root key parts.1)
-    ∙ choices (key_of first.place == key) (key_of root.place == key) _ _ _
-    (λ a b. eqb-false _ _ parts.0 (eqb-true _ _ a ∙ sym (eqb-true _ _ b)))
-
 -- one step more
 pub IsRun-push : (rules : Rules) (state : State) (steps : List steps_module.Step) (states : List State) (step : steps_module.Step) (next : State)
     → IsRun rules state steps states → Leads rules (last_of state states) step next
@@ -69,9 +52,10 @@ IsRun-push rules state (first ∷ steps) (middle ∷ states) step next run leads
 IsRun-push rules state [] (middle ∷ states) step next run leads = absurd run
 IsRun-push rules state (first ∷ steps) [] step next run leads = absurd run
 
-pub last_of-push : (state : State) (states : List State) (next : State) → last_of state (states ++ next ∷ []) ≡ next
-last_of-push state [] next = refl
-last_of-push state (middle ∷ states) next = last_of-push middle states next
+-- a run of accepted roots and steps ends in the state of their account
+pub last_state : (rules : Rules) (roots : List DeclaredRoot) (steps : List steps_module.Step) (runs : RunsBy rules roots steps)
+    → last_of (start roots) runs.run.0 ≡ (account_after rules roots steps).state
+last_state rules roots steps runs = last_after rules roots steps runs.run.0 runs.distinct runs.run.1
 
 -- a log's lines with one root more, or one step more
 pub map-push : {X Y : Type 0} (f : X → Y) (xs : List X) (x : X) → map f (xs ++ x ∷ []) ≡ map f xs ++ f x ∷ []

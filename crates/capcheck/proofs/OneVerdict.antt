@@ -2,10 +2,9 @@
 use Rattle.std.proofs.Common.{◌≡◌, ℕ, ◌+◌, ◌≤◌, inl, inr, true, not, nat_eq, List, [], ◌∷◌, ◌++◌, length, map, refl}
 use Rattle.std.proofs.Common.{sym, ap, subst, ◌∙◌, append-nil, arith, eq-eqb, IsTrue}
 use Rattle.std.specs.List.{AllByRecursion, IsDistinct}
-use Rattle.std.proofs.Math.Path.{fun_ext}
 use Rattle.std.proofs.lemmas.Bool.{false≢true, cond-false, eqb-false, false_from_ne_true, le-ltb}
 use Rattle.std.proofs.lemmas.Bool.Decides.{eqb_tells}
-use Rattle.cap_bounds.specs.Bounds.{IsSound}
+use Rattle.cap_bounds.specs.Bounds.{is_sound}
 use Rattle.cap_word.specs.declared.word.Cap.{Cap}
 use Rattle.cap_log.specs.declared.lines.Line.{Line}
 use Rattle.cap_log.specs.declared.lines.Line.TheVariants.{Root, Step, End}
@@ -13,13 +12,13 @@ use Rattle.cap_log.specs.declared.lines.Step as steps_module
 use Rattle.cap_machine.specs.declared.refusal.Refusal.{Refusal}
 use Rattle.cap_machine.specs.declared.rules.Rules.{Rules}
 use Rattle.cap_machine.specs.declared.rules.Rules.TheVariants.{One, TwoStrict, TwoClear}
-use Rattle.cap_machine.specs.States.{State, DeclaredRoot, null_state, key_of, tagged, start}
+use Rattle.cap_machine.specs.States.{State, DeclaredRoot, null_state, key_of, tagged}
 use Rattle.cap_machine.specs.Steps.{Leads}
 use Rattle.cap_machine.specs.Accounts.{Account, no_account, most_roots, most_granules, most_steps, with_root, with_step}
 use Rattle.cap_machine.specs.Runs.{IsRun}
 use Rattle.cap_machine.proofs.AccountLemmas.{with_root-grows, with_step-grows, after_roots-grows, after_steps-grows, account_after-grows}
 use Rattle.cap_machine.proofs.AccountLemmas.{first_of-none, root_free, step_free}
-use Rattle.cap_machine.proofs.OriginLemmas.{keys, IsFree, state-start}
+use Rattle.cap_machine.proofs.OriginLemmas.{keys, IsFree, roots_start}
 use Rattle.capcheck.specs.declared.verdict.Verdict.{Verdict}
 use Rattle.capcheck.specs.declared.verdict.Verdict.TheVariants.{Yes, No}
 use Rattle.capcheck.specs.Logs.{Beginning, Nothing, NoMode, Body, Whole, header_lines, body_lines, lines_of, text_of}
@@ -57,7 +56,7 @@ formed TwoClear line one = refl
 
 -- sound roots at distinct places are read, where their account keeps to the limits
 roots_read : (rules_are : Rules) (account : Account) (roots : List DeclaredRoot) → account.rules ≡ rules_are → account.steps ≡ 0
-    → IsDistinct nat_eq (keys roots) → AreFree account.state roots → AllByRecursion (λ (root : DeclaredRoot). IsSound root.word.0) roots
+    → IsDistinct nat_eq (keys roots) → AreFree account.state roots → AllByRecursion (λ (root : DeclaredRoot). IsTrue (is_sound root.word.0)) roots
     → account.roots + length roots ≤ most_roots → (after_roots account roots).granules ≤ most_granules rules_are
     → Reads (Within account) (map (λ (root : DeclaredRoot). Root root.place root.word) roots) (Within (after_roots account roots))
 unfolding IsDistinct
@@ -104,7 +103,7 @@ body_read rules_are roots steps runs =
     let first = no_account rules_are in
     let rooted = after_roots first roots in
     let last = account_after rules_are roots steps in
-    let started : start roots ≡ rooted.state = sym (fun_ext (λ key. state-start first roots key runs.distinct refl)) in
+    let started = sym (roots_start rules_are roots runs.distinct) in
     let run = subst (λ (state : State). IsRun rules_are state steps runs.run.0) started runs.run.1 in
     let by_roots = after_roots-grows first roots in
     let by_steps = after_steps-grows rooted steps in

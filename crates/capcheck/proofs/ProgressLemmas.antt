@@ -1,13 +1,12 @@
 -- What the judge's progress stands for, with one line more.
 use Rattle.std.proofs.Common.{IfErr, Result, Ok, Err, ◌≡◌, ℕ, ◌+◌, ◌^◌, ◌<◌, ◌≤◌, Bool, true, false, not, ◌&&◌, ◌||◌}
 use Rattle.std.proofs.Common.{nat_eq, nat_le, nat_lt, List, [], ◌∷◌, ◌++◌, map, refl, sym, ap, subst, ◌∙◌, arith}
-use Rattle.std.proofs.Common.{lit≤, inl, inr, Some, None, Option}
-use Rattle.std.proofs.Math.Path.{fun_ext}
+use Rattle.std.proofs.Common.{lit≤, inl, inr, Some, None, Option, IsTrue}
 use Rattle.std.specs.Bool.{if◌then◌else◌}
 use Rattle.std.specs.List.{AllByRecursion, IsDistinct}
-use Rattle.std.proofs.lemmas.Bool.{false≢true, eqb-true, lt-ltb, leb-true, leb-false, and_parts, not-false, or_parts}
+use Rattle.std.proofs.lemmas.Bool.{false≢true, lt-ltb, leb-false, not-false, or_parts}
 use Rattle.std.proofs.lemmas.Option.{none-some}
-use Rattle.cap_bounds.specs.Bounds.{IsSound}
+use Rattle.cap_bounds.specs.Bounds.{is_sound}
 use Rattle.cap_word.specs.declared.word.Word.{Word}
 use Rattle.cap_log.specs.declared.lines.Place.{Place}
 use Rattle.cap_log.specs.declared.lines.Line.{Line}
@@ -24,19 +23,19 @@ use Rattle.cap_machine.specs.declared.ends.StepEnd.{StepEnd}
 use Rattle.cap_machine.specs.declared.ends.StepEnd.TheVariants.{Refused, NoMemory}
 use Rattle.cap_machine.specs.declared.rules.Rules.{Rules}
 use Rattle.cap_machine.specs.declared.rules.Rules.TheVariants.{One, TwoStrict, TwoClear}
-use Rattle.cap_machine.specs.States.{State, DeclaredRoot, key_of, put, tagged, start}
+use Rattle.cap_machine.specs.States.{State, DeclaredRoot, key_of, start}
 use Rattle.cap_machine.specs.Steps.{Leads, Row, is_recorded}
 use Rattle.cap_machine.specs.Accounts.{Account, no_account, most_roots, most_granules, most_steps, granule_of, named_by}
 use Rattle.cap_machine.specs.Accounts.{row_in, passes_granule_limit, naming, with_root, with_step, root_tests}
 use Rattle.cap_machine.specs.Accounts.{row_tests}
-use Rattle.cap_machine.specs.Runs.{IsRun, last_of}
 use Rattle.cap_machine.specs.Helds.{Held, Makes, EndsStep, TakesRoot, EndsRoot, state_of, account_of}
+use Rattle.cap_machine.proofs.OriginLemmas.{roots_start}
 use Rattle.cap_machine.proofs.AccountLemmas.{with_root-grows, with_step-grows, account_after-grows}
 use Rattle.capcheck.specs.Logs.{has_form, Beginning, Nothing, NoMode, Body, Whole, body_lines, after_roots}
-use Rattle.capcheck.specs.Logs.{account_after, RunsBy, SpellsBy, NamesFirst, RefusesWhole, WantsMemory, line_tests}
-use Rattle.capcheck.specs.Progresses.{Reading, Reaches, StandsFor, Takes, EndsFor, EndsNext}
-use Rattle.capcheck.proofs.LogLemmas.{AllByRecursion-append, IsDistinct-push, tag-start, start-push, IsRun-push}
-use Rattle.capcheck.proofs.LogLemmas.{last_of-push, map-push, length-push, steps_push, roots_push, list_any-map}
+use Rattle.capcheck.specs.Logs.{RunsBy, SpellsBy, RefusesWhole, line_tests}
+use Rattle.capcheck.specs.Progresses.{Reading, Reaches, StandsFor, Takes, NamesFirst, WantsMemory, EndsFor, EndsNext}
+use Rattle.capcheck.proofs.LogLemmas.{AllByRecursion-append, IsDistinct-push, tag-start, IsRun-push}
+use Rattle.capcheck.proofs.LogLemmas.{last_state, map-push, length-push, steps_push, roots_push, list_any-map}
 use Rattle.capcheck.proofs.LogLemmas.{after_roots-push, after_steps-push}
 
 -- the end line closes a body
@@ -114,7 +113,7 @@ step_on rules_are roots steps old new step reaches range makes =
     let runs = reaches.runs in
     let states = runs.run.0 in
     let same = same_rules old rules_are roots steps reaches in
-    let ends_in = runs.run.2 ∙ sym (ap (λ (a : Account). a.state) reaches.account) in
+    let ends_in = last_state rules_are roots steps runs ∙ sym (ap (λ (a : Account). a.state) reaches.account) in
     let leads_on = subst (λ (s : State). Leads rules_are s step (state_of new)) (sym ends_in)
     (subst (λ (r : Rules). Leads r (state_of old) step (state_of new)) same makes.leads) in
     let within = step_within (account_of old) (row_in (account_of old) step) makes.tests in
@@ -132,11 +131,7 @@ step_on rules_are roots steps old new step reaches range makes =
         few_roots = runs.few_roots;
         few_granules = subst (λ (a : Account). a.granules ≤ most_granules rules_are) (sym makes.account ∙ after) few_new;
         few_steps = omega (arith, length-push steps step, few, old_few);
-        run = (
-          states ++ state_of new ∷ [],
-          IsRun-push rules_are (start roots) steps states step (state_of new) runs.run.1 leads_on,
-          last_of-push (start roots) states (state_of new) ∙ ap (λ (a : Account). a.state) after,
-        );
+        run = (states ++ state_of new ∷ [], IsRun-push rules_are (start roots) steps states step (state_of new) runs.run.1 leads_on);
       };
       account = after;
       roots_are = naming_roots old new step makes ∙ reaches.roots_are;
@@ -156,26 +151,20 @@ pub step_ended : (old new : Held) (step : steps_module.Step) (end : StepEnd) →
 step_ended old new step (Refused refusal) ends = ends.0
 step_ended old new step NoMemory ends = (ends.0, ends.1)
 
-no_states : (rules_are : Rules) (state : State) (states : List State) → IsRun rules_are state [] states → states ≡ []
-no_states rules_are state [] run = refl
-no_states rules_are state (next ∷ states) run = absurd run
-
 -- the tests of a root that none refuses
 root_free : (account : Account) (place : Place) (word : Word) → first_of (root_tests account place word) ≡ None
-    → ((account.state (key_of place)).tag ≡ false) × IsSound word.0 × (nat_le most_roots account.roots ≡ false) × (passes_granule_limit account (granule_of place) ≡ false)
+    → ((account.state (key_of place)).tag ≡ false) × IsTrue (is_sound word.0) × (nat_le most_roots account.roots ≡ false) × (passes_granule_limit account (granule_of place) ≡ false)
 root_free account place word free =
     let none = none_hold (root_tests account place word) free in
-    let sound = and_parts _ _ (not-false _ none.1.0) in
     let last = or_parts _ _ none.1.1.0 in
-    (none.0, (eqb-true _ _ sound.0, leb-true _ _ sound.1), last.0, last.1)
+    (none.0, not-false _ none.1.0, last.0, last.1)
 
 -- a root goes on from roots
 root_on : (rules_are : Rules) (roots : List DeclaredRoot) (root : DeclaredRoot) (old new : Held) → Reaches old rules_are roots []
     → IsPlace root.place → root.word.0 < 2 ^ 128 → TakesRoot old root.place root.word new → Reaches new rules_are (roots ++ root ∷ []) []
 root_on rules_are roots root old new reaches place_range word_range declares =
     let runs = reaches.runs in
-    let states = runs.run.0 in
-    let began = ap (last_of (start roots)) (sym (no_states rules_are (start roots) states runs.run.1)) ∙ runs.run.2 in
+    let began = sym (roots_start rules_are roots runs.distinct) in
     let held_state = ap (λ (a : Account). a.state) reaches.account in
     let free = root_free (account_of old) root.place root.word declares.tests in
     let untaken = sym (tag-start roots root.place) ∙ ap (λ (s : State). (s (key_of root.place)).tag) (began ∙ sym held_state) ∙ free.0 in
@@ -187,18 +176,16 @@ root_on rules_are roots root old new reaches place_range word_range declares =
     let same = same_rules old rules_are roots [] reaches in
     let few_new = subst (λ (r : Rules). (with_root (account_of old) root.place root.word).granules ≤ most_granules r) same
     (naming_few (account_of old) (granule_of root.place) free.3 (few_held old rules_are roots [] reaches)) in
-    let at_start : (key : ℕ) → start (roots ++ root ∷ []) key ≡ put (account_after rules_are roots []).state (key_of root.place) (tagged root.word) key =
-    λ key. start-push roots root key untaken ∙ ap (λ (s : State). put s (key_of root.place) (tagged root.word) key) began in
     record {
       runs = record {
         grammar = subst (AllByRecursion IsInRange) (sym (roots_push rules_are roots root))
             (AllByRecursion-append IsInRange (body_lines rules_are roots []) (Root root.place root.word ∷ []) runs.grammar ((place_range, word_range), tt));
         distinct = subst (IsDistinct nat_eq) (sym (map-push (λ (r : DeclaredRoot). key_of r.place) roots root)) (IsDistinct-push (map (λ (r : DeclaredRoot). key_of r.place) roots) (key_of root.place) runs.distinct unlike);
-        sound = AllByRecursion-append (λ (r : DeclaredRoot). IsSound r.word.0) roots (root ∷ []) runs.sound (free.1, tt);
+        sound = AllByRecursion-append (λ (r : DeclaredRoot). IsTrue (is_sound r.word.0)) roots (root ∷ []) runs.sound (free.1, tt);
         few_roots = omega (arith, length-push roots root, few, old_few);
         few_granules = subst (λ (a : Account). a.granules ≤ most_granules rules_are) (sym declares.account ∙ after) few_new;
         few_steps = lit≤ tt;
-        run = ([], tt, fun_ext at_start ∙ sym (ap (λ (a : Account). a.state) push));
+        run = ([], tt);
       };
       account = after;
       roots_are = ap (λ (a : Account). a.roots) declares.account ∙ ap (λ n. n + 1) reaches.roots_are ∙ sym (length-push roots root);
@@ -237,7 +224,7 @@ no_roots rules_are = record {
   few_roots = lit≤ tt;
   few_granules = no_granules rules_are;
   few_steps = lit≤ tt;
-  run = ([], tt, refl);
+  run = ([], tt);
 }
 
 -- what a new machine holds stands for a header

@@ -31,6 +31,7 @@ use Rattle.capcheck.specs.Origins.{Origin, IsOrigin, AreOriginsOf}
 use Rattle.capcheck.specs.OriginLists.{place_of, listed, origins_from, held_lines, report_text}
 use Rattle.capcheck.specs.VerdictLines.{verdict_line}
 use Rattle.capcheck.specs.Reports.{Tells}
+use Rattle.capcheck.proofs.LogLemmas.{last_state}
 use Rattle.capcheck.proofs.JudgeLemmas.{are_sound, steps_in_range, behind_header}
 use Rattle.capcheck.proofs.OriginLemmas.{origins_from-zero, origins_from-suc, unput}
 
@@ -165,7 +166,7 @@ module _ (bytes : List ℕ) (held : Held) (is : IsHeld held) (to : LeadsTo bytes
       (steps_in_range to.roots to.steps (behind_header to.rules _ runs.grammar)) runs.run.1)
 
   last : last_of (start to.roots) to.log.runs.run.0 ≡ state_of held
-  last = to.log.runs.run.2 ∙ sym (ap (λ (a : Account). a.state) to.account)
+  last = last_state to.rules to.roots to.steps to.log.runs ∙ sym (ap (λ (a : Account). a.state) to.account)
 
   each : (key : ℕ) (root : Place) → 1 ≤ key → key < 1 + (31 + 2 ^ 60) → (account_of held).origin key ≡ Some root
       → IsOrigin to.roots to.steps to.log.runs.run.0 (record { place = place_of key; root = root })

@@ -318,12 +318,17 @@ few_at bytes reading rest line here =
 
 lack-more : (bytes more : List ℕ) → MayLackMemory bytes → MayLackMemory (bytes ++ more)
 lack-more bytes more lack = record {
-  beginning = lack.beginning;
+  rules = lack.rules;
+  roots = lack.roots;
+  steps = lack.steps;
   line = lack.line;
+  text = lack.text;
   more = lack.more ++ more;
   bytes_are = ap (λ (l : List ℕ). l ++ more) lack.bytes_are ∙ simp (append_assoc);
-  accepted = lack.accepted;
-  wants = lack.wants;
+  runs = lack.runs;
+  spelled = lack.spelled;
+  free = lack.free;
+  first = lack.first;
 }
 
 whole_verdict : (given rest : List ℕ) (ended : Bool) (verdict : Verdict) → (ended ≡ true → rest ≡ []) → IsVerdictOf given ended verdict

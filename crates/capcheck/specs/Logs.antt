@@ -2,7 +2,7 @@
 use Rattle.std.specs.Prelude.{◌≡◌, ◌≢◌, ℕ, ◌+◌, ◌≤◌, ◌==◌, Bool, true, false, not, nat_eq, nat_lt, ◌⊎◌, List, [], ◌∷◌, ◌++◌, length, map}
 use Rattle.std.specs.Prelude.{flat_map, Option, Some, None, IsTrue}
 use Rattle.std.specs.List.{AllByRecursion, IsDistinct}
-use Rattle.cap_bounds.specs.Bounds.{IsSound}
+use Rattle.cap_bounds.specs.Bounds.{is_sound}
 use Rattle.cap_log.specs.declared.lines.Line.{Line}
 use Rattle.cap_log.specs.declared.lines.Line.TheVariants.{Version, Mode, Root, Step, End}
 use Rattle.cap_log.specs.declared.lines.Mode as modes_module
@@ -20,7 +20,7 @@ use Rattle.cap_machine.specs.States.{State, DeclaredRoot, key_of, start}
 use Rattle.cap_machine.specs.Accounts.{Account, most_roots, most_granules, most_steps, granule_of, named_by, row_in, is_new}
 use Rattle.cap_machine.specs.Accounts.{root_tests, step_tests}
 pub use Rattle.cap_machine.specs.RunAccounts.{after_roots, after_steps, account_after}
-use Rattle.cap_machine.specs.Runs.{IsRun, last_of}
+use Rattle.cap_machine.specs.Runs.{IsRun}
 
 -- how a log begins: not at all; with the version line of version 2 and no mode line; with its header, roots and steps; or with all of
 -- these and its end line
@@ -52,16 +52,15 @@ abbrev pub text_of : List Line → List ℕ
 text_of lines = flat_map (λ line. spelling line ++ 10 ∷ []) lines
 
 -- roots and steps that keep to the grammar and the limits, with sound roots at distinct places, and whose steps have a run, by the
--- rules, from the state that the roots make, to the account's
+-- rules, from the state that the roots make
 pub record RunsBy (rules : Rules) (roots : List DeclaredRoot) (steps : List steps_module.Step) : Type 0 where
   pub grammar : AllByRecursion IsInRange (body_lines rules roots steps)
   pub distinct : IsDistinct nat_eq (map (λ root. key_of root.place) roots)
-  pub sound : AllByRecursion (λ root. IsSound root.word.0) roots
+  pub sound : AllByRecursion (λ root. IsTrue (is_sound root.word.0)) roots
   pub few_roots : length roots ≤ most_roots
   pub few_granules : (account_after rules roots steps).granules ≤ most_granules rules
   pub few_steps : length steps ≤ most_steps
   pub run : (states : List State) × IsRun rules (start roots) steps states
-      × (last_of (start roots) states ≡ (account_after rules roots steps).state)
 
 -- a beginning that is accepted
 abbrev pub IsAccepted : Beginning → Type 0
@@ -86,11 +85,10 @@ SpellsBy rules bytes line = Spells bytes line × IsTrue (has_form rules line)
 
 -- the tests of a line that has a form, in order, after a body with this account
 abbrev pub line_tests : Account → Line → List (Bool × Refusal)
-line_tests account (Version version) = (true, Misplaced) ∷ []
-line_tests account (Mode mode) = (true, Misplaced) ∷ []
 line_tests account (Root place word) = (nat_lt 0 account.steps, Misplaced) ∷ root_tests account place word
 line_tests account (Step step) = step_tests account step
 line_tests account (End count) = (not (count == account.steps), WrongCount) ∷ []
+line_tests account line = (true, Misplaced) ∷ []
 
 -- the granule that a line names: a root's, an sc's or a store's
 abbrev pub named_by_line : Account → Line → Option ℕ
@@ -126,25 +124,20 @@ pub record IsFirstFault (bytes : List ℕ) (number : ℕ) (refusal : Refusal) : 
   pub number_is : number ≡ length (lines_of beginning) + 1
   pub refused : Refuses beginning rest refusal
 
--- a line after a body that no test refuses, and that names a granule for the first time
-pub record NamesFirst (account : Account) (bytes : List ℕ) : Type 0 where
-  pub line : Line
-  pub spelled : SpellsBy account.rules bytes line
-  pub free : first_of (line_tests account line) ≡ None
-  pub first : IsTrue (is_new account (named_by_line account line))
-
-abbrev pub WantsMemory : Beginning → List ℕ → Type 0
-WantsMemory (Body rules roots steps) bytes = NamesFirst (account_after rules roots steps) bytes
-WantsMemory beginning bytes = ⊥
-
--- the whole lines before some line have a beginning that is accepted, and that line, free of refusals, names a granule for the first time
+-- the bytes are the text of a body whose steps have a run, a line that no test refuses then and that names a granule for the first
+-- time, and a rest
 pub record MayLackMemory (bytes : List ℕ) : Type 0 where
-  pub beginning : Beginning
-  pub line : List ℕ
+  pub rules : Rules
+  pub roots : List DeclaredRoot
+  pub steps : List steps_module.Step
+  pub line : Line
+  pub text : List ℕ
   pub more : List ℕ
-  pub bytes_are : bytes ≡ text_of (lines_of beginning) ++ line ++ 10 ∷ more
-  pub accepted : IsAccepted beginning
-  pub wants : WantsMemory beginning line
+  pub bytes_are : bytes ≡ text_of (body_lines rules roots steps) ++ text ++ 10 ∷ more
+  pub runs : RunsBy rules roots steps
+  pub spelled : SpellsBy rules text line
+  pub free : first_of (line_tests (account_after rules roots steps) line) ≡ None
+  pub first : IsTrue (is_new (account_after rules roots steps) (named_by_line (account_after rules roots steps) line))
 
 -- no line of the bytes, after whole lines in range, names a granule, whatever the account is
 abbrev pub NamesNoGranules : List ℕ → Type 0

@@ -9,12 +9,12 @@ use Rattle.cap_machine.specs.declared.ends.StepEnd.{StepEnd}
 use Rattle.cap_machine.specs.declared.ends.StepEnd.TheVariants.{Refused, NoMemory}
 use Rattle.cap_machine.specs.declared.rules.Rules.{Rules}
 use Rattle.cap_machine.specs.States.{DeclaredRoot}
-use Rattle.cap_machine.specs.Accounts.{is_new}
+use Rattle.cap_machine.specs.Accounts.{Account, is_new}
 use Rattle.cap_machine.specs.Helds.{Held, account_of, held_of}
 use Rattle.tagmem.specs.Granules.{Granules}
 use Rattle.capcheck.specs.declared.progress.Progress.{Progress}
 use Rattle.capcheck.specs.Logs.{Beginning, Nothing, NoMode, Body, Whole, SpellsBy, lines_of, text_of, account_after}
-use Rattle.capcheck.specs.Logs.{RunsBy, RefusesWhole, WantsMemory, line_tests, named_by_line}
+use Rattle.capcheck.specs.Logs.{RunsBy, RefusesWhole, line_tests, named_by_line}
 
 -- how far a log was read: what the machine holds, and whether the end line has come
 pub record Reading : Type 0 where
@@ -47,6 +47,18 @@ Takes old line new = (beginning : Beginning) → StandsFor old beginning
 -- the same of the line that these bytes spell
 abbrev pub GoesOn : Reading → List ℕ → Reading → Type 0
 GoesOn old text new = (line : Line) × SpellsBy old.held.rules text line × Takes old line new
+
+-- a line after a body that no test refuses, and that names a granule for the first time
+pub record NamesFirst (account : Account) (bytes : List ℕ) : Type 0 where
+  pub line : Line
+  pub spelled : SpellsBy account.rules bytes line
+  pub free : first_of (line_tests account line) ≡ None
+  pub first : IsTrue (is_new account (named_by_line account line))
+
+-- the line after a beginning is such a one
+abbrev pub WantsMemory : Beginning → List ℕ → Type 0
+WantsMemory (Body rules roots steps) bytes = NamesFirst (account_after rules roots steps) bytes
+WantsMemory beginning bytes = ⊥
 
 -- whatever beginning the progress stands for, it refuses this line, or the line names a granule for the first time
 abbrev pub EndsNext : Reading → List ℕ → StepEnd → Type 0
