@@ -4,8 +4,8 @@
 //! its definition says, or is refused for the first test that holds, and then nothing has changed. Every
 //! tagged word that a machine holds is sound. Only a granule named for the first time takes memory. Beside
 //! each capability it keeps the place of the root that it comes from: its origin. The laws
-//! [`steps_stay_within`], [`authority_never_grows`], [`accesses_lie_inside`] and [`origins_are_roots`] are of
-//! single steps and of whole runs.
+//! [`steps_stay_within`], [`authority_never_grows`], [`accesses_lie_inside`], [`runs_end_in_accounts`] and
+//! [`origins_are_roots`] are of single steps and of whole runs.
 #![tactic(auto)]
 
 mod accessing;
@@ -24,7 +24,7 @@ mod stepping;
 pub use crate::ends::StepEnd;
 pub use crate::laws::{
     accesses_lie_inside, authority_never_grows, origins_are_roots, origins_follow_descent,
-    steps_stay_within,
+    runs_end_in_accounts, steps_stay_within,
 };
 pub use crate::machine::{MOST_ROOTS, MOST_STEPS, Machine};
 pub use crate::refusal::Refusal;
