@@ -6,15 +6,15 @@ use Rattle.std.specs.Io.KnownBytes.{Keeps, Appends, Consumes}
 use Rattle.capcheck.specs.declared.faults.Fault.{Fault}
 use Rattle.capcheck.specs.declared.faults.Fault.TheVariants as faults
 use Rattle.capcheck.specs.declared.words.Order.TheVariants.{Judge}
-use Rattle.capcheck.specs.declared.verdict.Verdict.{Verdict}
-use Rattle.capcheck.specs.declared.verdict.Verdict.TheVariants.{Yes, No}
+use Rattle.cap_judge.specs.declared.verdict.Verdict.{Verdict}
+use Rattle.cap_judge.specs.declared.verdict.Verdict.TheVariants.{Yes, No}
 use Rattle.capcheck.specs.Answers.{Prints, known_bytes, verdict_status}
 use Rattle.capcheck.specs.Doings.{IsInputDone}
-use Rattle.capcheck.specs.Judgings.{IsAnswerOf, IsVerdictOf}
-use Rattle.capcheck.specs.Reports.{Tells}
+use Rattle.cap_judge.specs.Judgings.{IsAnswerOf, IsVerdictOf}
+use Rattle.cap_judge.specs.Reports.{Tells}
 use Rattle.capcheck.specs.Statuses.{status_of}
-use Rattle.capcheck.specs.Verdicts.{IsVerdict}
-use Rattle.capcheck.proofs.SourceLemmas.{of_all}
+use Rattle.cap_judge.specs.Verdicts.{IsVerdict}
+use Rattle.cap_judge.proofs.SourceLemmas.{of_all}
 
 -- a flush keeps what was written
 pub flushed : (a b c : Option (List ℕ)) (bytes : List ℕ) → Appends a b bytes → Keeps b c → Appends a c bytes

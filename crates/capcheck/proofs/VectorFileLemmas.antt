@@ -15,8 +15,8 @@ use Rattle.capcheck.specs.declared.faults.Fault.{Fault}
 use Rattle.capcheck.specs.Answers.{ShowsCheck, known_bytes}
 use Rattle.capcheck.specs.Vectors.{Vector, IsTrueVector, IsTrueLine, spelling}
 use Rattle.capcheck.specs.VectorFiles.{text_of, last_line, BeginsTrue, FailsWhole, FailsFirst, IsVectorVerdictOf, Checked}
-use Rattle.capcheck.proofs.LogLemmas.{AllByRecursion-append, length-push}
-use Rattle.capcheck.proofs.SourceLemmas.{IsLine-more, IsTooLong-more}
+use Rattle.cap_judge.proofs.LogLemmas.{AllByRecursion-append, length-push}
+use Rattle.cap_judge.proofs.SourceLemmas.{IsLine-more, IsTooLong-more}
 
 -- nothing was read
 pub begins_empty : BeginsTrue [] 0 []

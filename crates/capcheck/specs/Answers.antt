@@ -4,16 +4,16 @@ use Rattle.cap_bounds.specs.declared.rounding.Rounded.{Rounded}
 use Rattle.cap_bounds.specs.Rounding.{rounded_base, rounded_top, rounded_ie, rounded_exponent}
 use Rattle.capcheck.specs.declared.words.Order.{Order}
 use Rattle.capcheck.specs.declared.words.Order.TheVariants.{Explain, Round, Judge, Vectors}
-use Rattle.capcheck.specs.declared.verdict.Verdict.{Verdict}
-use Rattle.capcheck.specs.declared.verdict.Verdict.TheVariants.{Yes, No}
+use Rattle.cap_judge.specs.declared.verdict.Verdict.{Verdict}
+use Rattle.cap_judge.specs.declared.verdict.Verdict.TheVariants.{Yes, No}
 use Rattle.capcheck.specs.declared.vectors.VectorVerdict.{VectorVerdict}
 use Rattle.capcheck.specs.declared.vectors.VectorVerdict.TheVariants.{Pass, Fail}
 use Rattle.capcheck.specs.Operands.{SpellsWord, SpellsRequest}
 use Rattle.capcheck.specs.ExplainLines.{explain_lines}
 use Rattle.capcheck.specs.RoundLines.{round_lines}
 use Rattle.capcheck.specs.VectorFiles.{IsVectorVerdict, vector_line}
-use Rattle.capcheck.specs.Reports.{Tells}
-use Rattle.capcheck.specs.Verdicts.{IsVerdict}
+use Rattle.cap_judge.specs.Reports.{Tells}
+use Rattle.cap_judge.specs.Verdicts.{IsVerdict}
 
 -- the exit status of a verdict
 abbrev pub verdict_status : Verdict → ℕ

@@ -3,11 +3,11 @@ use Rattle.std.specs.Prelude.{◌≡◌, ℕ, Bool, true, List, [], take, Option
 use Rattle.std.specs.Io.KnownBytes.{Consumes, Appends}
 use Rattle.capcheck.specs.declared.faults.Fault.{Fault}
 use Rattle.capcheck.specs.declared.faults.Fault.TheVariants as faults
-use Rattle.capcheck.specs.declared.verdict.Verdict.{Verdict}
-use Rattle.capcheck.specs.declared.verdict.JudgeFault.TheVariants.{Pull, NoMemory}
+use Rattle.cap_judge.specs.declared.verdict.Verdict.{Verdict}
+use Rattle.cap_judge.specs.declared.verdict.JudgeFault.TheVariants.{Pull, NoMemory}
 use Rattle.capcheck.specs.Answers.{verdict_status}
-use Rattle.capcheck.specs.Judgings.{IsAnswerOf}
-use Rattle.capcheck.specs.Reports.{Tells}
+use Rattle.cap_judge.specs.Judgings.{IsAnswerOf}
+use Rattle.cap_judge.specs.Reports.{Tells}
 
 -- what was written for the bytes given, and the status or the fault
 abbrev pub IsWrittenFor : Bool → List ℕ → Bool → (List ℕ → Type 0) → Result ℕ Fault → Type 0

@@ -4,11 +4,11 @@ ghost use Rattle.std.specs.Prelude.{◌≡◌};
 ghost use Rattle.std.specs.Io.KnownBytes.{Appends};
 ghost use Rattle.capcheck.specs.Answers.{verdict_status};
 ghost use Rattle.capcheck.specs.Doings.{IsInputDone};
-ghost use Rattle.capcheck.specs.Reports.{Reported};
+ghost use Rattle.cap_judge.specs.Reports.{Reported};
 
 use crate::faults::Fault;
-use crate::reporting::{judge_origins, judge_to};
-use crate::verdict::{JudgeToFault, Verdict};
+use cap_judge::reporting::{judge_origins, judge_to};
+use cap_judge::verdict::{JudgeToFault, Verdict};
 use cap_log::{ReadSource, Source, WriteSink};
 use std::alloc::Global;
 use std::io::{Read, Write};

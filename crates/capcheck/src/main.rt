@@ -5,30 +5,21 @@
 mod checking;
 pub mod explain_lines;
 pub mod faults;
-mod fronts;
-pub mod headers;
 mod inputs;
-pub mod judging;
-pub mod laws;
-pub mod origin_lines;
-mod origins;
 mod outputs;
-mod progress;
-pub mod reporting;
 pub mod round_lines;
 pub mod running;
 #[cfg(test)]
 mod tests;
 mod text_lines;
 pub mod vectors;
-pub mod verdict;
-pub mod verdict_lines;
 pub mod words;
 
 use crate::faults::Fault;
 use crate::running::run;
 use crate::words::Order;
 use crate::words::reading::read_words;
+pub use cap_judge::{headers, judging, laws, origin_lines, reporting, verdict, verdict_lines};
 use std::alloc::AllocError;
 use std::env;
 use std::fs::File;

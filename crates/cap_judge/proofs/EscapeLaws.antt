@@ -1,0 +1,122 @@
+-- Which first faults are refused by BoundsEscape.
+use Rattle.std.proofs.Common.{◌≡◌, ◌↔◌, ℕ, inl, inr, Bool, true, false, List, [], ◌∷◌, refl, sym, ap, subst, ◌∙◌, Some}
+use Rattle.std.proofs.lemmas.Option.{same_Some}
+use Rattle.cap_log.specs.declared.lines.Line.{Line}
+use Rattle.cap_log.specs.declared.lines.Line.TheVariants as lines
+use Rattle.cap_log.specs.declared.lines.Step.{Step}
+use Rattle.cap_log.specs.Front.{IsLine}
+use Rattle.cap_log.proofs.FrontLemmas.{IsLine-same, IsLine-not_too_long, IsLine-not_cut}
+use Rattle.cap_log.proofs.SpellingLemmas.{one_spelling}
+use Rattle.cap_ops.specs.Tests.{first_of}
+use Rattle.cap_machine.specs.declared.refusal.Refusal.{Refusal}
+use Rattle.cap_machine.specs.declared.refusal.Refusal.TheVariants.{BoundsEscape, Misplaced, PlaceTaken, UnsoundRoot}
+use Rattle.cap_machine.specs.declared.refusal.Refusal.TheVariants.{LimitPassed, WrongCount}
+use Rattle.cap_machine.specs.declared.rules.Rules.{Rules}
+use Rattle.cap_machine.specs.States.{DeclaredRoot, start}
+use Rattle.cap_machine.specs.Accounts.{Account}
+use Rattle.cap_machine.specs.Parents.{IsSoundState}
+use Rattle.cap_machine.specs.Escapes.{Escapes}
+use Rattle.cap_machine.proofs.AuthorityLemmas.{sound_along, start_sound}
+use Rattle.cap_machine.proofs.EscapeLemmas.{escapes_first}
+use Rattle.cap_judge.specs.declared.verdict.Verdict.{Verdict}
+use Rattle.cap_judge.specs.declared.verdict.Verdict.TheVariants.{Yes, No}
+use Rattle.cap_judge.specs.Logs.{Beginning, Nothing, NoMode, Body, Whole, SpellsBy, account_after, line_tests}
+use Rattle.cap_judge.specs.Logs.{IsAccepted, RunsBy, RefusesLine, RefusesWhole, Refuses}
+use Rattle.cap_judge.specs.Verdicts.{EscapesExactly, FaultEscapes}
+use Rattle.cap_judge.proofs.LogLemmas.{last_state}
+use Rattle.cap_judge.proofs.JudgeLemmas.{are_sound, behind_header, steps_in_range}
+
+-- every tagged word of what accepted roots and steps lead to is sound
+account_sound : (rules_are : Rules) (roots : List DeclaredRoot) (steps : List Step) → RunsBy rules_are roots steps
+    → IsSoundState (account_after rules_are roots steps).state
+account_sound rules_are roots steps runs =
+    let run = runs.run in
+    subst IsSoundState (last_state rules_are roots steps runs)
+    (sound_along rules_are (start roots) steps run.0 (steps_in_range roots steps (behind_header rules_are _ runs.grammar)) (start_sound roots (are_sound roots runs.sound)) run.1)
+
+-- no other line is refused so
+no_root_test : (a b c d : Bool) → first_of ((a, Misplaced) ∷ (b, PlaceTaken) ∷ (c, UnsoundRoot) ∷ (d, LimitPassed) ∷ []) ≡ Some BoundsEscape
+    → ⊥
+no_root_test true b c d h = cc
+no_root_test false true c d h = cc
+no_root_test false false true d h = cc
+no_root_test false false false true h = cc
+no_root_test false false false false h = cc
+
+no_end_test : (a : Bool) → first_of ((a, WrongCount) ∷ []) ≡ Some BoundsEscape → ⊥
+no_end_test true h = cc
+no_end_test false h = cc
+
+-- a line whose first test that holds is that of bounds is such a step
+line_escapes : (account : Account) (line : Line) → IsSoundState account.state → (bytes : List ℕ) → SpellsBy account.rules bytes line
+    → first_of (line_tests account line) ≡ Some BoundsEscape
+    → (step : Step) × (line ≡ lines.Step step) × Escapes account.rules account.state step
+line_escapes account (lines.Version version) sound bytes spelled h = absurd cc
+line_escapes account (lines.Mode mode) sound bytes spelled h = absurd cc
+line_escapes account (lines.Root place word) sound bytes spelled h = absurd (no_root_test _ _ _ _ h)
+line_escapes account (lines.Step step) sound bytes spelled h = (step, refl, (escapes_first account step spelled.0.0 sound).0 h)
+line_escapes account (lines.End count) sound bytes spelled h = absurd (no_end_test _ h)
+
+-- what a whole line is refused for
+refused_escapes : (account : Account) (rest text more : List ℕ) (refusal : Refusal) → IsSoundState account.state → IsLine rest text more
+    → RefusesLine account text refusal → refusal ≡ BoundsEscape
+    → (bytes : List ℕ) × (after : List ℕ) × (step : Step) × IsLine rest bytes after × SpellsBy account.rules bytes (lines.Step step) × Escapes account.rules account.state step
+refused_escapes account rest text more refusal sound whole (inl none) h = absurd (let bad = none.1 in cc)
+refused_escapes account rest text more refusal sound whole (inr found) h =
+    let is = line_escapes account found.0 sound text found.1 (found.2 ∙ ap (λ (r : Refusal). Some r) h) in
+    (text, more, is.0, whole, subst (SpellsBy account.rules text) is.1 found.1, is.2)
+
+-- and what a step that asks for too much is refused for
+escape_refused : (account : Account) (text : List ℕ) (step : Step) (refusal : Refusal) → IsSoundState account.state
+    → SpellsBy account.rules text (lines.Step step)
+    → Escapes account.rules account.state step → RefusesLine account text refusal → refusal ≡ BoundsEscape
+escape_refused account text step refusal sound spelled escapes (inl none) = absurd (none.0 (lines.Step step) spelled)
+escape_refused account text step refusal sound spelled escapes (inr found) =
+    let same = one_spelling text found.0 (lines.Step step) found.1.0 spelled.0 in
+    let first = (escapes_first account step spelled.0.0 sound).1 escapes in
+    same_Some _ _ (sym found.2 ∙ ap (λ (line : Line). first_of (line_tests account line)) same ∙ first)
+
+body_escapes : (rules_are : Rules) (roots : List DeclaredRoot) (steps : List Step) (rest : List ℕ) (refusal : Refusal)
+    → RunsBy rules_are roots steps
+    → Refuses (Body rules_are roots steps) rest refusal → (refusal ≡ BoundsEscape) ↔ FaultEscapes (Body rules_are roots steps) rest
+body_escapes rules_are roots steps rest refusal runs (inl long) =
+    (λ h. absurd (let is = long.1 in cc), λ escapes. absurd (IsLine-not_too_long rest escapes.0 escapes.1 escapes.3 long.0))
+body_escapes rules_are roots steps rest refusal runs (inr (inl cut)) =
+    (λ h. absurd (let is = cut.1 in cc), λ escapes. absurd (IsLine-not_cut rest escapes.0 escapes.1 escapes.3 cut.0))
+body_escapes rules_are roots steps rest refusal runs (inr (inr line)) =
+    let account = account_after rules_are roots steps in
+    let sound = account_sound rules_are roots steps runs in (
+      λ h. refused_escapes account rest line.0 line.1 refusal sound line.2 line.3 h,
+      λ escapes.
+          let same = IsLine-same rest escapes.0 escapes.1 line.0 line.1 escapes.3 line.2 in
+          escape_refused account line.0 escapes.2 refusal sound (subst (λ (t : List ℕ). SpellsBy account.rules t (lines.Step escapes.2)) same.0 escapes.4) escapes.5 line.3,
+    )
+
+-- before the body, and after the end line, nothing is refused so
+front_never : (beginning : Beginning) (rest : List ℕ) (refusal : Refusal)
+    → ((text : List ℕ) → RefusesWhole beginning text refusal → refusal ≡ BoundsEscape → ⊥)
+    → Refuses beginning rest refusal → refusal ≡ BoundsEscape → ⊥
+front_never Nothing rest refusal whole (inl long) h = let is = long.1 in cc
+front_never Nothing rest refusal whole (inr (inl cut)) h = let is = cut.1 in cc
+front_never Nothing rest refusal whole (inr (inr line)) h = whole line.0 line.3 h
+front_never NoMode rest refusal whole (inl long) h = let is = long.1 in cc
+front_never NoMode rest refusal whole (inr (inl cut)) h = let is = cut.1 in cc
+front_never NoMode rest refusal whole (inr (inr line)) h = whole line.0 line.3 h
+front_never (Body rules_are roots steps) rest refusal whole (inl long) h = let is = long.1 in cc
+front_never (Body rules_are roots steps) rest refusal whole (inr (inl cut)) h = let is = cut.1 in cc
+front_never (Body rules_are roots steps) rest refusal whole (inr (inr line)) h = whole line.0 line.3 h
+front_never (Whole rules_are roots steps) rest refusal whole refused h = let is = refused.1 in cc
+
+fault_escapes : (beginning : Beginning) (rest : List ℕ) (refusal : Refusal) → IsAccepted beginning → Refuses beginning rest refusal
+    → (refusal ≡ BoundsEscape) ↔ FaultEscapes beginning rest
+fault_escapes Nothing rest refusal accepted refused =
+    (front_never Nothing rest refusal (λ text whole h. let is = whole.1 in cc) refused, λ none. absurd none)
+fault_escapes NoMode rest refusal accepted refused =
+    (front_never NoMode rest refusal (λ text whole h. let is = whole.1 in cc) refused, λ none. absurd none)
+fault_escapes (Body rules_are roots steps) rest refusal accepted refused = body_escapes rules_are roots steps rest refusal accepted refused
+fault_escapes (Whole rules_are roots steps) rest refusal accepted refused = (λ h. let is = refused.1 in cc, λ none. absurd none)
+
+-- every first fault is refused so exactly for such a step
+pub escapes_exactly : (bytes : List ℕ) (verdict : Verdict) → EscapesExactly bytes verdict
+escapes_exactly bytes (Yes steps roots) = tt
+escapes_exactly bytes (No line refusal) = λ fault. fault_escapes fault.beginning fault.rest refusal fault.accepted fault.refused

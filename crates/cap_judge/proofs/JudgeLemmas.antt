@@ -1,0 +1,248 @@
+-- Where the judge is, and what it may answer there.
+use Rattle.std.proofs.Common.{◌≡◌, ◌≢◌, ℕ, zero, suc, ◌+◌, true, false, List, [], ◌∷◌, ◌++◌, length, map, refl, sym, ap}
+use Rattle.std.proofs.Common.{subst, ◌∙◌, append-nil, append_assoc, arith, Result, Ok, Err, IsOk, IfOk, IfErr}
+use Rattle.std.specs.List.{AllByRecursion}
+use Rattle.std.proofs.lemmas.Grind.{flat_map-append}
+use Rattle.std.proofs.lemmas.Bool.{false≢true, and_parts, eqb-true, leb-true}
+use Rattle.std.proofs.lemmas.Option.{none-some}
+use Rattle.std.specs.Prelude.{Option, Some, None, IsTrue}
+use Rattle.cap_bounds.specs.Bounds.{IsSound, is_sound}
+use Rattle.cap_log.specs.declared.lines.Line.{Line}
+use Rattle.cap_log.specs.declared.lines.Line.TheVariants as lines
+use Rattle.cap_log.specs.declared.lines.Step.{Step}
+use Rattle.cap_log.specs.Lines.{spelling, IsInRange, IsStepInRange}
+use Rattle.cap_log.specs.Front.{FrontIs, IsLine}
+use Rattle.cap_machine.specs.declared.refusal.Refusal.{Refusal}
+use Rattle.cap_machine.specs.declared.refusal.Refusal.TheVariants.{LineTooLong, Misplaced, Truncated}
+use Rattle.cap_machine.specs.declared.ends.StepEnd.TheVariants.{NoMemory}
+use Rattle.cap_machine.specs.States.{State, DeclaredRoot, start}
+use Rattle.cap_machine.specs.declared.rules.Rules.{Rules}
+use Rattle.cap_machine.specs.declared.rules.Rules.TheVariants.{One, TwoStrict, TwoClear}
+use Rattle.cap_machine.specs.Accounts.{Account, is_new}
+use Rattle.cap_machine.specs.Runs.{AreSound, IsRun, AuthorityNeverGrows, AccessesLieInside}
+use Rattle.cap_machine.proofs.AccountLemmas.{account_after-grows}
+use Rattle.cap_judge.specs.declared.verdict.Verdict.{Verdict}
+use Rattle.cap_judge.specs.declared.verdict.Verdict.TheVariants.{Yes, No}
+use Rattle.cap_judge.specs.declared.verdict.JudgeFault.{JudgeFault}
+use Rattle.cap_judge.specs.declared.verdict.JudgeFault.TheVariants as faults
+use Rattle.cap_judge.specs.Logs.{Beginning, Nothing, NoMode, Body, Whole, header_lines, body_lines, lines_of, text_of, account_after}
+use Rattle.cap_judge.specs.Logs.{IsAccepted, SpellsBy, RefusesWhole, Refuses, IsFirstFault, MayLackMemory}
+use Rattle.cap_judge.specs.Logs.{NamesNoGranules, named_by_line}
+use Rattle.cap_judge.specs.Verdicts.{IsYes, IsGuarded, GuardsAuthority, IsFault}
+use Rattle.cap_judge.specs.Judgings.{IsBehind, LeadsTo}
+use Rattle.cap_judge.specs.Progresses.{Reading, StandsFor, GoesOn, WantsMemory, EndsNext, IsAt}
+use Rattle.cap_judge.proofs.LogLemmas.{length-push}
+
+-- one line more
+pub text_push : (lines : List Line) (line : Line) (rest : List ℕ)
+    → text_of (lines ++ line ∷ []) ++ rest ≡ text_of lines ++ (spelling line ++ 10 ∷ rest)
+text_push lines line rest =
+    let piece = λ (l : Line). spelling l ++ 10 ∷ [] in
+    ap (λ (text : List ℕ). text ++ rest) (flat_map-append piece lines (line ∷ []))
+    ∙ simp (append_assoc)
+
+pub goes_on : (bytes rest text more : List ℕ) (old new : Reading) (line : ℕ) → IsAt bytes old rest line → IsLine rest text more
+    → GoesOn old text new → IsAt bytes new more (line + 1)
+goes_on bytes rest text more old new line here whole on =
+    let next = on.2 here.beginning here.stands in
+    record {
+      beginning = next.0;
+      stands = next.1;
+      bytes_are =
+          here.bytes_are
+          ∙ ap (λ (r : List ℕ). text_of (lines_of here.beginning) ++ r) (whole.whole ∙ ap (λ (t : List ℕ). t ++ 10 ∷ more) on.1.0.1)
+          ∙ sym (text_push (lines_of here.beginning) on.0 more)
+          ∙ sym (ap (λ (ls : List Line). text_of ls ++ more) next.2);
+      line_is = omega (arith, here.line_is, ap length next.2, length-push (lines_of here.beginning) on.0);
+    }
+
+-- a beginning that goes on: it has no end line
+abbrev pub IsUnended : Beginning → Type 0
+IsUnended Nothing = Unit {0}
+IsUnended NoMode = Unit {0}
+IsUnended (Body rules_are roots steps) = Unit {0}
+IsUnended (Whole rules_are roots steps) = ⊥
+
+-- what the progress stands for is accepted
+accepted : (beginning : Beginning) (reading : Reading) → StandsFor reading beginning → IsAccepted beginning
+accepted Nothing reading stands = tt
+accepted NoMode reading stands = tt
+accepted (Body rules_are roots steps) reading stands = stands.1.runs
+accepted (Whole rules_are roots steps) reading stands = stands.1.runs
+
+unended : (beginning : Beginning) (reading : Reading) → StandsFor reading beginning → reading.ended ≡ false → IsUnended beginning
+unended Nothing reading stands is = tt
+unended NoMode reading stands is = tt
+unended (Body rules_are roots steps) reading stands is = tt
+unended (Whole rules_are roots steps) reading stands is = absurd (false≢true (sym is ∙ stands.0))
+
+pub behind : (bytes rest : List ℕ) (reading : Reading) (line : ℕ) (here : IsAt bytes reading rest line) → IsBehind bytes here.beginning rest
+behind bytes rest reading line here = record { bytes_are = here.bytes_are; accepted = accepted here.beginning reading here.stands }
+
+pub unended_here : (bytes rest : List ℕ) (reading : Reading) (line : ℕ) (here : IsAt bytes reading rest line) → reading.ended ≡ false
+    → IsUnended here.beginning
+unended_here bytes rest reading line here is = unended here.beginning reading here.stands is
+
+-- the front of what follows a beginning is refused
+abbrev pub RefusesFront : Beginning → List ℕ → Refusal → Type 0
+RefusesFront beginning rest refusal =
+    FrontIs rest (refusal ≡ LineTooLong) (refusal ≡ Truncated) (λ line. RefusesWhole beginning line refusal)
+
+-- the line behind a beginning can be refused by its front
+front_refused : (beginning : Beginning) (rest : List ℕ) (refusal : Refusal) → IsUnended beginning → RefusesFront beginning rest refusal
+    → Refuses beginning rest refusal
+front_refused Nothing rest refusal unended refused = refused
+front_refused NoMode rest refusal unended refused = refused
+front_refused (Body rules_are roots steps) rest refusal unended refused = refused
+front_refused (Whole rules_are roots steps) rest refusal unended refused = absurd unended
+
+pub refused_behind : (bytes rest : List ℕ) (beginning : Beginning) (line : ℕ) (refusal : Refusal) → IsBehind bytes beginning rest
+    → line ≡ length (lines_of beginning) + 1
+    → IsUnended beginning → RefusesFront beginning rest refusal → IsFirstFault bytes line refusal
+refused_behind bytes rest beginning line refusal here number unended refused = record {
+  beginning = beginning;
+  rest = rest;
+  bytes_are = here.bytes_are;
+  accepted = here.accepted;
+  number_is = number;
+  refused = front_refused beginning rest refusal unended refused;
+}
+
+-- a line that wants memory
+lacks : (bytes text more : List ℕ) (reading : Reading) (beginning : Beginning) → StandsFor reading beginning → WantsMemory beginning text
+    → bytes ≡ text_of (lines_of beginning) ++ text ++ 10 ∷ more → MayLackMemory bytes
+lacks bytes text more reading Nothing stands wants are = absurd wants
+lacks bytes text more reading NoMode stands wants are = absurd wants
+lacks bytes text more reading (Body rules_are roots steps) stands wants are = record {
+  rules = rules_are;
+  roots = roots;
+  steps = steps;
+  line = wants.line;
+  text = text;
+  more = more;
+  bytes_are = are;
+  runs = stands.1.runs;
+  spelled = subst (λ (r : Rules). SpellsBy r text wants.line) (account_after-grows rules_are roots steps).rules_stay wants.spelled;
+  free = wants.free;
+  first = wants.first;
+}
+lacks bytes text more reading (Whole rules_are roots steps) stands wants are = absurd wants
+
+pub wants_memory : (bytes rest text more : List ℕ) (reading : Reading) (line : ℕ) → IsAt bytes reading rest line
+    → IsLine rest text more → EndsNext reading text NoMemory → MayLackMemory bytes
+wants_memory bytes rest text more reading line here whole ends =
+    lacks bytes text more reading here.beginning here.stands (ends here.beginning here.stands)
+    (here.bytes_are ∙ ap (λ (r : List ℕ). text_of (lines_of here.beginning) ++ r) whole.whole
+    ∙ sym (append_assoc (text_of (lines_of here.beginning)) text (10 ∷ more)))
+
+-- a line that names no granule names none for the first time
+not_new : (account : Account) (granule : Option ℕ) → granule ≡ None → is_new account granule ≡ true → ⊥
+not_new account None none new = false≢true new
+not_new account (Some granule) none new = none-some granule (sym none)
+
+pub no_lack : (bytes : List ℕ) → NamesNoGranules bytes → MayLackMemory bytes → ⊥
+no_lack bytes none lack =
+    let account = account_after lack.rules lack.roots lack.steps in
+    let lines = body_lines lack.rules lack.roots lack.steps in
+    not_new account (named_by_line account lack.line)
+    (none lines lack.text lack.more lack.line account lack.runs.grammar lack.bytes_are lack.spelled.0) lack.first
+
+-- a log without lines that name granules has a verdict
+pub answered : (bytes : List ℕ) (result : Result Verdict JudgeFault) → IfErr result (IsFault bytes) → NamesNoGranules bytes → IsOk result
+answered bytes (Ok verdict) fault none = refl
+answered bytes (Err faults.Pull) fault none = absurd fault
+answered bytes (Err faults.NoMemory) fault none = absurd (no_lack bytes none fault)
+
+-- after the end line
+yes_by : (bytes : List ℕ) (reading : Reading) (beginning : Beginning) → StandsFor reading beginning → reading.ended ≡ true
+    → bytes ≡ text_of (lines_of beginning) ++ [] → IsYes bytes reading.held.steps reading.held.roots
+yes_by bytes reading Nothing stands ended are = absurd stands
+yes_by bytes reading NoMode stands ended are = absurd stands
+yes_by bytes reading (Body rules_are roots steps) stands ended are = absurd (false≢true (sym stands.0 ∙ ended))
+yes_by bytes reading (Whole rules_are roots steps) stands ended are = record {
+  rules = rules_are;
+  roots = roots;
+  steps = steps;
+  log = record { bytes_are = are ∙ append-nil _; runs = stands.1.runs };
+  step_count_is = stands.1.steps_are;
+  root_count_is = stands.1.roots_are;
+}
+
+pub yes : (bytes : List ℕ) (reading : Reading) (line : ℕ) → IsAt bytes reading [] line → reading.ended ≡ true
+    → IsYes bytes reading.held.steps reading.held.roots
+yes bytes reading line here ended = yes_by bytes reading here.beginning here.stands ended here.bytes_are
+
+leads_by : (bytes : List ℕ) (reading : Reading) (beginning : Beginning) → StandsFor reading beginning → reading.ended ≡ true
+    → bytes ≡ text_of (lines_of beginning) ++ [] → LeadsTo bytes reading.held
+leads_by bytes reading Nothing stands ended are = absurd stands
+leads_by bytes reading NoMode stands ended are = absurd stands
+leads_by bytes reading (Body rules_are roots steps) stands ended are = absurd (false≢true (sym stands.0 ∙ ended))
+leads_by bytes reading (Whole rules_are roots steps) stands ended are = record {
+  rules = rules_are;
+  roots = roots;
+  steps = steps;
+  log = record { bytes_are = are ∙ append-nil _; runs = stands.1.runs };
+  account = stands.1.account;
+}
+
+pub leads : (bytes : List ℕ) (reading : Reading) (line : ℕ) → IsAt bytes reading [] line → reading.ended ≡ true → LeadsTo bytes reading.held
+leads bytes reading line here ended = leads_by bytes reading here.beginning here.stands ended here.bytes_are
+
+misplaced_by : (beginning : Beginning) (reading : Reading) (rest : List ℕ) → StandsFor reading beginning → reading.ended ≡ true → rest ≢ []
+    → Refuses beginning rest Misplaced
+misplaced_by Nothing reading rest stands ended more = absurd stands
+misplaced_by NoMode reading rest stands ended more = absurd stands
+misplaced_by (Body rules_are roots steps) reading rest stands ended more = absurd (false≢true (sym stands.0 ∙ ended))
+misplaced_by (Whole rules_are roots steps) reading rest stands ended more = (more, refl)
+
+pub misplaced : (bytes rest : List ℕ) (reading : Reading) (line : ℕ) → IsAt bytes reading rest line → reading.ended ≡ true → rest ≢ []
+    → IsFirstFault bytes line Misplaced
+misplaced bytes rest reading line here ended more = record {
+  beginning = here.beginning;
+  rest = rest;
+  bytes_are = here.bytes_are;
+  accepted = accepted here.beginning reading here.stands;
+  number_is = here.line_is;
+  refused = misplaced_by here.beginning reading rest here.stands ended more;
+}
+
+-- the steps of lines in range are in range
+pub steps_in_range : (roots : List DeclaredRoot) (made : List Step)
+    → AllByRecursion IsInRange (map (λ (root : DeclaredRoot). lines.Root root.place root.word) roots ++ map lines.Step made)
+    → AllByRecursion IsStepInRange made
+steps_in_range [] [] h = tt
+steps_in_range [] (step ∷ made) h = (h.0, steps_in_range [] made h.1)
+steps_in_range (root ∷ roots) made h = steps_in_range roots made h.1
+
+-- sound roots, one by one
+pub are_sound : (roots : List DeclaredRoot) → AllByRecursion (λ (root : DeclaredRoot). IsTrue (is_sound root.word.0)) roots → AreSound roots
+are_sound [] all root there = absurd (omega (arith, there.1))
+are_sound (first ∷ roots) all root (zero, below, is) =
+    let parts = and_parts _ _ all.0 in subst (λ (r : DeclaredRoot). IsSound r.word.0) is (eqb-true _ _ parts.0, leb-true _ _ parts.1)
+are_sound (first ∷ roots) all root (suc index, below, is) = are_sound roots all.1 root (index, omega arith, is)
+
+-- what holds of each line of a log holds of those behind its header
+pub behind_header : (rules_are : Rules) (lines : List Line) → AllByRecursion IsInRange (header_lines rules_are ++ lines)
+    → AllByRecursion IsInRange lines
+behind_header One lines all = all.1
+behind_header TwoStrict lines all = all.1.1
+behind_header TwoClear lines all = all.1.1
+
+-- every log is guarded, by the machine's laws of runs
+pub guarded : ((rules_are : Rules) (roots : List DeclaredRoot) (made : List Step) (states : List State) → AreSound roots → AllByRecursion IsStepInRange made → IsRun rules_are (start roots) made states
+    → AuthorityNeverGrows roots made states)
+    → ((rules_are : Rules) (roots : List DeclaredRoot) (made : List Step) (states : List State) → AreSound roots → AllByRecursion IsStepInRange made → IsRun rules_are (start roots) made states
+    → AccessesLieInside roots made states)
+    → (bytes : List ℕ) → IsGuarded bytes
+guarded grows inside bytes rules_are roots made states log run =
+    let sound = are_sound roots log.runs.sound in
+    let in_range = steps_in_range roots made (behind_header rules_are _ log.runs.grammar) in
+    (grows rules_are roots made states sound in_range run, inside rules_are roots made states sound in_range run)
+
+pub guards : (bytes : List ℕ) → IsGuarded bytes → (verdict : Verdict) → GuardsAuthority bytes verdict
+guards bytes all (Yes steps roots) = all
+guards bytes all (No line refusal) = tt
+
+pub guards_all : (bytes : List ℕ) → IsGuarded bytes → (result : Result Verdict JudgeFault) → IfOk result (GuardsAuthority bytes)
+guards_all bytes all (Ok verdict) = guards bytes all verdict
+guards_all bytes all (Err fault) = tt

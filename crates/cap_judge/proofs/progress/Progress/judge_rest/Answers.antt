@@ -1,0 +1,106 @@
+use Rattle.std.proofs.Common.{◌+◌, Ok, refl, ap, sym, subst, ◌∙◌, rules, arith}
+use Rattle.cap_machine.specs.Helds.{held_of}
+use Rattle.cap_log.specs.Takings.{kept}
+use Rattle.cap_machine.specs.declared.refusal.Refusal.TheVariants.{Truncated, LineTooLong}
+use Rattle.cap_judge.specs.Judgings.{JudgedBy}
+use Rattle.cap_judge.specs.Progresses.{HasRead, reading_of}
+use Rattle.cap_judge.proofs.JudgeLemmas.{goes_on}
+use Rattle.cap_judge.proofs.SourceLemmas.{meets_at, at_met, pulled, finished_at, truncated_at, too_long_at, after_end}
+use Rattle.cap_judge.proofs.SourceLemmas.{line_ended, few_at, over_after, later_read, judged_no, no_refused, no_answer}
+use Rattle.cap_judge.proofs.progress.Progress.judge_rest.Goals as goal
+
+pub lines-init : goal.lines-init
+lines-init g c =
+    record {
+      here = λ begun was. was;
+      counted = refl;
+      more = c.requires.more;
+      few = let was = c.requires.here.1 in let some = few_at was.0 _ _ _ was.2 in omega arith;
+    }
+
+pub returns-in-Err-next-clause-judged : goal.returns-in-Err-next-clause-judged
+returns-in-Err-next-clause-judged g c = λ begun was.
+    let reading = reading_of g.M.TaggedStore.contents c.take_kept.new.self in
+    let here = later_read g.S.Source.gave begun c.lines.source _ _ _ _ _ _ c.in-Ok.ensures.ok (c.lines.invariant.here begun was) in
+    let m = meets_at g.S.Source.gave g.S.Source.ended begun c.lines.source c.next.new.source reading c.in-Ok.next _ _ _ _
+    g.met.S.Source.joined here (c.next.follows.holds-at-none.0 (c.take_kept.ensures.over ∙ c.lines.invariant.more)) (c.in-Err-next.is) in
+    judged_no g.S.Source.gave g.S.Source.ended begun c.next.new.source reading.held _ _ refl tt (pulled here.2.beginning c.in-Ok.next m)
+
+pub returns-in-Ok-Finished-clause-judged : goal.returns-in-Ok-Finished-clause-judged
+returns-in-Ok-Finished-clause-judged g c = λ begun was.
+    let reading = reading_of g.M.TaggedStore.contents c.take_kept.new.self in
+    let here = later_read g.S.Source.gave begun c.lines.source _ _ _ _ _ _ c.in-Ok.ensures.ok (c.lines.invariant.here begun was) in
+    let m = meets_at g.S.Source.gave g.S.Source.ended begun c.lines.source c.next.new.source reading c.in-Ok.next _ _ _ _
+    g.met.S.Source.joined here (c.next.follows.holds-at-none.0 (c.take_kept.ensures.over ∙ c.lines.invariant.more)) (c.in-Ok-Finished.is ∙ ap Ok c.in-Ok-Finished.field-0-is) in
+    subst (λ r. JudgedBy g.S.Source.gave g.S.Source.ended begun c.next.new.source r reading.held) (sym (ap Ok c.finished_verdict.ensures)) (finished_at here.0 _ reading c.in-Ok.next c.take_kept.new.self.ended refl here.2 m)
+
+pub returns-in-Ok-Truncated-clause-judged : goal.returns-in-Ok-Truncated-clause-judged
+returns-in-Ok-Truncated-clause-judged g c = λ begun was.
+    let reading = reading_of g.M.TaggedStore.contents c.take_kept.new.self in
+    let here = later_read g.S.Source.gave begun c.lines.source _ _ _ _ _ _ c.in-Ok.ensures.ok (c.lines.invariant.here begun was) in
+    let m = meets_at g.S.Source.gave g.S.Source.ended begun c.lines.source c.next.new.source reading c.in-Ok.next _ _ _ _
+    g.met.S.Source.joined here (c.next.follows.holds-at-none.0 (c.take_kept.ensures.over ∙ c.lines.invariant.more)) (c.in-Ok-Truncated.is ∙ ap Ok c.in-Ok-Truncated.field-0-is) in
+    judged_no g.S.Source.gave g.S.Source.ended begun c.next.new.source reading.held _ _ (ap Ok c.refused.ensures) (no_refused c.in-Ok.next c.take_kept.new.self.ended Truncated) (truncated_at here.0 _ reading c.in-Ok.next c.take_kept.new.self.ended refl here.2 m)
+
+pub returns-in-Ok-LineTooLong-clause-judged : goal.returns-in-Ok-LineTooLong-clause-judged
+returns-in-Ok-LineTooLong-clause-judged g c = λ begun was.
+    let reading = reading_of g.M.TaggedStore.contents c.take_kept.new.self in
+    let here = later_read g.S.Source.gave begun c.lines.source _ _ _ _ _ _ c.in-Ok.ensures.ok (c.lines.invariant.here begun was) in
+    let m = meets_at g.S.Source.gave g.S.Source.ended begun c.lines.source c.next.new.source reading c.in-Ok.next _ _ _ _
+    g.met.S.Source.joined here (c.next.follows.holds-at-none.0 (c.take_kept.ensures.over ∙ c.lines.invariant.more)) (c.in-Ok-LineTooLong.is ∙ ap Ok c.in-Ok-LineTooLong.field-0-is) in
+    judged_no g.S.Source.gave g.S.Source.ended begun c.next.new.source reading.held _ _ (ap Ok c.refused-in-Ok-LineTooLong.ensures) (no_refused c.in-Ok.next c.take_kept.new.self.ended LineTooLong) (too_long_at here.0 _ reading c.in-Ok.next c.take_kept.new.self.ended refl here.2 m)
+
+pub returns-then-self-clause-judged : goal.returns-then-self-clause-judged
+returns-then-self-clause-judged g c = λ begun was.
+    let reading = reading_of g.M.TaggedStore.contents c.take_kept.new.self in
+    let here = later_read g.S.Source.gave begun c.lines.source _ _ _ _ _ _ c.in-Ok.ensures.ok (c.lines.invariant.here begun was) in
+    let m = meets_at g.S.Source.gave g.S.Source.ended begun c.lines.source c.next.new.source reading c.in-Ok.next _ _ _ _
+    g.met.S.Source.joined here (c.next.follows.holds-at-none.0 (c.take_kept.ensures.over ∙ c.lines.invariant.more)) (c.in-Ok-Line.is ∙ ap Ok c.in-Ok-Line.field-0-is) in
+    judged_no g.S.Source.gave g.S.Source.ended begun c.next.new.source reading.held _ _ (ap Ok c.refused-then-self.ensures) tt (after_end here.0 _ reading c.in-Ok.next c.in-Ok-Line.text here.2 m c.if-self.true)
+
+pub returns-in-Err-take_line-clause-judged : goal.returns-in-Err-take_line-clause-judged
+returns-in-Err-take_line-clause-judged g c = λ begun was.
+    let reading = reading_of g.M.TaggedStore.contents c.take_kept.new.self in
+    let here = later_read g.S.Source.gave begun c.lines.source _ _ _ _ _ _ c.in-Ok.ensures.ok (c.lines.invariant.here begun was) in
+    let m = meets_at g.S.Source.gave g.S.Source.ended begun c.lines.source c.next.new.source reading c.in-Ok.next _ _ _ _
+    g.met.S.Source.joined here (c.next.follows.holds-at-none.0 (c.take_kept.ensures.over ∙ c.lines.invariant.more)) (c.in-Ok-Line.is ∙ ap Ok c.in-Ok-Line.field-0-is) in
+    judged_no g.S.Source.gave g.S.Source.ended begun c.next.new.source (held_of g.M.TaggedStore.contents c.take_line.new.self.machine) _ _ c.answer_at.ensures
+    (no_answer c.in-Ok.next c.in-Err-take_line.end)
+    (line_ended here.0 _ reading c.in-Ok.next c.in-Ok-Line.text c.in-Err-take_line.end here.2 m c.if-self.false c.in-Err-take_line.ensures.err)
+
+pub lines-preserved : goal.lines-preserved
+lines-preserved g c =
+    let reading = reading_of g.M.TaggedStore.contents c.take_kept.new.self in
+    let next = reading_of g.M.TaggedStore.contents c.take_line.new.self in
+    let taken = c.next.follows.holds-at-none.0 (c.take_kept.ensures.over ∙ c.lines.invariant.more) in
+    let is = c.in-Ok-Line.is ∙ ap Ok c.in-Ok-Line.field-0-is in
+    let after : (begun : _) → HasRead g.S.Source.gave begun c.args.source.now (reading_of g.M.TaggedStore.contents c.args.self.now) (kept c.args.lines.now) c.args.first
+    → HasRead g.S.Source.gave begun c.next.new.source next (kept c.next.follows.lender-at-none) (c.in-Ok.next + 1) = λ begun was.
+    let here = later_read g.S.Source.gave begun c.lines.source _ _ _ _ _ _ c.in-Ok.ensures.ok (c.lines.invariant.here begun was) in
+    let m = meets_at g.S.Source.gave g.S.Source.ended begun c.lines.source c.next.new.source reading c.in-Ok.next _ _ _ _ g.met.S.Source.joined here taken is in
+    let before = at_met here.0 _ reading c.in-Ok.next here.2 m in
+    (m.given, m.gives, goes_on m.given m.rest c.in-Ok-Line.text.now _ reading next c.in-Ok.next before m.next.0 c.in_default.ensures.ok) in
+    record {
+      here = after;
+      counted = search rules;
+      more = over_after taken is;
+      few = let now = after c.requires.here.0 c.requires.here.1 in let some = few_at now.0 _ _ _ now.2 in omega arith;
+    }
+
+pub take_kept-requires : goal.take_kept-requires
+take_kept-requires g c = let was = c.lines.invariant.here c.requires.here.0 c.requires.here.1 in record { here = (was.0, was.2) }
+
+-- an answer on a line that is kept
+pub returns-in-Err-clause-judged : goal.returns-in-Err-clause-judged
+returns-in-Err-clause-judged g c = λ begun was.
+    let here = c.lines.invariant.here begun was in
+    judged_no g.S.Source.gave g.S.Source.ended begun c.lines.source (held_of g.M.TaggedStore.contents c.take_kept.new.self.machine) _ _ refl c.in-Err.ensures.err.0
+    (record { given = here.0; gives = here.1; answer = c.in-Err.ensures.err.1 here.0 (g.S.Source.ended c.lines.source) here.2 })
+
+pub returns-in-Err-clause-fault_counted : goal.returns-in-Err-clause-fault_counted
+returns-in-Err-clause-fault_counted g c = λ pull. absurd (c.in-Err.ensures.no_pull pull)
+
+pub overflow_add-line : goal.overflow_add-line
+overflow_add-line g c =
+    let was = later_read g.S.Source.gave c.requires.here.0 c.lines.source _ _ _ _ _ _ c.in-Ok.ensures.ok (c.lines.invariant.here c.requires.here.0 c.requires.here.1) in
+    let some = few_at was.0 _ _ _ was.2 in omega arith

@@ -1,0 +1,94 @@
+-- The answer on the bytes that a source gave (this profile's own, as are all below).
+use Rattle.std.specs.Prelude.{◌≡◌, ◌≢◌, ℕ, Bool, true, false, if◌then◌else◌, List, ◌++◌, Result, Ok, Err, IfOk, IfErr}
+use Rattle.cap_log.specs.Front.{IsCut}
+use Rattle.cap_machine.specs.declared.refusal.Refusal.{Refusal}
+use Rattle.cap_machine.specs.declared.refusal.Refusal.TheVariants.{Misplaced, Truncated}
+use Rattle.cap_log.specs.declared.lines.Step.{Step}
+use Rattle.cap_machine.specs.declared.rules.Rules.{Rules}
+use Rattle.cap_machine.specs.States.{DeclaredRoot}
+use Rattle.cap_machine.specs.Helds.{Held, account_of}
+use Rattle.cap_judge.specs.declared.verdict.Verdict.{Verdict}
+use Rattle.cap_judge.specs.declared.verdict.Verdict.TheVariants.{Yes, No}
+use Rattle.cap_judge.specs.declared.verdict.JudgeFault.{JudgeFault}
+use Rattle.cap_judge.specs.declared.verdict.JudgeFault.TheVariants.{Pull, NoMemory}
+use Rattle.cap_judge.specs.Logs.{Beginning, lines_of, text_of, account_after, IsAccepted, IsLogOf}
+use Rattle.cap_judge.specs.Logs.{IsFirstFault, MayLackMemory, NamesNoGranules}
+use Rattle.cap_judge.specs.Progresses.{IsAt, Reading}
+use Rattle.cap_judge.specs.Verdicts.{IsVerdict, EscapesExactly, GuardsAuthority}
+
+-- the verdict on these bytes, where their source has ended; where it has not, a no that stands whatever bytes follow
+abbrev pub IsVerdictOf : List ℕ → Bool → Verdict → Type 0
+IsVerdictOf bytes true verdict = IsVerdict bytes verdict
+IsVerdictOf bytes false (Yes steps roots) = ⊥
+IsVerdictOf bytes false (No line refusal) = (more : List ℕ) → IsFirstFault (bytes ++ more) line refusal
+
+-- the bytes are the text of a beginning that is accepted, and a rest
+pub record IsBehind (bytes : List ℕ) (beginning : Beginning) (rest : List ℕ) : Type 0 where
+  pub bytes_are : bytes ≡ text_of (lines_of beginning) ++ rest
+  pub accepted : IsAccepted beginning
+
+-- the whole lines begin a log whose steps have a run, and less than a line follows them
+pub record BeginsLog (bytes : List ℕ) : Type 0 where
+  pub beginning : Beginning
+  pub rest : List ℕ
+  pub behind : IsBehind bytes beginning rest
+  pub cut : IsCut rest
+
+-- why there is no verdict: the source failed behind whole lines that begin a log, or the memory for a granule that a line names for the
+-- first time was refused
+abbrev pub IsFaultOf : List ℕ → JudgeFault → Type 0
+IsFaultOf bytes Pull = BeginsLog bytes
+IsFaultOf bytes NoMemory = MayLackMemory bytes
+
+-- what an answer says of the bytes given, and of whether their source has ended
+pub record IsAnswerOf (bytes : List ℕ) (ended : Bool) (result : Result Verdict JudgeFault) : Type 0 where
+  pub verdict : IfOk result (IsVerdictOf bytes ended)
+  pub authority : IfOk result (GuardsAuthority bytes)
+  pub escape : IfOk result (λ verdict. (more : List ℕ) → EscapesExactly (bytes ++ more) verdict)
+  pub fault : IfErr result (IsFaultOf bytes)
+  pub answers : NamesNoGranules bytes → result ≢ Err NoMemory
+
+-- an answer is that of the bytes that the source gave in the call
+pub record Judged {S : Type 0} (gave : S → S → List ℕ → Type 0) (ended : S → Bool) (old new : S)
+    (result : Result Verdict JudgeFault) : Type 0 where
+  pub given : List ℕ
+  pub gives : gave old new given
+  pub answer : IsAnswerOf given (ended new) result
+
+-- the bytes are a log, and its roots and steps lead to what a machine holds
+pub record LeadsTo (bytes : List ℕ) (held : Held) : Type 0 where
+  pub rules : Rules
+  pub roots : List DeclaredRoot
+  pub steps : List Step
+  pub log : IsLogOf bytes rules roots steps
+  pub account : account_of held ≡ account_after rules roots steps
+
+-- after a yes, they do
+abbrev pub LeadsAfter : List ℕ → Held → Verdict → Type 0
+LeadsAfter bytes held (Yes steps roots) = LeadsTo bytes held
+LeadsAfter bytes held (No line refusal) = Unit {0}
+
+-- an answer with what the machine of the judge holds then
+pub record JudgedBy {S : Type 0} (gave : S → S → List ℕ → Type 0) (ended : S → Bool) (old new : S)
+    (result : Result Verdict JudgeFault) (held : Held) : Type 0 where
+  pub judged : Judged gave ended old new result
+  pub leads : IfOk result (LeadsAfter judged.given held)
+
+-- an answer without a yes
+abbrev pub IsNoYes : Result Verdict JudgeFault → Type 0
+IsNoYes (Ok (Yes steps roots)) = ⊥
+IsNoYes (Ok (No line refusal)) = Unit {0}
+IsNoYes (Err fault) = Unit {0}
+
+-- the verdict on a line at fault: after the end line it is misplaced, whatever it is
+abbrev pub refusal_in : ℕ → Bool → Refusal → Verdict
+refusal_in line false refusal = No line refusal
+refusal_in line true refusal = No line Misplaced
+
+-- the verdict where the bytes end at a line's start: a yes after the end line
+abbrev pub finished : Reading → ℕ → Verdict
+finished reading line = if reading.ended then Yes reading.held.steps reading.held.roots else No line Truncated
+
+-- wherever the judge was at the line that these bytes begin with, its answer is this one, whether their source has ended or not
+abbrev pub AnswersAt : Reading → List ℕ → ℕ → Result Verdict JudgeFault → Type 0
+AnswersAt reading kept line answer = (given : List ℕ) (ended : Bool) → IsAt given reading kept line → IsAnswerOf given ended answer

@@ -1,0 +1,10 @@
+pub mod Logs
+pub mod Headers
+pub mod Progresses
+pub mod VerdictLines
+pub mod OriginLines
+pub mod Verdicts
+pub mod Judgings
+pub mod Origins
+pub mod OriginLists
+pub mod Reports

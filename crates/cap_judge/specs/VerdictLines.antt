@@ -1,0 +1,11 @@
+-- The line of a verdict.
+use Rattle.std.specs.Prelude.{ℕ, List, ◌++◌, codes, decimal}
+use Rattle.cap_judge.specs.declared.verdict.Verdict.{Verdict}
+use Rattle.cap_judge.specs.declared.verdict.Verdict.TheVariants.{Yes, No}
+use Rattle.cap_machine.specs.Refusals.{refusal_number, name_of}
+
+-- the verdict in words and decimal numbers, with its line feed (this profile's own)
+abbrev pub verdict_line : Verdict → List ℕ
+verdict_line (Yes steps roots) = codes "yes " ++ decimal steps ++ codes " " ++ decimal roots ++ codes "\n"
+verdict_line (No line refusal) =
+    codes "no " ++ decimal line ++ codes " " ++ decimal (refusal_number refusal) ++ codes " " ++ name_of refusal ++ codes "\n"

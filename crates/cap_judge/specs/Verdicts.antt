@@ -1,0 +1,85 @@
+-- The verdict on some bytes.
+use Rattle.std.specs.Prelude.{◌≡◌, ◌≢◌, ◌↔◌, ℕ, List, ◌++◌, length, codes, Result, Ok, Err}
+use Rattle.cap_machine.specs.declared.ends.StepEnd.{StepEnd}
+use Rattle.cap_machine.specs.declared.ends.StepEnd.TheVariants.{Refused}
+use Rattle.cap_machine.specs.declared.ends.StepEnd.TheVariants as ends
+use Rattle.cap_log.specs.declared.lines.Line.TheVariants.{Step as Stepping}
+use Rattle.cap_log.specs.declared.lines.Step.{Step}
+use Rattle.cap_log.specs.Front.{IsLine}
+use Rattle.cap_machine.specs.declared.refusal.Refusal.TheVariants.{BoundsEscape}
+use Rattle.cap_machine.specs.Escapes.{Escapes}
+use Rattle.cap_machine.specs.declared.rules.Rules.{Rules}
+use Rattle.cap_machine.specs.declared.rules.Rules.TheVariants.{One}
+use Rattle.cap_machine.specs.States.{State, DeclaredRoot, start}
+use Rattle.cap_machine.specs.Runs.{IsRun, AuthorityNeverGrows, AccessesLieInside}
+use Rattle.cap_judge.specs.declared.verdict.Verdict.{Verdict}
+use Rattle.cap_judge.specs.declared.verdict.Verdict.TheVariants.{Yes, No}
+use Rattle.cap_judge.specs.declared.verdict.JudgeFault.{JudgeFault}
+use Rattle.cap_judge.specs.declared.verdict.JudgeFault.TheVariants.{Pull, NoMemory}
+use Rattle.cap_judge.specs.Logs.{Beginning, Nothing, NoMode, Body, Whole, SpellsBy, account_after, IsLogOf, IsFirstFault, MayLackMemory}
+
+-- the bytes are a log of so many steps and roots, whose steps have a run
+pub record IsYes (bytes : List ℕ) (step_count root_count : ℕ) : Type 0 where
+  pub rules : Rules
+  pub roots : List DeclaredRoot
+  pub steps : List Step
+  pub log : IsLogOf bytes rules roots steps
+  pub step_count_is : step_count ≡ length steps
+  pub root_count_is : root_count ≡ length roots
+
+-- yes for a log whose steps have a run, with its numbers, and otherwise no with the first fault (this profile's own)
+abbrev pub IsVerdict : List ℕ → Verdict → Type 0
+IsVerdict bytes (Yes steps roots) = IsYes bytes steps roots
+IsVerdict bytes (No line refusal) = IsFirstFault bytes line refusal
+
+-- along every run that the bytes as a log have, authority never grows and each access lies inside its root (this profile's own)
+abbrev pub IsGuarded : List ℕ → Type 0
+IsGuarded bytes = (rules : Rules) (roots : List DeclaredRoot) (steps : List Step) (states : List State) → IsLogOf bytes rules roots steps
+    → IsRun rules (start roots) steps states → AuthorityNeverGrows roots steps states × AccessesLieInside roots steps states
+
+-- after a yes: what the bytes are a log of is guarded
+abbrev pub GuardsAuthority : List ℕ → Verdict → Type 0
+GuardsAuthority bytes (Yes steps roots) = IsGuarded bytes
+GuardsAuthority bytes (No line refusal) = Unit {0}
+
+-- why there is no verdict: the memory for a granule that a line names for the first time was refused
+abbrev pub IsFault : List ℕ → JudgeFault → Type 0
+IsFault bytes Pull = ⊥
+IsFault bytes NoMemory = MayLackMemory bytes
+
+-- what a line that the machine does not take makes the answer
+abbrev pub answer_at : ℕ → StepEnd → Result Verdict JudgeFault
+answer_at line (Refused refusal) = Ok (No line refusal)
+answer_at line ends.NoMemory = Err NoMemory
+
+-- bytes that do not begin with the line `capcheck 2`
+abbrev pub IsOfVersionOne : List ℕ → Type 0
+IsOfVersionOne bytes = (more : List ℕ) → bytes ≢ codes "capcheck 2\n" ++ more
+
+-- a beginning of a log of version 1
+abbrev pub BeginsOne : Beginning → Type 0
+BeginsOne Nothing = Unit {0}
+BeginsOne NoMode = ⊥
+BeginsOne (Body rules roots steps) = rules ≡ One
+BeginsOne (Whole rules roots steps) = rules ≡ One
+
+-- a verdict that speaks of version 1 alone
+abbrev pub IsByVersionOne : (bytes : List ℕ) (verdict : Verdict) → IsVerdict bytes verdict → Type 0
+IsByVersionOne bytes (Yes steps roots) log = log.rules ≡ One
+IsByVersionOne bytes (No line refusal) fault = BeginsOne fault.beginning
+
+-- the line at fault is a step that asks for bounds beyond those of its tagged, unsealed source, in what the log has led to
+abbrev pub FaultEscapes : Beginning → List ℕ → Type 0
+FaultEscapes Nothing rest = ⊥
+FaultEscapes NoMode rest = ⊥
+FaultEscapes (Body rules roots steps) rest =
+    let account = account_after rules roots steps in
+    (text : List ℕ) × (more : List ℕ) × (step : Step) × IsLine rest text more
+    × SpellsBy account.rules text (Stepping step) × Escapes account.rules account.state step
+FaultEscapes (Whole rules roots steps) rest = ⊥
+
+-- a no names BoundsEscape exactly for such a line: the test of CSetBounds (UCAM-CL-TR-987)
+abbrev pub EscapesExactly : List ℕ → Verdict → Type 0
+EscapesExactly bytes (Yes steps roots) = Unit {0}
+EscapesExactly bytes (No line refusal) =
+    (fault : IsFirstFault bytes line refusal) → (refusal ≡ BoundsEscape) ↔ FaultEscapes fault.beginning fault.rest

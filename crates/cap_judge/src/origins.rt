@@ -1,0 +1,91 @@
+//! Pushing the lines of the origins of what a machine holds.
+
+ghost use Rattle.std.specs.Prelude.{◌≡◌, ℕ, ◌+◌, ◌^◌, take, OnOk, OnErr};
+ghost use Rattle.cap_log.specs.Lines.{IsPlace};
+ghost use Rattle.cap_log.specs.Streams.{next_count};
+ghost use Rattle.cap_machine.specs.Helds.{held_of};
+ghost use Rattle.cap_machine.specs.States.{key_of};
+ghost use Rattle.cap_judge.specs.OriginLists.{held_lines};
+
+use crate::origin_lines::origin_text;
+use cap_log::{Place, PushFault, Sink, push_all};
+use cap_machine::Machine;
+use tagmem::TaggedStore;
+
+/// Pushes a line for each tagged place that the machine holds, with the place of its root: the registers by
+/// number, and then the granules by address.
+pub fn push_origins<M: TaggedStore, K: Sink>(
+    machine: &Machine<M>,
+    sink: &mut K,
+) -> Result<(), PushFault>
+    ensures ok { OnOk result (K.took sink.old sink.new (held_lines (held_of M.contents machine.now) 1 (31 + 2 ^ 60))) }
+    ensures err { OnErr result ((n : ℕ) × K.took sink.old sink.new (take n (held_lines (held_of M.contents machine.now) 1 (31 + 2 ^ 60)))) }
+    ensures counted { OnOk result (K.faults sink.new ≡ K.faults sink.old) }
+    ensures fault_counted { OnErr result (K.faults sink.new ≡ next_count (K.faults sink.old)) }
+{
+    match push_registers(machine, sink) {
+        Ok(()) => push_granules(machine, sink),
+        Err(PushFault) => Err(PushFault),
+    }
+}
+
+// Pushes the lines of the registers.
+fn push_registers<M: TaggedStore, K: Sink>(
+    machine: &Machine<M>,
+    sink: &mut K,
+) -> Result<(), PushFault>
+    ensures ok { OnOk result (K.took sink.old sink.new (held_lines (held_of M.contents machine.now) 1 31)) }
+    ensures err { OnErr result ((n : ℕ) × K.took sink.old sink.new (take n (held_lines (held_of M.contents machine.now) 1 31))) }
+    ensures counted { OnOk result (K.faults sink.new ≡ K.faults sink.old) }
+    ensures fault_counted { OnErr result (K.faults sink.new ≡ next_count (K.faults sink.old)) }
+{
+    for number in 1..32u8 {
+        if let Err(PushFault) = push_place(machine, Place::Register(number), sink) {
+            return Err(PushFault);
+        }
+    }
+    Ok(())
+}
+
+// Pushes the lines of the granules.
+fn push_granules<M: TaggedStore, K: Sink>(
+    machine: &Machine<M>,
+    sink: &mut K,
+) -> Result<(), PushFault>
+    ensures ok { OnOk result (K.took sink.old sink.new (held_lines (held_of M.contents machine.now) 32 (2 ^ 60))) }
+    ensures err { OnErr result ((n : ℕ) × K.took sink.old sink.new (take n (held_lines (held_of M.contents machine.now) 32 (2 ^ 60)))) }
+    ensures counted { OnOk result (K.faults sink.new ≡ K.faults sink.old) }
+    ensures fault_counted { OnErr result (K.faults sink.new ≡ next_count (K.faults sink.old)) }
+{
+    let mut from = 0u64;
+    while let Some(granule) = machine.next_put(from) {
+        if let Err(PushFault) = push_place(machine, Place::Granule(granule), sink) {
+            return Err(PushFault);
+        }
+        from = granule + 1;
+    }
+    Ok(())
+}
+
+// Pushes the line of a place, where it is tagged.
+fn push_place<M: TaggedStore, K: Sink>(
+    machine: &Machine<M>,
+    place: Place,
+    sink: &mut K,
+) -> Result<(), PushFault>
+    requires { IsPlace place }
+    ensures ok { OnOk result (K.took sink.old sink.new (held_lines (held_of M.contents machine.now) (key_of place) 1)) }
+    ensures err { OnErr result ((n : ℕ)
+        × K.took sink.old sink.new (take n (held_lines (held_of M.contents machine.now) (key_of place) 1))) }
+    ensures counted { OnOk result (K.faults sink.new ≡ K.faults sink.old) }
+    ensures fault_counted { OnErr result (K.faults sink.new ≡ next_count (K.faults sink.old)) }
+{
+    match machine.origin(place) {
+        Some(root) => {
+            let mut text = [0u8; 64];
+            let length = origin_text(place, root, &mut text);
+            push_all(sink, &text[..length])
+        }
+        None => Ok(()),
+    }
+}

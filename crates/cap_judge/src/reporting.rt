@@ -1,0 +1,121 @@
+//! The judges that write into a sink: the verdict, and the origins of a log's last state.
+
+ghost use Rattle.std.specs.Prelude.{◌≡◌, ◌≢◌, ℕ, take, Err, OnOk, OnErr, true, false};
+ghost use Rattle.std.specs.FinMap as map;
+ghost use Rattle.cap_log.specs.Streams.{next_count};
+ghost use Rattle.cap_machine.specs.Helds.{held_of};
+ghost use Rattle.cap_judge.specs.OriginLists.{report_text};
+ghost use Rattle.cap_judge.specs.Reports.{Reported};
+ghost use Rattle.cap_judge.specs.VerdictLines.{verdict_line};
+ghost use Rattle.cap_judge.specs.declared.verdict.JudgeToFault.TheVariants.{Pull, Push};
+
+use crate::judging::{judge, judge_keeping};
+use crate::origins::push_origins;
+use crate::verdict::{JudgeFault, JudgeToFault, Verdict};
+use crate::verdict_lines::verdict_text;
+use cap_log::{PushFault, Sink, Source, push_all};
+use cap_machine::Machine;
+use std::alloc::Global;
+use tagmem::{PageStore, TaggedStore};
+
+/// Judges the bytes that a source gives, and pushes the line of the verdict.
+pub fn judge_to<S: Source, K: Sink>(
+    alloc: Global,
+    source: &mut S,
+    sink: &mut K,
+) -> Result<Verdict, JudgeToFault>
+    ensures reported { Reported false S.gave S.ended K.took source.old source.new sink.old sink.new result }
+
+    // Each fault of the source or the sink ends the call, and nothing else counts one.
+    ensures counted { result ≢ Err Pull → S.faults source.new ≡ S.faults source.old }
+    ensures pull_counted { result ≡ Err Pull → S.faults source.new ≡ next_count (S.faults source.old) }
+    ensures sink_counted { result ≢ Err Push → K.faults sink.new ≡ K.faults sink.old }
+    ensures push_counted { result ≡ Err Push → K.faults sink.new ≡ next_count (K.faults sink.old) }
+{
+    match judge(alloc, source) {
+        Ok(verdict) => match push_verdict(&verdict, sink) {
+            Ok(()) => Ok(verdict),
+            Err(PushFault) => Err(JudgeToFault::Push),
+        },
+        Err(JudgeFault::Pull) => Err(JudgeToFault::Pull),
+        Err(JudgeFault::NoMemory) => Err(JudgeToFault::NoMemory),
+    }
+}
+
+/// Judges as [`judge_to`] does, and after a yes pushes a line for each place that is tagged in the last state
+/// too, with the place of the one root that it descends from: the registers by number, and then the granules
+/// by address. Nothing is pushed before the verdict is known.
+pub fn judge_origins<S: Source, K: Sink>(
+    alloc: Global,
+    source: &mut S,
+    sink: &mut K,
+) -> Result<Verdict, JudgeToFault>
+    ensures reported { Reported true S.gave S.ended K.took source.old source.new sink.old sink.new result }
+
+    // Each fault of the source or the sink ends the call, and nothing else counts one.
+    ensures counted { result ≢ Err Pull → S.faults source.new ≡ S.faults source.old }
+    ensures pull_counted { result ≡ Err Pull → S.faults source.new ≡ next_count (S.faults source.old) }
+    ensures sink_counted { result ≢ Err Push → K.faults sink.new ≡ K.faults sink.old }
+    ensures push_counted { result ≡ Err Push → K.faults sink.new ≡ next_count (K.faults sink.old) }
+{
+    judge_origins_in(source, PageStore::new(alloc), sink)
+}
+
+/// Judges as [`judge_origins`] does, with the granules in a store that is empty.
+pub fn judge_origins_in<S: Source, M: TaggedStore, K: Sink>(
+    source: &mut S,
+    memory: M,
+    sink: &mut K,
+) -> Result<Verdict, JudgeToFault>
+    requires { map.len (M.contents memory) ≡ 0 }
+    ensures reported { Reported true S.gave S.ended K.took source.old source.new sink.old sink.new result }
+    ensures counted { result ≢ Err Pull → S.faults source.new ≡ S.faults source.old }
+    ensures pull_counted { result ≡ Err Pull → S.faults source.new ≡ next_count (S.faults source.old) }
+    ensures sink_counted { result ≢ Err Push → K.faults sink.new ≡ K.faults sink.old }
+    ensures push_counted { result ≡ Err Push → K.faults sink.new ≡ next_count (K.faults sink.old) }
+{
+    let (answer, machine) = judge_keeping(source, memory);
+    match answer {
+        Ok(verdict) => match push_report(&verdict, &machine, sink) {
+            Ok(()) => Ok(verdict),
+            Err(PushFault) => Err(JudgeToFault::Push),
+        },
+        Err(JudgeFault::Pull) => Err(JudgeToFault::Pull),
+        Err(JudgeFault::NoMemory) => Err(JudgeToFault::NoMemory),
+    }
+}
+
+// Pushes the line of a verdict, and after a yes those of the origins of what the machine holds.
+fn push_report<M: TaggedStore, K: Sink>(
+    verdict: &Verdict,
+    machine: &Machine<M>,
+    sink: &mut K,
+) -> Result<(), PushFault>
+    ensures ok { OnOk result (K.took sink.old sink.new (report_text (held_of M.contents machine.now) verdict.now)) }
+    ensures err { OnErr result ((n : ℕ) × K.took sink.old sink.new (take n (report_text (held_of M.contents machine.now) verdict.now))) }
+    ensures counted { OnOk result (K.faults sink.new ≡ K.faults sink.old) }
+    ensures fault_counted { OnErr result (K.faults sink.new ≡ next_count (K.faults sink.old)) }
+{
+    match *verdict {
+        Verdict::Yes { steps: _, roots: _ } => match push_verdict(verdict, sink) {
+            Ok(()) => push_origins(machine, sink),
+            Err(PushFault) => Err(PushFault),
+        },
+        Verdict::No {
+            line: _,
+            refusal: _,
+        } => push_verdict(verdict, sink),
+    }
+}
+
+// Pushes the line of a verdict.
+fn push_verdict<K: Sink>(verdict: &Verdict, sink: &mut K) -> Result<(), PushFault>
+    ensures ok { OnOk result (K.took sink.old sink.new (verdict_line verdict.now)) }
+    ensures err { OnErr result ((n : ℕ) × K.took sink.old sink.new (take n (verdict_line verdict.now))) }
+    ensures counted { OnOk result (K.faults sink.new ≡ K.faults sink.old) }
+    ensures fault_counted { OnErr result (K.faults sink.new ≡ next_count (K.faults sink.old)) }
+{
+    let mut text = [0u8; 64];
+    let length = verdict_text(verdict, &mut text);
+    push_all(sink, &text[..length])
+}

@@ -1,0 +1,53 @@
+//! The line of a verdict.
+
+ghost use Rattle.std.specs.Prelude.{◌≡◌, ◌≤◌, ◌+◌, length, take, drop};
+ghost use Rattle.cap_judge.specs.VerdictLines.{verdict_line};
+ghost use Rattle.cap_judge.specs.declared.verdict.Verdict.TheVariants.{Yes, No};
+
+use crate::verdict::Verdict;
+use cap_log::buffers::{put, put_decimal};
+use cap_machine::Refusal;
+
+/// Writes the line of a verdict, `yes STEPS ROOTS` or `no LINE NUMBER NAME` with its line feed, at the
+/// front of the buffer, and answers its length. The rest of the buffer stays as it was.
+pub fn verdict_text(verdict: &Verdict, buffer: &mut [u8; 64]) -> usize
+    ensures line { take result buffer.new ≡ verdict_line verdict.now }
+    ensures length { result ≡ length (verdict_line verdict.now) }
+    ensures fits { result ≤ 64 }
+    ensures rest { drop result buffer.new ≡ drop result buffer.old }
+{
+    match *verdict {
+        Verdict::Yes { steps, roots } => yes_text(steps, roots, buffer),
+        Verdict::No { line, refusal } => no_text(line, refusal, buffer),
+    }
+}
+
+#[tactic(auto, using(crate::proofs::NumberLemmas::short_decimal))]
+fn yes_text(steps: u32, roots: u32, buffer: &mut [u8; 64]) -> usize
+    ensures line { take result buffer.new ≡ verdict_line (Yes steps roots) }
+    ensures length { result ≡ length (verdict_line (Yes steps roots)) }
+    ensures fits { result ≤ 64 }
+    ensures rest { drop result buffer.new ≡ drop result buffer.old }
+{
+    let at = put(buffer, 0, b"yes ");
+    let at = put_decimal(buffer, at, u64::from(steps));
+    let at = put(buffer, at, b" ");
+    let at = put_decimal(buffer, at, u64::from(roots));
+    put(buffer, at, b"\n")
+}
+
+#[tactic(auto, using(crate::proofs::NumberLemmas::short_decimal))]
+fn no_text(line: u64, refusal: Refusal, buffer: &mut [u8; 64]) -> usize
+    ensures line { take result buffer.new ≡ verdict_line (No line refusal) }
+    ensures length { result ≡ length (verdict_line (No line refusal)) }
+    ensures fits { result ≤ 64 }
+    ensures rest { drop result buffer.new ≡ drop result buffer.old }
+{
+    let at = put(buffer, 0, b"no ");
+    let at = put_decimal(buffer, at, line);
+    let at = put(buffer, at, b" ");
+    let at = put_decimal(buffer, at, u64::from(refusal.number()));
+    let at = put(buffer, at, b" ");
+    let at = put(buffer, at, refusal.name().as_bytes());
+    put(buffer, at, b"\n")
+}

@@ -1,5 +1,0 @@
-use Rattle.capcheck.proofs.VersionLemmas.{by_version_one}
-use Rattle.capcheck.proofs.laws.other_bytes_are_of_version_one.Goals as goal
-
-pub returns : goal.returns
-returns c = by_version_one
