@@ -4,7 +4,7 @@ use Rattle.std.specs.List.{AllByRecursion}
 use Rattle.cap_log.specs.declared.lines.Line.TheVariants.{End}
 use Rattle.cap_log.specs.Lines.{IsInRange}
 use Rattle.cap_judge.specs.Logs.{Beginning, Nothing, NoMode, Body, Whole, body_lines, lines_of, IsAccepted}
-use Rattle.cap_judge.proofs.LogLemmas.{AllByRecursion-append}
+use Rattle.cap_log.proofs.ElementLemmas.{AllByRecursion-append}
 
 pub accepted_in_range : (beginning : Beginning) → IsAccepted beginning → AllByRecursion IsInRange (lines_of beginning)
 accepted_in_range Nothing accepted = tt

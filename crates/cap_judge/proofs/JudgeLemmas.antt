@@ -31,7 +31,7 @@ use Rattle.cap_judge.specs.Logs.{NamesNoGranules, named_by_line}
 use Rattle.cap_judge.specs.Verdicts.{IsYes, IsGuarded, GuardsAuthority, IsFault}
 use Rattle.cap_judge.specs.Judgings.{IsBehind, LeadsTo}
 use Rattle.cap_judge.specs.Progresses.{Reading, StandsFor, GoesOn, WantsMemory, EndsNext, IsAt}
-use Rattle.cap_judge.proofs.LogLemmas.{length-push}
+use Rattle.std.proofs.lemmas.List.{length_push}
 
 -- one line more
 pub text_push : (lines : List Line) (line : Line) (rest : List ℕ)
@@ -53,7 +53,7 @@ goes_on bytes rest text more old new line here whole on =
           ∙ ap (λ (r : List ℕ). text_of (lines_of here.beginning) ++ r) (whole.whole ∙ ap (λ (t : List ℕ). t ++ 10 ∷ more) on.1.0.1)
           ∙ sym (text_push (lines_of here.beginning) on.0 more)
           ∙ sym (ap (λ (ls : List Line). text_of ls ++ more) next.2);
-      line_is = omega (arith, here.line_is, ap length next.2, length-push (lines_of here.beginning) on.0);
+      line_is = omega (arith, here.line_is, ap length next.2, length_push (lines_of here.beginning) on.0);
     }
 
 -- a beginning that goes on: it has no end line

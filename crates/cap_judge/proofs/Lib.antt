@@ -1,5 +1,5 @@
 mod ResultLemmas
-pub mod LogLemmas
+mod LogLemmas
 mod ProgressLemmas
 mod JudgeLemmas
 mod VersionLemmas
@@ -11,4 +11,3 @@ mod OneReading
 mod OneVerdict
 mod OriginLemmas
 mod ReportLemmas
-mod NumberLemmas

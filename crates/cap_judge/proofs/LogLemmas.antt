@@ -9,6 +9,7 @@ use Rattle.cap_log.specs.declared.lines.Place.{Place}
 use Rattle.cap_log.specs.declared.lines.Line.{Line}
 use Rattle.cap_log.specs.declared.lines.Line.TheVariants.{Root, Step}
 use Rattle.cap_log.specs.declared.lines.Step as steps_module
+use Rattle.cap_log.proofs.ElementLemmas.{AllByRecursion-append}
 use Rattle.cap_machine.specs.States.{State, DeclaredRoot, key_of, tagged, is_taken, start}
 use Rattle.cap_machine.specs.Steps.{Leads}
 use Rattle.cap_machine.specs.declared.rules.Rules.{Rules}
@@ -16,12 +17,6 @@ use Rattle.cap_machine.specs.Accounts.{Account, with_root, with_step}
 use Rattle.cap_machine.specs.Runs.{IsRun, last_of}
 use Rattle.cap_machine.proofs.OriginLemmas.{last_after}
 use Rattle.cap_judge.specs.Logs.{RunsBy, header_lines, body_lines, account_after, after_roots, after_steps}
-
--- what holds of each element of two lists holds of each element of both together
-pub AllByRecursion-append : {X : Type 0} (P : X → Type 0) (xs ys : List X) → AllByRecursion P xs → AllByRecursion P ys
-    → AllByRecursion P (xs ++ ys)
-AllByRecursion-append P [] ys h k = k
-AllByRecursion-append P (x ∷ xs) ys h k = (h.0, AllByRecursion-append P xs ys h.1 k)
 
 tag_of_choice : (b : Bool) (x y : Cap) (any : Bool) → x.tag ≡ true → y.tag ≡ any → (if b then x else y).tag ≡ (b || any)
 tag_of_choice true x y any h k = h
@@ -61,10 +56,6 @@ last_state rules roots steps runs = last_after rules roots steps runs.run.0 runs
 pub map-push : {X Y : Type 0} (f : X → Y) (xs : List X) (x : X) → map f (xs ++ x ∷ []) ≡ map f xs ++ f x ∷ []
 map-push f [] x = refl
 map-push f (y ∷ xs) x = ap (λ ys. f y ∷ ys) (map-push f xs x)
-
-pub length-push : {X : Type 0} (xs : List X) (x : X) → length (xs ++ x ∷ []) ≡ length xs + 1
-length-push [] x = refl
-length-push (y ∷ xs) x = let more = length-push xs x in omega arith
 
 pub steps_push : (rules_are : Rules) (roots : List DeclaredRoot) (steps : List steps_module.Step) (step : steps_module.Step)
     → body_lines rules_are roots (steps ++ step ∷ []) ≡ body_lines rules_are roots steps ++ Step step ∷ []

@@ -34,9 +34,11 @@ use Rattle.cap_machine.proofs.AccountLemmas.{with_root-grows, with_step-grows, a
 use Rattle.cap_judge.specs.Logs.{has_form, Beginning, Nothing, NoMode, Body, Whole, body_lines, after_roots}
 use Rattle.cap_judge.specs.Logs.{RunsBy, SpellsBy, RefusesWhole, line_tests}
 use Rattle.cap_judge.specs.Progresses.{Reading, Reaches, StandsFor, Takes, NamesFirst, WantsMemory, EndsFor, EndsNext}
-use Rattle.cap_judge.proofs.LogLemmas.{AllByRecursion-append, IsDistinct-push, tag-start, IsRun-push}
-use Rattle.cap_judge.proofs.LogLemmas.{last_state, map-push, length-push, steps_push, roots_push, list_any-map}
+use Rattle.cap_judge.proofs.LogLemmas.{IsDistinct-push, tag-start, IsRun-push}
+use Rattle.cap_judge.proofs.LogLemmas.{last_state, map-push, steps_push, roots_push, list_any-map}
 use Rattle.cap_judge.proofs.LogLemmas.{after_roots-push, after_steps-push}
+use Rattle.std.proofs.lemmas.List.{length_push}
+use Rattle.cap_log.proofs.ElementLemmas.{AllByRecursion-append}
 
 -- the end line closes a body
 pub ended : (reading : Reading) (count : ℕ) → reading.ended ≡ false → count ≡ reading.held.steps
@@ -130,12 +132,12 @@ step_on rules_are roots steps old new step reaches range makes =
         sound = runs.sound;
         few_roots = runs.few_roots;
         few_granules = subst (λ (a : Account). a.granules ≤ most_granules rules_are) (sym makes.account ∙ after) few_new;
-        few_steps = omega (arith, length-push steps step, few, old_few);
+        few_steps = omega (arith, length_push steps step, few, old_few);
         run = (states ++ state_of new ∷ [], IsRun-push rules_are (start roots) steps states step (state_of new) runs.run.1 leads_on);
       };
       account = after;
       roots_are = naming_roots old new step makes ∙ reaches.roots_are;
-      steps_are = ap (λ (a : Account). a.steps) makes.account ∙ ap (λ n. n + 1) reaches.steps_are ∙ sym (length-push steps step);
+      steps_are = ap (λ (a : Account). a.steps) makes.account ∙ ap (λ n. n + 1) reaches.steps_are ∙ sym (length_push steps step);
     }
 
 pub stepped : (old new : Reading) (step : steps_module.Step) → old.ended ≡ false → new.ended ≡ false → IsStepInRange step
@@ -182,13 +184,13 @@ root_on rules_are roots root old new reaches place_range word_range declares =
             (AllByRecursion-append IsInRange (body_lines rules_are roots []) (Root root.place root.word ∷ []) runs.grammar ((place_range, word_range), tt));
         distinct = subst (IsDistinct nat_eq) (sym (map-push (λ (r : DeclaredRoot). key_of r.place) roots root)) (IsDistinct-push (map (λ (r : DeclaredRoot). key_of r.place) roots) (key_of root.place) runs.distinct unlike);
         sound = AllByRecursion-append (λ (r : DeclaredRoot). IsTrue (is_sound r.word.0)) roots (root ∷ []) runs.sound (free.1, tt);
-        few_roots = omega (arith, length-push roots root, few, old_few);
+        few_roots = omega (arith, length_push roots root, few, old_few);
         few_granules = subst (λ (a : Account). a.granules ≤ most_granules rules_are) (sym declares.account ∙ after) few_new;
         few_steps = lit≤ tt;
         run = ([], tt);
       };
       account = after;
-      roots_are = ap (λ (a : Account). a.roots) declares.account ∙ ap (λ n. n + 1) reaches.roots_are ∙ sym (length-push roots root);
+      roots_are = ap (λ (a : Account). a.roots) declares.account ∙ ap (λ n. n + 1) reaches.roots_are ∙ sym (length_push roots root);
       steps_are = naming_steps old new root declares ∙ reaches.steps_are;
     }
 

@@ -8,6 +8,7 @@ use Rattle.std.proofs.lemmas.List.Elements.{All-nil}
 use Rattle.cap_log.specs.declared.lines.Line.{Line}
 use Rattle.cap_log.specs.declared.lines.Line.TheVariants as lines
 use Rattle.cap_log.specs.Lines.{IsInRange, Spells, spelling}
+use Rattle.cap_log.proofs.FrontLemmas.{IsLine-more, IsTooLong-more}
 use Rattle.cap_log.proofs.SpellingLemmas.{IsLine-spelling}
 use Rattle.cap_log.specs.Front.{HasNoFeed, IsLine, IsTooLong, IsCut}
 use Rattle.cap_log.specs.Takings.{IsNext, Answered, kept, over_of}
@@ -55,19 +56,6 @@ at_more bytes rest more reading line here = record {
   bytes_are = ap (λ (l : List ℕ). l ++ more) here.bytes_are ∙ append_assoc (text_of (lines_of here.beginning)) rest more;
   line_is = here.line_is;
 }
-
-pub IsLine-more : (bytes line rest more : List ℕ) → IsLine bytes line rest → IsLine (bytes ++ more) line (rest ++ more)
-IsLine-more bytes line rest more h = record {
-  whole = ap (λ (l : List ℕ). l ++ more) h.whole ∙ append_assoc line (10 ∷ rest) more;
-  one = h.one;
-  short = h.short;
-}
-
-pub IsTooLong-more : (bytes more : List ℕ) → IsTooLong bytes → IsTooLong (bytes ++ more)
-IsTooLong-more bytes more h = (
-  omega (arith, h.0, length-append bytes more),
-  subst HasNoFeed (sym (take-append-le 96 bytes more h.0)) h.1,
-)
 
 some-more : (bytes more : List ℕ) → bytes ≢ [] → bytes ++ more ≢ []
 some-more [] more some = absurd (some refl)

@@ -26,7 +26,7 @@ pub fn origin_text(place: Place, root: Place, buffer: &mut [u8; 64]) -> usize
 
 // Writes a place as a log spells it at an index of the buffer, and answers the index behind it. Nothing else
 // of the buffer changes.
-#[tactic(auto, using(crate::proofs::NumberLemmas::short_decimal))]
+#[tactic(auto, using(cap_log::proofs::ElementLemmas::short_decimal))]
 fn put_place(buffer: &mut [u8], at: usize, place: Place) -> usize
     requires place { IsPlace place }
     requires room { at + 21 ≤ length buffer.old }

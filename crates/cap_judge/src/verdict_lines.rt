@@ -22,7 +22,7 @@ pub fn verdict_text(verdict: &Verdict, buffer: &mut [u8; 64]) -> usize
     }
 }
 
-#[tactic(auto, using(crate::proofs::NumberLemmas::short_decimal))]
+#[tactic(auto, using(cap_log::proofs::ElementLemmas::short_decimal))]
 fn yes_text(steps: u32, roots: u32, buffer: &mut [u8; 64]) -> usize
     ensures line { take result buffer.new ≡ verdict_line (Yes steps roots) }
     ensures length { result ≡ length (verdict_line (Yes steps roots)) }
@@ -36,7 +36,7 @@ fn yes_text(steps: u32, roots: u32, buffer: &mut [u8; 64]) -> usize
     put(buffer, at, b"\n")
 }
 
-#[tactic(auto, using(crate::proofs::NumberLemmas::short_decimal))]
+#[tactic(auto, using(cap_log::proofs::ElementLemmas::short_decimal))]
 fn no_text(line: u64, refusal: Refusal, buffer: &mut [u8; 64]) -> usize
     ensures line { take result buffer.new ≡ verdict_line (No line refusal) }
     ensures length { result ≡ length (verdict_line (No line refusal)) }

@@ -1,6 +1,6 @@
 -- Fronts: what a search for a line feed finds, and that exactly one front fits.
-use Rattle.std.proofs.Common.{◌≡◌, ◌≢◌, ℕ, ◌+◌, ◌<◌, ◌≤◌, List, [], ◌∷◌, ◌++◌, length, take, drop, get_or, sym, ap, ◌∙◌, refl, arith}
-use Rattle.std.proofs.lemmas.List.{drop_more, take-append-drop, get_or_at, get_or-take, length-take-le, length-append}
+use Rattle.std.proofs.Common.{◌≡◌, ◌≢◌, ℕ, ◌+◌, ◌<◌, ◌≤◌, List, [], ◌∷◌, ◌++◌, length, take, drop, get_or, sym, ap, ◌∙◌, refl, subst, append_assoc, arith}
+use Rattle.std.proofs.lemmas.List.{drop_more, take-append-drop, get_or_at, get_or-take, length-take-le, length-append, take-append-le}
 use Rattle.std.proofs.lemmas.List.Elements.{All-head, All-tail, All-from_get_or}
 use Rattle.cap_log.specs.Front.{HasNoFeed, IsLine, IsTooLong, IsCut}
 
@@ -54,3 +54,18 @@ IsLine-not_cut bytes line rest h cut =
 -- what is too long is not cut
 pub IsTooLong-not_cut : (bytes : List ℕ) → IsTooLong bytes → IsCut bytes → ⊥
 IsTooLong-not_cut bytes long cut = omega arith
+
+-- more bytes behind a line
+pub IsLine-more : (bytes line rest more : List ℕ) → IsLine bytes line rest → IsLine (bytes ++ more) line (rest ++ more)
+IsLine-more bytes line rest more h = record {
+  whole = ap (λ (l : List ℕ). l ++ more) h.whole ∙ append_assoc line (10 ∷ rest) more;
+  one = h.one;
+  short = h.short;
+}
+
+-- more bytes behind what is too long
+pub IsTooLong-more : (bytes more : List ℕ) → IsTooLong bytes → IsTooLong (bytes ++ more)
+IsTooLong-more bytes more h = (
+  omega (arith, h.0, length-append bytes more),
+  subst HasNoFeed (sym (take-append-le 96 bytes more h.0)) h.1,
+)

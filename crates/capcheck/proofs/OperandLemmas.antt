@@ -11,7 +11,7 @@ use Rattle.capcheck.specs.declared.faults.Fault.{Fault}
 use Rattle.capcheck.specs.declared.faults.Fault.TheVariants.{BadWords, BadWord, BadRequest, Read, Write, NoMemory}
 use Rattle.capcheck.specs.Statuses.{status_of}
 use Rattle.capcheck.specs.Operands.{SpellsRequest, RefusesRequest, SpellsWord}
-use Rattle.capcheck.proofs.MemoryTexts.{spelled_memory}
+use Rattle.cap_texts.proofs.MemoryTexts.{spelled_memory}
 
 -- the digits of a number, decoded
 decoded : (k n : ℕ) → decode_sized (hex_digits (2 * k) n) k ≡ Ok (bytes_high_first k n)

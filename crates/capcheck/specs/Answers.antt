@@ -6,12 +6,12 @@ use Rattle.capcheck.specs.declared.words.Order.{Order}
 use Rattle.capcheck.specs.declared.words.Order.TheVariants.{Explain, Round, Judge, Vectors}
 use Rattle.cap_judge.specs.declared.verdict.Verdict.{Verdict}
 use Rattle.cap_judge.specs.declared.verdict.Verdict.TheVariants.{Yes, No}
-use Rattle.capcheck.specs.declared.vectors.VectorVerdict.{VectorVerdict}
-use Rattle.capcheck.specs.declared.vectors.VectorVerdict.TheVariants.{Pass, Fail}
+use Rattle.cap_vectors.specs.declared.vectors.VectorVerdict.{VectorVerdict}
+use Rattle.cap_vectors.specs.declared.vectors.VectorVerdict.TheVariants.{Pass, Fail}
 use Rattle.capcheck.specs.Operands.{SpellsWord, SpellsRequest}
-use Rattle.capcheck.specs.ExplainLines.{explain_lines}
-use Rattle.capcheck.specs.RoundLines.{round_lines}
-use Rattle.capcheck.specs.VectorFiles.{IsVectorVerdict, vector_line}
+use Rattle.cap_texts.specs.ExplainLines.{explain_lines}
+use Rattle.cap_texts.specs.RoundLines.{round_lines}
+use Rattle.cap_vectors.specs.VectorFiles.{IsVectorVerdict, vector_line}
 use Rattle.cap_judge.specs.Reports.{Tells}
 use Rattle.cap_judge.specs.Verdicts.{IsVerdict}
 

@@ -1,8 +1,3 @@
-pub mod TextLines
-pub mod Vectors
-pub mod VectorFiles
-pub mod RoundLines
-pub mod ExplainLines
 pub mod Orders
 pub mod Operands
 pub mod Statuses

@@ -2,7 +2,7 @@
 use Rattle.std.specs.Prelude.{◌≡◌, ℕ, ◌+◌, ◌^◌, ◌<◌, ◌≤◌, Bool, true, false, List, Option, Some, None}
 use Rattle.cap_word.specs.Digits.{hex_digits}
 use Rattle.cap_word.specs.Memory.{memory_of}
-use Rattle.capcheck.specs.TextLines.{bytes_text}
+use Rattle.cap_texts.specs.TextLines.{bytes_text}
 use Rattle.capcheck.specs.declared.words.Order.{Order}
 use Rattle.capcheck.specs.declared.words.Order.TheVariants.{Explain, Round, Judge, Vectors}
 use Rattle.capcheck.specs.declared.faults.Fault.{Fault}

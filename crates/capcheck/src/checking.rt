@@ -7,8 +7,8 @@ ghost use Rattle.capcheck.specs.Statuses.{status_of};
 
 use crate::faults::Fault;
 use crate::outputs::is_written;
-use crate::vectors::texts::vector_text;
-use crate::vectors::{VectorVerdict, vectors};
+use cap_vectors::vectors::texts::vector_text;
+use cap_vectors::vectors::{VectorVerdict, vectors};
 use cap_log::{PullFault, ReadSource};
 use std::io::{Read, Write};
 

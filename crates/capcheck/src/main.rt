@@ -3,16 +3,12 @@
 #![tactic(auto)]
 
 mod checking;
-pub mod explain_lines;
 pub mod faults;
 mod inputs;
 mod outputs;
-pub mod round_lines;
 pub mod running;
 #[cfg(test)]
 mod tests;
-mod text_lines;
-pub mod vectors;
 pub mod words;
 
 use crate::faults::Fault;
@@ -20,6 +16,8 @@ use crate::running::run;
 use crate::words::Order;
 use crate::words::reading::read_words;
 pub use cap_judge::{headers, judging, laws, origin_lines, reporting, verdict, verdict_lines};
+pub use cap_texts::{explain_lines, round_lines};
+pub use cap_vectors::vectors;
 use std::alloc::AllocError;
 use std::env;
 use std::fs::File;

@@ -1,5 +1,5 @@
-//! The program's statuses and texts.
+//! What the program prints for its words and its input, and what it does where one of these fails.
 
-mod origins;
-mod shown;
-mod statuses;
+mod failing;
+mod printed;
+mod words;

@@ -1,27 +1,23 @@
 //! The logs of `examples/`, byte for byte, and the verdict lines that its README gives.
 
-use crate::tests::logs::judges;
+use crate::tests::logs::{Row, all_judged};
 
-// `moves.log`
-#[test]
-fn copies_and_cleared_tags(rt: HostRuntime) {
-    judges(
-        &rt,
-        b"capcheck 1\n\
+// Whole logs.
+const WHOLE: [Row; 9] = [
+    // `moves.log`
+    (
+        "copies and cleared tags",
+        "capcheck 1\n\
         root c1 ffff1ffffc0180040000000000000000\n\
         move c2 c1 = 1 ffff1ffffc0180040000000000000000\n\
         cleartag c3 c2 = 0 ffff1ffffc0180040000000000000000\n\
         end 2\n",
-        b"yes 2 1\n",
-    );
-}
-
-// `bounds.log`
-#[test]
-fn bounds_that_are_set(rt: HostRuntime) {
-    judges(
-        &rt,
-        b"capcheck 1\n\
+        "yes 2 1\n",
+    ),
+    // `bounds.log`
+    (
+        "bounds that are set",
+        "capcheck 1\n\
         root c1 ffff1ffffc0180040000000000000000\n\
         setaddr c2 c1 0000000000001000 = 1 ffff1ffffc0180040000000000001000\n\
         setbounds c3 c2 0000000000000fff = 1 ffff1ffffbffd0000000000000001000\n\
@@ -32,63 +28,47 @@ fn bounds_that_are_set(rt: HostRuntime) {
         cleartag c8 c2 = 0 ffff1ffffc0180040000000000001000\n\
         setbounds c9 c8 ffffffffffffffff = 0 ffff1ffffc0380040000000000001000\n\
         end 8\n",
-        b"yes 8 1\n",
-    );
-}
-
-// `sealing.log`
-#[test]
-fn sealing_and_unsealing(rt: HostRuntime) {
-    judges(
-        &rt,
-        b"capcheck 1\n\
+        "yes 8 1\n",
+    ),
+    // `sealing.log`
+    (
+        "sealing and unsealing",
+        "capcheck 1\n\
         root c1 ffff1ffffc0180040000000000000000\n\
         setaddr c2 c1 000000000003fffb = 1 ffff1ffffc018004000000000003fffb\n\
         seal c3 c1 c2 = 1 ffff1fffdc0180040000000000000000\n\
         andperm c4 c2 000000000007fffe = 1 fffe1ffffc018004000000000003fffb\n\
         unseal c5 c3 c4 = 1 fffe1ffffc0180040000000000000000\n\
         end 4\n",
-        b"yes 4 1\n",
-    );
-}
-
-// `escaped_bound.log`
-#[test]
-fn an_escaped_bound(rt: HostRuntime) {
-    judges(
-        &rt,
-        b"capcheck 1\n\
+        "yes 4 1\n",
+    ),
+    // `escaped_bound.log`
+    (
+        "an escaped bound",
+        "capcheck 1\n\
         root c1 ffff1ffffc0180040000000000000000\n\
         setaddr c2 c1 0000000000001000 = 1 ffff1ffffc0180040000000000001000\n\
         setbounds c3 c2 0000000000000020 = 1 ffff1ffff80810000000000000001000\n\
         setbounds c4 c3 0000000000000021 = 1 ffff1ffff80850000000000000001000\n\
         end 3\n",
-        b"no 5 11 BoundsEscape\n",
-    );
-}
-
-// `wrong_result.log`
-#[test]
-fn a_wrong_result(rt: HostRuntime) {
-    judges(
-        &rt,
-        b"capcheck 1\n\
+        "no 5 11 BoundsEscape\n",
+    ),
+    // `wrong_result.log`
+    (
+        "a wrong result",
+        "capcheck 1\n\
         root c1 ffff1ffffc0180040000000000000000\n\
         setaddr c2 c1 000000000003fffb = 1 ffff1ffffc018004000000000003fffb\n\
         seal c3 c1 c2 = 1 ffff1fffdc0180040000000000000000\n\
         andperm c4 c2 000000000007fffe = 1 fffe1ffffc018004000000000003fffb\n\
         unseal c5 c3 c4 = 1 ffff1ffffc0180040000000000000000\n\
         end 4\n",
-        b"no 6 23 WrongResult\n",
-    );
-}
-
-// `memory.log`
-#[test]
-fn data_and_capabilities_in_memory(rt: HostRuntime) {
-    judges(
-        &rt,
-        b"capcheck 1\n\
+        "no 6 23 WrongResult\n",
+    ),
+    // `memory.log`
+    (
+        "data and capabilities in memory",
+        "capcheck 1\n\
         root c1 ffff1ffffc0180040000000000000000\n\
         store c1 8 4 12345678\n\
         load c1 8 1 = 78\n\
@@ -99,16 +79,12 @@ fn data_and_capabilities_in_memory(rt: HostRuntime) {
         lc c3 c1 16 = 0 ffff1ffffc01800400000000000000aa\n\
         load c1 -8 8 = 0000000000000000\n\
         end 8\n",
-        b"yes 8 1\n",
-    );
-}
-
-// `origins.log`
-#[test]
-fn a_root_overwritten(rt: HostRuntime) {
-    judges(
-        &rt,
-        b"capcheck 1\n\
+        "yes 8 1\n",
+    ),
+    // `origins.log`
+    (
+        "a root overwritten",
+        "capcheck 1\n\
         root c1 ffff1ffffc0180040000000000000000\n\
         root c5 ffff1ffffc0180040000000000000000\n\
         setaddr c2 c1 0000000000001000 = 1 ffff1ffffc0180040000000000001000\n\
@@ -117,36 +93,33 @@ fn a_root_overwritten(rt: HostRuntime) {
         move c1 c5 = 1 ffff1ffffc0180040000000000000000\n\
         cleartag c3 c2 = 0 ffff1ffff84010000000000000001000\n\
         end 5\n",
-        b"yes 5 2\n",
-    );
-}
-
-// `local_stored.log`
-#[test]
-fn a_local_capability_stored(rt: HostRuntime) {
-    judges(
-        &rt,
-        b"capcheck 1\n\
+        "yes 5 2\n",
+    ),
+    // `local_stored.log`
+    (
+        "a local capability stored",
+        "capcheck 1\n\
         root c1 ffff1ffffc0180040000000000000000\n\
         andperm c4 c1 000000000007fffe = 1 fffe1ffffc0180040000000000000000\n\
         andperm c5 c1 000000000007ffbf = 1 ffbf1ffffc0180040000000000000000\n\
         sc c4 c5 0\n\
         end 3\n",
-        b"no 5 22 StoreLocalPermission\n",
-    );
-}
-
-// `stale_tag.log`
-#[test]
-fn a_stale_tag(rt: HostRuntime) {
-    judges(
-        &rt,
-        b"capcheck 1\n\
+        "no 5 22 StoreLocalPermission\n",
+    ),
+    // `stale_tag.log`
+    (
+        "a stale tag",
+        "capcheck 1\n\
         root c1 ffff1ffffc0180040000000000000000\n\
         sc c1 c1 0\n\
         store c1 0 1 aa\n\
         lc c3 c1 0 = 1 ffff1ffffc01800400000000000000aa\n\
         end 3\n",
-        b"no 5 23 WrongResult\n",
-    );
+        "no 5 23 WrongResult\n",
+    ),
+];
+
+#[test]
+fn examples(rt: HostRuntime) {
+    all_judged(&rt, "", &WHOLE);
 }

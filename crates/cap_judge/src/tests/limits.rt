@@ -1,10 +1,8 @@
 //! Logs at the limits on roots and granules.
 
-use crate::tests::logs::judges;
+use crate::tests::logs::{ROOT, judges};
 use std::alloc::{AllocError, Global};
 use std::test::Fail;
-
-const BEGINNING: &[u8] = b"capcheck 1\nroot c1 ffff1ffffc0180040000000000000000\n";
 
 // Appends the sixteen digits of a number.
 fn append_digits(log: &mut Vec<u8>, number: u64) -> Result<(), AllocError> {
@@ -40,17 +38,17 @@ fn append_block(log: &mut Vec<u8>, block: u32) -> Result<(), AllocError> {
 }
 
 // The log of some blocks, and then some lines.
-fn blocks(alloc: Global, from: u32, until: u32, rest: &[u8]) -> Result<Vec<u8>, AllocError> {
-    let mut log = Vec::from_slice(alloc, BEGINNING)?;
+fn blocks(alloc: Global, from: u32, until: u32, rest: &str) -> Result<Vec<u8>, AllocError> {
+    let mut log = Vec::from_slice(alloc, ROOT.as_bytes())?;
     for block in from..until {
         append_block(&mut log, block)?;
     }
-    log.extend_from_slice(rest)?;
+    log.extend_from_slice(rest.as_bytes())?;
     Ok(log)
 }
 
 // The log of so many roots, in each register and then in granules, and then some lines.
-fn many_roots(alloc: Global, roots: u32, rest: &[u8]) -> Result<Vec<u8>, AllocError> {
+fn many_roots(alloc: Global, roots: u32, rest: &str) -> Result<Vec<u8>, AllocError> {
     let mut log = Vec::from_slice(alloc, b"capcheck 1\n")?;
     for root in 0..roots {
         if root < 31 {
@@ -63,124 +61,73 @@ fn many_roots(alloc: Global, roots: u32, rest: &[u8]) -> Result<Vec<u8>, AllocEr
         }
         log.extend_from_slice(b" ffff1ffffc0180040000000000000000\n")?;
     }
-    log.extend_from_slice(rest)?;
+    log.extend_from_slice(rest.as_bytes())?;
     Ok(log)
 }
 
-#[test]
-fn as_many_granules_as_the_limit(rt: HostRuntime) -> Result<(), Fail> {
-    judges(
-        &rt,
-        blocks(rt.alloc(), 0, 256, b"end 65792\n")?.as_slice(),
-        b"yes 65792 1\n",
-    );
-    Ok(())
-}
-
-#[test]
-fn one_granule_too_many(rt: HostRuntime) -> Result<(), Fail> {
-    judges(
-        &rt,
-        blocks(rt.alloc(), 0, 257, b"")?.as_slice(),
-        b"no 65796 24 LimitPassed\n",
-    );
-    Ok(())
-}
-
-#[test]
-fn one_granule_too_many_below_the_others(rt: HostRuntime) -> Result<(), Fail> {
-    judges(
-        &rt,
-        blocks(rt.alloc(), 1, 257, b"store c1 2032 1 00\nend 65793\n")?.as_slice(),
-        b"no 65795 24 LimitPassed\n",
-    );
-    Ok(())
-}
-
-#[test]
-fn one_granule_too_many_beside_the_others(rt: HostRuntime) -> Result<(), Fail> {
-    let rest = b"setaddr c2 c1 0000000000000800 = 1 ffff1ffffc0180040000000000000800\n\
+// The first of 256 or 257 blocks and the one behind the last, the lines behind them, and the verdict.
+const BLOCKS: [(u32, u32, &str, &str); 6] = [
+    (0, 256, "end 65792\n", "yes 65792 1\n"),
+    (0, 257, "", "no 65796 24 LimitPassed\n"),
+    (
+        1,
+        257,
+        "store c1 2032 1 00\nend 65793\n",
+        "no 65795 24 LimitPassed\n",
+    ),
+    // the page of the first granule too many is there
+    (
+        1,
+        257,
+        "setaddr c2 c1 0000000000000800 = 1 ffff1ffffc0180040000000000000800\n\
         store c2 2032 1 00\n\
-        end 65794\n";
-    judges(
-        &rt,
-        blocks(rt.alloc(), 1, 257, rest)?.as_slice(),
-        b"no 65796 24 LimitPassed\n",
-    );
-    Ok(())
-}
-
-#[test]
-fn a_granule_named_before_at_the_limit(rt: HostRuntime) -> Result<(), Fail> {
-    let rest = b"store c1 2032 8 0000000000000000\n\
+        end 65794\n",
+        "no 65796 24 LimitPassed\n",
+    ),
+    // granules that were named before
+    (
+        0,
+        256,
+        "store c1 2032 8 0000000000000000\n\
         sc c1 c1 0\n\
         lc c3 c1 0 = 1 ffff1ffffc0180040000000000000000\n\
         load c1 -8 8 = 0000000000000000\n\
-        end 65796\n";
-    judges(
-        &rt,
-        blocks(rt.alloc(), 0, 256, rest)?.as_slice(),
-        b"yes 65796 1\n",
-    );
+        end 65796\n",
+        "yes 65796 1\n",
+    ),
+    (1, 257, "store c1 2033 2 0000\n", "no 65795 20 Misaligned\n"),
+];
+
+// How many roots, the lines behind them, and the verdict.
+const ROOTS: [(u32, &str, &str); 4] = [
+    (4096, "end 0\n", "yes 0 4096\n"),
+    (4097, "end 0\n", "no 4098 24 LimitPassed\n"),
+    (
+        4096,
+        "root c31 ffff1ffffc0180040000000000000000\n",
+        "no 4098 7 PlaceTaken\n",
+    ),
+    (
+        4096,
+        "root @0000000000000000 ffff1ffffc01a0030000000000000000\n",
+        "no 4098 8 UnsoundRoot\n",
+    ),
+];
+
+#[test]
+fn granules(rt: HostRuntime) -> Result<(), Fail> {
+    for (from, until, rest, line) in BLOCKS {
+        let log = blocks(rt.alloc(), from, until, rest)?;
+        judges(&rt, rest, log.as_slice(), line.as_bytes());
+    }
     Ok(())
 }
 
 #[test]
-fn misaligned_before_the_limit(rt: HostRuntime) -> Result<(), Fail> {
-    judges(
-        &rt,
-        blocks(rt.alloc(), 1, 257, b"store c1 2033 2 0000\n")?.as_slice(),
-        b"no 65795 20 Misaligned\n",
-    );
-    Ok(())
-}
-
-#[test]
-fn as_many_roots_as_the_limit(rt: HostRuntime) -> Result<(), Fail> {
-    judges(
-        &rt,
-        many_roots(rt.alloc(), 4096, b"end 0\n")?.as_slice(),
-        b"yes 0 4096\n",
-    );
-    Ok(())
-}
-
-#[test]
-fn one_root_too_many(rt: HostRuntime) -> Result<(), Fail> {
-    judges(
-        &rt,
-        many_roots(rt.alloc(), 4097, b"end 0\n")?.as_slice(),
-        b"no 4098 24 LimitPassed\n",
-    );
-    Ok(())
-}
-
-#[test]
-fn taken_before_the_limit(rt: HostRuntime) -> Result<(), Fail> {
-    judges(
-        &rt,
-        many_roots(
-            rt.alloc(),
-            4096,
-            b"root c31 ffff1ffffc0180040000000000000000\n",
-        )?
-        .as_slice(),
-        b"no 4098 7 PlaceTaken\n",
-    );
-    Ok(())
-}
-
-#[test]
-fn unsound_before_the_limit(rt: HostRuntime) -> Result<(), Fail> {
-    judges(
-        &rt,
-        many_roots(
-            rt.alloc(),
-            4096,
-            b"root @0000000000000000 ffff1ffffc01a0030000000000000000\n",
-        )?
-        .as_slice(),
-        b"no 4098 8 UnsoundRoot\n",
-    );
+fn roots(rt: HostRuntime) -> Result<(), Fail> {
+    for (count, rest, line) in ROOTS {
+        let log = many_roots(rt.alloc(), count, rest)?;
+        judges(&rt, rest, log.as_slice(), line.as_bytes());
+    }
     Ok(())
 }

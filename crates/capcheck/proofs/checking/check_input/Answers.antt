@@ -1,4 +1,4 @@
-use Rattle.capcheck.proofs.VectorFileLemmas.{shows_opened}
+use Rattle.capcheck.proofs.ShownLemmas.{shows_opened}
 use Rattle.capcheck.proofs.checking.check_input.Goals as goal
 
 pub returns-in-Some-clause-printed : goal.returns-in-Some-clause-printed

@@ -1,0 +1,22 @@
+-- Lines one after another.
+use Rattle.std.proofs.Common.{◌≡◌, List, ℕ, ◌++◌, codes, append_assoc}
+use Rattle.cap_texts.specs.TextLines.{text_line}
+
+-- a line behind what stands there
+pub line_after : (front name value : List ℕ) → front ++ name ++ codes " " ++ value ++ codes "\n" ≡ front ++ text_line name value
+unfolding text_line
+line_after front name value = simp append_assoc
+
+-- three lines behind what stands there
+pub three_after : (front a b c : List ℕ) → front ++ a ++ b ++ c ≡ front ++ (a ++ b ++ c)
+three_after front a b c = simp append_assoc
+
+-- four lines behind what stands there
+pub four_after : (front a b c d : List ℕ) → front ++ a ++ b ++ c ++ d ≡ front ++ (a ++ b ++ c ++ d)
+four_after front a b c d = simp append_assoc
+
+-- the line of an object type
+pub type_line : (front digits name : List ℕ)
+    → front ++ codes "otype " ++ digits ++ codes " " ++ name ++ codes "\n" ≡ front ++ text_line (codes "otype") (digits ++ codes " " ++ name)
+unfolding text_line
+type_line front digits name = simp append_assoc

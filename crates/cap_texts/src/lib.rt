@@ -1,0 +1,9 @@
+//! The texts that say what a capability's word means and what bounds a request gets: lines of a name and its
+//! value.
+#![tactic(auto)]
+
+pub mod explain_lines;
+pub mod round_lines;
+#[cfg(test)]
+mod tests;
+pub mod text_lines;

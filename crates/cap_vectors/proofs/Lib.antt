@@ -1,0 +1,2 @@
+mod VectorLemmas
+mod VectorFileLemmas

@@ -1,0 +1,64 @@
+-- The lines of a vector file: what a word decodes to, whether an address keeps a word's bounds, how a request is rounded, and the bytes of
+-- a word in memory. All of it is this profile's own.
+use Rattle.std.specs.Prelude.{◌≡◌, ℕ, ◌+◌, ◌^◌, ◌<◌, ◌≤◌, ◌↔◌, Bool, true, false, List, ◌++◌, length, All, IsTrue, codes, decimal}
+use Rattle.cap_word.specs.Digits.{hex_digits}
+use Rattle.cap_word.specs.Memory.{memory_of}
+use Rattle.cap_bounds.specs.Bounds.{base_of, top_of, IsSound}
+use Rattle.cap_bounds.specs.Range.{KeepsBounds}
+use Rattle.cap_bounds.specs.Rounding.{rounded_base, rounded_top, rounded_ie, rounded_exponent, IsExact}
+use Rattle.cap_texts.specs.TextLines.{bytes_text}
+
+-- a vector: operands, and what is said of them
+pub data Vector : Type 0 where
+  Bounds : (word base top : ℕ) (sound : Bool) → Vector
+  Keeps : (word address : ℕ) (keeps : Bool) → Vector
+  Round : (base size base_rounded top_rounded : ℕ) (ie : Bool) (e : ℕ) (exact : Bool) → Vector
+  Memory : (word : ℕ) (bytes : List ℕ) → Vector
+
+-- each number fits the digits that it is written with
+abbrev pub IsInRange : Vector → Type 0
+IsInRange (Bounds word base top sound) = (word < 2 ^ 128) × (base < 2 ^ 64) × (top < 2 ^ 68)
+IsInRange (Keeps word address keeps) = (word < 2 ^ 128) × (address < 2 ^ 64)
+IsInRange (Round base size base_rounded top_rounded ie e exact) =
+    (base < 2 ^ 64) × (size < 2 ^ 64) × (base_rounded < 2 ^ 64) × (top_rounded < 2 ^ 68) × (e ≤ 52)
+IsInRange (Memory word bytes) = (word < 2 ^ 128) × (length bytes ≡ 16) × All (λ byte. byte < 256) bytes
+
+-- what is said of the operands is so
+abbrev pub Holds : Vector → Type 0
+Holds (Bounds word base top sound) = (base ≡ base_of word) × (top ≡ top_of word) × (IsTrue sound ↔ IsSound word)
+Holds (Keeps word address keeps) = IsTrue keeps ↔ KeepsBounds word address
+Holds (Round base size base_rounded top_rounded ie e exact) =
+    (base + size ≤ 2 ^ 64) × (base_rounded ≡ rounded_base base size) × (top_rounded ≡ rounded_top base size)
+    × (ie ≡ rounded_ie size) × (e ≡ rounded_exponent base size) × (IsTrue exact ↔ IsExact base size)
+Holds (Memory word bytes) = bytes ≡ memory_of word
+
+-- a true vector
+pub record IsTrueVector (vector : Vector) : Type 0 where
+  pub in_range : IsInRange vector
+  pub holds : Holds vector
+
+-- a yes or a no as a digit
+abbrev pub flag_digit : Bool → List ℕ
+flag_digit true = codes "1"
+flag_digit false = codes "0"
+
+-- the one line of a vector, without its line feed
+abbrev pub spelling : Vector → List ℕ
+spelling (Bounds word base top sound) =
+    codes "bounds " ++ hex_digits 32 word ++ codes " = " ++ hex_digits 16 base
+    ++ codes " " ++ hex_digits 17 top ++ codes " " ++ flag_digit sound
+spelling (Keeps word address keeps) =
+    codes "keeps " ++ hex_digits 32 word ++ codes " " ++ hex_digits 16 address ++ codes " = " ++ flag_digit keeps
+spelling (Round base size base_rounded top_rounded ie e exact) =
+    codes "round " ++ hex_digits 16 base ++ codes " " ++ hex_digits 16 size ++ codes " = " ++ hex_digits 16 base_rounded ++ codes " "
+    ++ hex_digits 17 top_rounded ++ codes " " ++ flag_digit ie ++ codes " " ++ decimal e ++ codes " " ++ flag_digit exact
+spelling (Memory word bytes) = codes "memory " ++ hex_digits 32 word ++ codes " = " ++ bytes_text bytes
+
+-- a line is that of a vector, which is true
+pub record States (line : List ℕ) (vector : Vector) : Type 0 where
+  pub spelled : line ≡ spelling vector
+  pub true_vector : IsTrueVector vector
+
+-- a line states something true
+abbrev pub IsTrueLine : List ℕ → Type 0
+IsTrueLine line = (vector : Vector) × States line vector
