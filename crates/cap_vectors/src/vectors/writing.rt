@@ -7,9 +7,9 @@ ghost use Rattle.cap_bounds.specs.Bounds.{base_of, top_of};
 ghost use Rattle.cap_bounds.specs.Rounding.{rounded_base, rounded_top, rounded_ie, rounded_exponent};
 ghost use Rattle.cap_vectors.specs.Vectors.{Bounds, Keeps, Round, Memory, States, flag_digit};
 
-use cap_texts::explain_lines::memory_text;
 use cap_bounds::{Interval, Rounded, bounds, keeps_bounds, round, sound};
 use cap_log::buffers::{put, put_decimal, put_hex};
+use cap_texts::explain_lines::memory_text;
 use cap_word::Word;
 
 /// Writes what a word decodes to at the front of the buffer, and answers the line's length.
