@@ -1,0 +1,166 @@
+#!/usr/bin/env python3
+"""What a reader has to believe: the definitions of crates/*/specs that contracts of public functions reach.
+
+    python3 bench/definitions.py              what docs/PROOFS.md lists for each crate, compared with what is reached
+    python3 bench/definitions.py NAME..       how many definitions, lines, characters and words these names reach
+
+A definition reaches those that its text names, by the `use` lines of its file. Lines are counted without comments
+and without blank ones. Files that the page names as a whole, as needing no belief, are passed over. The status is 1
+where a list lacks a definition, or names what no crate defines."""
+import glob
+import os
+import re
+import sys
+
+os.chdir(os.path.join(os.path.dirname(os.path.abspath(__file__)), ".."))
+WORD = r"[A-Za-z_][\w'-]*(?:\.[A-Za-z_][\w'-]*)*"
+HEAD = re.compile(r"^(?:abbrev |unfoldable )?(?:pub )?(?:abbrev |unfoldable )?(?:record |data )?(" + r"[A-Za-z_][\w'-]*" + r")\b.*:")
+NO_BELIEF = re.compile(r"need no belief|Nothing rests on them")
+USE = re.compile(r"^\s*(?:ghost )?(?:pub )?use Rattle\.(\w+)\.specs\.([\w.]+?)(?:\.\{([^}]*)\}| as (\w+))?;?\s*$")
+
+
+def read(path):
+    with open(path, encoding="utf-8") as it:
+        return it.read()
+
+
+def uses(text):
+    """The names that a file's use lines bring, each with the module and the name there."""
+    names, aliases = {}, {}
+    text = re.sub(r"\{([^{}]*)\}", lambda m: "{" + " ".join(m[1].split()) + "}", text)
+    for line in text.split("\n"):
+        m = USE.match(line)
+        if not m or m[2].startswith(("declared", "contracts")):
+            continue
+        module = (m[1], m[2])
+        for item in (m[3] or "").split(","):
+            name, _, other = item.strip().partition(" as ")
+            if name:
+                names[other or name] = (module, name)
+        if m[4]:
+            aliases[m[4]] = module
+    return names, aliases
+
+
+def blocks(text):
+    """The definitions of a file: the name and the lines of each, without comments."""
+    found = {}
+    for part in re.split(r"\n\s*\n", text):
+        lines = [it for it in part.split("\n") if it.strip() and not it.lstrip().startswith("--")]
+        if not lines or lines[0].startswith(("use ", "pub use ", "pub mod ", "mod ")):
+            continue
+        m = HEAD.match(lines[0])
+        if m:
+            found.setdefault(m[1], []).extend(lines)
+    return found
+
+
+SPECS = {}
+for path in glob.glob("crates/*/specs/**/*.antt", recursive=True):
+    crate = path.split("/")[1]
+    SPECS[crate, path[len(f"crates/{crate}/specs/"):-5].replace("/", ".")] = (blocks(read(path)), *uses(read(path)))
+
+
+def resolve(module, name):
+    """Where a name of a module is defined, through the modules that pass it on."""
+    while module in SPECS:
+        own, names, _ = SPECS[module]
+        if name in own:
+            return module, name
+        if name not in names:
+            return None
+        module, name = names[name]
+    return None
+
+
+def named(text, names, aliases, own=None):
+    for word in re.findall(WORD, text):
+        first, _, rest = word.partition(".")
+        if own and first in SPECS[own][0]:
+            yield own, first
+        elif first in names:
+            yield names[first]
+        elif first in aliases and rest:
+            yield aliases[first], rest.split(".")[0]
+
+
+def closure(found):
+    reached, waiting = set(), [it for it in (resolve(*pair) for pair in found) if it]
+    while waiting:
+        module, name = waiting.pop()
+        if (module, name) in reached:
+            continue
+        reached.add((module, name))
+        own, names, aliases = SPECS[module]
+        waiting += [it for it in (resolve(*pair) for pair in named("\n".join(own[name]), names, aliases, module)) if it]
+    return reached
+
+
+def public_items(crate):
+    """The names that the crate's root gives, and the modules that it opens."""
+    root = next(it for it in (f"crates/{crate}/src/lib.rt", f"crates/{crate}/src/main.rt") if os.path.isfile(it))
+    text = read(root)
+    items = set(re.findall(r"\w+", " ".join(re.findall(r"^pub use crate::([^;]*);", text, re.M))))
+    return items, set(re.findall(r"^pub mod (\w+);", text, re.M))
+
+
+def clauses(crate):
+    """The texts of the clauses of the crate's public functions, each with the names that its file brings."""
+    items, opened = public_items(crate)
+    for path in glob.glob(f"crates/{crate}/src/**/*.rt", recursive=True):
+        if "tests" in path.split("/") or path.endswith("/tests.rt"):
+            continue
+        text = read(path).split("#[cfg(test)]\nmod tests {")[0]
+        module = path[len(f"crates/{crate}/src/"):-3].split("/")
+        is_open = all(it in opened for it in module[:1])
+        around, lines, at = "", text.split("\n"), 0
+        for at, line in enumerate(lines):
+            m = re.match(r"(?:pub )?(?:impl|trait)\b.*?(?:for )?(\w+)(?:<[^{]*)?\s*\{", line)
+            around = m[1] if m else "" if re.match(r"\}", line) else around
+            m = re.match(r"\s*(pub )?(?:const )?(?:unsafe )?(?:extern \"C\" )?fn (\w+)", line)
+            is_trait = around and any(it.startswith("pub trait " + around) for it in lines)
+            if re.match(r"\s+ghost (?!use)\w+", line) and (is_open or is_trait or around in items):
+                yield "\n".join(lines[at : at + 3]), *uses(text)
+            if not m or not (m[1] or is_trait) or not (is_open or m[2] in items or around in items or '"C"' in line):
+                continue
+            said, end = [], at
+            while end + 1 < len(lines) and not re.match(r"\s*(?:\{|.*\bfn \w+|\})\s*$", lines[end + 1]) and "fn " not in lines[end + 1]:
+                end += 1
+                said.append(lines[end])
+            start = next((i for i, it in enumerate(said) if re.match(r"\s*(?:requires|ensures|ghost )", it)), None)
+            if start is not None:
+                yield "\n".join(said[start:]), *uses(text)
+
+
+def compare():
+    page, bad = read("docs/PROOFS.md"), 0
+    reached = set()
+    for crate in sorted(os.listdir("crates")):
+        for text, names, aliases in clauses(crate):
+            reached |= closure(named(text, names, aliases))
+    defined = {name for own, _, _ in SPECS.values() for name in own}
+    for crate in sorted(os.listdir("crates")):
+        section = re.search(rf"^## {crate}:.*?(?=^## )", page + "\n## ", re.M | re.S)
+        listed = set(re.findall(r"`([A-Za-z_][\w'-]*)`", section[0])) if section else set()
+        whole = {it for line in (section[0] if section else "").split("\n") if NO_BELIEF.search(line) for it in re.findall(r"`specs/(\w+)`", line)}
+        lacks = sorted(f"{module[1]}.{name}" for module, name in reached if module[0] == crate and name not in listed and module[1] not in whole)
+        head = section[0].split("| Promised")[0] if section else ""
+        strange = sorted(it for it in re.findall(r"`([A-Za-z]\w*)`", head) if it[0].isupper() and it not in defined and not re.search(rf"\b{it}\b", rust(crate)))
+        bad += len(lacks) + len(strange)
+        print(f"{crate}: {sum(module[0] == crate for module, _ in reached)} reached" + "".join(f"\n  not listed: {it}" for it in lacks) + "".join(f"\n  defined nowhere: {it}" for it in strange))
+    return 1 if bad else 0
+
+
+def rust(crate):
+    return "\n".join(read(it) for it in glob.glob(f"crates/{crate}/src/**/*.rt", recursive=True))
+
+
+def count(names):
+    found = [(module, name) for name in names for module, (own, _, _) in SPECS.items() if name in own]
+    lines = [line for module, name in closure(found) for line in SPECS[module][0][name]]
+    text = "\n".join(lines)
+    print(f"{len(closure(found))} definitions, {len(lines)} lines, {len(text)} characters, {len(text.split())} words")
+    return 0
+
+
+sys.exit(count(sys.argv[1:]) if len(sys.argv) > 1 else compare())
