@@ -28,6 +28,17 @@
 #include <stddef.h>
 #include <stdint.h>
 
+/* The version of this header and its library: 10000 for each major number, 100 for each minor one. */
+#define CAPCHECK_VERSION 10000
+#define CAPCHECK_VERSION_STRING "1.0.0"
+
+/* A result that must not be passed over: 0 of a call that writes a line, a refusal, or that there is none. */
+#if defined(__GNUC__)
+#define CAPCHECK_CHECKED __attribute__((warn_unused_result))
+#else
+#define CAPCHECK_CHECKED
+#endif
+
 #ifdef __cplusplus
 extern "C" {
 #endif
@@ -85,6 +96,7 @@ capcheck_word capcheck_null(void);
 capcheck_fields capcheck_split(capcheck_word word);
 
 /* Puts a word together. There is none where a field isn't in its range above. */
+CAPCHECK_CHECKED
 capcheck_optional_word capcheck_join(capcheck_fields fields);
 
 /* Writes the sixteen bytes of a word in memory, lowest address first: the word XOR that of NULL, least
@@ -99,6 +111,7 @@ capcheck_word_text capcheck_text_of(capcheck_word word);
 
 /* Reads a word from its text of exactly 32 lower-case hexadecimal digits, without a byte 0. Of anything
  * else, upper-case digits among them, there is none. */
+CAPCHECK_CHECKED
 capcheck_optional_word capcheck_read_word(const char *text, size_t length);
 
 /* ---- Bounds ---- */
@@ -113,8 +126,8 @@ typedef struct capcheck_bounds {
 /* The bounds of a word, for all 2^128 of them. */
 capcheck_bounds capcheck_decode(capcheck_word word);
 
-/* Whether a word is sound: its top is its base plus its length, and at most 2^64. Every word that
- * capcheck_set_bounds gives for a sound source is. */
+/* Whether a word is sound: its top is its base plus its length, and at most 2^64. Every tagged word that
+ * capcheck_set_bounds gives for a tagged, sound source is. */
 bool capcheck_sound(capcheck_word word);
 
 /* The length of a sound word in bytes, its top less its base, 0 to 2^64. 0 for words that aren't sound. */
@@ -172,28 +185,34 @@ capcheck_word capcheck_with_bounds(capcheck_word word, uint64_t base, uint64_t l
 
 /* ---- Permissions ---- */
 
-/* The permissions in the architectural view. capcheck_and_perm takes a mask of these. */
-enum capcheck_permission {
-    CAPCHECK_GLOBAL = 0x1,
-    CAPCHECK_EXECUTE = 0x2,
-    CAPCHECK_LOAD = 0x4,
-    CAPCHECK_STORE = 0x8,
-    CAPCHECK_LOAD_CAPABILITY = 0x10,
-    CAPCHECK_STORE_CAPABILITY = 0x20,
-    CAPCHECK_STORE_LOCAL_CAPABILITY = 0x40,
-    CAPCHECK_SEAL = 0x80,
-    CAPCHECK_CINVOKE = 0x100,
-    CAPCHECK_UNSEAL = 0x200,
-    CAPCHECK_ACCESS_SYSTEM_REGISTERS = 0x400,
-    CAPCHECK_SET_CID = 0x800,
-    CAPCHECK_USER_PERMISSIONS = 0x78000,
-    CAPCHECK_ALL_PERMISSIONS = 0x78fff
-};
+/* The permissions in the architectural view. capcheck_and_perm takes a mask of these. They are unsigned, so
+ * that ~CAPCHECK_STORE is a mask too. */
+#define CAPCHECK_GLOBAL                  0x1u
+#define CAPCHECK_EXECUTE                 0x2u
+#define CAPCHECK_LOAD                    0x4u
+#define CAPCHECK_STORE                   0x8u
+#define CAPCHECK_LOAD_CAPABILITY         0x10u
+#define CAPCHECK_STORE_CAPABILITY        0x20u
+#define CAPCHECK_STORE_LOCAL_CAPABILITY  0x40u
+#define CAPCHECK_SEAL                    0x80u
+#define CAPCHECK_CINVOKE                 0x100u
+#define CAPCHECK_UNSEAL                  0x200u
+#define CAPCHECK_ACCESS_SYSTEM_REGISTERS 0x400u
+#define CAPCHECK_SET_CID                 0x800u
+#define CAPCHECK_USER_PERMISSIONS        0x78000u
+#define CAPCHECK_ALL_PERMISSIONS         0x78fffu
 
 /* The permissions of a word, in this view. */
 uint32_t capcheck_perm_view(capcheck_word word);
 
-/* Whether a word is sealed: its object type is not 0x3ffff. */
+/* Object types, the field otype of capcheck_split: unsealed; those that are kept back, of which the greatest
+ * is a sealed entry point (sentry); and the greatest that sealing gives. */
+#define CAPCHECK_OTYPE_UNSEALED         0x3ffffu
+#define CAPCHECK_OTYPE_SENTRY           0x3fffeu
+#define CAPCHECK_OTYPE_LEAST_RESERVED   0x3fffcu
+#define CAPCHECK_OTYPE_GREATEST         0x3fffbu
+
+/* Whether a word is sealed: its object type is not CAPCHECK_OTYPE_UNSEALED. */
 bool capcheck_sealed(capcheck_word word);
 
 /* ---- Operations ---- */
@@ -223,8 +242,8 @@ typedef struct capcheck_name {
     char text[24];
 } capcheck_name;
 
-/* The name of a refusal, as in a verdict: "BoundsEscape" for 11. "BadArgument" for 255, and "" for every
- * number that isn't above. */
+/* The name of a refusal, as in a verdict: "BoundsEscape" for 11. "BadArgument" for 255, and "" for 0 and for
+ * every number that isn't above. */
 capcheck_name capcheck_refusal_name(uint8_t refusal);
 
 /* What an operation gives: the capability and 0, or NULL without a tag and the first test that holds. */
@@ -237,32 +256,37 @@ typedef struct capcheck_made {
  * the source is tagged and its word is sound; its word is sound then too. A source without a tag gives
  * the same fields without a tag, and nothing is tested; capcheck_seal and capcheck_unseal refuse it. */
 
-/* Narrows the bounds to `length` bytes from the source's address on, rounded (CSetBounds); with `exact`
- * only where nothing has to be rounded (CSetBoundsExact). Of a tagged source, in this order:
+/* Narrows the bounds to `length` bytes from the source's address on, rounded (CSetBounds); with `exact`,
+ * any number but 0, only where nothing has to be rounded (CSetBoundsExact). Of a tagged source, in this order:
  * SOURCE_SEALED; BOUNDS_ESCAPE, where the rounded bounds aren't inside its own; NOT_EXACT. */
-capcheck_made capcheck_set_bounds(capcheck_cap source, uint64_t length, bool exact);
+CAPCHECK_CHECKED
+capcheck_made capcheck_set_bounds(capcheck_cap source, uint64_t length, uint8_t exact);
 
 /* The source at another address (CSetAddr). Of a tagged source: SOURCE_SEALED; NOT_REPRESENTABLE, where
  * the address isn't in the representable range. From the base to the top it always is. */
+CAPCHECK_CHECKED
 capcheck_made capcheck_set_addr(capcheck_cap source, uint64_t address);
 
 /* Takes permissions away: those that the mask lacks (CAndPerm). Of a tagged source: SOURCE_SEALED. */
+CAPCHECK_CHECKED
 capcheck_made capcheck_and_perm(capcheck_cap source, uint64_t mask);
 
 /* The source, sealed with the authority's address as its object type (CSeal). In this order:
  * AUTHORITY_UNTAGGED, AUTHORITY_SEALED, AUTHORITY_PERMISSION, AUTHORITY_BOUNDS, TYPE_OUT_OF_RANGE (above
  * 0x3fffb), SOURCE_UNTAGGED, SOURCE_SEALED. */
+CAPCHECK_CHECKED
 capcheck_made capcheck_seal(capcheck_cap source, capcheck_cap authority);
 
 /* The source, unsealed by an authority whose address is its object type (CUnseal); global only where both
  * are. In this order: AUTHORITY_UNTAGGED, AUTHORITY_SEALED, AUTHORITY_PERMISSION, AUTHORITY_BOUNDS,
  * SOURCE_UNTAGGED, TYPE_MISMATCH. */
+CAPCHECK_CHECKED
 capcheck_made capcheck_unseal(capcheck_cap source, capcheck_cap authority);
 
 /* The same five in clear mode, for hardware that clears a tag in place of a trap: where a test holds, the
  * result has the same fields, and no tag. capcheck_seal_clear then takes the low 18 bits of the
  * authority's address. */
-capcheck_cap capcheck_set_bounds_clear(capcheck_cap source, uint64_t length, bool exact);
+capcheck_cap capcheck_set_bounds_clear(capcheck_cap source, uint64_t length, uint8_t exact);
 capcheck_cap capcheck_set_addr_clear(capcheck_cap source, uint64_t address);
 capcheck_cap capcheck_and_perm_clear(capcheck_cap source, uint64_t mask);
 capcheck_cap capcheck_seal_clear(capcheck_cap source, capcheck_cap authority);
@@ -285,9 +309,13 @@ typedef struct capcheck_access {
  * Store; AUTHORITY_BOUNDS, unless all bytes are inside; MISALIGNED, unless the address is a multiple of
  * the size. For capcheck_may_store_cap, where the stored one is tagged, then STORE_CAP_PERMISSION, and
  * STORE_LOCAL_PERMISSION where it isn't global. */
+CAPCHECK_CHECKED
 capcheck_access capcheck_may_load(capcheck_cap authority, int64_t offset, uint64_t size);
+CAPCHECK_CHECKED
 capcheck_access capcheck_may_store(capcheck_cap authority, int64_t offset, uint64_t size);
+CAPCHECK_CHECKED
 capcheck_access capcheck_may_load_cap(capcheck_cap authority, int64_t offset);
+CAPCHECK_CHECKED
 capcheck_access capcheck_may_store_cap(capcheck_cap authority, int64_t offset, capcheck_cap stored);
 
 /* What a load gives of a capability in memory: without its tag where the authority lacks Load
@@ -305,46 +333,63 @@ capcheck_cap capcheck_loaded(capcheck_cap authority, capcheck_cap stored);
 enum { CAPCHECK_LINE_SIZE = 96 };
 
 /* The first line: version 1 or 2. */
+CAPCHECK_CHECKED
 size_t capcheck_line_version(char buffer[CAPCHECK_LINE_SIZE], uint64_t version);
 
-/* The second line of a log of version 2: `mode clear`, or `mode strict`. */
-size_t capcheck_line_mode(char buffer[CAPCHECK_LINE_SIZE], bool clear);
+/* The second line of a log of version 2: `mode clear`, or `mode strict` where `clear` is 0. */
+CAPCHECK_CHECKED
+size_t capcheck_line_mode(char buffer[CAPCHECK_LINE_SIZE], uint8_t clear);
 
 /* A root: a tagged capability that a register, 1 to 31, or the sixteen bytes from an address on, a multiple
  * of 16, holds at the start. */
+CAPCHECK_CHECKED
 size_t capcheck_line_root(char buffer[CAPCHECK_LINE_SIZE], uint64_t target, capcheck_word word);
+CAPCHECK_CHECKED
 size_t capcheck_line_root_at(char buffer[CAPCHECK_LINE_SIZE], uint64_t address, capcheck_word word);
 
 /* Steps that read and write registers. */
+CAPCHECK_CHECKED
 size_t capcheck_line_move(char buffer[CAPCHECK_LINE_SIZE], uint64_t target, uint64_t source,
                           capcheck_cap recorded);
+CAPCHECK_CHECKED
 size_t capcheck_line_cleartag(char buffer[CAPCHECK_LINE_SIZE], uint64_t target, uint64_t source,
                               capcheck_cap recorded);
+CAPCHECK_CHECKED
 size_t capcheck_line_setbounds(char buffer[CAPCHECK_LINE_SIZE], uint64_t target, uint64_t source,
                                uint64_t length, capcheck_cap recorded);
+CAPCHECK_CHECKED
 size_t capcheck_line_setboundsexact(char buffer[CAPCHECK_LINE_SIZE], uint64_t target, uint64_t source,
                                     uint64_t length, capcheck_cap recorded);
+CAPCHECK_CHECKED
 size_t capcheck_line_setaddr(char buffer[CAPCHECK_LINE_SIZE], uint64_t target, uint64_t source,
                              uint64_t address, capcheck_cap recorded);
+CAPCHECK_CHECKED
 size_t capcheck_line_andperm(char buffer[CAPCHECK_LINE_SIZE], uint64_t target, uint64_t source,
                              uint64_t mask, capcheck_cap recorded);
+CAPCHECK_CHECKED
 size_t capcheck_line_seal(char buffer[CAPCHECK_LINE_SIZE], uint64_t target, uint64_t source,
                           uint64_t authority, capcheck_cap recorded);
+CAPCHECK_CHECKED
 size_t capcheck_line_unseal(char buffer[CAPCHECK_LINE_SIZE], uint64_t target, uint64_t source,
                             uint64_t authority, capcheck_cap recorded);
 
 /* Steps that read and write memory: a capability is loaded (lc) and stored (sc), and data are, of a size of
  * 1, 2, 4 or 8 bytes, whose value is a number of so many bytes. */
+CAPCHECK_CHECKED
 size_t capcheck_line_lc(char buffer[CAPCHECK_LINE_SIZE], uint64_t target, uint64_t authority,
                         int64_t offset, capcheck_cap recorded);
+CAPCHECK_CHECKED
 size_t capcheck_line_sc(char buffer[CAPCHECK_LINE_SIZE], uint64_t source, uint64_t authority,
                         int64_t offset);
+CAPCHECK_CHECKED
 size_t capcheck_line_load(char buffer[CAPCHECK_LINE_SIZE], uint64_t authority, int64_t offset,
                           uint64_t size, uint64_t value);
+CAPCHECK_CHECKED
 size_t capcheck_line_store(char buffer[CAPCHECK_LINE_SIZE], uint64_t authority, int64_t offset,
                            uint64_t size, uint64_t value);
 
 /* The end line, with the number of step lines, below 2^32. */
+CAPCHECK_CHECKED
 size_t capcheck_line_end(char buffer[CAPCHECK_LINE_SIZE], uint64_t steps);
 
 #ifdef __cplusplus

@@ -255,6 +255,3 @@ pub fn bounds_are_unique(word: Word)
 {
     let _ = word;
 }
-
-#[cfg(test)]
-mod tests;

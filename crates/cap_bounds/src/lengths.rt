@@ -52,6 +52,3 @@ pub fn align_mask(length: u64) -> u64
 {
     mask_of(length)
 }
-
-#[cfg(test)]
-mod tests;

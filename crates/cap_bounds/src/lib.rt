@@ -4,8 +4,6 @@
 
 mod decoding;
 mod lengths;
-#[cfg(test)]
-mod plain;
 mod range;
 mod rounding;
 

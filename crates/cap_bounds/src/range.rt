@@ -52,6 +52,3 @@ pub fn keeps_bounds(word: Word, address: u64) -> bool
         Some((start, size)) => address.wrapping_sub(start) < size,
     }
 }
-
-#[cfg(test)]
-mod tests;

@@ -224,6 +224,3 @@ pub fn with_bounds(word: Word, rounded: &Rounded, address: u64) -> Word
 {
     replace_bounds(word, rounded, address)
 }
-
-#[cfg(test)]
-mod tests;

@@ -41,6 +41,3 @@ pub fn put_hex(buffer: &mut [u8], at: usize, digits: usize, number: u128) -> usi
     let text = word_text(Word(number));
     put(buffer, at, &text[32 - digits..])
 }
-
-#[cfg(test)]
-mod tests;

@@ -60,6 +60,3 @@ impl<A: Single, B: Part> Part for (A, B) {
         self.1.write(buffer, next)
     }
 }
-
-#[cfg(test)]
-mod tests;

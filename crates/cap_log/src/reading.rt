@@ -46,6 +46,3 @@ pub fn spellings_are_distinct()
     ensures plain { (line : Line) → IsInRange line → HasNoFeed (spelling line) }
     ensures short { (line : Line) → IsInRange line → length (spelling line) ≤ 95 }
 {}
-
-#[cfg(test)]
-mod tests;

@@ -35,6 +35,3 @@ pub trait Sink {
     /// What is taken in two calls in a row.
     ghost joined: { (a b c : Self) (xs ys : List ℕ) → took a b xs → took b c ys → took a c (xs ++ ys) };
 }
-
-#[cfg(test)]
-mod tests;

@@ -39,6 +39,3 @@ pub trait Source {
     /// What is handed out in two calls in a row.
     ghost joined: { (a b c : Self) (xs ys : List ℕ) → gave a b xs → gave b c ys → gave a c (xs ++ ys) };
 }
-
-#[cfg(test)]
-mod tests;

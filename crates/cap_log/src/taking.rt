@@ -123,6 +123,3 @@ impl Lines {
         }
     }
 }
-
-#[cfg(test)]
-mod tests;

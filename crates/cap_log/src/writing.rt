@@ -225,6 +225,3 @@ fn write_step(step: Step, buffer: &mut [u8]) -> usize
         }
     }
 }
-
-#[cfg(test)]
-mod tests;

@@ -29,6 +29,3 @@ pub use crate::laws::{
 pub use crate::machine::{MOST_ROOTS, MOST_STEPS, Machine};
 pub use crate::refusal::Refusal;
 pub use crate::rules::Rules;
-
-#[cfg(test)]
-mod tests;

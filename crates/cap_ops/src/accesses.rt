@@ -176,6 +176,3 @@ pub fn loaded(authority: Cap, stored: Cap) -> Cap
         word: stored.word,
     }
 }
-
-#[cfg(test)]
-mod tests;

@@ -75,6 +75,3 @@ pub fn set_addr(source: Cap, address: u64) -> Result<Cap, OpFault>
         None => Ok(moved(source, address)),
     }
 }
-
-#[cfg(test)]
-mod tests;

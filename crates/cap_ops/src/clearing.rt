@@ -96,6 +96,3 @@ pub fn unseal_clear(source: Cap, authority: Cap) -> Cap
 {
     or_cleared(unseal(source, authority), without_type(source, authority))
 }
-
-#[cfg(test)]
-mod tests;

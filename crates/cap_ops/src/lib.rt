@@ -12,8 +12,6 @@ mod faults;
 mod kinds;
 mod narrowing;
 mod permissions;
-#[cfg(test)]
-mod samples;
 mod sealing;
 
 pub use crate::access::Access;

@@ -88,6 +88,3 @@ pub(crate) fn narrowed(source: Cap, length: u64) -> Cap
         word: with_bounds(source.word, &rounded, source.word.address()),
     }
 }
-
-#[cfg(test)]
-mod tests;

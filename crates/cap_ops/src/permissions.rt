@@ -77,6 +77,3 @@ pub fn and_perm(source: Cap, mask: u64) -> Result<Cap, OpFault>
         None => Ok(masked(source, mask)),
     }
 }
-
-#[cfg(test)]
-mod tests;

@@ -177,6 +177,3 @@ pub fn unseal(source: Cap, authority: Cap) -> Result<Cap, OpFault>
         None => Ok(without_type(source, authority)),
     }
 }
-
-#[cfg(test)]
-mod tests;

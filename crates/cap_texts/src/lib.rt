@@ -4,6 +4,4 @@
 
 pub mod explain_lines;
 pub mod round_lines;
-#[cfg(test)]
-mod tests;
 pub mod text_lines;

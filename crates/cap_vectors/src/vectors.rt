@@ -69,6 +69,3 @@ fn is_failing(line: u64, text: &[u8]) -> bool
 {
     line == LAST_LINE || !is_true_line(text)
 }
-
-#[cfg(test)]
-mod tests;

@@ -7,9 +7,6 @@ ghost use Rattle.cap_word.specs.Digits.{AreHexDigits, hex_digits};
 use crate::digits::read_front;
 use crate::word::Word;
 
-#[cfg(test)]
-mod tests;
-
 /// Takes a word from the front of some bytes: its text, the 32 lower-case hexadecimal digits of its register
 /// layout, and what stands behind them. It is `None` where no such digits stand there.
 #[inline(always)]

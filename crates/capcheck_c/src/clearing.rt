@@ -22,7 +22,7 @@ ghost use Rattle.cap_ops.specs.Operations.{
   unseal_tests,
 };
 ghost use Rattle.cap_ops.specs.Permissions.{is_sealed, perm_view_of};
-ghost use Rattle.capcheck_c.specs.Passed.{cap_of, whole_of};
+ghost use Rattle.capcheck_c.specs.Passed.{cap_of, is_set, whole_of};
 
 use crate::halves::{given, taken, word_of};
 use crate::values::{Capability, Halves};
@@ -36,19 +36,19 @@ use cap_ops::{
 pub extern "C" fn capcheck_set_bounds_clear(
     source: Capability,
     length: u64,
-    exact: bool,
+    exact: u8,
 ) -> Capability
     ensures result_is { cap_of result
-        ≡ clear_result (set_bounds_tests (cap_of source) length exact) (set_bounds_result (cap_of source) length) }
-    ensures strict { IsStrictWhereTagged (set_bounds_tests (cap_of source) length exact) (set_bounds_result (cap_of source) length)
+        ≡ clear_result (set_bounds_tests (cap_of source) length (is_set exact)) (set_bounds_result (cap_of source) length) }
+    ensures strict { IsStrictWhereTagged (set_bounds_tests (cap_of source) length (is_set exact)) (set_bounds_result (cap_of source) length)
         (cap_of result) }
     ensures tag { result.tag ≤ 1 }
     ensures stays_within { StaysWithin (cap_of result) (cap_of source) }
-    ensures escape { exact ≡ false → source.tag ≢ 0 → IsFalse (is_sealed (whole_of source.word)) → IsSound (whole_of source.word)
+    ensures escape { exact ≡ 0 → source.tag ≢ 0 → IsFalse (is_sealed (whole_of source.word)) → IsSound (whole_of source.word)
         → ((result.tag ≡ 0) ↔ (¬ IsInside (address_of (whole_of source.word))
         (address_of (whole_of source.word) + length) (base_of (whole_of source.word)) (top_of (whole_of source.word)))) }
 {
-    given(set_bounds_clear(taken(source), length, exact))
+    given(set_bounds_clear(taken(source), length, exact != 0))
 }
 
 /// [`capcheck_set_addr`](crate::operations::capcheck_set_addr) in clear mode.

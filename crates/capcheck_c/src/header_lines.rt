@@ -7,7 +7,7 @@ ghost use Rattle.std.specs.Prelude.{◌≡◌, ◌/◌, ◌%◌};
 ghost use Rattle.cap_log.specs.declared.lines.Line.TheVariants as line;
 ghost use Rattle.cap_log.specs.declared.lines.Place.TheVariants as place;
 ghost use Rattle.capcheck_c.specs.LinesWritten.{AnswersLine, IsLineAt, mode_of};
-ghost use Rattle.capcheck_c.specs.Passed.{whole_of};
+ghost use Rattle.capcheck_c.specs.Passed.{is_set, whole_of};
 
 use crate::halves::word_of;
 use crate::ranges::{step_count_of, target_of, version_of};
@@ -28,10 +28,14 @@ pub extern "C" fn capcheck_line_version(buffer: &mut [u8; 96], version: u64) -> 
 
 /// Writes the mode line of a log of version 2 into the buffer: clear mode, or else strict mode.
 #[unsafe(no_mangle)]
-pub extern "C" fn capcheck_line_mode(buffer: &mut [u8; 96], clear: bool) -> usize
-    ensures { IsLineAt (line.Mode (mode_of clear)) buffer.old buffer.new result }
+pub extern "C" fn capcheck_line_mode(buffer: &mut [u8; 96], clear: u8) -> usize
+    ensures { IsLineAt (line.Mode (mode_of (is_set clear))) buffer.old buffer.new result }
 {
-    let mode = if clear { Mode::Clear } else { Mode::Strict };
+    let mode = if clear != 0 {
+        Mode::Clear
+    } else {
+        Mode::Strict
+    };
     put_line(&Line::Mode(mode), buffer)
 }
 

@@ -63,15 +63,15 @@ fn made_from(outcome: Result<Cap, OpFault>) -> Made
 /// A tagged source is refused where it is sealed (10), then where the rounded bounds do not lie inside its
 /// own (11), then where they are to be exact and are not (12).
 #[unsafe(no_mangle)]
-pub extern "C" fn capcheck_set_bounds(source: Capability, length: u64, exact: bool) -> Made
-    ensures outcome { Answers (set_bounds_tests (cap_of source) length exact) (set_bounds_result (cap_of source) length) result }
+pub extern "C" fn capcheck_set_bounds(source: Capability, length: u64, exact: u8) -> Made
+    ensures outcome { Answers (set_bounds_tests (cap_of source) length (is_set exact)) (set_bounds_result (cap_of source) length) result }
     ensures tag { result.cap.tag ≤ 1 }
     ensures stays_within { StaysWithin (cap_of result.cap) (cap_of source) }
     ensures escape { source.tag ≢ 0 → IsFalse (is_sealed (whole_of source.word)) → IsSound (whole_of source.word)
         → ((result.refusal ≡ 11) ↔ (¬ IsInside (address_of (whole_of source.word))
         (address_of (whole_of source.word) + length) (base_of (whole_of source.word)) (top_of (whole_of source.word)))) }
 {
-    made_from(set_bounds(taken(source), length, exact))
+    made_from(set_bounds(taken(source), length, exact != 0))
 }
 
 /// Gives the source another address.

@@ -24,6 +24,3 @@ pub fn front(bytes: &[u8]) -> Front
         Front::Cut
     }
 }
-
-#[cfg(test)]
-mod tests;

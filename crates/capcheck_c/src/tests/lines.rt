@@ -28,10 +28,10 @@ fn headers_and_ends(rt: HostRuntime) {
     let length = capcheck_line_version(&mut buffer, 2);
     wrote(&rt, &buffer, length, b"capcheck 2\n");
     let mut buffer = [b'x'; 96];
-    let length = capcheck_line_mode(&mut buffer, true);
+    let length = capcheck_line_mode(&mut buffer, 1);
     wrote(&rt, &buffer, length, b"mode clear\n");
     let mut buffer = [b'x'; 96];
-    let length = capcheck_line_mode(&mut buffer, false);
+    let length = capcheck_line_mode(&mut buffer, 0);
     wrote(&rt, &buffer, length, b"mode strict\n");
     let mut buffer = [b'x'; 96];
     let length = capcheck_line_end(&mut buffer, 4294967295);

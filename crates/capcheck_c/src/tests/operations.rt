@@ -25,19 +25,15 @@ fn refuses(rt: &impl Abort, made: Made, refusal: u8) {
 fn bounds_are_set(rt: HostRuntime) {
     let all = tagged(ALL_HIGH, 0x1000);
     let small = tagged(SMALL_HIGH, 0x1000);
-    makes(&rt, capcheck_set_bounds(all, 0xfff, true), small);
-    refuses(&rt, capcheck_set_bounds(all, 0x1001, true), 12);
-    refuses(&rt, capcheck_set_bounds(small, 0x1000, false), 11);
-    refuses(
-        &rt,
-        capcheck_set_bounds(tagged(SEALED_HIGH, 0), 1, false),
-        10,
-    );
-    refuses(&rt, capcheck_set_bounds(all, u64::MAX, false), 11);
-    assert_eq!(rt; capcheck_set_bounds_clear(all, 0xfff, true), small);
-    assert_eq!(rt; capcheck_set_bounds_clear(small, u64::MAX, false).tag, 0);
+    makes(&rt, capcheck_set_bounds(all, 0xfff, 1), small);
+    refuses(&rt, capcheck_set_bounds(all, 0x1001, 1), 12);
+    refuses(&rt, capcheck_set_bounds(small, 0x1000, 0), 11);
+    refuses(&rt, capcheck_set_bounds(tagged(SEALED_HIGH, 0), 1, 0), 10);
+    refuses(&rt, capcheck_set_bounds(all, u64::MAX, 0), 11);
+    assert_eq!(rt; capcheck_set_bounds_clear(all, 0xfff, 1), small);
+    assert_eq!(rt; capcheck_set_bounds_clear(small, u64::MAX, 0).tag, 0);
     assert_eq!(rt;
-        capcheck_set_bounds_clear(small, u64::MAX, false).word,
+        capcheck_set_bounds_clear(small, u64::MAX, 0).word,
         word(0xffff_1fff_fc03_8004, 0x1000)
     );
 }
@@ -50,7 +46,7 @@ fn any_tag_but_0_is_one(rt: HostRuntime) {
     };
     makes(
         &rt,
-        capcheck_set_bounds(all, 0xfff, true),
+        capcheck_set_bounds(all, 0xfff, 1),
         tagged(SMALL_HIGH, 0x1000),
     );
     assert_eq!(rt; capcheck_clear_tag(all), untagged(ALL_HIGH, 0x1000));

@@ -1,0 +1,7 @@
+//! Bounds.
+
+mod decoding;
+mod lengths;
+mod plain;
+mod range;
+mod rounding;

@@ -1,0 +1,168 @@
+//! Words and their bounds, worked by hand and by plain ways of decoding.
+
+use crate::bounds::plain::{HOSTILE_WORDS, corrected_bounds, hostile_word, plain_bounds};
+use cap_bounds::{Interval, bounds, mantissa, sound, sound_word_holds};
+use cap_word::{Word, split};
+use std::process::Abort;
+
+/// Asserts that the code answers as the definition, and as the Sail model's shifts and corrections.
+fn agrees(rt: &impl Abort, word: Word) {
+    let plain = plain_bounds(word);
+    let Interval { base, top } = bounds(word);
+    assert_eq!(rt; i128::from(base), plain.base, "the base of {word:?}");
+    assert_eq!(rt; top, plain.top.unsigned_abs(), "the top of {word:?}");
+    assert_eq!(rt; sound(word), plain.sound, "the soundness of {word:?}");
+    assert_eq!(rt;
+        (base, top),
+        corrected_bounds(word),
+        "the corrected bounds of {word:?}"
+    );
+    let top = (top & 0xffff_ffff_ffff_ffff) as u64;
+    for count in [1, 2, 8, 16] {
+        let last = top.wrapping_sub(u64::from(count));
+        for first in [
+            base,
+            base.wrapping_sub(1),
+            last,
+            last.wrapping_add(1),
+            !base,
+        ] {
+            holds_as_defined(rt, word, first, count);
+        }
+    }
+}
+
+/// Asserts of a sound word that the code holds the bytes that the definition does.
+fn holds_as_defined(rt: &impl Abort, word: Word, first: u64, count: u8) {
+    if count > 0 && sound(word) {
+        let plain = plain_bounds(word);
+        let end = i128::from(first) + i128::from(count);
+        assert_eq!(rt;
+            sound_word_holds(word, first, count),
+            plain.base <= i128::from(first) && end <= plain.top,
+            "{count} bytes from {first:x} in {word:?}"
+        );
+    }
+}
+
+#[test]
+fn hostile_words_decode_as_defined(rt: HostRuntime) {
+    for index in 0..HOSTILE_WORDS {
+        agrees(&rt, hostile_word(index));
+    }
+}
+
+// Without the exponent bit, and at addresses around each power of two.
+#[test]
+fn short_words_decode_as_defined(rt: HostRuntime) {
+    for index in 0..8192u32 {
+        let word = hostile_word(index << 1);
+        let address = (1u64 << (index & 63)).wrapping_sub(u64::from(index >> 12));
+        agrees(&rt, Word((word.0 ^ (1 << 90)) ^ u128::from(address)));
+    }
+}
+
+#[test]
+fn given_words_decode(rt: HostRuntime) {
+    for (word, base, top, is_sound) in [
+        (
+            0x00001ffffc0180040000000000000000,
+            0,
+            0x10000000000000000,
+            true,
+        ),
+        (0xffff1ffffbffd0000000000000001000, 0x1000, 0x1fff, true),
+        (0xffff1ffffc0010000000000000001000, 0x1000, 0x2000, true),
+        (0xffff1ffffc0210000000000000001000, 0x1000, 0x2008, true),
+        (0xffff1ffffbffdfff0000000000001fff, 0x1fff, 0x1fff, true),
+        (0xffff1ffff80810000000000000001000, 0x1000, 0x1020, true),
+        (0xffff1ffffbffc000fffffffffffff800, 0, 0xfff, true),
+        (
+            0xffff1ffffbffc000fffffffffffff7ff,
+            0xffffffffffffc000,
+            0xffffffffffffcfff,
+            true,
+        ),
+        (
+            0xffff1ffff8007fffffffffffffffffff,
+            0xffffffffffffffff,
+            0x10000000000000001,
+            false,
+        ),
+        (
+            0xffff1ffffc01a0030000000000000000,
+            0,
+            0x18000000000000000,
+            false,
+        ),
+        (
+            0xffff1ffffc0180050000000000000000,
+            0,
+            0x10000000000000000,
+            true,
+        ),
+        (
+            0xffff1ffffc0380040000000000001000,
+            0,
+            0x10080000000000000,
+            false,
+        ),
+    ] {
+        assert_eq!(rt; bounds(Word(word)), Interval { base, top });
+        assert_eq!(rt; sound(Word(word)), is_sound);
+    }
+}
+
+#[test]
+fn given_words_at_great_exponents_decode(rt: HostRuntime) {
+    for (word, base, top) in [
+        (0xffff1ffffc0180020000000000000000, 0, 0x04000000000000000),
+        (0xffff1ffffc0180030000000000000000, 0, 0x08000000000000000),
+        (0xffff1ffffc01c0070000000000000000, 0, 0x10000000000000000),
+        (
+            0xffff1ffffc01b002c000000000000000,
+            0xc000000000000000,
+            0x10000000000000000,
+        ),
+        (
+            0xffff1ffffc0190038000000000000000,
+            0x8000000000000000,
+            0x10000000000000000,
+        ),
+    ] {
+        assert_eq!(rt; bounds(Word(word)), Interval { base, top });
+        assert!(rt; sound(Word(word)));
+    }
+}
+
+#[test]
+fn given_mantissas(rt: HostRuntime) {
+    for (word, t) in [
+        (0x00001ffffc0180040000000000000000, 0x1000),
+        (0xffff1ffffbffd0000000000000001000, 0x1fff),
+        (0xffff1ffffc01a0030000000000000000, 0x3000),
+    ] {
+        assert_eq!(rt; mantissa(&cap_word::split(Word(word))), t);
+    }
+}
+
+#[test]
+fn given_bounds_and_addresses_in_an_interval(rt: HostRuntime) {
+    let interval = bounds(Word(0xffff1ffffbffd0000000000000001000));
+    for (base, top, inside) in [
+        (0x1000, 0x1fff, true),
+        (0x1fff, 0x1fff, true),
+        (0xfff, 0x1fff, false),
+        (0x1000, 0x2000, false),
+    ] {
+        assert_eq!(rt; interval.contains(base, top), inside);
+    }
+    for (address, inside) in [
+        (0xfff, false),
+        (0x1000, true),
+        (0x1ffe, true),
+        (0x1fff, false),
+    ] {
+        assert_eq!(rt; interval.holds(address), inside);
+    }
+}

@@ -1,0 +1,81 @@
+//! Which addresses keep the bounds.
+
+use crate::bounds::plain::{HOSTILE_WORDS, hostile_word, plain_keeps};
+use cap_bounds::{keeps_bounds, reach};
+use cap_word::Word;
+use std::process::Abort;
+
+/// Asserts that the code answers as the definition at an address.
+fn agrees(rt: &impl Abort, word: Word, address: u64) {
+    assert_eq!(rt;
+        keeps_bounds(word, address),
+        plain_keeps(word, address),
+        "{word:?} at {address}"
+    );
+}
+
+#[test]
+fn hostile_words_keep_as_defined(rt: HostRuntime) {
+    for index in 0..HOSTILE_WORDS {
+        let word = hostile_word(index);
+        agrees(&rt, word, u64::from(index) << 50);
+        agrees(&rt, word, u64::from(index).wrapping_neg());
+    }
+}
+
+// The four addresses at the two edges of the range.
+#[test]
+fn ranges_end_as_defined(rt: HostRuntime) {
+    for index in 0..HOSTILE_WORDS {
+        let word = hostile_word(index);
+        if let Some((start, size)) = reach(word) {
+            assert!(rt; plain_keeps(word, start));
+            assert!(rt; plain_keeps(word, start.wrapping_add(size - 1)));
+            assert!(rt; !plain_keeps(word, start.wrapping_sub(1)));
+            assert!(rt; !plain_keeps(word, start.wrapping_add(size)));
+        }
+    }
+}
+
+#[test]
+fn given_addresses(rt: HostRuntime) {
+    for (word, address, keeps) in [
+        (0xffff1ffffbffc0000000000000000000, 0xfffffffffffff800, true),
+        (0xffff1ffffbffc0000000000000000000, 0x37ff, true),
+        (0xffff1ffffbffc0000000000000000000, 0x3800, false),
+        (
+            0xffff1ffffbffc0000000000000000000,
+            0xfffffffffffff7ff,
+            false,
+        ),
+        (0xffff1ffffc0180040000000000000000, 0xffffffffffffffff, true),
+        (0xffff1ffffc0180030000000000000000, 0xffffffffffffffff, true),
+        (0xffff1ffffc0180020000000000000000, 0xe000000000000000, true),
+        (0xffff1ffffc0180010000000000000000, 0x6fffffffffffffff, true),
+        (
+            0xffff1ffffc0180010000000000000000,
+            0x7000000000000000,
+            false,
+        ),
+    ] {
+        assert_eq!(rt; keeps_bounds(Word(word), address), keeps);
+    }
+}
+
+#[test]
+fn given_ranges(rt: HostRuntime) {
+    for (word, range) in [
+        (
+            0xffff1ffffbffc0000000000000000000,
+            Some((0xfffffffffffff800, 0x4000)),
+        ),
+        (
+            0xffff1ffffc0180010000000000000000,
+            Some((0xf000000000000000, 0x8000000000000000)),
+        ),
+        (0xffff1ffffc0180040000000000000000, None),
+        (0xffff1ffffc0180020000000000000000, None),
+    ] {
+        assert_eq!(rt; reach(Word(word)), range);
+    }
+}

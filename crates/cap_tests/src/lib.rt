@@ -1,0 +1,18 @@
+//! Tests of the libraries by their public calls. They stand apart from the crates that they test, so that these
+//! are proved once, and not once more with their tests.
+#![tactic(auto)]
+
+#[cfg(test)]
+mod bounds;
+#[cfg(test)]
+mod log;
+#[cfg(test)]
+mod machine;
+#[cfg(test)]
+mod ops;
+#[cfg(test)]
+mod texts;
+#[cfg(test)]
+mod vectors;
+#[cfg(test)]
+mod word;

@@ -1,0 +1,5 @@
+//! Words and their texts.
+
+mod layout;
+mod memory;
+mod texts;

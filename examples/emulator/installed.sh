@@ -1,0 +1,17 @@
+#!/usr/bin/env bash
+# Installs into a folder of its own, and builds and runs the example from there, by pkg-config alone: against the
+# library's archive and against its shared form. Where there is no pkg-config, it says that this wasn't tried.
+set -eu
+cd "$(dirname "$0")/../.."
+work=$(mktemp -d)
+trap 'rm -rf "$work"' EXIT
+sh install.sh "$work/there" > "$work/said" 2>&1 || { cat "$work/said" >&2; exit 1; }
+command -v pkg-config > /dev/null || { echo 'installed: not tried, since there is no pkg-config'; exit 0; }
+export PKG_CONFIG_PATH=$work/there/lib/pkgconfig
+${CC:-cc} -std=c99 -Wall -Wextra -Werror -pedantic -O2 examples/emulator/emulator.c $(pkg-config --cflags --libs capcheck) -o "$work/emulator"
+LD_LIBRARY_PATH=$work/there/lib "$work/emulator" > "$work/log"
+[ "$("$work/there/bin/capcheck" judge "$work/log")" = 'yes 27 1' ] || { echo 'installed.sh: the installed program gives another verdict' >&2; exit 1; }
+rm "$work/there/lib/libcapcheck_c.so"
+${CC:-cc} -std=c99 -Wall -Wextra -Werror -pedantic -O2 examples/emulator/calls.c $(pkg-config --cflags --libs capcheck) -o "$work/calls"
+"$work/calls"
+echo 'installed: the example was built by pkg-config, and judged'

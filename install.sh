@@ -1,0 +1,43 @@
+#!/bin/sh
+# Installs what is built here below a folder: sh install.sh PREFIX
+#
+#   PREFIX/bin/capcheck              the program
+#   PREFIX/lib/libcapcheck_c.a       the library for C, and libcapcheck_c.so made of it
+#   PREFIX/lib/pkgconfig/capcheck.pc what `pkg-config --cflags --libs capcheck` reads
+#   PREFIX/include/capcheck.h        its header
+#   PREFIX/share/man/man1/capcheck.1 the program's manual page
+#
+# DESTDIR goes in front of PREFIX, and is named in no file. What isn't built yet is proved and built first, which
+# wants the Rattle kit and takes some minutes. The shared library wants a C compiler: CC, or cc.
+set -eu
+[ $# = 1 ] || { echo 'install.sh: one word, the folder to install below' >&2; exit 2; }
+case $1 in
+    /*) prefix=$1 ;;
+    *) prefix=$(pwd)/$1 ;;
+esac
+cd "$(dirname "$0")"
+to=${DESTDIR:-}$prefix
+program=crates/capcheck/out/capcheck
+library=crates/capcheck_c/out/libcapcheck_c.a
+version=$(sed -n 's/^#define CAPCHECK_VERSION_STRING "\(.*\)"$/\1/p' include/capcheck.h)
+
+[ -f "$program" ] || (cd crates/capcheck && rt run -- judge ../../examples/moves.log)
+[ -f "$library" ] || (cd crates/capcheck_c && rt lib)
+
+mkdir -p "$to/bin" "$to/lib/pkgconfig" "$to/include" "$to/share/man/man1"
+cp "$program" "$to/bin/capcheck"
+cp "$library" "$to/lib/libcapcheck_c.a"
+cp include/capcheck.h "$to/include/capcheck.h"
+cp docs/capcheck.1 "$to/share/man/man1/capcheck.1"
+${CC:-cc} -shared -Wl,-soname,libcapcheck_c.so.1 -Wl,--whole-archive "$library" -Wl,--no-whole-archive -o "$to/lib/libcapcheck_c.so.1"
+ln -sf libcapcheck_c.so.1 "$to/lib/libcapcheck_c.so"
+cat > "$to/lib/pkgconfig/capcheck.pc" <<PC
+prefix=$prefix
+
+Name: capcheck
+Description: 128-bit CHERI capabilities: what a word means, bounds, operations, and the lines of a log
+Version: $version
+Cflags: -I\${prefix}/include
+Libs: -L\${prefix}/lib -lcapcheck_c
+PC
+echo "capcheck $version is installed below $to"
