@@ -25,7 +25,7 @@ function scaled(from, size, left, right) {
     return { from, size, left, right, x, cut, at };
 }
 
-const LETTER = { number: 7.4, note: 6.6 };
+const LETTER = { number: 7.4, note: 6.6, strong: 8.2 };
 
 /** Places labels of two lines below points of an axis, so that none lies on another or on another's leader. */
 function labels(points, width, top) {
@@ -147,7 +147,7 @@ function marker(domain, tried, width, low) {
     const at = domain.cut(domain.place(tried.address));
     const kind = tried.keeps ? "tried" : "tried lost";
     const text = `${hex(tried.address)} ${tried.keeps ? "keeps the bounds" : "loses the bounds"}`;
-    const half = (text.length * LETTER.number) / 2;
+    const half = (text.length * LETTER.strong) / 2;
     return [
         words(Math.max(half, Math.min(width - half, at)), 14, text, `number ${kind}`),
         line(at, 34, at, low, kind),

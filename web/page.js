@@ -338,6 +338,7 @@ function show() {
     }
     byId("said").textContent = "";
     byId("link").hidden = true;
+    if (c === null) return;
     try {
         VIEWS[view]();
         byId("fault").hidden = true;
@@ -432,16 +433,17 @@ function listen() {
 }
 
 function start() {
+    byId("do").append(...Object.entries(OPERATIONS).map(([name, { title }]) => make("option", { value: name }, title)));
+    for (const name of Object.values(FIELDS).flat()) defaults[name] = valueOf(name);
     try {
         const text = byId("module").textContent.replace(/\s/g, "");
         c = library(Uint8Array.from(atob(text), (letter) => letter.charCodeAt(0)));
-        byId("do").append(...Object.entries(OPERATIONS).map(([name, { title }]) => make("option", { value: name }, title)));
-        for (const name of Object.values(FIELDS).flat()) defaults[name] = valueOf(name);
-        listen();
-        restore();
     } catch (problem) {
         failed(problem);
+        return;
     }
+    listen();
+    restore();
 }
 
 start();
