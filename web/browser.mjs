@@ -15,7 +15,7 @@ export class Browser {
 
     constructor(program) {
         this.profile = fs.mkdtempSync(path.join(os.tmpdir(), "capcheck-web-"));
-        const words = ["--headless", "--no-sandbox", "--disable-gpu", "--remote-debugging-pipe", "--no-first-run",
+        const words = ["--headless", "--no-sandbox", "--disable-gpu", "--hide-scrollbars", "--remote-debugging-pipe", "--no-first-run",
             "--disable-background-networking", `--user-data-dir=${this.profile}`, "about:blank"];
         this.child = spawn(program, words, { stdio: ["ignore", "ignore", "ignore", "pipe", "pipe"] });
         this.waiting = new Map();
@@ -103,6 +103,13 @@ class Page {
         const { result, exceptionDetails } = await this.send("Runtime.evaluate", { expression, awaitPromise: true, returnByValue: true });
         if (exceptionDetails) throw new Error(exceptionDetails.exception?.description ?? exceptionDetails.text);
         return result.value;
+    }
+
+    /** The same with a limit on its time: nothing where the limit was passed or the function threw. */
+    async runFor(timeout, body, ...given) {
+        const expression = `(${body})(...${JSON.stringify(given)})`;
+        const said = await this.send("Runtime.evaluate", { expression, returnByValue: true, timeout }).catch(() => undefined);
+        return said && !said.exceptionDetails ? said.result.value : undefined;
     }
 
     async key(key, modifiers = 0) {

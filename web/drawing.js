@@ -144,13 +144,15 @@ function rangeDrawing(facts, tried, width) {
 /** The address that is tried, with its handle. */
 function marker(domain, tried, width, low) {
     if (!tried) return [];
-    const at = domain.cut(domain.place(tried.address));
+    const place = domain.x(domain.place(tried.address));
+    const at = Math.max(11, Math.min(width - 11, place));
     const kind = tried.keeps ? "tried" : "tried lost";
-    const text = `${hex(tried.address)} ${tried.keeps ? "keeps the bounds" : "loses the bounds"}`;
+    const says = `${hex(tried.address)} ${tried.keeps ? "keeps the bounds" : "loses the bounds"}`;
+    const text = place < 0 ? `← ${says}` : place > width ? `${says} →` : says;
     const half = (text.length * LETTER.strong) / 2;
     return [
         words(Math.max(half, Math.min(width - half, at)), 14, text, `number ${kind}`),
-        line(at, 34, at, low, kind),
+        line(at, 34, domain.cut(domain.place(tried.address)), low, kind),
         shape("circle", { cx: at, cy: 34, r: 10, class: kind }),
         tried.keeps ? shape("path", { d: `M${at - 4} 34l3 4l5 -7`, class: "sign" })
             : shape("path", { d: `M${at - 4} 30l8 8m0 -8l-8 8`, class: "sign" }),

@@ -14,7 +14,8 @@ const PERMISSIONS = [
 
 const hex = (number, digits = 1) => number.toString(16).padStart(digits, "0");
 const decimal = (number) => number.toString().replace(/\B(?=(\d{3})+$)/g, ",");
-const span = (base, top) => `${hex(base)} up to ${hex(top)}`;
+const ox = (number) => `0x${hex(number)}`;
+const span = ({ base, top }) => `${ox(base)} up to ${ox(top)}`;
 
 /** The word with all permissions over the whole address space, at an address. */
 const almighty = (c, address) => c.join({ ...c.split(c.nothing()), perms: 0xffff, address }).word;
@@ -47,8 +48,8 @@ function endOf(c, start, size) {
 
 /** Why a word isn't sound. */
 function unsoundness(bounds, units, cut) {
-    if (bounds.top > SPACE) return `the top, ${hex(bounds.top)}, lies above 2^64, where addresses end`;
-    const distance = `from B to T there are ${hex(units)} units of 2^${cut} bytes`;
+    if (bounds.top > SPACE) return `the top, ${ox(bounds.top)}, lies above 2^64, where addresses end`;
+    const distance = `from B to T there are ${ox(units)} units of 2^${cut} bytes`;
     if (bounds.top < bounds.base) return `the top lies below the base, but ${distance}`;
     return `${distance}, and from base to top there aren't`;
 }
@@ -92,7 +93,7 @@ function explained(f) {
         ["ie", String(fields.ie), fields.ie ? "the exponent stands in the word" : "no exponent stands in the word"],
         ["e", String(fields.e), exponent],
         ["b", hex(fields.b, 4), "B, the mantissa of the base, in units"],
-        ["t", hex(f.t, 4), `T, the mantissa of the top, in units: ${hex(f.units)} above B`],
+        ["t", hex(f.t, 4), `T, the mantissa of the top, in units: ${ox(f.units)} above B`],
         ["address", hex(fields.address, 16), ""],
         ["base", hex(bounds.base, 16), "the first address inside"],
         ["top", hex(bounds.top, 17), "the first address behind"],
@@ -182,43 +183,42 @@ const OPERATIONS = {
 function compared(c, name, o, refusal) {
     const source = c.split(o.source.word);
     const authority = o.authority && c.split(o.authority.word);
-    const unsealed = hex(c.split(c.nothing()).otype);
-    const within = (cap) => { const { base, top } = c.decode(cap.word); return span(base, top); };
+    const unsealed = ox(c.split(c.nothing()).otype);
+    const within = (cap) => span(c.decode(cap.word));
+    const lacking = (cap) => `0x${hex(c.permView(cap.word), 8)}`;
     // The address of an access, as an authority over everything has it.
-    const target = () => hex(c.mayLoad({ word: almighty(c, authority.address), tag: 1 }, o.offset, 1n).address);
+    const target = () => ox(c.mayLoad({ word: almighty(c, authority.address), tag: 1 }, o.offset, 1n).address);
     const bytes = name === "lc" || name === "sc" ? "16" : String(o.size);
     switch (refusal) {
         case 9: return "The source has no tag.";
-        case 10: return `The source is sealed: its object type is ${hex(source.otype)}, not ${unsealed}.`;
-        case 11: {
-            const { base, top } = c.round(source.address, o.value);
-            return `The rounded bounds of the request, ${span(base, top)}, don't lie inside the source's, ${within(o.source)}.`;
-        }
-        case 12: {
-            const { base, top } = c.round(source.address, o.value);
-            return `The request is for ${hex(o.value)} bytes from ${hex(source.address)} on; rounded it is ${span(base, top)}.`;
-        }
+        case 10: return `The source is sealed: its object type is ${ox(source.otype)}, not ${unsealed}.`;
+        case 11:
+            return `The rounded bounds of the request, ${span(c.round(source.address, o.value))}, don't lie inside the source's, `
+                + `${within(o.source)}.`;
+        case 12:
+            return `The request is for ${ox(o.value)} bytes from ${ox(source.address)} on; rounded it is `
+                + `${span(c.round(source.address, o.value))}.`;
         case 13: {
             const { start, size } = c.reach(o.source.word);
-            return `${hex(o.value)} isn't among the ${hex(size)} addresses from ${hex(start)} on that keep the bounds ${within(o.source)}: `
-                + `there they would be ${span(moved(c, o.source, o.value).bounds.base, moved(c, o.source, o.value).bounds.top)}.`;
+            return `${ox(o.value)} isn't among the ${ox(size)} addresses from ${ox(start)} on that keep the bounds ${within(o.source)}: `
+                + `there they would be ${span(moved(c, o.source, o.value).bounds)}.`;
         }
         case 14: return "The authority has no tag.";
-        case 15: return `The authority is sealed: its object type is ${hex(authority.otype)}, not ${unsealed}.`;
-        case 16: return `The authority's permissions, ${hex(c.permView(o.authority.word), 8)}, lack ${needs[name]}.`;
+        case 15: return `The authority is sealed: its object type is ${ox(authority.otype)}, not ${unsealed}.`;
+        case 16: return `The authority's permissions, ${lacking(o.authority)}, lack ${needs[name]}.`;
         case 17:
             return name === "seal" || name === "unseal"
-                ? `The authority's address, ${hex(authority.address)}, doesn't lie in its bounds, ${within(o.authority)}.`
+                ? `The authority's address, ${ox(authority.address)}, doesn't lie in its bounds, ${within(o.authority)}.`
                 : `The access to ${bytes} bytes from ${target()} on doesn't lie in the authority's bounds, ${within(o.authority)}.`;
-        case 18: return `The authority's address, ${hex(authority.address)}, is above the greatest type that seal gives.`;
+        case 18: return `The authority's address, ${ox(authority.address)}, is above the greatest type that seal gives.`;
         case 19:
-            return `The source's object type is ${hex(source.otype)}, the authority's address ${hex(authority.address)}; `
+            return `The source's object type is ${ox(source.otype)}, the authority's address ${ox(authority.address)}; `
                 + "they have to be the same, and not reserved.";
         case 20: return `The address, ${target()}, is no multiple of ${bytes}.`;
-        case 21: return `The source has a tag, and the authority's permissions, ${hex(c.permView(o.authority.word), 8)}, lack Store Capability.`;
+        case 21: return `The source has a tag, and the authority's permissions, ${lacking(o.authority)}, lack Store Capability.`;
         case 22:
-            return `The source has a tag and lacks Global (${hex(c.permView(o.source.word), 8)}), and the authority's permissions, `
-                + `${hex(c.permView(o.authority.word), 8)}, lack Store Local Capability.`;
+            return `The source has a tag and lacks Global (${lacking(o.source)}), and the authority's permissions, `
+                + `${lacking(o.authority)}, lack Store Local Capability.`;
         case 255: return "An access has an offset of -2048 to 2047, and data a size of 1, 2, 4 or 8.";
         default: return "The module answers a number that is no refusal.";
     }

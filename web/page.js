@@ -93,7 +93,6 @@ function refuse(id, problem) {
 // ---- What is shown ----
 
 const widthOf = (id) => Math.max(280, Math.floor(byId(id).clientWidth));
-const boundsText = ({ base, top }) => `${hex(base, 16)} up to ${hex(top, 17)}`;
 
 function fill(id, rows) {
     byId(id).tBodies[0].replaceChildren(...rows.map(([name, value, remark]) =>
@@ -119,12 +118,12 @@ function showCapability() {
     showTried(facts);
     const { fields, scale, range } = facts;
     byId("range-says").textContent = range.every ? "Every address keeps these bounds: the representable range is the whole address space."
-        : `The representable range is ${hex(range.size)} addresses from ${hex(range.start)} on, 2^14 units of 2^${scale.cut}; `
+        : `The representable range is ${ox(range.size)} addresses from ${ox(range.start)} on, 2^14 units of 2^${scale.cut}; `
         + "a tick is an eighth of it. Where an address leaves it, the digits mean other bounds.";
     byId("grid-says").textContent = (fields.ie
-        ? `E is ${fields.e}. A short tick is a unit, 2^${scale.cut} bytes; a bound can lie at each long one, 8 units, 0x${hex(scale.step)} bytes apart.`
+        ? `E is ${fields.e}. A short tick is a unit, 2^${scale.cut} bytes; a bound can lie at each long one, 8 units, ${ox(scale.step)} bytes apart.`
         : "Without an exponent (ie 0) the unit is one byte, and a bound can lie at each tick.")
-        + (facts.sound ? ` The length is 0x${hex(facts.length)} bytes.` : ` The word isn't sound: ${facts.why}.`);
+        + (facts.sound ? ` The length is ${ox(facts.length)} bytes.` : ` The word isn't sound: ${facts.why}.`);
     const { base, top } = facts.bounds;
     const near = (bound, note) => nearDrawing({
         bound, scale, ie: fields.ie, bars: base <= top ? [{ base, top, kind: "bounds" }] : [],
@@ -156,17 +155,17 @@ function showTried(facts) {
     if (!tried) return;
     const place = domain.cut(domain.place(address)) / (domain.right - domain.left);
     byId("range").setAttribute("aria-valuenow", String(Math.round(place * 1000)));
-    byId("range").setAttribute("aria-valuetext", `${hex(address)}, ${tried.keeps ? "keeps the bounds" : "loses the bounds"}`);
+    byId("range").setAttribute("aria-valuetext", `${ox(address)}, ${tried.keeps ? "keeps the bounds" : "loses the bounds"}`);
 }
 
 function triedText(facts, tried) {
-    const there = hex(tried.address);
+    const there = ox(tried.address);
     if (!tried.keeps) {
         const strict = tried.strict.refusal ? `setaddr is refused: ${refusal(tried.strict.refusal)}` : "the word has no tag, so nothing refuses it";
         const clear = !facts.tag ? "" : tried.clear.tag ? "; in clear mode the tag stays" : "; in clear mode the tag goes";
         return [
             make("span", { class: "lost-text" }, `${there} loses the bounds`),
-            `: with it the word has ${boundsText(tried.bounds)}. At this address ${strict}${clear}.`,
+            `: with it the word has ${span(tried.bounds)}. At this address ${strict}${clear}.`,
         ];
     }
     const inside = facts.sound ? (tried.inside ? ", and lies inside them" : ", and lies outside them: it may come back, but nothing can be reached there") : "";
@@ -187,10 +186,10 @@ function showRequest() {
     const { rounded, scale } = facts;
     byId("rounding").replaceChildren(requestDrawing(facts, widthOf("rounding")));
     byId("rounding-says").textContent = `${decimal(length)} bytes. ` + (rounded.exact ? "Both bounds are the requested ones." : "Rounded: "
-        + `with E ${rounded.e} bounds can lie at multiples of 0x${hex(scale.step)}, 8 units of 2^${scale.cut} bytes. `
+        + `with E ${rounded.e} bounds can lie at multiples of ${ox(scale.step)}, 8 units of 2^${scale.cut} bytes. `
         + (rounded.e ? "With a smaller E there would be 1024 of its steps or more between them, and a word has room for 1023."
             : "From a length of 4096 on an exponent stands in the word, and takes three bits of each bound."));
-    byId("rounding").setAttribute("aria-label", `Requested: ${hex(length)} bytes from ${hex(base)} on. Rounded: ${boundsText(rounded)}.`);
+    byId("rounding").setAttribute("aria-label", `Requested: ${ox(length)} bytes from ${ox(base)} on. Rounded: ${span(rounded)}.`);
     const end = base + length;
     const near = (bound, note, asked) => nearDrawing({
         bound, scale, ie: rounded.ie,
@@ -251,7 +250,7 @@ function outcomes(name, operation, given) {
         if (number) return [refused("In both modes", name, given, number)];
         const cap = operation.result && operation.result(c, given);
         const what = { lc: "the register gets", sc: "memory gets" }[name];
-        return [outcome("In both modes", `Allowed, at ${hex(address, 16)}${what ? `; ${what}` : ""}`, cap)];
+        return [outcome("In both modes", `Allowed, at ${ox(address)}${what ? `; ${what}` : ""}`, cap)];
     }
     const strict = operation.strict(c, given);
     const clear = operation.clear(c, given);
@@ -274,8 +273,8 @@ function outcome(mode, says, cap) {
     const link = new URLSearchParams({ show: "capability", word: text, order: "register", tag: cap.tag, to: "" });
     made.append(
         make("p", { class: "mono" }, `${cap.tag} ${text}`),
-        make("p", {}, `bounds ${boundsText(c.decode(cap.word))}, permissions ${hex(c.permView(cap.word), 8)}, `
-            + `object type ${hex(c.split(cap.word).otype, 5)}${c.sound(cap.word) ? "" : "; not sound"}`),
+        make("p", {}, `bounds ${span(c.decode(cap.word))}, permissions ${ox(c.permView(cap.word))}, `
+            + `object type ${ox(c.split(cap.word).otype)}${c.sound(cap.word) ? "" : "; not sound"}`),
         make("p", {}, make("a", { href: `#${link}` }, "Show this capability")));
     return made;
 }

@@ -134,7 +134,7 @@ async function vectorsAreShown(page) {
         if (form === "keeps") {
             const says = seen("to-says");
             const number = given[1].replace(/^0*(?=.)/, "");
-            return [[says.startsWith(`${number} keeps the bounds`) ? "1" : says.startsWith(`${number} loses the bounds`) ? "0" : says],
+            return [[says.startsWith(`0x${number} keeps the bounds`) ? "1" : says.startsWith(`0x${number} loses the bounds`) ? "0" : says],
                 [String(Number(c.keepsBounds(word, BigInt(`0x${given[1]}`))))]];
         }
         const { memory, base, top, sound } = rows("lines");
@@ -178,7 +178,7 @@ async function wordsAreExplained(page) {
         };
         for (const [name, value] of Object.entries(wanted)) same(it[name], value, `explain ${word}: ${name}`);
         same(back, word, `memory ${memory}`);
-        const range = cut >= 50 ? "Every address keeps these bounds" : `The representable range is ${size} addresses from ${start} on`;
+        const range = cut >= 50 ? "Every address keeps these bounds" : `The representable range is 0x${size} addresses from 0x${start} on`;
         check(it.says.startsWith(range), `range of ${word}: ${it.says}`);
         check(sound === "yes" || it.why.includes("isn't sound: "), `why ${word} isn't sound: ${it.why}`);
         same(names.map(([, bit]) => !(view & bit)), it.perms.slice(0, 12).map((name) => name.startsWith("lacks ")), `permissions of ${word}`);
@@ -242,19 +242,19 @@ async function refusalsAreNamed(page) {
     const cases = [
         ["9 SourceUntagged", { do: "seal", sourcetag: "0" }, "no tag"],
         ["10 SourceSealed", { do: "setbounds", source: sealed }, "3fffb"],
-        ["11 BoundsEscape", { do: "setbounds", source: small, value: "1000" }, "1000 up to 2000, don't lie inside the source's, 1000 up to 1fff"],
-        ["12 NotExact", { do: "setboundsexact", source: all, value: "1001" }, "1001 bytes from 1000 on; rounded it is 1000 up to 2008"],
-        ["13 NotRepresentable", { do: "setaddr", source: small, value: "ffffffffffffffff" }, "4000 addresses from 800 on"],
+        ["11 BoundsEscape", { do: "setbounds", source: small, value: "1000" }, "0x1000 up to 0x2000, don't lie inside the source's, 0x1000 up to 0x1fff"],
+        ["12 NotExact", { do: "setboundsexact", source: all, value: "1001" }, "0x1001 bytes from 0x1000 on; rounded it is 0x1000 up to 0x2008"],
+        ["13 NotRepresentable", { do: "setaddr", source: small, value: "ffffffffffffffff" }, "0x4000 addresses from 0x800 on that keep the bounds 0x1000 up to 0x1fff"],
         ["14 AuthorityUntagged", { do: "seal", authoritytag: "0" }, "no tag"],
         ["15 AuthoritySealed", { do: "load", authority: sealed }, "3fffb"],
         ["16 AuthorityPermission", { do: "unseal", authority: "00001ffffc0180040000000000001000" }, "00000000, lack Unseal"],
-        ["17 AuthorityBounds", { do: "seal", authority: "ffff1ffffbffd0000000000000000fff" }, "fff, doesn't lie in its bounds, 1000 up to 1fff"],
-        ["17 AuthorityBounds", { do: "load", authority: small, offset: "2047" }, "8 bytes from 17ff on doesn't lie", false],
-        ["17 AuthorityBounds", { do: "load", authority: small, offset: "-8" }, "8 bytes from ff8 on doesn't lie in the authority's bounds, 1000 up to 1fff"],
+        ["17 AuthorityBounds", { do: "seal", authority: "ffff1ffffbffd0000000000000000fff" }, "0xfff, doesn't lie in its bounds, 0x1000 up to 0x1fff"],
+        ["17 AuthorityBounds", { do: "load", authority: small, offset: "2047" }, "8 bytes from 0x17ff on doesn't lie", false],
+        ["17 AuthorityBounds", { do: "load", authority: small, offset: "-8" }, "8 bytes from 0xff8 on doesn't lie in the authority's bounds, 0x1000 up to 0x1fff"],
         ["18 TypeOutOfRange", { do: "seal", authority: `${ALL}000000000003fffc` }, "3fffc"],
-        ["19 TypeMismatch", { do: "unseal", source: sealed }, "3fffb, the authority's address 1000"],
-        ["20 Misaligned", { do: "load", offset: "4" }, "1004, is no multiple of 8"],
-        ["20 Misaligned", { do: "lc", offset: "-8" }, "ff8, is no multiple of 16"],
+        ["19 TypeMismatch", { do: "unseal", source: sealed }, "0x3fffb, the authority's address 0x1000"],
+        ["20 Misaligned", { do: "load", offset: "4" }, "0x1004, is no multiple of 8"],
+        ["20 Misaligned", { do: "lc", offset: "-8" }, "0xff8, is no multiple of 16"],
         ["21 StoreCapPermission", { do: "sc", authority: "ffdf1ffffc0180040000000000001000" }, "00078fdf, lack Store Capability"],
         ["22 StoreLocalPermission", { do: "sc", source: "fffe1ffffc0180040000000000001000", authority: "ffbf1ffffc0180040000000000001000" }, "00078fbf, lack Store Local"],
         ["255 BadArgument", { do: "store", offset: "2048" }, "-2048 to 2047"],
@@ -401,7 +401,7 @@ async function addressMoves(page) {
     same((await state())[2], 0, "the last address keeps the bounds");
     await page.key("ArrowRight");
     same((await state()).slice(0, 1).concat((await state())[2]), ["0000000000019001", 1], "one unit on: red");
-    same((await state())[3], "19001, loses the bounds", "a reader of screens hears it");
+    same((await state())[3], "0x19001, loses the bounds", "a reader of screens hears it");
     await page.key("Home");
     same((await state()).slice(0, 1), ["0000000000011000"], "Home: the first");
     await page.key("ArrowLeft");
@@ -547,14 +547,14 @@ async function changedModules(page) {
     const html = fs.readFileSync(built, "utf8");
     const body = bodiesOf(bytes);
     const changed = file("web/out/changed.html");
-    const shownWith = async (at, value) => {
+    const shownWith = async (at, value, states = STATES) => {
         const other = Buffer.from(bytes);
         check(other[at] !== value, `byte ${at} is another`);
         other[at] = value;
         fs.writeFileSync(changed, html.replace(/(<script id="module"[^>]*>)[^<]*/, (_, head) => head + other.toString("base64")));
         await page.go(pathToFileURL(changed).href);
         await page.run(tools);
-        return page.run((links) => links.map((link) => { location.hash = link; restore(); return [dump(), results(), !document.getElementById("fault").hidden]; }), STATES);
+        return page.run((links) => links.map((link) => { location.hash = link; restore(); return [dump(), results(), !document.getElementById("fault").hidden]; }), states);
     };
     const plain = await shownWith(8, 0x7f);
     check(plain.every(([, results, fault]) => results === 0 && fault), "a module that is none is refused");
@@ -573,21 +573,37 @@ async function changedModules(page) {
     check(at > 0, "the names stand in the module's data");
     const renamed = await shownWith(at, "C".charCodeAt(0));
     check(renamed.at(-1)[0].includes("11 CoundsEscape") && !renamed.at(-1)[0].includes("BoundsEscape"), "a name comes from the module's data");
-    // Bytes in the code that leave a module that answers otherwise: the page says what it answers.
+    // Bytes in the code that leave a module that answers otherwise: the page says what it answers. They are
+    // looked for within the whole page, with a limit on time, since a changed byte may also make an endless loop.
+    const load = STATES.findIndex((link) => link.includes("do=load"));
+    const probes = { decode: 0, round: 8, round_length: 8, align_mask: 8, reach: 0, perm_view: 0, split: 0, text_of: 0, set_addr: 1, may_load: load };
+    await page.go(address);
+    await page.run(tools);
     let differed = 0;
-    const probes = ["decode", "round", "round_length", "align_mask", "reach", "perm_view", "split", "text_of", "set_addr", "may_load"];
-    for (const name of probes) {
-        const start = body[`capcheck_${name}`];
-        let found = false;
-        for (let k = 1; k < 60 && !found; k++) {
+    for (const [name, which] of Object.entries(probes)) {
+        let found = 0;
+        for (let at = body[`capcheck_${name}`] + 1, end = at + 400; at < end && !found; at++) {
             const other = Buffer.from(bytes);
-            other[start + k] ^= 1;
-            if (!await page.run((digits) => WebAssembly.validate(Uint8Array.from(atob(digits), (letter) => letter.charCodeAt(0))), other.toString("base64"))) continue;
-            const got = await shownWith(start + k, other[start + k]);
-            found = got.some(([shown, , fault], which) => !fault && shown !== whole[which][0]);
+            other[at] ^= 1;
+            const told = await page.runFor(1000, (digits, link) => {
+                globalThis.kept ??= c;
+                const made = Uint8Array.from(atob(digits), (letter) => letter.charCodeAt(0));
+                if (!WebAssembly.validate(made)) return null;
+                c = library(made);
+                location.hash = link;
+                restore();
+                return [dump(), 0, !document.getElementById("fault").hidden];
+            }, other.toString("base64"), STATES[which]);
+            if (told && !told[2] && told[0] !== whole[which][0]) found = at;
         }
-        check(found, `a changed byte in ${name} is seen`);
-        differed += Number(found);
+        await page.run(() => { c = globalThis.kept ?? c; });
+        if (found) {
+            const got = (await shownWith(found, bytes[found] ^ 1, [STATES[which]]))[0];
+            check(!got[2] && got[0] !== whole[which][0], `a changed byte in ${name} is seen in the page`);
+            differed++;
+            await page.go(address);
+            await page.run(tools);
+        } else check(false, `no changed byte in ${name} was found that answers otherwise`);
     }
     fs.rmSync(changed);
     return differed;
