@@ -116,7 +116,8 @@ function rangeDrawing(facts, tried, width) {
     if (tried && !tried.keeps) {
         const other = place(tried.bounds.base);
         const end = other + tried.bounds.top - tried.bounds.base;
-        if (end > domain.from && other < domain.from + domain.size) nodes.push(bar(cut(other), cut(end), high + 3, low - high - 3, "ghost"));
+        const seen = end > domain.from && other < domain.from + domain.size;
+        if (seen) nodes.push(bar(cut(other), cut(end), high + 3, low - high - 3, "ghost"));
     }
     nodes.push(line(0, low, width, low, "axis"));
     const eighth = scale.step << (facts.fields.ie ? 8n : 11n);
@@ -185,10 +186,10 @@ function nearDrawing({ bound, scale, ie, bars, points }, width) {
 function requestDrawing({ base, length, rounded }, width) {
     const room = (rounded.top - rounded.base) / 8n + 2n;
     const { x } = scaled(rounded.base - room, rounded.top - rounded.base + 2n * room, 0, width);
-    const low = 96;
+    const low = 108;
     const nodes = [
-        words(0, 14, "requested", "note", "start"), bar(x(base), x(base + length), 4, 34, "asked"),
-        words(0, 66, "rounded", "note", "start"), bar(x(rounded.base), x(rounded.top), 50, 34, "bounds"),
+        words(x(rounded.base), 14, "requested", "note", "start"), bar(x(base), x(base + length), 20, 28, "asked"),
+        words(x(rounded.base), 66, "rounded", "note", "start"), bar(x(rounded.base), x(rounded.top), 72, 28, "bounds"),
         line(0, low, width, low, "axis"),
     ];
     const points = [

@@ -167,8 +167,14 @@ const OPERATIONS = {
         takes: [], title: "cleartag: drop the tag",
         strict: (c, o) => ({ cap: c.clearTag(o.source), refusal: 0 }), clear: (c, o) => c.clearTag(o.source),
     },
-    load: { takes: ["authority", "offset", "size"], title: "load: read data", access: (c, o) => c.mayLoad(o.authority, o.offset, o.size) },
-    store: { takes: ["authority", "offset", "size"], title: "store: write data", access: (c, o) => c.mayStore(o.authority, o.offset, o.size) },
+    load: {
+        takes: ["authority", "offset", "size"], title: "load: read data",
+        access: (c, o) => c.mayLoad(o.authority, o.offset, o.size),
+    },
+    store: {
+        takes: ["authority", "offset", "size"], title: "store: write data",
+        access: (c, o) => c.mayStore(o.authority, o.offset, o.size),
+    },
     lc: {
         takes: ["authority", "offset"], title: "lc: load a capability, the source standing in memory",
         access: (c, o) => c.mayLoadCap(o.authority, o.offset), result: (c, o) => c.loaded(o.authority, o.source),

@@ -121,7 +121,8 @@ function showCapability() {
         : `The representable range is ${ox(range.size)} addresses from ${ox(range.start)} on, 2^14 units of 2^${scale.cut}; `
         + "a tick is an eighth of it. Where an address leaves it, the digits mean other bounds.";
     byId("grid-says").textContent = (fields.ie
-        ? `E is ${fields.e}. A short tick is a unit, 2^${scale.cut} bytes; a bound can lie at each long one, 8 units, ${ox(scale.step)} bytes apart.`
+        ? `E is ${fields.e}. A short tick is a unit, 2^${scale.cut} bytes; a bound can lie at each long one, `
+            + `8 units, ${ox(scale.step)} bytes apart.`
         : "Without an exponent (ie 0) the unit is one byte, and a bound can lie at each tick.")
         + (facts.sound ? ` The length is ${ox(facts.length)} bytes.` : ` The word isn't sound: ${facts.why}.`);
     const { base, top } = facts.bounds;
@@ -161,14 +162,16 @@ function showTried(facts) {
 function triedText(facts, tried) {
     const there = ox(tried.address);
     if (!tried.keeps) {
-        const strict = tried.strict.refusal ? `setaddr is refused: ${refusal(tried.strict.refusal)}` : "the word has no tag, so nothing refuses it";
+        const strict = tried.strict.refusal ? `setaddr is refused: ${refusal(tried.strict.refusal)}`
+            : "the word has no tag, so nothing refuses it";
         const clear = !facts.tag ? "" : tried.clear.tag ? "; in clear mode the tag stays" : "; in clear mode the tag goes";
         return [
             make("span", { class: "lost-text" }, `${there} loses the bounds`),
             `: with it the word has ${span(tried.bounds)}. At this address ${strict}${clear}.`,
         ];
     }
-    const inside = facts.sound ? (tried.inside ? ", and lies inside them" : ", and lies outside them: it may come back, but nothing can be reached there") : "";
+    const outside = ", and lies outside them: it may come back, but nothing can be reached there";
+    const inside = !facts.sound ? "" : tried.inside ? ", and lies inside them" : outside;
     const sealed = tried.strict.refusal ? ` setaddr is refused all the same: ${refusal(tried.strict.refusal)}.` : "";
     return [`${there} keeps the bounds${inside}.${sealed}`];
 }
@@ -191,14 +194,15 @@ function showRequest() {
             : "From a length of 4096 on an exponent stands in the word, and takes three bits of each bound."));
     byId("rounding").setAttribute("aria-label", `Requested: ${ox(length)} bytes from ${ox(base)} on. Rounded: ${span(rounded)}.`);
     const end = base + length;
-    const near = (bound, note, asked) => nearDrawing({
+    const near = (bound, note, request) => nearDrawing({
         bound, scale, ie: rounded.ie,
         bars: [{ base, top: end, kind: "asked" }, { base: rounded.base, top: rounded.top, kind: "bounds" }],
-        points: [{ at: bound, number: hex(bound), note }, asked],
+        points: [{ at: bound, number: hex(bound), note }, request],
     }, widthOf("ends") >= 660 ? Math.floor((widthOf("ends") - 16) / 2) : widthOf("ends"));
+    const asked = (at, number) => ({ at, number, note: "requested" });
     byId("ends").replaceChildren(
-        figure("At the base: requested above, rounded below", near(rounded.base, "base", { at: base, number: hex(base), note: "requested" })),
-        figure("At the top: requested above, rounded below", near(rounded.top, "top", { at: end, number: "", note: "requested" })));
+        figure("At the base: requested above, rounded below", near(rounded.base, "base", asked(base, hex(base)))),
+        figure("At the top: requested above, rounded below", near(rounded.top, "top", asked(end, ""))));
     fill("round-lines", [
         ["base", hex(rounded.base, 16), "the requested base, rounded down"],
         ["top", hex(rounded.top, 17), "the requested top, rounded up"],

@@ -1,5 +1,5 @@
 // A headless Chromium, driven over the pipe of its DevTools protocol.
-import { spawn } from "node:child_process";
+import {spawn} from "node:child_process";
 import fs from "node:fs";
 import os from "node:os";
 import path from "node:path";
@@ -15,8 +15,10 @@ export class Browser {
 
     constructor(program) {
         this.profile = fs.mkdtempSync(path.join(os.tmpdir(), "capcheck-web-"));
-        const words = ["--headless", "--no-sandbox", "--disable-gpu", "--hide-scrollbars", "--remote-debugging-pipe", "--no-first-run",
-            "--disable-background-networking", `--user-data-dir=${this.profile}`, "about:blank"];
+        const words = [
+            "--headless", "--no-sandbox", "--disable-gpu", "--hide-scrollbars", "--remote-debugging-pipe", "--no-first-run",
+            "--disable-background-networking", `--user-data-dir=${this.profile}`, "about:blank"
+        ];
         this.child = spawn(program, words, { stdio: ["ignore", "ignore", "ignore", "pipe", "pipe"] });
         this.waiting = new Map();
         this.listeners = [];
@@ -35,8 +37,10 @@ export class Browser {
         if (message.id === undefined) return this.listeners.forEach((listener) => listener(message));
         const { done, fail } = this.waiting.get(message.id);
         this.waiting.delete(message.id);
-        if (message.error) fail(new Error(message.error.message));
-        else done(message.result);
+        if (message.error)
+            fail(new Error(message.error.message));
+        else
+            done(message.result);
     }
 
     send(method, params = {}, sessionId = undefined) {
@@ -59,7 +63,8 @@ export class Browser {
     async end() {
         await Promise.race([this.send("Browser.close"), new Promise((done) => setTimeout(done, 3000))]);
         this.child.kill();
-        await new Promise((done) => (this.child.exitCode !== null || this.child.signalCode !== null ? done() : this.child.on("exit", done)));
+        await new Promise(
+            (done) => (this.child.exitCode !== null || this.child.signalCode !== null ? done() : this.child.on("exit", done)));
         fs.rmSync(this.profile, { recursive: true, force: true, maxRetries: 5, retryDelay: 200 });
     }
 }
@@ -69,16 +74,15 @@ class Page {
         Object.assign(this, { browser, targetId, sessionId, faults: [], requests: [] });
         browser.listeners.push(({ method, params, sessionId: from }) => {
             if (from !== sessionId) return;
-            if (method === "Runtime.exceptionThrown") this.faults.push(params.exceptionDetails.exception?.description ?? params.exceptionDetails.text);
+            if (method === "Runtime.exceptionThrown")
+                this.faults.push(params.exceptionDetails.exception?.description ?? params.exceptionDetails.text);
             if (method === "Log.entryAdded" && params.entry.level === "error") this.faults.push(params.entry.text);
             if (method === "Network.requestWillBeSent") this.requests.push(params.request.url);
             if (method === "Page.loadEventFired" && this.loaded) this.loaded();
         });
     }
 
-    send(method, params = {}) {
-        return this.browser.send(method, params, this.sessionId);
-    }
+    send(method, params = {}) { return this.browser.send(method, params, this.sessionId); }
 
     async go(address) {
         const loaded = new Promise((done) => (this.loaded = done));
@@ -93,9 +97,7 @@ class Page {
         return this.send("Emulation.setDeviceMetricsOverride", { width, height, deviceScaleFactor: 1, mobile: touch });
     }
 
-    scheme(value) {
-        return this.send("Emulation.setEmulatedMedia", { features: [{ name: "prefers-color-scheme", value }] });
-    }
+    scheme(value) { return this.send("Emulation.setEmulatedMedia", { features: [{ name: "prefers-color-scheme", value }] }); }
 
     /** What a function gives that runs in the page; it takes what can be written as JSON. */
     async run(body, ...given) {
@@ -115,7 +117,8 @@ class Page {
     async key(key, modifiers = 0) {
         const code = { Tab: 9, Home: 36, End: 35, ArrowLeft: 37, ArrowRight: 39, PageUp: 33, PageDown: 34, Enter: 13, " ": 32 }[key];
         const text = { Enter: "\r", " ": " " }[key];
-        await this.send("Input.dispatchKeyEvent", { type: text ? "keyDown" : "rawKeyDown", key, code: key, windowsVirtualKeyCode: code, modifiers, text });
+        await this.send("Input.dispatchKeyEvent",
+            { type: text ? "keyDown" : "rawKeyDown", key, code: key, windowsVirtualKeyCode: code, modifiers, text });
         await this.send("Input.dispatchKeyEvent", { type: "keyUp", key, code: key, windowsVirtualKeyCode: code, modifiers });
     }
 
@@ -126,7 +129,5 @@ class Page {
         fs.writeFileSync(file, Buffer.from(data, "base64"));
     }
 
-    close() {
-        return this.browser.send("Target.closeTarget", { targetId: this.targetId });
-    }
+    close() { return this.browser.send("Target.closeTarget", { targetId: this.targetId }); }
 }
