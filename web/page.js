@@ -118,7 +118,7 @@ function showCapability() {
     showTried(facts);
     const { fields, scale, range } = facts;
     byId("range-says").textContent = range.every ? "Every address keeps these bounds: the representable range is the whole address space."
-        : `The representable range is ${ox(range.size)} addresses from ${ox(range.start)} on, 2^14 units of 2^${scale.cut}; `
+        : `The representable range is ${ox(range.size)} addresses from ${ox(range.start)} on, 2^14 units of 2^${scale.cut} bytes; `
         + "a tick is an eighth of it. Where an address leaves it, the digits mean other bounds.";
     byId("grid-says").textContent = (fields.ie
         ? `E is ${fields.e}. A short tick is a unit, 2^${scale.cut} bytes; a bound can lie at each long one, `

@@ -36,6 +36,14 @@ const PICTURES = [
     ["narrow-bad", 360, "light", capability("12g")],
 ];
 
+/** The picture for docs/: the head of the page, with an address that would lose the bounds. */
+async function pictureOfHead(page) {
+    await page.size(900, 790);
+    await page.scheme("light");
+    await page.go(address + capability("003d1ffffc1a13910000000000013c08", { to: "19800" }));
+    await page.picture(file("web/out/pictures/page.png"), false);
+}
+
 async function pictures(page) {
     const folder = file("web/out/pictures");
     fs.mkdirSync(folder, { recursive: true });
@@ -64,6 +72,7 @@ async function main() {
             console.log(`${name}: ${count.passed + count.failed - before} checks${said ? `, ${said}` : ""}`);
         }
         await pictures(page);
+        await pictureOfHead(page);
     } finally {
         await browser.end();
     }
