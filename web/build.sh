@@ -21,8 +21,10 @@ put_back() {
 }
 trap put_back EXIT
 
-(cd crates/capcheck_c && rt lib --target "$target") > web/out/said 2>&1 || { cat web/out/said >&2; exit 1; }
-"$kit/bin/rattle-link" --target "$target" --toolchain "$kit/toolchain" -o web/out/capcheck.wasm "$archive"
+{
+    (cd crates/capcheck_c && rt lib --target "$target") &&
+        "$kit/bin/rattle-link" --target "$target" --toolchain "$kit/toolchain" -o web/out/capcheck.wasm "$archive"
+} > web/out/said 2>&1 || { cat web/out/said >&2; exit 1; }
 [ "${1:-}" != --module ] || exit 0
 
 # A line `@NAME@` of page.html is the file NAME.

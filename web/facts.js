@@ -85,7 +85,7 @@ function explained(f) {
     return [
         ["word", f.text, "the register's order, most significant digit first"],
         ["memory", f.memory, "the sixteen bytes in memory, in order of address: the word XOR that of NULL"],
-        ["tag", String(f.tag), f.tag ? "may be used as a capability" : "data: nothing can be done with it"],
+        ["tag", String(f.tag), f.tag ? "may be used as a capability" : "without it the word is data, and gives no authority"],
         ["perms", hex(f.view, 8), ""],
         ["otype", `${hex(fields.otype, 5)} ${f.kind}`, "the object type"],
         ["flag", String(fields.flag), ""],
@@ -95,8 +95,8 @@ function explained(f) {
         ["b", hex(fields.b, 4), "B, the mantissa of the base, in units"],
         ["t", hex(f.t, 4), `T, the mantissa of the top, in units: ${ox(f.units)} above B`],
         ["address", hex(fields.address, 16), ""],
-        ["base", hex(bounds.base, 16), "the first address inside"],
-        ["top", hex(bounds.top, 17), "the first address behind"],
+        ["base", hex(bounds.base, 16), "where the bounds begin"],
+        ["top", hex(bounds.top, 17), "the first address behind them"],
         ["sound", f.sound ? "yes" : "no", f.sound ? "the top is base plus length, and at most 2^64" : f.why],
     ];
 }

@@ -361,7 +361,7 @@ function failed(problem) {
 function changed() {
     show();
     clearTimeout(writing);
-    writing = setTimeout(() => history.replaceState(null, "", linkTo()), 200);
+    writing = setTimeout(() => history.replaceState(null, "", linkTo()), 350);
 }
 
 async function copy(text, what) {

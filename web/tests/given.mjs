@@ -24,6 +24,7 @@ export const same = (got, wanted, what) =>
 export const tools = () => {
     globalThis.type = (id, value) => {
         const field = document.getElementById(id);
+        if (field.value === value) return;
         field.value = value;
         field.dispatchEvent(new Event("input", { bubbles: true }));
     };
@@ -32,7 +33,10 @@ export const tools = () => {
         if (field.checked !== value) field.click();
     };
     globalThis.order = (name) => document.querySelector(`[name=order][value=${name}]`).click();
-    globalThis.turn = (name) => document.querySelector(`button[data-view=${name}]`).click();
+    globalThis.turn = (name) => {
+        const button = document.querySelector(`button[data-view=${name}]`);
+        if (!button.hasAttribute("aria-current")) button.click();
+    };
     globalThis.rows = (id) => Object.fromEntries(
         [...document.querySelectorAll(`#${id} tr`)].map((row) => [row.cells[0].textContent, row.cells[1].firstChild?.textContent ?? ""]));
     globalThis.error = (id) => document.getElementById(`${id}-error`).textContent;

@@ -164,5 +164,9 @@ export async function withoutAnEngine(first) {
     await page.run(tools);
     const said = await page.run(() => [dump().includes("no 64-bit memory (memory64)"), results()]);
     same(said, [true, 0], "without 64-bit memory");
+    await page.send("Emulation.setScriptExecutionDisabled", { value: true });
+    await page.go(address);
+    const { nodes } = await page.send("Accessibility.getFullAXTree");
+    check(nodes.some((it) => it.name?.value?.includes("The script of this page hasn't run")), "without scripts");
     await page.close();
 }

@@ -26,7 +26,7 @@ export async function linksRestore(page) {
         type("word", "ffff1ffffbffd0000000000000001000");
         type("to", "1800");
     });
-    await new Promise((done) => setTimeout(done, 400));
+    await new Promise((done) => setTimeout(done, 700));
     const now = await page.run(() => location.href);
     same(now, address + capability("ffff1ffffbffd0000000000000001000", { to: "1800" }), "the address follows");
     await page.browser.send("Browser.grantPermissions", { permissions: ["clipboardReadWrite", "clipboardSanitizedWrite"] });
