@@ -38,9 +38,9 @@ const PICTURES = [
 
 /** The picture for docs/: the head of the page, with an address that would lose the bounds. */
 async function pictureOfHead(page) {
-    await page.size(900, 790);
+    await page.size(900, 850);
     await page.scheme("light");
-    await page.go(address + capability("003d1ffffc1a13910000000000013c08", { to: "19800" }));
+    await page.go(address + capability("003d1ffffc1a13910000000000013c08", { to: "19400" }));
     await page.picture(file("web/out/pictures/page.png"), false);
 }
 
