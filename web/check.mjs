@@ -1,0 +1,51 @@
+// node check.mjs MODULE VECTORS..: what the module answers to each line of vector files, by the page's calls.
+import fs from "node:fs";
+import vm from "node:vm";
+
+const [module, ...files] = process.argv.slice(2);
+const here = new URL(".", import.meta.url);
+const c = vm.runInThisContext(`${fs.readFileSync(new URL("words.js", here), "utf8")}; library`)(fs.readFileSync(module));
+
+const number = (digits) => BigInt(`0x${digits}`);
+const word = (digits) => ({ high: number(digits.slice(0, 16)), low: number(digits.slice(16)) });
+const hex = (value, digits) => value.toString(16).padStart(digits, "0");
+const bytes = (digits) => Uint8Array.from(digits.match(/../g), (byte) => parseInt(byte, 16));
+
+// Each form of line: what the module says where the line has its right side.
+const FORMS = {
+    bounds: ([digits]) => {
+        const { base, top } = c.decode(word(digits));
+        return [hex(base, 16), hex(top, 17), String(Number(c.sound(word(digits))))];
+    },
+    keeps: ([digits, address]) => [String(Number(c.keepsBounds(word(digits), number(address))))],
+    round: ([base, length]) => {
+        const got = c.round(number(base), number(length));
+        return [hex(got.base, 16), hex(got.top, 17), String(got.ie), String(got.e), String(got.exact)];
+    },
+    memory: ([digits]) => [[...c.toMemory(word(digits))].map((byte) => hex(byte, 2)).join("")],
+};
+const CALLS_OF = { bounds: 2, keeps: 1, round: 1, memory: 1 };
+
+let agreed = 0;
+const agree = (line, said, wanted, calls) => {
+    if (said !== wanted) {
+        console.log(`web: ${line}: the module has ${said}`);
+        process.exit(1);
+    }
+    agreed += calls;
+};
+
+for (const file of files) {
+    for (const line of fs.readFileSync(file, "utf8").trimEnd().split("\n")) {
+        const [left, right] = line.split(" = ");
+        const [form, ...given] = left.split(" ");
+        agree(line, FORMS[form](given).join(" "), right, CALLS_OF[form]);
+        if (form === "round") continue;
+        // A word also goes through the text, the fields and memory, and comes back.
+        const start = word(given[0]);
+        agree(line, c.textOf(c.readWord(given[0]).word), given[0], 2);
+        agree(line, c.textOf(c.join(c.split(start)).word), given[0], 2);
+        if (form === "memory") agree(line, c.textOf(c.fromMemory(bytes(right))), given[0], 1);
+    }
+}
+console.log(`web: ${agreed} calls agreed`);

@@ -1,0 +1,452 @@
+"use strict";
+// The page: what its fields hold, what is shown of it, and the link that has both.
+
+const byId = (id) => document.getElementById(id);
+const make = (tag, attributes, ...children) => {
+    const made = document.createElement(tag);
+    for (const [key, value] of Object.entries(attributes)) made.setAttribute(key, value);
+    made.append(...children);
+    return made;
+};
+
+/** What is typed and can't be taken; its text stands beside the field. */
+class Refused extends Error {}
+
+let c = null;
+
+// ---- What is typed ----
+
+function hexadecimal(digits) {
+    const other = [...digits].find((letter) => !/[0-9a-f]/.test(letter));
+    if (other !== undefined) throw new Refused(`“${other}” is no hexadecimal digit.`);
+    return digits;
+}
+
+function exactly(digits, wanted) {
+    if (digits.length === wanted) return digits;
+    const gap = digits.length < wanted ? `${wanted - digits.length} missing` : `${digits.length - wanted} too many`;
+    throw new Refused(`${digits.length} digits, and there have to be ${wanted}: ${gap}.`);
+}
+
+/** Spaces and underscores between digits, `0x` before them, and upper-case digits are taken. */
+function digitsOf(text) {
+    const digits = text.trim().toLowerCase().replace(/^0x/, "").replace(/[\s_]/g, "");
+    if (digits.includes("x")) throw new Refused("0x stands between digits, and so it isn't clear which come first.");
+    return hexadecimal(digits);
+}
+
+/** Bytes may stand apart by spaces, commas or underscores, and each may have its own `0x`. */
+function bytesOf(text) {
+    const parts = text.trim().toLowerCase().split(/[\s,_]+/).filter((part) => part !== "");
+    const digits = parts.map((part) => {
+        if (!part.startsWith("0x")) return part;
+        if (part.length === 4 || parts.length === 1) return part.slice(2);
+        throw new Refused(`“${part}” is a number and no byte: write the bytes in order of address.`);
+    });
+    return exactly(hexadecimal(digits.join("")), 32);
+}
+
+function wordOf(text, order) {
+    if (text.trim() === "") throw new Refused("Type 32 hexadecimal digits.");
+    if (order === "memory") return c.fromMemory(Uint8Array.from(bytesOf(text).match(/../g), (byte) => parseInt(byte, 16)));
+    return read(exactly(digitsOf(text), 32));
+}
+
+function numberOf(text) {
+    const digits = digitsOf(text);
+    if (digits === "") throw new Refused("Type a hexadecimal number.");
+    if (digits.length > 16) throw new Refused(`${digits.length} digits, and there may be 16 at most.`);
+    return read(digits.padStart(32, "0")).low;
+}
+
+function offsetOf(text) {
+    if (!/^[+-]?\d{1,18}$/.test(text.trim())) throw new Refused("Type a decimal number, as -8.");
+    return BigInt(text.trim().replace("+", ""));
+}
+
+function read(digits) {
+    const { present, word } = c.readWord(digits);
+    if (!present) throw new Error("it doesn't read 32 digits");
+    return word;
+}
+
+/** What a field holds, or null where it can't be taken; the field says why. */
+function taken(id, reading) {
+    const field = byId(id);
+    let value = null;
+    let problem = "";
+    try {
+        value = reading(field.value);
+    } catch (fault) {
+        if (!(fault instanceof Refused)) throw fault;
+        problem = fault.message;
+    }
+    refuse(id, problem);
+    return value;
+}
+
+function refuse(id, problem) {
+    byId(id).setAttribute("aria-invalid", String(problem !== ""));
+    if (byId(`${id}-error`).textContent !== problem) byId(`${id}-error`).textContent = problem;
+}
+
+// ---- What is shown ----
+
+const widthOf = (id) => Math.max(280, Math.floor(byId(id).clientWidth));
+
+function fill(id, rows) {
+    byId(id).tBodies[0].replaceChildren(...rows.map(([name, value, remark]) =>
+        make("tr", {}, make("th", { scope: "row" }, name), make("td", {}, value, ...(remark ? [make("small", {}, remark)] : [])))));
+}
+
+function figure(caption, drawing) {
+    return make("figure", { role: "img", "aria-label": caption }, make("figcaption", {}, caption), drawing);
+}
+
+const shown = { facts: null, domain: null, tried: null };
+
+function showCapability() {
+    const order = document.querySelector("[name=order]:checked").value;
+    const word = taken("word", (text) => wordOf(text, order));
+    byId("capability").querySelector(".results").hidden = word === null;
+    shown.facts = null;
+    if (word === null) return;
+    const facts = factsOf(c, { word, tag: Number(byId("tag").checked) });
+    shown.facts = facts;
+    fill("lines", explained(facts));
+    byId("lines").querySelectorAll("td")[3].append(permissionsOf(facts));
+    showTried(facts);
+    const { fields, scale, range } = facts;
+    byId("range-says").textContent = range.every ? "Every address keeps these bounds: the representable range is the whole address space."
+        : `The representable range is ${ox(range.size)} addresses from ${ox(range.start)} on, 2^14 units of 2^${scale.cut} bytes; `
+        + "a tick is an eighth of it. Where an address leaves it, the digits mean other bounds.";
+    byId("grid-says").textContent = (fields.ie
+        ? `E is ${fields.e}. A short tick is a unit, 2^${scale.cut} bytes; a bound can lie at each long one, `
+            + `8 units, ${ox(scale.step)} bytes apart.`
+        : "Without an exponent (ie 0) the unit is one byte, and a bound can lie at each tick.")
+        + (facts.sound ? ` The length is ${ox(facts.length)} bytes.` : ` The word isn't sound: ${facts.why}.`);
+    const { base, top } = facts.bounds;
+    const near = (bound, note) => nearDrawing({
+        bound, scale, ie: fields.ie, bars: base <= top ? [{ base, top, kind: "bounds" }] : [],
+        points: [
+            { at: bound, number: hex(bound), note },
+            { at: fields.address, number: hex(fields.address), note: "address" },
+        ],
+    }, widthOf("near") >= 660 ? Math.floor((widthOf("near") - 16) / 2) : widthOf("near"));
+    byId("near").replaceChildren(figure("At the base", near(base, "base")), figure("At the top", near(top, "top")));
+}
+
+function permissionsOf({ view }) {
+    return make("ul", { class: "perms" }, ...PERMISSIONS.map(([bit, name]) => view & bit
+        ? make("li", {}, name)
+        : make("li", { class: "lacks" }, make("span", { class: "unseen" }, "lacks "), name)));
+}
+
+function showTried(facts) {
+    const typed = byId("to").value.trim() !== "";
+    const address = typed ? taken("to", numberOf) : facts.fields.address;
+    if (!typed) refuse("to", "");
+    const cap = { word: facts.word, tag: facts.tag };
+    const tried = address === null ? null : moved(c, cap, address);
+    const { svg, domain } = rangeDrawing(facts, tried, widthOf("range"));
+    byId("range").replaceChildren(svg);
+    Object.assign(shown, { domain, tried });
+    byId("take").disabled = tried === null;
+    byId("to-says").replaceChildren(...(tried ? triedText(facts, tried) : []));
+    if (!tried) return;
+    const place = domain.cut(domain.place(address)) / (domain.right - domain.left);
+    byId("range").setAttribute("aria-valuenow", String(Math.round(place * 1000)));
+    byId("range").setAttribute("aria-valuetext", `${ox(address)}, ${tried.keeps ? "keeps the bounds" : "loses the bounds"}`);
+}
+
+function triedText(facts, tried) {
+    const there = ox(tried.address);
+    if (!tried.keeps) {
+        const strict = tried.strict.refusal ? `setaddr is refused: ${refusal(tried.strict.refusal)}`
+            : "the word has no tag, so nothing refuses it";
+        const clear = !facts.tag ? "" : tried.clear.tag ? "; in clear mode the tag stays" : "; in clear mode the tag goes";
+        return [
+            make("span", { class: "lost-text" }, `${there} loses the bounds`),
+            `: with it the word has ${span(tried.bounds)}. At this address ${strict}${clear}.`,
+        ];
+    }
+    const outside = ", and lies outside them: it may come back, but nothing can be reached there";
+    const inside = !facts.sound ? "" : tried.inside ? ", and lies inside them" : outside;
+    const sealed = tried.strict.refusal ? ` setaddr is refused all the same: ${refusal(tried.strict.refusal)}.` : "";
+    return [`${there} keeps the bounds${inside}.${sealed}`];
+}
+
+const refusal = (number) => `${number} ${c.refusalName(number)}`;
+
+function showRequest() {
+    const base = taken("base", numberOf);
+    const length = taken("length", numberOf);
+    const facts = base === null || length === null ? null : requestFacts(c, base, length);
+    const beyond = facts !== null && facts.rounded.top > SPACE;
+    if (beyond) refuse("length", "Base plus length is above 2^64, where addresses end: there is no such request.");
+    byId("request").querySelector(".results").hidden = facts === null || beyond;
+    if (facts === null || beyond) return;
+    const { rounded, scale } = facts;
+    byId("rounding").replaceChildren(requestDrawing(facts, widthOf("rounding")));
+    byId("rounding-says").textContent = `${decimal(length)} bytes. ` + (rounded.exact ? "Both bounds are the requested ones." : "Rounded: "
+        + `with E ${rounded.e} bounds can lie at multiples of ${ox(scale.step)}, 8 units of 2^${scale.cut} bytes. `
+        + (rounded.e ? "With a smaller E there would be 1024 of its steps or more between them, and a word has room for 1023."
+            : "From a length of 4096 on an exponent stands in the word, and takes three bits of each bound."));
+    byId("rounding").setAttribute("aria-label", `Requested: ${ox(length)} bytes from ${ox(base)} on. Rounded: ${span(rounded)}.`);
+    const end = base + length;
+    const near = (bound, note, request) => nearDrawing({
+        bound, scale, ie: rounded.ie,
+        bars: [{ base, top: end, kind: "asked" }, { base: rounded.base, top: rounded.top, kind: "bounds" }],
+        points: [{ at: bound, number: hex(bound), note }, request],
+    }, widthOf("ends") >= 660 ? Math.floor((widthOf("ends") - 16) / 2) : widthOf("ends"));
+    const asked = (at, number) => ({ at, number, note: "requested" });
+    byId("ends").replaceChildren(
+        figure("At the base: requested above, rounded below", near(rounded.base, "base", asked(base, hex(base)))),
+        figure("At the top: requested above, rounded below", near(rounded.top, "top", asked(end, ""))));
+    fill("round-lines", [
+        ["base", hex(rounded.base, 16), "the requested base, rounded down"],
+        ["top", hex(rounded.top, 17), "the requested top, rounded up"],
+        ["ie", String(rounded.ie), rounded.ie ? "an exponent stands in the word, from a length of 4096 on" : "no exponent"],
+        ["e", String(rounded.e), rounded.ie ? "the least exponent that does" : ""],
+        ["exact", rounded.exact ? "yes" : "no", ""],
+    ]);
+    fill("exact-lines", exactRows(facts));
+}
+
+function exactRows(facts) {
+    const { wanted, mask, whole, alignment, below, above } = facts;
+    const place = (got) => (got ? `${hex(got.base, 16)} up to ${hex(got.top, 17)}` : "none");
+    return [
+        ["length", hex(wanted, 17), whole ? "no length from this one on is exact but the whole address space, 2^64"
+            : `${decimal(wanted)} bytes: the next length that is exact at all`],
+        ["alignment", hex(alignment), `${decimal(alignment)}: with this length, exact are just the bases that are multiples of it`],
+        ["mask", hex(mask, 16), "base AND mask is the base, where it is such a multiple"],
+        ["at or before", place(below), "the last exact place for that length at or before the base"],
+        ["at or after", place(above), "the next exact place for that length at or after the base"],
+    ];
+}
+
+function showOperation() {
+    const operation = OPERATIONS[byId("do").value];
+    const { takes } = operation;
+    for (const field of byId("operation").querySelectorAll("[data-takes]")) {
+        field.hidden = !field.dataset.takes.split(" ").some((name) => takes.includes(name));
+    }
+    const value = takes.find((name) => ["length", "address", "mask"].includes(name));
+    if (value) document.querySelector("label[for=value]").textContent = `${value[0].toUpperCase()}${value.slice(1)}, hexadecimal`;
+    const cap = (id) => {
+        const word = taken(id, (text) => wordOf(text, "register"));
+        return word && { word, tag: Number(byId(`${id}tag`).checked) };
+    };
+    const given = { source: cap("source") };
+    if (takes.includes("authority")) given.authority = cap("authority");
+    if (value) given.value = taken("value", numberOf);
+    if (takes.includes("offset")) given.offset = taken("offset", offsetOf);
+    if (takes.includes("size")) given.size = BigInt(byId("size").value);
+    const whole = Object.values(given).every((it) => it !== null);
+    byId("operation").querySelector(".results").hidden = !whole;
+    if (whole) byId("outcomes").replaceChildren(...outcomes(byId("do").value, operation, given));
+}
+
+function outcomes(name, operation, given) {
+    if (operation.access) {
+        const { address, refusal: number } = operation.access(c, given);
+        if (number) return [refused("In both modes", name, given, number)];
+        const cap = operation.result && operation.result(c, given);
+        const what = { lc: "the register gets", sc: "memory gets" }[name];
+        return [outcome("In both modes", `Allowed, at ${ox(address)}${what ? `; ${what}` : ""}`, cap)];
+    }
+    const strict = operation.strict(c, given);
+    const clear = operation.clear(c, given);
+    const lost = strict.refusal && given.source.tag ? `The result has no tag: ${refusal(strict.refusal)}` : "The result";
+    return [
+        strict.refusal ? refused("Strict", name, given, strict.refusal) : outcome("Strict", "The result", strict.cap),
+        outcome("Clear", lost, clear),
+    ];
+}
+
+function refused(mode, name, given, number) {
+    return make("div", { class: "outcome refused" }, make("h3", {}, mode),
+        make("p", {}, "Refused: ", make("span", { class: "name" }, refusal(number))), make("p", {}, compared(c, name, given, number)));
+}
+
+function outcome(mode, says, cap) {
+    const made = make("div", { class: "outcome" }, make("h3", {}, mode), make("p", {}, says));
+    if (!cap) return made;
+    const text = c.textOf(cap.word);
+    const link = new URLSearchParams({ show: "capability", word: text, order: "register", tag: cap.tag, to: "" });
+    made.append(
+        make("p", { class: "mono" }, `${cap.tag} ${text}`),
+        make("p", {}, `bounds ${span(c.decode(cap.word))}, permissions ${ox(c.permView(cap.word))}, `
+            + `object type ${ox(c.split(cap.word).otype)}${c.sound(cap.word) ? "" : "; not sound"}`),
+        make("p", {}, make("a", { href: `#${link}` }, "Show this capability")));
+    return made;
+}
+
+// ---- What a link has ----
+
+const VIEWS = { capability: showCapability, request: showRequest, operation: showOperation };
+const FIELDS = {
+    capability: ["word", "order", "tag", "to"],
+    request: ["base", "length"],
+    operation: ["do", "source", "sourcetag", "authority", "authoritytag", "value", "offset", "size"],
+};
+const defaults = {};
+let view = "capability";
+let writing = 0;
+
+const controlsOf = (name) => (name === "order" ? [...document.querySelectorAll("[name=order]")] : [byId(name)]);
+
+function valueOf(name) {
+    const control = controlsOf(name).find((it) => it.type !== "radio" || it.checked);
+    return control.type === "checkbox" ? String(Number(control.checked)) : control.value;
+}
+
+/** Whether a field can have a value; it then has it. */
+function setValue(name, value) {
+    const [control, ...others] = controlsOf(name);
+    const choices = control.type === "radio" ? [control, ...others].map((it) => it.value)
+        : control.type === "checkbox" ? ["0", "1"] : control.tagName === "SELECT" ? [...control.options].map((it) => it.value) : null;
+    if (choices && !choices.includes(value)) {
+        setValue(name, defaults[name]);
+        return false;
+    }
+    if (control.type === "radio") for (const it of [control, ...others]) it.checked = it.value === value;
+    else if (control.type === "checkbox") control.checked = value === "1";
+    else control.value = value;
+    return true;
+}
+
+function linkTo() {
+    return `#${new URLSearchParams([["show", view], ...FIELDS[view].map((name) => [name, valueOf(name)])])}`;
+}
+
+/** Takes the fields from the part of the address behind `#`; what isn't there is as at the start. */
+function restore() {
+    clearTimeout(writing);
+    const parts = new URLSearchParams(location.hash.slice(1));
+    const wanted = parts.get("show") ?? "capability";
+    view = Object.hasOwn(VIEWS, wanted) ? wanted : "capability";
+    const strange = [["show", wanted], ...FIELDS[view].map((name) => [name, parts.get(name) ?? defaults[name]])]
+        .filter(([name, value]) => (name === "show" ? value !== view : !setValue(name, value)));
+    show();
+    byId("said").textContent = strange.map(([name, value]) => `The link's “${name}=${value}” isn't known here. `).join("");
+}
+
+function show() {
+    for (const name of Object.keys(VIEWS)) byId(name).hidden = name !== view;
+    for (const button of document.querySelectorAll("[data-view]")) {
+        if (button.dataset.view === view) button.setAttribute("aria-current", "page");
+        else button.removeAttribute("aria-current");
+    }
+    byId("said").textContent = "";
+    byId("link").hidden = true;
+    if (c === null) return;
+    try {
+        VIEWS[view]();
+        byId("fault").hidden = true;
+    } catch (problem) {
+        failed(problem);
+    }
+}
+
+/** Where the module fails, nothing is shown that isn't its. */
+function failed(problem) {
+    byId("fault").textContent = `The module failed, and so nothing is shown: ${problem.message}`;
+    byId("fault").hidden = false;
+    for (const results of document.querySelectorAll(".results")) results.hidden = true;
+}
+
+/** Shows what the fields have; the address follows once they rest, since browsers limit how often it may. */
+function changed() {
+    show();
+    clearTimeout(writing);
+    writing = setTimeout(() => history.replaceState(null, "", linkTo()), 350);
+}
+
+async function copy(text, what) {
+    let said = `${what} copied.`;
+    try {
+        await navigator.clipboard.writeText(text);
+    } catch {
+        byId("link").value = text;
+        byId("link").hidden = false;
+        byId("link").select();
+        said = "This browser doesn't let the page copy: copy it from the field below.";
+    }
+    byId("said").textContent = said;
+}
+
+// ---- What a person does ----
+
+function tryAddress(address) {
+    byId("to").value = hex(BigInt.asUintN(64, address), 16);
+    changed();
+}
+
+function tryAtPixel(event) {
+    const { domain } = shown;
+    const address = domain.at(event.clientX - byId("range").getBoundingClientRect().left);
+    tryAddress(shown.facts.range.every && address > GREATEST ? GREATEST : address);
+}
+
+/** The keys of a slider: a unit, an eighth of the range, and the first and last address that keep the bounds. */
+function tryByKey(event) {
+    const { facts, tried } = shown;
+    if (!facts || !tried) return;
+    const { range, scale, fields } = facts;
+    const unit = fields.ie ? scale.step >> 3n : 1n;
+    const eighth = unit << 11n;
+    const to = {
+        ArrowLeft: tried.address - unit, ArrowDown: tried.address - unit, ArrowRight: tried.address + unit, ArrowUp: tried.address + unit,
+        PageDown: tried.address - eighth, PageUp: tried.address + eighth,
+        Home: range.every ? 0n : range.start, End: range.every ? GREATEST : range.start + range.size - 1n,
+    }[event.key];
+    if (to === undefined) return;
+    event.preventDefault();
+    tryAddress(to);
+}
+
+function listen() {
+    for (const name of Object.values(FIELDS).flat()) for (const control of controlsOf(name)) control.addEventListener("input", changed);
+    for (const button of document.querySelectorAll("[data-view]")) {
+        button.addEventListener("click", () => { view = button.dataset.view; changed(); });
+    }
+    byId("copy-link").addEventListener("click", () => copy(location.href.split("#")[0] + linkTo(), "Link"));
+    byId("copy-text").addEventListener("click", () =>
+        copy(explained(shown.facts).map(([name, value]) => `${name} ${value}\n`).join(""), "Lines"));
+    byId("take").addEventListener("click", () => {
+        const { there } = shown.tried;
+        setValue("order", "register");
+        byId("word").value = c.textOf(there);
+        byId("to").value = "";
+        changed();
+    });
+    const range = byId("range");
+    range.addEventListener("keydown", tryByKey);
+    range.addEventListener("pointerdown", (event) => {
+        if (!shown.facts || event.button !== 0) return;
+        range.setPointerCapture(event.pointerId);
+        range.focus({ preventScroll: true, focusVisible: false });
+        tryAtPixel(event);
+    });
+    range.addEventListener("pointermove", (event) => { if (range.hasPointerCapture(event.pointerId)) tryAtPixel(event); });
+    addEventListener("hashchange", restore);
+    addEventListener("resize", () => requestAnimationFrame(show));
+}
+
+function start() {
+    byId("do").append(...Object.entries(OPERATIONS).map(([name, { title }]) => make("option", { value: name }, title)));
+    for (const name of Object.values(FIELDS).flat()) defaults[name] = valueOf(name);
+    try {
+        const text = byId("module").textContent.replace(/\s/g, "");
+        c = library(Uint8Array.from(atob(text), (letter) => letter.charCodeAt(0)));
+    } catch (problem) {
+        failed(problem);
+        return;
+    }
+    listen();
+    restore();
+}
+
+start();

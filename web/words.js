@@ -1,0 +1,150 @@
+"use strict";
+// What the page knows of include/capcheck.h: how its structs lie in the module's memory, and how a function
+// of it is called. A number of more than 64 bits comes as one BigInt; all else as the header has it.
+
+const LAYOUT = {
+    word: { size: 16, fields: { high: [0, 8], low: [8, 8] } },
+    wide: { size: 16, fields: { high: [0, 8], low: [8, 8] } },
+    cap: { size: 24, fields: { word: [0, "word"], tag: [16, 1] } },
+    fields: {
+        size: 24,
+        fields: {
+            address: [0, 8], otype: [8, 4], perms: [12, 2], b: [14, 2], t: [16, 2],
+            e: [18, 1], ie: [19, 1], flag: [20, 1], reserved: [21, 1],
+        },
+    },
+    optional: { size: 24, fields: { word: [0, "word"], present: [16, 1] } },
+    bounds: { size: 24, fields: { base: [0, 8], top: [8, "wide"] } },
+    rounded: {
+        size: 32,
+        fields: { base: [0, 8], top: [8, "wide"], b: [24, 2], t: [26, 2], e: [28, 1], ie: [29, 1], exact: [30, 1] },
+    },
+    range: { size: 24, fields: { start: [0, 8], size: [8, 8], every: [16, 1] } },
+    made: { size: 32, fields: { cap: [0, "cap"], refusal: [24, 1] } },
+    access: { size: 16, fields: { address: [0, 8], refusal: [8, 1] } },
+    digits: { size: 33, text: true },
+    name: { size: 24, text: true },
+};
+
+// Each call: its name in the header behind `capcheck_`, what it answers, and what it takes.
+const CALLS = {
+    nothing: ["null", "word"],
+    split: ["split", "fields", "word"],
+    join: ["join", "optional", "fields"],
+    textOf: ["text_of", "digits", "word"],
+    readWord: ["read_word", "optional", "bytes", "u64"],
+    fromMemory: ["from_memory", "word", "bytes"],
+    decode: ["decode", "bounds", "word"],
+    sound: ["sound", "bool", "word"],
+    length: ["length", "wide", "word"],
+    round: ["round", "rounded", "u64", "u64"],
+    roundLength: ["round_length", "wide", "u64"],
+    alignMask: ["align_mask", "u64", "u64"],
+    contains: ["least_law", "bool", "word", "u64", "u64"],
+    reach: ["reach", "range", "word"],
+    keepsBounds: ["keeps_bounds", "bool", "word", "u64"],
+    permView: ["perm_view", "u32", "word"],
+    sealed: ["sealed", "bool", "word"],
+    refusalName: ["refusal_name", "name", "u8"],
+    setBounds: ["set_bounds", "made", "cap", "u64", "bool"],
+    setAddr: ["set_addr", "made", "cap", "u64"],
+    andPerm: ["and_perm", "made", "cap", "u64"],
+    seal: ["seal", "made", "cap", "cap"],
+    unseal: ["unseal", "made", "cap", "cap"],
+    setBoundsClear: ["set_bounds_clear", "cap", "cap", "u64", "bool"],
+    setAddrClear: ["set_addr_clear", "cap", "cap", "u64"],
+    andPermClear: ["and_perm_clear", "cap", "cap", "u64"],
+    sealClear: ["seal_clear", "cap", "cap", "cap"],
+    unsealClear: ["unseal_clear", "cap", "cap", "cap"],
+    clearTag: ["clear_tag", "cap", "cap"],
+    mayLoad: ["may_load", "access", "cap", "u64", "u64"],
+    mayStore: ["may_store", "access", "cap", "u64", "u64"],
+    mayLoadCap: ["may_load_cap", "access", "cap", "u64"],
+    mayStoreCap: ["may_store_cap", "access", "cap", "u64", "cap"],
+    loaded: ["loaded", "cap", "cap", "cap"],
+};
+
+// A module with one memory of 64-bit addresses and nothing else: whether an engine takes such modules.
+const MEMORY64 = Uint8Array.of(0, 97, 115, 109, 1, 0, 0, 0, 5, 3, 1, 4, 0);
+
+/** The library's functions, from the bytes of the module. It throws where they are none, or no engine is there. */
+function library(bytes) {
+    if (typeof WebAssembly !== "object" || !WebAssembly.validate(MEMORY64)) {
+        throw new Error("This browser's WebAssembly has no 64-bit memory (memory64), which the module needs.");
+    }
+    const { exports } = new WebAssembly.Instance(new WebAssembly.Module(bytes));
+    const scratch = Number(grown(exports.memory)) * 65536;
+    const view = () => new DataView(exports.memory.buffer);
+
+    const read = (kind, at) => {
+        const { size, fields, text } = LAYOUT[kind];
+        if (text) {
+            const found = new Uint8Array(exports.memory.buffer, at, size);
+            return String.fromCharCode(...found.subarray(0, found.indexOf(0)));
+        }
+        const made = {};
+        for (const [name, [offset, width]] of Object.entries(fields)) {
+            made[name] = typeof width === "string" ? read(width, at + offset) : number(view(), at + offset, width);
+        }
+        return kind === "wide" ? made.high << 64n | made.low : made;
+    };
+    const write = (kind, at, value) => {
+        for (const [name, [offset, width]] of Object.entries(LAYOUT[kind].fields)) {
+            if (typeof width === "string") write(width, at + offset, value[name]);
+            else put(view(), at + offset, width, value[name]);
+        }
+    };
+    // Structs and bytes go by the address of a place of their own, the answer's first.
+    const call = ([name, answer, ...kinds], given) => {
+        let free = scratch;
+        const place = (size) => (free += (size + 7) & ~7) - ((size + 7) & ~7);
+        const result = LAYOUT[answer] && place(LAYOUT[answer].size);
+        const passed = kinds.map((kind, k) => {
+            if (kind === "bytes") {
+                const at = place(given[k].length);
+                new Uint8Array(exports.memory.buffer, at, given[k].length).set(given[k]);
+                return BigInt(at);
+            }
+            if (!LAYOUT[kind]) return kind === "u64" ? BigInt(given[k]) : Number(given[k]);
+            const at = place(LAYOUT[kind].size);
+            write(kind, at, given[k]);
+            return BigInt(at);
+        });
+        const said = exports["capcheck_" + name](...(LAYOUT[answer] ? [BigInt(result)] : []), ...passed);
+        if (LAYOUT[answer]) return read(answer, result);
+        return answer === "u64" ? BigInt.asUintN(64, said) : answer === "bool" ? said !== 0 : said >>> 0;
+    };
+
+    const made = {};
+    for (const [name, signature] of Object.entries(CALLS)) made[name] = (...given) => call(signature, given);
+    const ascii = (text) => Uint8Array.from(text, (letter) => letter.charCodeAt(0));
+    const reading = made.readWord;
+    made.readWord = (digits) => reading(ascii(digits), digits.length);
+    made.toMemory = (word) => {
+        write("word", scratch, word);
+        exports.capcheck_to_memory(BigInt(scratch), BigInt(scratch + 16));
+        return new Uint8Array(exports.memory.buffer, scratch + 16, 16).slice();
+    };
+    return made;
+}
+
+// Scratch memory for the calls. Older engines take and answer a number here.
+function grown(memory) {
+    try {
+        return memory.grow(1n);
+    } catch {
+        return memory.grow(1);
+    }
+}
+
+function number(view, at, width) {
+    if (width === 8) return view.getBigUint64(at, true);
+    return width === 4 ? view.getUint32(at, true) : width === 2 ? view.getUint16(at, true) : view.getUint8(at);
+}
+
+function put(view, at, width, value) {
+    if (width === 8) view.setBigUint64(at, value, true);
+    else if (width === 4) view.setUint32(at, value, true);
+    else if (width === 2) view.setUint16(at, value, true);
+    else view.setUint8(at, value);
+}
