@@ -2,8 +2,10 @@
 //! value.
 #![tactic(auto)]
 
+pub mod cap_lines;
 pub mod explain_lines;
 pub mod round_lines;
+pub mod shown_bytes;
 #[cfg(test)]
 mod tests;
 pub mod text_lines;
