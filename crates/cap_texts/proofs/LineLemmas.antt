@@ -33,3 +33,7 @@ seven_after front a b c d e f g = simp append_assoc
 
 pub eight_after : (front a b c d e f g h : List ℕ) → front ++ a ++ b ++ c ++ d ++ e ++ f ++ g ++ h ≡ front ++ (a ++ b ++ c ++ d ++ e ++ f ++ g ++ h)
 eight_after front a b c d e f g h = simp append_assoc
+
+pub twelve_after : (front a b c d e f g h i j k l : List ℕ)
+    → front ++ a ++ b ++ c ++ d ++ e ++ f ++ g ++ h ++ i ++ j ++ k ++ l ≡ front ++ (a ++ b ++ c ++ d ++ e ++ f ++ g ++ h ++ i ++ j ++ k ++ l)
+twelve_after front a b c d e f g h i j k l = simp append_assoc

@@ -17,7 +17,7 @@ use cap_word::{Cap, split};
 /// them. Nothing else of the buffer changes.
 pub fn put_cap_lines(buffer: &mut [u8], at: usize, name: &[u8], place: Place, cap: Cap) -> usize
     requires name { length name.now ≤ 9 }
-    requires room { at + 256 ≤ length buffer.old }
+    requires room { at + 192 ≤ length buffer.old }
     ensures from { at ≤ result }
     ensures fits { result ≤ at + 192 }
     ensures written { take result buffer.new ≡ take at buffer.old ++ cap_lines name.now place cap }
@@ -119,7 +119,14 @@ fn put_type_line(buffer: &mut [u8], at: usize, name: &[u8], otype: u32) -> usize
 
 /// Writes a line of two bounds behind a name and a word, and answers the index behind it. Nothing else of
 /// the buffer changes.
-pub fn put_bounds_line(buffer: &mut [u8], at: usize, name: &[u8], word: &[u8], base: u128, top: u128) -> usize
+pub fn put_bounds_line(
+    buffer: &mut [u8],
+    at: usize,
+    name: &[u8],
+    word: &[u8],
+    base: u128,
+    top: u128,
+) -> usize
     requires name { length name.now ≤ 9 }
     requires word { length word.now ≤ 8 }
     requires room { at + 52 ≤ length buffer.old }

@@ -1,5 +1,4 @@
 use Rattle.std.proofs.Common.{take, codes}
-use Rattle.cap_word.specs.Digits.{hex_digits}
 use Rattle.cap_word.specs.Fields.{otype_of}
 use Rattle.cap_bounds.specs.Bounds.{base_of, top_of}
 use Rattle.cap_ops.specs.Permissions.{perm_view_of}

@@ -1,4 +1,4 @@
-use Rattle.std.proofs.Common.{◌≡◌, ℕ, ◌+◌, ◌*◌, ◌≤◌, ◌++◌, length, take, drop}
+use Rattle.std.proofs.Common.{◌≡◌, ℕ, ◌+◌, ◌*◌, ◌≤◌, ◌++◌, take, drop}
 use Rattle.cap_texts.specs.ShownBytes.{shown}
 use Rattle.cap_texts.proofs.shown_bytes.put_shown.Given as goal
 
