@@ -21,10 +21,12 @@ use Rattle.cap_judge.specs.declared.verdict.Verdict.{Verdict}
 use Rattle.cap_judge.specs.declared.verdict.Verdict.TheVariants.{No}
 use Rattle.cap_machine.specs.declared.refusal.Refusal.{Refusal}
 use Rattle.cap_judge.specs.declared.verdict.JudgeFault.{JudgeFault}
-use Rattle.cap_judge.specs.Judgings.{IsBehind, IsNoYes, Judged}
+use Rattle.cap_judge.specs.Judgings.{IsAnswerOf, IsBehind, IsNoYes, Judged, JudgedBy, StopsBefore}
+use Rattle.cap_machine.specs.Accounts.{no_account}
+use Rattle.cap_machine.specs.Helds.{Held, account_of}
 use Rattle.cap_judge.specs.Progresses.{Reading, StandsFor, HasRead}
 use Rattle.cap_judge.proofs.JudgeLemmas.{text_push}
-use Rattle.cap_judge.proofs.SourceLemmas.{Meets, meets}
+use Rattle.cap_judge.proofs.SourceLemmas.{Meets, meets, judged_no}
 
 -- a line that is read and has no form is no line by the rules
 pub no_form : (rules_are : Rules) (bytes : List ℕ) (line : Line) → Spells bytes line → has_form rules_are line ≡ false → (other : Line)
@@ -80,11 +82,16 @@ pub read_two : {S : Type 0} {gave : S → S → List ℕ → Type 0} {ended : S 
 read_two text modes.Strict m spells = record { given = m.given; gives = m.gives; text = one_more NoMode (line_kinds.Mode modes.Strict) text m spells.1; more = m.next.1 }
 read_two text modes.Clear m spells = record { given = m.given; gives = m.gives; text = one_more NoMode (line_kinds.Mode modes.Clear) text m spells.1; more = m.next.1 }
 
--- an answer that was shown to be a no
-pub as_no : {S : Type 0} (gave : S → S → List ℕ → Type 0) (ended : S → _) (old new : S) (result : Result Verdict JudgeFault) (line : ℕ) (refusal : Refusal) → result ≡ Ok (No line refusal)
-    → Judged gave ended old new (Ok (No line refusal)) → IsNoYes result × Judged gave ended old new result
-as_no gave ended old new result line refusal is judged =
-    subst (λ (r : Result Verdict JudgeFault). IsNoYes r × Judged gave ended old new r) (sym is) (tt, judged)
+-- an answer that was shown to be a no, whatever a machine holds that nothing was declared to
+pub as_no : {S : Type 0} (gave : S → S → List ℕ → Type 0) (ended : S → _) (old new : S) (result : Result Verdict JudgeFault) (text given : List ℕ) (line : ℕ) (refusal : Refusal) → result ≡ Ok (No line refusal)
+    → gave old new given → IsAnswerOf given (ended new) (Ok (No line refusal))
+    → ((held : Held) → account_of held ≡ no_account One → StopsBefore given (ended new) held line text)
+    → IsNoYes result × Judged gave ended old new result × ((held : Held) → account_of held ≡ no_account One → JudgedBy gave ended old new result held text)
+as_no gave ended old new result text given line refusal is gives answer stops = (
+  subst IsNoYes (sym is) tt,
+  subst (Judged gave ended old new) (sym is) (record { given = given; gives = gives; answer = answer }),
+  λ held none. judged_no gave ended old new held text given result (Ok (No line refusal)) is tt gives answer (stops held none),
+)
 
 -- the judge is behind a header
 pub at_body : {S : Type 0} (gave : S → S → List ℕ → Type 0) (old new : S) (lines_are : Lines) (rules_are : Rules) (reading : Reading) (line : ℕ)

@@ -79,12 +79,12 @@ pub Reads-append : (from middle to : Stage) (lines more : List Line) → Reads f
 Reads-append from middle to [] more h k = subst (λ (stage : Stage). Reads stage more to) (sym h) k
 Reads-append from middle to (line ∷ lines) more h k = (h.0, Reads-append (behind from line) middle to lines more h.1 k)
 
-text_cons : (line : Line) (lines : List Line) (rest : List ℕ)
+pub text_cons : (line : Line) (lines : List Line) (rest : List ℕ)
     → text_of (line ∷ lines) ++ rest ≡ spelling line ++ 10 ∷ (text_of lines ++ rest)
 text_cons line lines rest = simp (append_assoc)
 
 -- texts that begin with lines in range begin with the same line, and go on alike
-same_front : (line other : Line) (more rest : List ℕ) → IsInRange line → IsInRange other
+pub same_front : (line other : Line) (more rest : List ℕ) → IsInRange line → IsInRange other
     → spelling line ++ 10 ∷ more ≡ spelling other ++ 10 ∷ rest → (line ≡ other) × (more ≡ rest)
 same_front line other more rest range range' same =
     let both = IsLine-same _ (spelling line) more (spelling other) rest (IsLine-spelling line range more)

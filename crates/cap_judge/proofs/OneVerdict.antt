@@ -117,13 +117,13 @@ body_read rules_are roots steps runs =
     (Reads-append (Within first) (Within rooted) (Within last) _ (map Step steps) roots_are steps_are)
 
 -- the stage behind a beginning
-abbrev stage_of : Beginning → Stage
+abbrev pub stage_of : Beginning → Stage
 stage_of Nothing = Unread
 stage_of NoMode = Versioned
 stage_of (Body rules_are roots steps) = Within (account_after rules_are roots steps)
 stage_of (Whole rules_are roots steps) = Ended (account_after rules_are roots steps)
 
-accepted_read : (beginning : Beginning) → IsAccepted beginning → Reads Unread (lines_of beginning) (stage_of beginning)
+pub accepted_read : (beginning : Beginning) → IsAccepted beginning → Reads Unread (lines_of beginning) (stage_of beginning)
 accepted_read Nothing accepted = refl
 accepted_read NoMode accepted = (tt, refl)
 accepted_read (Body rules_are roots steps) runs = body_read rules_are roots steps runs

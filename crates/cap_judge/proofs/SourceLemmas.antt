@@ -35,7 +35,7 @@ use Rattle.cap_judge.specs.Logs.{Beginning, Nothing, NoMode, Body, Whole, header
 use Rattle.cap_judge.specs.Logs.{IsAccepted, RefusesWhole, IsFirstFault, MayLackMemory}
 use Rattle.cap_judge.specs.Verdicts.{answer_at, EscapesExactly, IsVerdict, IsFault}
 use Rattle.cap_judge.specs.Progresses.{Reading, EndsNext, GoesOn, IsAt, IsLaterAt, HasRead}
-use Rattle.cap_judge.specs.Judgings.{IsVerdictOf, IsBehind, BeginsLog, IsAnswerOf, Judged, LeadsAfter, JudgedBy, IsNoYes, refusal_in}
+use Rattle.cap_judge.specs.Judgings.{IsVerdictOf, IsBehind, BeginsLog, IsAnswerOf, LeadsAfter, StopsIn, JudgedBy, IsNoYes, refusal_in}
 use Rattle.cap_judge.proofs.EscapeLaws.{escapes_exactly}
 use Rattle.cap_judge.proofs.JudgeLemmas.{IsUnended, RefusesFront, goes_on, behind, unended_here, refused_behind, wants_memory}
 use Rattle.cap_judge.proofs.JudgeLemmas.{misplaced, yes, leads, guarded, guards, no_lack}
@@ -116,22 +116,8 @@ answer_ok given ended verdict is =
 answer_memory : (given : List ℕ) (ended : Bool) → MayLackMemory given → IsAnswerOf given ended (Err NoMemory)
 answer_memory given ended lack = record { verdict = tt; authority = tt; escape = tt; fault = lack; answers = λ none e. no_lack given none lack }
 
-pub judged_ok : {S : Type 0} (gave : S → S → List ℕ → Type 0) (ended : S → Bool) (old new : S) (given : List ℕ) (verdict : Verdict)
-    → gave old new given
-    → IsVerdictOf given (ended new) verdict → Judged gave ended old new (Ok verdict)
-judged_ok gave ended old new given verdict gives is = record { given = given; gives = gives; answer = answer_ok given (ended new) verdict is }
-
-judged_pull : {S : Type 0} (gave : S → S → List ℕ → Type 0) (ended : S → Bool) (old new : S) (given : List ℕ) → gave old new given
-    → BeginsLog given → Judged gave ended old new (Err Pull)
-judged_pull gave ended old new given gives is = record {
-  given = given;
-  gives = gives;
-  answer = record { verdict = tt; authority = tt; escape = tt; fault = is; answers = λ none e. cc };
-}
-
-judged_memory : {S : Type 0} (gave : S → S → List ℕ → Type 0) (ended : S → Bool) (old new : S) (given : List ℕ) → gave old new given
-    → MayLackMemory given → Judged gave ended old new (Err NoMemory)
-judged_memory gave ended old new given gives lack = record { given = given; gives = gives; answer = answer_memory given (ended new) lack }
+answer_pull : (given : List ℕ) (ended : Bool) → BeginsLog given → IsAnswerOf given ended (Err Pull)
+answer_pull given ended is = record { verdict = tt; authority = tt; escape = tt; fault = is; answers = λ none e. cc }
 
 -- an answer that is no yes, whatever the machine holds
 no_leads : (bytes : List ℕ) (held : Held) (result : Result Verdict JudgeFault) → IsNoYes result → IfOk result (LeadsAfter bytes held)
@@ -139,10 +125,19 @@ no_leads bytes held (Ok (Yes steps roots)) none = absurd none
 no_leads bytes held (Ok (No line refusal)) none = tt
 no_leads bytes held (Err fault) none = tt
 
-pub judged_no : {S : Type 0} (gave : S → S → List ℕ → Type 0) (ended : S → Bool) (old new : S) (held : Held) (result shown : Result Verdict JudgeFault) → result ≡ shown
-    → IsNoYes shown → Judged gave ended old new shown → JudgedBy gave ended old new result held
-judged_no gave ended old new held result shown is none judged =
-    subst (λ (r : Result Verdict JudgeFault). JudgedBy gave ended old new r held) (sym is) (record { judged = judged; leads = no_leads judged.given held shown none })
+-- an answer on the bytes given, with what the machine holds and the text of the line that was refused
+pub judged_by : {S : Type 0} (gave : S → S → List ℕ → Type 0) (ended : S → Bool) (old new : S) (held : Held) (text given : List ℕ) (result shown : Result Verdict JudgeFault) → result ≡ shown
+    → gave old new given → IsAnswerOf given (ended new) shown → IfOk shown (LeadsAfter given held) → IfOk shown (StopsIn given (ended new) held text)
+    → JudgedBy gave ended old new result held text
+judged_by gave ended old new held text given result shown is gives answer leads stops =
+    subst (λ (r : Result Verdict JudgeFault). JudgedBy gave ended old new r held text) (sym is)
+    (record { judged = record { given = given; gives = gives; answer = answer }; leads = leads; stops = stops })
+
+pub judged_no : {S : Type 0} (gave : S → S → List ℕ → Type 0) (ended : S → Bool) (old new : S) (held : Held) (text given : List ℕ) (result shown : Result Verdict JudgeFault) → result ≡ shown
+    → IsNoYes shown → gave old new given → IsAnswerOf given (ended new) shown → IfOk shown (StopsIn given (ended new) held text)
+    → JudgedBy gave ended old new result held text
+judged_no gave ended old new held text given result shown is none gives answer stops =
+    judged_by gave ended old new held text given result shown is gives answer (no_leads given held shown none) stops
 
 pub no_refused : (line : ℕ) (ended : Bool) (refusal : Refusal) → IsNoYes (Ok (refusal_in line ended refusal))
 no_refused line false refusal = tt
@@ -154,81 +149,80 @@ no_answer line ends.NoMemory = tt
 
 module _ {S : Type 0} {gave : S → S → List ℕ → Type 0} {ended : S → Bool} {old new : S} {lines : Lines} (beginning : Beginning) (line : ℕ) where
   -- the source failed
-  pub pulled : {fault : PullFault} → Meets gave ended old new beginning lines (Err fault) → Judged gave ended old new (Err Pull)
-  pulled m = judged_pull gave ended old new m.given m.gives (record { beginning = beginning; rest = m.rest; behind = m.here; cut = m.next.0 })
+  pub pulled : {fault : PullFault} → (m : Meets gave ended old new beginning lines (Err fault)) → IsAnswerOf m.given (ended new) (Err Pull)
+  pulled m = answer_pull m.given (ended new) (record { beginning = beginning; rest = m.rest; behind = m.here; cut = m.next.0 })
 
   -- the line is refused whatever follows
   refused_met : {shown : Result Next PullFault} (refusal : Refusal) (m : Meets gave ended old new beginning lines shown) → line ≡ length (lines_of beginning) + 1 → IsUnended beginning
-      → ((more : List ℕ) → RefusesFront beginning (m.rest ++ more) refusal) → Judged gave ended old new (Ok (No line refusal))
+      → ((more : List ℕ) → RefusesFront beginning (m.rest ++ more) refusal) → IsAnswerOf m.given (ended new) (Ok (No line refusal))
   refused_met refusal m number unended all =
-      judged_ok gave ended old new m.given (No line refusal) m.gives
+      answer_ok m.given (ended new) (No line refusal)
       (no_stands m.given (ended new) line refusal
       (λ more. refused_behind (m.given ++ more) (m.rest ++ more) beginning line refusal (behind_more m.given m.rest more beginning m.here) number unended (all more)))
 
-  pub too_long_met : Meets gave ended old new beginning lines (Ok nexts.LineTooLong) → line ≡ length (lines_of beginning) + 1 → IsUnended beginning → Judged gave ended old new (Ok (No line LineTooLong))
+  pub too_long_met : (m : Meets gave ended old new beginning lines (Ok nexts.LineTooLong)) → line ≡ length (lines_of beginning) + 1 → IsUnended beginning → IsAnswerOf m.given (ended new) (Ok (No line LineTooLong))
   too_long_met m number unended = refused_met LineTooLong m number unended (λ more. inl (IsTooLong-more m.rest more m.next.0, refl))
 
-  pub line_met : (text : _) (refusal : Refusal) → Meets gave ended old new beginning lines (Ok (nexts.Line text)) → line ≡ length (lines_of beginning) + 1 → IsUnended beginning
-      → RefusesWhole beginning text.now refusal → Judged gave ended old new (Ok (No line refusal))
+  pub line_met : (text : _) (refusal : Refusal) → (m : Meets gave ended old new beginning lines (Ok (nexts.Line text))) → line ≡ length (lines_of beginning) + 1 → IsUnended beginning
+      → RefusesWhole beginning text.now refusal → IsAnswerOf m.given (ended new) (Ok (No line refusal))
   line_met text refusal m number unended refused =
       refused_met refusal m number unended (λ more. inr (inr (text.now, kept lines ++ more, IsLine-more m.rest text.now (kept lines) more m.next.0, refused)))
 
   cut_met : {shown : Result Next PullFault} (m : Meets gave ended old new beginning lines shown) → line ≡ length (lines_of beginning) + 1 → IsUnended beginning → IsCut m.rest → ended new ≡ true
-      → Judged gave ended old new (Ok (No line Truncated))
+      → IsAnswerOf m.given (ended new) (Ok (No line Truncated))
   cut_met m number unended is end =
-      judged_ok gave ended old new m.given (No line Truncated) m.gives
+      answer_ok m.given (ended new) (No line Truncated)
       (subst (λ (b : Bool). IsVerdictOf m.given b (No line Truncated)) (sym end) (refused_behind m.given m.rest beginning line Truncated m.here number unended (inr (inl (is, refl)))))
 
-  pub truncated_met : Meets gave ended old new beginning lines (Ok nexts.Truncated) → line ≡ length (lines_of beginning) + 1 → IsUnended beginning → Judged gave ended old new (Ok (No line Truncated))
+  pub truncated_met : (m : Meets gave ended old new beginning lines (Ok nexts.Truncated)) → line ≡ length (lines_of beginning) + 1 → IsUnended beginning → IsAnswerOf m.given (ended new) (Ok (No line Truncated))
   truncated_met m number unended = cut_met m number unended m.next.0 m.next.2
 
-  pub finished_met : Meets gave ended old new beginning lines (Ok nexts.Finished) → line ≡ length (lines_of beginning) + 1 → IsUnended beginning → Judged gave ended old new (Ok (No line Truncated))
+  pub finished_met : (m : Meets gave ended old new beginning lines (Ok nexts.Finished)) → line ≡ length (lines_of beginning) + 1 → IsUnended beginning → IsAnswerOf m.given (ended new) (Ok (No line Truncated))
   finished_met m number unended = cut_met m number unended (nothing_cut m.rest m.next.0) m.next.1
 
 module _ {S : Type 0} {gave : S → S → List ℕ → Type 0} {ended : S → Bool} {old new : S} {lines : Lines} (given before : List ℕ) (reading : Reading) (line : ℕ) where
   misplaced_met : {shown : Result Next PullFault} (here : IsAt given reading before line) (m : Meets gave ended old new here.beginning lines shown) → reading.ended ≡ true → m.rest ≢ []
-      → Judged gave ended old new (Ok (No line Misplaced))
+      → IsAnswerOf m.given (ended new) (Ok (No line Misplaced))
   misplaced_met here m end some =
-      judged_ok gave ended old new m.given (No line Misplaced) m.gives
+      answer_ok m.given (ended new) (No line Misplaced)
       (no_stands m.given (ended new) line Misplaced
       (λ more. misplaced (m.given ++ more) (m.rest ++ more) reading line (at_more m.given m.rest more reading line (at_met given before reading line here m)) end (some-more m.rest more some)))
 
   -- by whether the end line has come
   pub too_long_at : (now : Bool) → reading.ended ≡ now → (here : IsAt given reading before line)
-      → Meets gave ended old new here.beginning lines (Ok nexts.LineTooLong) → Judged gave ended old new (Ok (refusal_in line now LineTooLong))
+      → (m : Meets gave ended old new here.beginning lines (Ok nexts.LineTooLong)) → IsAnswerOf m.given (ended new) (Ok (refusal_in line now LineTooLong))
   too_long_at false is here m = too_long_met here.beginning line m here.line_is (unended_here given before reading line here is)
   too_long_at true is here m = misplaced_met here m is (long_some m.rest m.next.0)
 
   pub truncated_at : (now : Bool) → reading.ended ≡ now → (here : IsAt given reading before line)
-      → Meets gave ended old new here.beginning lines (Ok nexts.Truncated) → Judged gave ended old new (Ok (refusal_in line now Truncated))
+      → (m : Meets gave ended old new here.beginning lines (Ok nexts.Truncated)) → IsAnswerOf m.given (ended new) (Ok (refusal_in line now Truncated))
   truncated_at false is here m = truncated_met here.beginning line m here.line_is (unended_here given before reading line here is)
   truncated_at true is here m = misplaced_met here m is m.next.1
 
   pub finished_at : (now : Bool) → reading.ended ≡ now → (here : IsAt given reading before line)
-      → Meets gave ended old new here.beginning lines (Ok nexts.Finished)
-      → JudgedBy gave ended old new (Ok (if now then Yes reading.held.steps reading.held.roots else No line Truncated)) reading.held
-  unfolding judged_ok
-  finished_at false is here m = record { judged = finished_met here.beginning line m here.line_is (unended_here given before reading line here is); leads = tt }
+      → (m : Meets gave ended old new here.beginning lines (Ok nexts.Finished))
+      → IsAnswerOf m.given (ended new) (Ok (if now then Yes reading.held.steps reading.held.roots else No line Truncated))
+      × LeadsAfter m.given reading.held (if now then Yes reading.held.steps reading.held.roots else No line Truncated)
+  finished_at false is here m = (finished_met here.beginning line m here.line_is (unended_here given before reading line here is), tt)
   finished_at true is here m =
-      let at_end = subst (λ (r : List ℕ). IsAt m.given reading r line) m.next.0 (at_met given before reading line here m) in
-      record {
-        judged = judged_ok gave ended old new m.given (Yes reading.held.steps reading.held.roots) m.gives
-            (subst (λ (b : Bool). IsVerdictOf m.given b (Yes reading.held.steps reading.held.roots)) (sym m.next.1) (yes m.given reading line at_end is));
-        leads = leads m.given reading line at_end is;
-      }
+      let at_end = subst (λ (r : List ℕ). IsAt m.given reading r line) m.next.0 (at_met given before reading line here m) in (
+        answer_ok m.given (ended new) (Yes reading.held.steps reading.held.roots)
+            (subst (λ (b : Bool). IsVerdictOf m.given b (Yes reading.held.steps reading.held.roots)) (sym m.next.1) (yes m.given reading line at_end is)),
+        leads m.given reading line at_end is,
+      )
 
   -- a line after the end line
-  pub after_end : (text : _) (here : IsAt given reading before line) → Meets gave ended old new here.beginning lines (Ok (nexts.Line text))
-      → reading.ended ≡ true → Judged gave ended old new (Ok (No line Misplaced))
+  pub after_end : (text : _) (here : IsAt given reading before line) → (m : Meets gave ended old new here.beginning lines (Ok (nexts.Line text)))
+      → reading.ended ≡ true → IsAnswerOf m.given (ended new) (Ok (No line Misplaced))
   after_end text here m end = misplaced_met here m end (line_some m.rest text.now (kept lines) m.next.0)
 
   -- a line that is not taken
   pub line_ended : (text : _) (end : StepEnd) (here : IsAt given reading before line)
-      → Meets gave ended old new here.beginning lines (Ok (nexts.Line text)) → reading.ended ≡ false → EndsNext reading text.now end → Judged gave ended old new (answer_at line end)
+      → (m : Meets gave ended old new here.beginning lines (Ok (nexts.Line text))) → reading.ended ≡ false → EndsNext reading text.now end → IsAnswerOf m.given (ended new) (answer_at line end)
   line_ended text (Refused refusal) here m unended refused =
       line_met here.beginning line text refusal m here.line_is (unended_here given before reading line here unended) (refused here.beginning here.stands)
   line_ended text ends.NoMemory here m unended wants =
-      judged_memory gave ended old new m.given m.gives
+      answer_memory m.given (ended new)
       (wants_memory m.given m.rest text.now (kept lines) reading line (at_met given before reading line here m) m.next.0 wants)
 
 -- after a line the lines are not over
@@ -243,7 +237,7 @@ pub later_read : {S : Type 0} (gave : S → S → List ℕ → Type 0) (begun so
 later_read gave begun source old before first new rest line on so_far = (so_far.0, so_far.1, on so_far.0 so_far.2)
 
 -- a line that is kept whole
-kept_line : (before after : List ℕ) (known : Line) → IsInRange known → before ≡ spelling known ++ 10 ∷ after
+pub kept_line : (before after : List ℕ) (known : Line) → IsInRange known → before ≡ spelling known ++ 10 ∷ after
     → IsLine before (spelling known) after
 kept_line before after known range is = subst (λ (b : List ℕ). IsLine b (spelling known) after) (sym is) (IsLine-spelling known range after)
 
@@ -319,7 +313,7 @@ lack-more bytes more lack = record {
   first = lack.first;
 }
 
-whole_verdict : (given rest : List ℕ) (ended : Bool) (verdict : Verdict) → (ended ≡ true → rest ≡ []) → IsVerdictOf given ended verdict
+pub whole_verdict : (given rest : List ℕ) (ended : Bool) (verdict : Verdict) → (ended ≡ true → rest ≡ []) → IsVerdictOf given ended verdict
     → IsVerdict (given ++ rest) verdict
 whole_verdict given rest true verdict end is =
     subst (λ (b : List ℕ). IsVerdict b verdict) (sym (ap (λ (r : List ℕ). given ++ r) (end refl) ∙ append-nil given)) is

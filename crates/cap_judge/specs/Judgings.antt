@@ -1,17 +1,19 @@
 -- The answer on the bytes that a source gave (this profile's own, as are all below).
-use Rattle.std.specs.Prelude.{◌≡◌, ◌≢◌, ℕ, Bool, true, false, if◌then◌else◌, List, ◌++◌, Result, Ok, Err, IfOk, IfErr}
-use Rattle.cap_log.specs.Front.{IsCut}
+use Rattle.std.specs.Prelude.{◌≡◌, ◌≢◌, ℕ, ◌+◌, Bool, true, false, if◌then◌else◌, List, ◌++◌, length, take, Result, Ok, Err, IfOk, IfErr}
+use Rattle.cap_log.specs.Front.{IsCut, FrontIs}
 use Rattle.cap_machine.specs.declared.refusal.Refusal.{Refusal}
 use Rattle.cap_machine.specs.declared.refusal.Refusal.TheVariants.{Misplaced, Truncated}
 use Rattle.cap_log.specs.declared.lines.Step.{Step}
 use Rattle.cap_machine.specs.declared.rules.Rules.{Rules}
+use Rattle.cap_machine.specs.declared.rules.Rules.TheVariants.{One}
+use Rattle.cap_machine.specs.Accounts.{Account, no_account}
 use Rattle.cap_machine.specs.States.{DeclaredRoot}
 use Rattle.cap_machine.specs.Helds.{Held, account_of}
 use Rattle.cap_judge.specs.declared.verdict.Verdict.{Verdict}
 use Rattle.cap_judge.specs.declared.verdict.Verdict.TheVariants.{Yes, No}
 use Rattle.cap_judge.specs.declared.verdict.JudgeFault.{JudgeFault}
 use Rattle.cap_judge.specs.declared.verdict.JudgeFault.TheVariants.{Pull, NoMemory}
-use Rattle.cap_judge.specs.Logs.{Beginning, lines_of, text_of, account_after, IsAccepted, IsLogOf}
+use Rattle.cap_judge.specs.Logs.{Beginning, Nothing, NoMode, Body, Whole, lines_of, text_of, account_after, IsAccepted, IsLogOf}
 use Rattle.cap_judge.specs.Logs.{IsFirstFault, MayLackMemory, NamesNoGranules}
 use Rattle.cap_judge.specs.Progresses.{IsAt, Reading}
 use Rattle.cap_judge.specs.Verdicts.{IsVerdict, EscapesExactly, GuardsAuthority}
@@ -26,6 +28,32 @@ IsVerdictOf bytes false (No line refusal) = (more : List ℕ) → IsFirstFault (
 pub record IsBehind (bytes : List ℕ) (beginning : Beginning) (rest : List ℕ) : Type 0 where
   pub bytes_are : bytes ≡ text_of (lines_of beginning) ++ rest
   pub accepted : IsAccepted beginning
+
+-- the account after a beginning; before the header is read it is an empty one
+abbrev pub account_before : Beginning → Account
+account_before Nothing = no_account One
+account_before NoMode = no_account One
+account_before (Body rules roots steps) = account_after rules roots steps
+account_before (Whole rules roots steps) = account_after rules roots steps
+
+-- the text is the front of these bytes, and where that is cut their source has ended
+abbrev pub IsLastFront : List ℕ → Bool → List ℕ → Type 0
+IsLastFront rest ended text = FrontIs rest (text ≡ take 96 rest) ((text ≡ rest) × (ended ≡ true)) (λ line. text ≡ line)
+
+-- the bytes are the text of a beginning that is accepted, whose account is that of what a machine holds, and the line of this number,
+-- whose text is this
+pub record StopsBefore (bytes : List ℕ) (ended : Bool) (held : Held) (line : ℕ) (text : List ℕ) : Type 0 where
+  pub beginning : Beginning
+  pub rest : List ℕ
+  pub behind : IsBehind bytes beginning rest
+  pub line_is : line ≡ length (lines_of beginning) + 1
+  pub account : account_of held ≡ account_before beginning
+  pub front : IsLastFront rest ended text
+
+-- after a no, the machine holds what the lines before the one that was refused lead to, and this is the text of that line
+abbrev pub StopsIn : List ℕ → Bool → Held → List ℕ → Verdict → Type 0
+StopsIn bytes ended held text (Yes steps roots) = Unit {0}
+StopsIn bytes ended held text (No line refusal) = StopsBefore bytes ended held line text
 
 -- the whole lines begin a log whose steps have a run, and less than a line follows them
 pub record BeginsLog (bytes : List ℕ) : Type 0 where
@@ -68,11 +96,12 @@ abbrev pub LeadsAfter : List ℕ → Held → Verdict → Type 0
 LeadsAfter bytes held (Yes steps roots) = LeadsTo bytes held
 LeadsAfter bytes held (No line refusal) = Unit {0}
 
--- an answer with what the machine of the judge holds then
+-- an answer with what the machine of the judge holds then, and the text of the line that was refused
 pub record JudgedBy {S : Type 0} (gave : S → S → List ℕ → Type 0) (ended : S → Bool) (old new : S)
-    (result : Result Verdict JudgeFault) (held : Held) : Type 0 where
+    (result : Result Verdict JudgeFault) (held : Held) (text : List ℕ) : Type 0 where
   pub judged : Judged gave ended old new result
   pub leads : IfOk result (LeadsAfter judged.given held)
+  pub stops : IfOk result (StopsIn judged.given (ended new) held text)
 
 -- an answer without a yes
 abbrev pub IsNoYes : Result Verdict JudgeFault → Type 0
@@ -92,3 +121,8 @@ finished reading line = if reading.ended then Yes reading.held.steps reading.hel
 -- wherever the judge was at the line that these bytes begin with, its answer is this one, whether their source has ended or not
 abbrev pub AnswersAt : Reading → List ℕ → ℕ → Result Verdict JudgeFault → Type 0
 AnswersAt reading kept line answer = (given : List ℕ) (ended : Bool) → IsAt given reading kept line → IsAnswerOf given ended answer
+
+-- wherever the judge was at the line that these bytes begin with, it stopped before the line that its answer names
+abbrev pub StopsAt : Reading → List ℕ → ℕ → Held → List ℕ → Result Verdict JudgeFault → Type 0
+StopsAt reading kept line held text answer =
+    (given : List ℕ) (ended : Bool) → IsAt given reading kept line → IfOk answer (StopsIn given ended held text)

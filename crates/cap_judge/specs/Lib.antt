@@ -3,8 +3,13 @@ pub mod Headers
 pub mod Progresses
 pub mod VerdictLines
 pub mod OriginLines
+pub mod FaultLines
+pub mod Parts
+pub mod StepLines
 pub mod Verdicts
 pub mod Judgings
+pub mod FaultReports
 pub mod Origins
 pub mod OriginLists
 pub mod Reports
+pub mod Whys

@@ -1,11 +1,7 @@
 -- What a judge that writes its verdict answers and writes (this profile's own).
-use Rattle.std.specs.Prelude.{◌≡◌, ℕ, Bool, true, false, List, [], ◌++◌, take, Result, Ok, Err}
+use Rattle.std.specs.Prelude.{◌≡◌, ℕ, Bool, true, false, List, ◌++◌}
 use Rattle.cap_judge.specs.declared.verdict.Verdict.{Verdict}
 use Rattle.cap_judge.specs.declared.verdict.Verdict.TheVariants.{Yes, No}
-use Rattle.cap_judge.specs.declared.verdict.JudgeFault.TheVariants as judge_faults
-use Rattle.cap_judge.specs.declared.verdict.JudgeToFault.{JudgeToFault}
-use Rattle.cap_judge.specs.declared.verdict.JudgeToFault.TheVariants.{Pull, NoMemory, Push}
-use Rattle.cap_judge.specs.Judgings.{IsAnswerOf}
 use Rattle.cap_judge.specs.Origins.{Origin, AreOriginsOf, origin_lines}
 use Rattle.cap_judge.specs.VerdictLines.{verdict_line}
 
@@ -15,20 +11,3 @@ Tells false bytes verdict text = text ≡ verdict_line verdict
 Tells true bytes (No line refusal) text = text ≡ verdict_line (No line refusal)
 Tells true bytes (Yes steps roots) text =
     (origins : List Origin) × AreOriginsOf bytes origins × (text ≡ verdict_line (Yes steps roots) ++ origin_lines origins)
-
--- with a verdict its text was taken, without one nothing, and where the sink failed a beginning of the text
-abbrev pub IsReportOf : Bool → List ℕ → Bool → (List ℕ → Type 0) → Result Verdict JudgeToFault → Type 0
-IsReportOf asked bytes ended took (Ok verdict) =
-    IsAnswerOf bytes ended (Ok verdict) × (text : List ℕ) × Tells asked bytes verdict text × took text
-IsReportOf asked bytes ended took (Err Pull) = IsAnswerOf bytes ended (Err judge_faults.Pull) × took []
-IsReportOf asked bytes ended took (Err NoMemory) = IsAnswerOf bytes ended (Err judge_faults.NoMemory) × took []
-IsReportOf asked bytes ended took (Err Push) =
-    (verdict : Verdict) × IsAnswerOf bytes ended (Ok verdict) × (text : List ℕ) × Tells asked bytes verdict text
-    × (n : ℕ) × took (take n text)
-
--- an answer is that of the bytes that the source gave in the call, and of those that the sink took
-pub record Reported {S K : Type 0} (asked : Bool) (gave : S → S → List ℕ → Type 0) (ended : S → Bool) (took : K → K → List ℕ → Type 0)
-    (old new : S) (before after : K) (result : Result Verdict JudgeToFault) : Type 0 where
-  pub given : List ℕ
-  pub gives : gave old new given
-  pub report : IsReportOf asked given (ended new) (took before after) result

@@ -32,6 +32,7 @@ impl<M: TaggedStore> Progress<M> {
             (reading_of M.contents self.new) rest.now)) }
         ensures none { IfOk result (λ taken. IfNone taken (self.new ≡ self.old)) }
         ensures err { IfErr result (EndsFront (reading_of M.contents self.old) bytes.now) }
+        ensures same { IfErr result (λ _. reading_of M.contents self.new ≡ reading_of M.contents self.old) }
     {
         if LAST {
             return self.take_last(bytes);
@@ -91,6 +92,7 @@ impl<M: TaggedStore> Progress<M> {
             (reading_of M.contents self.new) rest.now)) }
         ensures none { IfOk result (λ taken. IfNone taken (self.new ≡ self.old)) }
         ensures err { IfErr result (EndsFront (reading_of M.contents self.old) bytes.now) }
+        ensures same { IfErr result (λ _. reading_of M.contents self.new ≡ reading_of M.contents self.old) }
     {
         let Some((head, operands)) = Head::take(bytes, b' ') else {
             return Ok(None);
@@ -106,6 +108,7 @@ impl<M: TaggedStore> Progress<M> {
             (head_spelling head ++ 32 ∷ operands.now) (reading_of M.contents self.new) rest.now)) }
         ensures none { IfOk result (λ taken. IfNone taken (self.new ≡ self.old)) }
         ensures err { IfErr result (EndsFront (reading_of M.contents self.old) (head_spelling head ++ 32 ∷ operands.now)) }
+        ensures same { IfErr result (λ _. reading_of M.contents self.new ≡ reading_of M.contents self.old) }
     {
         self.take_operands::<0>(head, operands)
     }
@@ -123,6 +126,7 @@ impl<M: TaggedStore> Progress<M> {
             (head_spelling head ++ 32 ∷ operands.now) (reading_of M.contents self.new) rest.now)) }
         ensures none { IfOk result (λ taken. IfNone taken (self.new ≡ self.old)) }
         ensures err { IfErr result (EndsFront (reading_of M.contents self.old) (head_spelling head ++ 32 ∷ operands.now)) }
+        ensures same { IfErr result (λ _. reading_of M.contents self.new ≡ reading_of M.contents self.old) }
     {
         if operands.len() < MOST_BYTES - MOST_HEAD_BYTES {
             return Ok(None);
@@ -142,6 +146,7 @@ impl<M: TaggedStore> Progress<M> {
             (head_spelling head ++ 32 ∷ operands.now) (reading_of M.contents self.new) rest.now)) }
         ensures none { IfOk result (λ taken. IfNone taken (self.new ≡ self.old)) }
         ensures err { IfErr result (EndsFront (reading_of M.contents self.old) (head_spelling head ++ 32 ∷ operands.now)) }
+        ensures same { IfErr result (λ _. reading_of M.contents self.new ≡ reading_of M.contents self.old) }
     {
         let Some((line, rest)) = take_operands::<COPY>(head, operands) else {
             return Ok(None);

@@ -1,17 +1,21 @@
 //! The header of a log: its version line, and for version 2 its mode line.
 
-ghost use Rattle.std.specs.Prelude.{◌≡◌, ◌≢◌, ◌+◌, ℕ, [], length, Ok, Err, None, MatchResult, IfSome, IfNone};
+ghost use Rattle.std.specs.Prelude.{◌≡◌, ◌≢◌, ◌+◌, ℕ, [], length, Ok, Err, None, MatchResult, IfSome, IfNone, IfErr, OnOk};
 ghost use Rattle.cap_log.specs.Lines.{Spells};
 ghost use Rattle.cap_log.specs.declared.lines.Line.TheVariants as lines;
 ghost use Rattle.cap_log.specs.declared.lines.Mode.{Mode as ModeNamed};
 ghost use Rattle.cap_log.specs.Streams.{next_count};
 ghost use Rattle.cap_log.specs.Takings.{kept, over_of};
+ghost use Rattle.cap_machine.specs.Accounts.{no_account};
+ghost use Rattle.cap_machine.specs.Helds.{Held, account_of};
+ghost use Rattle.cap_judge.specs.FaultLines.{IsFrontText, bytes_of};
 ghost use Rattle.cap_judge.specs.Headers.{ReadsHeader, rules_of};
-ghost use Rattle.cap_judge.specs.Judgings.{IsNoYes, Judged};
+ghost use Rattle.cap_judge.specs.Judgings.{IsNoYes, Judged, JudgedBy};
 ghost use Rattle.cap_judge.specs.Logs.{header_lines};
 ghost use Rattle.cap_judge.specs.declared.verdict.JudgeFault.TheVariants.{Pull};
 ghost use Rattle.cap_judge.specs.declared.verdict.Verdict.TheVariants.{No};
 
+use crate::fault_lines::FaultLine;
 use crate::verdict::{JudgeFault, Verdict};
 use cap_log::{Line, Lines, Mode, Next, PullFault, Source, read_line};
 use cap_machine::{Refusal, Rules};
@@ -30,15 +34,36 @@ pub fn read_header<S: Source>(
     ensures counted { result ≢ Err (Err Pull) → S.faults source.new ≡ S.faults source.old }
     ensures fault_counted { result ≡ Err (Err Pull) → S.faults source.new ≡ next_count (S.faults source.old) }
 {
+    match read_header_keeping(source, lines) {
+        Ok(rules) => Ok(rules),
+        Err((answer, _)) => Err(answer),
+    }
+}
+
+/// Reads a header as [`read_header`] does, and gives the line of its first fault too.
+pub(crate) fn read_header_keeping<S: Source>(
+    source: &mut S,
+    lines: &mut Lines,
+) -> Result<Rules, (Result<Verdict, JudgeFault>, FaultLine)>
+    requires fresh { kept lines.old ≡ [] }
+    requires begun { over_of lines.old ≡ None }
+    ensures read { MatchResult result
+        (λ rules. ReadsHeader S.gave source.old source.new lines.new rules)
+        (λ no. IsNoYes no.0 × Judged S.gave S.ended source.old source.new no.0 × ((held : Held) → account_of held ≡ no_account Rules.One
+        → JudgedBy S.gave S.ended source.old source.new no.0 held (bytes_of no.1))) }
+    ensures counted { IfErr result (λ no. no.0 ≢ Err Pull → S.faults source.new ≡ S.faults source.old) }
+    ensures ok_counted { OnOk result (S.faults source.new ≡ S.faults source.old) }
+    ensures fault_counted { IfErr result (λ no. no.0 ≡ Err Pull → S.faults source.new ≡ next_count (S.faults source.old)) }
+{
     let version = match lines.next(source) {
-        Ok(Next::Line(text)) => version_of(text),
-        Ok(Next::LineTooLong) => return Err(no_at(1, Refusal::LineTooLong)),
-        Ok(Next::Truncated) => return Err(no_at(1, Refusal::Truncated)),
-        Ok(Next::Finished) => return Err(no_at(1, Refusal::Truncated)),
-        Err(PullFault) => return Err(Err(JudgeFault::Pull)),
-    };
-    let Some(version) = version else {
-        return Err(no_at(1, Refusal::BadHeader));
+        Ok(Next::Line(text)) => match version_of(text) {
+            Some(version) => version,
+            None => return Err(no_at(1, Refusal::BadHeader, text)),
+        },
+        Ok(Next::LineTooLong) => return Err(no_at(1, Refusal::LineTooLong, lines.kept())),
+        Ok(Next::Truncated) => return Err(no_at(1, Refusal::Truncated, lines.kept())),
+        Ok(Next::Finished) => return Err(no_at(1, Refusal::Truncated, lines.kept())),
+        Err(PullFault) => return Err((Err(JudgeFault::Pull), FaultLine::new())),
     };
     if version == 1 {
         return Ok(Rules::One);
@@ -46,12 +71,12 @@ pub fn read_header<S: Source>(
     match lines.next(source) {
         Ok(Next::Line(text)) => match mode_of(text) {
             Some(mode) => Ok(rules_of(mode)),
-            None => Err(no_at(2, Refusal::BadMode)),
+            None => Err(no_at(2, Refusal::BadMode, text)),
         },
-        Ok(Next::LineTooLong) => Err(no_at(2, Refusal::LineTooLong)),
-        Ok(Next::Truncated) => Err(no_at(2, Refusal::Truncated)),
-        Ok(Next::Finished) => Err(no_at(2, Refusal::Truncated)),
-        Err(PullFault) => Err(Err(JudgeFault::Pull)),
+        Ok(Next::LineTooLong) => Err(no_at(2, Refusal::LineTooLong, lines.kept())),
+        Ok(Next::Truncated) => Err(no_at(2, Refusal::Truncated, lines.kept())),
+        Ok(Next::Finished) => Err(no_at(2, Refusal::Truncated, lines.kept())),
+        Err(PullFault) => Err((Err(JudgeFault::Pull), FaultLine::new())),
     }
 }
 
@@ -65,11 +90,12 @@ pub fn first_line(rules: Rules) -> u64
     }
 }
 
-// The answer that a fault on a line makes.
-fn no_at(line: u64, refusal: Refusal) -> Result<Verdict, JudgeFault>
-    ensures { result ≡ Ok (No line refusal) }
+// The answer that a fault on a line makes, and that line.
+fn no_at(line: u64, refusal: Refusal, bytes: &[u8]) -> (Result<Verdict, JudgeFault>, FaultLine)
+    ensures answer { result.0 ≡ Ok (No line refusal) }
+    ensures front { IsFrontText bytes.now (bytes_of result.1) }
 {
-    Ok(Verdict::No { line, refusal })
+    (Ok(Verdict::No { line, refusal }), FaultLine::of(bytes))
 }
 
 // The version that a line says.

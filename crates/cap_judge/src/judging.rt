@@ -7,11 +7,13 @@ ghost use Rattle.cap_log.specs.Streams.{next_count};
 ghost use Rattle.cap_log.specs.Takings.{kept, over_of};
 ghost use Rattle.cap_judge.specs.Logs.{NamesNoGranules};
 ghost use Rattle.cap_judge.specs.Verdicts.{EscapesExactly, GuardsAuthority, IsFault, IsVerdict, answer_at};
-ghost use Rattle.cap_judge.specs.Judgings.{AnswersAt, IsNoYes, Judged, JudgedBy, finished, refusal_in};
+ghost use Rattle.cap_judge.specs.Judgings.{AnswersAt, IsNoYes, Judged, JudgedBy, StopsAt, finished, refusal_in};
+ghost use Rattle.cap_judge.specs.FaultLines.{bytes_of};
 ghost use Rattle.cap_judge.specs.Progresses.{HasRead, IsAt, IsLaterAt, reading_of};
 ghost use Rattle.cap_judge.specs.declared.verdict.JudgeFault.TheVariants.{Pull};
 
-use crate::headers::{first_line, read_header};
+use crate::fault_lines::FaultLine;
+use crate::headers::{first_line, read_header_keeping};
 use crate::progress::Progress;
 use crate::verdict::{JudgeFault, Verdict};
 use cap_log::{Lines, Next, PullFault, SliceSource, Source};
@@ -64,29 +66,46 @@ pub fn judge_in<S: Source, M: TaggedStore>(source: &mut S, memory: M) -> Result<
     ensures counted { result ≢ Err Pull → S.faults source.new ≡ S.faults source.old }
     ensures fault_counted { result ≡ Err Pull → S.faults source.new ≡ next_count (S.faults source.old) }
 {
-    judge_keeping(source, memory).0
+    judge_keeping(source, memory).answer
+}
+
+/// What a judge leaves: its answer, the machine, and after a no the line that was refused.
+#[derive(Drop)]
+pub(crate) struct Judging<M: TaggedStore> {
+    pub answer: Result<Verdict, JudgeFault>,
+    pub machine: Machine<M>,
+    pub fault: FaultLine,
 }
 
 /// Judges as [`judge_in`] does, and gives the machine with the answer: after a yes it is as the log's steps
-/// left it.
-pub(crate) fn judge_keeping<S: Source, M: TaggedStore>(
-    source: &mut S,
-    memory: M,
-) -> (Result<Verdict, JudgeFault>, Machine<M>)
+/// left it, and after a no as those before the line left it that was refused.
+pub(crate) fn judge_keeping<S: Source, M: TaggedStore>(source: &mut S, memory: M) -> Judging<M>
     requires { map.len (M.contents memory) ≡ 0 }
-    ensures judged { JudgedBy S.gave S.ended source.old source.new result.0 (held_of M.contents result.1) }
-    ensures counted { result.0 ≢ Err Pull → S.faults source.new ≡ S.faults source.old }
-    ensures fault_counted { result.0 ≡ Err Pull → S.faults source.new ≡ next_count (S.faults source.old) }
+    ensures judged { JudgedBy S.gave S.ended source.old source.new result.answer (held_of M.contents result.machine) (bytes_of result.fault) }
+    ensures counted { result.answer ≢ Err Pull → S.faults source.new ≡ S.faults source.old }
+    ensures fault_counted { result.answer ≡ Err Pull → S.faults source.new ≡ next_count (S.faults source.old) }
 {
     let mut lines = Lines::new();
-    match read_header(source, &mut lines) {
+    match read_header_keeping(source, &mut lines) {
         Ok(rules) => {
             let mut progress = Progress::new(memory, rules);
             let answer = progress.judge_rest(source, &mut lines, first_line(rules));
-            let Progress { machine, ended: _ } = progress;
-            (answer, machine)
+            let Progress {
+                machine,
+                ended: _,
+                fault,
+            } = progress;
+            Judging {
+                answer,
+                machine,
+                fault,
+            }
         }
-        Err(answer) => (answer, Machine::with_rules(memory, Rules::One)),
+        Err((answer, fault)) => Judging {
+            answer,
+            machine: Machine::with_rules(memory, Rules::One),
+            fault,
+        },
     }
 }
 
@@ -105,6 +124,8 @@ impl<M: TaggedStore> Progress<M> {
         ensures rest { IfOk result (λ p. (front : List ℕ) × (bytes.now ≡ front ++ p.1.now)) }
         ensures after { IfOk result (λ p. first ≤ p.0) }
         ensures err { IfErr result (λ answer. IsNoYes answer × AnswersAt (reading_of M.contents self.old) bytes.now first answer) }
+        ensures stops { IfErr result (StopsAt (reading_of M.contents self.old) bytes.now first
+            (held_of M.contents self.new.machine) (bytes_of self.new.fault)) }
         ensures no_pull { IfErr result (λ answer. answer ≢ Err Pull) }
     {
         match self.take_fronts::<false>(bytes, first) {
@@ -125,6 +146,8 @@ impl<M: TaggedStore> Progress<M> {
         ensures rest { IfOk result (λ p. (front : List ℕ) × (bytes.now ≡ front ++ p.1.now)) }
         ensures after { IfOk result (λ p. first ≤ p.0) }
         ensures err { IfErr result (λ answer. IsNoYes answer × AnswersAt (reading_of M.contents self.old) bytes.now first answer) }
+        ensures stops { IfErr result (StopsAt (reading_of M.contents self.old) bytes.now first
+            (held_of M.contents self.new.machine) (bytes_of self.new.fault)) }
         ensures no_pull { IfErr result (λ answer. answer ≢ Err Pull) }
     {
         let mut line = first;
@@ -139,7 +162,10 @@ impl<M: TaggedStore> Progress<M> {
                     line += 1;
                 }
                 Ok(None) => return Ok((line, rest)),
-                Err(end) => return Err(answer_at(line, end)),
+                Err(end) => {
+                    self.fault = FaultLine::of(rest);
+                    return Err(answer_at(line, end));
+                }
             }
         }
     }
@@ -155,6 +181,8 @@ impl<M: TaggedStore> Progress<M> {
             (reading_of M.contents self.new) (kept lines.new)) }
         ensures after { IfOk result (λ next. first ≤ next) }
         ensures err { IfErr result (λ answer. IsNoYes answer × AnswersAt (reading_of M.contents self.old) (kept lines.old) first answer) }
+        ensures stops { IfErr result (StopsAt (reading_of M.contents self.old) (kept lines.old) first
+            (held_of M.contents self.new.machine) (bytes_of self.new.fault)) }
         ensures no_pull { IfErr result (λ answer. answer ≢ Err Pull) }
         ensures over { over_of lines.new ≡ over_of lines.old }
     {
@@ -180,7 +208,7 @@ impl<M: TaggedStore> Progress<M> {
         requires here { (begun : S) × HasRead S.gave begun source.old (reading_of M.contents self.old) (kept lines.old) first }
         requires more { over_of lines.old ≡ None }
         ensures judged { (begun : S) → HasRead S.gave begun source.old (reading_of M.contents self.old) (kept lines.old) first
-            → JudgedBy S.gave S.ended begun source.new result (held_of M.contents self.new.machine) }
+            → JudgedBy S.gave S.ended begun source.new result (held_of M.contents self.new.machine) (bytes_of self.new.fault) }
         ensures counted { result ≢ Err Pull → S.faults source.new ≡ S.faults source.old }
         ensures fault_counted { result ≡ Err Pull → S.faults source.new ≡ next_count (S.faults source.old) }
     {
@@ -192,16 +220,25 @@ impl<M: TaggedStore> Progress<M> {
             }
             match lines.next(source) {
                 Err(PullFault) => return Err(JudgeFault::Pull),
-                Ok(Next::Finished) => return Ok(finished_verdict(self, line)),
-                Ok(Next::Truncated) => return Ok(refused(line, self.ended, Refusal::Truncated)),
+                Ok(Next::Finished) => {
+                    self.fault = FaultLine::of(lines.kept());
+                    return Ok(finished_verdict(self, line));
+                }
+                Ok(Next::Truncated) => {
+                    self.fault = FaultLine::of(lines.kept());
+                    return Ok(refused(line, self.ended, Refusal::Truncated));
+                }
                 Ok(Next::LineTooLong) => {
+                    self.fault = FaultLine::of(lines.kept());
                     return Ok(refused(line, self.ended, Refusal::LineTooLong));
                 }
                 Ok(Next::Line(text)) => {
                     if self.ended {
+                        self.fault = FaultLine::of(text);
                         return Ok(refused(line, true, Refusal::Misplaced));
                     }
                     if let Err(end) = self.take_line(text) {
+                        self.fault = FaultLine::of(text);
                         return answer_at(line, end);
                     }
                     line += 1;

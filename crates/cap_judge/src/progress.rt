@@ -6,6 +6,7 @@ ghost use Rattle.cap_log.specs.Lines.{IsInRange, IsPlace, IsStepInRange, Spells}
 ghost use Rattle.cap_log.specs.declared.lines.Line.TheVariants as lines;
 ghost use Rattle.cap_judge.specs.Logs.{has_form};
 
+use crate::fault_lines::FaultLine;
 use cap_log::{Line, Place, Step, read_line};
 use cap_machine::{Machine, Refusal, Rules, StepEnd};
 use cap_word::Word;
@@ -16,6 +17,8 @@ use tagmem::TaggedStore;
 pub struct Progress<M: TaggedStore> {
     pub machine: Machine<M>,
     pub ended: bool,
+    /// Once a line was refused, that line. It is written then alone.
+    pub fault: FaultLine,
 }
 
 // Whether a line has a form by the rules.
@@ -43,6 +46,7 @@ impl<M: TaggedStore> Progress<M> {
         Progress {
             machine: Machine::with_rules(memory, rules),
             ended: false,
+            fault: FaultLine::new(),
         }
     }
 
@@ -52,6 +56,7 @@ impl<M: TaggedStore> Progress<M> {
         requires unended { self.old.ended ≡ false }
         ensures ok { OnOk result (GoesOn (reading_of M.contents self.old) text.now (reading_of M.contents self.new)) }
         ensures err { IfErr result (λ end. EndsNext (reading_of M.contents self.old) text.now end) }
+        ensures same { IfErr result (λ _. reading_of M.contents self.new ≡ reading_of M.contents self.old) }
     {
         match read_line(text) {
             Some(line) => self.take_known::<0>(&line),
@@ -67,6 +72,7 @@ impl<M: TaggedStore> Progress<M> {
         ensures ok { OnOk result ((text : List ℕ) → Spells text line.now
             → GoesOn (reading_of M.contents self.old) text (reading_of M.contents self.new)) }
         ensures err { IfErr result (λ end. (text : List ℕ) → Spells text line.now → EndsNext (reading_of M.contents self.old) text end) }
+        ensures same { IfErr result (λ _. reading_of M.contents self.new ≡ reading_of M.contents self.old) }
     {
         if has_form(self.machine.rules(), line) {
             self.take::<COPY>(line)
@@ -82,6 +88,7 @@ impl<M: TaggedStore> Progress<M> {
         requires unended { self.old.ended ≡ false }
         ensures ok { OnOk result (Takes (reading_of M.contents self.old) line.now (reading_of M.contents self.new)) }
         ensures err { IfErr result (λ end. EndsFor (held_of M.contents self.old.machine) line.now end) }
+        ensures same { IfErr result (λ _. reading_of M.contents self.new ≡ reading_of M.contents self.old) }
     {
         match *line {
             Line::Version(_) | Line::Mode(_) => Err(StepEnd::Refused(Refusal::Misplaced)),
@@ -97,6 +104,7 @@ impl<M: TaggedStore> Progress<M> {
         requires unended { self.old.ended ≡ false }
         ensures ok { OnOk result (Takes (reading_of M.contents self.old) (lines.Root place word) (reading_of M.contents self.new)) }
         ensures err { IfErr result (λ end. EndsFor (held_of M.contents self.old.machine) (lines.Root place word) end) }
+        ensures same { IfErr result (λ _. reading_of M.contents self.new ≡ reading_of M.contents self.old) }
     {
         if self.machine.steps() > 0 {
             return Err(StepEnd::Refused(Refusal::Misplaced));
@@ -109,6 +117,7 @@ impl<M: TaggedStore> Progress<M> {
         requires unended { self.old.ended ≡ false }
         ensures ok { OnOk result (Takes (reading_of M.contents self.old) (lines.End count) (reading_of M.contents self.new)) }
         ensures err { IfErr result (λ end. EndsFor (held_of M.contents self.old.machine) (lines.End count) end) }
+        ensures same { IfErr result (λ _. reading_of M.contents self.new ≡ reading_of M.contents self.old) }
     {
         if count != self.machine.steps() {
             return Err(StepEnd::Refused(Refusal::WrongCount));

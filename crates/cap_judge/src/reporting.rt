@@ -5,11 +5,11 @@ ghost use Rattle.std.specs.FinMap as map;
 ghost use Rattle.cap_log.specs.Streams.{next_count};
 ghost use Rattle.cap_machine.specs.Helds.{held_of};
 ghost use Rattle.cap_judge.specs.OriginLists.{report_text};
-ghost use Rattle.cap_judge.specs.Reports.{Reported};
+ghost use Rattle.cap_judge.specs.Whys.{Explained};
 ghost use Rattle.cap_judge.specs.VerdictLines.{verdict_line};
 ghost use Rattle.cap_judge.specs.declared.verdict.JudgeToFault.TheVariants.{Pull, Push};
 
-use crate::judging::{judge, judge_keeping};
+use crate::judging::{Judging, judge, judge_keeping};
 use crate::origins::push_origins;
 use crate::verdict::{JudgeFault, JudgeToFault, Verdict};
 use crate::verdict_lines::verdict_text;
@@ -24,7 +24,7 @@ pub fn judge_to<S: Source, K: Sink>(
     source: &mut S,
     sink: &mut K,
 ) -> Result<Verdict, JudgeToFault>
-    ensures reported { Reported false S.gave S.ended K.took source.old source.new sink.old sink.new result }
+    ensures reported { Explained false false S.gave S.ended K.took source.old source.new sink.old sink.new result }
 
     // Each fault of the source or the sink ends the call, and nothing else counts one.
     ensures counted { result ≢ Err Pull → S.faults source.new ≡ S.faults source.old }
@@ -50,7 +50,7 @@ pub fn judge_origins<S: Source, K: Sink>(
     source: &mut S,
     sink: &mut K,
 ) -> Result<Verdict, JudgeToFault>
-    ensures reported { Reported true S.gave S.ended K.took source.old source.new sink.old sink.new result }
+    ensures reported { Explained true false S.gave S.ended K.took source.old source.new sink.old sink.new result }
 
     // Each fault of the source or the sink ends the call, and nothing else counts one.
     ensures counted { result ≢ Err Pull → S.faults source.new ≡ S.faults source.old }
@@ -68,13 +68,17 @@ pub fn judge_origins_in<S: Source, M: TaggedStore, K: Sink>(
     sink: &mut K,
 ) -> Result<Verdict, JudgeToFault>
     requires { map.len (M.contents memory) ≡ 0 }
-    ensures reported { Reported true S.gave S.ended K.took source.old source.new sink.old sink.new result }
+    ensures reported { Explained true false S.gave S.ended K.took source.old source.new sink.old sink.new result }
     ensures counted { result ≢ Err Pull → S.faults source.new ≡ S.faults source.old }
     ensures pull_counted { result ≡ Err Pull → S.faults source.new ≡ next_count (S.faults source.old) }
     ensures sink_counted { result ≢ Err Push → K.faults sink.new ≡ K.faults sink.old }
     ensures push_counted { result ≡ Err Push → K.faults sink.new ≡ next_count (K.faults sink.old) }
 {
-    let (answer, machine) = judge_keeping(source, memory);
+    let Judging {
+        answer,
+        machine,
+        fault: _,
+    } = judge_keeping(source, memory);
     match answer {
         Ok(verdict) => match push_report(&verdict, &machine, sink) {
             Ok(()) => Ok(verdict),
@@ -85,8 +89,8 @@ pub fn judge_origins_in<S: Source, M: TaggedStore, K: Sink>(
     }
 }
 
-// Pushes the line of a verdict, and after a yes those of the origins of what the machine holds.
-fn push_report<M: TaggedStore, K: Sink>(
+/// Pushes the line of a verdict, and after a yes those of the origins of what the machine holds.
+pub(crate) fn push_report<M: TaggedStore, K: Sink>(
     verdict: &Verdict,
     machine: &Machine<M>,
     sink: &mut K,
@@ -108,8 +112,8 @@ fn push_report<M: TaggedStore, K: Sink>(
     }
 }
 
-// Pushes the line of a verdict.
-fn push_verdict<K: Sink>(verdict: &Verdict, sink: &mut K) -> Result<(), PushFault>
+/// Pushes the line of a verdict.
+pub(crate) fn push_verdict<K: Sink>(verdict: &Verdict, sink: &mut K) -> Result<(), PushFault>
     ensures ok { OnOk result (K.took sink.old sink.new (verdict_line verdict.now)) }
     ensures err { OnErr result ((n : ℕ) × K.took sink.old sink.new (take n (verdict_line verdict.now))) }
     ensures counted { OnOk result (K.faults sink.new ≡ K.faults sink.old) }

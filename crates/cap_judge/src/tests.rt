@@ -9,6 +9,7 @@ mod made;
 mod memory;
 mod origins;
 mod pieces;
+mod reports;
 mod sealing;
 mod setting;
 mod streams;

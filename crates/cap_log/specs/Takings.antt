@@ -28,9 +28,10 @@ pub record Found {S : Type 0} (gave : S → S → List ℕ → Type 0) (old new 
 -- what comes next of these bytes, whether the source has ended, what stays kept, and why there are no more lines
 abbrev pub IsNext : List ℕ → Bool → List ℕ → Option Over → Result Next PullFault → Type 0
 IsNext bytes ended left over (Ok (Line text)) = IsLine bytes text.now left × (over ≡ None)
-IsNext bytes ended left over (Ok LineTooLong) = IsTooLong bytes × (over ≡ Some overs.TooLong)
-IsNext bytes ended left over (Ok Truncated) = IsCut bytes × (bytes ≢ []) × (ended ≡ true) × (over ≡ Some overs.Truncated)
-IsNext bytes ended left over (Ok Finished) = (bytes ≡ []) × (ended ≡ true) × (over ≡ Some overs.Finished)
+IsNext bytes ended left over (Ok LineTooLong) = IsTooLong bytes × (over ≡ Some overs.TooLong) × (left ≡ bytes)
+IsNext bytes ended left over (Ok Truncated) =
+    IsCut bytes × (bytes ≢ []) × (ended ≡ true) × (over ≡ Some overs.Truncated) × (left ≡ bytes)
+IsNext bytes ended left over (Ok Finished) = (bytes ≡ []) × (ended ≡ true) × (over ≡ Some overs.Finished) × (left ≡ bytes)
 IsNext bytes ended left over (Err fault) = IsCut bytes × (over ≡ Some overs.Failed) × (ended ≡ false)
 
 -- the answer of a call, of the bytes that were kept followed by those given in the call

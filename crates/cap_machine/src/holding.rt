@@ -1,15 +1,15 @@
 //! What a machine holds: a new one, and what it tells of its places and its counts.
 
-ghost use Rattle.std.specs.Prelude.{◌≡◌, ℕ, ◌<◌, ◌≤◌, ◌^◌, ◌+◌, IfSome, is_some};
+ghost use Rattle.std.specs.Prelude.{◌≡◌, ℕ, ◌<◌, ◌≤◌, ◌^◌, ◌+◌, ◌%◌, IfSome, is_some};
 ghost use Rattle.std.specs.FinMap as map;
 ghost use Rattle.tagmem.specs.Granules.{IsNextPut};
-ghost use Rattle.cap_log.specs.Lines.{IsPlace};
-ghost use Rattle.cap_machine.specs.States.{granule_key, key_of, untagged_null};
+ghost use Rattle.cap_log.specs.Lines.{IsDataSize, IsPlace};
+ghost use Rattle.cap_machine.specs.States.{granule_key, key_of, untagged_null, value_at};
 ghost use Rattle.cap_machine.specs.Accounts.{no_account};
 ghost use Rattle.cap_machine.specs.Parents.{IsSoundCap};
 ghost use Rattle.cap_machine.specs.Helds.{account_of, code_in, held_of, state_of};
 
-use crate::granules::capability_at;
+use crate::granules::{capability_at, number_in};
 use crate::machine::Machine;
 use crate::places::place_at;
 use crate::rules::Rules;
@@ -65,6 +65,34 @@ impl<M: TaggedStore> Machine<M> {
         ensures { result ≡ (let held = held_of M.contents self.now in held.roots) }
     {
         self.roots
+    }
+
+    /// How many distinct granules roots, `sc` and `store` have named.
+    pub fn granules(&self) -> u32
+        ensures { result ≡ (let account = account_of (held_of M.contents self.now) in account.granules) }
+    {
+        self.memory.count()
+    }
+
+    /// What a place holds.
+    pub fn holds(&self, place: Place) -> Cap
+        requires { IsPlace place }
+        ensures { result ≡ state_of (held_of M.contents self.now) (key_of place) }
+    {
+        match place {
+            Place::Register(number) => self.register(number),
+            Place::Granule(granule) => self.granule(granule),
+        }
+    }
+
+    /// The number that the bytes of memory from an address on spell, the least significant first: as many as
+    /// a load of data takes, all in one granule.
+    pub fn value(&self, address: u64, size: u8) -> u64
+        requires inside { address % 16 + size ≤ 16 }
+        requires sized { IsDataSize size }
+        ensures { result ≡ value_at (state_of (held_of M.contents self.now)) address size }
+    {
+        number_in(&self.memory, address / 16, (address % 16) as u8, size)
     }
 
     /// What a register holds. Register 0 is c0, which is NULL without a tag.

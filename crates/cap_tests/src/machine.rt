@@ -477,3 +477,25 @@ fn copies_make_the_same_step(rt: HostRuntime) {
         _ => panic!(rt; "no step"),
     }
 }
+
+#[test]
+fn what_is_told_of_memory(rt: HostRuntime) {
+    let machine = machine_after(
+        &rt,
+        rt.alloc(),
+        &[
+            "root c1 ffff1ffffc0180040000000000000000",
+            "store c1 32 8 0123456789abcdef",
+            "sc c1 c1 16",
+            "store c1 40 2 5678",
+        ],
+    );
+    assert_eq!(rt; machine.granules(), 2);
+    assert_eq!(rt; machine.value(32, 8), 0x0123_4567_89ab_cdef);
+    assert_eq!(rt; machine.value(34, 4), 0x4567_89ab);
+    assert_eq!(rt; machine.value(40, 2), 0x5678);
+    assert_eq!(rt; machine.value(48, 8), 0);
+    assert_eq!(rt; machine.holds(Place::Register(1)), machine.register(1));
+    assert_eq!(rt; machine.holds(Place::Granule(1)), machine.register(1));
+    assert_eq!(rt; machine.holds(Place::Granule(2)), machine.granule(2));
+}

@@ -1,2 +1,2 @@
-mod LineLemmas
+pub mod LineLemmas
 pub mod MemoryTexts

@@ -106,8 +106,8 @@ fn put_type_line(buffer: &mut [u8], at: usize, otype: u32) -> usize
     put(buffer, at, b"\n")
 }
 
-// What an object type stands for.
-fn type_name(otype: u32) -> &'static str
+/// What an object type stands for.
+pub(crate) fn type_name(otype: u32) -> &'static str
     ensures name { result.now ≡ type_name otype }
     ensures short { length result.now ≤ 8 }
 {

@@ -2,6 +2,8 @@
 //! value.
 #![tactic(auto)]
 
+pub mod cap_lines;
 pub mod explain_lines;
 pub mod round_lines;
+pub mod shown_bytes;
 pub mod text_lines;

@@ -63,3 +63,18 @@ pub fn put_answer_line(buffer: &mut [u8], at: usize, name: &[u8], answer: bool) 
         put_line(buffer, at, name, b"no")
     }
 }
+
+/// Writes a line whose value is a number in decimal, as [`put_decimal_line`] does.
+#[tactic(auto, using(cap_log::proofs::ElementLemmas::short_decimal))]
+pub fn put_number_line(buffer: &mut [u8], at: usize, name: &[u8], number: u64) -> usize
+    requires { at + length name.now + 22 ≤ length buffer.old }
+    ensures from { at ≤ result }
+    ensures fits { result ≤ at + length name.now + 22 }
+    ensures written { take result buffer.new ≡ take at buffer.old ++ text_line name.now (decimal number) }
+    ensures rest { (k : ℕ) → result ≤ k → drop k buffer.new ≡ drop k buffer.old }
+{
+    let at = put(buffer, at, name);
+    let at = put(buffer, at, b" ");
+    let at = put_decimal(buffer, at, number);
+    put(buffer, at, b"\n")
+}

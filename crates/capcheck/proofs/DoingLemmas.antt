@@ -5,13 +5,14 @@ use Rattle.std.proofs.Math.Seq.{take-length}
 use Rattle.std.specs.Io.KnownBytes.{Keeps, Appends, Consumes}
 use Rattle.capcheck.specs.declared.faults.Fault.{Fault}
 use Rattle.capcheck.specs.declared.faults.Fault.TheVariants as faults
-use Rattle.capcheck.specs.declared.words.Order.TheVariants.{Judge}
 use Rattle.cap_judge.specs.declared.verdict.Verdict.{Verdict}
 use Rattle.cap_judge.specs.declared.verdict.Verdict.TheVariants.{Yes, No}
-use Rattle.capcheck.specs.Answers.{Prints, known_bytes, verdict_status}
+use Rattle.capcheck.specs.Answers.{PrintsVerdict, known_bytes, verdict_status}
 use Rattle.capcheck.specs.Doings.{IsInputDone}
 use Rattle.cap_judge.specs.Judgings.{IsAnswerOf, IsVerdictOf}
 use Rattle.cap_judge.specs.Reports.{Tells}
+use Rattle.cap_judge.specs.FaultReports.{IsReport}
+use Rattle.cap_judge.specs.Whys.{IsTold}
 use Rattle.capcheck.specs.Statuses.{status_of}
 use Rattle.cap_judge.specs.Verdicts.{IsVerdict}
 use Rattle.cap_judge.proofs.SourceLemmas.{of_all}
@@ -33,66 +34,81 @@ verdict_given given ended verdict answer =
     (of_all given given [] ended (Ok verdict) (sym (append-nil given)) (λ e. refl) answer (λ e. cc)).0
 
 -- a text for all bytes given, where a yes says that they are all
-told_known : (asked : Bool) (known given rest : List ℕ) (ended : Bool) (verdict : Verdict) (text : List ℕ) → known ≡ given ++ rest
+tells_known : (origins : Bool) (known given rest : List ℕ) (ended : Bool) (verdict : Verdict) (text : List ℕ) → known ≡ given ++ rest
     → (ended ≡ true → rest ≡ [])
-    → IsVerdictOf given ended verdict → Tells asked given verdict text → Tells asked known verdict text
-told_known false known given rest ended verdict text are end is tells = tells
-told_known true known given rest ended (No line refusal) text are end is tells = tells
-told_known true known given rest true (Yes steps roots) text are end is tells =
+    → IsVerdictOf given ended verdict → Tells origins given verdict text → Tells origins known verdict text
+tells_known false known given rest ended verdict text are end is tells = tells
+tells_known true known given rest ended (No line refusal) text are end is tells = tells
+tells_known true known given rest true (Yes steps roots) text are end is tells =
     subst (λ (bytes : List ℕ). Tells true bytes (Yes steps roots) text) (sym (are ∙ ap (λ (r : List ℕ). given ++ r) (end refl) ∙ append-nil given)) tells
-told_known true known given rest false (Yes steps roots) text are end is tells = absurd is
+tells_known true known given rest false (Yes steps roots) text are end is tells = absurd is
+
+told_known : (origins why : Bool) (known given rest : List ℕ) (ended : Bool) (verdict : Verdict) (text : List ℕ) → known ≡ given ++ rest
+    → (ended ≡ true → rest ≡ [])
+    → IsVerdictOf given ended verdict → IsTold origins why given ended verdict text → IsTold origins why known true verdict text
+told_known origins false known given rest ended verdict text are end is tells =
+    tells_known origins known given rest ended verdict text are end is tells
+told_known origins true known given rest ended (Yes steps roots) text are end is tells =
+    tells_known origins known given rest ended (Yes steps roots) text are end is tells
+told_known origins true known given rest ended (No line refusal) text are end is tells = (
+  tells.0,
+  λ more none.
+      subst (λ (bytes : List ℕ). IsReport bytes line refusal tells.0)
+      (sym are ∙ sym (append-nil known) ∙ ap (λ (m : List ℕ). known ++ m) (sym (none refl))) (tells.1 rest end),
+  tells.2,
+)
 
 -- what was printed for an input
-printed : (asked : Bool) (left rest : Option (List ℕ)) (given : List ℕ) (ended : Bool) (verdict : Verdict) (text : List ℕ)
+printed : (origins why : Bool) (left rest : Option (List ℕ)) (given : List ℕ) (ended : Bool) (verdict : Verdict) (text : List ℕ)
     → Consumes left rest given
-    → (ended ≡ true → (xs : List ℕ) → rest ≡ Some xs → xs ≡ []) → IsAnswerOf given ended (Ok verdict) → Tells asked given verdict text
-    → Prints (Some (Judge asked None)) left text (verdict_status verdict)
-printed asked None rest given ended verdict text gives all answer tells =
-    (given, tt, verdict, verdict_given given ended verdict answer, tells, refl)
-printed asked (Some bytes) None given ended verdict text gives all answer tells = absurd gives
-printed asked (Some bytes) (Some rest) given ended verdict text gives all answer tells =
+    → (ended ≡ true → (xs : List ℕ) → rest ≡ Some xs → xs ≡ []) → IsAnswerOf given ended (Ok verdict) → IsTold origins why given ended verdict text
+    → PrintsVerdict origins why left text (verdict_status verdict)
+printed origins why None rest given ended verdict text gives all answer tells =
+    (given, tt, verdict, verdict_given given ended verdict answer, told_known origins why given given [] ended verdict text (sym (append-nil given)) (λ e. refl) answer.verdict tells, refl)
+printed origins why (Some bytes) None given ended verdict text gives all answer tells = absurd gives
+printed origins why (Some bytes) (Some rest) given ended verdict text gives all answer tells =
     let end = λ (e : ended ≡ true). all e rest refl in (
       bytes,
       refl,
       verdict,
       (of_all bytes given rest ended (Ok verdict) gives end answer (λ e. cc)).0,
-      told_known asked bytes given rest ended verdict text gives end answer.verdict tells,
+      told_known origins why bytes given rest ended verdict text gives end answer.verdict tells,
       refl,
     )
 
-done_prints : (asked : Bool) (left before after : Option (List ℕ)) (result : Result ℕ Fault) → IsInputDone asked left before after result
-    → IfOk result (λ status. (text : List ℕ) × Prints (Some (Judge asked None)) left text status × Appends before after text)
-done_prints asked left before after (Ok status) done =
+done_prints : (origins why : Bool) (left before after : Option (List ℕ)) (result : Result ℕ Fault) → IsInputDone origins why left before after result
+    → IfOk result (λ status. (text : List ℕ) × PrintsVerdict origins why left text status × Appends before after text)
+done_prints origins why left before after (Ok status) done =
     let w = done.written in (
       w.2,
-      subst (Prints (Some (Judge asked None)) left w.2) (sym w.5) (printed asked left done.rest done.given done.ended w.0 w.2 done.gives done.all_given w.1 w.3),
+      subst (PrintsVerdict origins why left w.2) (sym w.5) (printed origins why left done.rest done.given done.ended w.0 w.2 done.gives done.all_given w.1 w.3),
       w.4,
     )
-done_prints asked left before after (Err fault) done = tt
+done_prints origins why left before after (Err fault) done = tt
 
 -- the same of an input that was opened
-pub input_prints : {R : Type 0} (asked : Bool) (remaining : R → Option (List ℕ)) (input : Option R) (reader : R) (before after : Option (List ℕ)) (result : Result ℕ Fault)
-    → input ≡ Some reader → IsInputDone asked (remaining reader) before after result
-    → IfOk result (λ status. (text : List ℕ) × Prints (Some (Judge asked None)) (known_bytes remaining input) text status × Appends before after text)
-input_prints {R} asked remaining input reader before after result is done =
-    subst (λ (o : Option R). IfOk result (λ status. (text : List ℕ) × Prints (Some (Judge asked None)) (known_bytes remaining o) text status × Appends before after text))
-    (sym is) (done_prints asked (remaining reader) before after result done)
+pub input_prints : {R : Type 0} (origins why : Bool) (remaining : R → Option (List ℕ)) (input : Option R) (reader : R) (before after : Option (List ℕ)) (result : Result ℕ Fault)
+    → input ≡ Some reader → IsInputDone origins why (remaining reader) before after result
+    → IfOk result (λ status. (text : List ℕ) × PrintsVerdict origins why (known_bytes remaining input) text status × Appends before after text)
+input_prints {R} origins why remaining input reader before after result is done =
+    subst (λ (o : Option R). IfOk result (λ status. (text : List ℕ) × PrintsVerdict origins why (known_bytes remaining o) text status × Appends before after text))
+    (sym is) (done_prints origins why (remaining reader) before after result done)
 
 few_status : (verdict : Verdict) → verdict_status verdict ≤ 1
 few_status (Yes steps roots) = omega arith
 few_status (No line refusal) = omega arith
 
-pub done_ok : (asked : Bool) (left before after : Option (List ℕ)) (result : Result ℕ Fault) → IsInputDone asked left before after result
+pub done_ok : (origins why : Bool) (left before after : Option (List ℕ)) (result : Result ℕ Fault) → IsInputDone origins why left before after result
     → IfOk result (λ status. status ≤ 1)
-done_ok asked left before after (Ok status) done = let few = few_status done.written.0 in let is = done.written.5 in omega arith
-done_ok asked left before after (Err fault) done = tt
+done_ok origins why left before after (Ok status) done = let few = few_status done.written.0 in let is = done.written.5 in omega arith
+done_ok origins why left before after (Err fault) done = tt
 
-pub done_err : (asked : Bool) (left before after : Option (List ℕ)) (result : Result ℕ Fault) → IsInputDone asked left before after result
+pub done_err : (origins why : Bool) (left before after : Option (List ℕ)) (result : Result ℕ Fault) → IsInputDone origins why left before after result
     → IfErr result (λ fault. status_of fault ≡ 3)
-done_err asked left before after (Ok status) done = tt
-done_err asked left before after (Err faults.Read) done = refl
-done_err asked left before after (Err faults.Write) done = refl
-done_err asked left before after (Err faults.NoMemory) done = refl
-done_err asked left before after (Err faults.BadWords) done = absurd done.written
-done_err asked left before after (Err faults.BadWord) done = absurd done.written
-done_err asked left before after (Err faults.BadRequest) done = absurd done.written
+done_err origins why left before after (Ok status) done = tt
+done_err origins why left before after (Err faults.Read) done = refl
+done_err origins why left before after (Err faults.Write) done = refl
+done_err origins why left before after (Err faults.NoMemory) done = refl
+done_err origins why left before after (Err faults.BadWords) done = absurd done.written
+done_err origins why left before after (Err faults.BadWord) done = absurd done.written
+done_err origins why left before after (Err faults.BadRequest) done = absurd done.written

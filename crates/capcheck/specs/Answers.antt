@@ -1,9 +1,9 @@
 -- What the program prints for an order, and the status that goes with it (this profile's own).
-use Rattle.std.specs.Prelude.{◌≡◌, ℕ, List, Option, Some, None, IfSome}
+use Rattle.std.specs.Prelude.{◌≡◌, ℕ, Bool, true, false, List, Option, Some, None, IfSome}
 use Rattle.cap_bounds.specs.declared.rounding.Rounded.{Rounded}
 use Rattle.cap_bounds.specs.Rounding.{rounded_base, rounded_top, rounded_ie, rounded_exponent}
 use Rattle.capcheck.specs.declared.words.Order.{Order}
-use Rattle.capcheck.specs.declared.words.Order.TheVariants.{Explain, Round, Judge, Vectors}
+use Rattle.capcheck.specs.declared.words.Order.TheVariants.{Explain, Round, Judge, Why, Vectors}
 use Rattle.cap_judge.specs.declared.verdict.Verdict.{Verdict}
 use Rattle.cap_judge.specs.declared.verdict.Verdict.TheVariants.{Yes, No}
 use Rattle.cap_vectors.specs.declared.vectors.VectorVerdict.{VectorVerdict}
@@ -12,7 +12,7 @@ use Rattle.capcheck.specs.Operands.{SpellsWord, SpellsRequest}
 use Rattle.cap_texts.specs.ExplainLines.{explain_lines}
 use Rattle.cap_texts.specs.RoundLines.{round_lines}
 use Rattle.cap_vectors.specs.VectorFiles.{IsVectorVerdict, vector_line}
-use Rattle.cap_judge.specs.Reports.{Tells}
+use Rattle.cap_judge.specs.Whys.{IsTold}
 use Rattle.cap_judge.specs.Verdicts.{IsVerdict}
 
 -- the exit status of a verdict
@@ -52,13 +52,18 @@ ShowsCheck input text status =
     (verdict : VectorVerdict) × IfSome input (λ bytes. IsVectorVerdict bytes verdict)
     × (text ≡ vector_line verdict) × (status ≡ vector_status verdict)
 
+-- an input is judged: the text is that of the verdict on its bytes, with the origins and the report that are asked for
+abbrev pub PrintsVerdict : Bool → Bool → Option (List ℕ) → List ℕ → ℕ → Type 0
+PrintsVerdict origins why input text status =
+    (bytes : List ℕ) × IfSome input (λ known. known ≡ bytes)
+    × (verdict : Verdict) × IsVerdict bytes verdict × IsTold origins why bytes true verdict text × (status ≡ verdict_status verdict)
+
 -- the text that an order prints, and its status
 abbrev pub Prints : Option Order → Option (List ℕ) → List ℕ → ℕ → Type 0
 Prints None input text status = ⊥
 Prints (Some (Explain memory tag hex)) input text status =
     (w : ℕ) × SpellsWord memory hex.now w × (text ≡ explain_lines w tag) × (status ≡ 0)
 Prints (Some (Round base_word length_word)) input text status = ShowsRounding base_word.now length_word.now text × (status ≡ 0)
-Prints (Some (Judge origins file)) input text status =
-    (bytes : List ℕ) × IfSome input (λ known. known ≡ bytes)
-    × (verdict : Verdict) × IsVerdict bytes verdict × Tells origins bytes verdict text × (status ≡ verdict_status verdict)
+Prints (Some (Judge origins file)) input text status = PrintsVerdict origins false input text status
+Prints (Some (Why origins file)) input text status = PrintsVerdict origins true input text status
 Prints (Some (Vectors file)) input text status = ShowsCheck input text status

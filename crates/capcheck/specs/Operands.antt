@@ -4,7 +4,7 @@ use Rattle.cap_word.specs.Digits.{hex_digits}
 use Rattle.cap_word.specs.Memory.{memory_of}
 use Rattle.cap_texts.specs.TextLines.{bytes_text}
 use Rattle.capcheck.specs.declared.words.Order.{Order}
-use Rattle.capcheck.specs.declared.words.Order.TheVariants.{Explain, Round, Judge, Vectors}
+use Rattle.capcheck.specs.declared.words.Order.TheVariants.{Explain, Round, Judge, Why, Vectors}
 use Rattle.capcheck.specs.declared.faults.Fault.{Fault}
 use Rattle.capcheck.specs.declared.faults.Fault.TheVariants.{BadWords, BadWord, BadRequest, Read, Write, NoMemory}
 
@@ -39,4 +39,5 @@ IsFaulty (Some (Explain memory tag hex)) = (w : ℕ) → w < 2 ^ 128 → SpellsW
 IsFaulty (Some (Round base_word length_word)) =
     (base length : ℕ) → SpellsRequest base_word.now length_word.now base length → base + length ≤ 2 ^ 64 → ⊥
 IsFaulty (Some (Judge origins file)) = ⊥
+IsFaulty (Some (Why origins file)) = ⊥
 IsFaulty (Some (Vectors file)) = ⊥

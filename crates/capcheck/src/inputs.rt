@@ -4,9 +4,10 @@ ghost use Rattle.std.specs.Prelude.{◌≡◌};
 ghost use Rattle.std.specs.Io.KnownBytes.{Appends};
 ghost use Rattle.capcheck.specs.Answers.{verdict_status};
 ghost use Rattle.capcheck.specs.Doings.{IsInputDone};
-ghost use Rattle.cap_judge.specs.Reports.{Reported};
+ghost use Rattle.cap_judge.specs.Whys.{Explained};
 
 use crate::faults::Fault;
+use cap_judge::explaining::judge_why;
 use cap_judge::reporting::{judge_origins, judge_to};
 use cap_judge::verdict::{JudgeToFault, Verdict};
 use cap_log::{ReadSource, Source, WriteSink};
@@ -14,18 +15,19 @@ use std::alloc::Global;
 use std::io::{Read, Write};
 
 /// Judges what a reader gives, writes the line of the verdict and, where they are asked for, those of
-/// origins, and answers the status that goes with the verdict. An error of the reader, want of memory and an
+/// origins and those of the report of a no, and answers the status that goes with the verdict. An error of the reader, want of memory and an
 /// error of the writer are faults.
 pub fn judge_reader<R: Read + Drop, O: Write>(
     alloc: Global,
     origins: bool,
+    why: bool,
     reader: R,
     out: &mut O,
 ) -> Result<u8, Fault>
-    ensures done { IsInputDone origins (R.remaining reader) (O.contents out.old) (O.contents out.new) result }
+    ensures done { IsInputDone origins why (R.remaining reader) (O.contents out.old) (O.contents out.new) result }
 {
     let mut source = ReadSource::new(reader);
-    match report(alloc, origins, &mut source, out) {
+    match report(alloc, origins, why, &mut source, out) {
         Ok(verdict) => match out.flush() {
             Ok(()) => Ok(verdict_status(&verdict)),
             Err(_) => Err(Fault::Write),
@@ -36,18 +38,21 @@ pub fn judge_reader<R: Read + Drop, O: Write>(
     }
 }
 
-// Judges a source, and writes the verdict and the origins where these are asked for.
+// Judges a source, and writes the verdict, and the origins and the report where these are asked for.
 fn report<S: Source, O: Write>(
     alloc: Global,
     origins: bool,
+    why: bool,
     source: &mut S,
     out: &mut O,
 ) -> Result<Verdict, JudgeToFault>
-    ensures reported { Reported origins S.gave S.ended (λ a b xs. Appends (O.contents a) (O.contents b) xs)
+    ensures explained { Explained origins why S.gave S.ended (λ a b xs. Appends (O.contents a) (O.contents b) xs)
         source.old source.new out.old out.new result }
 {
     let mut sink = WriteSink::new(out);
-    if origins {
+    if why {
+        judge_why(alloc, origins, source, &mut sink)
+    } else if origins {
         judge_origins(alloc, source, &mut sink)
     } else {
         judge_to(alloc, source, &mut sink)

@@ -15,7 +15,7 @@ use crate::faults::Fault;
 use crate::running::run;
 use crate::words::Order;
 use crate::words::reading::read_words;
-pub use cap_judge::{headers, judging, laws, origin_lines, reporting, verdict, verdict_lines};
+pub use cap_judge::{explaining, headers, judging, laws, origin_lines, reporting, verdict, verdict_lines};
 pub use cap_texts::{explain_lines, round_lines};
 pub use cap_vectors::vectors;
 use std::alloc::AllocError;
@@ -65,6 +65,10 @@ fn answer(rt: &HostRuntime) -> Result<u8, AllocError> {
             Order::Judge {
                 origins: _,
                 file: Some(path),
+            }
+            | Order::Why {
+                origins: _,
+                file: Some(path),
             },
         ) => {
             let input = File::open(rt, path).ok();
@@ -76,6 +80,10 @@ fn answer(rt: &HostRuntime) -> Result<u8, AllocError> {
         }
         Some(
             Order::Judge {
+                origins: _,
+                file: None,
+            }
+            | Order::Why {
                 origins: _,
                 file: None,
             },

@@ -2,10 +2,10 @@
 
 ghost use Rattle.std.specs.Prelude.{◌≡◌, ◌≤◌, ◌↔◌, ℕ, List, IfOk, IfErr, OnOk, None, Some, true};
 ghost use Rattle.std.specs.Io.KnownBytes.{Appends, Keeps};
-ghost use Rattle.capcheck.specs.Answers.{Prints, known_bytes};
+ghost use Rattle.capcheck.specs.Answers.{Prints, PrintsVerdict, known_bytes};
 ghost use Rattle.capcheck.specs.Operands.{IsFaulty};
 ghost use Rattle.capcheck.specs.Statuses.{exit_status, status_of};
-ghost use Rattle.capcheck.specs.declared.words.Order.TheVariants.{Explain, Judge, Round};
+ghost use Rattle.capcheck.specs.declared.words.Order.TheVariants.{Explain, Round};
 
 use crate::checking::check_input;
 use crate::faults::Fault;
@@ -67,26 +67,29 @@ fn follow<R: Read + Drop, O: Write>(
         None => Err(Fault::BadWords),
         Some(Order::Explain { memory, tag, hex }) => show_explanation(memory, tag, hex, out),
         Some(Order::Round { base, length }) => show_rounding(base, length, out),
-        Some(Order::Judge { origins, file: _ }) => judge_input(alloc, origins, input, out),
+        Some(Order::Judge { origins, file: _ }) => judge_input(alloc, origins, false, input, out),
+        Some(Order::Why { origins, file: _ }) => judge_input(alloc, origins, true, input, out),
         Some(Order::Vectors { file: _ }) => check_input(input, out),
     }
 }
 
-// Judges the input, and writes the line of the verdict and the origins where these are asked for.
+// Judges the input, and writes the line of the verdict, and the origins and the report where these are asked
+// for.
 fn judge_input<R: Read + Drop, O: Write>(
     alloc: Global,
     origins: bool,
+    why: bool,
     input: Option<R>,
     out: &mut O,
 ) -> Result<u8, Fault>
     ensures ok { IfOk result (λ status. status ≤ 1) }
     ensures err { IfErr result (λ fault. status_of fault ≡ 3) }
     ensures printed { IfOk result (λ status. (text : List ℕ)
-        × Prints (Some (Judge origins None)) (known_bytes R.remaining input) text status
+        × PrintsVerdict origins why (known_bytes R.remaining input) text status
         × Appends (O.contents out.old) (O.contents out.new) text) }
 {
     match input {
-        Some(reader) => judge_reader(alloc, origins, reader, out),
+        Some(reader) => judge_reader(alloc, origins, why, reader, out),
         None => Err(Fault::Read),
     }
 }

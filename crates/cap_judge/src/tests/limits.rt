@@ -1,6 +1,8 @@
 //! Logs at the limits on roots and granules.
 
+use crate::explaining::judge_why;
 use crate::tests::logs::{ROOT, judges};
+use cap_log::{SliceSink, SliceSource};
 use std::alloc::{AllocError, Global};
 use std::test::Fail;
 
@@ -129,5 +131,23 @@ fn roots(rt: HostRuntime) -> Result<(), Fail> {
         let log = many_roots(rt.alloc(), count, rest)?;
         judges(&rt, rest, log.as_slice(), line.as_bytes());
     }
+    Ok(())
+}
+
+// What is told of the first granule too many.
+#[test]
+fn report_at_a_limit(rt: HostRuntime) -> Result<(), Fail> {
+    let log = blocks(rt.alloc(), 0, 257, "")?;
+    let mut source = SliceSource::new(log.as_slice(), &[]);
+    let mut room = [b'.'; 256];
+    let mut sink = SliceSink::new(&mut room);
+    assert!(rt; judge_why(rt.alloc(), false, &mut source, &mut sink).is_ok());
+    let text = "no 65796 24 LimitPassed\n\
+        line store c2 -2048 1 00\n\
+        roots 1\n\
+        steps 65793\n\
+        granules 65536\n";
+    assert_eq!(rt; sink.taken(), text.len());
+    assert!(rt; room.starts_with(text.as_bytes()));
     Ok(())
 }

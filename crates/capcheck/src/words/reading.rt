@@ -92,19 +92,34 @@ fn read_judge<'a>(operands: &[&'a str]) -> Option<Order<'a>>
     ensures none { IfNone result ((order : Order) → Asks (codes "judge" ∷ map (λ word. word.now) operands.now) order → ⊥) }
 {
     let (origins, operands) = take_option("--origins", operands);
+    let (why, operands) = take_option("--why", operands);
     match operands {
-        [] => Some(Order::Judge {
-            origins,
-            file: None,
-        }),
-        [file] => {
-            if is_operand(file) {
+        [] => {
+            if why {
+                Some(Order::Why {
+                    origins,
+                    file: None,
+                })
+            } else {
                 Some(Order::Judge {
+                    origins,
+                    file: None,
+                })
+            }
+        }
+        [file] => {
+            if !is_operand(file) {
+                None
+            } else if why {
+                Some(Order::Why {
                     origins,
                     file: Some(*file),
                 })
             } else {
-                None
+                Some(Order::Judge {
+                    origins,
+                    file: Some(*file),
+                })
             }
         }
         _ => None,

@@ -1,12 +1,13 @@
-use Rattle.std.proofs.Common.{◌+◌, Ok, refl, ap, sym, subst, ◌∙◌, rules, arith}
+use Rattle.std.proofs.Common.{List, ℕ, ◌+◌, Ok, refl, ap, sym, subst, ◌∙◌, rules, arith}
 use Rattle.cap_machine.specs.Helds.{held_of}
 use Rattle.cap_log.specs.Takings.{kept}
 use Rattle.cap_machine.specs.declared.refusal.Refusal.TheVariants.{Truncated, LineTooLong}
-use Rattle.cap_judge.specs.Judgings.{JudgedBy}
-use Rattle.cap_judge.specs.Progresses.{HasRead, reading_of}
+use Rattle.cap_judge.specs.FaultLines.{IsFrontText, bytes_of}
+use Rattle.cap_judge.specs.Progresses.{HasRead, Reading, reading_of}
 use Rattle.cap_judge.proofs.JudgeLemmas.{goes_on}
 use Rattle.cap_judge.proofs.SourceLemmas.{meets_at, at_met, pulled, finished_at, truncated_at, too_long_at, after_end}
-use Rattle.cap_judge.proofs.SourceLemmas.{line_ended, few_at, over_after, later_read, judged_no, no_refused, no_answer}
+use Rattle.cap_judge.proofs.SourceLemmas.{line_ended, few_at, over_after, later_read, judged_by, judged_no, no_refused, no_answer}
+use Rattle.cap_judge.proofs.StopLemmas.{last_front, long_front, lent_front, stops, stops_refused, stops_finished, stops_answer}
 use Rattle.cap_judge.proofs.progress.Progress.judge_rest.Goals as goal
 
 pub lines-init : goal.lines-init
@@ -24,7 +25,7 @@ returns-in-Err-next-clause-judged g c = λ begun was.
     let here = later_read g.S.Source.gave begun c.lines.source _ _ _ _ _ _ c.in-Ok.ensures.ok (c.lines.invariant.here begun was) in
     let m = meets_at g.S.Source.gave g.S.Source.ended begun c.lines.source c.next.new.source reading c.in-Ok.next _ _ _ _
     g.met.S.Source.joined here (c.next.follows.holds-at-none.0 (c.take_kept.ensures.over ∙ c.lines.invariant.more)) (c.in-Err-next.is) in
-    judged_no g.S.Source.gave g.S.Source.ended begun c.next.new.source reading.held _ _ refl tt (pulled here.2.beginning c.in-Ok.next m)
+    judged_no g.S.Source.gave g.S.Source.ended begun c.next.new.source reading.held _ m.given _ _ refl tt m.gives (pulled here.2.beginning c.in-Ok.next m) tt
 
 pub returns-in-Ok-Finished-clause-judged : goal.returns-in-Ok-Finished-clause-judged
 returns-in-Ok-Finished-clause-judged g c = λ begun was.
@@ -32,7 +33,13 @@ returns-in-Ok-Finished-clause-judged g c = λ begun was.
     let here = later_read g.S.Source.gave begun c.lines.source _ _ _ _ _ _ c.in-Ok.ensures.ok (c.lines.invariant.here begun was) in
     let m = meets_at g.S.Source.gave g.S.Source.ended begun c.lines.source c.next.new.source reading c.in-Ok.next _ _ _ _
     g.met.S.Source.joined here (c.next.follows.holds-at-none.0 (c.take_kept.ensures.over ∙ c.lines.invariant.more)) (c.in-Ok-Finished.is ∙ ap Ok c.in-Ok-Finished.field-0-is) in
-    subst (λ r. JudgedBy g.S.Source.gave g.S.Source.ended begun c.next.new.source r reading.held) (sym (ap Ok c.finished_verdict.ensures)) (finished_at here.0 _ reading c.in-Ok.next c.take_kept.new.self.ended refl here.2 m)
+    let ended = g.S.Source.ended c.next.new.source in
+    let text = bytes_of c.of-self.result in
+    let at = at_met here.0 _ reading c.in-Ok.next here.2 m in
+    let front = subst (λ (b : List ℕ). IsFrontText b text) (c.kept.ensures.value ∙ m.next.3) c.of-self.ensures in
+    let known = finished_at here.0 _ reading c.in-Ok.next c.take_kept.new.self.ended refl here.2 m in
+    judged_by g.S.Source.gave g.S.Source.ended begun c.next.new.source reading.held text m.given _ _ (ap Ok c.finished_verdict.ensures) m.gives known.0 known.1
+    (stops_finished m.given ended reading.held c.in-Ok.next text c.take_kept.new.self.ended _ _ (stops m.given ended reading.held c.in-Ok.next text m.rest reading at refl (last_front m.rest ended text front (λ cut. m.next.1))))
 
 pub returns-in-Ok-Truncated-clause-judged : goal.returns-in-Ok-Truncated-clause-judged
 returns-in-Ok-Truncated-clause-judged g c = λ begun was.
@@ -40,7 +47,13 @@ returns-in-Ok-Truncated-clause-judged g c = λ begun was.
     let here = later_read g.S.Source.gave begun c.lines.source _ _ _ _ _ _ c.in-Ok.ensures.ok (c.lines.invariant.here begun was) in
     let m = meets_at g.S.Source.gave g.S.Source.ended begun c.lines.source c.next.new.source reading c.in-Ok.next _ _ _ _
     g.met.S.Source.joined here (c.next.follows.holds-at-none.0 (c.take_kept.ensures.over ∙ c.lines.invariant.more)) (c.in-Ok-Truncated.is ∙ ap Ok c.in-Ok-Truncated.field-0-is) in
-    judged_no g.S.Source.gave g.S.Source.ended begun c.next.new.source reading.held _ _ (ap Ok c.refused.ensures) (no_refused c.in-Ok.next c.take_kept.new.self.ended Truncated) (truncated_at here.0 _ reading c.in-Ok.next c.take_kept.new.self.ended refl here.2 m)
+    let ended = g.S.Source.ended c.next.new.source in
+    let text = bytes_of c.of-self-in-Ok-Truncated.result in
+    let at = at_met here.0 _ reading c.in-Ok.next here.2 m in
+    let front = subst (λ (b : List ℕ). IsFrontText b text) (c.kept-in-Ok-Truncated.ensures.value ∙ m.next.4) c.of-self-in-Ok-Truncated.ensures in
+    judged_no g.S.Source.gave g.S.Source.ended begun c.next.new.source reading.held text m.given _ _ (ap Ok c.refused.ensures) (no_refused c.in-Ok.next c.take_kept.new.self.ended Truncated)
+    m.gives (truncated_at here.0 _ reading c.in-Ok.next c.take_kept.new.self.ended refl here.2 m)
+    (stops_refused m.given ended reading.held c.in-Ok.next text c.take_kept.new.self.ended Truncated (stops m.given ended reading.held c.in-Ok.next text m.rest reading at refl (last_front m.rest ended text front (λ cut. m.next.2))))
 
 pub returns-in-Ok-LineTooLong-clause-judged : goal.returns-in-Ok-LineTooLong-clause-judged
 returns-in-Ok-LineTooLong-clause-judged g c = λ begun was.
@@ -48,7 +61,13 @@ returns-in-Ok-LineTooLong-clause-judged g c = λ begun was.
     let here = later_read g.S.Source.gave begun c.lines.source _ _ _ _ _ _ c.in-Ok.ensures.ok (c.lines.invariant.here begun was) in
     let m = meets_at g.S.Source.gave g.S.Source.ended begun c.lines.source c.next.new.source reading c.in-Ok.next _ _ _ _
     g.met.S.Source.joined here (c.next.follows.holds-at-none.0 (c.take_kept.ensures.over ∙ c.lines.invariant.more)) (c.in-Ok-LineTooLong.is ∙ ap Ok c.in-Ok-LineTooLong.field-0-is) in
-    judged_no g.S.Source.gave g.S.Source.ended begun c.next.new.source reading.held _ _ (ap Ok c.refused-in-Ok-LineTooLong.ensures) (no_refused c.in-Ok.next c.take_kept.new.self.ended LineTooLong) (too_long_at here.0 _ reading c.in-Ok.next c.take_kept.new.self.ended refl here.2 m)
+    let ended = g.S.Source.ended c.next.new.source in
+    let text = bytes_of c.of-self-in-Ok-LineTooLong.result in
+    let at = at_met here.0 _ reading c.in-Ok.next here.2 m in
+    let front = subst (λ (b : List ℕ). IsFrontText b text) (c.kept-in-Ok-LineTooLong.ensures.value ∙ m.next.2) c.of-self-in-Ok-LineTooLong.ensures in
+    judged_no g.S.Source.gave g.S.Source.ended begun c.next.new.source reading.held text m.given _ _ (ap Ok c.refused-in-Ok-LineTooLong.ensures) (no_refused c.in-Ok.next c.take_kept.new.self.ended LineTooLong)
+    m.gives (too_long_at here.0 _ reading c.in-Ok.next c.take_kept.new.self.ended refl here.2 m)
+    (stops_refused m.given ended reading.held c.in-Ok.next text c.take_kept.new.self.ended LineTooLong (stops m.given ended reading.held c.in-Ok.next text m.rest reading at refl (long_front m.rest ended text front m.next.0)))
 
 pub returns-then-self-clause-judged : goal.returns-then-self-clause-judged
 returns-then-self-clause-judged g c = λ begun was.
@@ -56,7 +75,12 @@ returns-then-self-clause-judged g c = λ begun was.
     let here = later_read g.S.Source.gave begun c.lines.source _ _ _ _ _ _ c.in-Ok.ensures.ok (c.lines.invariant.here begun was) in
     let m = meets_at g.S.Source.gave g.S.Source.ended begun c.lines.source c.next.new.source reading c.in-Ok.next _ _ _ _
     g.met.S.Source.joined here (c.next.follows.holds-at-none.0 (c.take_kept.ensures.over ∙ c.lines.invariant.more)) (c.in-Ok-Line.is ∙ ap Ok c.in-Ok-Line.field-0-is) in
-    judged_no g.S.Source.gave g.S.Source.ended begun c.next.new.source reading.held _ _ (ap Ok c.refused-then-self.ensures) tt (after_end here.0 _ reading c.in-Ok.next c.in-Ok-Line.text here.2 m c.if-self.true)
+    let ended = g.S.Source.ended c.next.new.source in
+    let text = bytes_of c.of-self-then-self.result in
+    let at = at_met here.0 _ reading c.in-Ok.next here.2 m in
+    judged_no g.S.Source.gave g.S.Source.ended begun c.next.new.source reading.held text m.given _ _ (ap Ok c.refused-then-self.ensures) tt
+    m.gives (after_end here.0 _ reading c.in-Ok.next c.in-Ok-Line.text here.2 m c.if-self.true)
+    (stops m.given ended reading.held c.in-Ok.next text m.rest reading at refl (lent_front m.rest c.in-Ok-Line.text.now _ ended text c.of-self-then-self.ensures m.next.0))
 
 pub returns-in-Err-take_line-clause-judged : goal.returns-in-Err-take_line-clause-judged
 returns-in-Err-take_line-clause-judged g c = λ begun was.
@@ -64,9 +88,15 @@ returns-in-Err-take_line-clause-judged g c = λ begun was.
     let here = later_read g.S.Source.gave begun c.lines.source _ _ _ _ _ _ c.in-Ok.ensures.ok (c.lines.invariant.here begun was) in
     let m = meets_at g.S.Source.gave g.S.Source.ended begun c.lines.source c.next.new.source reading c.in-Ok.next _ _ _ _
     g.met.S.Source.joined here (c.next.follows.holds-at-none.0 (c.take_kept.ensures.over ∙ c.lines.invariant.more)) (c.in-Ok-Line.is ∙ ap Ok c.in-Ok-Line.field-0-is) in
-    judged_no g.S.Source.gave g.S.Source.ended begun c.next.new.source (held_of g.M.TaggedStore.contents c.take_line.new.self.machine) _ _ c.answer_at.ensures
+    let ended = g.S.Source.ended c.next.new.source in
+    let text = bytes_of c.of-self-in-Err-take_line.result in
+    let at = at_met here.0 _ reading c.in-Ok.next here.2 m in
+    let held = held_of g.M.TaggedStore.contents c.take_line.new.self.machine in
+    let same = ap (λ (r : Reading). r.held) c.in-Err-take_line.ensures.same in
+    judged_no g.S.Source.gave g.S.Source.ended begun c.next.new.source held text m.given _ _ c.answer_at.ensures
     (no_answer c.in-Ok.next c.in-Err-take_line.end)
-    (line_ended here.0 _ reading c.in-Ok.next c.in-Ok-Line.text c.in-Err-take_line.end here.2 m c.if-self.false c.in-Err-take_line.ensures.err)
+    m.gives (line_ended here.0 _ reading c.in-Ok.next c.in-Ok-Line.text c.in-Err-take_line.end here.2 m c.if-self.false c.in-Err-take_line.ensures.err)
+    (stops_answer m.given ended held c.in-Ok.next text c.in-Err-take_line.end (stops m.given ended held c.in-Ok.next text m.rest reading at same (lent_front m.rest c.in-Ok-Line.text.now _ ended text c.of-self-in-Err-take_line.ensures m.next.0)))
 
 pub lines-preserved : goal.lines-preserved
 lines-preserved g c =
@@ -94,8 +124,9 @@ take_kept-requires g c = let was = c.lines.invariant.here c.requires.here.0 c.re
 pub returns-in-Err-clause-judged : goal.returns-in-Err-clause-judged
 returns-in-Err-clause-judged g c = λ begun was.
     let here = c.lines.invariant.here begun was in
-    judged_no g.S.Source.gave g.S.Source.ended begun c.lines.source (held_of g.M.TaggedStore.contents c.take_kept.new.self.machine) _ _ refl c.in-Err.ensures.err.0
-    (record { given = here.0; gives = here.1; answer = c.in-Err.ensures.err.1 here.0 (g.S.Source.ended c.lines.source) here.2 })
+    let ended = g.S.Source.ended c.lines.source in
+    judged_no g.S.Source.gave g.S.Source.ended begun c.lines.source (held_of g.M.TaggedStore.contents c.take_kept.new.self.machine) (bytes_of c.take_kept.new.self.fault) here.0 _ _ refl c.in-Err.ensures.err.0
+    here.1 (c.in-Err.ensures.err.1 here.0 ended here.2) (c.in-Err.ensures.stops here.0 ended here.2)
 
 pub returns-in-Err-clause-fault_counted : goal.returns-in-Err-clause-fault_counted
 returns-in-Err-clause-fault_counted g c = λ pull. absurd (c.in-Err.ensures.no_pull pull)

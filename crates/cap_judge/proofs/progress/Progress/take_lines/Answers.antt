@@ -14,3 +14,8 @@ returns-in-Ok-clause-err g c =
     err_follows c.take_fronts-in-Ok.result _ _
     (λ answer ends. (ends.0, λ given ended at. ends.1 given ended (c.in-Ok.ensures.ok given at)))
     c.take_fronts-in-Ok.ensures.err
+
+pub returns-in-Ok-clause-stops : goal.returns-in-Ok-clause-stops
+returns-in-Ok-clause-stops g c =
+    err_follows c.take_fronts-in-Ok.result _ _ (λ answer stops. λ given ended at. stops given ended (c.in-Ok.ensures.ok given at))
+    c.take_fronts-in-Ok.ensures.stops

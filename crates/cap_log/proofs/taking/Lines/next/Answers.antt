@@ -8,7 +8,7 @@ use Rattle.cap_log.proofs.taking.Lines.next.Goals as goal
 pub returns-in-Ok-TooLong : goal.returns-in-Ok-TooLong
 returns-in-Ok-TooLong g c =
     let found = c.in-Ok-TooLong in (
-      (refl, λ _. tt, (λ _. answered _ _ _ _ _ _ _ _ _ found.ensures.ok (λ is. (subst (IsFront _) found.field-0-is is, refl)), not_again _ _ _ _ _ c.in_default.is)),
+      (refl, λ _. tt, (λ _. answered _ _ _ _ _ _ _ _ _ found.ensures.ok (λ is. (subst (IsFront _) found.field-0-is is, refl, refl)), not_again _ _ _ _ _ c.in_default.is)),
       record { answers = tt; counted = found.ensures.counted; fault_counted = tt; kept_first = found.ensures.kept_first },
     )
 
@@ -24,7 +24,7 @@ returns-then-is_empty g c =
     let found = c.in-Ok-Cut in
     let none : items c.find.new.self.window ≡ [] = nil_from_length _ (ap length (sym c.as_slice.ensures.value) ∙ search rules) in
     let end : g.S.Source.ended c.find.new.source ≡ true = search rules in (
-      (refl, λ _. tt, (λ _. answered _ _ _ _ _ _ _ _ _ found.ensures.ok (λ is. (none, end, refl)), not_again _ _ _ _ _ c.in_default.is)),
+      (refl, λ _. tt, (λ _. answered _ _ _ _ _ _ _ _ _ found.ensures.ok (λ is. (none, end, refl, refl)), not_again _ _ _ _ _ c.in_default.is)),
       record { answers = tt; counted = found.ensures.counted; fault_counted = tt; kept_first = found.ensures.kept_first },
     )
 
@@ -33,7 +33,7 @@ returns-else-is_empty g c =
     let found = c.in-Ok-Cut in
     let some : items c.find.new.self.window ≢ [] = search rules in
     let end : g.S.Source.ended c.find.new.source ≡ true = search rules in (
-      (refl, λ _. tt, (λ _. answered _ _ _ _ _ _ _ _ _ found.ensures.ok (λ is. (subst (IsFront _) found.field-0-is is, some, end, refl)), not_again _ _ _ _ _ c.in_default.is)),
+      (refl, λ _. tt, (λ _. answered _ _ _ _ _ _ _ _ _ found.ensures.ok (λ is. (subst (IsFront _) found.field-0-is is, some, end, refl, refl)), not_again _ _ _ _ _ c.in_default.is)),
       record { answers = tt; counted = found.ensures.counted; fault_counted = tt; kept_first = found.ensures.kept_first },
     )
 

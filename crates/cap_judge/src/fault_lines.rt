@@ -1,0 +1,53 @@
+//! The line at which a judge stopped.
+
+ghost use Rattle.std.specs.Prelude.{◌≡◌, ◌≤◌, [], length};
+
+use cap_log::{Front, front};
+
+/// The bytes of a line: without its line feed, the first 96 where more come before one, and those that
+/// are there where none comes.
+#[derive(Drop)]
+pub struct FaultLine {
+    bytes: [u8; 96],
+    length: usize,
+    ghost fits: { length ≤ 96 },
+}
+
+impl FaultLine {
+    ghost use Rattle.cap_judge.specs.FaultLines.{IsFrontText, bytes_of};
+
+    /// No bytes.
+    pub fn new() -> FaultLine
+        ensures { bytes_of result ≡ [] }
+    {
+        FaultLine {
+            bytes: [0; 96],
+            length: 0,
+        }
+    }
+
+    /// The line that some bytes begin with.
+    pub fn of(bytes: &[u8]) -> FaultLine
+        ensures { IsFrontText bytes.now (bytes_of result) }
+    {
+        let length = match front(bytes) {
+            Front::Line(length) => length,
+            Front::TooLong => 96,
+            Front::Cut => bytes.len(),
+        };
+        let mut line = [0; 96];
+        line[..length].copy_from_slice(&bytes[..length]);
+        FaultLine {
+            bytes: line,
+            length,
+        }
+    }
+
+    /// The bytes.
+    pub fn as_slice(&self) -> &[u8]
+        ensures value { result.now ≡ bytes_of self.now }
+        ensures few { length result.now ≤ 96 }
+    {
+        &self.bytes[..self.length]
+    }
+}

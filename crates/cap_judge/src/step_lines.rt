@@ -1,0 +1,540 @@
+//! The report on a step: what it read and asked for, and where its line records another result, what the
+//! rules give.
+
+ghost use Rattle.std.specs.Prelude.{◌≡◌, ℕ, take, drop, ◌+◌, ◌*◌, ◌<◌, ◌≤◌, ◌%◌, ◌^◌, ◌++◌, ◌∷◌, [], Some, None, MatchResult, length};
+ghost use Rattle.cap_word.specs.Fields.{address_of};
+ghost use Rattle.cap_bounds.specs.Bounds.{base_of, top_of};
+ghost use Rattle.cap_bounds.specs.Range.{with_address};
+ghost use Rattle.cap_bounds.specs.Rounding.{rounded_base, rounded_top};
+ghost use Rattle.cap_log.specs.Lines.{IsDataSize, IsDataValue, IsOffset, IsStepInRange};
+ghost use Rattle.cap_log.specs.declared.lines.Place.TheVariants as places;
+ghost use Rattle.cap_log.specs.declared.lines.Step.TheVariants as steps;
+ghost use Rattle.cap_ops.specs.Operations.{
+  and_perm_result,
+  and_perm_tests,
+  clear_result,
+  seal_result,
+  seal_tests,
+  set_addr_result,
+  set_addr_tests,
+  set_bounds_result,
+  set_bounds_tests,
+  unseal_result,
+  unseal_tests,
+};
+ghost use Rattle.cap_ops.specs.Tests.{first_of};
+ghost use Rattle.cap_machine.specs.Helds.{held_of, state_of};
+ghost use Rattle.cap_machine.specs.Steps.{Nothing, Read, Written, address_through};
+ghost use Rattle.cap_judge.specs.Parts.{IsWritten, lines_of_parts};
+ghost use Rattle.cap_judge.specs.StepLines.{asked_parts, compared_parts, needs_to_store, request_parts, result_lines, step_lines};
+ghost use Rattle.cap_judge.specs.declared.parts.Part.TheVariants as parts;
+
+use crate::parts::{Part, put_parts};
+use cap_bounds::{Interval, bounds, round};
+use cap_log::{Place, Step};
+use cap_machine::{Machine, Refusal};
+use cap_ops::{
+    Access, Kind, OpFault, and_perm, and_perm_clear, clear_tag, loaded, may_access, perm_view,
+    seal, seal_clear, set_addr, set_addr_clear, set_bounds, set_bounds_clear, unseal, unseal_clear,
+};
+use cap_texts::text_lines::put_hex_line;
+use cap_word::{Cap, Word};
+use tagmem::TaggedStore;
+
+// The permissions that a step needs of its authority, as bits of the view.
+const GLOBAL: u32 = 1;
+
+const LOAD: u32 = 4;
+
+const STORE: u32 = 8;
+
+const STORE_CAPABILITY: u32 = 32;
+
+const STORE_LOCAL_CAPABILITY: u32 = 64;
+
+const SEAL: u32 = 128;
+
+const UNSEAL: u32 = 512;
+
+/// Writes the report on a step that was refused at an index of the buffer, and answers the index behind it.
+/// The machine is as it was before the step.
+pub fn put_step_lines<M: TaggedStore>(
+    machine: &Machine<M>,
+    step: &Step,
+    refusal: Refusal,
+    buffer: &mut [u8],
+    at: usize,
+) -> usize
+    requires step { IsStepInRange step.now }
+    requires room { at + 1536 ≤ length buffer.old }
+    ensures { IsWritten 1536 at (step_lines (state_of (held_of M.contents machine.now)) step.now refusal) buffer.old buffer.new result }
+{
+    let at = put_asked(machine, step, buffer, at);
+    match refusal {
+        Refusal::WrongResult => put_result(machine, step, buffer, at),
+        _ => at,
+    }
+}
+
+// Writes what a step read and asked for.
+fn put_asked<M: TaggedStore>(
+    machine: &Machine<M>,
+    step: &Step,
+    buffer: &mut [u8],
+    at: usize,
+) -> usize
+    requires step { IsStepInRange step.now }
+    requires room { at + 768 ≤ length buffer.old }
+    ensures { IsWritten 768 at (lines_of_parts (asked_parts (state_of (held_of M.contents machine.now)) step.now)) buffer.old buffer.new result }
+{
+    match *step {
+        Step::Move { source, .. } => { put_parts(buffer, at, &[source_in(machine, source)]) }
+        Step::ClearTag { source, .. } => { put_parts(buffer, at, &[source_in(machine, source)]) }
+        Step::AndPerm { source, .. } => { put_parts(buffer, at, &[source_in(machine, source)]) }
+        Step::SetBounds { source, length, .. } => put_request(machine, source, length, buffer, at),
+        Step::SetBoundsExact { source, length, .. } => {
+            put_request(machine, source, length, buffer, at)
+        }
+        Step::SetAddr {
+            source,
+            address,
+            ..
+        } => {
+            let moved = moved_to(machine.register(source).word, address);
+            put_parts(buffer, at, &[source_in(machine, source), moved])
+        }
+        Step::Seal {
+            source,
+            authority,
+            ..
+        } => put_typing(machine, source, authority, SEAL, buffer, at),
+        Step::Unseal {
+            source,
+            authority,
+            ..
+        } => put_typing(machine, source, authority, UNSEAL, buffer, at),
+        Step::LoadCap {
+            authority,
+            offset,
+            ..
+        } => {
+            let address = reached(machine, authority, offset);
+            let granule = address / 16;
+            let source = Part::Source(Place::Granule(granule), machine.granule(granule));
+            put_parts(
+                buffer,
+                at,
+                &[
+                    source,
+                    authority_in(machine, authority),
+                    access_to(address, 16),
+                    Part::Needs(LOAD),
+                ],
+            )
+        }
+        Step::StoreCap {
+            source,
+            authority,
+            offset,
+        } => {
+            let needs = needs_to_store(machine.register(source));
+            put_parts(
+                buffer,
+                at,
+                &[
+                    source_in(machine, source),
+                    authority_in(machine, authority),
+                    access_to(reached(machine, authority, offset), 16),
+                    Part::Needs(needs),
+                ],
+            )
+        }
+        Step::Load {
+            authority,
+            offset,
+            size,
+            ..
+        } => {
+            let address = reached(machine, authority, offset);
+            put_parts(
+                buffer,
+                at,
+                &[
+                    authority_in(machine, authority),
+                    access_to(address, size),
+                    Part::Needs(LOAD),
+                ],
+            )
+        }
+        Step::Store {
+            authority,
+            offset,
+            size,
+            ..
+        } => {
+            let address = reached(machine, authority, offset);
+            put_parts(
+                buffer,
+                at,
+                &[
+                    authority_in(machine, authority),
+                    access_to(address, size),
+                    Part::Needs(STORE),
+                ],
+            )
+        }
+    }
+}
+
+// What a register holds that a result comes from, or that is stored.
+fn source_in<M: TaggedStore>(machine: &Machine<M>, register: u8) -> Part
+    requires { register ≤ 31 }
+    ensures { result ≡ parts.Source (places.Register register) (state_of (held_of M.contents machine.now) register) }
+{
+    Part::Source(Place::Register(register), machine.register(register))
+}
+
+// What a register holds that is the authority.
+fn authority_in<M: TaggedStore>(machine: &Machine<M>, register: u8) -> Part
+    requires { register ≤ 31 }
+    ensures { result ≡ parts.Authority (places.Register register) (state_of (held_of M.contents machine.now) register) }
+{
+    Part::Authority(Place::Register(register), machine.register(register))
+}
+
+// Writes a source, the bounds that are asked for, and those to which they are rounded.
+fn put_request<M: TaggedStore>(
+    machine: &Machine<M>,
+    source: u8,
+    asked: u64,
+    buffer: &mut [u8],
+    at: usize,
+) -> usize
+    requires source { source ≤ 31 }
+    requires room { at + 768 ≤ length buffer.old }
+    ensures { IsWritten 768 at (lines_of_parts (
+        parts.Source (places.Register source) (state_of (held_of M.contents machine.now) source)
+        ∷ request_parts (state_of (held_of M.contents machine.now)) (Some (source, asked)))) buffer.old buffer.new result }
+{
+    let held = machine.register(source);
+    let base = held.word.address();
+    let rounded = round(base, asked);
+    put_parts(
+        buffer,
+        at,
+        &[
+            Part::Source(Place::Register(source), held),
+            Part::Request(base, u128::from(base) + u128::from(asked)),
+            Part::Rounded(rounded.base, rounded.top),
+        ],
+    )
+}
+
+// The bounds that a word has at another address.
+fn moved_to(word: Word, address: u64) -> Part
+    ensures { result ≡ parts.Moved (base_of (with_address word.0 address)) (top_of (with_address word.0 address)) }
+{
+    let Interval { base, top } = bounds(Word(word.0 >> 64 << 64 | u128::from(address)));
+    Part::Moved(base, top)
+}
+
+// Writes a source, an authority over object types, and the permission that it needs.
+fn put_typing<M: TaggedStore>(
+    machine: &Machine<M>,
+    source: u8,
+    authority: u8,
+    needs: u32,
+    buffer: &mut [u8],
+    at: usize,
+) -> usize
+    requires source { source ≤ 31 }
+    requires authority { authority ≤ 31 }
+    requires room { at + 768 ≤ length buffer.old }
+    ensures { IsWritten 768 at (lines_of_parts (
+        parts.Source (places.Register source) (state_of (held_of M.contents machine.now) source)
+        ∷ parts.Authority (places.Register authority) (state_of (held_of M.contents machine.now) authority)
+        ∷ parts.Needs needs ∷ [])) buffer.old buffer.new result }
+{
+    put_parts(
+        buffer,
+        at,
+        &[
+            source_in(machine, source),
+            authority_in(machine, authority),
+            Part::Needs(needs),
+        ],
+    )
+}
+
+// The address of an access through a register.
+#[tactic(auto, unfolding(cap_ops::specs::Accesses::access_address))]
+fn reached<M: TaggedStore>(machine: &Machine<M>, authority: u8, offset: i16) -> u64
+    requires authority { authority ≤ 31 }
+    requires offset { IsOffset offset }
+    ensures { result ≡ address_through (state_of (held_of M.contents machine.now)) authority offset }
+{
+    let word = machine.register(authority).word;
+    word.address().wrapping_add_signed(i64::from(offset))
+}
+
+// The bytes of an access.
+fn access_to(address: u64, size: u8) -> Part
+    ensures { result ≡ parts.Access address (address + size) }
+{
+    Part::Access(address, u128::from(address) + u128::from(size))
+}
+
+// The permissions that storing a capability needs.
+#[tactic(auto, unfolding(cap_ops::specs::Permissions::has_permission))]
+fn needs_to_store(stored: Cap) -> u32
+    ensures { result ≡ needs_to_store stored }
+{
+    if !stored.tag {
+        STORE
+    } else if perm_view(stored.word) & GLOBAL == 1 {
+        STORE + STORE_CAPABILITY
+    } else {
+        STORE + STORE_CAPABILITY + STORE_LOCAL_CAPABILITY
+    }
+}
+
+// What the rules give in clear mode, and the test for which it has no tag.
+#[derive(Clone, Copy)]
+struct Given {
+    cap: Cap,
+    fault: Option<OpFault>,
+}
+
+// Writes what the rules give for a step, what its line records, and in which fields these differ.
+fn put_result<M: TaggedStore>(
+    machine: &Machine<M>,
+    step: &Step,
+    buffer: &mut [u8],
+    at: usize,
+) -> usize
+    requires step { IsStepInRange step.now }
+    requires room { at + 768 ≤ length buffer.old }
+    ensures { IsWritten 768 at (result_lines (state_of (held_of M.contents machine.now)) step.now) buffer.old buffer.new result }
+{
+    match *step {
+        Step::Move {
+            target,
+            source,
+            result,
+        } => {
+            let given = untested(machine.register(source));
+            put_compared(buffer, at, target, given, result)
+        }
+        Step::ClearTag {
+            target,
+            source,
+            result,
+        } => {
+            let given = untested(clear_tag(machine.register(source)));
+            put_compared(buffer, at, target, given, result)
+        }
+        Step::SetBounds {
+            target,
+            source,
+            length,
+            result,
+        } => {
+            let given = bounded(machine.register(source), length, false);
+            put_compared(buffer, at, target, given, result)
+        }
+        Step::SetBoundsExact {
+            target,
+            source,
+            length,
+            result,
+        } => {
+            let given = bounded(machine.register(source), length, true);
+            put_compared(buffer, at, target, given, result)
+        }
+        Step::SetAddr {
+            target,
+            source,
+            address,
+            result,
+        } => {
+            let given = moved(machine.register(source), address);
+            put_compared(buffer, at, target, given, result)
+        }
+        Step::AndPerm {
+            target,
+            source,
+            mask,
+            result,
+        } => {
+            let given = permitted(machine.register(source), mask);
+            put_compared(buffer, at, target, given, result)
+        }
+        Step::Seal {
+            target,
+            source,
+            authority,
+            result,
+        } => {
+            let given = sealed(machine.register(source), machine.register(authority));
+            put_compared(buffer, at, target, given, result)
+        }
+        Step::Unseal {
+            target,
+            source,
+            authority,
+            result,
+        } => {
+            let given = unsealed(machine.register(source), machine.register(authority));
+            put_compared(buffer, at, target, given, result)
+        }
+        Step::LoadCap {
+            target,
+            authority,
+            offset,
+            result,
+        } => {
+            let granule = reached(machine, authority, offset) / 16;
+            let given = untested(loaded(machine.register(authority), machine.granule(granule)));
+            put_compared(buffer, at, target, given, result)
+        }
+        Step::Load {
+            authority,
+            offset,
+            size,
+            value,
+        } => put_values(machine, authority, offset, size, value, buffer, at),
+        Step::StoreCap { .. } => at,
+        Step::Store { .. } => at,
+    }
+}
+
+// A result that no test takes the tag of.
+fn untested(cap: Cap) -> Given
+    ensures cap { result.cap ≡ cap }
+    ensures fault { result.fault ≡ None }
+{
+    Given { cap, fault: None }
+}
+
+// The test that refused an operation.
+fn fault_in(outcome: Result<Cap, OpFault>) -> Option<OpFault>
+    ensures { MatchResult outcome (λ _. result ≡ None) (λ fault. result ≡ Some fault) }
+{
+    match outcome {
+        Ok(_) => None,
+        Err(fault) => Some(fault),
+    }
+}
+
+// A capability with other bounds.
+fn bounded(held: Cap, length: u64, exact: bool) -> Given
+    ensures cap { result.cap ≡ clear_result (set_bounds_tests held length exact) (set_bounds_result held length) }
+    ensures fault { result.fault ≡ first_of (set_bounds_tests held length exact) }
+{
+    Given {
+        cap: set_bounds_clear(held, length, exact),
+        fault: fault_in(set_bounds(held, length, exact)),
+    }
+}
+
+// A capability with another address.
+fn moved(held: Cap, address: u64) -> Given
+    ensures cap { result.cap ≡ clear_result (set_addr_tests held address) (set_addr_result held address) }
+    ensures fault { result.fault ≡ first_of (set_addr_tests held address) }
+{
+    Given {
+        cap: set_addr_clear(held, address),
+        fault: fault_in(set_addr(held, address)),
+    }
+}
+
+// A capability with fewer permissions.
+fn permitted(held: Cap, mask: u64) -> Given
+    ensures cap { result.cap ≡ clear_result (and_perm_tests held) (and_perm_result held mask) }
+    ensures fault { result.fault ≡ first_of (and_perm_tests held) }
+{
+    Given {
+        cap: and_perm_clear(held, mask),
+        fault: fault_in(and_perm(held, mask)),
+    }
+}
+
+// A capability that is sealed by an authority.
+fn sealed(held: Cap, authority: Cap) -> Given
+    ensures cap { result.cap ≡ clear_result (seal_tests held authority) (seal_result held authority) }
+    ensures fault { result.fault ≡ first_of (seal_tests held authority) }
+{
+    Given {
+        cap: seal_clear(held, authority),
+        fault: fault_in(seal(held, authority)),
+    }
+}
+
+// A capability that is unsealed by an authority.
+fn unsealed(held: Cap, authority: Cap) -> Given
+    ensures cap { result.cap ≡ clear_result (unseal_tests held authority) (unseal_result held authority) }
+    ensures fault { result.fault ≡ first_of (unseal_tests held authority) }
+{
+    Given {
+        cap: unseal_clear(held, authority),
+        fault: fault_in(unseal(held, authority)),
+    }
+}
+
+// Writes the result that the rules give, the test for which it has no tag, the recorded result, and in which
+// fields the two differ.
+fn put_compared(buffer: &mut [u8], at: usize, target: u8, given: Given, recorded: Cap) -> usize
+    requires { at + 768 ≤ length buffer.old }
+    ensures { IsWritten 768 at (lines_of_parts (compared_parts given.fault
+        (Some (places.Register target, given.cap)) (Written recorded))) buffer.old buffer.new result }
+{
+    let place = Place::Register(target);
+    let gives = Part::Gives(place, given.cap);
+    let differs = Part::Differs(given.cap, recorded);
+    let recorded = Part::Recorded(place, recorded);
+    match given.fault {
+        None => put_parts(buffer, at, &[gives, recorded, differs]),
+        Some(fault) => put_parts(
+            buffer,
+            at,
+            &[gives, Part::Cleared(fault), recorded, differs],
+        ),
+    }
+}
+
+// Writes the value in memory, and the recorded one, where no test refuses the access.
+fn put_values<M: TaggedStore>(
+    machine: &Machine<M>,
+    authority: u8,
+    offset: i16,
+    size: u8,
+    value: u64,
+    buffer: &mut [u8],
+    at: usize,
+) -> usize
+    requires authority { authority ≤ 31 }
+    requires offset { IsOffset offset }
+    requires size { IsDataSize size }
+    requires value { IsDataValue size value }
+    requires room { at + 768 ≤ length buffer.old }
+    ensures from { at ≤ result }
+    ensures fits { result ≤ at + 768 }
+    ensures written { take result buffer.new ≡ take at buffer.old
+        ++ result_lines (state_of (held_of M.contents machine.now)) (steps.Load authority offset size value) }
+    ensures rest { (k : ℕ) → result ≤ k → drop k buffer.new ≡ drop k buffer.old }
+{
+    let access = Access {
+        kind: Kind::LoadData,
+        offset,
+        size,
+    };
+    match may_access(machine.register(authority), access) {
+        Ok(address) => {
+            let digits = usize::from(2 * size);
+            let given = u128::from(machine.value(address, size));
+            let at = put_hex_line(buffer, at, b"gives", digits, given);
+            put_hex_line(buffer, at, b"recorded", digits, u128::from(value))
+        }
+        Err(_) => at,
+    }
+}

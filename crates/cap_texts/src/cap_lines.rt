@@ -1,0 +1,144 @@
+//! The lines that show a capability of a report: its place, tag and word, and what these stand for.
+
+ghost use Rattle.std.specs.Prelude.{◌≡◌, ℕ, ◌+◌, ◌≤◌, ◌++◌, codes, length, take, drop};
+ghost use Rattle.cap_word.specs.Digits.{hex_digits};
+ghost use Rattle.cap_log.specs.Lines.{place_spelling, tag_spelling};
+ghost use Rattle.cap_texts.specs.CapLines.{bounds_line, cap_lines, cap_line, perms_line, type_line};
+ghost use Rattle.cap_texts.specs.ExplainLines.{type_name};
+
+use crate::explain_lines::type_name;
+use cap_bounds::{Interval, bounds};
+use cap_log::Place;
+use cap_log::buffers::{put, put_decimal, put_hex};
+use cap_ops::perm_view;
+use cap_word::{Cap, split};
+
+/// Writes the four lines of a capability that has this name in a report, and answers the index behind
+/// them. Nothing else of the buffer changes.
+pub fn put_cap_lines(buffer: &mut [u8], at: usize, name: &[u8], place: Place, cap: Cap) -> usize
+    requires name { length name.now ≤ 9 }
+    requires room { at + 192 ≤ length buffer.old }
+    ensures from { at ≤ result }
+    ensures fits { result ≤ at + 192 }
+    ensures written { take result buffer.new ≡ take at buffer.old ++ cap_lines name.now place cap }
+    ensures rest { (k : ℕ) → result ≤ k → drop k buffer.new ≡ drop k buffer.old }
+{
+    let Interval { base, top } = bounds(cap.word);
+    let at = put_cap_line(buffer, at, name, place, cap);
+    let at = put_perms_line(buffer, at, name, perm_view(cap.word));
+    let at = put_type_line(buffer, at, name, split(cap.word).otype);
+    put_bounds_line(buffer, at, name, b" bounds ", u128::from(base), top)
+}
+
+// Writes the place, the tag and the word.
+#[tactic(auto, using(cap_log::proofs::ElementLemmas::short_decimal))]
+fn put_cap_line(buffer: &mut [u8], at: usize, name: &[u8], place: Place, cap: Cap) -> usize
+    requires name { length name.now ≤ 9 }
+    requires room { at + 96 ≤ length buffer.old }
+    ensures from { at ≤ result }
+    ensures fits { result ≤ at + 63 }
+    ensures written { take result buffer.new ≡ take at buffer.old ++ cap_line name.now place cap }
+    ensures rest { (k : ℕ) → result ≤ k → drop k buffer.new ≡ drop k buffer.old }
+{
+    let at = put(buffer, at, name);
+    let at = put(buffer, at, b" ");
+    let at = put_shown_place(buffer, at, place);
+    let at = put(buffer, at, b" ");
+    let at = put_tag(buffer, at, cap.tag);
+    let at = put(buffer, at, b" ");
+    let at = put_hex(buffer, at, 32, cap.word.0);
+    put(buffer, at, b"\n")
+}
+
+// Writes a tag.
+fn put_tag(buffer: &mut [u8], at: usize, tag: bool) -> usize
+    requires { at + 1 ≤ length buffer.old }
+    ensures end { result ≡ at + 1 }
+    ensures written { take result buffer.new ≡ take at buffer.old ++ tag_spelling tag }
+    ensures rest { (k : ℕ) → result ≤ k → drop k buffer.new ≡ drop k buffer.old }
+{
+    if tag {
+        put(buffer, at, b"1")
+    } else {
+        put(buffer, at, b"0")
+    }
+}
+
+// Writes a place, c0 too.
+#[tactic(auto, using(cap_log::proofs::ElementLemmas::short_decimal))]
+fn put_shown_place(buffer: &mut [u8], at: usize, place: Place) -> usize
+    requires room { at + 21 ≤ length buffer.old }
+    ensures end { result ≡ at + length (place_spelling place) }
+    ensures fits { result ≤ at + 17 }
+    ensures written { take result buffer.new ≡ take at buffer.old ++ place_spelling place }
+    ensures rest { (k : ℕ) → result ≤ k → drop k buffer.new ≡ drop k buffer.old }
+{
+    match place {
+        Place::Register(number) => {
+            let at = put(buffer, at, b"c");
+            put_decimal(buffer, at, u64::from(number))
+        }
+        Place::Granule(number) => {
+            let at = put(buffer, at, b"@");
+            put_hex(buffer, at, 16, 16 * u128::from(number))
+        }
+    }
+}
+
+// Writes the permissions.
+fn put_perms_line(buffer: &mut [u8], at: usize, name: &[u8], view: u32) -> usize
+    requires name { length name.now ≤ 9 }
+    requires room { at + 25 ≤ length buffer.old }
+    ensures from { at ≤ result }
+    ensures fits { result ≤ at + 25 }
+    ensures written { take result buffer.new ≡ take at buffer.old ++ perms_line name.now view }
+    ensures rest { (k : ℕ) → result ≤ k → drop k buffer.new ≡ drop k buffer.old }
+{
+    let at = put(buffer, at, name);
+    let at = put(buffer, at, b" perms ");
+    let at = put_hex(buffer, at, 8, u128::from(view));
+    put(buffer, at, b"\n")
+}
+
+// Writes the object type, and what it stands for.
+fn put_type_line(buffer: &mut [u8], at: usize, name: &[u8], otype: u32) -> usize
+    requires name { length name.now ≤ 9 }
+    requires room { at + 31 ≤ length buffer.old }
+    ensures from { at ≤ result }
+    ensures fits { result ≤ at + 31 }
+    ensures written { take result buffer.new ≡ take at buffer.old ++ type_line name.now otype }
+    ensures rest { (k : ℕ) → result ≤ k → drop k buffer.new ≡ drop k buffer.old }
+{
+    let at = put(buffer, at, name);
+    let at = put(buffer, at, b" otype ");
+    let at = put_hex(buffer, at, 5, u128::from(otype));
+    let at = put(buffer, at, b" ");
+    let at = put(buffer, at, type_name(otype).as_bytes());
+    put(buffer, at, b"\n")
+}
+
+/// Writes a line of two bounds behind a name and a word, and answers the index behind it. Nothing else of
+/// the buffer changes.
+pub fn put_bounds_line(
+    buffer: &mut [u8],
+    at: usize,
+    name: &[u8],
+    word: &[u8],
+    base: u128,
+    top: u128,
+) -> usize
+    requires name { length name.now ≤ 9 }
+    requires word { length word.now ≤ 8 }
+    requires room { at + 52 ≤ length buffer.old }
+    ensures from { at ≤ result }
+    ensures fits { result ≤ at + 52 }
+    ensures written { take result buffer.new ≡ take at buffer.old ++ bounds_line name.now word.now base top }
+    ensures rest { (k : ℕ) → result ≤ k → drop k buffer.new ≡ drop k buffer.old }
+{
+    let at = put(buffer, at, name);
+    let at = put(buffer, at, word);
+    let at = put_hex(buffer, at, 16, base);
+    let at = put(buffer, at, b" ");
+    let at = put_hex(buffer, at, 17, top);
+    put(buffer, at, b"\n")
+}
