@@ -5,5 +5,6 @@ mod Indexes
 mod Listed
 mod NextPut
 mod Pages
+mod Regions
 mod Slots
 mod Writes

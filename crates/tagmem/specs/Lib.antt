@@ -1,4 +1,6 @@
+pub mod Directories
 pub mod Granules
 pub mod Listed
 pub mod ListLaws
 pub mod Pages
+pub mod Regions

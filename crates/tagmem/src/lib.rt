@@ -1,10 +1,13 @@
 //! Tagged memory: stores of granules, each with a tag and sixteen bytes.
 #![tactic(auto)]
 
+mod directory;
 mod list_store;
 mod overwriting;
 mod page;
 mod page_store;
+mod region;
+mod remembered;
 mod store;
 
 pub use crate::list_store::ListStore;
