@@ -10,7 +10,7 @@ use Rattle.std.proofs.Math.Seq.{map-set_same}
 use Rattle.tagmem.specs.declared.page.Page.{Page}
 use Rattle.tagmem.specs.Granules.{Entry}
 use Rattle.tagmem.specs.Regions.{IsWith}
-use Rattle.tagmem.specs.Pages.{slots_of, with_slot, entries_from, entries_of, page_number_at, IsPageAt, IsAbsent, IsDirectory}
+use Rattle.tagmem.specs.Pages.{slots_of, with_slot, entries_from, entries_of, numbers_of, page_number_at, IsPageAt, IsAbsent, IsDirectory}
 
 -- the number of the page in a page
 abbrev number_of : Page → ℕ
@@ -29,12 +29,17 @@ pub IsDirectory-same : (pages : List Page) (old new : ℕ → Option ℕ) → ((
 IsDirectory-same pages old new same known =
     record { has = λ i lt. same _ ∙ known.has i lt; right = λ n i is. known.right n i (sym (same n) ∙ is) }
 
--- a page at the index of another of its number keeps it
+-- a page at the index of another of its number leaves the numbers as they are
+pub numbers_of-set : (pages : List Page) (new : Page) (index : ℕ) → IsPageAt pages new.number index
+    → numbers_of (set pages index new) ≡ numbers_of pages
+numbers_of-set pages new index at =
+    map-set_same number_of pages index new new (sym at.has_number ∙ get_or-map number_of pages index new 0 at.in_range)
+
+-- and the directory
 pub IsDirectory-set : (pages : List Page) (directory : ℕ → Option ℕ) (new : Page) (index : ℕ)
     → IsPageAt pages new.number index → IsDirectory pages directory → IsDirectory (set pages index new) directory
 IsDirectory-set pages directory new index at known =
-    let same : map number_of (set pages index new) ≡ map number_of pages =
-    map-set_same number_of pages index new new (sym at.has_number ∙ get_or-map number_of pages index new 0 at.in_range) in
+    let same = numbers_of-set pages new index at in
     let long : length (set pages index new) ≡ length pages = length-set pages index new in
     let number_is : (i : ℕ) → page_number_at (set pages index new) i ≡ page_number_at pages i = λ i. ap (λ ns. get_or ns i 0) same in
     record {
@@ -52,6 +57,10 @@ module _ (pages : List Page) (page : Page) (number index : ℕ)
 
   numbers : map number_of (pages ++ page ∷ []) ≡ map number_of pages ++ page.number ∷ []
   numbers = map-append number_of pages (page ∷ [])
+
+  -- is the last of the numbers
+  pub numbers_of-push : numbers_of pages ++ number ∷ [] ≡ numbers_of (pages ++ page ∷ [])
+  numbers_of-push = ap (λ n. numbers_of pages ++ n ∷ []) (sym its_number) ∙ sym numbers
 
   page_number_at-last : page_number_at (pages ++ page ∷ []) index ≡ number
   page_number_at-last =

@@ -1,5 +1,6 @@
 pub mod Granules
 mod Added
+mod Chained
 mod Directories
 mod Indexes
 mod Listed

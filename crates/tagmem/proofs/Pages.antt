@@ -1,6 +1,7 @@
 -- What pages have at a granule, and what a put in one of them does.
 use Rattle.std.proofs.Common.{◌≡◌, ℕ, zero, suc, ◌+◌, ◌-◌, ◌*◌, ◌/◌, ◌%◌, ◌<◌, ◌≤◌, ◌≢◌, Bool, true, false, cond, eqb, leb}
-use Rattle.std.proofs.Common.{List, [], ◌∷◌, ◌++◌, length, get_or, set, Option, Some, None, sym, refl, ap, ◌∙◌, arith}
+use Rattle.std.proofs.Common.{List, [], ◌∷◌, ◌++◌, length, get_or, set, Option, Some, None, sym, refl, ap, subst, ◌∙◌, arith}
+use Rattle.std.specs.Prelude.{MatchOption}
 use Rattle.std.specs.Ordering.{nat_cmp, eq_by_cmp}
 use Rattle.std.specs.Cmp.{nat_cmp_total, unsigned_tied}
 use Rattle.std.specs.Option.{option_or}
@@ -9,11 +10,12 @@ use Rattle.std.specs.FinMap.{find, get-from_entries, nat_cmp-IsAntisymmetric, sa
 use Rattle.std.proofs.lemmas.Bool.{eqb-true}
 use Rattle.std.proofs.lemmas.Bool.Decides.{nat_tests}
 use Rattle.std.proofs.lemmas.Option.{none-some, same_Some}
-use Rattle.std.proofs.lemmas.List.{get_or-set_same, get_or-set_other}
+use Rattle.std.proofs.lemmas.List.{get_or-set_same, get_or-set_other, length-map}
 use Rattle.std.proofs.Math.ListN.{get_or-eq_default}
 use Rattle.tagmem.specs.declared.page.Page.{Page}
 use Rattle.tagmem.specs.Granules.{Entry}
-use Rattle.tagmem.specs.Pages.{slots_of, slot_with, with_slot, entries_from, entries_of, contents_of, page_number_at, IsPageAt, IsAbsent, IsNextPage, IsDirectory}
+use Rattle.tagmem.specs.Pages.{slots_of, slot_with, with_slot, entries_from, entries_of, contents_of, page_number_at, numbers_of, IsPageAt, IsAbsent, IsNextPage, IsDirectory}
+use Rattle.tagmem.specs.Chains.{IsMissing, IsThere}
 use Rattle.tagmem.specs.Regions.{IsLeast}
 use Rattle.tagmem.proofs.Granules.{get-put}
 use Rattle.tagmem.proofs.Slots.{length-slots_with, get_or-slots_with}
@@ -184,6 +186,11 @@ module _ (pages : List Page) (directory : ℕ → Option ℕ) (known : IsDirecto
   pub absent_from_none : (number : ℕ) → directory number ≡ None → IsAbsent pages number
   absent_from_none number none i lt is = none-some i (sym none ∙ ap directory (sym is) ∙ known.has i lt)
 
+  -- what it finds is the page
+  pub found-directory : (number : ℕ) (found : Option ℕ) → found ≡ directory number → MatchOption found (IsAbsent pages number) (IsPageAt pages number)
+  found-directory number None is = absent_from_none number (sym is)
+  found-directory number (Some index) is = known.right number index (sym is)
+
   -- the least number that it has is that of the next page
   pub next_page-least : (from : ℕ) (next : Option ℕ) → IsLeast directory from next → IsNextPage pages from next
   next_page-least from None none = λ number le. absent_from_none number (none number le)
@@ -215,3 +222,12 @@ module _ (pages : List Page) (directory : ℕ → Option ℕ) (known : IsDirecto
 -- a granule whose page is absent was never put
 pub get_absent : (pages : List Page) (q : ℕ) → IsAbsent pages (q / 16) → map.get (contents_of pages) q ≡ None
 get_absent pages q absent = get-contents_of pages q ∙ found_absent pages q absent
+
+-- what a list of their numbers tells of pages
+pub found-numbers : (pages : List Page) (numbers : List ℕ) → numbers ≡ numbers_of pages → (number : ℕ) (found : Option ℕ)
+    → MatchOption found (IsMissing numbers number) (IsThere numbers number) → MatchOption found (IsAbsent pages number) (IsPageAt pages number)
+found-numbers pages numbers same number None missing = λ index lt is.
+    subst (λ ns. IsMissing ns number) same missing index (omega (arith, lt, length-map pages (λ (page : Page). page.number))) is
+found-numbers pages numbers same number (Some index) there =
+    let here = subst (λ ns. IsThere ns number index) same there in
+    record { in_range = omega (arith, here.0, length-map pages (λ (page : Page). page.number)); has_number = here.1 }

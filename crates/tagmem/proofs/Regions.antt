@@ -80,8 +80,7 @@ module _ (regions : List Region) (by_number : BTreeMap ℕ ℕ) (n at : ℕ) (re
   pub least-region : (place first : ℕ) → IsLeast (index_in region) place (Some first)
       → IsLeast (index_of regions by_number) (16 * n + place) (Some (16 * n + first))
   least-region place first found =
-      let small = first_small region place first found in
-      (
+      let small = first_small region place first found in (
         omega (arith, found.0),
         λ none. found.1 (place_in first small ∙ none),
         λ q le lt. index_of-own q (omega arith) ∙ found.2 (q % 16) (omega arith) (omega arith),
@@ -141,11 +140,10 @@ module _ (regions : List Region) (by_number : BTreeMap ℕ ℕ) (known : AreApar
       ] refl
 
   pub IsWith-set : IsWith (index_of regions by_number) (index_of (set regions at new) by_number) number index
-  IsWith-set =
-      (
-        ap (λ o. index_at (set regions at new) o (number % 16)) stands ∙ index_at-set (number % 16) ∙ own,
-        λ q differs. other_page q differs (tree.get nat_cmp by_number (q / 16)) refl,
-      )
+  IsWith-set = (
+    ap (λ o. index_at (set regions at new) o (number % 16)) stands ∙ index_at-set (number % 16) ∙ own,
+    λ q differs. other_page q differs (tree.get nat_cmp by_number (q / 16)) refl,
+  )
 
   pub AreApart-set : AreApart (set regions at new) by_number
   AreApart-set = record {
@@ -211,11 +209,10 @@ module _ (regions : List Region) (old new : BTreeMap ℕ ℕ) (known : AreApart 
       ] refl
 
   pub IsWith-push : IsWith (index_of regions old) (index_of (regions ++ region ∷ []) new) number index
-  IsWith-push =
-      (
-        ap (λ o. index_at (regions ++ region ∷ []) o (number % 16)) updates.1 ∙ index_at-last (number % 16) ∙ own,
-        other_pages,
-      )
+  IsWith-push = (
+    ap (λ o. index_at (regions ++ region ∷ []) o (number % 16)) updates.1 ∙ index_at-last (number % 16) ∙ own,
+    other_pages,
+  )
 
   pub AreApart-push : AreApart (regions ++ region ∷ []) new
   AreApart-push =

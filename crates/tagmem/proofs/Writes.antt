@@ -9,10 +9,10 @@ use Rattle.std.proofs.lemmas.List.Elements.{All-set}
 use Rattle.std.proofs.lemmas.Option.{none-some, same_Some}
 use Rattle.tagmem.specs.declared.page.Page.{Page}
 use Rattle.tagmem.specs.Granules.{Entry, Granules, blank, entry_at, bytes_at, overwritten, with_write, HasRoom, IsCodeFor, IsStored, AreStored}
-use Rattle.tagmem.specs.Pages.{slots_of, bytes_in_slot, contents_of, IsUsed, EachUsed, IsPageAt, IsDirectory}
+use Rattle.tagmem.specs.Pages.{slots_of, bytes_in_slot, contents_of, numbers_of, IsUsed, EachUsed, IsPageAt, IsDirectory}
 use Rattle.tagmem.proofs.Granules.{get-put, len-put, IsStored-overwritten, IsStored-entry_at}
 use Rattle.tagmem.proofs.Pages.{length-slots_of, get_present, contents_of-set}
-use Rattle.tagmem.proofs.Directories.{IsDirectory-set}
+use Rattle.tagmem.proofs.Directories.{numbers_of-set, IsDirectory-set}
 
 -- a put keeps each entry a granule's
 AreStored-put : (old : Granules) (g : ℕ) (entry : Entry) → IsStored g entry → AreStored old → AreStored (map.insert old g entry)
@@ -73,6 +73,9 @@ module _ (pages : List Page) (directory : ℕ → Option ℕ) (index g : ℕ) (f
 
   module _ (page : Page) (tag : Bool) (byte_index : ℕ) (bytes : List ℕ) (code : ℕ)
       (written : IsWritten first page (g % 16) tag byte_index bytes code) where
+    pub numbers_of-write : numbers_of (set pages index page) ≡ numbers_of pages
+    numbers_of-write = numbers_of-set pages page index (subst (λ n. IsPageAt pages n index) (sym (written.number ∙ number_read)) read.found)
+
     pub IsDirectory-write : IsDirectory (set pages index page) directory
     IsDirectory-write =
         IsDirectory-set pages directory page index

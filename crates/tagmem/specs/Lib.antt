@@ -1,3 +1,4 @@
+pub mod Chains
 pub mod Directories
 pub mod Granules
 pub mod Listed

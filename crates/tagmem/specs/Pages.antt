@@ -63,9 +63,13 @@ entries_of (page ∷ pages) = entries_from (16 * page.number) (slots_of page) ++
 abbrev pub contents_of : List Page → Granules
 contents_of pages = from_entries (entries_of pages)
 
+-- the numbers of pages
+abbrev pub numbers_of : List Page → List ℕ
+numbers_of pages = map (λ page. page.number) pages
+
 -- the number of the page at an index
 abbrev pub page_number_at : List Page → ℕ → ℕ
-page_number_at pages index = slice_index (map (λ page. page.number) pages) index
+page_number_at pages index = slice_index (numbers_of pages) index
 
 -- the page at an index has the number
 pub record IsPageAt (pages : List Page) (number index : ℕ) : Type 0 where

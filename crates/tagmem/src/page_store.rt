@@ -3,11 +3,11 @@ ghost use Rattle.std.specs.Prelude.{◌≡◌, ◌^◌, ◌<◌, ◌+◌, ◌*�
 ghost use Rattle.std.specs.FinMap as map;
 ghost use Rattle.tagmem.specs.Directories.{found_in};
 ghost use Rattle.tagmem.specs.Granules.{with_write, AreStored, HasRoom, IsCodeFor, NonePut, IsNextPut};
-ghost use Rattle.tagmem.specs.Pages.{contents_of, IsDirectory, IsPageAt, IsAbsent, IsNextPage, EachUsed};
+ghost use Rattle.tagmem.specs.Pages.{contents_of, numbers_of, IsDirectory, IsPageAt, IsAbsent, IsNextPage, EachUsed};
 
+use crate::chains::Chains;
 use crate::directory::Directory;
 use crate::page::Page;
-use crate::remembered::Remembered;
 use crate::store::{NoMemory, TaggedStore};
 use std::alloc::Global;
 
@@ -17,9 +17,12 @@ use std::alloc::Global;
 #[derive(Drop)]
 pub struct PageStore {
     pages: Vec<Page>,
+    // The same numbers, found by their places.
+    chains: Chains,
+    // And in their order.
     directory: Directory,
-    remembered: Remembered,
     count: u32,
+    ghost chained: { chains.numbers.items ≡ numbers_of pages.items },
     ghost known: { IsDirectory pages.items (found_in directory) },
     ghost used: { EachUsed pages.items },
     ghost stored: { AreStored (contents_of pages.items) },
@@ -35,8 +38,8 @@ impl PageStore {
     {
         PageStore {
             pages: Vec::new(alloc),
+            chains: Chains::new(alloc),
             directory: Directory::new(alloc),
-            remembered: Remembered::new(alloc),
             count: 0,
         }
     }
@@ -46,7 +49,7 @@ impl PageStore {
     fn index_of(&self, number: u64) -> Option<usize>
         ensures { MatchOption result (IsAbsent self.now.pages.items number) (IsPageAt self.now.pages.items number) }
     {
-        let last = self.remembered.index(number);
+        let last = (self.chains.head(number) as usize).wrapping_sub(1);
         if let Some(page) = self.pages.get(last)
             && page.number == number
         {
@@ -55,17 +58,14 @@ impl PageStore {
         self.search(number)
     }
 
-    // Where a page is by the directory, which is remembered.
+    // The same where the last page of its place isn't that.
     #[inline(never)]
     fn search(&self, number: u64) -> Option<usize>
         ensures { MatchOption result (IsAbsent self.now.pages.items number) (IsPageAt self.now.pages.items number) }
     {
-        match self.directory.get(number) {
-            Some(index) => {
-                self.remembered.remember(number, index);
-                Some(index)
-            }
-            None => None,
+        match self.chains.find(number) {
+            Some(found) => found,
+            None => self.directory.get(number),
         }
     }
 
@@ -112,10 +112,10 @@ impl PageStore {
     {
         let number = granule / 16;
         let index = self.pages.len();
-        let Ok(()) = self.remembered.make_room(index) else {
+        let Ok(()) = self.pages.reserve(1) else {
             return Err(NoMemory);
         };
-        let Ok(()) = self.pages.reserve(1) else {
+        let Ok(()) = self.chains.make_room() else {
             return Err(NoMemory);
         };
         let Ok(()) = self.directory.insert(number, index) else {
@@ -125,7 +125,7 @@ impl PageStore {
         page.put((granule % 16) as u8, tag, byte_index, bytes, code);
         self.count += 1;
         self.pages.push_reserved(page);
-        self.remembered.remember(number, index);
+        self.chains.push(number);
         Ok(())
     }
 

@@ -1,9 +1,10 @@
-use Rattle.std.proofs.Common.{◌≡◌, ◌<◌, ◌∷◌, [], ◌++◌, ◌%◌, length, All, ap, ◌∙◌, arith}
-use Rattle.std.proofs.lemmas.List.{length-append}
+use Rattle.std.proofs.Common.{◌≡◌, ◌<◌, ◌∷◌, [], ◌++◌, ◌/◌, ◌%◌, length, All, ap, ◌∙◌, arith}
+use Rattle.std.proofs.lemmas.List.{length-append, length-map}
 use Rattle.std.proofs.lemmas.List.Elements.{All-from_get_or}
 use Rattle.tagmem.specs.Directories.{found_in}
+use Rattle.tagmem.specs.declared.page.Page.{Page}
 use Rattle.tagmem.specs.Pages.{contents_of}
-use Rattle.tagmem.proofs.Directories.{IsDirectory-same}
+use Rattle.tagmem.proofs.Directories.{numbers_of-push, IsDirectory-same}
 use Rattle.tagmem.proofs.Pages.{get_absent}
 use Rattle.tagmem.proofs.Writes.{IsWritten}
 use Rattle.tagmem.proofs.Added.{IsAdded, IsDirectory-add, EachUsed-add, contents_of-add, AreStored-add, len-add}
@@ -13,18 +14,39 @@ use Rattle.tagmem.proofs.page_store.PageStore.add_page.Goals as goal
 pub invariant_of-self : goal.invariant_of-self
 invariant_of-self c =
     let s = c.args.self.now in
-    record { known = s.known; used = s.used; stored = s.stored; counted = s.counted; few = s.few; fits = s.fits }
+    rw c.reserve.ensures.items (record {
+      chained = s.chained; known = s.known; used = s.used; stored = s.stored; counted = s.counted; few = s.few; fits = s.fits
+    })
 
-pub invariant_of-self-in_default-reserve : goal.invariant_of-self-in_default-reserve
-invariant_of-self-in_default-reserve c =
+pub invariant_of-self-in_default-make_room : goal.invariant_of-self-in_default-make_room
+invariant_of-self-in_default-make_room c =
     let s = c.args.self.now in
-    rw c.reserve.ensures.items (record { known = s.known; used = s.used; stored = s.stored; counted = s.counted; few = s.few; fits = s.fits })
+    let chained = c.make_room.ensures.numbers ∙ s.chained in
+    rw c.reserve.ensures.items (record {
+      chained = chained; known = s.known; used = s.used; stored = s.stored; counted = s.counted; few = s.few; fits = s.fits
+    })
 
 pub invariant_of-self-in_default-insert : goal.invariant_of-self-in_default-insert
 invariant_of-self-in_default-insert c =
     let s = c.args.self.now in
+    let chained = c.make_room.ensures.numbers ∙ s.chained in
     let known = IsDirectory-same s.pages.items (found_in s.directory) (found_in c.insert.new.self) c.in_default-insert.ensures.err s.known in
-    rw c.reserve.ensures.items (record { known = known; used = s.used; stored = s.stored; counted = s.counted; few = s.few; fits = s.fits })
+    rw c.reserve.ensures.items (record {
+      chained = chained; known = known; used = s.used; stored = s.stored; counted = s.counted; few = s.few; fits = s.fits
+    })
+
+pub make_room-requires : goal.make_room-requires
+make_room-requires c =
+    let s = c.args.self.now in
+    let room = c.requires.room (get_absent s.pages.items c.args.granule c.requires.absent) in
+    omega (arith, ap length s.chained, length-map s.pages.items (λ (page : Page). page.number), s.few, room)
+
+pub push-requires-clause-fits : goal.push-requires-clause-fits
+push-requires-clause-fits c =
+    let s = c.args.self.now in
+    let room = c.requires.room (get_absent s.pages.items c.args.granule c.requires.absent) in
+    let chained = c.make_room.ensures.numbers ∙ s.chained in
+    omega (arith, ap length chained, length-map s.pages.items (λ (page : Page). page.number), s.few, room)
 
 -- there are no more pages than granules that were put
 pub insert-requires : goal.insert-requires
@@ -85,6 +107,8 @@ invariant_of-self-2 c =
     let bytes : All (λ byte. byte < 256) c.args.bytes.now =
     All-from_get_or (λ byte. byte < 256) c.args.bytes.now 0 (λ i lt. (c.type_inv.bytes i).fits) in
     rw items (record {
+      chained = c.push.ensures ∙ ap (λ numbers. numbers ++ (c.args.granule / 16) ∷ []) (c.make_room.ensures.numbers ∙ s.chained)
+          ∙ numbers_of-push s.pages.items page (c.args.granule / 16) c.len-index.result (c.put.ensures.number ∙ number) last;
       known = IsDirectory-add _ _ _ _ _ _ _ _ _ _ _ added;
       used = EachUsed-add _ _ _ _ _ _ _ _ _ _ _ added;
       stored = AreStored-add _ _ _ _ _ _ _ _ _ _ _ added c.requires.in_memory c.requires.inside bytes (omega arith) c.requires.coded s.stored;
