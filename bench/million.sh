@@ -78,7 +78,8 @@ function turns(i,   round, address) {
     if (i % 2 == 1) return round == 0 ? "sc c1 c2 0" : "lc c3 c2 0 = 1 " root
     if (kind == "turns" || round == 0) place = i / 2 % places
     else place = (place * 20077 + 12345) % places
-    address = sprintf("%016x", apart * place)
+    address = apart * place
+    address = sprintf("%08x%08x", int(address / 4294967296), address % 4294967296)
     return "setaddr c2 c1 " address " = 1 ffff1ffffc018004" address
 }
 function thirty(i,   register, address) {
@@ -97,7 +98,7 @@ function blocks(i,   block, place, address) {
 }
 BEGIN {
     root = "ffff1ffffc0180040000000000000000"
-    print "capcheck " (places > 65536 ? 2 : 1)
+    print (places > 65536 ? "capcheck 2\nmode strict" : "capcheck 1")
     print "root c1 " root
     for (i = 0; i < steps; i++) {
         if (kind == "moves") print "move c" (2 + i % 30) " c1 = 1 " root

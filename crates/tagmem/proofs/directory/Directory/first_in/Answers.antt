@@ -1,4 +1,4 @@
-use Rattle.std.proofs.Common.{◌≡◌, ◌*◌, ◌+◌, Some, sym, subst, arith}
+use Rattle.std.proofs.Common.{◌*◌, ◌+◌, Some, sym, subst, arith}
 use Rattle.tagmem.specs.Directories.{found_in}
 use Rattle.tagmem.specs.Regions.{IsLeast}
 use Rattle.tagmem.proofs.Regions.{index_at-there, first_small, none-region, least-region}

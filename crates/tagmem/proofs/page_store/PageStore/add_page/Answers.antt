@@ -15,7 +15,13 @@ pub invariant_of-self : goal.invariant_of-self
 invariant_of-self c =
     let s = c.args.self.now in
     rw c.reserve.ensures.items (record {
-      chained = s.chained; known = s.known; used = s.used; stored = s.stored; counted = s.counted; few = s.few; fits = s.fits
+      chained = s.chained;
+      known = s.known;
+      used = s.used;
+      stored = s.stored;
+      counted = s.counted;
+      few = s.few;
+      fits = s.fits;
     })
 
 pub invariant_of-self-in_default-make_room : goal.invariant_of-self-in_default-make_room
@@ -23,7 +29,13 @@ invariant_of-self-in_default-make_room c =
     let s = c.args.self.now in
     let chained = c.make_room.ensures.numbers ∙ s.chained in
     rw c.reserve.ensures.items (record {
-      chained = chained; known = s.known; used = s.used; stored = s.stored; counted = s.counted; few = s.few; fits = s.fits
+      chained = chained;
+      known = s.known;
+      used = s.used;
+      stored = s.stored;
+      counted = s.counted;
+      few = s.few;
+      fits = s.fits;
     })
 
 pub invariant_of-self-in_default-insert : goal.invariant_of-self-in_default-insert
@@ -32,7 +44,13 @@ invariant_of-self-in_default-insert c =
     let chained = c.make_room.ensures.numbers ∙ s.chained in
     let known = IsDirectory-same s.pages.items (found_in s.directory) (found_in c.insert.new.self) c.in_default-insert.ensures.err s.known in
     rw c.reserve.ensures.items (record {
-      chained = chained; known = known; used = s.used; stored = s.stored; counted = s.counted; few = s.few; fits = s.fits
+      chained = chained;
+      known = known;
+      used = s.used;
+      stored = s.stored;
+      counted = s.counted;
+      few = s.few;
+      fits = s.fits;
     })
 
 pub make_room-requires : goal.make_room-requires
