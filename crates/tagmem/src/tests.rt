@@ -13,6 +13,9 @@ const SLOTS: usize = 48;
 
 const GRANULES: u64 = 1 << 60;
 
+// Between granules whose pages have one place, as have those half as far.
+const APART: u64 = 1 << 51;
+
 // Puts, where one more granule can be counted. A put that is refused is tried again.
 fn put_cap<S: TaggedStore>(
     rt: &impl Abort,
@@ -281,7 +284,7 @@ fn a_page_that_is_there_takes_no_memory(rt: HostRuntime) {
     assert_eq!(rt; store.count(), 16);
 }
 
-// Pages are told apart by their whole numbers, also those that are remembered at one place.
+// Pages are told apart by their whole numbers, also those that have one place.
 #[test]
 fn pages_are_found_by_their_whole_numbers(rt: HostRuntime) {
     let store = &mut PageStore::new(rt.alloc());
@@ -306,6 +309,32 @@ fn pages_are_found_by_their_whole_numbers(rt: HostRuntime) {
         assert_eq!(rt; store.get(16 * (number + 2048)), None);
     }
     assert_eq!(rt; store.count(), 1100);
+}
+
+// Numbers of pages that are multiples of 2^46 share one place. More of them than are looked at there are
+// found by their order, and so are those that are missing.
+#[test]
+fn pages_that_share_a_place_are_found(rt: HostRuntime) {
+    let store = &mut PageStore::new(rt.alloc());
+    for number in 0..40 {
+        put_cap(
+            &rt,
+            store,
+            number * APART,
+            true,
+            bytes_from(number as u8),
+            number + 1,
+        );
+    }
+    for number in 0..40 {
+        let granule = number * APART;
+        assert_eq!(rt; store.get(granule), Some((true, bytes_from(number as u8))));
+        assert_eq!(rt; store.code(granule), number + 1);
+        assert_eq!(rt; store.get(granule + APART / 2), None);
+        assert_eq!(rt; store.next_put(granule), Some(granule));
+    }
+    assert_eq!(rt; store.next_put(1), Some(APART));
+    assert_eq!(rt; store.count(), 40);
 }
 
 // The ends of pages that lie beside one another, have the same low bits, or end memory.
