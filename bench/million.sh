@@ -1,6 +1,6 @@
 #!/bin/sh
 # Writes a log of version 1 with a million steps, or STEPS:
-# sh bench/million.sh moves|memory|mixed|varied|up|down|random|thirty|blocks [STEPS]
+# sh bench/million.sh moves|memory|mixed|varied|up|down|random|thirty|blocks|turns|loads [STEPS [PLACES APART]]
 # It can be judged from a pipe: sh bench/million.sh moves 10000000 | crates/capcheck/out/capcheck judge
 #
 # moves   copies c1 to each other register in turn
@@ -14,8 +14,12 @@
 # up, down, random   stores a capability in 65,536 granules that lie 4096 bytes apart, in that order
 # thirty             stores and loads eight bytes through thirty registers in turn, 4 MB apart
 # blocks             stores a byte in each granule from the lowest on; 65,792 steps fill 65,536 granules
-kind=${1:?moves, memory, mixed, varied, up, down, random, thirty or blocks}
-exec awk -v kind="$kind" -v steps="${2:-1000000}" '
+# turns              goes to each of PLACES granules that lie APART bytes apart in turn, and stores a capability there in
+#                    the first round and loads it in later ones; 1,000 and 4096 where they are not given. It is of version
+#                    2 where there are more than 65,536
+# loads              the same, but goes to places at random after the first round
+kind=${1:?moves, memory, mixed, varied, up, down, random, thirty, blocks, turns or loads}
+exec awk -v kind="$kind" -v steps="${2:-1000000}" -v places="${3:-1000}" -v apart="${4:-4096}" '
 function memory(i,   offset) {
     offset = (int(i / 4) * 16) % 4096 - 2048
     if (i % 4 == 0) return "sc c1 c1 " offset
@@ -69,6 +73,15 @@ function far(i,   place, address) {
     if (i % 2 == 0) return "setaddr c2 c1 " address " = 1 ffff1ffffc018004" address
     return "sc c1 c2 0"
 }
+function turns(i,   round, address) {
+    round = int(i / 2 / places)
+    if (i % 2 == 1) return round == 0 ? "sc c1 c2 0" : "lc c3 c2 0 = 1 " root
+    if (kind == "turns" || round == 0) place = i / 2 % places
+    else place = (place * 20077 + 12345) % places
+    address = apart * place
+    address = sprintf("%08x%08x", int(address / 4294967296), address % 4294967296)
+    return "setaddr c2 c1 " address " = 1 ffff1ffffc018004" address
+}
 function thirty(i,   register, address) {
     register = "c" (2 + i % 30)
     address = sprintf("%016x", 4194304 * (i % 30))
@@ -85,7 +98,7 @@ function blocks(i,   block, place, address) {
 }
 BEGIN {
     root = "ffff1ffffc0180040000000000000000"
-    print "capcheck 1"
+    print (places > 65536 ? "capcheck 2\nmode strict" : "capcheck 1")
     print "root c1 " root
     for (i = 0; i < steps; i++) {
         if (kind == "moves") print "move c" (2 + i % 30) " c1 = 1 " root
@@ -94,6 +107,7 @@ BEGIN {
         else if (kind == "varied") print varied(i)
         else if (kind == "thirty") print thirty(i)
         else if (kind == "blocks") print blocks(i)
+        else if (kind == "turns" || kind == "loads") print turns(i)
         else print far(i)
     }
     print "end " steps

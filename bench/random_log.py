@@ -1,13 +1,14 @@
 #!/usr/bin/env python3
 """Writes a log of version 1 whose steps are drawn at random: python3 bench/random_log.py KIND [STEPS] [SEED]
 
-KIND is moves, memory or mixed; STEPS is a million and SEED 1 where they are not given.
+KIND is moves, memory, mixed or scattered; STEPS is a million and SEED 1 where they are not given.
 
 moves   copies any register to any other
 memory  stores and loads capabilities, and values of 1, 2, 4 and 8 bytes, through nine registers at most, anywhere
         that an offset reaches
 mixed   half of it such accesses, through pointers to 60,000 granules, and moves, new addresses, fewer permissions
         and cleared tags
+scattered  moves, such changes, and accesses near twenty thousand places that are drawn from 16 MB
 
 A plain machine keeps what registers and memory hold, so that each line records what it has to; it takes nothing from
 the crates."""
@@ -57,10 +58,10 @@ class Machine:
         word = LOAD_ONLY << 64 | self.registers[source][1] % 2**64
         return f"andperm c{target} c{source} 0000000000000004 " + self.written(target, 1, word)
 
-    def access(self):
+    def access(self, reach=2048):
         register = self.any_pointer()
         size = random.choice((16, 16, 1, 2, 4, 8))
-        offset = random.randrange(-2048 // size, 2048 // size) * size
+        offset = random.randrange(-reach // size, reach // size) * size
         number, index = divmod(self.registers[register][1] % 2**64 + offset, 16)
         tag, held = self.granule(number)
         if size == 16 and random.random() < 0.5:
@@ -85,9 +86,14 @@ class Machine:
         if kind == "memory":
             return self.set_address(4096) if number < 8 else self.access()
         draw = random.random()
-        if draw < 0.15:
+        if kind == "scattered":
+            if number < 8 or draw < 0.02:
+                return self.set_address(1 << 20)
+            if draw < 0.25:
+                return self.access(16)
+        elif draw < 0.15:
             return self.set_address(60000)
-        if draw < 0.65:
+        elif draw < 0.65:
             return self.access()
         if draw < 0.85:
             return self.move(OTHERS)
@@ -95,7 +101,7 @@ class Machine:
 
 
 def main():
-    if len(sys.argv) < 2 or sys.argv[1] not in ("moves", "memory", "mixed"):
+    if len(sys.argv) < 2 or sys.argv[1] not in ("moves", "memory", "mixed", "scattered"):
         sys.exit(__doc__)
     steps = int(sys.argv[2]) if len(sys.argv) > 2 else 1000000
     random.seed(int(sys.argv[3]) if len(sys.argv) > 3 else 1)

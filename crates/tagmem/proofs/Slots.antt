@@ -2,7 +2,7 @@
 use Rattle.std.proofs.Common.{◌≡◌, ◌≢◌, ℕ, zero, suc, Bool, true, false, true≢false, List, [], ◌∷◌, length, get_or, set}
 use Rattle.std.proofs.Common.{Option, Some, None, is_some, is_none, unwrap_or, sym, refl, ap, arith}
 use Rattle.std.proofs.lemmas.Option.{none-some}
-use Rattle.tagmem.specs.Granules.{blank, shown}
+use Rattle.tagmem.specs.Granules.{blank}
 use Rattle.tagmem.specs.Pages.{slot_with, slots_with}
 
 -- there are as many as there are tags

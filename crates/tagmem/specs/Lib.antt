@@ -1,4 +1,7 @@
+pub mod Chains
+pub mod Directories
 pub mod Granules
 pub mod Listed
 pub mod ListLaws
 pub mod Pages
+pub mod Regions

@@ -1,9 +1,6 @@
 -- The pages that a `PageStore` keeps, and the map that they are. All of it is this profile's own.
 use Rattle.std.specs.Prelude.{◌≡◌, ℕ, suc, ◌*◌, ◌<◌, ◌≤◌, ◌≢◌, Bool, List, [], ◌∷◌, ◌++◌, length, map, All}
-use Rattle.std.specs.Prelude.{Option, Some, None, unwrap_or, Box, slice_index, slice_index_or}
-use Rattle.std.specs.Ordering.{nat_cmp}
-use Rattle.std.specs.BTreeMap as tree
-use Rattle.std.specs.BTreeMap.{BTreeMap}
+use Rattle.std.specs.Prelude.{Option, Some, None, unwrap_or, slice_index, slice_index_or}
 use Rattle.std.specs.FinMap.{from_entries}
 use Rattle.tagmem.specs.declared.page.Page.{Page}
 use Rattle.tagmem.specs.Granules.{Entry, Granules, blank}
@@ -44,8 +41,8 @@ abbrev pub IsUsed : Page → Type 0
 IsUsed page = ((slot : ℕ) → slice_index_or (slots_of page) slot None ≡ None) → ⊥
 
 -- some granule of each page was put
-abbrev pub EachUsed : {Z : Type 0} → List (Box Page Z) → Type 0
-EachUsed boxes = All (λ box. IsUsed box.value) boxes
+abbrev pub EachUsed : List Page → Type 0
+EachUsed pages = All IsUsed pages
 
 -- a granule's entry before others, where it was put
 abbrev pub with_slot : ℕ → Option Entry → List (ℕ × Entry) → List (ℕ × Entry)
@@ -57,35 +54,39 @@ abbrev pub entries_from : ℕ → List (Option Entry) → List (ℕ × Entry)
 entries_from granule [] = []
 entries_from granule (slot ∷ slots) = with_slot granule slot (entries_from (suc granule) slots)
 
--- the entries of pages: page n has the 256 granules from 256 * n on
-abbrev pub entries_of : {Z : Type 0} → List (Box Page Z) → List (ℕ × Entry)
+-- the entries of pages: page n has the 16 granules from 16 * n on
+abbrev pub entries_of : List Page → List (ℕ × Entry)
 entries_of [] = []
-entries_of (box ∷ boxes) = entries_from (256 * box.value.number) (slots_of box.value) ++ entries_of boxes
+entries_of (page ∷ pages) = entries_from (16 * page.number) (slots_of page) ++ entries_of pages
 
 -- the map that pages are
-abbrev pub contents_of : {Z : Type 0} → List (Box Page Z) → Granules
-contents_of boxes = from_entries (entries_of boxes)
+abbrev pub contents_of : List Page → Granules
+contents_of pages = from_entries (entries_of pages)
+
+-- the numbers of pages
+abbrev pub numbers_of : List Page → List ℕ
+numbers_of pages = map (λ page. page.number) pages
 
 -- the number of the page at an index
-abbrev pub page_number_at : {Z : Type 0} → List (Box Page Z) → ℕ → ℕ
-page_number_at boxes index = slice_index (map (λ box. box.value.number) boxes) index
+abbrev pub page_number_at : List Page → ℕ → ℕ
+page_number_at pages index = slice_index (numbers_of pages) index
 
 -- the page at an index has the number
-pub record IsPageAt {Z : Type 0} (boxes : List (Box Page Z)) (number index : ℕ) : Type 0 where
-  pub in_range : index < length boxes
-  pub has_number : page_number_at boxes index ≡ number
+pub record IsPageAt (pages : List Page) (number index : ℕ) : Type 0 where
+  pub in_range : index < length pages
+  pub has_number : page_number_at pages index ≡ number
 
 -- no page has the number
-abbrev pub IsAbsent : {Z : Type 0} → List (Box Page Z) → ℕ → Type 0
-IsAbsent boxes number = (index : ℕ) → index < length boxes → page_number_at boxes index ≢ number
+abbrev pub IsAbsent : List Page → ℕ → Type 0
+IsAbsent pages number = (index : ℕ) → index < length pages → page_number_at pages index ≢ number
 
 -- the least number from one on that a page has, where one has
-abbrev pub IsNextPage : {Z : Type 0} → List (Box Page Z) → ℕ → Option ℕ → Type 0
-IsNextPage boxes from None = (number : ℕ) → from ≤ number → IsAbsent boxes number
-IsNextPage boxes from (Some next) =
-    (from ≤ next) × (IsAbsent boxes next → ⊥) × ((number : ℕ) → from ≤ number → number < next → IsAbsent boxes number)
+abbrev pub IsNextPage : List Page → ℕ → Option ℕ → Type 0
+IsNextPage pages from None = (number : ℕ) → from ≤ number → IsAbsent pages number
+IsNextPage pages from (Some next) =
+    (from ≤ next) × (IsAbsent pages next → ⊥) × ((number : ℕ) → from ≤ number → number < next → IsAbsent pages number)
 
--- a directory says of each number the index of its page, and of no other
-pub record IsDirectory {Z : Type 0} (boxes : List (Box Page Z)) (directory : BTreeMap ℕ ℕ) : Type 0 where
-  pub has : (index : ℕ) → index < length boxes → tree.get nat_cmp directory (page_number_at boxes index) ≡ Some index
-  pub right : (number index : ℕ) → tree.get nat_cmp directory number ≡ Some index → IsPageAt boxes number index
+-- of each page its index is found, by its number, and nothing of any other number
+pub record IsDirectory (pages : List Page) (directory : ℕ → Option ℕ) : Type 0 where
+  pub has : (index : ℕ) → index < length pages → directory (page_number_at pages index) ≡ Some index
+  pub right : (number index : ℕ) → directory number ≡ Some index → IsPageAt pages number index

@@ -1,10 +1,14 @@
 //! Tagged memory: stores of granules, each with a tag and sixteen bytes.
 #![tactic(auto)]
 
+mod chains;
+mod directory;
+mod linking;
 mod list_store;
 mod overwriting;
 mod page;
 mod page_store;
+mod region;
 mod store;
 
 pub use crate::list_store::ListStore;

@@ -1,21 +1,21 @@
-//! A page: 256 granules that stand side by side.
-ghost use Rattle.std.specs.Prelude.{◌≡◌, ◌+◌, ◌≤◌, ℕ, length, is_none, None, Some, slice_index_or, slice_set};
+//! A page: 16 granules that stand side by side.
+ghost use Rattle.std.specs.Prelude.{◌≡◌, ◌+◌, ◌<◌, ◌≤◌, ℕ, length, is_none, None, Some, slice_index_or, slice_set};
 ghost use Rattle.tagmem.specs.Granules.{IsBlankWhereUnput, overwritten, shown};
 
 use crate::overwriting::overwrite;
 
-// Page `number` has the granules from `256 * number` on. What was never put has no tag, zero bytes and the
+// Page `number` has the granules from `16 * number` on. What was never put has no tag, zero bytes and the
 // code 0.
 #[derive(Drop)]
 pub(crate) struct Page {
     pub(crate) number: u64,
     // The tag of each granule that was put.
-    tags: [Option<bool>; 256],
-    rows: [[u8; 16]; 256],
-    codes: [u64; 256],
-    ghost each_has_tag: { length tags ≡ 256 },
-    ghost each_has_row: { length rows ≡ 256 },
-    ghost each_has_code: { length codes ≡ 256 },
+    tags: [Option<bool>; 16],
+    rows: [[u8; 16]; 16],
+    codes: [u64; 16],
+    ghost each_has_tag: { length tags ≡ 16 },
+    ghost each_has_row: { length rows ≡ 16 },
+    ghost each_has_code: { length codes ≡ 16 },
     ghost blank: { IsBlankWhereUnput tags rows codes },
 }
 
@@ -29,15 +29,16 @@ impl Page {
     {
         Page {
             number,
-            tags: [None; 256],
-            rows: [[0; 16]; 256],
-            codes: [0; 256],
+            tags: [None; 16],
+            rows: [[0; 16]; 16],
+            codes: [0; 16],
         }
     }
 
     // The tag and the bytes of a granule.
     #[inline(always)]
     pub(crate) fn get(&self, slot: u8) -> Option<(bool, [u8; 16])>
+        requires { slot < 16 }
         ensures { result ≡ shown (slice_index_or (slots_of self.now) slot None) }
     {
         match self.tags[slot as usize] {
@@ -49,6 +50,7 @@ impl Page {
     // The code of a granule, and 0 where it was never put.
     #[inline(always)]
     pub(crate) fn code(&self, slot: u8) -> u64
+        requires { slot < 16 }
         ensures { result ≡ code_in_slot (slots_of self.now) slot }
     {
         self.codes[slot as usize]
@@ -58,7 +60,7 @@ impl Page {
     pub(crate) fn first_from(&self, slot: u8) -> Option<u8>
         ensures { IsFirstFrom (slots_of self.now) slot result }
     {
-        for i in slot as usize..256 {
+        for i in slot as usize..16 {
             if self.tags[i].is_some() {
                 return Some(i as u8);
             }
@@ -77,7 +79,8 @@ impl Page {
         bytes: &[u8],
         code: u64,
     ) -> bool
-        requires { byte_index + length bytes.now ≤ 16 }
+        requires in_page { slot < 16 }
+        requires inside { byte_index + length bytes.now ≤ 16 }
         ensures first { result ≡ is_none (slice_index_or (slots_of self.old) slot None) }
         ensures number { self.new.number ≡ self.old.number }
         ensures slots { let old = slots_of self.old in

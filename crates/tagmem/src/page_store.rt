@@ -1,35 +1,33 @@
 //! A store that keeps its entries in pages.
 ghost use Rattle.std.specs.Prelude.{◌≡◌, ◌^◌, ◌<◌, ◌+◌, ◌*◌, ◌≤◌, ◌/◌, length, None, Some, MatchOption, OnOk, OnErr};
 ghost use Rattle.std.specs.FinMap as map;
+ghost use Rattle.tagmem.specs.Directories.{found_in};
 ghost use Rattle.tagmem.specs.Granules.{with_write, AreStored, HasRoom, IsCodeFor, NonePut, IsNextPut};
-ghost use Rattle.tagmem.specs.Pages.{contents_of, IsDirectory, IsPageAt, IsAbsent, IsNextPage, EachUsed};
+ghost use Rattle.tagmem.specs.Pages.{contents_of, numbers_of, IsDirectory, IsPageAt, IsAbsent, IsNextPage, EachUsed};
 
+use crate::chains::Chains;
+use crate::directory::Directory;
 use crate::page::Page;
 use crate::store::{NoMemory, TaggedStore};
 use std::alloc::Global;
-use std::array;
-use std::cell::Cell;
-use std::collections::BTreeMap;
 
-// How many indexes are remembered.
-const REMEMBERED: usize = 1024;
-
-/// A store that keeps its entries in pages of 256 granules, each of which has one that was put. A put
+/// A store that keeps its entries in pages of 16 granules, each of which has one that was put. A put
 /// into a page that is there takes no memory, and a put that needs a new page changes nothing before it
 /// has all its memory.
 #[derive(Drop)]
 pub struct PageStore {
-    pages: Vec<Box<Page>>,
-    // The index of each page, by its number.
-    directory: BTreeMap<u64, usize>,
-    // The indexes at which pages were last found, by the low bits of their numbers. Each is tested
-    // when it is used, so any do.
-    remembered: [Cell<usize>; REMEMBERED],
+    pages: Vec<Page>,
+    // The same numbers, found by their places.
+    chains: Chains,
+    // And in their order.
+    directory: Directory,
     count: u32,
-    ghost known: { IsDirectory pages.items directory },
+    ghost chained: { chains.numbers.items ≡ numbers_of pages.items },
+    ghost known: { IsDirectory pages.items (found_in directory) },
     ghost used: { EachUsed pages.items },
     ghost stored: { AreStored (contents_of pages.items) },
     ghost counted: { count ≡ map.len (contents_of pages.items) },
+    ghost few: { length pages.items ≤ map.len (contents_of pages.items) },
     ghost fits: { map.len (contents_of pages.items) < 2 ^ 32 },
 }
 
@@ -40,8 +38,8 @@ impl PageStore {
     {
         PageStore {
             pages: Vec::new(alloc),
-            directory: BTreeMap::new(alloc),
-            remembered: array::from_fn(|_| Cell::new(0)),
+            chains: Chains::new(alloc),
+            directory: Directory::new(alloc),
             count: 0,
         }
     }
@@ -51,7 +49,7 @@ impl PageStore {
     fn index_of(&self, number: u64) -> Option<usize>
         ensures { MatchOption result (IsAbsent self.now.pages.items number) (IsPageAt self.now.pages.items number) }
     {
-        let last = self.remembered[(number % REMEMBERED as u64) as usize].get();
+        let last = (self.chains.head(number) as usize).wrapping_sub(1);
         if let Some(page) = self.pages.get(last)
             && page.number == number
         {
@@ -60,17 +58,14 @@ impl PageStore {
         self.search(number)
     }
 
-    // Where a page is by the directory, which is remembered.
+    // The same where the last page of its place isn't that.
     #[inline(never)]
     fn search(&self, number: u64) -> Option<usize>
         ensures { MatchOption result (IsAbsent self.now.pages.items number) (IsPageAt self.now.pages.items number) }
     {
-        match self.directory.get(&number) {
-            Some(index) => {
-                self.remembered[(number % REMEMBERED as u64) as usize].set(*index);
-                Some(*index)
-            }
-            None => None,
+        match self.chains.find(number) {
+            Some(found) => found,
+            None => self.directory.get(number),
         }
     }
 
@@ -78,22 +73,19 @@ impl PageStore {
     fn next_page(&self, number: u64) -> Option<u64>
         ensures { IsNextPage self.now.pages.items number result }
     {
-        match self.directory.range(number..).next() {
-            Some((next, _)) => Some(*next),
-            None => None,
-        }
+        self.directory.next(number)
     }
 
     // The first granule of a page, from a slot on, that was put.
     fn first_in(&self, number: u64, slot: u8) -> Option<u64>
-        ensures { let contents = contents_of self.now.pages.items in let from = 256 * number + slot in
+        ensures { let contents = contents_of self.now.pages.items in let from = 16 * number + slot in
             MatchOption result
-            (NonePut contents from (256 * number + 256))
+            (NonePut contents from (16 * number + 16))
             (λ first. IsNextPut contents from (Some first)) }
     {
         match self.index_of(number) {
             Some(index) => match self.pages[index].first_from(slot) {
-                Some(first) => Some(u64::from(first) + 256 * number),
+                Some(first) => Some(u64::from(first) + 16 * number),
                 None => None,
             },
             None => None,
@@ -111,28 +103,29 @@ impl PageStore {
     ) -> Result<(), NoMemory>
         requires in_memory { granule < 2 ^ 60 }
         requires coded { IsCodeFor tag code }
-        requires absent { IsAbsent self.old.pages.items (granule / 256) }
+        requires absent { IsAbsent self.old.pages.items (granule / 16) }
         requires inside { byte_index + length bytes.now ≤ 16 }
         requires room { HasRoom (contents_of self.old.pages.items) granule }
         ensures ok { OnOk result (contents_of self.new.pages.items
             ≡ with_write (contents_of self.old.pages.items) granule tag byte_index bytes.now code) }
         ensures err { OnErr result (contents_of self.new.pages.items ≡ contents_of self.old.pages.items) }
     {
-        let number = granule / 256;
-        let alloc = *self.pages.allocator();
-        let Ok(mut page) = Box::new(alloc, Page::new(number)) else {
-            return Err(NoMemory);
-        };
+        let number = granule / 16;
+        let index = self.pages.len();
         let Ok(()) = self.pages.reserve(1) else {
             return Err(NoMemory);
         };
-        let index = self.pages.len();
-        let Ok(_) = self.directory.insert(number, index) else {
+        let Ok(()) = self.chains.make_room() else {
             return Err(NoMemory);
         };
-        page.put((granule % 256) as u8, tag, byte_index, bytes, code);
+        let Ok(()) = self.directory.insert(number, index) else {
+            return Err(NoMemory);
+        };
+        let mut page = Page::new(number);
+        page.put((granule % 16) as u8, tag, byte_index, bytes, code);
         self.count += 1;
         self.pages.push_reserved(page);
+        self.chains.push(number);
         Ok(())
     }
 
@@ -149,14 +142,14 @@ impl PageStore {
     )
         requires in_memory { granule < 2 ^ 60 }
         requires coded { IsCodeFor tag code }
-        requires found { IsPageAt self.old.pages.items (granule / 256) index }
+        requires found { IsPageAt self.old.pages.items (granule / 16) index }
         requires inside { byte_index + length bytes.now ≤ 16 }
         requires room { HasRoom (contents_of self.old.pages.items) granule }
         ensures { contents_of self.new.pages.items
             ≡ with_write (contents_of self.old.pages.items) granule tag byte_index bytes.now code }
     {
         let page = &mut self.pages[index];
-        let first = page.put((granule % 256) as u8, tag, byte_index, bytes, code);
+        let first = page.put((granule % 16) as u8, tag, byte_index, bytes, code);
         self.count += u32::from(first);
     }
 
@@ -180,7 +173,7 @@ impl PageStore {
         ensures err { OnErr result (contents_of self.new.pages.items ≡ contents_of self.old.pages.items) }
         ensures only_new { OnErr result (map.get (contents_of self.old.pages.items) granule ≡ None) }
     {
-        match self.index_of(granule / 256) {
+        match self.index_of(granule / 16) {
             Some(index) => {
                 self.write(index, granule, tag, byte_index, bytes, code);
                 Ok(())
@@ -199,24 +192,24 @@ impl TaggedStore for PageStore {
 
     #[inline(always)]
     fn get(&self, granule: u64) -> Option<(bool, [u8; 16])> {
-        match self.index_of(granule / 256) {
-            Some(index) => self.pages[index].get((granule % 256) as u8),
+        match self.index_of(granule / 16) {
+            Some(index) => self.pages[index].get((granule % 16) as u8),
             None => None,
         }
     }
 
     #[inline(always)]
     fn code(&self, granule: u64) -> u64 {
-        match self.index_of(granule / 256) {
-            Some(index) => self.pages[index].code((granule % 256) as u8),
+        match self.index_of(granule / 16) {
+            Some(index) => self.pages[index].code((granule % 16) as u8),
             None => 0,
         }
     }
 
     fn next_put(&self, granule: u64) -> Option<u64> {
-        match self.first_in(granule / 256, (granule % 256) as u8) {
+        match self.first_in(granule / 16, (granule % 16) as u8) {
             Some(next) => Some(next),
-            None => match self.next_page(granule / 256 + 1) {
+            None => match self.next_page(granule / 16 + 1) {
                 Some(number) => self.first_in(number, 0),
                 None => None,
             },

@@ -13,6 +13,9 @@ const SLOTS: usize = 48;
 
 const GRANULES: u64 = 1 << 60;
 
+// Between granules whose pages have one place, as have those half as far.
+const APART: u64 = 1 << 51;
+
 // Puts, where one more granule can be counted. A put that is refused is tried again.
 fn put_cap<S: TaggedStore>(
     rt: &impl Abort,
@@ -50,18 +53,18 @@ fn put_bytes<S: TaggedStore>(
     }
 }
 
-// Puts at the ends of pages of 256 granules and of memory.
+// Puts at the ends of pages of 16 granules and of memory.
 fn counts_each_granule_once<S: TaggedStore>(rt: &impl Abort, store: &mut S) {
-    for granule in [0, 255, 256, GRANULES - 1] {
+    for granule in [0, 15, 16, GRANULES - 1] {
         assert!(rt; granule < GRANULES);
         put_cap(rt, store, granule, true, [7; 16], 1);
     }
     assert_eq!(rt; store.count(), 4);
-    put_cap(rt, store, 255, false, [9; 16], 0);
+    put_cap(rt, store, 15, false, [9; 16], 0);
     assert_eq!(rt; store.count(), 4);
     assert_eq!(rt; store.get(1), None);
-    assert_eq!(rt; store.get(255), Some((false, [9; 16])));
-    assert_eq!(rt; store.get(256), Some((true, [7; 16])));
+    assert_eq!(rt; store.get(15), Some((false, [9; 16])));
+    assert_eq!(rt; store.get(16), Some((true, [7; 16])));
 }
 
 fn writes_over_zeros<S: TaggedStore>(rt: &impl Abort, store: &mut S) {
@@ -93,7 +96,7 @@ fn keeps_codes<S: TaggedStore>(rt: &impl Abort, store: &mut S) {
     assert_eq!(rt; store.count(), 3);
 }
 
-// Around puts at the ends of pages of 256 granules and of memory.
+// Around puts at the ends of pages of 16 granules and of memory.
 fn finds_the_next_put<S: TaggedStore>(rt: &impl Abort, store: &mut S) {
     assert_eq!(rt; store.next_put(0), None);
     assert_eq!(rt; store.next_put(u64::MAX), None);
@@ -270,28 +273,27 @@ fn a_list_agrees_with_a_plain_list(rt: HostRuntime) {
 fn a_page_that_is_there_takes_no_memory(rt: HostRuntime) {
     let store = &mut PageStore::new(rt.alloc());
     put_cap(&rt, store, 0, true, [7; 16], 1);
-    for granule in 1..256 {
+    for granule in 1..16 {
         assert!(rt; store.count() < u32::MAX);
         assert_eq!(rt; store.put_cap(granule, true, [9; 16], granule), Ok(()));
     }
     assert!(rt; store.count() < u32::MAX);
     assert_eq!(rt; store.put_bytes(0, 15, &[8]), Ok(()));
     assert_eq!(rt; store.code(0), 0);
-    assert_eq!(rt; store.code(255), 255);
-    assert_eq!(rt; store.count(), 256);
+    assert_eq!(rt; store.code(15), 15);
+    assert_eq!(rt; store.count(), 16);
 }
 
-// Pages whose numbers have the low bits of others' are told apart, and so are more pages than are
-// remembered.
+// Pages are told apart by their whole numbers, also those that have one place.
 #[test]
 fn pages_are_found_by_their_whole_numbers(rt: HostRuntime) {
     let store = &mut PageStore::new(rt.alloc());
     for number in 0..1100 {
-        assert_eq!(rt; store.get(256 * number), None);
+        assert_eq!(rt; store.get(16 * number), None);
         put_cap(
             &rt,
             store,
-            256 * number,
+            16 * number,
             true,
             bytes_from((number / 8) as u8),
             number + 1,
@@ -299,14 +301,40 @@ fn pages_are_found_by_their_whole_numbers(rt: HostRuntime) {
     }
     for number in 0..1100 {
         assert_eq!(rt;
-            store.get(256 * number),
+            store.get(16 * number),
             Some((true, bytes_from((number / 8) as u8)))
         );
-        assert_eq!(rt; store.code(256 * number), number + 1);
-        assert_eq!(rt; store.get(256 * number + 1), None);
-        assert_eq!(rt; store.get(256 * (number + 2048)), None);
+        assert_eq!(rt; store.code(16 * number), number + 1);
+        assert_eq!(rt; store.get(16 * number + 1), None);
+        assert_eq!(rt; store.get(16 * (number + 2048)), None);
     }
     assert_eq!(rt; store.count(), 1100);
+}
+
+// Numbers of pages that are multiples of 2^46 share one place. More of them than are looked at there are
+// found by their order, and so are those that are missing.
+#[test]
+fn pages_that_share_a_place_are_found(rt: HostRuntime) {
+    let store = &mut PageStore::new(rt.alloc());
+    for number in 0..40 {
+        put_cap(
+            &rt,
+            store,
+            number * APART,
+            true,
+            bytes_from(number as u8),
+            number + 1,
+        );
+    }
+    for number in 0..40 {
+        let granule = number * APART;
+        assert_eq!(rt; store.get(granule), Some((true, bytes_from(number as u8))));
+        assert_eq!(rt; store.code(granule), number + 1);
+        assert_eq!(rt; store.get(granule + APART / 2), None);
+        assert_eq!(rt; store.next_put(granule), Some(granule));
+    }
+    assert_eq!(rt; store.next_put(1), Some(APART));
+    assert_eq!(rt; store.count(), 40);
 }
 
 // The ends of pages that lie beside one another, have the same low bits, or end memory.
@@ -319,17 +347,17 @@ fn end_of_page(choice: u32) -> u64
         2 => 1023,
         3 => 1024,
         4 => 2048,
-        5 => 1 << 51,
-        6 => (1 << 51) + 1024,
-        _ => (1 << 52) - 1,
+        5 => 1 << 55,
+        6 => (1 << 55) + 1024,
+        _ => (1 << 56) - 1,
     };
     let slot = match choice / 8 % 4 {
         0 => 0,
         1 => 1,
-        2 => 254,
-        _ => 255,
+        2 => 14,
+        _ => 15,
     };
-    256 * number + slot
+    16 * number + slot
 }
 
 #[test]

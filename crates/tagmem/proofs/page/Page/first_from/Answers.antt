@@ -21,6 +21,6 @@ loop-i-preserved c = λ k le lt.
 pub returns : goal.returns
 returns c = λ slot le.
     let page = c.args.self.now in
-    let past : 256 ≤ slot → get_or (slots_of page) slot None ≡ None = λ large.
+    let past : 16 ≤ slot → get_or (slots_of page) slot None ≡ None = λ large.
     get_or-eq_default (slots_of page) None (let wide = length-slots_of page in omega arith) in
     grind (arith, c.loop-i.invariant slot, past, c.loop-i.auto.i-end, c.loop-i-test.false)

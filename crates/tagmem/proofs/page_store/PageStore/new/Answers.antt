@@ -11,9 +11,11 @@ pub invariant_of-result : goal.invariant_of-result
 invariant_of-result c =
     let empty = map.len-empty nat_cmp Entry in
     rw c.new.ensures.items (record {
-      known = IsDirectory-empty c.new-2.result c.new-2.ensures.empty;
+      chained = c.new-2.ensures;
+      known = IsDirectory-empty _ c.new-3.ensures;
       used = All-nil _;
       stored = λ g entry is. absurd (none-some entry (sym (map.get-empty nat_cmp g) ∙ is));
       counted = omega (arith, empty);
+      few = omega arith;
       fits = omega (arith, empty);
     })

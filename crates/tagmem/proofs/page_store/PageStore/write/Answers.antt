@@ -1,51 +1,55 @@
-use Rattle.std.proofs.Common.{◌≡◌, ◌<◌, ◌%◌, get_or, None, is_none, All, ap, ◌∙◌, arith}
+use Rattle.std.proofs.Common.{◌≡◌, ◌<◌, ◌%◌, get_or, None, is_none, All, sym, ap, ◌∙◌, arith}
 use Rattle.std.proofs.lemmas.List.Elements.{All-from_get_or}
+use Rattle.std.proofs.Math.ListN.{length-set}
 use mir.Val.{bool_byte}
+use Rattle.tagmem.specs.Directories.{found_in}
 use Rattle.tagmem.specs.Pages.{slots_of}
-use Rattle.tagmem.proofs.Writes.{IsRead, IsWritten, IsDirectory-write, EachUsed-write, contents_of-write, AreStored-write, len-write, len_fits}
+use Rattle.tagmem.proofs.Writes.{IsRead, IsWritten, numbers_of-write, IsDirectory-write, EachUsed-write, contents_of-write, AreStored-write, len-write, len_fits}
 use Rattle.tagmem.proofs.page_store.PageStore.write.Goals as goal
 
 pub overflow_add-self : goal.overflow_add-self
 overflow_add-self c =
     let s = c.args.self.now in
-    let box = c.index_mut-page.result.now in
-    let read : IsRead s.pages.items s.directory c.args.index c.args.granule box =
+    let old = c.index_mut-page.result.now in
+    let read : IsRead s.pages.items (found_in s.directory) c.args.index c.args.granule old =
     record { known = s.known; found = c.requires.found; is = c.index_mut-page.ensures.value } in
-    let fits = len_fits s.pages.items s.directory c.args.index c.args.granule box read s.fits c.requires.room in
-    let first : c.from.result ≡ bool_byte (is_none (get_or (slots_of box.value) (c.args.granule % 256) None)) =
-    c.from.ensures ∙ ap bool_byte (rw c.deref_mut.ensures.value at c.put-first.ensures.first) in
+    let fits = len_fits s.pages.items (found_in s.directory) c.args.index c.args.granule old read s.fits c.requires.room in
+    let first : c.from.result ≡ bool_byte (is_none (get_or (slots_of old) (c.args.granule % 16) None)) =
+    c.from.ensures ∙ ap bool_byte c.put-first.ensures.first in
     omega (arith, fits, first, s.counted)
 
 pub returns : goal.returns
 returns c =
     let s = c.args.self.now in
-    let box = c.index_mut-page.result.now in
-    let read : IsRead s.pages.items s.directory c.args.index c.args.granule box =
+    let old = c.index_mut-page.result.now in
+    let read : IsRead s.pages.items (found_in s.directory) c.args.index c.args.granule old =
     record { known = s.known; found = c.requires.found; is = c.index_mut-page.ensures.value } in
-    let written : IsWritten box.value c.put-first.new.self (c.args.granule % 256) c.args.tag c.args.byte_index c.args.bytes.now c.args.code =
-    rw (← c.deref_mut.ensures.value) (record { number = c.put-first.ensures.number; slots = c.put-first.ensures.slots }) in
-    contents_of-write s.pages.items s.directory c.args.index c.args.granule box read c.put-first.new.self _ _ _ _ written
+    let written : IsWritten old c.put-first.new.self (c.args.granule % 16) c.args.tag c.args.byte_index c.args.bytes.now c.args.code =
+    record { number = c.put-first.ensures.number; slots = c.put-first.ensures.slots } in
+    contents_of-write s.pages.items (found_in s.directory) c.args.index c.args.granule old read c.put-first.new.self _ _ _ _ written
 
 pub invariant_of-self : goal.invariant_of-self
 invariant_of-self c =
     let s = c.args.self.now in
-    let box = c.index_mut-page.result.now in
+    let old = c.index_mut-page.result.now in
     let page = c.put-first.new.self in
-    let read : IsRead s.pages.items s.directory c.args.index c.args.granule box =
+    let read : IsRead s.pages.items (found_in s.directory) c.args.index c.args.granule old =
     record { known = s.known; found = c.requires.found; is = c.index_mut-page.ensures.value } in
-    let written : IsWritten box.value page (c.args.granule % 256) c.args.tag c.args.byte_index c.args.bytes.now c.args.code =
-    rw (← c.deref_mut.ensures.value) (record { number = c.put-first.ensures.number; slots = c.put-first.ensures.slots }) in
-    let len = len-write s.pages.items s.directory c.args.index c.args.granule box read page _ _ _ _ written in
-    let fits = len_fits s.pages.items s.directory c.args.index c.args.granule box read s.fits c.requires.room in
-    let first : c.from.result ≡ bool_byte (is_none (get_or (slots_of box.value) (c.args.granule % 256) None)) =
-    c.from.ensures ∙ ap bool_byte (rw c.deref_mut.ensures.value at c.put-first.ensures.first) in
+    let written : IsWritten old page (c.args.granule % 16) c.args.tag c.args.byte_index c.args.bytes.now c.args.code =
+    record { number = c.put-first.ensures.number; slots = c.put-first.ensures.slots } in
+    let len = len-write s.pages.items (found_in s.directory) c.args.index c.args.granule old read page _ _ _ _ written in
+    let fits = len_fits s.pages.items (found_in s.directory) c.args.index c.args.granule old read s.fits c.requires.room in
+    let first : c.from.result ≡ bool_byte (is_none (get_or (slots_of old) (c.args.granule % 16) None)) =
+    c.from.ensures ∙ ap bool_byte c.put-first.ensures.first in
     let bytes : All (λ byte. byte < 256) c.args.bytes.now =
     All-from_get_or (λ byte. byte < 256) c.args.bytes.now 0 (λ i lt. (c.type_inv.bytes i).fits) in
     record {
-      known = IsDirectory-write s.pages.items s.directory c.args.index c.args.granule box read page _ _ _ _ written;
-      used = EachUsed-write s.pages.items s.directory c.args.index c.args.granule box read page _ _ _ _ written s.used;
-      stored = AreStored-write s.pages.items s.directory c.args.index c.args.granule box read page _ _ _ _ written
+      chained = s.chained ∙ sym (numbers_of-write s.pages.items (found_in s.directory) c.args.index c.args.granule old read page _ _ _ _ written);
+      known = IsDirectory-write s.pages.items (found_in s.directory) c.args.index c.args.granule old read page _ _ _ _ written;
+      used = EachUsed-write s.pages.items (found_in s.directory) c.args.index c.args.granule old read page _ _ _ _ written s.used;
+      stored = AreStored-write s.pages.items (found_in s.directory) c.args.index c.args.granule old read page _ _ _ _ written
           c.requires.in_memory c.requires.inside bytes (omega arith) c.requires.coded s.stored;
       counted = omega (arith, len, first, s.counted);
+      few = omega (arith, len, length-set s.pages.items c.args.index page, s.few);
       fits = omega (arith, len, fits);
     }

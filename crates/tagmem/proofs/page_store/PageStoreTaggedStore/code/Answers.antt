@@ -1,4 +1,5 @@
 use Rattle.std.proofs.Common.{◌%◌, unwrap_or, sym, ap, ◌∙◌}
+use Rattle.tagmem.specs.Directories.{found_in}
 use Rattle.tagmem.specs.declared.page.Page.{Page}
 use Rattle.tagmem.specs.Granules.{blank}
 use Rattle.tagmem.specs.Pages.{slots_of, code_in_slot}
@@ -9,9 +10,9 @@ use Rattle.tagmem.proofs.page_store.PageStoreTaggedStore.code.Goals as goal
 pub returns-in-Some : goal.returns-in-Some
 returns-in-Some c =
     let s = c.args.self.now in
-    let says = λ (page : Page). code_in_slot (slots_of page) (c.args.granule % 256) in
-    let stands = get_present s.pages.items s.directory s.known c.args.granule c.in-Some.index c.index.result.now c.in-Some.ensures in
-    c.code.ensures ∙ ap says c.deref.ensures ∙ ap (λ box. says box.value) c.index.ensures ∙ sym (ap (λ o. (unwrap_or o blank).2) stands)
+    let says = λ (page : Page). code_in_slot (slots_of page) (c.args.granule % 16) in
+    let stands = get_present s.pages.items (found_in s.directory) s.known c.args.granule c.in-Some.index c.index.result.now c.in-Some.ensures in
+    c.code.ensures ∙ ap says c.index.ensures ∙ sym (ap (λ o. (unwrap_or o blank).2) stands)
 
 -- or it is absent
 pub returns-in-None : goal.returns-in-None

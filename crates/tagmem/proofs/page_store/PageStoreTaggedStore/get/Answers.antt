@@ -1,4 +1,5 @@
 use Rattle.std.proofs.Common.{◌%◌, get_or, None, sym, ap, ◌∙◌}
+use Rattle.tagmem.specs.Directories.{found_in}
 use Rattle.tagmem.specs.declared.page.Page.{Page}
 use Rattle.tagmem.specs.Granules.{shown}
 use Rattle.tagmem.specs.Pages.{slots_of}
@@ -9,9 +10,9 @@ use Rattle.tagmem.proofs.page_store.PageStoreTaggedStore.get.Goals as goal
 pub returns-in-Some : goal.returns-in-Some
 returns-in-Some c =
     let s = c.args.self.now in
-    let says = λ (page : Page). shown (get_or (slots_of page) (c.args.granule % 256) None) in
-    c.get.ensures ∙ ap says c.deref.ensures ∙ ap (λ box. says box.value) c.index.ensures
-    ∙ sym (ap shown (get_present s.pages.items s.directory s.known c.args.granule c.in-Some.index c.index.result.now c.in-Some.ensures))
+    let says = λ (page : Page). shown (get_or (slots_of page) (c.args.granule % 16) None) in
+    c.get.ensures ∙ ap says c.index.ensures
+    ∙ sym (ap shown (get_present s.pages.items (found_in s.directory) s.known c.args.granule c.in-Some.index c.index.result.now c.in-Some.ensures))
 
 -- or it is absent
 pub returns-in-None : goal.returns-in-None

@@ -1,0 +1,254 @@
+-- What is found in regions, and what becomes of it as they change and are added.
+use Rattle.std.proofs.Common.{◌≡◌, ◌≢◌, ℕ, ◌+◌, ◌*◌, ◌/◌, ◌%◌, ◌^◌, ◌<◌, ◌≤◌, true, false, cond, eqb, List, [], ◌∷◌, ◌++◌, length, get_or, set, map}
+use Rattle.std.proofs.Common.{Option, Some, None, sym, refl, ap, ◌∙◌, arith}
+use Rattle.std.specs.Prelude.{MatchOption}
+use Rattle.std.specs.Ordering.{nat_cmp}
+use Rattle.std.specs.Cmp.{unsigned_tied}
+use Rattle.std.specs.Map.{lookup}
+use Rattle.std.specs.BTreeMap as tree
+use Rattle.std.specs.BTreeMap.{BTreeMap, Updates}
+use Rattle.std.proofs.lemmas.Bool.{eqb-true}
+use Rattle.std.proofs.lemmas.Bool.Decides.{nat_tests}
+use Rattle.std.proofs.lemmas.List.{get_or-map, get_or-set_same, get_or-set_other, get_or_push, get_or_append_left, length-append, length-map, map-append, map-set}
+use Rattle.std.proofs.lemmas.List.Elements.{All-append, All-cons, All-get_or, All-nil, All-set}
+use Rattle.std.proofs.lemmas.Option.{none-some, same_Some}
+use Rattle.std.proofs.Math.ListN.{length-set, get_or-eq_default}
+use Rattle.tagmem.specs.declared.region.Region.{Region}
+use Rattle.tagmem.specs.Regions.{index_kept, index_in, index_at, index_of, HasPage, EachHasPage, AreApart, IsLeast, IsWith}
+
+abbrev kept_in : Region → List ℕ
+kept_in region = region.kept
+
+-- what is found at the place of a region
+index_at-default : (regions : List Region) (at : ℕ) (d : Region) (place : ℕ) → at < length regions
+    → index_at regions (Some at) place ≡ index_in (get_or regions at d) place
+index_at-default regions at d place in_range =
+    ap (λ kept. index_kept (get_or kept place 0)) (get_or-map kept_in regions at d [] in_range)
+
+pub index_at-there : (regions : List Region) (at : ℕ) (region : Region) (place : ℕ) → at < length regions → region ≡ get_or regions at region
+    → index_at regions (Some at) place ≡ index_in region place
+index_at-there regions at region place in_range is =
+    index_at-default regions at region place in_range ∙ ap (λ r. index_in r place) (sym is)
+
+-- a region has sixteen pages
+past : (region : Region) (place : ℕ) → 16 ≤ place → index_in region place ≡ None
+past region place large = ap index_kept (get_or-eq_default region.kept 0 (let wide = region.sixteen in omega arith))
+
+pub first_small : (region : Region) (place first : ℕ) → IsLeast (index_in region) place (Some first) → first < 16
+first_small region place first found = grind (arith, found.1, past region first)
+
+-- one in which a page is found has a page
+HasPage-with : (region : Region) (place index : ℕ) → index_in region place ≡ Some index → HasPage region
+HasPage-with region place index own none = none-some index (sym (none place) ∙ own)
+
+-- trees with the same entries
+module _ (regions : List Region) (old new : BTreeMap ℕ ℕ) (same : new.entries ≡ old.entries) where
+  alike : (q : ℕ) → tree.get nat_cmp new q ≡ tree.get nat_cmp old q
+  alike q = ap (lookup (tree.is_at (nat_cmp q))) same
+
+  pub index_of-same : (number : ℕ) → index_of regions new number ≡ index_of regions old number
+  index_of-same number = ap (λ o. index_at regions o (number % 16)) (alike (number / 16))
+
+  pub AreApart-same : AreApart regions old → AreApart regions new
+  AreApart-same known = record {
+    in_range = λ n at gets. known.in_range n at (sym (alike n) ∙ gets);
+    apart = λ n m at gets gets'. known.apart n m at (sym (alike n) ∙ gets) (sym (alike m) ∙ gets');
+    small = λ n at gets. known.small n at (sym (alike n) ∙ gets);
+  }
+
+-- a region that stands
+module _ (regions : List Region) (by_number : BTreeMap ℕ ℕ) (n at : ℕ) (region : Region)
+    (stands : tree.get nat_cmp by_number n ≡ Some at)
+    (there : (place : ℕ) → index_at regions (Some at) place ≡ index_in region place) where
+  -- of each of its pages the index is found there
+  index_of-own : (q : ℕ) → q / 16 ≡ n → index_of regions by_number q ≡ index_in region (q % 16)
+  index_of-own q own =
+      ap (λ m. index_at regions (tree.get nat_cmp by_number m) (q % 16)) own ∙ ap (λ o. index_at regions o (q % 16)) stands
+      ∙ there (q % 16)
+
+  place_in : (place : ℕ) → place < 16 → index_in region place ≡ index_of regions by_number (16 * n + place)
+  place_in place small =
+      let place_is : place ≡ (16 * n + place) % 16 = omega arith in
+      ap (index_in region) place_is ∙ sym (index_of-own (16 * n + place) (omega arith))
+
+  -- none of them is there from a place on
+  pub none-region : (place : ℕ) → IsLeast (index_in region) place None
+      → (q : ℕ) → 16 * n + place ≤ q → q < 16 * n + 16 → index_of regions by_number q ≡ None
+  none-region place none q le lt = index_of-own q (omega arith) ∙ none (q % 16) (omega arith)
+
+  -- or one is the first
+  pub least-region : (place first : ℕ) → IsLeast (index_in region) place (Some first)
+      → IsLeast (index_of regions by_number) (16 * n + place) (Some (16 * n + first))
+  least-region place first found =
+      let small = first_small region place first found in (
+        omega (arith, found.0),
+        λ none. found.1 (place_in first small ∙ none),
+        λ q le lt. index_of-own q (omega arith) ∙ found.2 (q % 16) (omega arith) (omega arith),
+      )
+
+  -- but one is
+  pub not_empty : HasPage region → ((q : ℕ) → 16 * n + 0 ≤ q → q < 16 * n + 16 → index_of regions by_number q ≡ None) → ⊥
+  not_empty has none =
+      let inside : (place : ℕ) → place < 16 → index_in region place ≡ None = λ place small.
+      place_in place small ∙ none (16 * n + place) (omega arith) (omega arith) in
+      has (λ place. grind (arith, inside place, past region place))
+
+-- in each region that stands a page is found
+pub found_in_region : (regions : List Region) (by_number : BTreeMap ℕ ℕ) (n at : ℕ) → at < length regions → EachHasPage regions
+    → tree.get nat_cmp by_number n ≡ Some at
+    → ((q : ℕ) → 16 * n + 0 ≤ q → q < 16 * n + 16 → index_of regions by_number q ≡ None) → ⊥
+found_in_region [] by_number n at in_range used stands none = omega arith
+found_in_region (first ∷ rest) by_number n at in_range used stands none =
+    not_empty (first ∷ rest) by_number n at (get_or (first ∷ rest) at first) stands
+    (λ place. index_at-default (first ∷ rest) at first place in_range) (All-get_or HasPage (first ∷ rest) at first in_range used) none
+
+-- nothing is found of a region that doesn't stand
+pub index_of-absent : (regions : List Region) (by_number : BTreeMap ℕ ℕ) (q : ℕ) → tree.get nat_cmp by_number (q / 16) ≡ None
+    → index_of regions by_number q ≡ None
+index_of-absent regions by_number q absent = ap (λ o. index_at regions o (q % 16)) absent
+
+-- a region in which one page more is found
+module _ (regions : List Region) (by_number : BTreeMap ℕ ℕ) (known : AreApart regions by_number) (number at index : ℕ) (old new : Region)
+    (stands : tree.get nat_cmp by_number (number / 16) ≡ Some at) (is : old ≡ get_or regions at old)
+    (own : index_in new (number % 16) ≡ Some index)
+    (others : (place : ℕ) → place ≢ number % 16 → index_in new place ≡ index_in old place) where
+  in_range : at < length regions
+  in_range = known.in_range (number / 16) at stands
+
+  index_at-set : (place : ℕ) → index_at (set regions at new) (Some at) place ≡ index_in new place
+  index_at-set place =
+      index_at-there (set regions at new) at new place (let long = length-set regions at new in let lt = in_range in omega arith)
+      (sym (get_or-set_same regions at new new in_range))
+
+  index_at-other : (r place : ℕ) → r ≢ at → index_at (set regions at new) (Some r) place ≡ index_at regions (Some r) place
+  index_at-other r place differs =
+      ap (λ kept. index_kept (get_or kept place 0))
+      (ap (λ ks. get_or ks r []) (map-set kept_in regions at new) ∙ get_or-set_other (map kept_in regions) at r (kept_in new) [] differs)
+
+  other_page : (q : ℕ) → q ≢ number → (o : Option ℕ) → tree.get nat_cmp by_number (q / 16) ≡ o
+      → index_at (set regions at new) o (q % 16) ≡ index_at regions o (q % 16)
+  other_page q differs None gets = refl
+  other_page q differs (Some r) gets =
+      elim (eqb r at) as (λ b. eqb r at ≡ b → index_at (set regions at new) (Some r) (q % 16) ≡ index_at regions (Some r) (q % 16)) [
+        | true ↦ λ same.
+            let here : r ≡ at = eqb-true r at same in
+            let region : q / 16 ≡ number / 16 = known.apart (q / 16) (number / 16) at (gets ∙ ap Some here) stands in
+            ap (λ r. index_at (set regions at new) (Some r) (q % 16)) here ∙ index_at-set (q % 16)
+            ∙ others (q % 16) (λ place. differs (omega (arith, region, place)))
+            ∙ sym (index_at-there regions at old (q % 16) in_range is) ∙ sym (ap (λ r. index_at regions (Some r) (q % 16)) here)
+        | false ↦ λ apart. index_at-other r (q % 16) (λ here. grind (arith, nat_tests))
+      ] refl
+
+  pub IsWith-set : IsWith (index_of regions by_number) (index_of (set regions at new) by_number) number index
+  IsWith-set = (
+    ap (λ o. index_at (set regions at new) o (number % 16)) stands ∙ index_at-set (number % 16) ∙ own,
+    λ q differs. other_page q differs (tree.get nat_cmp by_number (q / 16)) refl,
+  )
+
+  pub AreApart-set : AreApart (set regions at new) by_number
+  AreApart-set = record {
+    in_range = λ n r gets. let long = length-set regions at new in let lt = known.in_range n r gets in omega arith;
+    apart = known.apart;
+    small = known.small;
+  }
+
+  pub EachHasPage-set : EachHasPage regions → EachHasPage (set regions at new)
+  EachHasPage-set used = All-set HasPage regions at new (HasPage-with new (number % 16) index own) used
+
+-- a region more, in which one page is found
+module _ (regions : List Region) (old new : BTreeMap ℕ ℕ) (known : AreApart regions old) (number at index : ℕ) (region : Region)
+    (in_memory : number < 2 ^ 64) (absent : tree.get nat_cmp old (number / 16) ≡ None) (last : at ≡ length regions)
+    (updates : Updates nat_cmp old new (number / 16) (Some at))
+    (own : index_in region (number % 16) ≡ Some index)
+    (others : (place : ℕ) → place ≢ number % 16 → index_in region place ≡ None) where
+  told : (q : ℕ) → tree.get nat_cmp new q ≡ cond (eqb (number / 16) q) (Some at) (tree.get nat_cmp old q)
+  told q = updates.0 q ∙ ap (λ b. cond b (Some at) (tree.get nat_cmp old q)) (unsigned_tied (number / 16) q)
+
+  told_own : (q : ℕ) → eqb (number / 16) q ≡ true → tree.get nat_cmp new q ≡ Some at
+  told_own q same = told q ∙ ap (λ b. cond b (Some at) (tree.get nat_cmp old q)) same
+
+  told_other : (q : ℕ) → eqb (number / 16) q ≡ false → tree.get nat_cmp new q ≡ tree.get nat_cmp old q
+  told_other q differs = told q ∙ ap (λ b. cond b (Some at) (tree.get nat_cmp old q)) differs
+
+  -- it is the new one or an old one
+  cases : (P : Type 0) (n r : ℕ) → tree.get nat_cmp new n ≡ Some r → (n ≡ number / 16 → r ≡ at → P) → (tree.get nat_cmp old n ≡ Some r → P) → P
+  cases P n r gets if_new if_old =
+      elim (eqb (number / 16) n) as (λ b. eqb (number / 16) n ≡ b → P) [
+        | true ↦ λ same. if_new (sym (eqb-true (number / 16) n same)) (same_Some _ _ (sym gets ∙ told_own n same))
+        | false ↦ λ differs. if_old (sym (told_other n differs) ∙ gets)
+      ] refl
+
+  index_at-last : (place : ℕ) → index_at (regions ++ region ∷ []) (Some at) place ≡ index_in region place
+  index_at-last place =
+      index_at-there (regions ++ region ∷ []) at region place (let long = length-append regions (region ∷ []) in omega (arith, last))
+      (sym (get_or_push regions region region at (sym last)))
+
+  index_at-before : (r place : ℕ) → r < length regions → index_at (regions ++ region ∷ []) (Some r) place ≡ index_at regions (Some r) place
+  index_at-before r place lt =
+      let many : length (map kept_in regions) ≡ length regions = length-map regions kept_in in
+      ap (λ kept. index_kept (get_or kept place 0))
+      (ap (λ ks. get_or ks r []) (map-append kept_in regions (region ∷ []))
+      ∙ get_or_append_left (map kept_in regions) (kept_in region ∷ []) [] r (omega arith))
+
+  in_old : (q place : ℕ) (o : Option ℕ) → tree.get nat_cmp old q ≡ o → index_at (regions ++ region ∷ []) o place ≡ index_at regions o place
+  in_old q place None gets = refl
+  in_old q place (Some r) gets = index_at-before r place (known.in_range q r gets)
+
+  other_pages : (q : ℕ) → q ≢ number → index_of (regions ++ region ∷ []) new q ≡ index_of regions old q
+  other_pages q differs =
+      elim (eqb (number / 16) (q / 16))
+      as (λ b. eqb (number / 16) (q / 16) ≡ b → index_of (regions ++ region ∷ []) new q ≡ index_of regions old q) [
+        | true ↦ λ same.
+            let region_is : number / 16 ≡ q / 16 = eqb-true (number / 16) (q / 16) same in
+            ap (λ o. index_at (regions ++ region ∷ []) o (q % 16)) (told_own (q / 16) same) ∙ index_at-last (q % 16)
+            ∙ others (q % 16) (λ place. differs (omega (arith, region_is, place)))
+            ∙ sym (index_of-absent regions old q (ap (tree.get nat_cmp old) (sym region_is) ∙ absent))
+        | false ↦ λ apart.
+            ap (λ o. index_at (regions ++ region ∷ []) o (q % 16)) (told_other (q / 16) apart)
+            ∙ in_old (q / 16) (q % 16) (tree.get nat_cmp old (q / 16)) refl
+      ] refl
+
+  pub IsWith-push : IsWith (index_of regions old) (index_of (regions ++ region ∷ []) new) number index
+  IsWith-push = (
+    ap (λ o. index_at (regions ++ region ∷ []) o (number % 16)) updates.1 ∙ index_at-last (number % 16) ∙ own,
+    other_pages,
+  )
+
+  pub AreApart-push : AreApart (regions ++ region ∷ []) new
+  AreApart-push =
+      let long = length-append regions (region ∷ []) in
+      record {
+        in_range = λ n r gets.
+            cases (r < length (regions ++ region ∷ [])) n r gets (λ n_is r_is. omega (arith, long, last, r_is))
+            (λ was. omega (arith, long, known.in_range n r was));
+        apart = λ n m r gets gets'.
+            cases (n ≡ m) n r gets
+            (λ n_is r_is. cases (n ≡ m) m r gets' (λ m_is _. n_is ∙ sym m_is) (λ was. absurd (omega (arith, r_is, last, known.in_range m r was))))
+            (λ was. cases (n ≡ m) m r gets' (λ m_is r_is. absurd (omega (arith, r_is, last, known.in_range n r was))) (λ was'. known.apart n m r was was'));
+        small = λ n r gets. cases (n < 2 ^ 60) n r gets (λ n_is r_is. omega (arith, n_is, in_memory)) (λ was. known.small n r was);
+      }
+
+  pub EachHasPage-push : EachHasPage regions → EachHasPage (regions ++ region ∷ [])
+  EachHasPage-push used =
+      All-append HasPage regions (region ∷ []) used (All-cons HasPage region [] (HasPage-with region (number % 16) index own) (All-nil HasPage))
+
+-- nothing is found of a region below the least that stands from another on
+pub index_of-below : (regions : List Region) (by_number : BTreeMap ℕ ℕ) (from least : ℕ)
+    → ((n at : ℕ) → from ≤ n → tree.get nat_cmp by_number n ≡ Some at → least ≤ n)
+    → (q : ℕ) → from ≤ q / 16 → q / 16 < least → index_of regions by_number q ≡ None
+index_of-below regions by_number from least is_least q le lt = by_region (tree.get nat_cmp by_number (q / 16)) refl
+  where
+    by_region : (o : Option ℕ) → tree.get nat_cmp by_number (q / 16) ≡ o → index_of regions by_number q ≡ None
+    by_region None is = index_of-absent regions by_number q is
+    by_region (Some at) is = absurd (omega (arith, is_least (q / 16) at le is))
+
+-- where none is found from a number on to the end of its region, the least is that of the least later one
+pub least-later : (find : ℕ → Option ℕ) (from region : ℕ) → ((q : ℕ) → from ≤ q → q < 16 * (from / 16) + 16 → find q ≡ None)
+    → from / 16 + 1 ≤ region → ((q : ℕ) → from / 16 + 1 ≤ q / 16 → q / 16 < region → find q ≡ None)
+    → (((q : ℕ) → 16 * region + 0 ≤ q → q < 16 * region + 16 → find q ≡ None) → ⊥)
+    → (o : Option ℕ)
+    → MatchOption o ((q : ℕ) → 16 * region + 0 ≤ q → q < 16 * region + 16 → find q ≡ None) (λ first. IsLeast find (16 * region + 0) (Some first))
+    → IsLeast find from o
+least-later find from region none above between some None empty = absurd (some empty)
+least-later find from region none above between some (Some least) found =
+    (omega (arith, above, found.0), found.1, λ q le lt. grind (arith, none q, between q, found.2 q))

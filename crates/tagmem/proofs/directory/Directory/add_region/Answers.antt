@@ -1,0 +1,29 @@
+use Rattle.std.proofs.Common.{◌≡◌, ◌∷◌, [], ◌++◌, length, sym, ap, subst, ◌∙◌, arith}
+use Rattle.tagmem.specs.Directories.{found_in}
+use Rattle.tagmem.specs.Regions.{index_of, IsWith}
+use Rattle.tagmem.proofs.Regions.{IsWith-push, AreApart-push, EachHasPage-push}
+use Rattle.tagmem.proofs.directory.Directory.add_region.Goals as goal
+
+pub invariant_of-self-2 : goal.invariant_of-self-2
+invariant_of-self-2 c =
+    let s = c.args.self.now in
+    let region = c.set.new.self in
+    let items = c.push_reserved.ensures.items ∙ ap (λ items. items ++ region ∷ []) c.reserve.ensures.items in
+    let last : c.len-at.result ≡ length s.regions.items = omega (arith, s.regions.ok.0, c.len-at.ensures, c.reserve.ensures.len) in
+    rw items (record {
+      apart = AreApart-push s.regions.items s.tree c.insert.new.self s.apart c.args.number c.len-at.result c.args.index region (omega arith)
+          c.requires.absent last c.in-Ok-insert.ensures.updates c.set.ensures.own (λ place other. c.set.ensures.others place other ∙ c.new-region.ensures place);
+      used = EachHasPage-push s.regions.items s.tree c.insert.new.self s.apart c.args.number c.len-at.result c.args.index region (omega arith)
+          c.requires.absent last c.in-Ok-insert.ensures.updates c.set.ensures.own (λ place other. c.set.ensures.others place other ∙ c.new-region.ensures place)
+          s.used;
+    })
+
+pub returns-clause-ok : goal.returns-clause-ok
+returns-clause-ok c =
+    let s = c.args.self.now in
+    let region = c.set.new.self in
+    let items = c.push_reserved.ensures.items ∙ ap (λ items. items ++ region ∷ []) c.reserve.ensures.items in
+    let last : c.len-at.result ≡ length s.regions.items = omega (arith, s.regions.ok.0, c.len-at.ensures, c.reserve.ensures.len) in
+    subst (λ items. IsWith (found_in s) (index_of items c.insert.new.self) c.args.number c.args.index) (sym items)
+    (IsWith-push s.regions.items s.tree c.insert.new.self s.apart c.args.number c.len-at.result c.args.index region (omega arith)
+    c.requires.absent last c.in-Ok-insert.ensures.updates c.set.ensures.own (λ place other. c.set.ensures.others place other ∙ c.new-region.ensures place))
