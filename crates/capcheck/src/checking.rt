@@ -7,9 +7,9 @@ ghost use Rattle.capcheck.specs.Statuses.{status_of};
 
 use crate::faults::Fault;
 use crate::outputs::is_written;
+use cap_log::{PullFault, ReadSource};
 use cap_vectors::vectors::texts::vector_text;
 use cap_vectors::vectors::{VectorVerdict, vectors};
-use cap_log::{PullFault, ReadSource};
 use std::io::{Read, Write};
 
 /// Checks an input as a vector file, writes the line of the verdict, and answers the status that goes with

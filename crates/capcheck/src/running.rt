@@ -8,14 +8,14 @@ ghost use Rattle.capcheck.specs.Statuses.{exit_status, status_of};
 ghost use Rattle.capcheck.specs.declared.words.Order.TheVariants.{Explain, Round};
 
 use crate::checking::check_input;
-use cap_texts::explain_lines::explain_text;
 use crate::faults::Fault;
 use crate::inputs::judge_reader;
 use crate::outputs::is_written;
-use cap_texts::round_lines::round_text;
 use crate::words::Order;
 use crate::words::operands::{read_capability, read_request};
 use cap_bounds::round;
+use cap_texts::explain_lines::explain_text;
+use cap_texts::round_lines::round_text;
 use std::alloc::Global;
 use std::io::{Read, Write};
 
