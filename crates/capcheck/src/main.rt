@@ -15,7 +15,9 @@ use crate::faults::Fault;
 use crate::running::run;
 use crate::words::Order;
 use crate::words::reading::read_words;
-pub use cap_judge::{explaining, headers, judging, laws, origin_lines, reporting, verdict, verdict_lines};
+pub use cap_judge::{
+    explaining, headers, judging, laws, origin_lines, reporting, verdict, verdict_lines,
+};
 pub use cap_texts::{explain_lines, round_lines};
 pub use cap_vectors::vectors;
 use std::alloc::AllocError;

@@ -7,7 +7,7 @@ use crate::verdict::{JudgeToFault, Verdict};
 use cap_log::{FailingSink, FailingSource, SliceSink, SliceSource};
 use std::alloc::Global;
 use std::process::Abort;
-use tagmem::ListStore;
+use tagmem::{ListStore, TaggedStore};
 
 // Logs that are refused, and what is told of them.
 const REPORTS: [(&str, &str); 31] = [
@@ -506,12 +506,12 @@ fn reports_on_refused_logs(rt: HostRuntime) {
 #[test]
 fn reports_over_a_list(rt: HostRuntime) {
     for (log, text) in REPORTS {
+        let memory = ListStore::new(rt.alloc());
+        assert_eq!(rt; memory.count(), 0);
         let mut source = SliceSource::new(log.as_bytes(), &[]);
         let mut room = [b'.'; 2304];
         let mut sink = SliceSink::new(&mut room);
-        assert!(rt;
-            judge_why_in(false, &mut source, ListStore::new(rt.alloc()), &mut sink).is_ok()
-        );
+        assert!(rt; judge_why_in(false, &mut source, memory, &mut sink).is_ok());
         assert_eq!(rt; sink.taken(), text.len());
         assert!(rt; room.starts_with(text.as_bytes()));
     }
@@ -550,17 +550,14 @@ fn any_bytes_are_told_in_characters(rt: HostRuntime) {
                 place.copy_from_slice(front);
             }
             let mut source = SliceSource::new(&log, &[]);
-            let mut room = [0u8; 2304];
+            let mut room = [b' '; 2304];
             let mut sink = SliceSink::new(&mut room);
             assert!(rt; judge_why(rt.alloc(), false, &mut source, &mut sink).is_ok());
-            let taken = sink.taken();
-            for index in 0..taken {
-                let told = room[index];
-                assert!(rt;
-                    told == b'\n' || (told >= b' ' && told <= b'~'),
-                    "a byte {byte}"
-                );
-            }
+            assert!(rt;
+                room.iter()
+                    .all(|told| *told == b'\n' || (*told >= b' ' && *told <= b'~')),
+                "a byte {byte}"
+            );
         }
     }
 }

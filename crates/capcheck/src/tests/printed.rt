@@ -179,7 +179,7 @@ const SHOWN: [Row; 17] = [
 ];
 
 // Judging and checking an input.
-const READ: [Row; 14] = [
+const READ: [Row; 18] = [
     (&["judge"], Some("capcheck 1\nend 0\n"), 0, "yes 0 0\n", ""),
     (
         &["judge"],
@@ -191,6 +191,34 @@ const READ: [Row; 14] = [
     (&["judge", "gone"], None, 3, "", "capcheck: read fault\n"),
     (
         &["judge", "--origins", "gone"],
+        None,
+        3,
+        "",
+        "capcheck: read fault\n",
+    ),
+    (
+        &["judge", "--why"],
+        Some("capcheck 1\nend 1\n"),
+        1,
+        "no 2 6 WrongCount\nline end 1\nroots 0\nsteps 0\ngranules 0\n",
+        "",
+    ),
+    (
+        &["judge", "--why"],
+        Some("capcheck 1\nend 0\n"),
+        0,
+        "yes 0 0\n",
+        "",
+    ),
+    (
+        &["judge", "--origins", "--why"],
+        Some("capcheck 1\nroot c1 ffff1ffffc0180040000000000000000\nend 0\n"),
+        0,
+        "yes 0 1\norigin c1 c1\n",
+        "",
+    ),
+    (
+        &["judge", "--why", "gone"],
         None,
         3,
         "",

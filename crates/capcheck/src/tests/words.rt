@@ -4,7 +4,7 @@ use crate::words::Order;
 use crate::words::reading::read_words;
 
 // Words, and their order.
-const ORDERS: [(&[&str], Order<'static>); 13] = [
+const ORDERS: [(&[&str], Order<'static>); 16] = [
     (
         &["judge"],
         Order::Judge {
@@ -36,6 +36,27 @@ const ORDERS: [(&[&str], Order<'static>); 13] = [
     (
         &["judge", "--origins", "log"],
         Order::Judge {
+            origins: true,
+            file: Some("log"),
+        },
+    ),
+    (
+        &["judge", "--why"],
+        Order::Why {
+            origins: false,
+            file: None,
+        },
+    ),
+    (
+        &["judge", "--why", "log"],
+        Order::Why {
+            origins: false,
+            file: Some("log"),
+        },
+    ),
+    (
+        &["judge", "--origins", "--why", "log"],
+        Order::Why {
             origins: true,
             file: Some("log"),
         },
@@ -92,7 +113,7 @@ const ORDERS: [(&[&str], Order<'static>); 13] = [
 ];
 
 // Words that are no order.
-const NONE: [&[&str]; 22] = [
+const NONE: [&[&str]; 25] = [
     &[],
     &[""],
     &["judges"],
@@ -100,6 +121,9 @@ const NONE: [&[&str]; 22] = [
     &["judge", "a", "b"],
     &["judge", "log", "--origins"],
     &["judge", "--origins", "--origins"],
+    &["judge", "--why", "--origins"],
+    &["judge", "log", "--why"],
+    &["judge", "--why", "-log"],
     &["vectors"],
     &["vectors", "-file"],
     &["vectors", "file", "file"],
