@@ -131,24 +131,14 @@ const SHOWN: [Row; 17] = [
         "",
     ),
     (
-        &[
-            "explain",
-            "--memory",
-            "--tag",
-            "00100000000000000450fe070000ffff",
-        ],
+        &["explain", "--memory", "--tag", "00100000000000000450fe070000ffff"],
         None,
         0,
         TAGGED,
         "",
     ),
     (
-        &[
-            "explain",
-            "--tag",
-            "--memory",
-            "00100000000000000450fe070000ffff",
-        ],
+        &["explain", "--tag", "--memory", "00100000000000000450fe070000ffff"],
         None,
         2,
         "",
@@ -179,7 +169,7 @@ const SHOWN: [Row; 17] = [
 ];
 
 // Judging and checking an input.
-const READ: [Row; 18] = [
+const READ: [Row; 14] = [
     (&["judge"], Some("capcheck 1\nend 0\n"), 0, "yes 0 0\n", ""),
     (
         &["judge"],
@@ -191,34 +181,6 @@ const READ: [Row; 18] = [
     (&["judge", "gone"], None, 3, "", "capcheck: read fault\n"),
     (
         &["judge", "--origins", "gone"],
-        None,
-        3,
-        "",
-        "capcheck: read fault\n",
-    ),
-    (
-        &["judge", "--why"],
-        Some("capcheck 1\nend 1\n"),
-        1,
-        "no 2 6 WrongCount\nline end 1\nroots 0\nsteps 0\ngranules 0\n",
-        "",
-    ),
-    (
-        &["judge", "--why"],
-        Some("capcheck 1\nend 0\n"),
-        0,
-        "yes 0 0\n",
-        "",
-    ),
-    (
-        &["judge", "--origins", "--why"],
-        Some("capcheck 1\nroot c1 ffff1ffffc0180040000000000000000\nend 0\n"),
-        0,
-        "yes 0 1\norigin c1 c1\n",
-        "",
-    ),
-    (
-        &["judge", "--why", "gone"],
         None,
         3,
         "",
@@ -242,14 +204,12 @@ const READ: [Row; 18] = [
     (&["vectors", "gone"], None, 3, "", "capcheck: read fault\n"),
     (
         &["judge", "--origins"],
-        Some(
-            "capcheck 1\n\
+        Some("capcheck 1\n\
         root c1 ffff1ffffc0180040000000000000000\n\
         move c2 c1 = 1 ffff1ffffc0180040000000000000000\n\
         sc c2 c1 16\n\
         cleartag c1 c1 = 0 ffff1ffffc0180040000000000000000\n\
-        end 3\n",
-        ),
+        end 3\n"),
         0,
         "yes 3 1\n\
         origin c2 c1\n\
@@ -258,14 +218,12 @@ const READ: [Row; 18] = [
     ),
     (
         &["judge", "--origins"],
-        Some(
-            "capcheck 1\n\
+        Some("capcheck 1\n\
         root c1 ffff1ffffc0180040000000000000000\n\
         root @0000000000000000 ffff1ffffbffd0000000000000001000\n\
         lc c2 c1 0 = 1 ffff1ffffbffd0000000000000001000\n\
         move c1 c2 = 1 ffff1ffffbffd0000000000000001000\n\
-        end 2\n",
-        ),
+        end 2\n"),
         0,
         "yes 2 2\n\
         origin c1 @0000000000000000\n\
@@ -275,14 +233,12 @@ const READ: [Row; 18] = [
     ),
     (
         &["judge", "--origins"],
-        Some(
-            "capcheck 1\n\
+        Some("capcheck 1\n\
         root c1 ffff1ffffc0180040000000000000000\n\
         sc c1 c1 0\n\
         store c1 0 1 aa\n\
         lc c3 c1 0 = 0 ffff1ffffc01800400000000000000aa\n\
-        end 3\n",
-        ),
+        end 3\n"),
         0,
         "yes 3 1\n\
         origin c1 c1\n",
@@ -290,14 +246,12 @@ const READ: [Row; 18] = [
     ),
     (
         &["judge", "--origins"],
-        Some(
-            "capcheck 1\n\
+        Some("capcheck 1\n\
         root c1 ffff1ffffc0180040000000000000000\n\
         sc c1 c1 0\n\
         store c1 0 1 aa\n\
         lc c3 c1 0 = 1 ffff1ffffc01800400000000000000aa\n\
-        end 3\n",
-        ),
+        end 3\n"),
         1,
         "no 5 23 WrongResult\n",
         "",
@@ -311,8 +265,7 @@ const READ: [Row; 18] = [
     ),
     (
         &["judge", "--origins", "log"],
-        Some(
-            "capcheck 1\n\
+        Some("capcheck 1\n\
         root c3 ffff1ffffc0180040000000000000000\n\
         root @0000000000000040 ffff1ffffbffd0000000000000001000\n\
         sc c3 c3 32\n\
@@ -320,8 +273,7 @@ const READ: [Row; 18] = [
         sc c0 c3 16\n\
         lc c2 c3 64 = 1 ffff1ffffbffd0000000000000001000\n\
         sc c2 c3 0\n\
-        end 5\n",
-        ),
+        end 5\n"),
         0,
         "yes 5 2\n\
         origin c2 @0000000000000040\n\
