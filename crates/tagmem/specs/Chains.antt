@@ -1,9 +1,9 @@
 -- What `Chains` keep: numbers, and chains of those that share a place. All of it is this profile's own.
 use Rattle.std.specs.Prelude.{◌≡◌, ◌≢◌, ℕ, suc, ◌*◌, ◌/◌, ◌%◌, ◌^◌, ◌<◌, ◌≤◌, List, length, slice_index, bit_and}
 
--- the place of a number, of as many as the mask has and one
+-- the place of a number: bits from the middle of its product by a number chosen for that, as many as the mask has
 abbrev pub place_of : ℕ → ℕ → ℕ
-place_of mask number = bit_and (number * 11400714819323198485 % 2 ^ 64 / 2 ^ 32) mask
+place_of mask number = bit_and (number * 10188473687330824909 % 2 ^ 64 / 2 ^ 32) mask
 
 -- `last` is one more than the greatest index below a limit at which a number of a place stands, and 0 where none does
 pub record IsLast (numbers : List ℕ) (mask place limit last : ℕ) : Type 0 where

@@ -82,7 +82,7 @@ impl Chains {
         let Ok(()) = self.numbers.reserve(1) else {
             return Err(NoMemory);
         };
-        if self.numbers.len() >= self.heads.len() / 4 {
+        if self.numbers.len() >= self.heads.len() / 2 {
             self.grow()?;
         }
         let Ok(()) = self.nexts.reserve(1) else {

@@ -13,8 +13,8 @@ const SLOTS: usize = 48;
 
 const GRANULES: u64 = 1 << 60;
 
-// Between granules whose pages have one place, as have those half as far.
-const APART: u64 = 1 << 51;
+// Granules this far apart lie in pages that share a place.
+const APART: u64 = 1 << 50;
 
 // Puts, where one more granule can be counted. A put that is refused is tried again.
 fn put_cap<S: TaggedStore>(
@@ -311,8 +311,8 @@ fn pages_are_found_by_their_whole_numbers(rt: HostRuntime) {
     assert_eq!(rt; store.count(), 1100);
 }
 
-// Numbers of pages that are multiples of 2^46 share one place. More of them than are looked at there are
-// found by their order, and so are those that are missing.
+// Of pages that share one place more than are looked at there are found by their order, and so are those that
+// are missing.
 #[test]
 fn pages_that_share_a_place_are_found(rt: HostRuntime) {
     let store = &mut PageStore::new(rt.alloc());
@@ -320,20 +320,20 @@ fn pages_that_share_a_place_are_found(rt: HostRuntime) {
         put_cap(
             &rt,
             store,
-            number * APART,
+            2 * number * APART,
             true,
             bytes_from(number as u8),
             number + 1,
         );
     }
     for number in 0..40 {
-        let granule = number * APART;
+        let granule = 2 * number * APART;
         assert_eq!(rt; store.get(granule), Some((true, bytes_from(number as u8))));
         assert_eq!(rt; store.code(granule), number + 1);
-        assert_eq!(rt; store.get(granule + APART / 2), None);
+        assert_eq!(rt; store.get(granule + APART), None);
         assert_eq!(rt; store.next_put(granule), Some(granule));
     }
-    assert_eq!(rt; store.next_put(1), Some(APART));
+    assert_eq!(rt; store.next_put(1), Some(2 * APART));
     assert_eq!(rt; store.count(), 40);
 }
 
