@@ -131,14 +131,24 @@ const SHOWN: [Row; 17] = [
         "",
     ),
     (
-        &["explain", "--memory", "--tag", "00100000000000000450fe070000ffff"],
+        &[
+            "explain",
+            "--memory",
+            "--tag",
+            "00100000000000000450fe070000ffff",
+        ],
         None,
         0,
         TAGGED,
         "",
     ),
     (
-        &["explain", "--tag", "--memory", "00100000000000000450fe070000ffff"],
+        &[
+            "explain",
+            "--tag",
+            "--memory",
+            "00100000000000000450fe070000ffff",
+        ],
         None,
         2,
         "",
@@ -204,12 +214,14 @@ const READ: [Row; 14] = [
     (&["vectors", "gone"], None, 3, "", "capcheck: read fault\n"),
     (
         &["judge", "--origins"],
-        Some("capcheck 1\n\
+        Some(
+            "capcheck 1\n\
         root c1 ffff1ffffc0180040000000000000000\n\
         move c2 c1 = 1 ffff1ffffc0180040000000000000000\n\
         sc c2 c1 16\n\
         cleartag c1 c1 = 0 ffff1ffffc0180040000000000000000\n\
-        end 3\n"),
+        end 3\n",
+        ),
         0,
         "yes 3 1\n\
         origin c2 c1\n\
@@ -218,12 +230,14 @@ const READ: [Row; 14] = [
     ),
     (
         &["judge", "--origins"],
-        Some("capcheck 1\n\
+        Some(
+            "capcheck 1\n\
         root c1 ffff1ffffc0180040000000000000000\n\
         root @0000000000000000 ffff1ffffbffd0000000000000001000\n\
         lc c2 c1 0 = 1 ffff1ffffbffd0000000000000001000\n\
         move c1 c2 = 1 ffff1ffffbffd0000000000000001000\n\
-        end 2\n"),
+        end 2\n",
+        ),
         0,
         "yes 2 2\n\
         origin c1 @0000000000000000\n\
@@ -233,12 +247,14 @@ const READ: [Row; 14] = [
     ),
     (
         &["judge", "--origins"],
-        Some("capcheck 1\n\
+        Some(
+            "capcheck 1\n\
         root c1 ffff1ffffc0180040000000000000000\n\
         sc c1 c1 0\n\
         store c1 0 1 aa\n\
         lc c3 c1 0 = 0 ffff1ffffc01800400000000000000aa\n\
-        end 3\n"),
+        end 3\n",
+        ),
         0,
         "yes 3 1\n\
         origin c1 c1\n",
@@ -246,12 +262,14 @@ const READ: [Row; 14] = [
     ),
     (
         &["judge", "--origins"],
-        Some("capcheck 1\n\
+        Some(
+            "capcheck 1\n\
         root c1 ffff1ffffc0180040000000000000000\n\
         sc c1 c1 0\n\
         store c1 0 1 aa\n\
         lc c3 c1 0 = 1 ffff1ffffc01800400000000000000aa\n\
-        end 3\n"),
+        end 3\n",
+        ),
         1,
         "no 5 23 WrongResult\n",
         "",
@@ -265,7 +283,8 @@ const READ: [Row; 14] = [
     ),
     (
         &["judge", "--origins", "log"],
-        Some("capcheck 1\n\
+        Some(
+            "capcheck 1\n\
         root c3 ffff1ffffc0180040000000000000000\n\
         root @0000000000000040 ffff1ffffbffd0000000000000001000\n\
         sc c3 c3 32\n\
@@ -273,7 +292,8 @@ const READ: [Row; 14] = [
         sc c0 c3 16\n\
         lc c2 c3 64 = 1 ffff1ffffbffd0000000000000001000\n\
         sc c2 c3 0\n\
-        end 5\n"),
+        end 5\n",
+        ),
         0,
         "yes 5 2\n\
         origin c2 @0000000000000040\n\
