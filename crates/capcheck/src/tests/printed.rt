@@ -2,6 +2,8 @@
 
 use crate::running::run;
 use crate::words::reading::read_words;
+use std::alloc::Global;
+use std::process::Abort;
 
 // Words, the input where there is one, and then the status, the text and the line on standard error.
 type Row = (
@@ -285,22 +287,25 @@ const READ: [Row; 14] = [
     ),
 ];
 
+// Runs the program on the words and the input of a row.
+fn prints(rt: &impl Abort, alloc: Global, row: Row) {
+    let (words, input, status, text, told) = row;
+    let mut out = Vec::new(alloc);
+    let mut faults = Vec::new(alloc);
+    let order = read_words(words);
+    let input = input.map(|log| log.as_bytes());
+    let found = run(alloc, order, input, &mut out, &mut faults);
+    assert_eq!(rt; found, status);
+    assert_eq!(rt; out.as_slice(), text.as_bytes());
+    assert_eq!(rt; faults.as_slice(), told.as_bytes());
+}
+
 #[test]
 fn texts(rt: HostRuntime) {
-    for rows in [SHOWN.as_slice(), READ.as_slice()] {
-        for (words, input, status, text, told) in rows {
-            let mut out = Vec::new(rt.alloc());
-            let mut faults = Vec::new(rt.alloc());
-            let found = run(
-                rt.alloc(),
-                read_words(words),
-                input.map(|log| log.as_bytes()),
-                &mut out,
-                &mut faults,
-            );
-            assert_eq!(rt; found, *status);
-            assert_eq!(rt; out.as_slice(), text.as_bytes());
-            assert_eq!(rt; faults.as_slice(), told.as_bytes());
-        }
+    for row in SHOWN {
+        prints(&rt, rt.alloc(), row);
+    }
+    for row in READ {
+        prints(&rt, rt.alloc(), row);
     }
 }
