@@ -26,7 +26,8 @@ impl FaultLine {
         }
     }
 
-    /// The line that some bytes begin with.
+    /// The line that some bytes begin with. It stays out of the loop over lines, which runs no slower for it.
+    #[inline(never)]
     pub fn of(bytes: &[u8]) -> FaultLine
         ensures { IsFrontText bytes.now (bytes_of result) }
     {
