@@ -67,8 +67,8 @@ export async function wordsAreExplained(page) {
         return [first, rows("lines").word];
     }),
         drawn);
-    const names = [...text("include/capcheck.h").matchAll(/CAPCHECK_([A-Z_]+) = 0x([0-9a-f]+)[,\n]/g)]
-                      .filter(([, name]) => !/PERMISSIONS/.test(name))
+    const names = [...text("include/capcheck.h").matchAll(/#define CAPCHECK_([A-Z_]+) +0x([0-9a-f]+)u\n/g)]
+                      .filter(([, name]) => !/PERMISSIONS|OTYPE/.test(name))
                       .map(([, name, bit]) => [name, Number(`0x${bit}`)]);
     same(names.length, 12, "permissions in the header");
     drawn.forEach(([word, memory, ie, e, b, t, base, top, sound, start, size, cut], k) => {
