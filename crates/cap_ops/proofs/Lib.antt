@@ -8,3 +8,4 @@ pub mod ReachLemmas
 pub mod ReplacedFields
 pub mod TestLemmas
 mod ResultLemmas
+mod RootLemmas

@@ -12,6 +12,7 @@ mod faults;
 mod kinds;
 mod narrowing;
 mod permissions;
+mod roots;
 mod sealing;
 
 pub use crate::access::Access;
@@ -24,4 +25,5 @@ pub use crate::faults::OpFault;
 pub use crate::kinds::Kind;
 pub use crate::narrowing::set_bounds;
 pub use crate::permissions::{and_perm, clear_tag, perm_view};
+pub use crate::roots::root_word;
 pub use crate::sealing::{seal, sealed, unseal};

@@ -21,7 +21,7 @@ pub fn perm_view(word: Word) -> u32
 }
 
 /// The field of permissions for those of a view.
-fn field_of(view: u64) -> u16
+pub(crate) fn field_of(view: u64) -> u16
     ensures { result ≡ perms_from_view view }
 {
     (view & 0xfff) as u16 + ((((view >> 15) & 0xf) as u16) << 12)
