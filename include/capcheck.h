@@ -205,6 +205,13 @@ capcheck_word capcheck_with_bounds(capcheck_word word, uint64_t base, uint64_t l
 /* The permissions of a word, in this view. */
 uint32_t capcheck_perm_view(capcheck_word word);
 
+/* The word of a root, with which a machine starts: unsealed, with these permissions, the rounded bounds of
+ * `length` bytes from `base` on, and `base` as its address. The length may be 2^64, as {1, 0}, from base 0 on:
+ * the whole address space. There is none where base + length is above 2^64, or where a bit of `permissions`
+ * isn't in CAPCHECK_ALL_PERMISSIONS. */
+CAPCHECK_CHECKED
+capcheck_optional_word capcheck_root(uint64_t base, capcheck_wide length, uint32_t permissions);
+
 /* Object types, the field otype of capcheck_split: unsealed; those that are kept back, of which the greatest
  * is a sealed entry point (sentry); and the greatest that sealing gives. */
 #define CAPCHECK_OTYPE_UNSEALED         0x3ffffu
@@ -242,8 +249,8 @@ typedef struct capcheck_name {
     char text[24];
 } capcheck_name;
 
-/* The name of a refusal, as in a verdict: "BoundsEscape" for 11. "BadArgument" for 255, and "" for 0 and for
- * every number that isn't above. */
+/* The name of a refusal, as in a verdict: "BoundsEscape" for 11. Each that a verdict can show has one, 1 to 25.
+ * "BadArgument" for 255, and "" for 0 and for every other number. */
 capcheck_name capcheck_refusal_name(uint8_t refusal);
 
 /* What an operation gives: the capability and 0, or NULL without a tag and the first test that holds. */

@@ -103,6 +103,19 @@ static void bounds(void) {
     EXPECT(capcheck_sealed(word(SEALED, 0)) && !capcheck_sealed(word(ALL, 0)));
 }
 
+static void roots(void) {
+    static const capcheck_wide whole = {1, 0};
+    static const capcheck_wide small = {0, 0x1001};
+    capcheck_optional_word made = capcheck_root(0, whole, CAPCHECK_ALL_PERMISSIONS);
+    EXPECT(made.present == 1 && is_word(made.word, ALL, 0));
+    made = capcheck_root(0, whole, 0);
+    EXPECT(made.present == 1 && is_word(made.word, NOTHING, 0));
+    made = capcheck_root(0x1000, small, CAPCHECK_ALL_PERMISSIONS);
+    EXPECT(made.present == 1 && is_word(made.word, 0xffff1ffffc021000, 0x1000));
+    EXPECT(!capcheck_root(1, whole, CAPCHECK_ALL_PERMISSIONS).present);
+    EXPECT(!capcheck_root(0, whole, 0x1000).present);
+}
+
 static void operations(void) {
     capcheck_cap all = tagged(ALL, 0x1000);
     capcheck_cap authority = tagged(ALL, 0x3fffb);
@@ -130,6 +143,7 @@ static void operations(void) {
            CAPCHECK_STORE_LOCAL_PERMISSION);
     EXPECT(is_cap(capcheck_loaded(tagged(0xffef1ffffc018004, 0), all), 0, ALL, 0x1000));
     EXPECT(strcmp(capcheck_refusal_name(CAPCHECK_STORE_LOCAL_PERMISSION).text, "StoreLocalPermission") == 0);
+    EXPECT(strcmp(capcheck_refusal_name(25).text, "BadMode") == 0);
     EXPECT(strcmp(capcheck_refusal_name(0).text, "") == 0);
 }
 
@@ -172,6 +186,7 @@ static void lines(void) {
 int main(void) {
     words();
     bounds();
+    roots();
     operations();
     lines();
     return failures == 0 ? 0 : 1;

@@ -8,9 +8,9 @@ use Rattle.cap_log.specs.Front.{IsLine}
 use Rattle.cap_log.proofs.FrontLemmas.{IsLine-same, IsLine-not_too_long, IsLine-not_cut}
 use Rattle.cap_log.proofs.SpellingLemmas.{one_spelling}
 use Rattle.cap_ops.specs.Tests.{first_of}
-use Rattle.cap_machine.specs.declared.refusal.Refusal.{Refusal}
-use Rattle.cap_machine.specs.declared.refusal.Refusal.TheVariants.{BoundsEscape, Misplaced, PlaceTaken, UnsoundRoot}
-use Rattle.cap_machine.specs.declared.refusal.Refusal.TheVariants.{LimitPassed, WrongCount}
+use Rattle.cap_ops.specs.declared.refusal.Refusal.{Refusal}
+use Rattle.cap_ops.specs.declared.refusal.Refusal.TheVariants.{BoundsEscape, Misplaced, PlaceTaken, UnsoundRoot}
+use Rattle.cap_ops.specs.declared.refusal.Refusal.TheVariants.{LimitPassed, WrongCount}
 use Rattle.cap_machine.specs.declared.rules.Rules.{Rules}
 use Rattle.cap_machine.specs.States.{DeclaredRoot, start}
 use Rattle.cap_machine.specs.Accounts.{Account}

@@ -19,7 +19,7 @@ use Rattle.cap_judge.specs.Logs.{Beginning, Nothing, NoMode, Body, header_lines,
 use Rattle.cap_judge.specs.Headers.{ReadsHeader, rules_of}
 use Rattle.cap_judge.specs.declared.verdict.Verdict.{Verdict}
 use Rattle.cap_judge.specs.declared.verdict.Verdict.TheVariants.{No}
-use Rattle.cap_machine.specs.declared.refusal.Refusal.{Refusal}
+use Rattle.cap_ops.specs.declared.refusal.Refusal.{Refusal}
 use Rattle.cap_judge.specs.declared.verdict.JudgeFault.{JudgeFault}
 use Rattle.cap_judge.specs.Judgings.{IsAnswerOf, IsBehind, IsNoYes, Judged, JudgedBy, StopsBefore}
 use Rattle.cap_machine.specs.Accounts.{no_account}

@@ -11,8 +11,8 @@ use Rattle.cap_log.specs.Front.{IsLine, IsTooLong, IsCut}
 use Rattle.cap_log.proofs.FrontLemmas.{IsLine-same, IsLine-not_too_long, IsLine-not_cut, IsTooLong-not_cut}
 use Rattle.cap_log.proofs.SpellingLemmas.{one_spelling, IsLine-spelling}
 use Rattle.cap_ops.specs.Tests.{first_of}
-use Rattle.cap_machine.specs.declared.refusal.Refusal.{Refusal}
-use Rattle.cap_machine.specs.declared.refusal.Refusal.TheVariants.{LineTooLong, Misplaced, Truncated}
+use Rattle.cap_ops.specs.declared.refusal.Refusal.{Refusal}
+use Rattle.cap_ops.specs.declared.refusal.Refusal.TheVariants.{LineTooLong, Misplaced, Truncated}
 use Rattle.cap_machine.specs.declared.rules.Rules.TheVariants.{One, TwoStrict, TwoClear}
 use Rattle.cap_machine.specs.Accounts.{Account, no_account, with_root, with_step}
 use Rattle.cap_judge.specs.declared.verdict.Verdict.{Verdict}

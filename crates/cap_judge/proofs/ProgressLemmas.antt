@@ -16,9 +16,9 @@ use Rattle.cap_log.specs.Lines.{Spells, IsInRange, IsStepInRange, IsPlace}
 use Rattle.cap_ops.specs.Tests.{first_of}
 use Rattle.cap_ops.proofs.TestLemmas.{none_hold}
 use Rattle.cap_ops.specs.declared.faults.OpFault.{OpFault}
-use Rattle.cap_machine.specs.Refusals.{refusal_of}
-use Rattle.cap_machine.specs.declared.refusal.Refusal.{Refusal}
-use Rattle.cap_machine.specs.declared.refusal.Refusal.TheVariants.{BadLine, Misplaced, WrongResult, LimitPassed}
+use Rattle.cap_ops.specs.Refusals.{refusal_of}
+use Rattle.cap_ops.specs.declared.refusal.Refusal.{Refusal}
+use Rattle.cap_ops.specs.declared.refusal.Refusal.TheVariants.{BadLine, Misplaced, WrongResult, LimitPassed}
 use Rattle.cap_machine.specs.declared.ends.StepEnd.{StepEnd}
 use Rattle.cap_machine.specs.declared.ends.StepEnd.TheVariants.{Refused, NoMemory}
 use Rattle.cap_machine.specs.declared.rules.Rules.{Rules}

@@ -16,8 +16,8 @@ use Rattle.cap_log.specs.declared.taking.Lines.{Lines}
 use Rattle.cap_log.specs.declared.nexts.Next.{Next}
 use Rattle.cap_log.specs.declared.nexts.Next.TheVariants as nexts
 use Rattle.cap_log.specs.declared.sources.PullFault.{PullFault}
-use Rattle.cap_machine.specs.declared.refusal.Refusal.{Refusal}
-use Rattle.cap_machine.specs.declared.refusal.Refusal.TheVariants.{LineTooLong, Truncated, Misplaced}
+use Rattle.cap_ops.specs.declared.refusal.Refusal.{Refusal}
+use Rattle.cap_ops.specs.declared.refusal.Refusal.TheVariants.{LineTooLong, Truncated, Misplaced}
 use Rattle.cap_machine.specs.declared.ends.StepEnd.{StepEnd}
 use Rattle.cap_machine.specs.declared.ends.StepEnd.TheVariants.{Refused}
 use Rattle.cap_machine.specs.declared.ends.StepEnd.TheVariants as ends

@@ -5,8 +5,8 @@ use Rattle.std.proofs.Math.Nat.{mul-le-mul}
 use Rattle.cap_word.specs.Digits.{hex_digits}
 use Rattle.cap_log.specs.declared.lines.Step.{Step}
 use Rattle.cap_ops.specs.declared.faults.OpFault.{OpFault}
-use Rattle.cap_machine.specs.declared.refusal.Refusal.{Refusal}
-use Rattle.cap_machine.specs.declared.refusal.Refusal.TheVariants.{WrongResult}
+use Rattle.cap_ops.specs.declared.refusal.Refusal.{Refusal}
+use Rattle.cap_ops.specs.declared.refusal.Refusal.TheVariants.{WrongResult}
 use Rattle.cap_machine.specs.States.{State}
 use Rattle.cap_machine.specs.Steps.{Access, Read}
 use Rattle.cap_texts.specs.TextLines.{text_line}

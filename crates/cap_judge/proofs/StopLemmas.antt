@@ -6,8 +6,8 @@ use Rattle.cap_log.proofs.FrontLemmas.{IsLine-not_cut, IsTooLong-not_cut}
 use Rattle.cap_log.specs.declared.taking.Lines.{Lines}
 use Rattle.cap_log.specs.declared.nexts.Next.{Next}
 use Rattle.cap_log.specs.declared.sources.PullFault.{PullFault}
-use Rattle.cap_machine.specs.declared.refusal.Refusal.{Refusal}
-use Rattle.cap_machine.specs.declared.refusal.Refusal.TheVariants.{Truncated}
+use Rattle.cap_ops.specs.declared.refusal.Refusal.{Refusal}
+use Rattle.cap_ops.specs.declared.refusal.Refusal.TheVariants.{Truncated}
 use Rattle.cap_machine.specs.declared.ends.StepEnd.{StepEnd}
 use Rattle.cap_machine.specs.declared.ends.StepEnd.TheVariants.{Refused, NoMemory}
 use Rattle.cap_machine.specs.Helds.{Held, account_of}

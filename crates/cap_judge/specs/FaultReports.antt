@@ -6,9 +6,9 @@ use Rattle.cap_bounds.specs.Bounds.{length_of}
 use Rattle.cap_log.specs.declared.lines.Line.{Line}
 use Rattle.cap_log.specs.declared.lines.Line.TheVariants as lines
 use Rattle.cap_log.specs.declared.lines.Place.{Place}
-use Rattle.cap_machine.specs.declared.refusal.Refusal.{Refusal}
-use Rattle.cap_machine.specs.declared.refusal.Refusal.TheVariants.{BadHeader, LineTooLong, BadLine, Misplaced, Truncated, WrongCount}
-use Rattle.cap_machine.specs.declared.refusal.Refusal.TheVariants.{PlaceTaken, LimitPassed, BadMode}
+use Rattle.cap_ops.specs.declared.refusal.Refusal.{Refusal}
+use Rattle.cap_ops.specs.declared.refusal.Refusal.TheVariants.{BadHeader, LineTooLong, BadLine, Misplaced, Truncated, WrongCount}
+use Rattle.cap_ops.specs.declared.refusal.Refusal.TheVariants.{PlaceTaken, LimitPassed, BadMode}
 use Rattle.cap_machine.specs.Accounts.{Account}
 use Rattle.cap_machine.specs.States.{State, key_of, tagged}
 use Rattle.cap_judge.specs.Logs.{SpellsBy, IsFirstFault}

@@ -11,9 +11,9 @@ use Rattle.cap_log.specs.declared.lines.Step as steps_module
 use Rattle.cap_log.specs.Lines.{spelling, IsInRange, Spells}
 use Rattle.cap_log.specs.Front.{FrontIs}
 use Rattle.cap_ops.specs.Tests.{first_of}
-use Rattle.cap_machine.specs.declared.refusal.Refusal.{Refusal}
-use Rattle.cap_machine.specs.declared.refusal.Refusal.TheVariants.{BadHeader, LineTooLong, BadLine, Misplaced, Truncated}
-use Rattle.cap_machine.specs.declared.refusal.Refusal.TheVariants.{WrongCount, BadMode}
+use Rattle.cap_ops.specs.declared.refusal.Refusal.{Refusal}
+use Rattle.cap_ops.specs.declared.refusal.Refusal.TheVariants.{BadHeader, LineTooLong, BadLine, Misplaced, Truncated}
+use Rattle.cap_ops.specs.declared.refusal.Refusal.TheVariants.{WrongCount, BadMode}
 use Rattle.cap_machine.specs.declared.rules.Rules.{Rules}
 use Rattle.cap_machine.specs.declared.rules.Rules.TheVariants.{One, TwoStrict, TwoClear}
 use Rattle.cap_machine.specs.States.{State, DeclaredRoot, key_of, start}

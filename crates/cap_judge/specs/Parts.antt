@@ -5,8 +5,8 @@ use Rattle.cap_word.specs.Digits.{hex_digits}
 use Rattle.cap_word.specs.Fields.{address_of, perms_of, reserved_of, flag_of, otype_of, ie_of, e_of, b_of, t_of}
 use Rattle.cap_word.specs.declared.word.Cap.{Cap}
 use Rattle.cap_ops.specs.declared.faults.OpFault.{OpFault}
-use Rattle.cap_machine.specs.declared.refusal.Refusal.{Refusal}
-use Rattle.cap_machine.specs.Refusals.{refusal_number, name_of, refusal_of}
+use Rattle.cap_ops.specs.declared.refusal.Refusal.{Refusal}
+use Rattle.cap_ops.specs.Refusals.{refusal_number, name_of, refusal_of}
 use Rattle.cap_texts.specs.TextLines.{text_line}
 use Rattle.cap_texts.specs.CapLines.{cap_lines, bounds_line}
 use Rattle.cap_judge.specs.declared.parts.Part.{Part}

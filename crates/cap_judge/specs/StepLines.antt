@@ -14,8 +14,8 @@ use Rattle.cap_ops.specs.declared.faults.OpFault.{OpFault}
 use Rattle.cap_ops.specs.Tests.{first_of}
 use Rattle.cap_ops.specs.Permissions.{has_permission, global, permit_store, permit_store_capability, permit_store_local_capability}
 use Rattle.cap_ops.specs.Permissions.{permit_seal, permit_unseal}
-use Rattle.cap_machine.specs.declared.refusal.Refusal.{Refusal}
-use Rattle.cap_machine.specs.declared.refusal.Refusal.TheVariants.{WrongResult}
+use Rattle.cap_ops.specs.declared.refusal.Refusal.{Refusal}
+use Rattle.cap_ops.specs.declared.refusal.Refusal.TheVariants.{WrongResult}
 use Rattle.cap_machine.specs.States.{State, key_of}
 use Rattle.cap_machine.specs.Steps.{Row, Recorded, Nothing, Written, Read, Access, row_of, clear_row}
 use Rattle.cap_machine.specs.Escapes.{asked_by}

@@ -2,7 +2,7 @@
 use Rattle.std.specs.Prelude.{ℕ, List, ◌++◌, codes, decimal}
 use Rattle.cap_judge.specs.declared.verdict.Verdict.{Verdict}
 use Rattle.cap_judge.specs.declared.verdict.Verdict.TheVariants.{Yes, No}
-use Rattle.cap_machine.specs.Refusals.{refusal_number, name_of}
+use Rattle.cap_ops.specs.Refusals.{refusal_number, name_of}
 
 -- the verdict in words and decimal numbers, with its line feed (this profile's own)
 abbrev pub verdict_line : Verdict → List ℕ

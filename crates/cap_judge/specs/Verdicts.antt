@@ -6,7 +6,7 @@ use Rattle.cap_machine.specs.declared.ends.StepEnd.TheVariants as ends
 use Rattle.cap_log.specs.declared.lines.Line.TheVariants.{Step as Stepping}
 use Rattle.cap_log.specs.declared.lines.Step.{Step}
 use Rattle.cap_log.specs.Front.{IsLine}
-use Rattle.cap_machine.specs.declared.refusal.Refusal.TheVariants.{BoundsEscape}
+use Rattle.cap_ops.specs.declared.refusal.Refusal.TheVariants.{BoundsEscape}
 use Rattle.cap_machine.specs.Escapes.{Escapes}
 use Rattle.cap_machine.specs.declared.rules.Rules.{Rules}
 use Rattle.cap_machine.specs.declared.rules.Rules.TheVariants.{One}

@@ -1,7 +1,7 @@
 //! The parts of the report on a step: each is a few lines that name a value.
 
 ghost use Rattle.std.specs.Prelude.{◌≡◌, ℕ, ◌+◌, ◌*◌, ◌≤◌, ◌++◌, length, take, drop};
-ghost use Rattle.cap_machine.specs.Refusals.{refusal_of};
+ghost use Rattle.cap_ops.specs.Refusals.{refusal_of};
 ghost use Rattle.cap_judge.specs.Parts.{
   IsWritten,
   cleared_line,

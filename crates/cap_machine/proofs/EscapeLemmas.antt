@@ -22,10 +22,10 @@ use Rattle.cap_ops.proofs.ClearLemmas.{untagged_where_beyond}
 use Rattle.cap_ops.specs.Permissions.{is_sealed}
 use Rattle.cap_ops.proofs.TestLemmas.{EndsWith}
 use Rattle.cap_ops.proofs.NarrowingLemmas.{BoundsEscape-exact, BoundsEscape-source}
-use Rattle.cap_machine.specs.declared.refusal.Refusal.TheVariants.{BoundsEscape}
+use Rattle.cap_ops.specs.declared.refusal.Refusal.TheVariants.{BoundsEscape}
 use Rattle.cap_machine.specs.declared.ends.StepEnd.{StepEnd}
 use Rattle.cap_machine.specs.declared.ends.StepEnd.TheVariants.{Refused, NoMemory}
-use Rattle.cap_machine.specs.Refusals.{refusal_of}
+use Rattle.cap_ops.specs.Refusals.{refusal_of}
 use Rattle.cap_machine.specs.declared.rules.Rules.{Rules}
 use Rattle.cap_machine.specs.declared.rules.Rules.TheVariants.{One, TwoStrict, TwoClear}
 use Rattle.cap_machine.specs.States.{State, put}

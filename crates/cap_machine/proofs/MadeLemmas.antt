@@ -27,11 +27,11 @@ use Rattle.cap_ops.specs.Authority.{StaysWithin}
 use Rattle.cap_ops.specs.Tests.{first_of}
 use Rattle.tagmem.specs.Granules.{Entry, AreStored, bytes_at, overwritten}
 use Rattle.tagmem.proofs.Granules.{len-put, length-bytes_at, bytes_at_fit}
-use Rattle.cap_machine.specs.declared.refusal.Refusal.{Refusal}
-use Rattle.cap_machine.specs.declared.refusal.Refusal.TheVariants.{WrongResult, LimitPassed}
+use Rattle.cap_ops.specs.declared.refusal.Refusal.{Refusal}
+use Rattle.cap_ops.specs.declared.refusal.Refusal.TheVariants.{WrongResult, LimitPassed}
 use Rattle.cap_machine.specs.declared.ends.StepEnd.{StepEnd}
 use Rattle.cap_machine.specs.declared.ends.StepEnd.TheVariants.{Refused, NoMemory}
-use Rattle.cap_machine.specs.Refusals.{refusal_of}
+use Rattle.cap_ops.specs.Refusals.{refusal_of}
 use Rattle.cap_machine.specs.States.{State, untagged_null, granule_key, key_of, put, value_at}
 use Rattle.cap_machine.specs.Steps.{Access, Row, row_of, row_by, operation, is_recorded, is_same_cap, state_with}
 use Rattle.cap_machine.specs.Steps.{address_through, granule_through, with_value}

@@ -7,11 +7,11 @@ use Rattle.cap_word.specs.declared.word.Word.{Word}
 use Rattle.cap_log.specs.declared.lines.Place.{Place}
 use Rattle.cap_log.specs.declared.lines.Step.{Step}
 use Rattle.cap_bounds.specs.Bounds.{is_sound}
-use Rattle.cap_machine.specs.declared.refusal.Refusal.{Refusal}
-use Rattle.cap_machine.specs.declared.refusal.Refusal.TheVariants.{PlaceTaken, UnsoundRoot, WrongResult, LimitPassed}
+use Rattle.cap_ops.specs.declared.refusal.Refusal.{Refusal}
+use Rattle.cap_ops.specs.declared.refusal.Refusal.TheVariants.{PlaceTaken, UnsoundRoot, WrongResult, LimitPassed}
 use Rattle.cap_machine.specs.declared.rules.Rules.{Rules}
 use Rattle.cap_machine.specs.declared.rules.Rules.TheVariants.{One}
-use Rattle.cap_machine.specs.Refusals.{refusal_of}
+use Rattle.cap_ops.specs.Refusals.{refusal_of}
 use Rattle.cap_machine.specs.States.{State, key_of, null_state, put, tagged}
 pub use Rattle.cap_machine.specs.Steps.{granule_of, named_by}
 use Rattle.cap_machine.specs.Steps.{Row, row_of, row_by, is_recorded, state_with}

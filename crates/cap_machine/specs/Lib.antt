@@ -3,7 +3,6 @@ pub mod Places
 pub mod Steps
 pub mod Runs
 pub mod Parents
-pub mod Refusals
 pub mod Accounts
 pub mod Values
 pub mod Helds

@@ -1,6 +1,6 @@
 //! Why a root or a step was not made.
 
-use crate::refusal::Refusal;
+use cap_ops::Refusal;
 
 /// Why a machine did not take a root or make a step. It is then as it was before.
 #[derive(Debug, Clone, Copy, PartialEq, Eq)]

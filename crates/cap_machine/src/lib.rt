@@ -17,7 +17,6 @@ mod laws;
 mod machine;
 mod operating;
 mod places;
-mod refusal;
 mod rules;
 mod stepping;
 
@@ -27,5 +26,5 @@ pub use crate::laws::{
     runs_end_in_accounts, steps_stay_within,
 };
 pub use crate::machine::{MOST_ROOTS, MOST_STEPS, Machine};
-pub use crate::refusal::Refusal;
+pub use cap_ops::Refusal;
 pub use crate::rules::Rules;

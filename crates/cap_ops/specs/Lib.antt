@@ -3,6 +3,7 @@ pub mod Authority
 pub mod Faults
 pub mod Operations
 pub mod Permissions
+pub mod Refusals
 pub mod Roots
 pub mod Sizes
 pub mod Tests

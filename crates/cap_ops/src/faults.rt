@@ -1,5 +1,7 @@
 //! Why an operation or an access is refused.
 
+use crate::refusal::Refusal;
+
 /// The test that refuses an operation or an access.
 #[derive(Debug, Clone, Copy, PartialEq, Eq)]
 pub enum OpFault {
@@ -42,21 +44,6 @@ impl OpFault {
     pub fn number(&self) -> u8
         ensures { result ≡ fault_number self.now }
     {
-        match self {
-            OpFault::SourceUntagged => 9,
-            OpFault::SourceSealed => 10,
-            OpFault::BoundsEscape => 11,
-            OpFault::NotExact => 12,
-            OpFault::NotRepresentable => 13,
-            OpFault::AuthorityUntagged => 14,
-            OpFault::AuthoritySealed => 15,
-            OpFault::AuthorityPermission => 16,
-            OpFault::AuthorityBounds => 17,
-            OpFault::TypeOutOfRange => 18,
-            OpFault::TypeMismatch => 19,
-            OpFault::Misaligned => 20,
-            OpFault::StoreCapPermission => 21,
-            OpFault::StoreLocalPermission => 22,
-        }
+        Refusal::from(*self).number()
     }
 }

@@ -12,6 +12,7 @@ mod faults;
 mod kinds;
 mod narrowing;
 mod permissions;
+mod refusal;
 mod roots;
 mod sealing;
 
@@ -25,5 +26,6 @@ pub use crate::faults::OpFault;
 pub use crate::kinds::Kind;
 pub use crate::narrowing::set_bounds;
 pub use crate::permissions::{and_perm, clear_tag, perm_view};
+pub use crate::refusal::Refusal;
 pub use crate::roots::root_word;
 pub use crate::sealing::{seal, sealed, unseal};

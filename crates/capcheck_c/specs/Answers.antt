@@ -3,10 +3,6 @@ use Rattle.std.specs.Prelude.{◌≡◌, ◌↔◌, ℕ, ◌+◌, ◌-◌, ◌%�
 use Rattle.std.specs.Prelude.{MatchOption, IsTrue}
 use Rattle.cap_word.specs.declared.word.Cap.{Cap}
 use Rattle.cap_ops.specs.declared.faults.OpFault.{OpFault}
-use Rattle.cap_ops.specs.declared.faults.OpFault.TheVariants.{SourceUntagged, SourceSealed, BoundsEscape, NotExact, NotRepresentable}
-use Rattle.cap_ops.specs.declared.faults.OpFault.TheVariants.{AuthorityUntagged, AuthoritySealed, AuthorityPermission, AuthorityBounds}
-use Rattle.cap_ops.specs.declared.faults.OpFault.TheVariants.{TypeOutOfRange, TypeMismatch, Misaligned}
-use Rattle.cap_ops.specs.declared.faults.OpFault.TheVariants.{StoreCapPermission, StoreLocalPermission}
 use Rattle.cap_ops.specs.declared.kinds.Kind.{Kind}
 use Rattle.cap_ops.specs.Accesses.{IsAllowed, access_address, access_tests, permission_for}
 use Rattle.cap_ops.specs.Faults.{fault_number}
@@ -43,23 +39,6 @@ pub record AnswersAccess (authority : Cap) (kind : Kind) (offset : ℤ) (size : 
   pub in_one_granule : answer.refusal ≡ 0 → answer.address % 16 + size ≤ 16
   pub bad : (answer.refusal ≡ bad_argument) ↔ (¬ IsAccess kind offset size)
   pub zero : ¬ IsAccess kind offset size → answer.address ≡ 0
-
--- the name of a refusal, as the variant is spelled
-abbrev pub fault_name : OpFault → List ℕ
-fault_name SourceUntagged = codes "SourceUntagged"
-fault_name SourceSealed = codes "SourceSealed"
-fault_name BoundsEscape = codes "BoundsEscape"
-fault_name NotExact = codes "NotExact"
-fault_name NotRepresentable = codes "NotRepresentable"
-fault_name AuthorityUntagged = codes "AuthorityUntagged"
-fault_name AuthoritySealed = codes "AuthoritySealed"
-fault_name AuthorityPermission = codes "AuthorityPermission"
-fault_name AuthorityBounds = codes "AuthorityBounds"
-fault_name TypeOutOfRange = codes "TypeOutOfRange"
-fault_name TypeMismatch = codes "TypeMismatch"
-fault_name Misaligned = codes "Misaligned"
-fault_name StoreCapPermission = codes "StoreCapPermission"
-fault_name StoreLocalPermission = codes "StoreLocalPermission"
 
 -- 24 bytes that hold a text as a C string: the text, and bytes 0 behind it
 abbrev pub c_string : List ℕ → List ℕ

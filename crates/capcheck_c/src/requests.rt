@@ -27,13 +27,17 @@ ghost use Rattle.cap_bounds.specs.Rounding.{
   rounded_word,
 };
 ghost use Rattle.cap_bounds.specs.SailRounding.{sail_b, sail_exact, sail_exponent, sail_ie, sail_t};
+ghost use Rattle.cap_ops.specs.Roots.{IsRoot, IsRootRequest};
 ghost use Rattle.capcheck_c.specs.Passed.{is_set, whole_of};
+ghost use Rattle.capcheck_c.specs.WordFields.{IsNoWord};
 
-use crate::halves::{halves_of, word_of};
-use crate::values::{AddressRange, Halves, RoundedRequest};
+use crate::halves::{halves_of, whole, word_of};
+use crate::values::{AddressRange, Halves, OptionalWord, RoundedRequest};
+use crate::words::{no_word, some_word};
 use cap_bounds::{
     align_mask, keeps_bounds, least_law, reach, round, round_length, sound, with_bounds,
 };
+use cap_ops::root_word;
 
 /// Rounds a request for `length` addresses from `base` on, for every base and length.
 #[unsafe(no_mangle)]
@@ -181,4 +185,19 @@ pub extern "C" fn capcheck_with_bounds(word: Halves, base: u64, length: u64) -> 
         × (top_of (whole_of result) ≡ rounded_top base length) × IsSound (whole_of result) }
 {
     halves_of(with_bounds(word_of(word), &round(base, length), base).0)
+}
+
+/// The word of a root: unsealed, with the flag and the reserved bits 0, these permissions in the
+/// architectural view, and the rounded bounds of `length` bytes from `base` on, which is its address. There
+/// is none where the request ends past 2^64, or where a bit of the view stands for no permission.
+#[unsafe(no_mangle)]
+pub extern "C" fn capcheck_root(base: u64, length: Halves, permissions: u32) -> OptionalWord
+    ensures root { IsRootRequest base (whole_of length) permissions
+        → (result.present ≡ 1) × IsRoot (whole_of result.word) base (whole_of length) permissions }
+    ensures none { ¬ IsRootRequest base (whole_of length) permissions → IsNoWord result }
+{
+    match root_word(base, whole(length), permissions) {
+        Some(word) => some_word(word),
+        None => no_word(),
+    }
 }

@@ -41,7 +41,7 @@ pub extern "C" fn capcheck_split(word: Halves) -> WordFields
 }
 
 /// An answer with a word.
-fn some_word(word: Word) -> OptionalWord
+pub(crate) fn some_word(word: Word) -> OptionalWord
     ensures present { result.present ≡ 1 }
     ensures word { whole_of result.word ≡ word.0 }
 {
@@ -52,7 +52,7 @@ fn some_word(word: Word) -> OptionalWord
 }
 
 /// An answer without one.
-fn no_word() -> OptionalWord
+pub(crate) fn no_word() -> OptionalWord
     ensures { IsNoWord result }
 {
     OptionalWord {

@@ -130,23 +130,13 @@ fn is_named(rt: &impl Abort, refusal: u8, name: &[u8]) {
 
 #[test]
 fn refusals_are_named(rt: HostRuntime) {
+    is_named(&rt, 1, b"BadHeader");
     is_named(&rt, 9, b"SourceUntagged");
-    is_named(&rt, 10, b"SourceSealed");
-    is_named(&rt, 11, b"BoundsEscape");
-    is_named(&rt, 12, b"NotExact");
     is_named(&rt, 13, b"NotRepresentable");
-    is_named(&rt, 14, b"AuthorityUntagged");
-    is_named(&rt, 15, b"AuthoritySealed");
-    is_named(&rt, 16, b"AuthorityPermission");
-    is_named(&rt, 17, b"AuthorityBounds");
-    is_named(&rt, 18, b"TypeOutOfRange");
-    is_named(&rt, 19, b"TypeMismatch");
-    is_named(&rt, 20, b"Misaligned");
-    is_named(&rt, 21, b"StoreCapPermission");
     is_named(&rt, 22, b"StoreLocalPermission");
+    is_named(&rt, 25, b"BadMode");
     is_named(&rt, 255, b"BadArgument");
     is_named(&rt, 0, b"");
-    is_named(&rt, 8, b"");
-    is_named(&rt, 23, b"");
+    is_named(&rt, 26, b"");
     is_named(&rt, 254, b"");
 }

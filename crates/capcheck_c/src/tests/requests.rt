@@ -1,9 +1,9 @@
 use crate::requests::{
     capcheck_align_mask, capcheck_keeps_bounds, capcheck_least_law, capcheck_reach, capcheck_round,
-    capcheck_round_length, capcheck_with_bounds,
+    capcheck_root, capcheck_round_length, capcheck_with_bounds,
 };
-use crate::tests::{ALL_HIGH, SMALL_HIGH, word};
-use crate::values::{AddressRange, RoundedRequest};
+use crate::tests::{ALL_HIGH, NULL_HIGH, SMALL_HIGH, word};
+use crate::values::{AddressRange, Halves, OptionalWord, RoundedRequest};
 
 #[test]
 fn requests_are_rounded(rt: HostRuntime) {
@@ -96,4 +96,32 @@ fn bounds_replaced(rt: HostRuntime) {
         capcheck_with_bounds(word(ALL_HIGH, 0), 0x1000, u64::MAX),
         word(0xffff_1fff_fc03_8004, 0x1000)
     );
+}
+
+fn some(high: u64, low: u64) -> OptionalWord {
+    OptionalWord {
+        word: word(high, low),
+        present: 1,
+    }
+}
+
+const NONE: OptionalWord = OptionalWord {
+    word: Halves { high: 0, low: 0 },
+    present: 0,
+};
+
+#[test]
+fn roots_are_made(rt: HostRuntime) {
+    assert_eq!(rt; capcheck_root(0, word(1, 0), 0x78fff), some(ALL_HIGH, 0));
+    assert_eq!(rt; capcheck_root(0, word(1, 0), 0), some(NULL_HIGH, 0));
+    assert_eq!(rt; capcheck_root(0x1000, word(0, 0x1001), 0x78fff), some(0xffff_1fff_fc02_1000, 0x1000));
+    assert_eq!(rt; capcheck_root(u64::MAX, word(0, 1), 0x4), some(0x0004_1fff_f801_ffff, u64::MAX));
+}
+
+#[test]
+fn roots_past_the_end_or_with_other_bits_are_none(rt: HostRuntime) {
+    assert_eq!(rt; capcheck_root(1, word(1, 0), 0x78fff), NONE);
+    assert_eq!(rt; capcheck_root(0, word(1, 1), 0x78fff), NONE);
+    assert_eq!(rt; capcheck_root(0, word(u64::MAX, u64::MAX), 0x78fff), NONE);
+    assert_eq!(rt; capcheck_root(0, word(1, 0), 0x1000), NONE);
 }

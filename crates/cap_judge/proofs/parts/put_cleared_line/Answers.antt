@@ -1,5 +1,5 @@
 use Rattle.std.proofs.Common.{take, codes, decimal}
-use Rattle.cap_machine.specs.Refusals.{refusal_number, name_of}
+use Rattle.cap_ops.specs.Refusals.{refusal_number, name_of}
 use Rattle.cap_texts.proofs.LineLemmas.{five_after}
 use Rattle.cap_judge.specs.Parts.{cleared_line}
 use Rattle.cap_judge.proofs.parts.put_cleared_line.Goals as goal

@@ -1,7 +1,7 @@
 use Rattle.std.proofs.Common.{List, ℕ, ◌+◌, Ok, refl, ap, sym, subst, ◌∙◌, rules, arith}
 use Rattle.cap_machine.specs.Helds.{held_of}
 use Rattle.cap_log.specs.Takings.{kept}
-use Rattle.cap_machine.specs.declared.refusal.Refusal.TheVariants.{Truncated, LineTooLong}
+use Rattle.cap_ops.specs.declared.refusal.Refusal.TheVariants.{Truncated, LineTooLong}
 use Rattle.cap_judge.specs.FaultLines.{IsFrontText, bytes_of}
 use Rattle.cap_judge.specs.Progresses.{HasRead, Reading, reading_of}
 use Rattle.cap_judge.proofs.JudgeLemmas.{goes_on}

@@ -1,8 +1,8 @@
-//! The 25 reasons for which a line is refused.
+//! The 25 reasons for which a line of a log is refused: the one table of their numbers and names.
 
 ghost use Rattle.std.specs.Prelude.{◌≡◌, ◌≤◌, length};
 
-use cap_ops::OpFault;
+use crate::faults::OpFault;
 
 /// Why a log is refused: the first test that a line fails. The numbers and names are this profile's own.
 #[derive(Debug, Clone, Copy, PartialEq, Eq)]
@@ -61,7 +61,7 @@ pub enum Refusal {
 }
 
 impl Refusal {
-    ghost use Rattle.cap_machine.specs.Refusals.{name_of, refusal_number};
+    ghost use Rattle.cap_ops.specs.Refusals.{name_of, refusal_number};
 
     /// The number that a verdict line shows, 1 to 25.
     pub fn number(&self) -> u8
@@ -107,7 +107,7 @@ impl Refusal {
 }
 
 impl From<OpFault> for Refusal {
-    ghost use Rattle.cap_machine.specs.Refusals.{refusal_of};
+    ghost use Rattle.cap_ops.specs.Refusals.{refusal_of};
 
     ghost from_gives = { λ fault refusal. refusal ≡ refusal_of fault };
 
