@@ -75,12 +75,19 @@ access_parts state step (Some access) =
     ∷ parts.Access access.address (access.address + access.size)
     ∷ parts.Needs (needed_by state step access) ∷ []
 
+-- what a result comes from or what is stored, and what an operation on registers asks for
+abbrev pub operand_parts : State → Step → List Part
+operand_parts state step =
+    let row = row_of state step in
+    source_parts state row.parent ++ request_parts state (asked_by step) ++ moved_parts state step ++ type_parts state (type_authority_of step)
+
+-- a step's access to memory
+abbrev pub reached_parts : State → Step → List Part
+reached_parts state step = let row = row_of state step in access_parts state step row.access
+
 -- what a step read and asked for
 abbrev pub asked_parts : State → Step → List Part
-asked_parts state step =
-    let row = row_of state step in
-    source_parts state row.parent ++ request_parts state (asked_by step) ++ moved_parts state step
-    ++ type_parts state (type_authority_of step) ++ access_parts state step row.access
+asked_parts state step = operand_parts state step ++ reached_parts state step
 
 -- the test for which the result of an operation on registers loses its tag in clear mode: an access has no such test
 abbrev pub lost_for : Option Access → Row → Option OpFault
@@ -97,6 +104,11 @@ abbrev pub compared_parts : Option OpFault → Option (Place × Cap) → Recorde
 compared_parts fault (Some write) (Written recorded) =
     (parts.Gives write.0 write.1 ∷ cleared_parts fault) ++ parts.Recorded write.0 recorded ∷ parts.Differs write.1 recorded ∷ []
 compared_parts fault given records = []
+
+-- a fact where a line records what its step writes
+abbrev pub IfWritten : Recorded → Type 0 → Type 0
+IfWritten (Written cap) fact = fact
+IfWritten records fact = Unit {0}
 
 -- the value in memory, and the one that the line records, where no test refuses the access
 abbrev pub value_lines : Recorded → Option Access → Option OpFault → List ℕ

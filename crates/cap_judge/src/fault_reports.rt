@@ -32,7 +32,7 @@ pub fn put_report<M: TaggedStore>(
     buffer: &mut [u8],
     at: usize,
 ) -> usize
-    requires { at + 2112 ≤ length buffer.old }
+    requires { at + 2496 ≤ length buffer.old }
     ensures fits { result ≤ length buffer.old }
     ensures report { (report : List ℕ)
         × IsLineReport (account_of (held_of M.contents machine.now)) (bytes_of line.now) refusal report
@@ -51,8 +51,8 @@ fn put_details<M: TaggedStore>(
     buffer: &mut [u8],
     at: usize,
 ) -> usize
-    requires room { at + 1600 ≤ length buffer.old }
-    ensures fits { result ≤ at + 1600 }
+    requires room { at + 1984 ≤ length buffer.old }
+    ensures fits { result ≤ at + 1984 }
     ensures written { (details : List ℕ)
         × AreDetails (account_of (held_of M.contents machine.now)) text.now refusal details
         × (take result buffer.new ≡ take at buffer.old ++ details) }

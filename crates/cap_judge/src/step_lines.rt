@@ -1,7 +1,7 @@
 //! The report on a step: what it read and asked for, and where its line records another result, what the
 //! rules give.
 
-ghost use Rattle.std.specs.Prelude.{◌≡◌, ℕ, take, drop, ◌+◌, ◌*◌, ◌<◌, ◌≤◌, ◌%◌, ◌^◌, ◌++◌, ◌∷◌, [], Some, None, MatchResult, length};
+ghost use Rattle.std.specs.Prelude.{◌≡◌, ℕ, take, drop, ◌+◌, ◌*◌, ◌<◌, ◌≤◌, ◌%◌, ◌^◌, ◌++◌, ◌∷◌, [], Some, None, MatchResult, length, option_map};
 ghost use Rattle.cap_word.specs.Fields.{address_of};
 ghost use Rattle.cap_bounds.specs.Bounds.{base_of, top_of};
 ghost use Rattle.cap_bounds.specs.Range.{with_address};
@@ -24,9 +24,10 @@ ghost use Rattle.cap_ops.specs.Operations.{
 };
 ghost use Rattle.cap_ops.specs.Tests.{first_of};
 ghost use Rattle.cap_machine.specs.Helds.{held_of, state_of};
-ghost use Rattle.cap_machine.specs.Steps.{Nothing, Read, Written, address_through};
+ghost use Rattle.cap_machine.specs.States.{granule_key};
+ghost use Rattle.cap_machine.specs.Steps.{Read, Written, address_through, clear_row, granule_through, row_of};
 ghost use Rattle.cap_judge.specs.Parts.{IsWritten, lines_of_parts};
-ghost use Rattle.cap_judge.specs.StepLines.{asked_parts, compared_parts, needs_to_store, request_parts, result_lines, step_lines};
+ghost use Rattle.cap_judge.specs.StepLines.{IfWritten, asked_parts, compared_parts, lost_for, needs_to_store, operand_parts, reached_parts, request_parts, result_lines, step_lines};
 ghost use Rattle.cap_judge.specs.declared.parts.Part.TheVariants as parts;
 
 use crate::parts::{Part, put_parts};
@@ -66,8 +67,8 @@ pub fn put_step_lines<M: TaggedStore>(
     at: usize,
 ) -> usize
     requires step { IsStepInRange step.now }
-    requires room { at + 1536 ≤ length buffer.old }
-    ensures { IsWritten 1536 at (step_lines (state_of (held_of M.contents machine.now)) step.now refusal) buffer.old buffer.new result }
+    requires room { at + 1920 ≤ length buffer.old }
+    ensures { IsWritten 1920 at (step_lines (state_of (held_of M.contents machine.now)) step.now refusal) buffer.old buffer.new result }
 {
     let at = put_asked(machine, step, buffer, at);
     match refusal {
@@ -84,25 +85,43 @@ fn put_asked<M: TaggedStore>(
     at: usize,
 ) -> usize
     requires step { IsStepInRange step.now }
-    requires room { at + 768 ≤ length buffer.old }
-    ensures { IsWritten 768 at (lines_of_parts (asked_parts (state_of (held_of M.contents machine.now)) step.now)) buffer.old buffer.new result }
+    requires room { at + 1152 ≤ length buffer.old }
+    ensures { IsWritten 1152 at (lines_of_parts (asked_parts (state_of (held_of M.contents machine.now)) step.now)) buffer.old buffer.new result }
+{
+    let at = put_operands(machine, step, buffer, at);
+    put_access(machine, step, buffer, at)
+}
+
+// Writes what a step's result comes from or what is stored, and what an operation on registers asks for.
+fn put_operands<M: TaggedStore>(
+    machine: &Machine<M>,
+    step: &Step,
+    buffer: &mut [u8],
+    at: usize,
+) -> usize
+    requires step { IsStepInRange step.now }
+    requires room { at + 576 ≤ length buffer.old }
+    ensures { IsWritten 576 at (lines_of_parts (operand_parts (state_of (held_of M.contents machine.now)) step.now)) buffer.old buffer.new result }
 {
     match *step {
-        Step::Move { source, .. } => { put_parts(buffer, at, &[source_in(machine, source)]) }
-        Step::ClearTag { source, .. } => { put_parts(buffer, at, &[source_in(machine, source)]) }
-        Step::AndPerm { source, .. } => { put_parts(buffer, at, &[source_in(machine, source)]) }
+        Step::Move { source, .. } => put_parts(buffer, at, &[source_in(machine, source)]),
+        Step::ClearTag { source, .. } => put_parts(buffer, at, &[source_in(machine, source)]),
+        Step::AndPerm { source, .. } => put_parts(buffer, at, &[source_in(machine, source)]),
+        Step::StoreCap { source, .. } => put_parts(buffer, at, &[source_in(machine, source)]),
+        Step::LoadCap {
+            authority,
+            offset,
+            ..
+        } => put_parts(buffer, at, &[granule_in(machine, authority, offset)]),
         Step::SetBounds { source, length, .. } => put_request(machine, source, length, buffer, at),
-        Step::SetBoundsExact { source, length, .. } => {
-            put_request(machine, source, length, buffer, at)
-        }
+        Step::SetBoundsExact { source, length, .. } => put_request(
+            machine, source, length, buffer, at,
+        ),
         Step::SetAddr {
             source,
             address,
             ..
-        } => {
-            let moved = moved_to(machine.register(source).word, address);
-            put_parts(buffer, at, &[source_in(machine, source), moved])
-        }
+        } => put_moved(machine, source, address, buffer, at),
         Step::Seal {
             source,
             authority,
@@ -113,76 +132,48 @@ fn put_asked<M: TaggedStore>(
             authority,
             ..
         } => put_typing(machine, source, authority, UNSEAL, buffer, at),
+        _ => at,
+    }
+}
+
+// Writes a step's access to memory, its authority, and the permissions that it needs.
+fn put_access<M: TaggedStore>(
+    machine: &Machine<M>,
+    step: &Step,
+    buffer: &mut [u8],
+    at: usize,
+) -> usize
+    requires step { IsStepInRange step.now }
+    requires room { at + 576 ≤ length buffer.old }
+    ensures { IsWritten 576 at (lines_of_parts (reached_parts (state_of (held_of M.contents machine.now)) step.now)) buffer.old buffer.new result }
+{
+    match *step {
         Step::LoadCap {
             authority,
             offset,
             ..
-        } => {
-            let address = reached(machine, authority, offset);
-            let granule = address / 16;
-            let source = Part::Source(Place::Granule(granule), machine.granule(granule));
-            put_parts(
-                buffer,
-                at,
-                &[
-                    source,
-                    authority_in(machine, authority),
-                    access_to(address, 16),
-                    Part::Needs(LOAD),
-                ],
-            )
-        }
+        } => put_reached(machine, authority, offset, 16, LOAD, buffer, at),
         Step::StoreCap {
             source,
             authority,
             offset,
         } => {
             let needs = needs_to_store(machine.register(source));
-            put_parts(
-                buffer,
-                at,
-                &[
-                    source_in(machine, source),
-                    authority_in(machine, authority),
-                    access_to(reached(machine, authority, offset), 16),
-                    Part::Needs(needs),
-                ],
-            )
+            put_reached(machine, authority, offset, 16, needs, buffer, at)
         }
         Step::Load {
             authority,
             offset,
             size,
             ..
-        } => {
-            let address = reached(machine, authority, offset);
-            put_parts(
-                buffer,
-                at,
-                &[
-                    authority_in(machine, authority),
-                    access_to(address, size),
-                    Part::Needs(LOAD),
-                ],
-            )
-        }
+        } => put_reached(machine, authority, offset, size, LOAD, buffer, at),
         Step::Store {
             authority,
             offset,
             size,
             ..
-        } => {
-            let address = reached(machine, authority, offset);
-            put_parts(
-                buffer,
-                at,
-                &[
-                    authority_in(machine, authority),
-                    access_to(address, size),
-                    Part::Needs(STORE),
-                ],
-            )
-        }
+        } => put_reached(machine, authority, offset, size, STORE, buffer, at),
+        _ => at,
     }
 }
 
@@ -192,6 +183,18 @@ fn source_in<M: TaggedStore>(machine: &Machine<M>, register: u8) -> Part
     ensures { result ≡ parts.Source (places.Register register) (state_of (held_of M.contents machine.now) register) }
 {
     Part::Source(Place::Register(register), machine.register(register))
+}
+
+// What the granule holds that an access reaches.
+fn granule_in<M: TaggedStore>(machine: &Machine<M>, authority: u8, offset: i16) -> Part
+    requires authority { authority ≤ 31 }
+    requires offset { IsOffset offset }
+    ensures { let state = state_of (held_of M.contents machine.now) in
+        let granule = granule_through state authority offset in
+        result ≡ parts.Source (places.Granule granule) (state (granule_key granule)) }
+{
+    let granule = reached(machine, authority, offset) / 16;
+    Part::Source(Place::Granule(granule), machine.granule(granule))
 }
 
 // What a register holds that is the authority.
@@ -211,8 +214,8 @@ fn put_request<M: TaggedStore>(
     at: usize,
 ) -> usize
     requires source { source ≤ 31 }
-    requires room { at + 768 ≤ length buffer.old }
-    ensures { IsWritten 768 at (lines_of_parts (
+    requires room { at + 576 ≤ length buffer.old }
+    ensures { IsWritten 576 at (lines_of_parts (
         parts.Source (places.Register source) (state_of (held_of M.contents machine.now) source)
         ∷ request_parts (state_of (held_of M.contents machine.now)) (Some (source, asked)))) buffer.old buffer.new result }
 {
@@ -228,6 +231,25 @@ fn put_request<M: TaggedStore>(
             Part::Rounded(rounded.base, rounded.top),
         ],
     )
+}
+
+// Writes a source, and the bounds at the address that is asked for.
+fn put_moved<M: TaggedStore>(
+    machine: &Machine<M>,
+    source: u8,
+    address: u64,
+    buffer: &mut [u8],
+    at: usize,
+) -> usize
+    requires source { source ≤ 31 }
+    requires room { at + 576 ≤ length buffer.old }
+    ensures { let state = state_of (held_of M.contents machine.now) in
+        let moved = with_address (state source).word.0 address in
+        IsWritten 576 at (lines_of_parts (parts.Source (places.Register source) (state source)
+        ∷ parts.Moved (base_of moved) (top_of moved) ∷ [])) buffer.old buffer.new result }
+{
+    let moved = moved_to(machine.register(source).word, address);
+    put_parts(buffer, at, &[source_in(machine, source), moved])
 }
 
 // The bounds that a word has at another address.
@@ -249,8 +271,8 @@ fn put_typing<M: TaggedStore>(
 ) -> usize
     requires source { source ≤ 31 }
     requires authority { authority ≤ 31 }
-    requires room { at + 768 ≤ length buffer.old }
-    ensures { IsWritten 768 at (lines_of_parts (
+    requires room { at + 576 ≤ length buffer.old }
+    ensures { IsWritten 576 at (lines_of_parts (
         parts.Source (places.Register source) (state_of (held_of M.contents machine.now) source)
         ∷ parts.Authority (places.Register authority) (state_of (held_of M.contents machine.now) authority)
         ∷ parts.Needs needs ∷ [])) buffer.old buffer.new result }
@@ -275,6 +297,36 @@ fn reached<M: TaggedStore>(machine: &Machine<M>, authority: u8, offset: i16) -> 
 {
     let word = machine.register(authority).word;
     word.address().wrapping_add_signed(i64::from(offset))
+}
+
+// Writes an authority over memory, the bytes of an access, and the permissions that it needs.
+fn put_reached<M: TaggedStore>(
+    machine: &Machine<M>,
+    authority: u8,
+    offset: i16,
+    size: u8,
+    needs: u32,
+    buffer: &mut [u8],
+    at: usize,
+) -> usize
+    requires authority { authority ≤ 31 }
+    requires offset { IsOffset offset }
+    requires room { at + 576 ≤ length buffer.old }
+    ensures { let state = state_of (held_of M.contents machine.now) in
+        let address = address_through state authority offset in
+        IsWritten 576 at (lines_of_parts (parts.Authority (places.Register authority) (state authority)
+        ∷ parts.Access address (address + size) ∷ parts.Needs needs ∷ [])) buffer.old buffer.new result }
+{
+    let address = reached(machine, authority, offset);
+    put_parts(
+        buffer,
+        at,
+        &[
+            authority_in(machine, authority),
+            access_to(address, size),
+            Part::Needs(needs),
+        ],
+    )
 }
 
 // The bytes of an access.
@@ -316,87 +368,19 @@ fn put_result<M: TaggedStore>(
     requires room { at + 768 ≤ length buffer.old }
     ensures { IsWritten 768 at (result_lines (state_of (held_of M.contents machine.now)) step.now) buffer.old buffer.new result }
 {
+    let given = given_by(machine, step);
     match *step {
-        Step::Move {
-            target,
-            source,
-            result,
-        } => {
-            let given = untested(machine.register(source));
-            put_compared(buffer, at, target, given, result)
-        }
-        Step::ClearTag {
-            target,
-            source,
-            result,
-        } => {
-            let given = untested(clear_tag(machine.register(source)));
-            put_compared(buffer, at, target, given, result)
-        }
-        Step::SetBounds {
-            target,
-            source,
-            length,
-            result,
-        } => {
-            let given = bounded(machine.register(source), length, false);
-            put_compared(buffer, at, target, given, result)
-        }
-        Step::SetBoundsExact {
-            target,
-            source,
-            length,
-            result,
-        } => {
-            let given = bounded(machine.register(source), length, true);
-            put_compared(buffer, at, target, given, result)
-        }
-        Step::SetAddr {
-            target,
-            source,
-            address,
-            result,
-        } => {
-            let given = moved(machine.register(source), address);
-            put_compared(buffer, at, target, given, result)
-        }
-        Step::AndPerm {
-            target,
-            source,
-            mask,
-            result,
-        } => {
-            let given = permitted(machine.register(source), mask);
-            put_compared(buffer, at, target, given, result)
-        }
-        Step::Seal {
-            target,
-            source,
-            authority,
-            result,
-        } => {
-            let given = sealed(machine.register(source), machine.register(authority));
-            put_compared(buffer, at, target, given, result)
-        }
-        Step::Unseal {
-            target,
-            source,
-            authority,
-            result,
-        } => {
-            let given = unsealed(machine.register(source), machine.register(authority));
-            put_compared(buffer, at, target, given, result)
-        }
-        Step::LoadCap {
-            target,
-            authority,
-            offset,
-            result,
-        } => {
-            let granule = reached(machine, authority, offset) / 16;
-            let given = untested(loaded(machine.register(authority), machine.granule(granule)));
-            put_compared(buffer, at, target, given, result)
-        }
+        Step::Move { target, result, .. } => put_compared(buffer, at, target, given, result),
+        Step::ClearTag { target, result, .. } => put_compared(buffer, at, target, given, result),
+        Step::SetBounds { target, result, .. } => put_compared(buffer, at, target, given, result),
+        Step::SetBoundsExact { target, result, .. } => put_compared(
+            buffer, at, target, given, result,
+        ),
+        Step::SetAddr { target, result, .. } => put_compared(buffer, at, target, given, result),
+        Step::AndPerm { target, result, .. } => put_compared(buffer, at, target, given, result),
+        Step::Seal { target, result, .. } => put_compared(buffer, at, target, given, result),
+        Step::Unseal { target, result, .. } => put_compared(buffer, at, target, given, result),
+        Step::LoadCap { target, result, .. } => put_compared(buffer, at, target, given, result),
         Step::Load {
             authority,
             offset,
@@ -405,6 +389,50 @@ fn put_result<M: TaggedStore>(
         } => put_values(machine, authority, offset, size, value, buffer, at),
         Step::StoreCap { .. } => at,
         Step::Store { .. } => at,
+    }
+}
+
+// What the rules give for a step whose line records a capability; for others NULL.
+fn given_by<M: TaggedStore>(machine: &Machine<M>, step: &Step) -> Given
+    requires { IsStepInRange step.now }
+    ensures { let row = row_of (state_of (held_of M.contents machine.now)) step.now in
+        let cleared = clear_row row.access row in
+        IfWritten row.records ((option_map (λ write. write.1) cleared.writes ≡ Some result.cap) × (lost_for row.access row ≡ result.fault)) }
+{
+    match *step {
+        Step::Move { source, .. } => untested(machine.register(source)),
+        Step::ClearTag { source, .. } => untested(clear_tag(machine.register(source))),
+        Step::SetBounds { source, length, .. } => bounded(machine.register(source), length, false),
+        Step::SetBoundsExact { source, length, .. } => bounded(
+            machine.register(source),
+            length,
+            true,
+        ),
+        Step::SetAddr {
+            source,
+            address,
+            ..
+        } => moved(machine.register(source), address),
+        Step::AndPerm { source, mask, .. } => permitted(machine.register(source), mask),
+        Step::Seal {
+            source,
+            authority,
+            ..
+        } => sealed(machine.register(source), machine.register(authority)),
+        Step::Unseal {
+            source,
+            authority,
+            ..
+        } => unsealed(machine.register(source), machine.register(authority)),
+        Step::LoadCap {
+            authority,
+            offset,
+            ..
+        } => {
+            let granule = reached(machine, authority, offset) / 16;
+            untested(loaded(machine.register(authority), machine.granule(granule)))
+        }
+        _ => untested(machine.register(0)),
     }
 }
 
