@@ -18,8 +18,6 @@ mod ranges;
 mod refusals;
 mod register_lines;
 mod requests;
-#[cfg(test)]
-mod tests;
 mod values;
 mod words;
 mod written;
