@@ -187,7 +187,7 @@ static void roots(void) {
     made = capcheck_root(0x1000, small, CAPCHECK_ALL_PERMISSIONS);
     EXPECT(made.present == 1 && is_word(made.word, 0xffff1ffffc021000, 0x1000));
     made = capcheck_root(UINT64_MAX, one, CAPCHECK_LOAD);
-    EXPECT(made.present == 1 && is_word(made.word, 0x00041ffff801ffff, UINT64_MAX));
+    EXPECT(made.present == 1 && is_word(made.word, 0x00041ffff8003fff, UINT64_MAX));
     EXPECT(is_none(capcheck_root(1, whole, CAPCHECK_ALL_PERMISSIONS)));
     EXPECT(is_none(capcheck_root(0, longer, CAPCHECK_ALL_PERMISSIONS)));
     EXPECT(is_none(capcheck_root(0, longest, CAPCHECK_ALL_PERMISSIONS)));
