@@ -1,6 +1,8 @@
 -- A step that sets bounds is refused for them exactly where the requested ones do not lie inside its source's.
-use Rattle.std.proofs.Common.{◌≡◌, ◌≢◌, ◌↔◌, ℕ, ℤ, ◌^◌, ◌<◌, Bool, true, false, List, [], ◌∷◌, Option, if◌then◌else◌}
-use Rattle.std.proofs.Common.{refl, sym, ap, ◌∙◌, Some, None, Result, Ok, Err, OnOk}
+use Rattle.std.proofs.Common.{◌≡◌, ◌≢◌, ◌↔◌, ℕ, zero, suc, ℤ, ◌^◌, ◌<◌, Bool, true, false, List, [], ◌∷◌, Option, if◌then◌else◌}
+use Rattle.std.proofs.Common.{refl, sym, ap, subst, ◌∙◌, Some, None, Result, Ok, Err, OnOk}
+use Rattle.std.specs.Prelude.{slice_get}
+use Rattle.std.specs.List.{AllByRecursion}
 use Rattle.std.proofs.lemmas.Bool.{eq-eqb}
 use Rattle.std.proofs.lemmas.Option.{none-some, same_Some}
 use Rattle.cap_word.specs.declared.word.Cap.{Cap}
@@ -28,13 +30,14 @@ use Rattle.cap_machine.specs.declared.ends.StepEnd.TheVariants.{Refused, NoMemor
 use Rattle.cap_ops.specs.Refusals.{refusal_of}
 use Rattle.cap_machine.specs.declared.rules.Rules.{Rules}
 use Rattle.cap_machine.specs.declared.rules.Rules.TheVariants.{One, TwoStrict, TwoClear}
-use Rattle.cap_machine.specs.States.{State, put}
+use Rattle.cap_machine.specs.States.{State, DeclaredRoot, put, start}
 use Rattle.cap_machine.specs.Steps.{Access, Leads, Row, clear_row, row_by, row_of, state_with}
 use Rattle.cap_machine.specs.Accounts.{Account, row_in, step_tests}
 use Rattle.cap_machine.specs.Helds.{Held, state_of, account_of, tests_by}
 use Rattle.cap_machine.specs.Parents.{IsSoundState, StaysWithinParents}
-use Rattle.cap_machine.specs.Escapes.{HasRoomFor, AsksBeyond, ClearsBeyond, Escapes, asked_by}
-use Rattle.cap_machine.proofs.AuthorityLemmas.{one_back}
+use Rattle.cap_machine.specs.Runs.{AreSound, IsRun, state_at}
+use Rattle.cap_machine.specs.Escapes.{HasRoomFor, AsksBeyond, ClearsBeyond, ClearsExactly, Escapes, asked_by}
+use Rattle.cap_machine.proofs.AuthorityLemmas.{one_back, start_sound}
 use Rattle.cap_machine.proofs.MadeLemmas.{EndsIn, first_mapped-some, first_mapped-none, ending, row_by-operation}
 
 -- how an operation ends
@@ -234,34 +237,39 @@ put_there : (state : State) (key : ℕ) (cap : Cap) → put state key cap key �
 put_there state key cap = ap (λ (b : Bool). if b then cap else state key) (eq-eqb key key refl)
 
 -- the tag of new bounds in clear mode
-clears_by : (old : Held) (target source length : ℕ) (recorded : Cap) (new : State) → length < 2 ^ 64 → IsSoundState (state_of old)
-    → Leads old.rules (state_of old) (SetBounds target source length recorded) new
-    → ClearsBeyond old.rules (state_of old) (SetBounds target source length recorded) new
-clears_by old target source length recorded new fits sound leads mode held unsealed =
-    let state = state_of old in
-    let row = row_of state (SetBounds target source length recorded) in
-    let made = clear_result (set_bounds_tests (state source) length false) (set_bounds_result (state source) length) in
-    let after : new ≡ put state target made = leads.after ∙ ap (λ (rules : Rules). state_with state (row_by rules row).writes) mode in
-    let is : new target ≡ made = ap (λ (s : State). s target) after ∙ put_there state target made in
-    untagged_where_beyond (state source) length false (new target) fits is refl held unsealed (sound source held)
+pub clears : (rules : Rules) (old : State) (step : Step) (new : State) → IsStepInRange step → IsSoundState old → Leads rules old step new
+    → ClearsBeyond rules old step new
+clears rules old (SetBounds target source length recorded) new range sound leads = λ mode held unsealed.
+    let row = row_of old (SetBounds target source length recorded) in
+    let made = clear_result (set_bounds_tests (old source) length false) (set_bounds_result (old source) length) in
+    let after : new ≡ put old target made = leads.after ∙ ap (λ (r : Rules). state_with old (row_by r row).writes) mode in
+    let is : new target ≡ made = ap (λ (s : State). s target) after ∙ put_there old target made in
+    untagged_where_beyond (old source) length false (new target) range.2 is refl held unsealed (sound source held)
+clears rules old step new range sound leads = tt
 
 pub clears_exactly : (old new : Held) (step : Step) (result : Result (Unit {0}) StepEnd) → IsStepInRange step → IsSoundState (state_of old)
     → EndsIn old step result new
     → OnOk result (ClearsBeyond old.rules (state_of old) step (state_of new))
-clears_exactly old new (SetBounds target source length recorded) (Ok done) range sound ends =
-    clears_by old target source length recorded (state_of new) range.2 sound ends.leads
-clears_exactly old new (Move target source recorded) (Ok done) range sound ends = tt
-clears_exactly old new (ClearTag target source recorded) (Ok done) range sound ends = tt
-clears_exactly old new (SetBoundsExact target source length recorded) (Ok done) range sound ends = tt
-clears_exactly old new (SetAddr target source address recorded) (Ok done) range sound ends = tt
-clears_exactly old new (AndPerm target source mask recorded) (Ok done) range sound ends = tt
-clears_exactly old new (Seal target source authority recorded) (Ok done) range sound ends = tt
-clears_exactly old new (Unseal target source authority recorded) (Ok done) range sound ends = tt
-clears_exactly old new (LoadCap target authority offset recorded) (Ok done) range sound ends = tt
-clears_exactly old new (StoreCap source authority offset) (Ok done) range sound ends = tt
-clears_exactly old new (Load authority offset size value) (Ok done) range sound ends = tt
-clears_exactly old new (Store authority offset size value) (Ok done) range sound ends = tt
+clears_exactly old new step (Ok done) range sound ends = clears old.rules (state_of old) step (state_of new) range sound ends.leads
 clears_exactly old new step (Err end) range sound ends = tt
+
+-- and along a run
+clears_at : (rules : Rules) (state : State) (steps : List Step) (states : List State) (moment : ℕ) (step : Step)
+    → AllByRecursion IsStepInRange steps → IsSoundState state → IsRun rules state steps states → slice_get steps moment ≡ Some step
+    → ClearsBeyond rules (state_at state states moment) step (state_at state states (suc moment))
+clears_at rules state [] states moment step ranges sound run is = absurd (none-some step is)
+clears_at rules state (first ∷ steps) [] moment step ranges sound run is = absurd run
+clears_at rules state (first ∷ steps) (next ∷ states) zero step ranges sound run is =
+    subst (λ (s : Step). ClearsBeyond rules state s next) (same_Some first step is) (clears rules state first next ranges.0 sound run.0)
+clears_at rules state (first ∷ steps) (next ∷ states) (suc moment) step ranges sound run is =
+    let after : IsSoundState next = λ key held. (one_back rules state first next key ranges.0 sound run.0 held).1.sound in
+    clears_at rules next steps states moment step ranges.1 after run.1 is
+
+pub clears_along : (rules : Rules) (roots : List DeclaredRoot) (steps : List Step) (states : List State) → AreSound roots
+    → AllByRecursion IsStepInRange steps → IsRun rules (start roots) steps states
+    → ClearsExactly rules roots steps states
+clears_along rules roots steps states sound ranges run moment step is =
+    clears_at rules (start roots) steps states moment step ranges (start_sound roots sound) run is
 
 -- what a step that is made leaves of authority
 pub step_within : (old new : Held) (step : Step) (result : Result (Unit {0}) StepEnd) → IsStepInRange step → IsSoundState (state_of old)

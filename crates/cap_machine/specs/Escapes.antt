@@ -1,5 +1,5 @@
 -- When a step that sets bounds is refused for them, or loses its tag.
-use Rattle.std.specs.Prelude.{◌≡◌, ◌≢◌, ◌↔◌, ℕ, ◌+◌, Option, Some, None, IsTrue, IsFalse}
+use Rattle.std.specs.Prelude.{◌≡◌, ◌≢◌, ◌↔◌, ℕ, suc, ◌+◌, List, Option, Some, None, IsTrue, IsFalse, slice_get}
 use Rattle.cap_word.specs.declared.word.Cap.{Cap}
 use Rattle.cap_word.specs.Fields.{address_of}
 use Rattle.cap_bounds.specs.Bounds.{base_of, top_of, IsInside}
@@ -8,7 +8,8 @@ use Rattle.cap_log.specs.declared.lines.Step.TheVariants.{SetBounds, SetBoundsEx
 use Rattle.cap_ops.specs.Permissions.{is_sealed}
 use Rattle.cap_machine.specs.declared.rules.Rules.{Rules}
 use Rattle.cap_machine.specs.declared.rules.Rules.TheVariants.{TwoClear}
-use Rattle.cap_machine.specs.States.{State}
+use Rattle.cap_machine.specs.States.{State, DeclaredRoot, start}
+use Rattle.cap_machine.specs.Runs.{state_at}
 
 -- the register that a step takes new bounds from, and the length that it asks for
 abbrev pub asked_by : Step → Option (ℕ × ℕ)
@@ -36,3 +37,9 @@ ClearsBeyond rules old (SetBounds target source length recorded) new =
     rules ≡ TwoClear → IsTrue (old source).tag → IsFalse (is_sealed (old source).word.0)
     → IsFalse (new target).tag ↔ (HasRoomFor (old source) length → ⊥)
 ClearsBeyond rules old step new = Unit {0}
+
+-- the same of each step of a run, from the state at its moment to the next
+abbrev pub ClearsExactly : Rules → List DeclaredRoot → List Step → List State → Type 0
+ClearsExactly rules roots steps states =
+    (moment : ℕ) (step : Step) → slice_get steps moment ≡ Some step
+    → ClearsBeyond rules (state_at (start roots) states moment) step (state_at (start roots) states (suc moment))

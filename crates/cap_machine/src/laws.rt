@@ -11,6 +11,7 @@ ghost use Rattle.cap_machine.specs.Runs.{AccessesLieInside, AreSound, AuthorityN
 ghost use Rattle.cap_machine.specs.Origins.{Origins, origins_along};
 ghost use Rattle.cap_machine.specs.RunAccounts.{OriginsAreRoots, account_after};
 ghost use Rattle.cap_machine.specs.Parents.{IsSoundState, StaysWithinParents};
+ghost use Rattle.cap_machine.specs.Escapes.{ClearsBeyond, ClearsExactly};
 
 /// Where each tagged capability of a state is sound, each one after a step is sound too, and reaches no more
 /// than what the place held before the step that it comes from: a place that the step does not write keeps
@@ -18,6 +19,21 @@ ghost use Rattle.cap_machine.specs.Parents.{IsSoundState, StaysWithinParents};
 pub fn steps_stay_within()
     ensures { (rules : Rules) (old : State) (step : Step) (new : State) → IsStepInRange step → IsSoundState old
         → Leads rules old step new → StaysWithinParents old step new }
+{}
+
+/// Where each tagged capability of a state is sound, a step `setbounds` that leads from it in clear mode has a
+/// result without a tag, for a tagged, unsealed source, exactly where the bounds that it asks for, before any
+/// rounding, do not lie inside the source's.
+pub fn bounds_are_cleared_exactly()
+    ensures { (rules : Rules) (old : State) (step : Step) (new : State) → IsStepInRange step → IsSoundState old
+        → Leads rules old step new → ClearsBeyond rules old step new }
+{}
+
+/// Along every run from sound roots each `setbounds` in clear mode loses its source's tag exactly there.
+pub fn runs_clear_exactly()
+    ensures { (rules : Rules) (roots : List DeclaredRoot) (steps : List Step) (states : List State) → AreSound roots
+        → AllByRecursion IsStepInRange steps → IsRun rules (start roots) steps states
+        → ClearsExactly rules roots steps states }
 {}
 
 /// Along every run from sound roots, at every moment each tagged capability in a register or in memory
