@@ -43,14 +43,17 @@ static int compare(void) {
         capcheck_bounds bounds = capcheck_decode(words[i]);
         struct sail_bounds sail = sail_bounds_of(words[i].high, words[i].low);
         capcheck_rounded rounded = capcheck_round(bases[i], lengths[i]);
-        struct sail_rounding rounding = sail_round(bases[i], lengths[i]);
+        struct sail_rounded with_bounds = sail_round_with_bounds(bases[i], lengths[i]);
+        struct sail_rounding rounding = with_bounds.rounding;
         if (bounds.base != sail.base || bounds.top.low != (uint64_t)sail.top ||
             bounds.top.high != (uint64_t)(sail.top >> 64)) {
             printf("decoding differs at %s\n", capcheck_text_of(words[i]).digits);
             return 1;
         }
         if (rounded.b != rounding.b || rounded.t != rounding.t || rounded.e != rounding.e ||
-            rounded.ie != rounding.ie || rounded.exact != rounding.exact) {
+            rounded.ie != rounding.ie || rounded.exact != rounding.exact || rounded.base != with_bounds.bounds.base ||
+            rounded.top.low != (uint64_t)with_bounds.bounds.top ||
+            rounded.top.high != (uint64_t)(with_bounds.bounds.top >> 64)) {
             printf("rounding differs at %016llx %016llx\n", (unsigned long long)bases[i],
                    (unsigned long long)lengths[i]);
             return 1;
@@ -78,7 +81,7 @@ static double now(void) {
             double passed = now() - begin;                                                         \
             least = passed < least ? passed : least;                                               \
         }                                                                                          \
-        printf("%-24s %6.2f ns\n", name, least / COUNT);                                           \
+        printf("%-26s %6.2f ns\n", name, least / COUNT);                                           \
     } while (0)
 
 int main(void) {
@@ -94,5 +97,11 @@ int main(void) {
          sum += rounded.b + (uint64_t)rounded.t + rounded.e + rounded.exact);
     TIME("rounding, the Sail way", struct sail_rounding rounding = sail_round(bases[i], lengths[i]);
          sum += rounding.b + (uint64_t)rounding.t + rounding.e + rounding.exact);
+    TIME("with bounds, the library", capcheck_rounded rounded = capcheck_round(bases[i], lengths[i]);
+         sum += rounded.b + (uint64_t)rounded.t + rounded.e + rounded.exact + rounded.base + rounded.top.low +
+                rounded.top.high);
+    TIME("with bounds, the Sail way", struct sail_rounded rounded = sail_round_with_bounds(bases[i], lengths[i]);
+         sum += rounded.rounding.b + (uint64_t)rounded.rounding.t + rounded.rounding.e + rounded.rounding.exact +
+                rounded.bounds.base + (uint64_t)rounded.bounds.top + (uint64_t)(rounded.bounds.top >> 64));
     return sum == 1;
 }

@@ -64,3 +64,11 @@ struct sail_rounding sail_round(uint64_t base, uint64_t length) {
     rounding.exact = !(lost_base | lost_top);
     return rounding;
 }
+
+struct sail_rounded sail_round_with_bounds(uint64_t base, uint64_t length) {
+    struct sail_rounding rounding = sail_round(base, length);
+    sail_number lost = rounding.ie ? ((sail_number)1 << (rounding.e + 3)) - 1 : 0;
+    struct sail_bounds bounds = {base & ~(uint64_t)lost, ((sail_number)base + length + lost) & ~lost};
+    struct sail_rounded rounded = {bounds, rounding};
+    return rounded;
+}

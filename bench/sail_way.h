@@ -26,4 +26,12 @@ struct sail_bounds sail_bounds_of(uint64_t high, uint64_t low);
 
 struct sail_rounding sail_round(uint64_t base, uint64_t length);
 
+/* The same with the rounded base and top, which capcheck_round gives too. */
+struct sail_rounded {
+    struct sail_bounds bounds;
+    struct sail_rounding rounding;
+};
+
+struct sail_rounded sail_round_with_bounds(uint64_t base, uint64_t length);
+
 #endif
