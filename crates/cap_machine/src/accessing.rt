@@ -21,8 +21,7 @@ ghost use Rattle.cap_machine.specs.States.{granule_key};
 use crate::ends::StepEnd;
 use crate::granules::{number_in, put_capability, put_number};
 use crate::machine::{MOST_STEPS, Machine};
-use cap_ops::Refusal;
-use cap_ops::{Access, Kind, OpFault, loaded, may_access_soundly};
+use cap_ops::{Access, Kind, OpFault, Refusal, loaded, may_access_soundly};
 use cap_word::Cap;
 use tagmem::{NoMemory, TaggedStore};
 

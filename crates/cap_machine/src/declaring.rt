@@ -19,9 +19,9 @@ ghost use Rattle.cap_machine.specs.Helds.{EndsRoot, TakesRoot, held_of, state_of
 use crate::ends::StepEnd;
 use crate::granules::put_capability;
 use crate::machine::{MOST_ROOTS, Machine};
-use cap_ops::Refusal;
 use cap_bounds::sound;
 use cap_log::Place;
+use cap_ops::Refusal;
 use cap_word::{Cap, Word};
 use tagmem::{NoMemory, TaggedStore};
 

@@ -26,5 +26,5 @@ pub use crate::laws::{
     runs_end_in_accounts, steps_stay_within,
 };
 pub use crate::machine::{MOST_ROOTS, MOST_STEPS, Machine};
-pub use cap_ops::Refusal;
 pub use crate::rules::Rules;
+pub use cap_ops::Refusal;

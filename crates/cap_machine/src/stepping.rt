@@ -21,9 +21,8 @@ ghost use Rattle.cap_machine.specs.Steps.{is_same_cap};
 use crate::ends::StepEnd;
 use crate::machine::{MOST_STEPS, Machine};
 use crate::places::code_for;
-use cap_ops::Refusal;
 use cap_log::Step;
-use cap_ops::OpFault;
+use cap_ops::{OpFault, Refusal};
 use cap_word::Cap;
 use tagmem::TaggedStore;
 

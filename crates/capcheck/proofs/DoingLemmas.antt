@@ -1,13 +1,13 @@
 -- What was reported, and then flushed.
 use Rattle.std.proofs.Common.{◌≡◌, ◌≤◌, ℕ, Bool, true, false, List, [], ◌++◌, length, take, Option, None, Some, Result}
-use Rattle.std.proofs.Common.{Ok, Err, IfOk, IfErr, refl, sym, ap, subst, ◌∙◌, append-nil, arith}
+use Rattle.std.proofs.Common.{Ok, Err, IfOk, IfErr, inl, inr, refl, sym, ap, subst, ◌∙◌, append-nil, arith}
 use Rattle.std.proofs.Math.Seq.{take-length}
 use Rattle.std.specs.Io.KnownBytes.{Keeps, Appends, Consumes}
 use Rattle.capcheck.specs.declared.faults.Fault.{Fault}
 use Rattle.capcheck.specs.declared.faults.Fault.TheVariants as faults
 use Rattle.cap_judge.specs.declared.verdict.Verdict.{Verdict}
 use Rattle.cap_judge.specs.declared.verdict.Verdict.TheVariants.{Yes, No}
-use Rattle.capcheck.specs.Answers.{PrintsVerdict, known_bytes, verdict_status}
+use Rattle.capcheck.specs.Answers.{BeginsVerdict, PrintsVerdict, known_bytes, verdict_status}
 use Rattle.capcheck.specs.Doings.{IsInputDone}
 use Rattle.cap_judge.specs.Judgings.{IsAnswerOf, IsVerdictOf}
 use Rattle.cap_judge.specs.Reports.{Tells}
@@ -93,6 +93,27 @@ pub input_prints : {R : Type 0} (origins why : Bool) (remaining : R → Option (
 input_prints {R} origins why remaining input reader before after result is done =
     subst (λ (o : Option R). IfOk result (λ status. (text : List ℕ) × PrintsVerdict origins why (known_bytes remaining o) text status × Appends before after text))
     (sym is) (done_prints origins why (remaining reader) before after result done)
+
+-- what was printed where there is no verdict
+done_stops : (origins why : Bool) (left before after : Option (List ℕ)) (result : Result ℕ Fault) → IsInputDone origins why left before after result
+    → IfErr result (λ fault. (written : List ℕ) × BeginsVerdict origins why left written × Appends before after written)
+done_stops origins why left before after (Ok status) done = tt
+done_stops origins why left before after (Err faults.Read) done = ([], inl refl, done.written.1)
+done_stops origins why left before after (Err faults.NoMemory) done = ([], inl refl, done.written.1)
+done_stops origins why left before after (Err faults.Write) done =
+    let w = done.written in
+    let prints = printed origins why left done.rest done.given done.ended w.0 w.2 done.gives done.all_given w.1 w.3 in
+    (take w.4 w.2, inr (w.2, verdict_status w.0, prints, w.4, refl), w.5)
+done_stops origins why left before after (Err faults.BadWords) done = absurd done.written
+done_stops origins why left before after (Err faults.BadWord) done = absurd done.written
+done_stops origins why left before after (Err faults.BadRequest) done = absurd done.written
+
+pub input_stops : {R : Type 0} (origins why : Bool) (remaining : R → Option (List ℕ)) (input : Option R) (reader : R) (before after : Option (List ℕ)) (result : Result ℕ Fault)
+    → input ≡ Some reader → IsInputDone origins why (remaining reader) before after result
+    → IfErr result (λ fault. (written : List ℕ) × BeginsVerdict origins why (known_bytes remaining input) written × Appends before after written)
+input_stops {R} origins why remaining input reader before after result is done =
+    subst (λ (o : Option R). IfErr result (λ fault. (written : List ℕ) × BeginsVerdict origins why (known_bytes remaining o) written × Appends before after written))
+    (sym is) (done_stops origins why (remaining reader) before after result done)
 
 few_status : (verdict : Verdict) → verdict_status verdict ≤ 1
 few_status (Yes steps roots) = omega arith

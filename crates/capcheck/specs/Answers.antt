@@ -1,7 +1,7 @@
 -- What the program prints for an order, and the status that goes with it (this profile's own).
-use Rattle.std.specs.Prelude.{◌≡◌, ℕ, Bool, true, false, List, Option, Some, None, IfSome}
+use Rattle.std.specs.Prelude.{◌≡◌, ◌↔◌, ℕ, Bool, true, false, ◌⊎◌, List, [], take, Option, Some, None, IfSome, IsTrue}
 use Rattle.cap_bounds.specs.declared.rounding.Rounded.{Rounded}
-use Rattle.cap_bounds.specs.Rounding.{rounded_base, rounded_top, rounded_ie, rounded_exponent}
+use Rattle.cap_bounds.specs.Rounding.{rounded_base, rounded_top, rounded_ie, rounded_exponent, IsExact}
 use Rattle.capcheck.specs.declared.words.Order.{Order}
 use Rattle.capcheck.specs.declared.words.Order.TheVariants.{Explain, Round, Judge, Why, Vectors}
 use Rattle.cap_judge.specs.declared.verdict.Verdict.{Verdict}
@@ -36,6 +36,7 @@ pub record IsRounding (rounded : Rounded) (base length : ℕ) : Type 0 where
   pub top_is : rounded.top ≡ rounded_top base length
   pub ie_is : rounded.ie ≡ rounded_ie length
   pub e_is : rounded.e ≡ rounded_exponent base length
+  pub exact_is : IsTrue rounded.exact ↔ IsExact base length
 
 -- two words spell a request, and the text is that of its rounding
 pub record ShowsRounding (base_word length_word text : List ℕ) : Type 0 where
@@ -67,3 +68,22 @@ Prints (Some (Round base_word length_word)) input text status = ShowsRounding ba
 Prints (Some (Judge origins file)) input text status = PrintsVerdict origins false input text status
 Prints (Some (Why origins file)) input text status = PrintsVerdict origins true input text status
 Prints (Some (Vectors file)) input text status = ShowsCheck input text status
+
+-- an order that reads an input
+abbrev pub ReadsInput : Option Order → Type 0
+ReadsInput (Some (Judge origins file)) = Unit {0}
+ReadsInput (Some (Why origins file)) = Unit {0}
+ReadsInput (Some (Vectors file)) = Unit {0}
+ReadsInput order = ⊥
+
+-- nothing, or a beginning of the text of the verdict on an input
+abbrev pub BeginsVerdict : Bool → Bool → Option (List ℕ) → List ℕ → Type 0
+BeginsVerdict origins why input written =
+    (written ≡ [])
+    ⊎ ((text : List ℕ) × (status : ℕ) × PrintsVerdict origins why input text status × (n : ℕ) × (written ≡ take n text))
+
+-- what an output gained where its order came to no verdict; of explain, round and vectors it isn't known
+abbrev pub StopsPrinting : Option Order → Option (List ℕ) → (List ℕ → Type 0) → Type 0
+StopsPrinting (Some (Judge origins file)) input gained = (written : List ℕ) × BeginsVerdict origins false input written × gained written
+StopsPrinting (Some (Why origins file)) input gained = (written : List ℕ) × BeginsVerdict origins true input written × gained written
+StopsPrinting order input gained = Unit {0}

@@ -1,7 +1,7 @@
 //! Checking an input as a vector file and writing the verdict.
 
-ghost use Rattle.std.specs.Prelude.{◌≡◌, ◌≤◌, ℕ, List, IfOk, IfErr};
-ghost use Rattle.std.specs.Io.KnownBytes.{Appends};
+ghost use Rattle.std.specs.Prelude.{◌≡◌, ◌≤◌, ℕ, List, IfOk, IfErr, Err, None};
+ghost use Rattle.std.specs.Io.KnownBytes.{Appends, Keeps};
 ghost use Rattle.capcheck.specs.Answers.{ShowsCheck, known_bytes, vector_status};
 ghost use Rattle.capcheck.specs.Statuses.{status_of};
 
@@ -19,6 +19,7 @@ pub fn check_input<R: Read + Drop, O: Write>(input: Option<R>, out: &mut O) -> R
     ensures err { IfErr result (λ fault. status_of fault ≡ 3) }
     ensures printed { IfOk result (λ status. (text : List ℕ) × ShowsCheck (known_bytes R.remaining input) text status
         × Appends (O.contents out.old) (O.contents out.new) text) }
+    ensures missing { input ≡ None → (result ≡ Err Fault.Read) × Keeps (O.contents out.old) (O.contents out.new) }
 {
     match input {
         Some(reader) => check_reader(reader, out),

@@ -1,8 +1,8 @@
 //! What the program does with an order: its texts and its exit status.
 
-ghost use Rattle.std.specs.Prelude.{◌≡◌, ◌≤◌, ◌↔◌, ℕ, List, IfOk, IfErr, OnOk, None, Some, true};
+ghost use Rattle.std.specs.Prelude.{◌≡◌, ◌≤◌, ◌↔◌, ℕ, List, IfOk, IfErr, OnOk, Err, None, Some, true};
 ghost use Rattle.std.specs.Io.KnownBytes.{Appends, Keeps};
-ghost use Rattle.capcheck.specs.Answers.{Prints, PrintsVerdict, known_bytes};
+ghost use Rattle.capcheck.specs.Answers.{BeginsVerdict, Prints, PrintsVerdict, ReadsInput, StopsPrinting, known_bytes};
 ghost use Rattle.capcheck.specs.Operands.{IsFaulty};
 ghost use Rattle.capcheck.specs.Statuses.{exit_status, status_of};
 ghost use Rattle.capcheck.specs.declared.words.Order.TheVariants.{Explain, Round};
@@ -34,12 +34,16 @@ pub fn run<R: Read + Drop, O: Write, F: Write>(
     ensures range { result ≤ 3 }
 
     // At status 0 and 1 the output gained just the text that belongs to the order and the known bytes of the
-    // input, and nothing went to `faults`; at status 2 the output kept what it had.
+    // input, and nothing went to `faults`; at status 2 the output kept what it had. At status 3 of `judge` it
+    // gained a beginning of the text. Where the input is missing the status is 3, and nothing was printed.
     ensures printed { result ≤ 1 → (text : List ℕ) × Prints order.entry (known_bytes R.remaining input) text result
         × Appends (O.contents out.old) (O.contents out.new) text }
     ensures asked { (result ≡ 2) ↔ IsFaulty order.entry }
     ensures silent { result ≤ 1 → Keeps (F.contents faults.old) (F.contents faults.new) }
     ensures kept { result ≡ 2 → Keeps (O.contents out.old) (O.contents out.new) }
+    ensures stopped { result ≡ 3 → StopsPrinting order.entry (known_bytes R.remaining input)
+        (Appends (O.contents out.old) (O.contents out.new)) }
+    ensures missing { ReadsInput order.entry → input ≡ None → (result ≡ 3) × Keeps (O.contents out.old) (O.contents out.new) }
 {
     match follow(alloc, order, input, out) {
         Ok(status) => status,
@@ -62,6 +66,10 @@ fn follow<R: Read + Drop, O: Write>(
     ensures printed { IfOk result (λ status. (text : List ℕ) × Prints order.entry (known_bytes R.remaining input) text status
         × Appends (O.contents out.old) (O.contents out.new) text) }
     ensures kept { exit_status result ≡ 2 → Keeps (O.contents out.old) (O.contents out.new) }
+    ensures stopped { exit_status result ≡ 3 → StopsPrinting order.entry (known_bytes R.remaining input)
+        (Appends (O.contents out.old) (O.contents out.new)) }
+    ensures missing { ReadsInput order.entry → input ≡ None
+        → (exit_status result ≡ 3) × Keeps (O.contents out.old) (O.contents out.new) }
 {
     match order {
         None => Err(Fault::BadWords),
@@ -87,6 +95,10 @@ fn judge_input<R: Read + Drop, O: Write>(
     ensures printed { IfOk result (λ status. (text : List ℕ)
         × PrintsVerdict origins why (known_bytes R.remaining input) text status
         × Appends (O.contents out.old) (O.contents out.new) text) }
+    ensures stopped { IfErr result (λ fault. (written : List ℕ)
+        × BeginsVerdict origins why (known_bytes R.remaining input) written
+        × Appends (O.contents out.old) (O.contents out.new) written) }
+    ensures missing { input ≡ None → (result ≡ Err Fault.Read) × Keeps (O.contents out.old) (O.contents out.new) }
 {
     match input {
         Some(reader) => judge_reader(alloc, origins, why, reader, out),

@@ -1,4 +1,4 @@
-use Rattle.capcheck.proofs.DoingLemmas.{done_err, done_ok, input_prints}
+use Rattle.capcheck.proofs.DoingLemmas.{done_err, done_ok, input_prints, input_stops}
 use Rattle.capcheck.proofs.running.judge_input.Goals as goal
 
 pub returns-in-Some-clause-ok : goal.returns-in-Some-clause-ok
@@ -10,3 +10,7 @@ returns-in-Some-clause-err g c = done_err _ _ _ _ _ _ c.judge_reader.ensures.don
 pub returns-in-Some-clause-printed : goal.returns-in-Some-clause-printed
 returns-in-Some-clause-printed g c =
     input_prints c.args.origins c.args.why g.R.Read.remaining c.args.input _ _ _ _ c.in-Some.is c.judge_reader.ensures.done
+
+pub returns-in-Some-clause-stopped : goal.returns-in-Some-clause-stopped
+returns-in-Some-clause-stopped g c =
+    input_stops c.args.origins c.args.why g.R.Read.remaining c.args.input _ _ _ _ c.in-Some.is c.judge_reader.ensures.done

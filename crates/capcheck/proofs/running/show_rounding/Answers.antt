@@ -15,6 +15,6 @@ returns-clause-printed g c =
       length = c.in-Ok.request.length;
       rounded = c.round.result;
       spelled = c.in-Ok.ensures.ok.0;
-      rounding = record { base_is = c.round.ensures.base; top_is = c.round.ensures.top; ie_is = c.round.ensures.ie; e_is = c.round.ensures.e };
+      rounding = record { base_is = c.round.ensures.base; top_is = c.round.ensures.top; ie_is = c.round.ensures.ie; e_is = c.round.ensures.e; exact_is = c.round.ensures.exact };
       text_is = c.round_text-length.ensures.lines;
     }) c.show.ensures.ok c.show.ensures.written
