@@ -15,7 +15,5 @@ mod parts;
 mod progress;
 pub mod reporting;
 mod step_lines;
-#[cfg(test)]
-mod tests;
 pub mod verdict;
 pub mod verdict_lines;

@@ -1,6 +1,6 @@
 //! The logs of `examples/`, byte for byte, and the verdict lines that its README gives.
 
-use crate::tests::logs::{Row, all_judged};
+use crate::logs::{Row, all_judged};
 
 // Whole logs.
 const WHOLE: [Row; 9] = [

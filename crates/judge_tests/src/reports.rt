@@ -1,9 +1,9 @@
 //! The reports on a no: each refusal of a log, and what is told of it.
 
-use crate::explaining::{judge_why, judge_why_in};
-use crate::judging::judge_bytes;
-use crate::reporting::judge_origins;
-use crate::verdict::{JudgeToFault, Verdict};
+use cap_judge::explaining::{judge_why, judge_why_in};
+use cap_judge::judging::judge_bytes;
+use cap_judge::reporting::judge_origins;
+use cap_judge::verdict::{JudgeToFault, Verdict};
 use cap_log::{FailingSink, FailingSource, SliceSink, SliceSource};
 use std::alloc::Global;
 use std::process::Abort;

@@ -1,7 +1,7 @@
 //! A log in pieces, over another store, cut, and with a byte more.
 
-use crate::judging::{judge, judge_bytes, judge_in};
-use crate::verdict::{JudgeFault, Verdict};
+use cap_judge::judging::{judge, judge_bytes, judge_in};
+use cap_judge::verdict::{JudgeFault, Verdict};
 use cap_log::{FailingSource, SliceSource};
 use cap_machine::Refusal;
 use std::alloc::Global;

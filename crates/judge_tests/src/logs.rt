@@ -1,9 +1,9 @@
 //! Whole logs and their verdicts, byte for byte.
 
-use crate::judging::judge_bytes;
-use crate::tests::pieces::{cut, each_pull_failing, in_pieces, longer, over_a_list};
-use crate::verdict::Verdict;
-use crate::verdict_lines::verdict_text;
+use cap_judge::judging::judge_bytes;
+use crate::pieces::{cut, each_pull_failing, in_pieces, longer, over_a_list};
+use cap_judge::verdict::Verdict;
+use cap_judge::verdict_lines::verdict_text;
 use std::process::Abort;
 
 /// What a row is called, the lines of a log behind its beginning, and the verdict's line.

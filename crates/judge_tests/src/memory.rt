@@ -1,6 +1,6 @@
 //! Logs of loads and stores.
 
-use crate::tests::logs::{ROOT, Row, all_judged};
+use crate::logs::{ROOT, Row, all_judged};
 
 // Behind the root in c1.
 const BEHIND_ROOT: [Row; 32] = [

@@ -1,9 +1,9 @@
 //! Logs that come in pieces, and without end.
 
-use crate::judging::{judge, judge_in};
-use crate::reporting::judge_to;
-use crate::tests::made::{Made, Moves};
-use crate::verdict::Verdict;
+use cap_judge::judging::{judge, judge_in};
+use cap_judge::reporting::judge_to;
+use crate::made::{Made, Moves};
+use cap_judge::verdict::Verdict;
 use cap_log::{PullFault, SliceSink, Source};
 use cap_machine::Refusal;
 use tagmem::{ListStore, NoMemory, TaggedStore};

@@ -1,9 +1,9 @@
 //! The origins of a log's last state: their lines, and the reports of worked logs.
 
-use crate::judging::judge_bytes;
-use crate::origin_lines::origin_text;
-use crate::reporting::{judge_origins, judge_origins_in};
-use crate::verdict::JudgeToFault;
+use cap_judge::judging::judge_bytes;
+use cap_judge::origin_lines::origin_text;
+use cap_judge::reporting::{judge_origins, judge_origins_in};
+use cap_judge::verdict::JudgeToFault;
 use cap_log::{FailingSink, FailingSource, Line, Place, SliceSink, SliceSource, read_line};
 use cap_machine::Machine;
 use std::alloc::Global;

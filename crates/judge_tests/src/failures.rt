@@ -1,9 +1,9 @@
 //! Pulls, pushes and growths of memory that fail, each in turn.
 
-use crate::judging::{judge, judge_in};
-use crate::reporting::judge_to;
-use crate::tests::made::{Blocks, Made};
-use crate::verdict::{JudgeFault, JudgeToFault, Verdict};
+use cap_judge::judging::{judge, judge_in};
+use cap_judge::reporting::judge_to;
+use crate::made::{Blocks, Made};
+use cap_judge::verdict::{JudgeFault, JudgeToFault, Verdict};
 use cap_log::{FailingSink, FailingSource, SliceSink, SliceSource, Source, WriteSink};
 use cap_machine::Refusal;
 use std::alloc::Global;

@@ -1,9 +1,9 @@
 //! Logs of version 2, in both modes, and its limit on granules.
 
-use crate::judging::judge;
-use crate::tests::logs::{Row, all_judged};
-use crate::tests::made::{Blocks, Made};
-use crate::verdict::Verdict;
+use cap_judge::judging::judge;
+use crate::logs::{Row, all_judged};
+use crate::made::{Blocks, Made};
+use cap_judge::verdict::Verdict;
 use cap_machine::Refusal;
 
 const CLEAR: &[u8] = b"capcheck 2\nmode clear\nroot c1 ffff1ffffc0180040000000000000000\n";
