@@ -1,0 +1,192 @@
+#!/usr/bin/env python3
+"""Runs the commands of the pages, and compares what they print with what the pages say.
+
+    python3 docs/check.py [PAGE..]
+
+It wants the program and the library for C built, or builds them. A block of a page that has lines beginning with
+`$ ` is a session: each such line is a command, lines that begin with `> ` go on with it, and the lines below it are
+all that it prints; a line `..` stands for any lines. A page's commands run one after another in a folder of their
+own, in which the tree's files stand by their names. Other commands of the pages are those of ELSEWHERE, which says
+where each is run. Rows that give the verdict of an example or of a log are judged too, and blocks that show a file of
+the tree are compared with it. The status is 1 where anything differs."""
+import os
+import re
+import shutil
+import subprocess
+import sys
+import tempfile
+
+ROOT = os.path.join(os.path.dirname(os.path.abspath(__file__)), "..")
+os.chdir(ROOT)
+ROOT = os.getcwd()
+PAGES = ["README.md", "CONTRIBUTING.md", "docs/FIRST_HOUR.md", "docs/FORMAT.md", "docs/WORDS.md", "docs/MACHINE.md", "docs/RECORDING.md"]
+PAGES += ["docs/C.md", "docs/PROOFS.md", "docs/DECISIONS.md", "examples/README.md", "web/README.md", "bench/README.md"]
+
+# Commands that no session runs, and where they are run.
+ELSEWHERE = {
+    "cd crates/capcheck && rt run -- judge ../../examples/moves.log": "the gate proves this program and runs it on this log, by `rt ci`",
+    "bash .ci/run": "the gate",
+    "cd crates/capcheck_c && rt lib": "examples/emulator/check.sh",
+    "bash examples/emulator/check.sh": "the gate",
+    "sh install.sh /usr/local": "examples/emulator/installed.sh, into another folder",
+    "cc program.c $(pkg-config --cflags --libs capcheck) -o program": "examples/emulator/installed.sh, with another program",
+    "cc -Iinclude program.c crates/capcheck_c/out/libcapcheck_c.a -o program": "examples/emulator/check.sh, with another program",
+    "sh web/build.sh": "web/check.sh",
+    "sh web/check.sh": "the gate",
+    "sh web/test.sh": "by hand, in a browser",
+    "python3 bench/speed.py": "by hand: it measures",
+    "sh bench/million.sh moves 10000000 | crates/capcheck/out/capcheck judge": "by hand: it measures",
+}
+COMMAND = re.compile(r"(\$|cc|sh|bash|cd|rt|python3|capcheck|make|cat|git) ")
+
+# Files of the tree that pages show whole.
+SHOWN = {
+    "docs/FIRST_HOUR.md": ["examples/emulator/first.c"],
+    "docs/WORDS.md": ["crates/arena/src/main.rt", "crates/arena/stdout"],
+}
+
+
+def blocks(text):
+    """The fenced blocks of a page, each with the number of its first line and the word behind the fence."""
+    found, begun = [], None
+    for number, line in enumerate(text.split("\n"), 1):
+        if line.startswith("```"):
+            if begun is None:
+                begun = (number + 1, line[3:].strip(), [])
+            else:
+                found.append(begun)
+                begun = None
+        elif begun is not None:
+            begun[2].append(line)
+    return found
+
+
+def commands(first, lines):
+    """The commands of a session, each with its line's number and the lines that it prints."""
+    found = []
+    for number, line in enumerate(lines, first):
+        if line.startswith("$ "):
+            found.append((number, [line[2:]], []))
+        elif found and line.startswith("> ") and not found[-1][2]:
+            found[-1][1].append(line[2:])
+        elif found:
+            found[-1][2].append(line)
+    for _, _, wanted in found:
+        while wanted and not wanted[-1]:
+            wanted.pop()
+    return found
+
+
+def agrees(wanted, given):
+    """Whether the lines are those that are wanted, where `..` is any lines."""
+    if not wanted:
+        return not given
+    if wanted[0] == "..":
+        return any(agrees(wanted[1:], given[at:]) for at in range(len(given) + 1))
+    return bool(given) and wanted[0] == given[0] and agrees(wanted[1:], given[1:])
+
+
+def run(command, folder, given=None):
+    """What a command prints, on both outputs."""
+    ran = subprocess.run(["bash", "-c", command], cwd=folder, input=given, stdout=subprocess.PIPE, stderr=subprocess.STDOUT, timeout=600)
+    return ran.stdout.decode("utf-8", "replace")
+
+
+def place(work):
+    """A folder in which the tree's files stand by their names, and a home in which what is built is installed."""
+    os.environ.update(HOME=f"{work}/home", LD_LIBRARY_PATH=f"{work}/home/.local/lib", PATH=f"{work}/home/.local/bin:{os.environ['PATH']}")
+    subprocess.run(["sh", "install.sh", f"{work}/home/.local"], check=True, stdout=subprocess.DEVNULL)
+    folder = f"{work}/tree"
+    os.makedirs(folder)
+    for name in os.listdir("."):
+        if not name.startswith("."):
+            os.symlink(f"{ROOT}/{name}", f"{folder}/{name}")
+    return folder
+
+
+def sessions(page, text, folder):
+    """Runs the sessions of a page; what is wrong, a line each, and how many commands it ran."""
+    wrong, count = [], 0
+    for first, _, lines in blocks(text):
+        found = commands(first, lines)
+        for number, command, wanted in found:
+            count += 1
+            given = run("\n".join(command), folder)
+            if not agrees(wanted, given.rstrip("\n").split("\n") if given else []):
+                wrong.append(f"{page}:{number}: `{command[0]}` prints\n{given}")
+        if not found:
+            for number, line in enumerate(lines, first):
+                if COMMAND.match(line) and line not in ELSEWHERE:
+                    wrong.append(f"{page}:{number}: `{line}` is no command of a session, and nothing says where it is run")
+    return wrong, count
+
+
+def log_of(cell):
+    """The bytes that a row's words for a log stand for."""
+    text = cell.replace(" / ", "\n").replace(" W", " ffff1ffffc0180040000000000000000")
+    return f"{text}\n".encode()
+
+
+def rows(page, text, folder):
+    """Judges the rows that give the verdict of an example or of a log."""
+    wrong, count = [], 0
+    for number, line in enumerate(text.split("\n"), 1):
+        m = re.fullmatch(r"\| `([^`]+)` \| (?:[^|]* \| )?`((?:yes|no|pass|fail) [^`]+)` \|", line)
+        if not m:
+            continue
+        count += 1
+        if m[1].endswith(".log"):
+            given = run(f"capcheck judge examples/{m[1]}", folder)
+        elif m[1].endswith(".vectors"):
+            given = run(f"capcheck vectors examples/vectors/{m[1]}", folder)
+        else:
+            given = run("capcheck judge", folder, log_of(m[1]))
+        if given != f"{m[2]}\n":
+            wrong.append(f"{page}:{number}: `{m[1]}` has the verdict {given}")
+    return wrong, count
+
+
+def shown(page, text):
+    """Compares the files that a page shows."""
+    held = ["\n".join(lines) + "\n" for _, _, lines in blocks(text)]
+    wrong = []
+    for path in SHOWN.get(page, []):
+        with open(path, encoding="utf-8") as it:
+            if it.read() not in held:
+                wrong.append(f"{page}: {path} isn't shown as it is")
+    return wrong, len(SHOWN.get(page, []))
+
+
+def python(page, text, folder):
+    """Runs the blocks of Python over the shared library, each with what the page says that it prints."""
+    wrong, count = [], 0
+    for first, word, lines in blocks(text):
+        if word != "python":
+            continue
+        count += 1
+        m = re.search(r"```\n\nIt prints `([^`]+)`", text[text.index("\n".join(lines)) :])
+        given = subprocess.run([sys.executable, "-c", "\n".join(lines)], cwd=folder, stdout=subprocess.PIPE, stderr=subprocess.STDOUT, text=True).stdout
+        if not m or given != f"{m[1]}\n":
+            wrong.append(f"{page}:{first}: the block prints\n{given}")
+    return wrong, count
+
+
+def main(pages):
+    wrong, count = [], 0
+    with tempfile.TemporaryDirectory() as work:
+        tree = place(work)
+        for page in pages or PAGES:
+            with open(page, encoding="utf-8") as it:
+                text = it.read()
+            with tempfile.TemporaryDirectory(dir=work) as room:
+                folder = f"{room}/tree"
+                shutil.copytree(tree, folder, symlinks=True)
+                for bad, tried in (sessions(page, text, folder), rows(page, text, folder), shown(page, text), python(page, text, folder)):
+                    wrong += bad
+                    count += tried
+    print("\n".join([*wrong, f"{count} commands, rows and files of the pages tried, {len(wrong)} otherwise than the pages say"]))
+    return 1 if wrong else 0
+
+
+if __name__ == "__main__":
+    sys.exit(main(sys.argv[1:]))
