@@ -44,9 +44,9 @@ unit_of w = 2 ^ cut_exponent_of w
 abbrev pub window_size : ℕ → ℕ
 window_size w = 2 ^ (cut_exponent_of w + 14)
 
--- start begins the window of a word: the window holds the word's address, and begins at a number
--- congruent to 2 ^ 11 units for each step of B's three high bits less one (UCAM-CL-TR-987, the
--- representable region of CHERI Concentrate)
+-- start begins the window of a word: the window holds the word's address, and begins at a number that
+-- is congruent, modulo the window's size, to as many times 2 ^ 11 units as B's three high bits less one
+-- say (UCAM-CL-TR-987, the representable region of CHERI Concentrate)
 pub record IsWindow (w start : ℕ) : Type 0 where
   pub begins : start ≤ address_of w + 2 ^ 66
   pub ends : address_of w + 2 ^ 66 < start + window_size w

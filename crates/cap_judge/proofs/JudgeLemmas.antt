@@ -27,7 +27,8 @@ use Rattle.cap_judge.specs.declared.verdict.JudgeFault.{JudgeFault}
 use Rattle.cap_judge.specs.declared.verdict.JudgeFault.TheVariants as faults
 use Rattle.cap_judge.specs.Logs.{Beginning, Nothing, NoMode, Body, Whole, header_lines, body_lines, lines_of, text_of, account_after}
 use Rattle.cap_judge.specs.Logs.{IsAccepted, SpellsBy, RefusesWhole, Refuses, IsFirstFault, MayLackMemory}
-use Rattle.cap_judge.specs.Logs.{NamesNoGranules, named_by_line}
+use Rattle.cap_judge.specs.Logs.{IsLogOf, NamesNoGranules, named_by_line}
+use Rattle.cap_machine.specs.Escapes.{ClearsExactly}
 use Rattle.cap_judge.specs.Verdicts.{IsYes, IsGuarded, GuardsAuthority, IsFault}
 use Rattle.cap_judge.specs.Judgings.{IsBehind, LeadsTo}
 use Rattle.cap_judge.specs.Progresses.{Reading, StandsFor, GoesOn, WantsMemory, EndsNext, IsAt}
@@ -89,7 +90,7 @@ RefusesFront beginning rest refusal =
     FrontIs rest (refusal ≡ LineTooLong) (refusal ≡ Truncated) (λ line. RefusesWhole beginning line refusal)
 
 -- the line behind a beginning can be refused by its front
-front_refused : (beginning : Beginning) (rest : List ℕ) (refusal : Refusal) → IsUnended beginning → RefusesFront beginning rest refusal
+pub front_refused : (beginning : Beginning) (rest : List ℕ) (refusal : Refusal) → IsUnended beginning → RefusesFront beginning rest refusal
     → Refuses beginning rest refusal
 front_refused Nothing rest refusal unended refused = refused
 front_refused NoMode rest refusal unended refused = refused
@@ -238,6 +239,14 @@ guarded grows inside bytes rules_are roots made states log run =
     let sound = are_sound roots log.runs.sound in
     let in_range = steps_in_range roots made (behind_header rules_are _ log.runs.grammar) in
     (grows rules_are roots made states sound in_range run, inside rules_are roots made states sound in_range run)
+
+-- and clears tags as runs do
+pub cleared_along : ((rules_are : Rules) (roots : List DeclaredRoot) (made : List Step) (states : List State) → AreSound roots
+    → AllByRecursion IsStepInRange made → IsRun rules_are (start roots) made states → ClearsExactly rules_are roots made states)
+    → (bytes : List ℕ) (rules_are : Rules) (roots : List DeclaredRoot) (made : List Step) (states : List State) → IsLogOf bytes rules_are roots made
+    → IsRun rules_are (start roots) made states → ClearsExactly rules_are roots made states
+cleared_along clears bytes rules_are roots made states log run =
+    clears rules_are roots made states (are_sound roots log.runs.sound) (steps_in_range roots made (behind_header rules_are _ log.runs.grammar)) run
 
 pub guards : (bytes : List ℕ) → IsGuarded bytes → (verdict : Verdict) → GuardsAuthority bytes verdict
 guards bytes all (Yes steps roots) = all

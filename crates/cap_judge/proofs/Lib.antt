@@ -1,5 +1,6 @@
 mod ResultLemmas
 mod LogLemmas
+mod NextLemmas
 mod ProgressLemmas
 mod JudgeLemmas
 mod VersionLemmas
@@ -15,3 +16,5 @@ mod DetailLemmas
 mod StepLemmas
 mod OriginLemmas
 mod ReportLemmas
+mod SomeVerdict
+mod InTurn

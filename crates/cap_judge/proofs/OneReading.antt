@@ -1,11 +1,9 @@
 -- Logs read a line at a time: bytes have one reading that stops, and it has one answer.
-use Rattle.std.proofs.Common.{◌≡◌, ◌≢◌, ℕ, ◌==◌, inl, inr, ◌⊎◌, List, [], ◌∷◌, ◌++◌, None, IsTrue, refl, sym, ap, subst, ◌∙◌, append_assoc}
-use Rattle.std.specs.Bool.{if◌then◌else◌}
+use Rattle.std.proofs.Common.{◌≡◌, ◌≢◌, ℕ, inl, inr, ◌⊎◌, List, [], ◌∷◌, ◌++◌, refl, sym, ap, subst, ◌∙◌, append_assoc}
 use Rattle.std.specs.List.{AllByRecursion}
 use Rattle.std.proofs.lemmas.Option.{none-some, same_Some}
 use Rattle.cap_log.specs.declared.lines.Line.{Line}
-use Rattle.cap_log.specs.declared.lines.Line.TheVariants.{Version, Mode, Root, Step, End}
-use Rattle.cap_log.specs.declared.lines.Mode.TheVariants.{Strict, Clear}
+use Rattle.cap_log.specs.declared.lines.Line.TheVariants.{Version, Mode}
 use Rattle.cap_log.specs.Lines.{spelling, IsInRange}
 use Rattle.cap_log.specs.Front.{IsLine, IsTooLong, IsCut}
 use Rattle.cap_log.proofs.FrontLemmas.{IsLine-same, IsLine-not_too_long, IsLine-not_cut, IsTooLong-not_cut}
@@ -13,40 +11,10 @@ use Rattle.cap_log.proofs.SpellingLemmas.{one_spelling, IsLine-spelling}
 use Rattle.cap_ops.specs.Tests.{first_of}
 use Rattle.cap_ops.specs.declared.refusal.Refusal.{Refusal}
 use Rattle.cap_ops.specs.declared.refusal.Refusal.TheVariants.{LineTooLong, Misplaced, Truncated}
-use Rattle.cap_machine.specs.declared.rules.Rules.TheVariants.{One, TwoStrict, TwoClear}
-use Rattle.cap_machine.specs.Accounts.{Account, no_account, with_root, with_step}
 use Rattle.cap_judge.specs.declared.verdict.Verdict.{Verdict}
 use Rattle.cap_judge.specs.declared.verdict.Verdict.TheVariants.{Yes, No}
-use Rattle.cap_judge.specs.Logs.{Nothing, NoMode, text_of, has_form, line_tests, RefusesLine, RefusesWhole}
-
--- how far a log is read: not at all; past the version line of version 2; past its header, to an account; past its end line
-pub data Stage : Type 0 where
-  Unread : Stage
-  Versioned : Stage
-  Within : (account : Account) → Stage
-  Ended : (account : Account) → Stage
-
--- a line that nothing refuses at a stage
-abbrev pub Allows : Stage → Line → Type 0
-Allows Unread (Version version) = Unit {0}
-Allows Versioned (Mode mode) = Unit {0}
-Allows (Within account) line = IsTrue (has_form account.rules line) × (first_of (line_tests account line) ≡ None)
-Allows stage line = ⊥
-
--- the stage behind a line that is allowed
-abbrev pub behind : Stage → Line → Stage
-behind Unread (Version version) = if version == 1 then Within (no_account One) else Versioned
-behind Versioned (Mode Strict) = Within (no_account TwoStrict)
-behind Versioned (Mode Clear) = Within (no_account TwoClear)
-behind (Within account) (Root place word) = Within (with_root account place word)
-behind (Within account) (Step step) = Within (with_step account step)
-behind (Within account) (End count) = Ended account
-behind stage line = stage
-
--- lines, each allowed at the stage behind those before it, lead from a stage to a stage
-abbrev pub Reads : Stage → List Line → Stage → Type 0
-Reads from [] to = from ≡ to
-Reads from (line ∷ lines) to = Allows from line × Reads (behind from line) lines to
+use Rattle.cap_judge.specs.Logs.{Nothing, NoMode, text_of, line_tests, RefusesLine, RefusesWhole}
+pub use Rattle.cap_judge.specs.Turns.{Stage, Unread, Versioned, Within, Ended, Allows, behind, Reads}
 
 -- no line that is allowed stands at the front of the bytes
 abbrev pub Stops : Stage → List ℕ → Type 0

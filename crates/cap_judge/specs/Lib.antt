@@ -6,6 +6,7 @@ pub mod OriginLines
 pub mod FaultLines
 pub mod Parts
 pub mod StepLines
+pub mod Turns
 pub mod Verdicts
 pub mod Judgings
 pub mod FaultReports

@@ -1,6 +1,15 @@
 //! Laws about logs. Their functions do nothing: what each says is its contract.
 
-ghost use Rattle.std.specs.Prelude.{◌≡◌, ℕ, List};
+ghost use Rattle.std.specs.Prelude.{◌≡◌, ◌↔◌, ℕ, List};
+ghost use Rattle.std.specs.List.{AllByRecursion};
+ghost use Rattle.cap_log.specs.Lines.{IsInRange};
+ghost use Rattle.cap_log.specs.declared.lines.Step.{Step};
+ghost use Rattle.cap_machine.specs.declared.rules.Rules.{Rules};
+ghost use Rattle.cap_machine.specs.States.{DeclaredRoot, State, start};
+ghost use Rattle.cap_machine.specs.Runs.{IsRun};
+ghost use Rattle.cap_machine.specs.Escapes.{ClearsExactly};
+ghost use Rattle.cap_judge.specs.Logs.{Beginning, IsAccepted, IsLogOf, lines_of};
+ghost use Rattle.cap_judge.specs.Turns.{Reads, Stage, Unread};
 ghost use Rattle.cap_judge.specs.declared.verdict.Verdict.{Verdict};
 ghost use Rattle.cap_judge.specs.Verdicts.{IsByVersionOne, IsGuarded, IsOfVersionOne, IsVerdict};
 
@@ -11,11 +20,31 @@ pub fn logs_are_guarded()
     ensures { (bytes : List ℕ) → IsGuarded bytes }
 {}
 
+/// Whatever bytes are read: where they are a log whose steps have a run, then along it each `setbounds` in
+/// clear mode takes the tag of its tagged, unsealed source exactly where the bounds that it asks for, before
+/// any rounding, do not lie inside the source's.
+pub fn logs_clear_exactly()
+    ensures { (bytes : List ℕ) (rules : Rules) (roots : List DeclaredRoot) (steps : List Step) (states : List State)
+        → IsLogOf bytes rules roots steps → IsRun rules (start roots) steps states → ClearsExactly rules roots steps states }
+{}
+
 /// Bytes that do not begin with the line `capcheck 2` have the verdict of version 1: it speaks of beginnings
 /// of logs of version 1 alone, by the rules of version 1.
 pub fn other_bytes_are_of_version_one()
     ensures { (bytes : List ℕ) (verdict : Verdict) → IsOfVersionOne bytes
         → (is : IsVerdict bytes verdict) → IsByVersionOne bytes verdict is }
+{}
+
+/// A beginning of a log is accepted exactly where its lines are in range and each is allowed in its turn: no
+/// test of a line holds in what the lines before it lead to.
+pub fn accepted_in_turn()
+    ensures { (beginning : Beginning) → IsAccepted beginning
+        ↔ (AllByRecursion IsInRange (lines_of beginning) × ((stage : Stage) × Reads Unread (lines_of beginning) stage)) }
+{}
+
+/// All bytes have a verdict: they are a log whose steps have a run, or there is a first fault.
+pub fn some_verdict()
+    ensures { (bytes : List ℕ) → (verdict : Verdict) × IsVerdict bytes verdict }
 {}
 
 /// No bytes have two verdicts: none are both a log whose steps have a run and at fault in a line, a log has

@@ -1,5 +1,6 @@
 mod Cuts
 mod Decimals
+pub mod DecidedLines
 pub mod ElementLemmas
 pub mod FrontLemmas
 mod OffsetLemmas

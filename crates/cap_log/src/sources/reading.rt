@@ -1,6 +1,6 @@
 //! A source over a reader.
 
-ghost use Rattle.std.specs.Prelude.{◌≡◌, ◌<◌, ◌^◌, ℕ, List, [], ◌++◌, true, Option, None, Some};
+ghost use Rattle.std.specs.Prelude.{◌≡◌, ◌<◌, ◌^◌, ℕ, List, [], ◌++◌, true, false, Option, None, Some};
 ghost use Rattle.std.specs.Io.KnownBytes.{Consumes};
 ghost use Rattle.cap_log.specs.Known.{Consumes-nothing, Consumes-joined};
 
@@ -17,9 +17,11 @@ pub struct ReadSource<R: Read> {
 }
 
 impl<R: Read> ReadSource<R> {
-    /// The bytes that the reader has left.
+    /// The bytes that the reader has left. It has not ended, and has no fault.
     pub fn new(reader: R) -> ReadSource<R>
         ensures reader { result.reader ≡ reader }
+        ensures unended { result.is_ended ≡ false }
+        ensures no_fault { result.faults ≡ 0 }
     {
         ReadSource {
             reader,

@@ -24,6 +24,7 @@ impl<'a> SliceSource<'a> {
     pub fn new(bytes: &'a [u8], lengths: &'a [usize]) -> SliceSource<'a>
         ensures bytes { bytes_left result ≡ bytes.now }
         ensures lengths { lengths_left result ≡ (0, lengths.now) }
+        ensures unended { result.is_ended ≡ false }
     {
         SliceSource {
             rest: bytes,

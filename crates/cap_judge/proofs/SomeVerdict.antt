@@ -1,0 +1,277 @@
+-- All bytes have a verdict: read a line at a time, they come to an end, or to a line that is refused.
+use Rattle.std.proofs.Common.{◌≡◌, ℕ, zero, suc, ◌+◌, ◌<◌, Bool, true, false, inl, inr, ◌⊎◌, List, [], ◌∷◌, ◌++◌, length}
+use Rattle.std.proofs.Common.{Option, Some, None, refl, sym, ap, subst, ◌∙◌, append-nil, arith}
+use Rattle.std.proofs.lemmas.Bool.{false≢true, lt-ltb, not-false, eqb-true}
+use Rattle.std.proofs.lemmas.List.{length-append}
+use Rattle.std.proofs.lemmas.Option.{none-some}
+use Rattle.cap_ops.specs.Tests.{first_of}
+use Rattle.cap_ops.proofs.TestLemmas.{none_hold}
+use Rattle.cap_ops.specs.declared.refusal.Refusal.{Refusal}
+use Rattle.cap_ops.specs.declared.refusal.Refusal.TheVariants.{BadHeader, BadMode, BadLine, LineTooLong, Misplaced, Truncated}
+use Rattle.cap_log.specs.declared.lines.Line.{Line}
+use Rattle.cap_log.specs.declared.lines.Line.TheVariants.{Version, Mode, Root, Step, End}
+use Rattle.cap_log.specs.declared.lines.Mode as modes_module
+use Rattle.cap_log.specs.declared.lines.Mode.TheVariants.{Strict, Clear}
+use Rattle.cap_log.specs.Lines.{IsInRange, Spells}
+use Rattle.cap_log.specs.Front.{IsLine}
+use Rattle.cap_log.proofs.DecidedLines.{line_decided, front_decided}
+use Rattle.cap_log.proofs.SpellingLemmas.{one_spelling}
+use Rattle.cap_machine.specs.declared.rules.Rules.{Rules}
+use Rattle.cap_machine.specs.declared.rules.Rules.TheVariants.{One, TwoStrict, TwoClear}
+use Rattle.cap_machine.specs.States.{DeclaredRoot}
+use Rattle.cap_machine.specs.Accounts.{Account, root_tests}
+use Rattle.cap_log.specs.declared.lines.Step as steps_module
+use Rattle.cap_machine.specs.Steps.{Leads}
+use Rattle.cap_machine.specs.Accounts.{with_step}
+use Rattle.cap_machine.proofs.AccountLemmas.{account_after-grows, first_of-none}
+use Rattle.cap_judge.specs.declared.verdict.Verdict.{Verdict}
+use Rattle.cap_judge.specs.declared.verdict.Verdict.TheVariants.{Yes, No}
+use Rattle.cap_judge.specs.Logs.{Beginning, Nothing, NoMode, Body, Whole, lines_of, text_of, body_lines, account_after, RunsBy, IsAccepted}
+use Rattle.cap_judge.specs.Logs.{has_form, line_tests, RefusesLine, RefusesWhole, Refuses}
+use Rattle.cap_judge.specs.Verdicts.{IsVerdict}
+use Rattle.cap_judge.proofs.JudgeLemmas.{IsUnended, front_refused, text_push}
+use Rattle.cap_judge.proofs.LogLemmas.{steps_push, roots_push}
+use Rattle.cap_judge.proofs.NextLemmas.{leads_on, step_runs, root_runs, no_roots}
+use Rattle.cap_judge.proofs.OneReading.{Allows}
+use Rattle.cap_judge.proofs.OneVerdict.{stage_of}
+
+-- A line that is allowed makes the beginning longer
+
+-- an accepted beginning that has this line more
+abbrev pub Longer : Beginning → Line → Type 0
+Longer beginning line = (next : Beginning) × IsAccepted next × (lines_of next ≡ lines_of beginning ++ line ∷ [])
+
+with_version : (version : ℕ) → IsInRange (Version version) → Longer Nothing (Version version)
+with_version version (inl is) = (Body One [] [], no_roots One, ap (λ v. Version v ∷ []) (sym is))
+with_version version (inr is) = (NoMode, tt, ap (λ v. Version v ∷ []) (sym is))
+
+with_mode : (mode : modes_module.Mode) → Longer NoMode (Mode mode)
+with_mode Strict = (Body TwoStrict [] [], no_roots TwoStrict, refl)
+with_mode Clear = (Body TwoClear [] [], no_roots TwoClear, refl)
+
+-- a root is declared before the first step
+with_a_root : (rules_are : Rules) (roots : List DeclaredRoot) (steps : List steps_module.Step) (root : DeclaredRoot)
+    → RunsBy rules_are roots steps
+    → IsInRange (Root root.place root.word) → first_of (line_tests (account_after rules_are roots steps) (Root root.place root.word)) ≡ None
+    → Longer (Body rules_are roots steps) (Root root.place root.word)
+with_a_root rules_are roots [] root runs range free =
+    let tests = line_tests (account_after rules_are roots []) (Root root.place root.word) in
+    let unrefused = first_of-none (root_tests (account_after rules_are roots []) root.place root.word) (none_hold tests free).1 in
+    (Body rules_are (roots ++ root ∷ []) [], root_runs rules_are roots root runs range.0 range.1 unrefused, roots_push rules_are roots root)
+with_a_root rules_are roots (step ∷ steps) root runs range free =
+    let account = account_after rules_are roots (step ∷ steps) in
+    let counted = (account_after-grows rules_are roots (step ∷ steps)).steps_are in
+    let before = (none_hold (line_tests account (Root root.place root.word)) free).0 in
+    absurd (false≢true (sym before ∙ lt-ltb 0 account.steps (omega arith)))
+
+with_a_step : (rules_are : Rules) (roots : List DeclaredRoot) (steps : List steps_module.Step) (step : steps_module.Step)
+    → RunsBy rules_are roots steps → IsInRange (Step step) → first_of (line_tests (account_after rules_are roots steps) (Step step)) ≡ None
+    → Longer (Body rules_are roots steps) (Step step)
+with_a_step rules_are roots steps step runs range free =
+    let account = account_after rules_are roots steps in
+    let same = (account_after-grows rules_are roots steps).rules_stay in
+    let leads = subst (λ (r : Rules). Leads r account.state step (with_step account step).state) same (leads_on account step free) in (
+      Body rules_are roots (steps ++ step ∷ []),
+      step_runs rules_are roots steps step (with_step account step).state runs range free leads,
+      steps_push rules_are roots steps step,
+    )
+
+with_an_end : (rules_are : Rules) (roots : List DeclaredRoot) (steps : List steps_module.Step) (count : ℕ) → RunsBy rules_are roots steps
+    → first_of (line_tests (account_after rules_are roots steps) (End count)) ≡ None → Longer (Body rules_are roots steps) (End count)
+with_an_end rules_are roots steps count runs free =
+    let account = account_after rules_are roots steps in
+    let counted = (account_after-grows rules_are roots steps).steps_are in
+    let same = not-false _ (none_hold (line_tests account (End count)) free).0 in
+    let is : count ≡ account.steps = eqb-true count account.steps same in
+    let all : length steps ≡ count = omega arith in
+    (Whole rules_are roots steps, runs, ap (λ n. body_lines rules_are roots steps ++ End n ∷ []) all)
+
+longer : (beginning : Beginning) (line : Line) → IsAccepted beginning → IsInRange line → Allows (stage_of beginning) line
+    → Longer beginning line
+longer Nothing (Version version) accepted range allowed = with_version version range
+longer NoMode (Mode mode) accepted range allowed = with_mode mode
+longer (Body rules_are roots steps) (Root place word) runs range allowed =
+    with_a_root rules_are roots steps (record { place = place; word = word }) runs range allowed.1
+longer (Body rules_are roots steps) (Step step) runs range allowed = with_a_step rules_are roots steps step runs range allowed.1
+longer (Body rules_are roots steps) (End count) runs range allowed = with_an_end rules_are roots steps count runs allowed.1
+longer (Body rules_are roots steps) (Version version) runs range allowed = absurd (none-some Misplaced (sym allowed.1))
+longer (Body rules_are roots steps) (Mode mode) runs range allowed = absurd (none-some Misplaced (sym allowed.1))
+longer beginning line accepted range allowed = absurd allowed
+
+-- Each line is refused or allowed
+
+-- a whole line after a beginning is refused, or it is a line that is allowed
+abbrev pub Turn : Beginning → List ℕ → Type 0
+Turn beginning text =
+    ((refusal : Refusal) × RefusesWhole beginning text refusal)
+    ⊎ ((line : Line) × Spells text line × Allows (stage_of beginning) line)
+
+abbrev is_version : Line → Bool
+is_version (Version version) = true
+is_version line = false
+
+abbrev is_mode : Line → Bool
+is_mode (Mode mode) = true
+is_mode line = false
+
+-- bytes that spell a line of another kind spell none of this kind
+no_version : (text : List ℕ) (line : Line) → Spells text line → is_version line ≡ false → (version : ℕ) → Spells text (Version version) → ⊥
+no_version text line spells other version is =
+    false≢true (sym other ∙ ap is_version (one_spelling text line (Version version) spells is))
+
+no_mode : (text : List ℕ) (line : Line) → Spells text line → is_mode line ≡ false → (mode : modes_module.Mode) → Spells text (Mode mode) → ⊥
+no_mode text line spells other mode is = false≢true (sym other ∙ ap is_mode (one_spelling text line (Mode mode) spells is))
+
+first_turn : (text : List ℕ) (line : Line) → Spells text line → Turn Nothing text
+first_turn text (Version version) spells = inr (Version version, spells, tt)
+first_turn text line spells = inl (BadHeader, (no_version text line spells refl, refl))
+
+mode_turn : (text : List ℕ) (line : Line) → Spells text line → Turn NoMode text
+mode_turn text (Mode mode) spells = inr (Mode mode, spells, tt)
+mode_turn text line spells = inl (BadMode, (no_mode text line spells refl, refl))
+
+-- a line that has no form by the rules
+formless : (account : Account) (text : List ℕ) (line : Line) → Spells text line → has_form account.rules line ≡ false
+    → RefusesLine account text BadLine
+formless account text line spells none =
+    inl (
+      λ other is. let same =
+          one_spelling text line other spells is.0 in false≢true (sym none ∙ ap (has_form account.rules) same ∙ is.1),
+      refl,
+    )
+
+-- the first test that holds, or none
+by_tests : (rules_are : Rules) (roots : List DeclaredRoot) (steps : List steps_module.Step) (text : List ℕ) (line : Line)
+    → let account = account_after rules_are roots steps in Spells text line → has_form account.rules line ≡ true
+    → (first : Option Refusal) → first_of (line_tests account line) ≡ first → Turn (Body rules_are roots steps) text
+by_tests rules_are roots steps text line spells formed (Some refusal) found = inl (refusal, inr (line, (spells, formed), found))
+by_tests rules_are roots steps text line spells formed None free = inr (line, spells, (formed, free))
+
+by_form : (rules_are : Rules) (roots : List DeclaredRoot) (steps : List steps_module.Step) (text : List ℕ) (line : Line)
+    → let account = account_after rules_are roots steps in Spells text line → (formed : Bool) → has_form account.rules line ≡ formed
+    → Turn (Body rules_are roots steps) text
+by_form rules_are roots steps text line spells true formed = by_tests rules_are roots steps text line spells formed _ refl
+by_form rules_are roots steps text line spells false none =
+    inl (BadLine, formless (account_after rules_are roots steps) text line spells none)
+
+turn : (beginning : Beginning) → IsUnended beginning → (text : List ℕ) → Turn beginning text
+turn Nothing unended text =
+    elim (line_decided text) [
+      | inl found ↦ first_turn text found.0 found.1
+      | inr none ↦ inl (BadHeader, (λ version. none (Version version), refl))
+    ]
+turn NoMode unended text =
+    elim (line_decided text) [
+      | inl found ↦ mode_turn text found.0 found.1
+      | inr none ↦ inl (BadMode, (λ mode. none (Mode mode), refl))
+    ]
+turn (Body rules_are roots steps) unended text =
+    elim (line_decided text) [
+      | inl found ↦ by_form rules_are roots steps text found.0 found.1 _ refl
+      | inr none ↦ inl (BadLine, inl (λ line is. none line is.0, refl))
+    ]
+turn (Whole rules_are roots steps) unended text = absurd unended
+
+-- What follows a beginning
+
+-- it is refused, or there is a longer beginning that is accepted, and less follows that
+abbrev Follows : Beginning → List ℕ → Type 0
+Follows beginning rest =
+    ((refusal : Refusal) × Refuses beginning rest refusal)
+    ⊎ ((next : Beginning) × IsAccepted next × ((more : List ℕ) × (text_of (lines_of beginning) ++ rest ≡ text_of (lines_of next) ++ more) × (length more < length rest)))
+
+-- a whole line follows
+by_turn : (beginning : Beginning) → IsUnended beginning → (rest text more : List ℕ) → IsAccepted beginning → IsLine rest text more
+    → Turn beginning text → Follows beginning rest
+by_turn beginning unended rest text more accepted whole (inl refused) =
+    inl (refused.0, front_refused beginning rest refused.0 unended (inr (inr (text, more, whole, refused.1))))
+by_turn beginning unended rest text more accepted whole (inr allowed) =
+    let line = allowed.0 in
+    let next = longer beginning line accepted allowed.1.0 allowed.2 in
+    let rest_is = whole.whole ∙ ap (λ (t : List ℕ). t ++ 10 ∷ more) allowed.1.1 in
+    inr (
+      next.0,
+      next.1,
+      (
+        more,
+        ap (λ (r : List ℕ). text_of (lines_of beginning) ++ r) rest_is
+            ∙ sym (text_push (lines_of beginning) line more)
+            ∙ sym (ap (λ (ls : List Line). text_of ls ++ more) next.2),
+        omega (arith, ap length whole.whole, length-append text (10 ∷ more)),
+      ),
+    )
+
+follows : (beginning : Beginning) → IsUnended beginning → (rest : List ℕ) → IsAccepted beginning → Follows beginning rest
+follows beginning unended rest accepted =
+    elim (front_decided rest) [
+      | inl long ↦ inl (LineTooLong, front_refused beginning rest LineTooLong unended (inl (long, refl)))
+      | inr shorter ↦
+          elim shorter [
+            | inl cut ↦ inl (Truncated, front_refused beginning rest Truncated unended (inr (inl (cut, refl))))
+            | inr line ↦ by_turn beginning unended rest line.0 line.1 accepted line.2 (turn beginning unended line.0)
+          ]
+    ]
+
+-- the bytes are an accepted beginning and a rest
+record Here (bytes : List ℕ) (beginning : Beginning) (rest : List ℕ) : Type 0 where
+  bytes_are : bytes ≡ text_of (lines_of beginning) ++ rest
+  accepted : IsAccepted beginning
+
+abbrev HasVerdict : List ℕ → Type 0
+HasVerdict bytes = (verdict : Verdict) × IsVerdict bytes verdict
+
+-- the verdict by what follows, where each shorter rest leads to one
+from_here : (fuel : ℕ) (bytes : List ℕ)
+    → ((beginning : Beginning) (rest : List ℕ) → length rest < fuel → Here bytes beginning rest → HasVerdict bytes)
+    → (beginning : Beginning) (rest : List ℕ) → length rest < suc fuel → Here bytes beginning rest → Follows beginning rest
+    → HasVerdict bytes
+from_here fuel bytes shorter beginning rest few here (inl refused) = (
+  No (length (lines_of beginning) + 1) refused.0,
+  record {
+    beginning =
+        beginning;
+    rest = rest;
+    bytes_are = here.bytes_are;
+    accepted = here.accepted;
+    number_is = refl;
+    refused = refused.1;
+  },
+)
+from_here fuel bytes shorter beginning rest few here (inr on) =
+    let fewer = on.2.2 in
+    shorter on.0 on.2.0 (omega arith) (record { bytes_are = here.bytes_are ∙ on.2.1; accepted = on.1 })
+
+verdict_from : (fuel : ℕ) (bytes : List ℕ) (beginning : Beginning) (rest : List ℕ) → length rest < fuel → Here bytes beginning rest
+    → HasVerdict bytes
+verdict_from zero bytes beginning rest few here = absurd (omega arith)
+verdict_from (suc fuel) bytes (Whole rules_are roots steps) [] few here = (
+  Yes (length steps) (length roots),
+  record {
+    rules = rules_are;
+    roots = roots;
+    steps = steps;
+    log = record { bytes_are = here.bytes_are ∙ append-nil _; runs = here.accepted };
+    step_count_is = refl;
+    root_count_is = refl;
+  },
+)
+verdict_from (suc fuel) bytes (Whole rules_are roots steps) (byte ∷ rest) few here = (
+  No (length (lines_of (Whole rules_are roots steps)) + 1) Misplaced,
+  record {
+    beginning = Whole rules_are roots steps;
+    rest = byte ∷ rest;
+    bytes_are = here.bytes_are;
+    accepted = here.accepted;
+    number_is = refl;
+    refused = (λ is. let none = ap length is in omega arith, refl);
+  },
+)
+verdict_from (suc fuel) bytes Nothing rest few here =
+    from_here fuel bytes (verdict_from fuel bytes) Nothing rest few here (follows Nothing tt rest here.accepted)
+verdict_from (suc fuel) bytes NoMode rest few here =
+    from_here fuel bytes (verdict_from fuel bytes) NoMode rest few here (follows NoMode tt rest here.accepted)
+verdict_from (suc fuel) bytes (Body rules_are roots steps) rest few here =
+    from_here fuel bytes (verdict_from fuel bytes) (Body rules_are roots steps) rest few here (follows (Body rules_are roots steps) tt rest here.accepted)
+
+pub some_verdict : (bytes : List ℕ) → (verdict : Verdict) × IsVerdict bytes verdict
+some_verdict bytes = verdict_from (length bytes + 1) bytes Nothing bytes (omega arith) (record { bytes_are = refl; accepted = tt })
