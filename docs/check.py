@@ -7,8 +7,8 @@ It wants the program and the library for C built, or builds them. A block of a p
 `$ ` is a session: each such line is a command, lines that begin with `> ` go on with it, and the lines below it are
 all that it prints; a line `..` stands for any lines. A page's commands run one after another in a folder of their
 own, in which the tree's files stand by their names. Other commands of the pages are those of ELSEWHERE, which says
-where each is run. Rows that give the verdict of an example or of a log are judged too, and blocks that show a file of
-the tree are compared with it. The status is 1 where anything differs."""
+where each is run. Rows that give the verdict of an example or of a log are judged too, blocks that show a file of the
+tree are compared with it, and each link has to lead to a file and a heading. The status is 1 where anything differs."""
 import os
 import re
 import shutil
@@ -171,6 +171,30 @@ def python(page, text, folder):
     return wrong, count
 
 
+def anchors(text):
+    """The names of a page's headings, as links have them."""
+    heads = re.findall(r"^#+ (.*)$", text, re.M)
+    return {re.sub(r"[^\w\- ]", "", re.sub(r"\[([^]]*)\]\([^)]*\)", r"\1", it).lower()).replace(" ", "-") for it in heads}
+
+
+def links(page, text):
+    """Whether each file and heading that a page links to is there."""
+    wrong, count = [], 0
+    for target in re.findall(r"\]\(([^)\s]+)\)", text):
+        if target.startswith("http"):
+            continue
+        count += 1
+        path, _, name = target.partition("#")
+        there = os.path.normpath(os.path.join(os.path.dirname(page), path)) if path else page
+        if not os.path.exists(there):
+            wrong.append(f"{page}: there is no {target}")
+        elif name and os.path.isfile(there):
+            with open(there, encoding="utf-8") as it:
+                if name not in anchors(it.read()):
+                    wrong.append(f"{page}: {there} has no heading {name}")
+    return wrong, count
+
+
 def main(pages):
     wrong, count = [], 0
     with tempfile.TemporaryDirectory() as work:
@@ -181,10 +205,10 @@ def main(pages):
             with tempfile.TemporaryDirectory(dir=work) as room:
                 folder = f"{room}/tree"
                 shutil.copytree(tree, folder, symlinks=True)
-                for bad, tried in (sessions(page, text, folder), rows(page, text, folder), shown(page, text), python(page, text, folder)):
+                for bad, tried in (sessions(page, text, folder), rows(page, text, folder), shown(page, text), python(page, text, folder), links(page, text)):
                     wrong += bad
                     count += tried
-    print("\n".join([*wrong, f"{count} commands, rows and files of the pages tried, {len(wrong)} otherwise than the pages say"]))
+    print("\n".join([*wrong, f"{count} commands, rows, files and links of the pages tried, {len(wrong)} otherwise than the pages say"]))
     return 1 if wrong else 0
 
 
