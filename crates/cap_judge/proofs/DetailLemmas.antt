@@ -14,7 +14,7 @@ use Rattle.cap_ops.specs.declared.refusal.Refusal.TheVariants.{PlaceTaken, Limit
 use Rattle.cap_machine.specs.declared.rules.Rules.{Rules}
 use Rattle.cap_machine.specs.declared.rules.Rules.TheVariants.{One, TwoStrict, TwoClear}
 use Rattle.cap_machine.specs.Accounts.{Account}
-use Rattle.cap_machine.specs.States.{State, tagged}
+use Rattle.cap_machine.specs.States.{tagged}
 use Rattle.cap_judge.specs.Logs.{SpellsBy, has_form}
 use Rattle.cap_texts.specs.TextLines.{text_line}
 use Rattle.cap_texts.specs.CapLines.{cap_lines}
@@ -24,7 +24,7 @@ use Rattle.cap_judge.proofs.HeaderLemmas.{no_form}
 -- the details of a line that is refused for what its tests saw
 abbrev pub OfLine : Account → List ℕ → Refusal → List ℕ → Type 0
 OfLine account text refusal details =
-    ((line : Line) × SpellsBy account.rules text line × (details ≡ known_lines account.state line refusal))
+    ((line : Line) × SpellsBy account.rules text line × (details ≡ known_lines account line refusal))
     ⊎ (((line : Line) → SpellsBy account.rules text line → ⊥) × (details ≡ []))
 
 pub details_other : (account : Account) (text : List ℕ) (refusal : Refusal) (details : List ℕ) → (refusal ≡ BadHeader → ⊥) → (refusal ≡ LineTooLong → ⊥) → (refusal ≡ BadLine → ⊥) → (refusal ≡ BadMode → ⊥) → (refusal ≡ Misplaced → ⊥) → (refusal ≡ Truncated → ⊥) → (refusal ≡ WrongCount → ⊥) → (refusal ≡ LimitPassed → ⊥)
@@ -52,12 +52,12 @@ step_form TwoClear step = refl
 
 -- a line of which nothing is told, whether it has a form or not
 pub nothing_told : (account : Account) (text : List ℕ) (line : Line) (refusal : Refusal) (formed : Bool) → has_form account.rules line ≡ formed
-    → Spells text line → [] ≡ known_lines account.state line refusal → OfLine account text refusal []
+    → Spells text line → [] ≡ known_lines account line refusal → OfLine account text refusal []
 nothing_told account text line refusal true formed spells none = inl (line, (spells, formed), none)
 nothing_told account text line refusal false formed spells none = inr (no_form account.rules text line spells formed, refl)
 
 -- a root that is refused for another reason than its place
-pub root_other : (state : State) (place : Place) (word : Word) (refusal : Refusal) → (refusal ≡ PlaceTaken → ⊥)
-    → root_lines state place word refusal ≡ cap_lines (codes "root") place (tagged word) ++ text_line (codes "length") (hex_digits 17 (length_of word.0))
-root_other state place word PlaceTaken other = absurd (other refl)
-root_other state place word refusal other = refl
+pub root_other : (account : Account) (place : Place) (word : Word) (refusal : Refusal) → (refusal ≡ PlaceTaken → ⊥)
+    → root_lines account place word refusal ≡ cap_lines (codes "root") place (tagged word) ++ text_line (codes "length") (hex_digits 17 (length_of word.0))
+root_other account place word PlaceTaken other = absurd (other refl)
+root_other account place word refusal other = refl

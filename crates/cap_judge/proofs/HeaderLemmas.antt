@@ -51,7 +51,7 @@ one_more {S} {gave} {ended} {old} {new} {lines} beginning line text m spelled =
     ∙ sym (text_push (lines_of beginning) line (kept lines))
 
 -- a version that is not 1 is 2
-version_two : (text : List ℕ) (version : ℕ) → Spells text (line_kinds.Version version) → version ≢ 1 → Spells text (line_kinds.Version 2)
+pub version_two : (text : List ℕ) (version : ℕ) → Spells text (line_kinds.Version version) → version ≢ 1 → Spells text (line_kinds.Version 2)
 version_two text version spells other = elim (spells.0) [
   | inl one ↦ absurd (other one)
   | inr two ↦ subst (λ (v : ℕ). Spells text (line_kinds.Version v)) two spells

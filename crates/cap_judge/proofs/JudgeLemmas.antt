@@ -65,13 +65,13 @@ IsUnended (Body rules_are roots steps) = Unit {0}
 IsUnended (Whole rules_are roots steps) = ⊥
 
 -- what the progress stands for is accepted
-accepted : (beginning : Beginning) (reading : Reading) → StandsFor reading beginning → IsAccepted beginning
+pub accepted : (beginning : Beginning) (reading : Reading) → StandsFor reading beginning → IsAccepted beginning
 accepted Nothing reading stands = tt
 accepted NoMode reading stands = tt
 accepted (Body rules_are roots steps) reading stands = stands.1.runs
 accepted (Whole rules_are roots steps) reading stands = stands.1.runs
 
-unended : (beginning : Beginning) (reading : Reading) → StandsFor reading beginning → reading.ended ≡ false → IsUnended beginning
+pub unended : (beginning : Beginning) (reading : Reading) → StandsFor reading beginning → reading.ended ≡ false → IsUnended beginning
 unended Nothing reading stands is = tt
 unended NoMode reading stands is = tt
 unended (Body rules_are roots steps) reading stands is = tt
@@ -110,7 +110,7 @@ refused_behind bytes rest beginning line refusal here number unended refused = r
 }
 
 -- a line that wants memory
-lacks : (bytes text more : List ℕ) (reading : Reading) (beginning : Beginning) → StandsFor reading beginning → WantsMemory beginning text
+pub lacks : (bytes text more : List ℕ) (reading : Reading) (beginning : Beginning) → StandsFor reading beginning → WantsMemory beginning text
     → bytes ≡ text_of (lines_of beginning) ++ text ++ 10 ∷ more → MayLackMemory bytes
 lacks bytes text more reading Nothing stands wants are = absurd wants
 lacks bytes text more reading NoMode stands wants are = absurd wants
@@ -189,7 +189,7 @@ leads_by bytes reading (Whole rules_are roots steps) stands ended are = record {
 pub leads : (bytes : List ℕ) (reading : Reading) (line : ℕ) → IsAt bytes reading [] line → reading.ended ≡ true → LeadsTo bytes reading.held
 leads bytes reading line here ended = leads_by bytes reading here.beginning here.stands ended here.bytes_are
 
-misplaced_by : (beginning : Beginning) (reading : Reading) (rest : List ℕ) → StandsFor reading beginning → reading.ended ≡ true → rest ≢ []
+pub misplaced_by : (beginning : Beginning) (reading : Reading) (rest : List ℕ) → StandsFor reading beginning → reading.ended ≡ true → rest ≢ []
     → Refuses beginning rest Misplaced
 misplaced_by Nothing reading rest stands ended more = absurd stands
 misplaced_by NoMode reading rest stands ended more = absurd stands

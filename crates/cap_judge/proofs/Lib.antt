@@ -18,3 +18,5 @@ mod OriginLemmas
 mod ReportLemmas
 mod SomeVerdict
 mod InTurn
+mod StandingLemmas
+mod TakenLemmas

@@ -57,19 +57,19 @@ at_more bytes rest more reading line here = record {
   line_is = here.line_is;
 }
 
-some-more : (bytes more : List ℕ) → bytes ≢ [] → bytes ++ more ≢ []
+pub some-more : (bytes more : List ℕ) → bytes ≢ [] → bytes ++ more ≢ []
 some-more [] more some = absurd (some refl)
 some-more (b ∷ bytes) more some = λ e. cc
 
-long_some : (bytes : List ℕ) → IsTooLong bytes → bytes ≢ []
+pub long_some : (bytes : List ℕ) → IsTooLong bytes → bytes ≢ []
 long_some [] long = λ e. omega (arith, long.0)
 long_some (b ∷ bytes) long = λ e. cc
 
-line_some : (rest text left : List ℕ) → IsLine rest text left → rest ≢ []
+pub line_some : (rest text left : List ℕ) → IsLine rest text left → rest ≢ []
 line_some rest text left is =
     λ none. let long : length (text ++ 10 ∷ left) ≡ 0 = ap length (sym is.whole ∙ none) in omega (arith, length-append text (10 ∷ left), long)
 
-nothing_cut : (rest : List ℕ) → rest ≡ [] → IsCut rest
+pub nothing_cut : (rest : List ℕ) → rest ≡ [] → IsCut rest
 nothing_cut rest none = subst IsCut (sym none) (omega arith, All-nil (λ b. b ≢ 10))
 
 -- a no that stands whatever follows
@@ -267,7 +267,7 @@ few_header One = omega arith
 few_header TwoStrict = omega arith
 few_header TwoClear = omega arith
 
-few_body : (rules_are : Rules) (roots : List DeclaredRoot) (steps : List _)
+pub few_body : (rules_are : Rules) (roots : List DeclaredRoot) (steps : List _)
     → length (body_lines rules_are roots steps) ≡ length (header_lines rules_are) + (length roots + length steps)
 few_body rules_are roots steps =
     let root_line = λ (root : DeclaredRoot). lines.Root root.place root.word in

@@ -7,7 +7,7 @@ use Rattle.cap_log.specs.declared.lines.Step.{Step}
 use Rattle.cap_ops.specs.declared.faults.OpFault.{OpFault}
 use Rattle.cap_ops.specs.declared.refusal.Refusal.{Refusal}
 use Rattle.cap_ops.specs.declared.refusal.Refusal.TheVariants.{WrongResult}
-use Rattle.cap_machine.specs.States.{State}
+use Rattle.cap_machine.specs.Accounts.{Account}
 use Rattle.cap_machine.specs.Steps.{Access, Read}
 use Rattle.cap_texts.specs.TextLines.{text_line}
 use Rattle.cap_judge.specs.Parts.{lines_of_parts}
@@ -21,10 +21,10 @@ values_shown front access recorded in_memory None none = simp (append_assoc, app
 values_shown front access recorded in_memory (Some f) is = cc
 
 -- a step that is refused for another reason than its result
-pub step_other : (state : State) (step : Step) (refusal : Refusal) → (refusal ≡ WrongResult → ⊥)
-    → step_lines state step refusal ≡ lines_of_parts (asked_parts state step)
-step_other state step WrongResult other = absurd (other refl)
-step_other state step refusal other = refl
+pub step_other : (account : Account) (step : Step) (refusal : Refusal) → (refusal ≡ WrongResult → ⊥)
+    → step_lines account step refusal ≡ lines_of_parts (asked_parts account step)
+step_other account step WrongResult other = absurd (other refl)
+step_other account step refusal other = refl
 
 -- a span of 14 bits in units of at most 2 ^ 52 fits 128 bits
 pub few_units : (x e : ℕ) → e ≤ 52 → x % 16384 * 2 ^ e % 2 ^ 128 ≡ x % 16384 * 2 ^ e

@@ -10,12 +10,12 @@ use Rattle.cap_ops.specs.declared.refusal.Refusal.{Refusal}
 use Rattle.cap_ops.specs.declared.refusal.Refusal.TheVariants.{BadHeader, LineTooLong, BadLine, Misplaced, Truncated, WrongCount}
 use Rattle.cap_ops.specs.declared.refusal.Refusal.TheVariants.{PlaceTaken, LimitPassed, BadMode}
 use Rattle.cap_machine.specs.Accounts.{Account}
-use Rattle.cap_machine.specs.States.{State, key_of, tagged}
+use Rattle.cap_machine.specs.States.{key_of, tagged}
 use Rattle.cap_judge.specs.Logs.{SpellsBy, IsFirstFault}
 use Rattle.cap_texts.specs.TextLines.{text_line}
 use Rattle.cap_judge.specs.FaultLines.{IsFrontText}
 use Rattle.cap_texts.specs.ShownBytes.{line_line}
-use Rattle.cap_texts.specs.CapLines.{cap_lines}
+use Rattle.cap_texts.specs.CapLines.{cap_lines, operand_lines}
 use Rattle.cap_judge.specs.StepLines.{step_lines}
 use Rattle.cap_judge.specs.Judgings.{account_before}
 
@@ -26,17 +26,18 @@ count_lines account =
     ++ text_line (codes "steps") (decimal account.steps)
     ++ text_line (codes "granules") (decimal account.granules)
 
--- a root: what its place holds already, or what its word stands for, with its length
-abbrev pub root_lines : State → Place → Word → Refusal → List ℕ
-root_lines state place word PlaceTaken = cap_lines (codes "holds") place (state (key_of place))
-root_lines state place word refusal =
+-- a root: what its place holds already, with the root of that, or what its word stands for, with its length
+abbrev pub root_lines : Account → Place → Word → Refusal → List ℕ
+root_lines account place word PlaceTaken =
+    let key = key_of place in operand_lines (codes "holds") place (account.state key) (account.origin key)
+root_lines account place word refusal =
     cap_lines (codes "root") place (tagged word) ++ text_line (codes "length") (hex_digits 17 (length_of word.0))
 
 -- a line that has a form
-abbrev pub known_lines : State → Line → Refusal → List ℕ
-known_lines state (lines.Root place word) refusal = root_lines state place word refusal
-known_lines state (lines.Step step) refusal = step_lines state step refusal
-known_lines state line refusal = []
+abbrev pub known_lines : Account → Line → Refusal → List ℕ
+known_lines account (lines.Root place word) refusal = root_lines account place word refusal
+known_lines account (lines.Step step) refusal = step_lines account step refusal
+known_lines account line refusal = []
 
 -- what is told of a line for its refusal, after what was taken before it: nothing where it has no form; how much was taken where that
 -- decides; and otherwise what its tests saw
@@ -50,7 +51,7 @@ AreDetails account text Truncated details = details ≡ count_lines account
 AreDetails account text WrongCount details = details ≡ count_lines account
 AreDetails account text LimitPassed details = details ≡ count_lines account
 AreDetails account text refusal details =
-    ((line : Line) × SpellsBy account.rules text line × (details ≡ known_lines account.state line refusal))
+    ((line : Line) × SpellsBy account.rules text line × (details ≡ known_lines account line refusal))
     ⊎ (((line : Line) → SpellsBy account.rules text line → ⊥) × (details ≡ []))
 
 -- the report of a line, by its bytes and the account before it

@@ -14,3 +14,4 @@ pub mod Origins
 pub mod OriginLists
 pub mod Reports
 pub mod Whys
+pub mod Standings

@@ -8,9 +8,9 @@ use Rattle.cap_ops.specs.declared.faults.OpFault.{OpFault}
 use Rattle.cap_ops.specs.declared.refusal.Refusal.{Refusal}
 use Rattle.cap_ops.specs.Refusals.{refusal_number, name_of, refusal_of}
 use Rattle.cap_texts.specs.TextLines.{text_line}
-use Rattle.cap_texts.specs.CapLines.{cap_lines, bounds_line}
+use Rattle.cap_texts.specs.CapLines.{cap_lines, bounds_line, operand_lines}
 use Rattle.cap_judge.specs.declared.parts.Part.{Part}
-use Rattle.cap_judge.specs.declared.parts.Part.TheVariants.{Source, Authority, Request, Rounded, Moved, Access, Needs}
+use Rattle.cap_judge.specs.declared.parts.Part.TheVariants.{Source, Authority, Request, Rounded, Moved, Representable, Access, Needs}
 use Rattle.cap_judge.specs.declared.parts.Part.TheVariants.{Gives, Cleared, Recorded, Differs}
 
 -- a field's name, where it differs
@@ -41,11 +41,12 @@ cleared_line refusal = codes "cleared " ++ decimal (refusal_number refusal) ++ c
 
 -- the lines of a part
 abbrev pub part_lines : Part → List ℕ
-part_lines (Source place cap) = cap_lines (codes "source") place cap
-part_lines (Authority place cap) = cap_lines (codes "authority") place cap
+part_lines (Source place cap root) = operand_lines (codes "source") place cap root
+part_lines (Authority place cap root) = operand_lines (codes "authority") place cap root
 part_lines (Request base top) = bounds_line (codes "request") (codes " ") base top
 part_lines (Rounded base top) = bounds_line (codes "rounded") (codes " ") base top
 part_lines (Moved base top) = bounds_line (codes "moved") (codes " ") base top
+part_lines (Representable start end) = bounds_line (codes "representable") (codes " ") start end
 part_lines (Access start end) = bounds_line (codes "access") (codes " ") start end
 part_lines (Needs view) = text_line (codes "needs") (hex_digits 8 view)
 part_lines (Gives place cap) = cap_lines (codes "gives") place cap

@@ -1,10 +1,10 @@
 -- What the report on a step shows, by the machine's table (this profile's own).
-use Rattle.std.specs.Prelude.{ℕ, ◌+◌, ◌*◌, ◌^◌, if◌then◌else◌, List, [], ◌∷◌, ◌++◌, Option, Some, None, codes}
+use Rattle.std.specs.Prelude.{ℕ, ◌+◌, ◌*◌, ◌%◌, ◌^◌, nat_le, if◌then◌else◌, List, [], ◌∷◌, ◌++◌, Option, Some, None, codes}
 use Rattle.cap_word.specs.Digits.{hex_digits}
 use Rattle.cap_word.specs.Fields.{address_of}
 use Rattle.cap_word.specs.declared.word.Cap.{Cap}
-use Rattle.cap_bounds.specs.Bounds.{base_of, top_of}
-use Rattle.cap_bounds.specs.Range.{with_address}
+use Rattle.cap_bounds.specs.Bounds.{base_of, top_of, cut_exponent_of, window_size}
+use Rattle.cap_bounds.specs.Range.{window_start, with_address}
 use Rattle.cap_bounds.specs.Rounding.{rounded_base, rounded_top}
 use Rattle.cap_log.specs.declared.lines.Place.{Place}
 use Rattle.cap_log.specs.declared.lines.Place.TheVariants.{Register}
@@ -16,6 +16,7 @@ use Rattle.cap_ops.specs.Permissions.{has_permission, global, permit_store, perm
 use Rattle.cap_ops.specs.Permissions.{permit_seal, permit_unseal}
 use Rattle.cap_ops.specs.declared.refusal.Refusal.{Refusal}
 use Rattle.cap_ops.specs.declared.refusal.Refusal.TheVariants.{WrongResult}
+use Rattle.cap_machine.specs.Accounts.{Account}
 use Rattle.cap_machine.specs.States.{State, key_of}
 use Rattle.cap_machine.specs.Steps.{Row, Recorded, Nothing, Written, Read, Access, row_of, clear_row}
 use Rattle.cap_machine.specs.Escapes.{asked_by}
@@ -24,10 +25,18 @@ use Rattle.cap_judge.specs.declared.parts.Part.{Part}
 use Rattle.cap_judge.specs.declared.parts.Part.TheVariants as parts
 use Rattle.cap_judge.specs.Parts.{lines_of_parts}
 
+-- what a place holds as a source, and the place of the root of that
+abbrev pub source_part : Account → Place → Part
+source_part account place = let key = key_of place in parts.Source place (account.state key) (account.origin key)
+
+-- what a register holds as an authority, and the place of the root of that
+abbrev pub authority_part : Account → ℕ → Part
+authority_part account register = parts.Authority (Register register) (account.state register) (account.origin register)
+
 -- what a place holds that a tagged result comes from
-abbrev pub source_parts : State → Option Place → List Part
-source_parts state None = []
-source_parts state (Some place) = parts.Source place (state (key_of place)) ∷ []
+abbrev pub source_parts : Account → Option Place → List Part
+source_parts account None = []
+source_parts account (Some place) = source_part account place ∷ []
 
 -- the bounds that a step asks for, and what they are rounded to
 abbrev pub request_parts : State → Option (ℕ × ℕ) → List Part
@@ -36,10 +45,19 @@ request_parts state (Some asked) =
     let base = address_of (state asked.0).word.0 in
     parts.Request base (base + asked.1) ∷ parts.Rounded (rounded_base base asked.1) (rounded_top base asked.1) ∷ []
 
--- the bounds at the address that a step asks for
+-- the representable range of a word, whose end is not reduced modulo 2 ^ 64: the word's window, and from the cut exponent 50 on, where
+-- each address keeps the bounds, the address space
+abbrev pub range_part : ℕ → Part
+range_part w =
+    if nat_le 50 (cut_exponent_of w) then parts.Representable 0 (2 ^ 64)
+    else parts.Representable (window_start w % 2 ^ 64) (window_start w % 2 ^ 64 + window_size w)
+
+-- the bounds at the address that a step asks for, and the range of the addresses that keep the source's
 abbrev pub moved_parts : State → Step → List Part
 moved_parts state (SetAddr target source address recorded) =
-    let moved = with_address (state source).word.0 address in parts.Moved (base_of moved) (top_of moved) ∷ []
+    let held = (state source).word.0 in
+    let moved = with_address held address in
+    parts.Moved (base_of moved) (top_of moved) ∷ range_part held ∷ []
 moved_parts state step = []
 
 -- the register that is a step's authority over object types, and the permission that it needs
@@ -49,9 +67,9 @@ type_authority_of (Unseal target source authority recorded) = Some (authority, p
 type_authority_of step = None
 
 -- an authority over object types
-abbrev pub type_parts : State → Option (ℕ × ℕ) → List Part
-type_parts state None = []
-type_parts state (Some by) = parts.Authority (Register by.0) (state by.0) ∷ parts.Needs (2 ^ by.1) ∷ []
+abbrev pub type_parts : Account → Option (ℕ × ℕ) → List Part
+type_parts account None = []
+type_parts account (Some by) = authority_part account by.0 ∷ parts.Needs (2 ^ by.1) ∷ []
 
 -- the permissions that storing a capability needs, in the view
 abbrev pub needs_to_store : Cap → ℕ
@@ -68,26 +86,29 @@ needed_by state (StoreCap source authority offset) access = needs_to_store (stat
 needed_by state step access = 2 ^ access.permission
 
 -- an access to memory and its authority
-abbrev pub access_parts : State → Step → Option Access → List Part
-access_parts state step None = []
-access_parts state step (Some access) =
-    parts.Authority (Register access.authority) (state access.authority)
+abbrev pub access_parts : Account → Step → Option Access → List Part
+access_parts account step None = []
+access_parts account step (Some access) =
+    authority_part account access.authority
     ∷ parts.Access access.address (access.address + access.size)
-    ∷ parts.Needs (needed_by state step access) ∷ []
+    ∷ parts.Needs (needed_by account.state step access) ∷ []
 
 -- what a result comes from or what is stored, and what an operation on registers asks for
-abbrev pub operand_parts : State → Step → List Part
-operand_parts state step =
-    let row = row_of state step in
-    source_parts state row.parent ++ request_parts state (asked_by step) ++ moved_parts state step ++ type_parts state (type_authority_of step)
+abbrev pub operand_parts : Account → Step → List Part
+operand_parts account step =
+    let row = row_of account.state step in
+    source_parts account row.parent
+    ++ request_parts account.state (asked_by step)
+    ++ moved_parts account.state step
+    ++ type_parts account (type_authority_of step)
 
 -- a step's access to memory
-abbrev pub reached_parts : State → Step → List Part
-reached_parts state step = let row = row_of state step in access_parts state step row.access
+abbrev pub reached_parts : Account → Step → List Part
+reached_parts account step = let row = row_of account.state step in access_parts account step row.access
 
 -- what a step read and asked for
-abbrev pub asked_parts : State → Step → List Part
-asked_parts state step = operand_parts state step ++ reached_parts state step
+abbrev pub asked_parts : Account → Step → List Part
+asked_parts account step = operand_parts account step ++ reached_parts account step
 
 -- the test for which the result of an operation on registers loses its tag in clear mode: an access has no such test
 abbrev pub lost_for : Option Access → Row → Option OpFault
@@ -125,6 +146,6 @@ result_lines state step =
     value_lines row.records row.access (first_of row.tests) ++ lines_of_parts (compared_parts (lost_for row.access row) given.writes row.records)
 
 -- the lines of a step: what it read and asked for, and where its line records another result, what the rules give
-abbrev pub step_lines : State → Step → Refusal → List ℕ
-step_lines state step WrongResult = lines_of_parts (asked_parts state step) ++ result_lines state step
-step_lines state step refusal = lines_of_parts (asked_parts state step)
+abbrev pub step_lines : Account → Step → Refusal → List ℕ
+step_lines account step WrongResult = lines_of_parts (asked_parts account step) ++ result_lines account.state step
+step_lines account step refusal = lines_of_parts (asked_parts account step)

@@ -118,7 +118,7 @@ fn push_no<M: TaggedStore, K: Sink>(
     ensures counted { OnOk result (K.faults sink.new ≡ K.faults sink.old) }
     ensures fault_counted { OnErr result (K.faults sink.new ≡ next_count (K.faults sink.old)) }
 {
-    let mut text = [0u8; 2560];
+    let mut text = [0u8; 3136];
     let mut line = [0u8; 64];
     let length = verdict_text(verdict, &mut line);
     let at = put(&mut text, 0, &line[..length]);

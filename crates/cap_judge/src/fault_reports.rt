@@ -1,7 +1,7 @@
 //! The report of a first fault: the line, and what the machine held before it.
 
 ghost use Rattle.std.specs.Prelude.{◌≡◌, ℕ, List, ◌+◌, ◌≤◌, ◌++◌, [], codes, length, take, drop};
-ghost use Rattle.cap_machine.specs.Helds.{account_of, held_of, state_of};
+ghost use Rattle.cap_machine.specs.Helds.{account_of, held_of};
 ghost use Rattle.cap_log.specs.Lines.{IsPlace};
 ghost use Rattle.cap_bounds.specs.Bounds.{length_of};
 ghost use Rattle.cap_judge.specs.FaultLines.{bytes_of};
@@ -17,7 +17,7 @@ use crate::step_lines::put_step_lines;
 use cap_bounds::mantissa;
 use cap_log::{Line, Place, read_line};
 use cap_machine::{Machine, Refusal};
-use cap_texts::cap_lines::put_cap_lines;
+use cap_texts::cap_lines::{put_cap_lines, put_operand_lines};
 use cap_texts::shown_bytes::put_line_line;
 use cap_texts::text_lines::{put_hex_line, put_number_line};
 use cap_word::{Cap, Word, split};
@@ -32,7 +32,7 @@ pub fn put_report<M: TaggedStore>(
     buffer: &mut [u8],
     at: usize,
 ) -> usize
-    requires { at + 2496 ≤ length buffer.old }
+    requires { at + 3072 ≤ length buffer.old }
     ensures fits { result ≤ length buffer.old }
     ensures report { (report : List ℕ)
         × IsLineReport (account_of (held_of M.contents machine.now)) (bytes_of line.now) refusal report
@@ -51,8 +51,8 @@ fn put_details<M: TaggedStore>(
     buffer: &mut [u8],
     at: usize,
 ) -> usize
-    requires room { at + 1984 ≤ length buffer.old }
-    ensures fits { result ≤ at + 1984 }
+    requires room { at + 2560 ≤ length buffer.old }
+    ensures fits { result ≤ at + 2560 }
     ensures written { (details : List ℕ)
         × AreDetails (account_of (held_of M.contents machine.now)) text.now refusal details
         × (take result buffer.new ≡ take at buffer.old ++ details) }
@@ -104,11 +104,18 @@ fn put_root_lines<M: TaggedStore>(
     ensures from { at ≤ result }
     ensures fits { result ≤ at + 256 }
     ensures written { take result buffer.new ≡ take at buffer.old
-        ++ root_lines (state_of (held_of M.contents machine.now)) place word refusal }
+        ++ root_lines (account_of (held_of M.contents machine.now)) place word refusal }
     ensures rest { (k : ℕ) → result ≤ k → drop k buffer.new ≡ drop k buffer.old }
 {
     match refusal {
-        Refusal::PlaceTaken => put_cap_lines(buffer, at, b"holds", place, machine.holds(place)),
+        Refusal::PlaceTaken => put_operand_lines(
+            buffer,
+            at,
+            b"holds",
+            place,
+            machine.holds(place),
+            machine.origin(place),
+        ),
         _ => {
             let at = put_cap_lines(buffer, at, b"root", place, Cap { tag: true, word });
             put_hex_line(buffer, at, b"length", 17, length_of(word))

@@ -99,7 +99,7 @@ fn no_at(line: u64, refusal: Refusal, bytes: &[u8]) -> (Result<Verdict, JudgeFau
 }
 
 // The version that a line says.
-fn version_of(text: &[u8]) -> Option<u8>
+pub(crate) fn version_of(text: &[u8]) -> Option<u8>
     ensures some { IfSome result (λ version. Spells text.now (lines.Version version)) }
     ensures none { IfNone result ((version : ℕ) → Spells text.now (lines.Version version) → ⊥) }
 {
@@ -113,7 +113,7 @@ fn version_of(text: &[u8]) -> Option<u8>
 }
 
 // The mode that a line says.
-fn mode_of(text: &[u8]) -> Option<Mode>
+pub(crate) fn mode_of(text: &[u8]) -> Option<Mode>
     ensures some { IfSome result (λ mode. Spells text.now (lines.Mode mode)) }
     ensures none { IfNone result ((mode : ModeNamed) → Spells text.now (lines.Mode mode) → ⊥) }
 {
@@ -127,7 +127,7 @@ fn mode_of(text: &[u8]) -> Option<Mode>
 }
 
 // The rules of version 2 in a mode.
-fn rules_of(mode: Mode) -> Rules
+pub(crate) fn rules_of(mode: Mode) -> Rules
     ensures { result ≡ rules_of mode }
 {
     match mode {

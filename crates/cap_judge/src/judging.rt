@@ -249,7 +249,7 @@ impl<M: TaggedStore> Progress<M> {
 }
 
 // The verdict where the bytes end at a line's start.
-fn finished_verdict<M: TaggedStore>(progress: &Progress<M>, line: u64) -> Verdict
+pub(crate) fn finished_verdict<M: TaggedStore>(progress: &Progress<M>, line: u64) -> Verdict
     ensures { result ≡ finished (reading_of M.contents progress.now) line }
 {
     if progress.ended {

@@ -15,23 +15,26 @@ use cap_log::Place;
 use cap_log::buffers::{put, put_decimal};
 use cap_machine::Refusal;
 use cap_ops::OpFault;
-use cap_texts::cap_lines::{put_bounds_line, put_cap_lines};
+use cap_texts::cap_lines::{put_bounds_line, put_cap_lines, put_operand_lines};
 use cap_texts::text_lines::put_hex_line;
 use cap_word::{Cap, split};
 
 /// A part of the report on a step.
 #[derive(Clone, Copy)]
 pub enum Part {
-    /// What the place holds that a result comes from, or that is stored.
-    Source(Place, Cap),
-    /// What the register holds that is the authority.
-    Authority(Place, Cap),
+    /// What the place holds that a result comes from, or that is stored, and the place of its root.
+    Source(Place, Cap, Option<Place>),
+    /// What the register holds that is the authority, and the place of its root.
+    Authority(Place, Cap, Option<Place>),
     /// The bounds that are asked for.
     Request(u64, u128),
     /// The bounds to which these are rounded.
     Rounded(u64, u128),
     /// The bounds at the address that is asked for.
     Moved(u64, u128),
+    /// The representable range of the source: where it starts, and behind its last address, not reduced
+    /// modulo 2^64.
+    Representable(u64, u128),
     /// The bytes of an access: the address of the first, and that behind the last.
     Access(u64, u128),
     /// The permissions that the authority needs, in the view.
@@ -49,8 +52,8 @@ pub enum Part {
 /// Writes the lines of parts at an index of the buffer, and answers the index behind them. Nothing else of
 /// the buffer changes.
 pub fn put_parts(buffer: &mut [u8], at: usize, parts: &[Part]) -> usize
-    requires { at + 192 * length parts.now ≤ length buffer.old }
-    ensures { IsWritten (192 * length parts.now) at (lines_of_parts parts.now) buffer.old buffer.new result }
+    requires { at + 256 * length parts.now ≤ length buffer.old }
+    ensures { IsWritten (256 * length parts.now) at (lines_of_parts parts.now) buffer.old buffer.new result }
 {
     let mut end = at;
     for index in 0..parts.len() {
@@ -61,12 +64,16 @@ pub fn put_parts(buffer: &mut [u8], at: usize, parts: &[Part]) -> usize
 
 // Writes the lines of a part.
 fn put_part(buffer: &mut [u8], at: usize, part: &Part) -> usize
-    requires { at + 192 ≤ length buffer.old }
-    ensures { IsWritten 192 at (part_lines part.now) buffer.old buffer.new result }
+    requires { at + 256 ≤ length buffer.old }
+    ensures { IsWritten 256 at (part_lines part.now) buffer.old buffer.new result }
 {
     match *part {
-        Part::Source(place, cap) => put_cap_lines(buffer, at, b"source", place, cap),
-        Part::Authority(place, cap) => put_cap_lines(buffer, at, b"authority", place, cap),
+        Part::Source(place, cap, root) => {
+            put_operand_lines(buffer, at, b"source", place, cap, root)
+        }
+        Part::Authority(place, cap, root) => {
+            put_operand_lines(buffer, at, b"authority", place, cap, root)
+        }
         Part::Request(base, top) => {
             put_bounds_line(buffer, at, b"request", b" ", u128::from(base), top)
         }
@@ -75,6 +82,9 @@ fn put_part(buffer: &mut [u8], at: usize, part: &Part) -> usize
         }
         Part::Moved(base, top) => {
             put_bounds_line(buffer, at, b"moved", b" ", u128::from(base), top)
+        }
+        Part::Representable(start, end) => {
+            put_bounds_line(buffer, at, b"representable", b" ", u128::from(start), end)
         }
         Part::Access(start, end) => {
             put_bounds_line(buffer, at, b"access", b" ", u128::from(start), end)

@@ -23,15 +23,29 @@ ghost use Rattle.cap_ops.specs.Operations.{
   unseal_tests,
 };
 ghost use Rattle.cap_ops.specs.Tests.{first_of};
-ghost use Rattle.cap_machine.specs.Helds.{held_of, state_of};
-ghost use Rattle.cap_machine.specs.States.{granule_key};
-ghost use Rattle.cap_machine.specs.Steps.{Read, Written, address_through, clear_row, granule_through, row_of};
+ghost use Rattle.cap_machine.specs.Helds.{account_of, held_of, state_of};
+ghost use Rattle.cap_machine.specs.Steps.{Read, Written, address_through, clear_row, row_of};
 ghost use Rattle.cap_judge.specs.Parts.{IsWritten, lines_of_parts};
-ghost use Rattle.cap_judge.specs.StepLines.{IfWritten, asked_parts, compared_parts, lost_for, needs_to_store, operand_parts, reached_parts, request_parts, result_lines, step_lines};
+ghost use Rattle.cap_judge.specs.StepLines.{
+  IfWritten,
+  asked_parts,
+  authority_part,
+  compared_parts,
+  lost_for,
+  needs_to_store,
+  operand_parts,
+  range_part,
+  reached_parts,
+  request_parts,
+  result_lines,
+  source_part,
+  step_lines,
+};
 ghost use Rattle.cap_judge.specs.declared.parts.Part.TheVariants as parts;
 
+use crate::operands::{authority_in, granule_in, reached, source_in};
 use crate::parts::{Part, put_parts};
-use cap_bounds::{Interval, bounds, round};
+use cap_bounds::{Interval, bounds, reach, round};
 use cap_log::{Place, Step};
 use cap_machine::{Machine, Refusal};
 use cap_ops::{
@@ -67,8 +81,8 @@ pub fn put_step_lines<M: TaggedStore>(
     at: usize,
 ) -> usize
     requires step { IsStepInRange step.now }
-    requires room { at + 1920 ≤ length buffer.old }
-    ensures { IsWritten 1920 at (step_lines (state_of (held_of M.contents machine.now)) step.now refusal) buffer.old buffer.new result }
+    requires room { at + 2560 ≤ length buffer.old }
+    ensures { IsWritten 2560 at (step_lines (account_of (held_of M.contents machine.now)) step.now refusal) buffer.old buffer.new result }
 {
     let at = put_asked(machine, step, buffer, at);
     match refusal {
@@ -85,8 +99,8 @@ fn put_asked<M: TaggedStore>(
     at: usize,
 ) -> usize
     requires step { IsStepInRange step.now }
-    requires room { at + 1152 ≤ length buffer.old }
-    ensures { IsWritten 1152 at (lines_of_parts (asked_parts (state_of (held_of M.contents machine.now)) step.now)) buffer.old buffer.new result }
+    requires room { at + 1536 ≤ length buffer.old }
+    ensures { IsWritten 1536 at (lines_of_parts (asked_parts (account_of (held_of M.contents machine.now)) step.now)) buffer.old buffer.new result }
 {
     let at = put_operands(machine, step, buffer, at);
     put_access(machine, step, buffer, at)
@@ -100,8 +114,8 @@ fn put_operands<M: TaggedStore>(
     at: usize,
 ) -> usize
     requires step { IsStepInRange step.now }
-    requires room { at + 576 ≤ length buffer.old }
-    ensures { IsWritten 576 at (lines_of_parts (operand_parts (state_of (held_of M.contents machine.now)) step.now)) buffer.old buffer.new result }
+    requires room { at + 768 ≤ length buffer.old }
+    ensures { IsWritten 768 at (lines_of_parts (operand_parts (account_of (held_of M.contents machine.now)) step.now)) buffer.old buffer.new result }
 {
     match *step {
         Step::Move { source, .. } => put_parts(buffer, at, &[source_in(machine, source)]),
@@ -144,8 +158,8 @@ fn put_access<M: TaggedStore>(
     at: usize,
 ) -> usize
     requires step { IsStepInRange step.now }
-    requires room { at + 576 ≤ length buffer.old }
-    ensures { IsWritten 576 at (lines_of_parts (reached_parts (state_of (held_of M.contents machine.now)) step.now)) buffer.old buffer.new result }
+    requires room { at + 768 ≤ length buffer.old }
+    ensures { IsWritten 768 at (lines_of_parts (reached_parts (account_of (held_of M.contents machine.now)) step.now)) buffer.old buffer.new result }
 {
     match *step {
         Step::LoadCap {
@@ -177,34 +191,6 @@ fn put_access<M: TaggedStore>(
     }
 }
 
-// What a register holds that a result comes from, or that is stored.
-fn source_in<M: TaggedStore>(machine: &Machine<M>, register: u8) -> Part
-    requires { register ≤ 31 }
-    ensures { result ≡ parts.Source (places.Register register) (state_of (held_of M.contents machine.now) register) }
-{
-    Part::Source(Place::Register(register), machine.register(register))
-}
-
-// What the granule holds that an access reaches.
-fn granule_in<M: TaggedStore>(machine: &Machine<M>, authority: u8, offset: i16) -> Part
-    requires authority { authority ≤ 31 }
-    requires offset { IsOffset offset }
-    ensures { let state = state_of (held_of M.contents machine.now) in
-        let granule = granule_through state authority offset in
-        result ≡ parts.Source (places.Granule granule) (state (granule_key granule)) }
-{
-    let granule = reached(machine, authority, offset) / 16;
-    Part::Source(Place::Granule(granule), machine.granule(granule))
-}
-
-// What a register holds that is the authority.
-fn authority_in<M: TaggedStore>(machine: &Machine<M>, register: u8) -> Part
-    requires { register ≤ 31 }
-    ensures { result ≡ parts.Authority (places.Register register) (state_of (held_of M.contents machine.now) register) }
-{
-    Part::Authority(Place::Register(register), machine.register(register))
-}
-
 // Writes a source, the bounds that are asked for, and those to which they are rounded.
 fn put_request<M: TaggedStore>(
     machine: &Machine<M>,
@@ -214,26 +200,25 @@ fn put_request<M: TaggedStore>(
     at: usize,
 ) -> usize
     requires source { source ≤ 31 }
-    requires room { at + 576 ≤ length buffer.old }
-    ensures { IsWritten 576 at (lines_of_parts (
-        parts.Source (places.Register source) (state_of (held_of M.contents machine.now) source)
+    requires room { at + 768 ≤ length buffer.old }
+    ensures { IsWritten 768 at (lines_of_parts (
+        source_part (account_of (held_of M.contents machine.now)) (places.Register source)
         ∷ request_parts (state_of (held_of M.contents machine.now)) (Some (source, asked)))) buffer.old buffer.new result }
 {
-    let held = machine.register(source);
-    let base = held.word.address();
+    let base = machine.register(source).word.address();
     let rounded = round(base, asked);
     put_parts(
         buffer,
         at,
         &[
-            Part::Source(Place::Register(source), held),
+            source_in(machine, source),
             Part::Request(base, u128::from(base) + u128::from(asked)),
             Part::Rounded(rounded.base, rounded.top),
         ],
     )
 }
 
-// Writes a source, and the bounds at the address that is asked for.
+// Writes a source, the bounds at the address that is asked for, and the source's representable range.
 fn put_moved<M: TaggedStore>(
     machine: &Machine<M>,
     source: u8,
@@ -242,14 +227,23 @@ fn put_moved<M: TaggedStore>(
     at: usize,
 ) -> usize
     requires source { source ≤ 31 }
-    requires room { at + 576 ≤ length buffer.old }
-    ensures { let state = state_of (held_of M.contents machine.now) in
-        let moved = with_address (state source).word.0 address in
-        IsWritten 576 at (lines_of_parts (parts.Source (places.Register source) (state source)
-        ∷ parts.Moved (base_of moved) (top_of moved) ∷ [])) buffer.old buffer.new result }
+    requires room { at + 768 ≤ length buffer.old }
+    ensures { let account = account_of (held_of M.contents machine.now) in
+        let held = (account.state source).word.0 in
+        let moved = with_address held address in
+        IsWritten 768 at (lines_of_parts (source_part account (places.Register source)
+        ∷ parts.Moved (base_of moved) (top_of moved) ∷ range_part held ∷ [])) buffer.old buffer.new result }
 {
-    let moved = moved_to(machine.register(source).word, address);
-    put_parts(buffer, at, &[source_in(machine, source), moved])
+    let held = machine.register(source).word;
+    put_parts(
+        buffer,
+        at,
+        &[
+            source_in(machine, source),
+            moved_to(held, address),
+            range_of(held),
+        ],
+    )
 }
 
 // The bounds that a word has at another address.
@@ -258,6 +252,16 @@ fn moved_to(word: Word, address: u64) -> Part
 {
     let Interval { base, top } = bounds(Word(word.0 >> 64 << 64 | u128::from(address)));
     Part::Moved(base, top)
+}
+
+// The representable range of a word: the address space where each address keeps its bounds.
+fn range_of(word: Word) -> Part
+    ensures { result ≡ range_part word.0 }
+{
+    match reach(word) {
+        Some((start, size)) => Part::Representable(start, u128::from(start) + u128::from(size)),
+        None => Part::Representable(0, 1 << 64),
+    }
 }
 
 // Writes a source, an authority over object types, and the permission that it needs.
@@ -271,10 +275,10 @@ fn put_typing<M: TaggedStore>(
 ) -> usize
     requires source { source ≤ 31 }
     requires authority { authority ≤ 31 }
-    requires room { at + 576 ≤ length buffer.old }
-    ensures { IsWritten 576 at (lines_of_parts (
-        parts.Source (places.Register source) (state_of (held_of M.contents machine.now) source)
-        ∷ parts.Authority (places.Register authority) (state_of (held_of M.contents machine.now) authority)
+    requires room { at + 768 ≤ length buffer.old }
+    ensures { IsWritten 768 at (lines_of_parts (
+        source_part (account_of (held_of M.contents machine.now)) (places.Register source)
+        ∷ authority_part (account_of (held_of M.contents machine.now)) authority
         ∷ parts.Needs needs ∷ [])) buffer.old buffer.new result }
 {
     put_parts(
@@ -286,17 +290,6 @@ fn put_typing<M: TaggedStore>(
             Part::Needs(needs),
         ],
     )
-}
-
-// The address of an access through a register.
-#[tactic(auto, unfolding(cap_ops::specs::Accesses::access_address))]
-fn reached<M: TaggedStore>(machine: &Machine<M>, authority: u8, offset: i16) -> u64
-    requires authority { authority ≤ 31 }
-    requires offset { IsOffset offset }
-    ensures { result ≡ address_through (state_of (held_of M.contents machine.now)) authority offset }
-{
-    let word = machine.register(authority).word;
-    word.address().wrapping_add_signed(i64::from(offset))
 }
 
 // Writes an authority over memory, the bytes of an access, and the permissions that it needs.
@@ -311,10 +304,10 @@ fn put_reached<M: TaggedStore>(
 ) -> usize
     requires authority { authority ≤ 31 }
     requires offset { IsOffset offset }
-    requires room { at + 576 ≤ length buffer.old }
-    ensures { let state = state_of (held_of M.contents machine.now) in
-        let address = address_through state authority offset in
-        IsWritten 576 at (lines_of_parts (parts.Authority (places.Register authority) (state authority)
+    requires room { at + 768 ≤ length buffer.old }
+    ensures { let account = account_of (held_of M.contents machine.now) in
+        let address = address_through account.state authority offset in
+        IsWritten 768 at (lines_of_parts (authority_part account authority
         ∷ parts.Access address (address + size) ∷ parts.Needs needs ∷ [])) buffer.old buffer.new result }
 {
     let address = reached(machine, authority, offset);
@@ -365,8 +358,8 @@ fn put_result<M: TaggedStore>(
     at: usize,
 ) -> usize
     requires step { IsStepInRange step.now }
-    requires room { at + 768 ≤ length buffer.old }
-    ensures { IsWritten 768 at (result_lines (state_of (held_of M.contents machine.now)) step.now) buffer.old buffer.new result }
+    requires room { at + 1024 ≤ length buffer.old }
+    ensures { IsWritten 1024 at (result_lines (state_of (held_of M.contents machine.now)) step.now) buffer.old buffer.new result }
 {
     let given = given_by(machine, step);
     match *step {
@@ -512,8 +505,8 @@ fn unsealed(held: Cap, authority: Cap) -> Given
 // Writes the result that the rules give, the test for which it has no tag, the recorded result, and in which
 // fields the two differ.
 fn put_compared(buffer: &mut [u8], at: usize, target: u8, given: Given, recorded: Cap) -> usize
-    requires { at + 768 ≤ length buffer.old }
-    ensures { IsWritten 768 at (lines_of_parts (compared_parts given.fault
+    requires { at + 1024 ≤ length buffer.old }
+    ensures { IsWritten 1024 at (lines_of_parts (compared_parts given.fault
         (Some (places.Register target, given.cap)) (Written recorded))) buffer.old buffer.new result }
 {
     let place = Place::Register(target);
@@ -544,9 +537,9 @@ fn put_values<M: TaggedStore>(
     requires offset { IsOffset offset }
     requires size { IsDataSize size }
     requires value { IsDataValue size value }
-    requires room { at + 768 ≤ length buffer.old }
+    requires room { at + 1024 ≤ length buffer.old }
     ensures from { at ≤ result }
-    ensures fits { result ≤ at + 768 }
+    ensures fits { result ≤ at + 1024 }
     ensures written { take result buffer.new ≡ take at buffer.old
         ++ result_lines (state_of (held_of M.contents machine.now)) (steps.Load authority offset size value) }
     ensures rest { (k : ℕ) → result ≤ k → drop k buffer.new ≡ drop k buffer.old }

@@ -40,3 +40,12 @@ pub enum JudgeToFault {
     /// The sink failed.
     Push,
 }
+
+/// Why a judge that is given lines did not take one.
+#[derive(Debug, Clone, Copy, PartialEq, Eq)]
+pub enum TakeFault {
+    /// The bytes are no line with its line feed.
+    NoLine,
+    /// There was no memory for a granule that the line names for the first time.
+    NoMemory,
+}

@@ -1,5 +1,5 @@
 -- The lines that show a capability of a report (this profile's own).
-use Rattle.std.specs.Prelude.{ℕ, List, ◌++◌, codes}
+use Rattle.std.specs.Prelude.{ℕ, List, [], ◌++◌, Option, Some, None, codes}
 use Rattle.cap_word.specs.Digits.{hex_digits}
 use Rattle.cap_word.specs.Fields.{otype_of}
 use Rattle.cap_word.specs.declared.word.Cap.{Cap}
@@ -33,3 +33,16 @@ cap_lines name place cap =
     ++ perms_line name (perm_view_of cap.word.0)
     ++ type_line name (otype_of cap.word.0)
     ++ bounds_line name (codes " bounds ") (base_of cap.word.0) (top_of cap.word.0)
+
+-- the place of the root that a capability descends from
+unfoldable pub descent_line : List ℕ → Place → List ℕ
+descent_line name root = name ++ codes " origin " ++ place_spelling root ++ codes "\n"
+
+-- that line, where there is such a root
+abbrev pub descent_lines : List ℕ → Option Place → List ℕ
+descent_lines name None = []
+descent_lines name (Some root) = descent_line name root
+
+-- the lines of an operand: those of the capability that its place holds, and the root that this descends from
+unfoldable pub operand_lines : List ℕ → Place → Cap → Option Place → List ℕ
+operand_lines name place cap root = cap_lines name place cap ++ descent_lines name root

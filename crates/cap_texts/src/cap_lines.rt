@@ -1,9 +1,19 @@
-//! The lines that show a capability of a report: its place, tag and word, and what these stand for.
+//! The lines that show a capability of a report: its place, tag and word, what these stand for, and from
+//! which root it comes.
 
 ghost use Rattle.std.specs.Prelude.{◌≡◌, ℕ, ◌+◌, ◌≤◌, ◌++◌, codes, length, take, drop};
 ghost use Rattle.cap_word.specs.Digits.{hex_digits};
 ghost use Rattle.cap_log.specs.Lines.{place_spelling, tag_spelling};
-ghost use Rattle.cap_texts.specs.CapLines.{bounds_line, cap_lines, cap_line, perms_line, type_line};
+ghost use Rattle.cap_texts.specs.CapLines.{
+  bounds_line,
+  cap_lines,
+  cap_line,
+  descent_line,
+  descent_lines,
+  operand_lines,
+  perms_line,
+  type_line,
+};
 ghost use Rattle.cap_texts.specs.ExplainLines.{type_name};
 
 use crate::explain_lines::type_name;
@@ -12,6 +22,59 @@ use cap_log::Place;
 use cap_log::buffers::{put, put_decimal, put_hex};
 use cap_ops::perm_view;
 use cap_word::{Cap, split};
+
+/// Writes the lines of an operand that has this name in a report, and answers the index behind them: the
+/// four of the capability that its place holds, and the place of the root that this descends from, where
+/// there is one. Nothing else of the buffer changes.
+pub fn put_operand_lines(
+    buffer: &mut [u8],
+    at: usize,
+    name: &[u8],
+    place: Place,
+    cap: Cap,
+    root: Option<Place>,
+) -> usize
+    requires name { length name.now ≤ 9 }
+    requires room { at + 256 ≤ length buffer.old }
+    ensures from { at ≤ result }
+    ensures fits { result ≤ at + 256 }
+    ensures written { take result buffer.new ≡ take at buffer.old ++ operand_lines name.now place cap root }
+    ensures rest { (k : ℕ) → result ≤ k → drop k buffer.new ≡ drop k buffer.old }
+{
+    let at = put_cap_lines(buffer, at, name, place, cap);
+    put_descent_lines(buffer, at, name, root)
+}
+
+// Writes the place of a root, where there is one.
+fn put_descent_lines(buffer: &mut [u8], at: usize, name: &[u8], root: Option<Place>) -> usize
+    requires name { length name.now ≤ 9 }
+    requires room { at + 64 ≤ length buffer.old }
+    ensures from { at ≤ result }
+    ensures fits { result ≤ at + 64 }
+    ensures written { take result buffer.new ≡ take at buffer.old ++ descent_lines name.now root }
+    ensures rest { (k : ℕ) → result ≤ k → drop k buffer.new ≡ drop k buffer.old }
+{
+    match root {
+        Some(root) => put_descent_line(buffer, at, name, root),
+        None => at,
+    }
+}
+
+// Writes the place of a root.
+#[tactic(auto, using(cap_log::proofs::ElementLemmas::short_decimal))]
+fn put_descent_line(buffer: &mut [u8], at: usize, name: &[u8], root: Place) -> usize
+    requires name { length name.now ≤ 9 }
+    requires room { at + 64 ≤ length buffer.old }
+    ensures from { at ≤ result }
+    ensures fits { result ≤ at + 64 }
+    ensures written { take result buffer.new ≡ take at buffer.old ++ descent_line name.now root }
+    ensures rest { (k : ℕ) → result ≤ k → drop k buffer.new ≡ drop k buffer.old }
+{
+    let at = put(buffer, at, name);
+    let at = put(buffer, at, b" origin ");
+    let at = put_shown_place(buffer, at, root);
+    put(buffer, at, b"\n")
+}
 
 /// Writes the four lines of a capability that has this name in a report, and answers the index behind
 /// them. Nothing else of the buffer changes.
@@ -127,8 +190,7 @@ pub fn put_bounds_line(
     base: u128,
     top: u128,
 ) -> usize
-    requires name { length name.now ≤ 9 }
-    requires word { length word.now ≤ 8 }
+    requires names { length name.now + length word.now ≤ 17 }
     requires room { at + 52 ≤ length buffer.old }
     ensures from { at ≤ result }
     ensures fits { result ≤ at + 52 }

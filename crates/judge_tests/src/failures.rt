@@ -1,9 +1,10 @@
 //! Pulls, pushes and growths of memory that fail, each in turn.
 
+use crate::made::{Blocks, Made};
+use cap_judge::by_lines::Judge;
 use cap_judge::judging::{judge, judge_in};
 use cap_judge::reporting::judge_to;
-use crate::made::{Blocks, Made};
-use cap_judge::verdict::{JudgeFault, JudgeToFault, Verdict};
+use cap_judge::verdict::{JudgeFault, JudgeToFault, TakeFault, Verdict};
 use cap_log::{FailingSink, FailingSource, SliceSink, SliceSource, Source, WriteSink};
 use cap_machine::Refusal;
 use std::alloc::Global;
@@ -338,4 +339,27 @@ fn growths_up_to_the_limit(rt: HostRuntime) {
         });
         grows(&rt, rt.alloc(), &mut source, 65_536, at, verdict);
     }
+}
+
+// A line for which memory was refused is handed over again.
+#[test]
+fn a_line_handed_over_again(rt: HostRuntime) {
+    let memory = Refusing {
+        inner: ListStore::new(rt.alloc()),
+        waits: Some(0),
+    };
+    assert_eq!(rt; memory.count(), 0);
+    let mut judge = Judge::new(memory);
+    assert_eq!(rt; judge.take(b"capcheck 1\n"), Ok(()));
+    let root = b"root c1 ffff1ffffc0180040000000000000000\n";
+    assert_eq!(rt; judge.take(root), Ok(()));
+    let line = b"sc c1 c1 0\n";
+    assert_eq!(rt; judge.take(line), Err(TakeFault::NoMemory));
+    assert_eq!(rt; judge.answer(), None);
+    assert_eq!(rt; judge.end(), no(3, Refusal::Truncated));
+    assert!(rt; !judge.granule(0).tag);
+    assert_eq!(rt; judge.take(line), Ok(()));
+    assert!(rt; judge.granule(0).tag);
+    assert_eq!(rt; judge.take(b"end 1\n"), Ok(()));
+    assert_eq!(rt; judge.end(), Verdict::Yes { steps: 1, roots: 1 });
 }

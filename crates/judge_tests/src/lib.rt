@@ -5,6 +5,8 @@
 #[cfg(test)]
 mod addresses;
 #[cfg(test)]
+mod by_lines;
+#[cfg(test)]
 mod examples;
 #[cfg(test)]
 mod failures;

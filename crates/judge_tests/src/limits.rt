@@ -1,7 +1,7 @@
 //! Logs at the limits on roots and granules.
 
-use cap_judge::explaining::judge_why;
 use crate::logs::{ROOT, judges};
+use cap_judge::explaining::judge_why;
 use cap_log::{SliceSink, SliceSource};
 use std::alloc::{AllocError, Global};
 use std::test::Fail;

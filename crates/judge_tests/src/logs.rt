@@ -1,7 +1,8 @@
 //! Whole logs and their verdicts, byte for byte.
 
-use cap_judge::judging::judge_bytes;
+use crate::by_lines::by_lines;
 use crate::pieces::{cut, each_pull_failing, in_pieces, longer, over_a_list};
+use cap_judge::judging::judge_bytes;
 use cap_judge::verdict::Verdict;
 use cap_judge::verdict_lines::verdict_text;
 use std::process::Abort;
@@ -28,7 +29,7 @@ pub fn all_judged(rt: &(impl Abort + AllocGlobal), beginning: &str, rows: &[Row]
 
 /// The verdict on a log is this line: in one piece and in pieces of one byte, with its granules in pages and
 /// in a list. A short log also comes in pieces of up to eight bytes, and in pieces of one byte with each pull
-/// failing in turn, and, with a yes, cut and with a byte more.
+/// failing in turn, and line by line, and, with a yes, cut and with a byte more.
 pub fn judges(rt: &(impl Abort + AllocGlobal), name: &str, log: &[u8], line: &[u8]) {
     let Ok(verdict) = judge_bytes(rt.alloc(), log) else {
         panic!(rt; "no verdict: {name}");
@@ -43,6 +44,7 @@ pub fn judges(rt: &(impl Abort + AllocGlobal), name: &str, log: &[u8], line: &[u
             in_pieces(rt, rt.alloc(), log, size, verdict);
         }
         each_pull_failing(rt, rt.alloc(), log, verdict);
+        by_lines(rt, rt.alloc(), log);
         if matches!(verdict, Verdict::Yes { steps: _, roots: _ }) {
             cut(rt, rt.alloc(), log);
             longer(rt, rt.alloc(), log);

@@ -10,7 +10,7 @@ use std::process::Abort;
 use tagmem::{ListStore, TaggedStore};
 
 // Logs that are refused, and what is told of them.
-const REPORTS: [(&str, &str); 31] = [
+const REPORTS: [(&str, &str); 33] = [
     (
         "capcheck 1\r\n\
         root c1 ffff1ffffc0180040000000000000000\r\n",
@@ -96,7 +96,8 @@ const REPORTS: [(&str, &str); 31] = [
         holds c1 1 ffff1ffffc0180040000000000000000\n\
         holds perms 00078fff\n\
         holds otype 3ffff unsealed\n\
-        holds bounds 0000000000000000 10000000000000000\n",
+        holds bounds 0000000000000000 10000000000000000\n\
+        holds origin c1\n",
     ),
     (
         "capcheck 1\n\
@@ -124,6 +125,7 @@ const REPORTS: [(&str, &str); 31] = [
         authority perms 00078fff\n\
         authority otype 3ffff unsealed\n\
         authority bounds 0000000000000000 10000000000000000\n\
+        authority origin c1\n\
         needs 00000080\n",
     ),
     (
@@ -137,7 +139,8 @@ const REPORTS: [(&str, &str); 31] = [
         source c3 1 ffff1fffdc0180040000000000000000\n\
         source perms 00078fff\n\
         source otype 3fffb sealed\n\
-        source bounds 0000000000000000 10000000000000000\n",
+        source bounds 0000000000000000 10000000000000000\n\
+        source origin c1\n",
     ),
     (
         "capcheck 1\n\
@@ -152,6 +155,7 @@ const REPORTS: [(&str, &str); 31] = [
         source perms 00078fff\n\
         source otype 3ffff unsealed\n\
         source bounds 0000000000001000 00000000000001020\n\
+        source origin c1\n\
         request 0000000000001000 00000000000001021\n\
         rounded 0000000000001000 00000000000001021\n",
     ),
@@ -167,6 +171,7 @@ const REPORTS: [(&str, &str); 31] = [
         source perms 00078fff\n\
         source otype 3ffff unsealed\n\
         source bounds 0000000000000000 10000000000000000\n\
+        source origin c1\n\
         request 0000000000001000 00000000000002001\n\
         rounded 0000000000001000 00000000000002008\n",
     ),
@@ -181,7 +186,25 @@ const REPORTS: [(&str, &str); 31] = [
         source perms 00078fff\n\
         source otype 3ffff unsealed\n\
         source bounds 0000000000000000 00000000000000fff\n\
-        moved 0000000000004000 00000000000004fff\n",
+        source origin c1\n\
+        moved 0000000000004000 00000000000004fff\n\
+        representable fffffffffffff800 10000000000003800\n",
+    ),
+    (
+        "capcheck 1\n\
+        root c1 ffff1ffffc0180040000000000000000\n\
+        setaddr c2 c1 000000000003fffb = 1 ffff1ffffc018004000000000003fffb\n\
+        seal c3 c1 c2 = 1 ffff1fffdc0180040000000000000000\n\
+        setaddr c4 c3 0000000000001000 = 1 ffff1fffdc0180040000000000001000\n",
+        "no 5 10 SourceSealed\n\
+        line setaddr c4 c3 0000000000001000 = 1 ffff1fffdc0180040000000000001000\n\
+        source c3 1 ffff1fffdc0180040000000000000000\n\
+        source perms 00078fff\n\
+        source otype 3fffb sealed\n\
+        source bounds 0000000000000000 10000000000000000\n\
+        source origin c1\n\
+        moved 0000000000000000 10000000000000000\n\
+        representable 0000000000000000 10000000000000000\n",
     ),
     (
         "capcheck 1\n\
@@ -208,6 +231,7 @@ const REPORTS: [(&str, &str); 31] = [
         authority perms 00078fff\n\
         authority otype 3fffb sealed\n\
         authority bounds 0000000000000000 10000000000000000\n\
+        authority origin c1\n\
         access 0000000000000000 00000000000000008\n\
         needs 00000004\n",
     ),
@@ -222,6 +246,7 @@ const REPORTS: [(&str, &str); 31] = [
         authority perms 00078ff7\n\
         authority otype 3ffff unsealed\n\
         authority bounds 0000000000000000 10000000000000000\n\
+        authority origin c1\n\
         access 0000000000000010 00000000000000014\n\
         needs 00000008\n",
     ),
@@ -237,6 +262,7 @@ const REPORTS: [(&str, &str); 31] = [
         authority perms 00078fff\n\
         authority otype 3ffff unsealed\n\
         authority bounds 0000000000001000 00000000000001020\n\
+        authority origin c1\n\
         access 0000000000001019 00000000000001021\n\
         needs 00000004\n",
     ),
@@ -251,10 +277,12 @@ const REPORTS: [(&str, &str); 31] = [
         source perms 00078fff\n\
         source otype 3ffff unsealed\n\
         source bounds 0000000000000000 10000000000000000\n\
+        source origin c1\n\
         authority c2 1 ffff1ffff80000000000000000000000\n\
         authority perms 00078fff\n\
         authority otype 3ffff unsealed\n\
         authority bounds 0000000000000000 00000000000000000\n\
+        authority origin c1\n\
         needs 00000080\n",
     ),
     (
@@ -268,10 +296,12 @@ const REPORTS: [(&str, &str); 31] = [
         source perms 00078fff\n\
         source otype 3ffff unsealed\n\
         source bounds 0000000000000000 10000000000000000\n\
+        source origin c1\n\
         authority c2 1 ffff1ffffc018004000000000003fffc\n\
         authority perms 00078fff\n\
         authority otype 3ffff unsealed\n\
         authority bounds 0000000000000000 10000000000000000\n\
+        authority origin c1\n\
         needs 00000080\n",
     ),
     (
@@ -287,10 +317,12 @@ const REPORTS: [(&str, &str); 31] = [
         source perms 00078fff\n\
         source otype 3fffb sealed\n\
         source bounds 0000000000000000 10000000000000000\n\
+        source origin c1\n\
         authority c4 1 ffff1ffffc0180040000000000000007\n\
         authority perms 00078fff\n\
         authority otype 3ffff unsealed\n\
         authority bounds 0000000000000000 10000000000000000\n\
+        authority origin c1\n\
         needs 00000200\n",
     ),
     (
@@ -305,6 +337,7 @@ const REPORTS: [(&str, &str); 31] = [
         authority perms 00078fff\n\
         authority otype 3ffff unsealed\n\
         authority bounds 0000000000001000 00000000000001020\n\
+        authority origin c1\n\
         access 0000000000001014 0000000000000101c\n\
         needs 00000004\n",
     ),
@@ -319,10 +352,12 @@ const REPORTS: [(&str, &str); 31] = [
         source perms 00078fff\n\
         source otype 3ffff unsealed\n\
         source bounds 0000000000000000 10000000000000000\n\
+        source origin c1\n\
         authority c2 1 ffdf1ffffc0180040000000000000000\n\
         authority perms 00078fdf\n\
         authority otype 3ffff unsealed\n\
         authority bounds 0000000000000000 10000000000000000\n\
+        authority origin c1\n\
         access 0000000000000000 00000000000000010\n\
         needs 00000028\n",
     ),
@@ -338,10 +373,12 @@ const REPORTS: [(&str, &str); 31] = [
         source perms 00078ffe\n\
         source otype 3ffff unsealed\n\
         source bounds 0000000000000000 10000000000000000\n\
+        source origin c1\n\
         authority c5 1 ffbf1ffffc0180040000000000000000\n\
         authority perms 00078fbf\n\
         authority otype 3ffff unsealed\n\
         authority bounds 0000000000000000 10000000000000000\n\
+        authority origin c1\n\
         access 0000000000000000 00000000000000010\n\
         needs 00000068\n",
     ),
@@ -359,10 +396,12 @@ const REPORTS: [(&str, &str); 31] = [
         source perms 00078fff\n\
         source otype 3fffb sealed\n\
         source bounds 0000000000000000 10000000000000000\n\
+        source origin c1\n\
         authority c4 1 fffe1ffffc018004000000000003fffb\n\
         authority perms 00078ffe\n\
         authority otype 3ffff unsealed\n\
         authority bounds 0000000000000000 10000000000000000\n\
+        authority origin c1\n\
         needs 00000200\n\
         gives c5 1 fffe1ffffc0180040000000000000000\n\
         gives perms 00078ffe\n\
@@ -386,6 +425,7 @@ const REPORTS: [(&str, &str); 31] = [
         source perms 00078fff\n\
         source otype 3ffff unsealed\n\
         source bounds 0000000000000000 10000000000000000\n\
+        source origin c1\n\
         request 0000000000001000 00000000000002001\n\
         rounded 0000000000001000 00000000000002008\n\
         gives c3 1 ffff1ffffc0210000000000000001000\n\
@@ -410,6 +450,7 @@ const REPORTS: [(&str, &str); 31] = [
         authority perms 00078fff\n\
         authority otype 3ffff unsealed\n\
         authority bounds 0000000000000000 10000000000000000\n\
+        authority origin c1\n\
         access 0000000000000008 0000000000000000a\n\
         needs 00000004\n\
         gives 5678\n\
@@ -429,6 +470,7 @@ const REPORTS: [(&str, &str); 31] = [
         source perms 00078fff\n\
         source otype 3ffff unsealed\n\
         source bounds 0000000000001000 00000000000001020\n\
+        source origin c1\n\
         request 0000000000001000 00000000000001021\n\
         rounded 0000000000001000 00000000000001021\n\
         gives c4 0 ffff1ffff80850000000000000001000\n\
@@ -440,6 +482,33 @@ const REPORTS: [(&str, &str); 31] = [
         recorded perms 00078fff\n\
         recorded otype 3ffff unsealed\n\
         recorded bounds 0000000000001000 00000000000001021\n\
+        differs tag\n",
+    ),
+    (
+        "capcheck 2\n\
+        mode clear\n\
+        root c1 ffff1ffffc0180040000000000000000\n\
+        setaddr c2 c1 0000000000001000 = 1 ffff1ffffc0180040000000000001000\n\
+        setbounds c4 c2 0000000000000fff = 1 ffff1ffffbffd0000000000000001000\n\
+        setaddr c5 c4 0000000000008000 = 1 ffff1ffffbffd0000000000000008000\n",
+        "no 6 23 WrongResult\n\
+        line setaddr c5 c4 0000000000008000 = 1 ffff1ffffbffd0000000000000008000\n\
+        source c4 1 ffff1ffffbffd0000000000000001000\n\
+        source perms 00078fff\n\
+        source otype 3ffff unsealed\n\
+        source bounds 0000000000001000 00000000000001fff\n\
+        source origin c1\n\
+        moved 0000000000005000 00000000000005fff\n\
+        representable 0000000000000800 00000000000004800\n\
+        gives c5 0 ffff1ffffbffd0000000000000008000\n\
+        gives perms 00078fff\n\
+        gives otype 3ffff unsealed\n\
+        gives bounds 0000000000005000 00000000000005fff\n\
+        cleared 13 NotRepresentable\n\
+        recorded c5 1 ffff1ffffbffd0000000000000008000\n\
+        recorded perms 00078fff\n\
+        recorded otype 3ffff unsealed\n\
+        recorded bounds 0000000000005000 00000000000005fff\n\
         differs tag\n",
     ),
     (
@@ -459,6 +528,7 @@ const REPORTS: [(&str, &str); 31] = [
         authority perms 00078fff\n\
         authority otype 3ffff unsealed\n\
         authority bounds 0000000000000000 10000000000000000\n\
+        authority origin c1\n\
         access 0000000000000000 00000000000000010\n\
         needs 00000004\n\
         gives c3 0 ffff1ffffc01800400000000000000aa\n\

@@ -1,8 +1,8 @@
 //! Logs that come in pieces, and without end.
 
+use crate::made::{Made, Moves};
 use cap_judge::judging::{judge, judge_in};
 use cap_judge::reporting::judge_to;
-use crate::made::{Made, Moves};
 use cap_judge::verdict::Verdict;
 use cap_log::{PullFault, SliceSink, Source};
 use cap_machine::Refusal;

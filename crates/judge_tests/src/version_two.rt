@@ -1,8 +1,8 @@
 //! Logs of version 2, in both modes, and its limit on granules.
 
-use cap_judge::judging::judge;
 use crate::logs::{Row, all_judged};
 use crate::made::{Blocks, Made};
+use cap_judge::judging::judge;
 use cap_judge::verdict::Verdict;
 use cap_machine::Refusal;
 

@@ -179,7 +179,7 @@ const SHOWN: [Row; 17] = [
 ];
 
 // Judging and checking an input.
-const READ: [Row; 14] = [
+const READ: [Row; 16] = [
     (&["judge"], Some("capcheck 1\nend 0\n"), 0, "yes 0 0\n", ""),
     (
         &["judge"],
@@ -302,6 +302,39 @@ const READ: [Row; 14] = [
         origin @0000000000000000 @0000000000000040\n\
         origin @0000000000000020 c3\n\
         origin @0000000000000040 @0000000000000040\n",
+        "",
+    ),
+    (
+        &["judge", "--why"],
+        Some(
+            "capcheck 1\n\
+        root c1 ffff1ffffc0180040000000000000000\n\
+        setaddr c2 c1 0000000000001000 = 1 ffff1ffffc0180040000000000001000\n\
+        setbounds c3 c2 0000000000000020 = 1 ffff1ffff80810000000000000001000\n\
+        setbounds c4 c3 0000000000000021 = 1 ffff1ffff80850000000000000001000\n\
+        end 3\n",
+        ),
+        1,
+        "no 5 11 BoundsEscape\n\
+        line setbounds c4 c3 0000000000000021 = 1 ffff1ffff80850000000000000001000\n\
+        source c3 1 ffff1ffff80810000000000000001000\n\
+        source perms 00078fff\n\
+        source otype 3ffff unsealed\n\
+        source bounds 0000000000001000 00000000000001020\n\
+        source origin c1\n\
+        request 0000000000001000 00000000000001021\n\
+        rounded 0000000000001000 00000000000001021\n",
+        "",
+    ),
+    (
+        &["judge", "--origins", "--why", "log"],
+        Some("capcheck 1\nend 1\n"),
+        1,
+        "no 2 6 WrongCount\n\
+        line end 1\n\
+        roots 0\n\
+        steps 0\n\
+        granules 0\n",
         "",
     ),
 ];

@@ -6,7 +6,7 @@ use Rattle.cap_judge.proofs.parts.put_parts.Given as goal
 abbrev pub invariant-loop-index : goal.invariant-loop-index
 invariant-loop-index l = record {
   from : l.at ≤ l.end;
-  fits : l.end ≤ l.at + 192 * l.index;
+  fits : l.end ≤ l.at + 256 * l.index;
   written : take l.end l.buffer ≡ take l.at l.fn.buffer ++ lines_of_parts (take l.index l.parts);
   rest : (k : ℕ) → l.end ≤ k → drop k l.buffer ≡ drop k l.fn.buffer;
 }

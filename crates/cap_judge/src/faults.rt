@@ -1,0 +1,31 @@
+//! The line of a log that is at fault.
+
+ghost use Rattle.std.specs.Prelude.{◌≡◌};
+ghost use Rattle.cap_judge.specs.declared.verdict.Verdict.TheVariants.{No};
+
+use crate::fault_lines::FaultLine;
+use crate::verdict::Verdict;
+use cap_machine::Refusal;
+
+/// The line of a log that is at fault.
+#[derive(Drop)]
+pub struct Fault {
+    /// Its number, from 1 on.
+    pub line: u64,
+    /// The first test that it fails.
+    pub refusal: Refusal,
+    /// Its bytes.
+    pub text: FaultLine,
+}
+
+impl Fault {
+    /// The verdict that names it.
+    pub fn verdict(&self) -> Verdict
+        ensures { result ≡ No self.now.line self.now.refusal }
+    {
+        Verdict::No {
+            line: self.line,
+            refusal: self.refusal,
+        }
+    }
+}

@@ -1,0 +1,119 @@
+//! A judge that is given the lines of a log one by one.
+
+use cap_judge::by_lines::Judge;
+use cap_judge::judging::judge_bytes;
+use cap_judge::verdict::{TakeFault, Verdict};
+use cap_machine::Refusal;
+use std::alloc::Global;
+use std::process::Abort;
+use tagmem::PageStore;
+
+/// After each whole line of a log its end is the verdict on the bytes so far. Its answer is none up to the first
+/// fault, and from then on that no.
+pub fn by_lines(rt: &impl Abort, alloc: Global, log: &[u8]) {
+    let mut judge = Judge::over_pages(alloc);
+    let mut first = None;
+    let mut lines = 0u64;
+    let mut taken = 0;
+    for at in 0..log.len() {
+        if log[at] == b'\n' {
+            let Some(line) = log.get(taken..at + 1) else {
+                panic!(rt; "no line");
+            };
+            assert_eq!(rt; judge.take(line), Ok(()));
+            taken = at + 1;
+            lines = lines.saturating_add(1);
+            stands(
+                rt,
+                &judge,
+                judge_bytes(alloc, &log[..at + 1]).ok(),
+                lines,
+                &mut first,
+            );
+        }
+    }
+}
+
+// A judge behind so many lines, on which there is this verdict.
+fn stands(
+    rt: &impl Abort,
+    judge: &Judge<PageStore>,
+    verdict: Option<Verdict>,
+    lines: u64,
+    first: &mut Option<Verdict>,
+) {
+    assert_eq!(rt; Some(judge.end()), verdict);
+    let line = lines.saturating_add(1);
+    let refusal = Refusal::Truncated;
+    let goes_on = match verdict {
+        Some(Verdict::Yes { steps: _, roots: _ }) => true,
+        _ => verdict == Some(Verdict::No { line, refusal }),
+    };
+    if first.is_none() && !goes_on {
+        *first = verdict;
+    }
+    assert_eq!(rt; judge.answer(), *first, "behind {lines} lines");
+}
+
+// Bytes that are no line are not taken; of too many the first are a line that is too long.
+#[test]
+fn what_is_no_line(rt: HostRuntime) {
+    let mut judge = Judge::over_pages(rt.alloc());
+    let long = [b'x'; 96];
+    let truncated = Verdict::No {
+        line: 1,
+        refusal: Refusal::Truncated,
+    };
+    for bytes in [
+        b"".as_slice(),
+        b"capcheck 1",
+        b"capcheck 1\ncapcheck 1\n",
+        &long[..95],
+    ] {
+        assert_eq!(rt; judge.take(bytes), Err(TakeFault::NoLine));
+        assert_eq!(rt; judge.answer(), None);
+        assert_eq!(rt; judge.end(), truncated);
+    }
+    assert_eq!(rt; judge.take(&long), Ok(()));
+    let no = Verdict::No {
+        line: 1,
+        refusal: Refusal::LineTooLong,
+    };
+    assert_eq!(rt; judge.answer(), Some(no));
+    assert_eq!(rt; judge.end(), no);
+}
+
+// What the machine holds behind a line, and before a line at fault.
+#[test]
+fn what_the_machine_holds(rt: HostRuntime) {
+    let mut judge = Judge::over_pages(rt.alloc());
+    let root = 0xffff_1fff_fc01_8004_0000_0000_0000_0000;
+    for line in [
+        b"capcheck 1\n".as_slice(),
+        b"root c1 ffff1ffffc0180040000000000000000\n",
+        b"sc c1 c1 16\n",
+        b"cleartag c2 c1 = 0 ffff1ffffc0180040000000000000000\n",
+        b"move c2 c1 = 0 ffff1ffffc0180040000000000000000\n",
+        b"cleartag c1 c1 = 0 ffff1ffffc0180040000000000000000\n",
+    ] {
+        assert_eq!(rt; judge.take(line), Ok(()));
+    }
+    let no = Verdict::No {
+        line: 5,
+        refusal: Refusal::WrongResult,
+    };
+    assert_eq!(rt; judge.answer(), Some(no));
+    assert_eq!(rt;
+        (judge.register(1).tag, judge.register(1).word.0),
+        (true, root)
+    );
+    assert_eq!(rt;
+        (judge.register(2).tag, judge.register(2).word.0),
+        (false, root)
+    );
+    assert_eq!(rt;
+        (judge.granule(1).tag, judge.granule(1).word.0),
+        (true, root)
+    );
+    assert!(rt; !judge.register(0).tag && !judge.granule(0).tag);
+}
