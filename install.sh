@@ -3,12 +3,13 @@
 #
 #   PREFIX/bin/capcheck              the program
 #   PREFIX/lib/libcapcheck_c.a       the library for C, and libcapcheck_c.so made of it
-#   PREFIX/lib/pkgconfig/capcheck.pc what `pkg-config --cflags --libs capcheck` reads
-#   PREFIX/include/capcheck.h        its header
+#   PREFIX/lib/libcapcheck_judge.a   the judge for C, and libcapcheck_judge.so made of it
+#   PREFIX/lib/pkgconfig/*.pc        what `pkg-config --cflags --libs capcheck` reads, or `capcheck_judge` for both libraries
+#   PREFIX/include/capcheck*.h       their headers
 #   PREFIX/share/man/man1/capcheck.1 the program's manual page
 #
 # DESTDIR goes in front of PREFIX, and is named in no file. What isn't built yet is proved and built first, which
-# wants the Rattle kit and takes some minutes. The shared library wants a C compiler: CC, or cc.
+# wants the Rattle kit and takes some minutes. The shared libraries and the judge want a C compiler: CC, or cc.
 set -eu
 [ $# = 1 ] || { echo 'install.sh: one word, the folder to install below' >&2; exit 2; }
 case $1 in
@@ -19,18 +20,23 @@ cd "$(dirname "$0")"
 to=${DESTDIR:-}$prefix
 program=crates/capcheck/out/capcheck
 library=crates/capcheck_c/out/libcapcheck_c.a
+judge=judge/out/libcapcheck_judge.a
 version=$(sed -n 's/^#define CAPCHECK_VERSION_STRING "\(.*\)"$/\1/p' include/capcheck.h)
 
 [ -f "$program" ] || (cd crates/capcheck && rt run -- judge ../../examples/moves.log)
 [ -f "$library" ] || (cd crates/capcheck_c && rt lib)
+[ -f "$judge" ] || sh judge/build.sh
 
 mkdir -p "$to/bin" "$to/lib/pkgconfig" "$to/include" "$to/share/man/man1"
 cp "$program" "$to/bin/capcheck"
 cp "$library" "$to/lib/libcapcheck_c.a"
-cp include/capcheck.h "$to/include/capcheck.h"
+cp "$judge" "$to/lib/libcapcheck_judge.a"
+cp include/capcheck.h include/capcheck_judge.h "$to/include/"
 cp docs/capcheck.1 "$to/share/man/man1/capcheck.1"
-${CC:-cc} -shared -Wl,-soname,libcapcheck_c.so.1 -Wl,--whole-archive "$library" -Wl,--no-whole-archive -o "$to/lib/libcapcheck_c.so.1"
-ln -sf libcapcheck_c.so.1 "$to/lib/libcapcheck_c.so"
+for name in capcheck_c capcheck_judge; do
+    ${CC:-cc} -shared -Wl,-soname,lib$name.so.1 -Wl,--whole-archive "$to/lib/lib$name.a" -Wl,--no-whole-archive -o "$to/lib/lib$name.so.1"
+    ln -sf "lib$name.so.1" "$to/lib/lib$name.so"
+done
 cat > "$to/lib/pkgconfig/capcheck.pc" <<PC
 prefix=$prefix
 
@@ -39,5 +45,15 @@ Description: 128-bit CHERI capabilities: what a word means, bounds, operations, 
 Version: $version
 Cflags: -I\${prefix}/include
 Libs: -L\${prefix}/lib -lcapcheck_c
+PC
+cat > "$to/lib/pkgconfig/capcheck_judge.pc" <<PC
+prefix=$prefix
+
+Name: capcheck_judge
+Description: the judge of logs of 128-bit CHERI capabilities, linked into a program
+Version: $version
+Requires: capcheck
+Cflags: -I\${prefix}/include
+Libs: -L\${prefix}/lib -lcapcheck_judge
 PC
 echo "capcheck $version is installed below $to"

@@ -1,6 +1,7 @@
 #!/usr/bin/env bash
-# Builds the library for C, the header's test and this example, and judges what the example writes, in both
-# forms. It prints the two verdicts, and ends with status 0, where they are as wanted.
+# Builds the libraries for C, the headers' tests and this example, and judges what the example writes, in both
+# forms. It prints the two verdicts, and ends with status 0, where they are as wanted, and where a C program that
+# has the judge linked in says of each log of examples/ what the program says.
 #
 # CAPCHECK names a built capcheck; without it, this builds one too.
 set -eu
@@ -29,7 +30,9 @@ if [ -z "$judge" ]; then
     judge=crates/capcheck/out/capcheck
 fi
 
+quietly sh judge/build.sh
 library=crates/capcheck_c/out/libcapcheck_c.a
+libraries="judge/out/libcapcheck_judge.a $library"
 strict='-Wall -Wextra -Werror -pedantic -O2 -Iinclude'
 quietly ${CC:-cc} -std=c99 $strict examples/emulator/emulator.c $library -o "$work/emulator"
 quietly ${CC:-cc} -std=c99 $strict examples/emulator/calls.c $library -o "$work/calls"
@@ -39,6 +42,29 @@ quietly "$work/calls"
 if command -v "${CXX:-c++}" > "$work/found"; then
     quietly ${CXX:-c++} -std=c++11 $strict -x c++ examples/emulator/calls.c -x none $library -o "$work/calls"
     quietly "$work/calls"
+fi
+
+# The judge for C against the program, log by log, as C and as C++, and by each compiler that is here.
+for log in examples/*.log; do
+    "$judge" judge "$log" || [ $? = 1 ]
+done > "$work/wanted"
+compared() {
+    quietly "$@" $strict -Wconversion examples/emulator/judging.c -x none $libraries -o "$work/judging"
+    "$work/judging" examples/*.log > "$work/got"
+    cmp "$work/wanted" "$work/got" || { echo "check.sh: judging, built by $*, gives other verdicts" >&2; exit 1; }
+}
+for compiler in "${CC:-cc}" gcc clang; do
+    command -v "$compiler" > "$work/found" || continue
+    compared "$compiler" -std=c99
+    compared "$compiler" -std=c11
+done
+for compiler in "${CXX:-c++}" g++ clang++; do
+    command -v "$compiler" > "$work/found" || continue
+    compared "$compiler" -std=c++11 -x c++
+    compared "$compiler" -std=c++20 -x c++
+done
+if command -v valgrind > "$work/found"; then
+    quietly valgrind -q --leak-check=full --error-exitcode=9 "$work/judging" examples/*.log
 fi
 
 judged 'yes 27 1' 0

@@ -1,6 +1,6 @@
 #!/usr/bin/env bash
-# Installs into a folder of its own, and builds and runs the example from there, by pkg-config alone: against the
-# library's archive and against its shared form. Where there is no pkg-config, it says that this wasn't tried.
+# Installs into a folder of its own, and builds and runs the examples from there, by pkg-config alone: against the
+# libraries' archives and against their shared forms. Where there is no pkg-config, it says that this wasn't tried.
 set -eu
 cd "$(dirname "$0")/../.."
 work=$(mktemp -d)
@@ -11,7 +11,14 @@ export PKG_CONFIG_PATH=$work/there/lib/pkgconfig
 ${CC:-cc} -std=c99 -Wall -Wextra -Werror -pedantic -O2 examples/emulator/emulator.c $(pkg-config --cflags --libs capcheck) -o "$work/emulator"
 LD_LIBRARY_PATH=$work/there/lib "$work/emulator" > "$work/log"
 [ "$("$work/there/bin/capcheck" judge "$work/log")" = 'yes 27 1' ] || { echo 'installed.sh: the installed program gives another verdict' >&2; exit 1; }
-rm "$work/there/lib/libcapcheck_c.so"
+# Builds the program that judges files, and compares what it prints of a log with what the installed program does.
+judging() {
+    ${CC:-cc} -std=c99 -Wall -Wextra -Werror -pedantic -O2 examples/emulator/judging.c $(pkg-config --cflags --libs capcheck_judge) -o "$work/judging"
+    [ "$(LD_LIBRARY_PATH=$work/there/lib "$work/judging" "$work/log")" = 'yes 27 1' ] || { echo 'installed.sh: the installed judge gives another verdict' >&2; exit 1; }
+}
+judging
+rm "$work"/there/lib/libcapcheck_*.so
+judging
 ${CC:-cc} -std=c99 -Wall -Wextra -Werror -pedantic -O2 examples/emulator/calls.c $(pkg-config --cflags --libs capcheck) -o "$work/calls"
 "$work/calls"
-echo 'installed: the example was built by pkg-config, and judged'
+echo 'installed: the examples were built by pkg-config, and judged'

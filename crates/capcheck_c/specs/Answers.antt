@@ -1,5 +1,5 @@
 -- What the operations and the tests of accesses answer to C (this profile's own).
-use Rattle.std.specs.Prelude.{◌≡◌, ◌↔◌, ℕ, ◌+◌, ◌-◌, ◌%◌, ◌≤◌, Bool, ℤ, pos, neg_ℤ, ◌≤ℤ◌, List, ◌++◌, length, replicate, codes}
+use Rattle.std.specs.Prelude.{◌≡◌, ◌↔◌, ℕ, ◌+◌, ◌-◌, ◌%◌, ◌≤◌, Bool, ℤ, pos, neg_ℤ, ◌≤ℤ◌, List, ◌++◌, length, replicate}
 use Rattle.std.specs.Prelude.{MatchOption, IsTrue}
 use Rattle.cap_word.specs.declared.word.Cap.{Cap}
 use Rattle.cap_ops.specs.declared.faults.OpFault.{OpFault}
@@ -8,7 +8,7 @@ use Rattle.cap_ops.specs.Accesses.{IsAllowed, access_address, access_tests, perm
 use Rattle.cap_ops.specs.Faults.{fault_number}
 use Rattle.cap_ops.specs.Sizes.{size_fits}
 use Rattle.cap_ops.specs.Tests.{first_of}
-use Rattle.capcheck_c.specs.Passed.{cap_of, no_cap}
+use Rattle.cap_halves.specs.Passed.{cap_of, no_cap}
 use Rattle.capcheck_c.specs.declared.values.AccessAnswer.{AccessAnswer}
 use Rattle.capcheck_c.specs.declared.values.Made.{Made}
 

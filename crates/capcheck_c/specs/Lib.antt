@@ -1,4 +1,3 @@
 pub mod Answers
 pub mod LinesWritten
-pub mod Passed
 pub mod WordFields

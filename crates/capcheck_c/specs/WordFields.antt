@@ -1,7 +1,7 @@
 -- The fields of a word as C has them (this profile's own).
 use Rattle.std.specs.Prelude.{◌≡◌, ◌≢◌, ℕ, ◌<◌, ◌%◌, ◌^◌}
 use Rattle.cap_word.specs.Fields.{perms_of, reserved_of, flag_of, otype_of, ie_of, e_of, b_of, t_of, address_of, joined_word}
-use Rattle.capcheck_c.specs.Passed.{is_set, whole_of}
+use Rattle.cap_halves.specs.Passed.{is_set, whole_of}
 use Rattle.capcheck_c.specs.declared.values.OptionalWord.{OptionalWord}
 use Rattle.capcheck_c.specs.declared.values.WordFields.{WordFields}
 

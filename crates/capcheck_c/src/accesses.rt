@@ -4,10 +4,11 @@ ghost use Rattle.std.specs.Prelude.{◌≡◌};
 ghost use Rattle.cap_ops.specs.Sizes.{size_fits};
 ghost use Rattle.cap_ops.specs.declared.kinds.Kind.TheVariants as kind;
 ghost use Rattle.capcheck_c.specs.Answers.{AnswersAccess};
-ghost use Rattle.capcheck_c.specs.Passed.{cap_of};
+ghost use Rattle.cap_halves.specs.Passed.{cap_of};
 
-use crate::halves::taken;
-use crate::values::{AccessAnswer, Capability};
+use crate::values::AccessAnswer;
+use cap_halves::halves::taken;
+use cap_halves::values::Capability;
 use cap_ops::{Access, Kind, may_access};
 
 /// The refusal of an access whose offset or size no access of its kind has.

@@ -22,10 +22,10 @@ ghost use Rattle.cap_ops.specs.Operations.{
   unseal_tests,
 };
 ghost use Rattle.cap_ops.specs.Permissions.{is_sealed, perm_view_of};
-ghost use Rattle.capcheck_c.specs.Passed.{cap_of, is_set, whole_of};
+ghost use Rattle.cap_halves.specs.Passed.{cap_of, is_set, whole_of};
 
-use crate::halves::{given, taken, word_of};
-use crate::values::{Capability, Halves};
+use cap_halves::halves::{given, taken, word_of};
+use cap_halves::values::{Capability, Halves};
 use cap_ops::{
     and_perm_clear, clear_tag, loaded, perm_view, seal_clear, sealed, set_addr_clear,
     set_bounds_clear, unseal_clear,

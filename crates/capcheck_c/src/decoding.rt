@@ -3,11 +3,12 @@
 ghost use Rattle.std.specs.Prelude.{◌≡◌, ◌<◌, ◌^◌, ◌↔◌, IsTrue};
 ghost use Rattle.cap_bounds.specs.Bounds.{AreBounds, IsSound, base_of, length_of, top_of};
 ghost use Rattle.cap_bounds.specs.SailDecoding.{sail_base, sail_top};
-ghost use Rattle.capcheck_c.specs.Passed.{whole_of};
+ghost use Rattle.cap_halves.specs.Passed.{whole_of};
 
-use crate::halves::{halves_of, word_of};
-use crate::values::{Bounds, Halves};
+use crate::values::Bounds;
 use cap_bounds::{bounds, sound};
+use cap_halves::halves::{halves_of, word_of};
+use cap_halves::values::Halves;
 
 /// The bounds of a word, for all 2^128 of them.
 #[unsafe(no_mangle)]

@@ -7,12 +7,12 @@ ghost use Rattle.std.specs.Prelude.{◌≡◌, ◌/◌, ◌%◌};
 ghost use Rattle.cap_log.specs.declared.lines.Line.TheVariants as line;
 ghost use Rattle.cap_log.specs.declared.lines.Place.TheVariants as place;
 ghost use Rattle.capcheck_c.specs.LinesWritten.{AnswersLine, IsLineAt, mode_of};
-ghost use Rattle.capcheck_c.specs.Passed.{is_set, whole_of};
+ghost use Rattle.cap_halves.specs.Passed.{is_set, whole_of};
 
-use crate::halves::word_of;
 use crate::ranges::{step_count_of, target_of, version_of};
-use crate::values::Halves;
 use crate::written::put_line;
+use cap_halves::halves::word_of;
+use cap_halves::values::Halves;
 use cap_log::{Line, Mode, Place};
 
 /// Writes a version line into the buffer: 1 or 2.

@@ -10,7 +10,6 @@
 mod accesses;
 mod clearing;
 mod decoding;
-mod halves;
 mod header_lines;
 mod memory_lines;
 mod operations;

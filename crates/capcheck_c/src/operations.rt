@@ -20,23 +20,13 @@ ghost use Rattle.cap_ops.specs.Operations.{
 };
 ghost use Rattle.cap_ops.specs.Permissions.{global, has_permission, is_sealed, perm_view_of};
 ghost use Rattle.capcheck_c.specs.Answers.{Answers};
-ghost use Rattle.capcheck_c.specs.Passed.{cap_of, is_set, no_cap, whole_of};
+ghost use Rattle.cap_halves.specs.Passed.{cap_of, is_set, no_cap, whole_of};
 
-use crate::halves::{given, taken};
-use crate::values::{Capability, Made};
+use crate::values::Made;
+use cap_halves::halves::{given, no_capability, taken};
+use cap_halves::values::Capability;
 use cap_ops::{OpFault, and_perm, seal, set_addr, set_bounds, unseal};
-use cap_word::{Cap, null};
-
-/// NULL without a tag.
-fn no_capability() -> Capability
-    ensures cap { cap_of result ≡ no_cap }
-    ensures tag { result.tag ≤ 1 }
-{
-    given(Cap {
-        tag: false,
-        word: null(),
-    })
-}
+use cap_word::Cap;
 
 /// An operation's outcome as C gets it.
 fn made_from(outcome: Result<Cap, OpFault>) -> Made

@@ -6,12 +6,12 @@
 ghost use Rattle.cap_log.specs.declared.lines.Line.TheVariants as line;
 ghost use Rattle.cap_log.specs.declared.lines.Step.TheVariants as step;
 ghost use Rattle.capcheck_c.specs.LinesWritten.{AnswersLine};
-ghost use Rattle.capcheck_c.specs.Passed.{cap_of};
+ghost use Rattle.cap_halves.specs.Passed.{cap_of};
 
-use crate::halves::taken;
 use crate::ranges::{register_of, target_of};
-use crate::values::Capability;
 use crate::written::put_line;
+use cap_halves::halves::taken;
+use cap_halves::values::Capability;
 use cap_log::{Line, Step};
 
 /// Writes the line of a step `move` into the buffer.

@@ -28,15 +28,16 @@ ghost use Rattle.cap_bounds.specs.Rounding.{
 };
 ghost use Rattle.cap_bounds.specs.SailRounding.{sail_b, sail_exact, sail_exponent, sail_ie, sail_t};
 ghost use Rattle.cap_ops.specs.Roots.{IsRoot, IsRootRequest};
-ghost use Rattle.capcheck_c.specs.Passed.{is_set, whole_of};
+ghost use Rattle.cap_halves.specs.Passed.{is_set, whole_of};
 ghost use Rattle.capcheck_c.specs.WordFields.{IsNoWord};
 
-use crate::halves::{halves_of, whole, word_of};
-use crate::values::{AddressRange, Halves, OptionalWord, RoundedRequest};
+use crate::values::{AddressRange, OptionalWord, RoundedRequest};
 use crate::words::{no_word, some_word};
 use cap_bounds::{
     align_mask, keeps_bounds, least_law, reach, round, round_length, sound, with_bounds,
 };
+use cap_halves::halves::{halves_of, whole, word_of};
+use cap_halves::values::Halves;
 use cap_ops::root_word;
 
 /// Rounds a request for `length` addresses from `base` on, for every base and length.

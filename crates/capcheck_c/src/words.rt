@@ -4,11 +4,12 @@ ghost use Rattle.std.specs.Prelude.{◌≡◌, ◌≢◌, ◌<◌, ◌≤◌, �
 ghost use Rattle.cap_word.specs.Digits.{AreHexDigits, hex_digits};
 ghost use Rattle.cap_word.specs.Memory.{memory_byte, memory_of, stored_word};
 ghost use Rattle.cap_word.specs.Word.{null_word};
-ghost use Rattle.capcheck_c.specs.Passed.{whole_of};
+ghost use Rattle.cap_halves.specs.Passed.{whole_of};
 ghost use Rattle.capcheck_c.specs.WordFields.{AreFields, HasFields, IsNoWord, joined_of};
 
-use crate::halves::{halves_of, word_of};
-use crate::values::{Halves, OptionalWord, WordFields, WordText};
+use crate::values::{OptionalWord, WordFields, WordText};
+use cap_halves::halves::{halves_of, word_of};
+use cap_halves::values::Halves;
 use cap_word::{Fields, Word, from_memory, join, null, read_word, split, to_memory, word_text};
 
 /// The word of NULL.

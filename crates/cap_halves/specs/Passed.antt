@@ -1,10 +1,10 @@
--- What passes between C and the library, as the numbers and capabilities that it stands for (this
+-- What passes between C and the libraries for C, as the numbers and capabilities that it stands for (this
 -- profile's own).
 use Rattle.std.specs.Prelude.{ℕ, ◌+◌, ◌*◌, ◌^◌, Bool, false, not, ◌==◌}
 use Rattle.cap_word.specs.Word.{null_word}
 use Rattle.cap_word.specs.declared.word.Cap.{Cap}
-use Rattle.capcheck_c.specs.declared.values.Halves.{Halves}
-use Rattle.capcheck_c.specs.declared.values.Capability.{Capability}
+use Rattle.cap_halves.specs.declared.values.Halves.{Halves}
+use Rattle.cap_halves.specs.declared.values.Capability.{Capability}
 
 -- the number that two halves of 64 bits make
 unfoldable pub whole_of : Halves → ℕ

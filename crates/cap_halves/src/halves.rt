@@ -1,14 +1,14 @@
 //! What C passes, made into words and capabilities, and back.
 
 ghost use Rattle.std.specs.Prelude.{◌≡◌, ◌≤◌};
-ghost use Rattle.capcheck_c.specs.Passed.{cap_of, whole_of};
+ghost use Rattle.cap_halves.specs.Passed.{cap_of, no_cap, whole_of};
 
 use crate::values::{Capability, Halves};
-use cap_word::{Cap, Word};
+use cap_word::{Cap, Word, null};
 
 /// The number that two halves make.
 #[tactic(auto, unfolding(crate::specs::Passed::whole_of))]
-pub(crate) fn whole(halves: Halves) -> u128
+pub fn whole(halves: Halves) -> u128
     ensures { result ≡ whole_of halves }
 {
     (u128::from(halves.high) << 64) + u128::from(halves.low)
@@ -16,7 +16,7 @@ pub(crate) fn whole(halves: Halves) -> u128
 
 /// The halves of a number.
 #[tactic(auto, unfolding(crate::specs::Passed::whole_of))]
-pub(crate) fn halves_of(number: u128) -> Halves
+pub fn halves_of(number: u128) -> Halves
     ensures { whole_of result ≡ number }
 {
     Halves {
@@ -26,14 +26,14 @@ pub(crate) fn halves_of(number: u128) -> Halves
 }
 
 /// The word that two halves make.
-pub(crate) fn word_of(halves: Halves) -> Word
+pub fn word_of(halves: Halves) -> Word
     ensures { result.0 ≡ whole_of halves }
 {
     Word(whole(halves))
 }
 
 /// A capability that C passes.
-pub(crate) fn taken(passed: Capability) -> Cap
+pub fn taken(passed: Capability) -> Cap
     ensures { result ≡ cap_of passed }
 {
     Cap {
@@ -43,7 +43,7 @@ pub(crate) fn taken(passed: Capability) -> Cap
 }
 
 /// A capability as C gets it.
-pub(crate) fn given(cap: Cap) -> Capability
+pub fn given(cap: Cap) -> Capability
     ensures cap { cap_of result ≡ cap }
     ensures tag { result.tag ≤ 1 }
 {
@@ -51,4 +51,15 @@ pub(crate) fn given(cap: Cap) -> Capability
         word: halves_of(cap.word.0),
         tag: u8::from(cap.tag),
     }
+}
+
+/// NULL without a tag.
+pub fn no_capability() -> Capability
+    ensures cap { cap_of result ≡ no_cap }
+    ensures tag { result.tag ≤ 1 }
+{
+    given(Cap {
+        tag: false,
+        word: null(),
+    })
 }

@@ -1,0 +1,6 @@
+//! Words and capabilities as C passes them: numbers of 128 bits as two halves, and tags as bytes. Both libraries
+//! for C stand on it.
+#![tactic(auto)]
+
+pub mod halves;
+pub mod values;

@@ -1,0 +1,22 @@
+//! What passes between C and the libraries for C: numbers of 128 bits, and capabilities.
+
+/// A number of 128 bits as its two halves: a word in the register layout, or a number of more than 64
+/// bits (in C `capcheck_word` and `capcheck_wide`).
+#[repr(C)]
+#[derive(Debug, Clone, Copy, PartialEq, Eq)]
+pub struct Halves {
+    /// Bits 127 to 64.
+    pub high: u64,
+    /// Bits 63 to 0.
+    pub low: u64,
+}
+
+/// A capability (in C `capcheck_cap`).
+#[repr(C)]
+#[derive(Debug, Clone, Copy, PartialEq, Eq)]
+pub struct Capability {
+    /// Its word.
+    pub word: Halves,
+    /// Its tag: any number but 0 is one, and 1 in results.
+    pub tag: u8,
+}

@@ -1,0 +1,20 @@
+//! The judge of a log that lies in memory.
+
+ghost use Rattle.capcheck_judge.specs.Answers.{AnswersBytes};
+
+use crate::answers::{Answer, NO_MEMORY, numbers_of, without_verdict};
+use cap_judge::judging::judge_bytes;
+use std::alloc::Global;
+
+/// Judges the bytes of a log, as `capcheck judge` does: it is a yes exactly for a log whose steps have a run from
+/// its roots, and otherwise a no with the first fault. Memory is taken only where a line names a granule for the
+/// first time, and given back before the call ends.
+#[unsafe(no_mangle)]
+pub extern "C" fn capcheck_judge_bytes(alloc: Global, bytes: &[u8]) -> Answer
+    ensures { AnswersBytes bytes.now result }
+{
+    match judge_bytes(alloc, bytes) {
+        Ok(verdict) => numbers_of(verdict),
+        Err(_) => without_verdict(NO_MEMORY),
+    }
+}

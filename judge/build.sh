@@ -1,0 +1,15 @@
+#!/bin/sh
+# Builds the judge for C: proves it, and packs the functions by which it takes memory (judge/heap.c) into its archive,
+# judge/out/libcapcheck_judge.a. It needs the Rattle kit, a C compiler (CC, or cc) and an archiver (AR, or ar).
+#
+#   sh judge/build.sh [WORDS]
+#
+# WORDS go to `rt lib`, as --cpu x86-64 for any x86-64.
+set -eu
+cd "$(dirname "$0")/.."
+mkdir -p judge/out
+(cd crates/capcheck_judge && rt lib "$@")
+${CC:-cc} -std=c99 -Wall -Wextra -Wconversion -Werror -pedantic -O2 -fPIC -c judge/heap.c -o judge/out/heap.o
+cp crates/capcheck_judge/out/libcapcheck_judge.a judge/out/new.a
+${AR:-ar} rs judge/out/new.a judge/out/heap.o
+mv judge/out/new.a judge/out/libcapcheck_judge.a
