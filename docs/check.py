@@ -27,6 +27,8 @@ ELSEWHERE = {
     "cd crates/capcheck && rt run -- judge ../../examples/moves.log": "the gate proves this program and runs it on this log, by `rt ci`",
     "bash .ci/run": "the gate",
     "cd crates/capcheck_c && rt lib": "examples/emulator/check.sh",
+    "sh judge/build.sh": "examples/emulator/check.sh",
+    "cc -Iinclude program.c judge/out/libcapcheck_judge.a crates/capcheck_c/out/libcapcheck_c.a -o program": "examples/emulator/check.sh, with other programs",
     "bash examples/emulator/check.sh": "the gate",
     "sh install.sh /usr/local": "examples/emulator/installed.sh, into another folder",
     "cc program.c $(pkg-config --cflags --libs capcheck) -o program": "examples/emulator/installed.sh, with another program",
