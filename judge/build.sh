@@ -4,11 +4,11 @@
 #
 #   sh judge/build.sh [WORDS]
 #
-# WORDS go to `rt lib`, as --cpu x86-64 for any x86-64.
+# WORDS go to `rt lib`, as --cpu x86-64 for any x86-64, or to RT_LIB, where it names another command in its place.
 set -eu
 cd "$(dirname "$0")/.."
 mkdir -p judge/out
-(cd crates/capcheck_judge && rt lib "$@")
+(cd crates/capcheck_judge && ${RT_LIB:-rt lib} "$@")
 ${CC:-cc} -std=c99 -Wall -Wextra -Wconversion -Werror -pedantic -O2 -fPIC -c judge/heap.c -o judge/out/heap.o
 cp crates/capcheck_judge/out/libcapcheck_judge.a judge/out/new.a
 ${AR:-ar} rs judge/out/new.a judge/out/heap.o

@@ -4,6 +4,8 @@
 #
 #   sh web/build.sh           the module and the page
 #   sh web/build.sh --module  the module alone, web/out/capcheck.wasm
+#
+# RT_LIB may name another command in place of `rt lib`.
 set -eu
 cd "$(dirname "$0")/.."
 kit=$(dirname "$(rt doc)")
@@ -22,7 +24,7 @@ put_back() {
 trap put_back EXIT
 
 {
-    (cd crates/capcheck_c && rt lib --target "$target") &&
+    (cd crates/capcheck_c && ${RT_LIB:-rt lib} --target "$target") &&
         "$kit/bin/rattle-link" --target "$target" --toolchain "$kit/toolchain" -o web/out/capcheck.wasm "$archive"
 } > web/out/said 2>&1 || { cat web/out/said >&2; exit 1; }
 [ "${1:-}" != --module ] || exit 0

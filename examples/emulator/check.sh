@@ -3,7 +3,8 @@
 # forms. It prints the two verdicts, and ends with status 0, where they are as wanted, and where a C program that
 # has the judge linked in says of each log of examples/ what the program says.
 #
-# CAPCHECK names a built capcheck; without it, this builds one too.
+# CAPCHECK names a built capcheck; without it, this builds one too. RT_LIB is what builds a library for C in its
+# crate's folder, or `rt lib`.
 set -eu
 cd "$(dirname "$0")/../.."
 work=$(mktemp -d)
@@ -23,7 +24,7 @@ judged() {
     [ "$verdict" = "$1" ] && [ "$status" = "$2" ] || { echo "check.sh: wanted $1, status $2, and got status $status" >&2; exit 1; }
 }
 
-(cd crates/capcheck_c && quietly rt lib)
+(cd crates/capcheck_c && quietly ${RT_LIB:-rt lib})
 judge=${CAPCHECK:-}
 if [ -z "$judge" ]; then
     (cd crates/capcheck && quietly rt run -- judge ../../examples/moves.log)

@@ -1,6 +1,6 @@
 #!/usr/bin/env bash
 # Builds the library for the oldest x86-64 processors and for 64-bit Arm, and runs calls.c there, under qemu. What has
-# no emulator or compiler here isn't tried, and it says so.
+# no emulator or compiler here isn't tried, and it says so. RT_LIB may name another command in place of `rt lib`.
 set -eu
 cd "$(dirname "$0")/../.."
 work=$(mktemp -d)
@@ -22,7 +22,7 @@ tried() {
         echo "$name: not tried, since ${emulator%% *} or $compiler isn't here"
         return
     fi
-    (cd crates/capcheck_c && rt lib "$@") > "$work/said" 2>&1 || { cat "$work/said" >&2; exit 1; }
+    (cd crates/capcheck_c && ${RT_LIB:-rt lib} "$@") > "$work/said" 2>&1 || { cat "$work/said" >&2; exit 1; }
     "$compiler" -std=c99 -Wall -Wextra -Werror -pedantic -O2 -static -Iinclude examples/emulator/calls.c "$library" -o "$work/calls"
     $emulator "$work/calls"
     echo "$name: each call answered"
