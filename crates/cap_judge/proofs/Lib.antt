@@ -20,3 +20,4 @@ mod SomeVerdict
 mod InTurn
 mod StandingLemmas
 mod TakenLemmas
+mod ExpectedLemmas

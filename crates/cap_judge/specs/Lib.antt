@@ -15,3 +15,4 @@ pub mod OriginLists
 pub mod Reports
 pub mod Whys
 pub mod Standings
+pub mod Expectations

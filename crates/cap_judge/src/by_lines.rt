@@ -8,6 +8,7 @@ ghost use Rattle.cap_machine.specs.declared.ends.StepEnd.TheVariants.{Refused};
 ghost use Rattle.cap_judge.specs.Logs.{MayLackMemory};
 ghost use Rattle.cap_judge.specs.Verdicts.{EscapesExactly, GuardsAuthority, IsVerdict};
 ghost use Rattle.cap_judge.specs.Judgings.{account_before};
+ghost use Rattle.cap_judge.specs.Expectations.{Expects};
 ghost use Rattle.cap_judge.specs.Standings.{BeginsWhole, EndsLine, HasTaken, IsNoLine, Stands, known_of, standing_of};
 ghost use Rattle.cap_judge.specs.declared.verdict.TakeFault.TheVariants.{NoLine, NoMemory};
 
@@ -15,7 +16,7 @@ use crate::fault_lines::FaultLine;
 use crate::faults::Fault;
 use crate::fresh::Fresh;
 use crate::stages::Stage;
-use crate::verdict::{TakeFault, Verdict};
+use crate::verdict::{Expected, TakeFault, Verdict};
 use cap_log::{Front, front};
 use cap_machine::{Refusal, StepEnd};
 use cap_word::Cap;
@@ -102,6 +103,19 @@ impl<M: TaggedStore> Judge<M> {
         match &self.fault {
             Some(fault) => fault.verdict(),
             None => self.stage.end(),
+        }
+    }
+
+    /// After a no for a step's result, the result that the rules give for that step; otherwise `None`.
+    pub fn expected(&self) -> Option<Expected>
+        ensures { (bytes : List ℕ) → HasTaken M.contents self.now bytes → Expects bytes result }
+    {
+        match &self.fault {
+            Some(fault) => match fault.refusal {
+                Refusal::WrongResult => self.stage.expected(fault.text.as_slice()),
+                _ => None,
+            },
+            None => None,
         }
     }
 

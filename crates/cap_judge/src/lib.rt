@@ -3,6 +3,7 @@
 #![tactic(auto)]
 
 pub mod by_lines;
+mod expecting;
 pub mod explaining;
 mod fault_lines;
 mod fault_reports;

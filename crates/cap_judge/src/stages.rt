@@ -3,13 +3,15 @@
 ghost use Rattle.std.specs.Prelude.{◌≡◌, ◌+◌, ◌<◌, ◌≤◌, ◌^◌, ℕ, [], length, false, OnOk, IfErr, List};
 ghost use Rattle.cap_log.specs.Front.{IsLine, IsTooLong};
 ghost use Rattle.cap_machine.specs.States.{granule_key, untagged_null};
+ghost use Rattle.cap_machine.specs.Helds.{account_of};
 ghost use Rattle.cap_machine.specs.declared.ends.StepEnd.TheVariants.{Refused};
 
+use crate::expecting::expected_by;
 use crate::fresh::Fresh;
 use crate::headers::{first_line, mode_of, rules_of, version_of};
 use crate::judging::finished_verdict;
 use crate::progress::Progress;
-use crate::verdict::Verdict;
+use crate::verdict::{Expected, Verdict};
 use cap_machine::{Refusal, Rules, StepEnd};
 use cap_word::{Cap, null};
 use std::mem;
@@ -32,7 +34,9 @@ impl<M: TaggedStore> Stage<M> {
     ghost use Rattle.cap_judge.specs.Logs.{Beginning, Body, lines_of, text_of};
     ghost use Rattle.cap_judge.specs.Verdicts.{IsVerdict};
     ghost use Rattle.cap_judge.specs.Judgings.{account_before};
-    ghost use Rattle.cap_judge.specs.Standings.{AtMode, AtStart, EndsLine, IsAfter, IsInHeader, TakesLine, standing_of};
+    ghost use Rattle.cap_judge.specs.Standings.{AtMode, AtStart, EndsLine, IsAfter, IsInHeader, TakesLine, Within, standing_of};
+    ghost use Rattle.cap_judge.specs.Expectations.{GivesForText};
+    ghost use Rattle.cap_judge.specs.Progresses.{Reading};
 
     /// Takes the next line, with its line feed and without.
     pub fn take_whole(&mut self, line: &[u8], text: &[u8]) -> Result<(), StepEnd>
@@ -174,6 +178,17 @@ impl<M: TaggedStore> Stage<M> {
         match self {
             Stage::Behind(progress) => progress.machine.granule(granule),
             _ => nothing(),
+        }
+    }
+
+    /// What the rules give for the step that a text spells, where it is refused for its result.
+    pub fn expected(&self, text: &[u8]) -> Option<Expected>
+        ensures { (reading : Reading) → standing_of M.contents self.now ≡ Within reading
+            → GivesForText (account_of reading.held) text.now result }
+    {
+        match self {
+            Stage::Behind(progress) => expected_by(&progress.machine, text),
+            _ => None,
         }
     }
 }

@@ -343,11 +343,11 @@ fn needs_to_store(stored: Cap) -> u32
     }
 }
 
-// What the rules give in clear mode, and the test for which it has no tag.
+/// What the rules give in clear mode, and the test for which it has no tag.
 #[derive(Clone, Copy)]
-struct Given {
-    cap: Cap,
-    fault: Option<OpFault>,
+pub struct Given {
+    pub cap: Cap,
+    pub fault: Option<OpFault>,
 }
 
 // Writes what the rules give for a step, what its line records, and in which fields these differ.
@@ -385,8 +385,8 @@ fn put_result<M: TaggedStore>(
     }
 }
 
-// What the rules give for a step whose line records a capability; for others NULL.
-fn given_by<M: TaggedStore>(machine: &Machine<M>, step: &Step) -> Given
+/// What the rules give for a step whose line records a capability; for others NULL.
+pub fn given_by<M: TaggedStore>(machine: &Machine<M>, step: &Step) -> Given
     requires { IsStepInRange step.now }
     ensures { let row = row_of (state_of (held_of M.contents machine.now)) step.now in
         let cleared = clear_row row.access row in

@@ -1,6 +1,7 @@
 //! What a judge answers.
 
 use cap_machine::Refusal;
+use cap_word::Cap;
 
 /// The verdict on the bytes of a log.
 #[derive(Debug, Clone, Copy, PartialEq, Eq)]
@@ -48,4 +49,18 @@ pub enum TakeFault {
     NoLine,
     /// There was no memory for a granule that the line names for the first time.
     NoMemory,
+}
+
+/// The result that the rules give for a step whose line records another one.
+#[derive(Debug, Clone, Copy, PartialEq, Eq)]
+pub enum Expected {
+    /// The capability that its register gets.
+    Capability(Cap),
+    /// The number that it loads.
+    Number {
+        /// It, of at most so many bytes.
+        value: u64,
+        /// How many bytes it has in memory: 1, 2, 4 or 8.
+        size: u8,
+    },
 }

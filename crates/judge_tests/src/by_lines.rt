@@ -2,8 +2,9 @@
 
 use cap_judge::by_lines::Judge;
 use cap_judge::judging::judge_bytes;
-use cap_judge::verdict::{TakeFault, Verdict};
+use cap_judge::verdict::{Expected, TakeFault, Verdict};
 use cap_machine::Refusal;
+use cap_word::{Cap, Word};
 use std::alloc::Global;
 use std::process::Abort;
 use tagmem::PageStore;
@@ -116,4 +117,67 @@ fn what_the_machine_holds(rt: HostRuntime) {
         (true, root)
     );
     assert!(rt; !judge.register(0).tag && !judge.granule(0).tag);
+}
+
+// A judge that has taken lines.
+fn behind(rt: &impl Abort, alloc: Global, lines: &[&[u8]]) -> Judge<PageStore> {
+    let mut judge = Judge::over_pages(alloc);
+    for line in lines {
+        assert_eq!(rt; judge.take(line), Ok(()));
+    }
+    judge
+}
+
+// What the rules give for a line that records another result: nothing before it, and the same behind further lines.
+#[test]
+fn what_the_rules_give(rt: HostRuntime) {
+    let mut judge = behind(
+        &rt,
+        rt.alloc(),
+        &[
+            b"capcheck 1\n",
+            b"root c1 ffff1ffffc0180040000000000000000\n",
+            b"store c1 32 2 beef\n",
+        ],
+    );
+    assert_eq!(rt; judge.expected(), None);
+    let given = Expected::Number {
+        value: 0xbeef,
+        size: 2,
+    };
+    for line in [
+        b"load c1 32 2 = efbe\n".as_slice(),
+        b"load c1 32 2 = beef\n",
+        b"move c2 c1 = 0 ffff1ffffc0180040000000000000000\n",
+    ] {
+        assert_eq!(rt; judge.take(line), Ok(()));
+        assert_eq!(rt; judge.expected(), Some(given));
+    }
+}
+
+// In clear mode a result that a test takes the tag of is given without it. By strict rules the test refuses the
+// step, and nothing is given.
+#[test]
+fn what_each_mode_gives(rt: HostRuntime) {
+    let untagged = Cap {
+        tag: false,
+        word: Word(0xffff_1fff_fc03_8004_0000_0000_0000_1000),
+    };
+    let given = Some(Expected::Capability(untagged));
+    for (mode, expected) in [
+        (b"mode clear\n".as_slice(), given),
+        (b"mode strict\n", None),
+    ] {
+        let judge = behind(
+            &rt,
+            rt.alloc(),
+            &[
+                b"capcheck 2\n",
+                mode,
+                b"root c1 ffff1ffffc0180040000000000001000\n",
+                b"setbounds c2 c1 ffffffffffffffff = 1 ffff1ffffc0380040000000000001000\n",
+            ],
+        );
+        assert_eq!(rt; judge.expected(), expected);
+    }
 }

@@ -1,0 +1,343 @@
+-- What the rules give for a step that is refused for its result.
+use Rattle.std.proofs.Common.{◌≡◌, ℕ, ℤ, ◌+◌, inl, inr, Bool, true, false, not, List, [], ◌∷◌, ◌++◌, length, map, refl, sym, ap, subst, ◌∙◌}
+use Rattle.std.proofs.Common.{Option, Some, None, append-nil, append_assoc}
+use Rattle.std.specs.Prelude.{is_some, option_map}
+use Rattle.std.specs.Bool.{if◌then◌else◌}
+use Rattle.std.proofs.lemmas.Bool.{false≢true}
+use Rattle.std.proofs.lemmas.Option.{none-some, same_Some}
+use Rattle.cap_word.specs.declared.word.Cap.{Cap}
+use Rattle.cap_log.specs.declared.lines.Line.{Line}
+use Rattle.cap_log.specs.declared.lines.Line.TheVariants as lines
+use Rattle.cap_log.specs.declared.lines.Place.{Place}
+use Rattle.cap_log.specs.declared.lines.Step.{Step}
+use Rattle.cap_log.specs.declared.lines.Step.TheVariants as steps
+use Rattle.cap_log.specs.Front.{FrontIs, IsLine}
+use Rattle.cap_log.proofs.SpellingLemmas.{one_spelling}
+use Rattle.cap_log.specs.Lines.{Spells}
+use Rattle.cap_log.proofs.FrontLemmas.{IsLine-same, IsLine-not_too_long}
+use Rattle.cap_ops.specs.declared.faults.OpFault.{OpFault}
+use Rattle.cap_ops.specs.declared.faults.OpFault.TheVariants as faults
+use Rattle.cap_ops.specs.Operations.{cleared, clear_result}
+use Rattle.cap_ops.specs.Accesses.{access_tests}
+use Rattle.cap_ops.specs.declared.kinds.Kind.TheVariants.{LoadData}
+use Rattle.cap_ops.specs.Refusals.{refusal_of}
+use Rattle.cap_ops.specs.Tests.{first_of}
+use Rattle.cap_ops.specs.declared.refusal.Refusal.{Refusal}
+use Rattle.cap_ops.specs.declared.refusal.Refusal.TheVariants.{Misplaced, PlaceTaken, UnsoundRoot, WrongResult, LimitPassed, WrongCount, Truncated, LineTooLong}
+use Rattle.cap_ops.specs.declared.refusal.Refusal.TheVariants.{BadHeader, BadMode}
+use Rattle.cap_machine.specs.declared.rules.Rules.{Rules}
+use Rattle.cap_machine.specs.declared.rules.Rules.TheVariants.{One, TwoStrict, TwoClear}
+use Rattle.cap_machine.specs.States.{State, DeclaredRoot, value_at}
+use Rattle.cap_machine.specs.Steps.{Access, Recorded, Row, Nothing as Unrecorded, Written, address_through, agrees, clear_row, is_recorded, row_by, row_of}
+use Rattle.cap_machine.specs.Accounts.{Account, row_in, step_tests}
+use Rattle.cap_machine.specs.Helds.{account_of}
+use Rattle.cap_judge.specs.declared.verdict.Expected.{Expected}
+use Rattle.cap_judge.specs.declared.verdict.Expected.TheVariants.{Capability, Number}
+use Rattle.cap_judge.specs.declared.verdict.Verdict.TheVariants.{Yes, No}
+use Rattle.cap_judge.specs.declared.faults.Fault.{Fault}
+use Rattle.cap_judge.specs.FaultLines.{bytes_of}
+use Rattle.cap_judge.specs.Logs.{Beginning, Nothing, NoMode, Body, Whole, IsFirstFault, Refuses, account_after, body_lines, line_tests}
+use Rattle.cap_judge.specs.Logs.{IsAccepted, RunsBy, lines_of, text_of}
+use Rattle.cap_judge.specs.Judgings.{IsLastFront, finished}
+use Rattle.cap_judge.specs.Progresses.{Reading}
+use Rattle.cap_judge.specs.Expectations.{Expects, IsExpected, GivesFor, GivesForText, given_for, given_in}
+use Rattle.cap_judge.specs.StepLines.{IfWritten, lost_for}
+use Rattle.cap_judge.specs.Standings.{Standing, AtStart, AtMode, Within, Nowhere, IsAfter, IsFaultAt, IsRest, Known, Taken}
+use Rattle.cap_judge.proofs.OneVerdict.{one_verdict}
+use Rattle.cap_judge.proofs.StandingLemmas.{end_header, end_within}
+use Rattle.cap_judge.proofs.TakenLemmas.{all_taken, fault_now}
+
+-- no test of an operation is that of the result
+no_fault : (fault : OpFault) → refusal_of fault ≡ WrongResult → ⊥
+no_fault faults.SourceUntagged h = cc
+no_fault faults.SourceSealed h = cc
+no_fault faults.BoundsEscape h = cc
+no_fault faults.NotExact h = cc
+no_fault faults.NotRepresentable h = cc
+no_fault faults.AuthorityUntagged h = cc
+no_fault faults.AuthoritySealed h = cc
+no_fault faults.AuthorityPermission h = cc
+no_fault faults.AuthorityBounds h = cc
+no_fault faults.TypeOutOfRange h = cc
+no_fault faults.TypeMismatch h = cc
+no_fault faults.Misaligned h = cc
+no_fault faults.StoreCapPermission h = cc
+no_fault faults.StoreLocalPermission h = cc
+
+none_before : (tests : List (Bool × OpFault)) (rest : List (Bool × Refusal))
+    → first_of (map (λ test. (test.0, refusal_of test.1)) tests ++ rest) ≡ Some WrongResult
+    → (first_of tests ≡ None) × (first_of rest ≡ Some WrongResult)
+none_before [] rest h = (refl, h)
+none_before ((true, fault) ∷ tests) rest h = absurd (no_fault fault (same_Some _ _ h))
+none_before ((false, fault) ∷ tests) rest h = none_before tests rest h
+
+other_recorded : (recorded limit : Bool) → first_of ((not recorded, WrongResult) ∷ (limit, LimitPassed) ∷ []) ≡ Some WrongResult → recorded ≡ false
+other_recorded true true h = cc
+other_recorded true false h = cc
+other_recorded false limit h = refl
+
+-- no test of a step that is refused for its result holds, and its line records another
+pub free_of_tests : (account : Account) (step : Step) → first_of (step_tests account step) ≡ Some WrongResult
+    → first_of (row_in account step).tests ≡ None
+free_of_tests account step h = (none_before (row_in account step).tests _ h).0
+
+pub records_other : (account : Account) (step : Step) → first_of (step_tests account step) ≡ Some WrongResult
+    → is_recorded (row_in account step) ≡ false
+records_other account step h = other_recorded _ _ (none_before (row_in account step).tests _ h).1
+
+-- where no test holds, the result of clear mode is that of strict rules
+kept_result : (tests : List (Bool × OpFault)) (writes : Option (Place × Cap)) → first_of tests ≡ None
+    → option_map (λ write. (write.0, clear_result tests write.1)) writes ≡ writes
+kept_result tests None none = refl
+kept_result tests (Some (place, cap)) none = ap (λ (o : Option OpFault). Some (place, if is_some o then cleared cap else cap)) none
+
+kept_writes : (access : Option Access) (row : Row) → first_of row.tests ≡ None → (clear_row access row).writes ≡ row.writes
+kept_writes None row none = kept_result row.tests row.writes none
+kept_writes (Some access) row none = refl
+
+kept_records : (access : Option Access) (row : Row) → (clear_row access row).records ≡ row.records
+kept_records None row = refl
+kept_records (Some access) row = refl
+
+written : (writes : Option (Place × Cap)) (records : Recorded) (access : Option Access) (recorded cap : Cap) → records ≡ Written recorded
+    → option_map (λ (write : Place × Cap). write.1) writes ≡ Some cap → given_for writes records access ≡ Some (Capability cap)
+written None records access recorded cap is h = absurd (none-some cap h)
+written (Some write) records access recorded cap is h =
+    ap (λ (r : Recorded). given_for (Some write) r access) is ∙ ap (λ (c : Cap). Some (Capability c)) (same_Some _ _ h)
+
+by_rules : (rules_are : Rules) (row : Row) (recorded cap : Cap) → row.records ≡ Written recorded → first_of (row_by rules_are row).tests ≡ None
+    → option_map (λ (write : Place × Cap). write.1) (clear_row row.access row).writes ≡ Some cap
+    → given_in (row_by rules_are row) ≡ Some (Capability cap)
+by_rules One row recorded cap is none h =
+    written row.writes row.records row.access recorded cap is (sym (ap (option_map (λ (write : Place × Cap). write.1)) (kept_writes row.access row none)) ∙ h)
+by_rules TwoStrict row recorded cap is none h =
+    written row.writes row.records row.access recorded cap is (sym (ap (option_map (λ (write : Place × Cap). write.1)) (kept_writes row.access row none)) ∙ h)
+by_rules TwoClear row recorded cap is none h =
+    let cleared = clear_row row.access row in
+    written cleared.writes cleared.records cleared.access recorded cap (kept_records row.access row ∙ is) h
+
+operated : (account : Account) (step : Step) (recorded given : Cap) → (row_of account.state step).records ≡ Written recorded
+    → (let row = row_of account.state step in option_map (λ (write : Place × Cap). write.1) (clear_row row.access row).writes ≡ Some given)
+    → GivesFor account step (Some (Capability given))
+operated account step recorded given is h = λ wrong. by_rules account.rules (row_of account.state step) recorded given is (free_of_tests account step wrong) h
+
+-- what the rules give for a step that writes a register
+abbrev pub IsNoStore : Step → Type 0
+IsNoStore (steps.StoreCap source authority offset) = ⊥
+IsNoStore (steps.Store authority offset size value) = ⊥
+IsNoStore (steps.Load authority offset size value) = ⊥
+IsNoStore step = Unit {0}
+
+pub no_store : (step : Step) → ((source authority : ℕ) (offset : ℤ) → step ≡ steps.StoreCap source authority offset → ⊥)
+    → ((authority : ℕ) (offset : ℤ) (size value : ℕ) → step ≡ steps.Load authority offset size value → ⊥)
+    → ((authority : ℕ) (offset : ℤ) (size value : ℕ) → step ≡ steps.Store authority offset size value → ⊥) → IsNoStore step
+no_store (steps.StoreCap source authority offset) a b c = a source authority offset refl
+no_store (steps.Load authority offset size value) a b c = b authority offset size value refl
+no_store (steps.Store authority offset size value) a b c = c authority offset size value refl
+no_store step a b c = tt
+
+pub gives_capability : (account : Account) (step : Step) (given : Cap) (fault : Option OpFault) → IsNoStore step
+    → (let row = row_of account.state step in
+    let cleared_row = clear_row row.access row in
+    IfWritten row.records ((option_map (λ (write : Place × Cap). write.1) cleared_row.writes ≡ Some given) × (lost_for row.access row ≡ fault)))
+    → GivesFor account step (Some (Capability given))
+gives_capability account (steps.Move target source recorded) given fault kind is = operated account (steps.Move target source recorded) recorded given refl is.0
+gives_capability account (steps.ClearTag target source recorded) given fault kind is = operated account (steps.ClearTag target source recorded) recorded given refl is.0
+gives_capability account (steps.SetBounds target source size recorded) given fault kind is = operated account (steps.SetBounds target source size recorded) recorded given refl is.0
+gives_capability account (steps.SetBoundsExact target source size recorded) given fault kind is = operated account (steps.SetBoundsExact target source size recorded) recorded given refl is.0
+gives_capability account (steps.SetAddr target source address recorded) given fault kind is = operated account (steps.SetAddr target source address recorded) recorded given refl is.0
+gives_capability account (steps.AndPerm target source mask recorded) given fault kind is = operated account (steps.AndPerm target source mask recorded) recorded given refl is.0
+gives_capability account (steps.Seal target source authority recorded) given fault kind is = operated account (steps.Seal target source authority recorded) recorded given refl is.0
+gives_capability account (steps.Unseal target source authority recorded) given fault kind is = operated account (steps.Unseal target source authority recorded) recorded given refl is.0
+gives_capability account (steps.LoadCap target authority offset recorded) given fault kind is = operated account (steps.LoadCap target authority offset recorded) recorded given refl is.0
+gives_capability account (steps.StoreCap source authority offset) given fault kind is = absurd kind
+gives_capability account (steps.Store authority offset size value) given fault kind is = absurd kind
+gives_capability account (steps.Load authority offset size value) given fault kind is = absurd kind
+
+-- a store records nothing
+stores : (rules_are : Rules) (row : Row) → row.records ≡ Unrecorded → is_recorded (row_by rules_are row) ≡ true
+stores One row none = ap (agrees row.writes) none
+stores TwoStrict row none = ap (agrees row.writes) none
+stores TwoClear row none =
+    let cleared_row = clear_row row.access row in ap (agrees cleared_row.writes) (kept_records row.access row ∙ none)
+
+pub nothing_recorded : (account : Account) (step : Step) → (row_of account.state step).records ≡ Unrecorded → GivesFor account step None
+nothing_recorded account step none = λ h. false≢true (sym (records_other account step h) ∙ stores account.rules (row_of account.state step) none)
+
+-- a load
+load_tests : (rules_are : Rules) (state : State) (authority : ℕ) (offset : ℤ) (size value : ℕ)
+    → (row_by rules_are (row_of state (steps.Load authority offset size value))).tests ≡ access_tests (state authority) LoadData offset size
+load_tests One state authority offset size value = refl
+load_tests TwoStrict state authority offset size value = refl
+load_tests TwoClear state authority offset size value = refl
+
+pub load_allowed : (account : Account) (authority : ℕ) (offset : ℤ) (size value : ℕ)
+    → first_of (step_tests account (steps.Load authority offset size value)) ≡ Some WrongResult
+    → first_of (access_tests (account.state authority) LoadData offset size) ≡ None
+load_allowed account authority offset size value h =
+    ap first_of (sym (load_tests account.rules account.state authority offset size value)) ∙ free_of_tests account (steps.Load authority offset size value) h
+
+load_by : (rules_are : Rules) (state : State) (authority : ℕ) (offset : ℤ) (size value : ℕ)
+    → given_in (row_by rules_are (row_of state (steps.Load authority offset size value)))
+    ≡ Some (Number (value_at state (address_through state authority offset) size) size)
+load_by One state authority offset size value = refl
+load_by TwoStrict state authority offset size value = refl
+load_by TwoClear state authority offset size value = refl
+
+pub load_gives : (account : Account) (authority : ℕ) (offset : ℤ) (size value : ℕ)
+    → given_in (row_in account (steps.Load authority offset size value))
+    ≡ Some (Number (value_at account.state (address_through account.state authority offset) size) size)
+load_gives account authority offset size value = load_by account.rules account.state authority offset size value
+
+pub stored_cap : (account : Account) (step : Step) (source authority : ℕ) (offset : ℤ) → step ≡ steps.StoreCap source authority offset
+    → GivesFor account step None
+stored_cap account step source authority offset is =
+    subst (λ (s : Step). GivesFor account s None) (sym is) (nothing_recorded account (steps.StoreCap source authority offset) refl)
+
+pub stored : (account : Account) (step : Step) (authority : ℕ) (offset : ℤ) (size value : ℕ) → step ≡ steps.Store authority offset size value
+    → GivesFor account step None
+stored account step authority offset size value is =
+    subst (λ (s : Step). GivesFor account s None) (sym is) (nothing_recorded account (steps.Store authority offset size value) refl)
+
+-- which step a text spells
+abbrev OfLine : Account → Line → Option Expected → Type 0
+OfLine account (lines.Step step) result = GivesFor account step result
+OfLine account line result = Unit {0}
+
+pub for_text : (account : Account) (text : List ℕ) (step : Step) (result : Option Expected) → Spells text (lines.Step step) → GivesFor account step result
+    → GivesForText account text result
+for_text account text step result spells gives other spelled =
+    subst (λ (l : Line). OfLine account l result) (one_spelling text (lines.Step step) (lines.Step other) spells spelled) gives
+
+-- The first fault
+
+-- no line of what is accepted is refused so
+finished_otherwise : (ended : Bool) (steps roots line number : ℕ) → (if ended then Yes steps roots else No number Truncated) ≡ No line WrongResult → ⊥
+finished_otherwise true steps roots line number h = cc
+finished_otherwise false steps roots line number h = cc
+
+nothing_wrong : (standing : Standing) (beginning : Beginning) → IsAfter standing beginning → (line : ℕ)
+    → IsFirstFault (text_of (lines_of beginning)) line WrongResult → ⊥
+nothing_wrong AtStart beginning is line fault =
+    let n = length (lines_of beginning) + 1 in
+    let same = one_verdict _ (No n Truncated) (No line WrongResult) (end_header AtStart beginning n tt is refl) fault in cc
+nothing_wrong AtMode beginning is line fault =
+    let n = length (lines_of beginning) + 1 in
+    let same = one_verdict _ (No n Truncated) (No line WrongResult) (end_header AtMode beginning n tt is refl) fault in cc
+nothing_wrong (Within reading) beginning stands line fault =
+    let n = length (lines_of beginning) + 1 in
+    finished_otherwise reading.ended reading.held.steps reading.held.roots line n
+    (one_verdict _ (finished reading n) (No line WrongResult) (end_within reading beginning n stands refl) fault)
+nothing_wrong Nowhere beginning is line fault = is
+
+pub none_at_fault : (known : Known) (bytes : List ℕ) → known.fault ≡ None → Taken known bytes → Expects bytes None
+none_at_fault known bytes none taken = λ line fault.
+    nothing_wrong known.standing taken.beginning taken.after line
+    (subst (λ (b : List ℕ). IsFirstFault b line WrongResult) (all_taken known bytes taken none) fault)
+
+pub other_fault : (known : Known) (fault : Fault) (bytes : List ℕ) → known.fault ≡ Some fault → (fault.refusal ≡ WrongResult → ⊥)
+    → Taken known bytes → Expects bytes None
+other_fault known fault bytes some other taken = λ line wrong.
+    let same = one_verdict bytes (No fault.line fault.refusal) (No line WrongResult) (fault_now known fault bytes some taken) wrong in other cc
+
+-- the text of a fault is that of the line
+text_is : (rest text line more : List ℕ) → IsLastFront rest false text → IsLine rest line more → text ≡ line
+text_is rest text line more (inl long) whole = absurd (IsLine-not_too_long rest line more whole long.0)
+text_is rest text line more (inr (inl cut)) whole = absurd (false≢true cut.1.1)
+text_is rest text line more (inr (inr front)) whole = front.3 ∙ (IsLine-same rest front.0 front.1 line more front.2 whole).0
+
+-- no line but a step is refused so
+no_root_test : (a b c d : Bool) → first_of ((a, Misplaced) ∷ (b, PlaceTaken) ∷ (c, UnsoundRoot) ∷ (d, LimitPassed) ∷ []) ≡ Some WrongResult → ⊥
+no_root_test true b c d h = cc
+no_root_test false true c d h = cc
+no_root_test false false true d h = cc
+no_root_test false false false true h = cc
+no_root_test false false false false h = cc
+
+no_end_test : (a : Bool) → first_of ((a, WrongCount) ∷ []) ≡ Some WrongResult → ⊥
+no_end_test true h = cc
+no_end_test false h = cc
+
+is_step : (account : Account) (line : Line) → first_of (line_tests account line) ≡ Some WrongResult
+    → (step : Step) × (line ≡ lines.Step step) × (first_of (step_tests account step) ≡ Some WrongResult)
+is_step account (lines.Version version) h = absurd cc
+is_step account (lines.Mode mode) h = absurd cc
+is_step account (lines.Root place word) h = absurd (no_root_test _ _ _ _ h)
+is_step account (lines.Step step) h = (step, refl, h)
+is_step account (lines.End count) h = absurd (no_end_test _ h)
+
+-- what is given for it
+given_at : (account : Account) (step : Step) (bytes : List ℕ) (result : Option Expected)
+    → ((expected : Expected) → given_in (row_in account step) ≡ Some expected → IsExpected bytes expected)
+    → first_of (step_tests account step) ≡ Some WrongResult → GivesFor account step result → Expects bytes result
+given_at account step bytes None is wrong gives = absurd (gives wrong)
+given_at account step bytes (Some expected) is wrong gives = is expected (gives wrong)
+
+body_expects : (rules_are : Rules) (roots : List DeclaredRoot) (steps_are : List Step) (rest bytes text : List ℕ) (result : Option Expected)
+    → bytes ≡ text_of (body_lines rules_are roots steps_are) ++ rest → RunsBy rules_are roots steps_are
+    → Refuses (Body rules_are roots steps_are) rest WrongResult → IsLastFront rest false text
+    → GivesForText (account_after rules_are roots steps_are) text result → Expects bytes result
+body_expects rules_are roots steps_are rest bytes text result is runs (inl long) front gives = absurd (let bad = long.1 in cc)
+body_expects rules_are roots steps_are rest bytes text result is runs (inr (inl cut)) front gives = absurd (let bad = cut.1 in cc)
+body_expects rules_are roots steps_are rest bytes text result is runs (inr (inr (line, more, whole, inl none))) front gives = absurd (let bad = none.1 in cc)
+body_expects rules_are roots steps_are rest bytes text result is runs (inr (inr (line, more, whole, inr found))) front gives =
+    let account = account_after rules_are roots steps_are in
+    let one = is_step account found.0 found.2 in
+    let spells = subst (Spells line) one.1 found.1.0 in
+    given_at account one.0 bytes result
+    (λ expected given. record {
+      rules = rules_are;
+      roots = roots;
+      steps = steps_are;
+      step = one.0;
+      text = line;
+      more = more;
+      bytes_are =
+          is ∙ ap (λ (r : List ℕ). text_of (body_lines rules_are roots steps_are) ++ r) whole.whole
+          ∙ sym (append_assoc (text_of (body_lines rules_are roots steps_are)) line (10 ∷ more));
+      runs = runs;
+      spelled = spells;
+      refused = one.2;
+      given = given;
+    })
+    one.2 (gives one.0 (subst (λ (t : List ℕ). Spells t (lines.Step one.0)) (sym (text_is rest text line more front whole)) spells))
+
+-- before the body, and after the end line, nothing is refused so
+never_before : (rest : List ℕ) (refusal : Refusal) (P : List ℕ → Type 0) → (refusal ≡ WrongResult → ⊥)
+    → ((text : List ℕ) → P text → refusal ≡ WrongResult) → FrontIs rest (WrongResult ≡ LineTooLong) (WrongResult ≡ Truncated) P → ⊥
+never_before rest refusal P other whole (inl long) = let bad = long.1 in cc
+never_before rest refusal P other whole (inr (inl cut)) = let bad = cut.1 in cc
+never_before rest refusal P other whole (inr (inr line)) = other (whole line.0 line.3)
+
+by_beginning : (standing : Standing) (beginning : Beginning) (rest bytes text : List ℕ) (result : Option Expected) → IsAfter standing beginning
+    → bytes ≡ text_of (lines_of beginning) ++ rest → IsAccepted beginning → Refuses beginning rest WrongResult → IsLastFront rest false text
+    → ((reading : Reading) → standing ≡ Within reading → GivesForText (account_of reading.held) text result) → Expects bytes result
+by_beginning standing Nothing rest bytes text result after is accepted refused front gives =
+    absurd (never_before rest BadHeader _ (λ h. cc) (λ text whole. sym whole.1) refused)
+by_beginning standing NoMode rest bytes text result after is accepted refused front gives =
+    absurd (never_before rest BadMode _ (λ h. cc) (λ text whole. sym whole.1) refused)
+by_beginning standing (Whole rules_are roots steps_are) rest bytes text result after is accepted refused front gives = absurd (let bad = refused.1 in cc)
+by_beginning AtStart (Body rules_are roots steps_are) rest bytes text result after is accepted refused front gives = absurd cc
+by_beginning AtMode (Body rules_are roots steps_are) rest bytes text result after is accepted refused front gives = absurd cc
+by_beginning (Within reading) (Body rules_are roots steps_are) rest bytes text result after is accepted refused front gives =
+    body_expects rules_are roots steps_are rest bytes text result is accepted refused front
+    (subst (λ (a : Account). GivesForText a text result) after.1.account (gives reading refl))
+by_beginning Nowhere (Body rules_are roots steps_are) rest bytes text result after is accepted refused front gives = absurd after
+
+pub wrong_result : (known : Known) (fault : Fault) (bytes : List ℕ) (result : Option Expected) → known.fault ≡ Some fault → fault.refusal ≡ WrongResult
+    → ((reading : Reading) → known.standing ≡ Within reading → GivesForText (account_of reading.held) (bytes_of fault.text) result)
+    → Taken known bytes → Expects bytes result
+wrong_result known fault bytes result some wrong gives taken =
+    let is : IsFaultAt taken.beginning taken.rest fault = subst (IsRest taken.beginning taken.rest) some taken.rest_is in
+    let refused = subst (λ (r : List ℕ). Refuses taken.beginning r fault.refusal) (append-nil taken.rest) (is.refused []) in
+    by_beginning known.standing taken.beginning taken.rest bytes (bytes_of fault.text) result taken.after taken.behind.bytes_are taken.behind.accepted
+    (subst (Refuses taken.beginning taken.rest) wrong refused) is.front gives
+
+-- what is within one standing is one reading
+pub same_reading : (a b : Reading) → Within a ≡ Within b → a ≡ b
+same_reading a b h = cc
+
+-- and no other line
+pub not_spelled : (account : Account) (text : List ℕ) (line : Line) → Spells text line → ((step : Step) → line ≡ lines.Step step → ⊥)
+    → GivesForText account text None
+not_spelled account text line spells other = λ step spelled wrong. other step (one_spelling text line (lines.Step step) spells spelled)
