@@ -8,13 +8,15 @@ use Rattle.cap_log.specs.declared.lines.Place.{Place}
 use Rattle.cap_log.specs.declared.lines.Line.{Line}
 use Rattle.cap_log.specs.declared.lines.Line.TheVariants.{Root, Step, End}
 use Rattle.cap_log.specs.declared.lines.Step as steps_module
-use Rattle.cap_log.specs.Lines.{Spells, IsStepInRange, IsPlace}
+use Rattle.cap_log.specs.Lines.{Spells, IsInRange, IsStepInRange, IsPlace, spelling}
+use Rattle.cap_log.specs.Parts.{Begins}
 use Rattle.cap_ops.specs.Tests.{first_of}
 use Rattle.cap_ops.specs.declared.refusal.Refusal.{Refusal}
 use Rattle.cap_ops.specs.declared.refusal.Refusal.TheVariants.{BadLine, Misplaced}
 use Rattle.cap_machine.specs.declared.ends.StepEnd.{StepEnd}
 use Rattle.cap_machine.specs.declared.ends.StepEnd.TheVariants.{Refused, NoMemory}
 use Rattle.cap_machine.specs.declared.rules.Rules.{Rules}
+use Rattle.cap_machine.specs.declared.rules.Rules.TheVariants.{One, TwoStrict, TwoClear}
 use Rattle.cap_machine.specs.States.{State, DeclaredRoot}
 use Rattle.cap_machine.specs.Steps.{Leads}
 use Rattle.cap_machine.specs.Accounts.{Account, no_account}
@@ -25,6 +27,7 @@ use Rattle.cap_machine.proofs.AccountLemmas.{with_root-grows, with_step-grows, a
 use Rattle.cap_judge.specs.Logs.{has_form, Beginning, Nothing, NoMode, Body, Whole, body_lines, after_roots}
 use Rattle.cap_judge.specs.Logs.{SpellsBy, RefusesWhole, line_tests}
 use Rattle.cap_judge.specs.Progresses.{Reading, Reaches, StandsFor, Takes, NamesFirst, WantsMemory, EndsFor, EndsNext}
+use Rattle.cap_judge.specs.Progresses.{EndsFront, TakesFront}
 use Rattle.cap_judge.proofs.NextLemmas.{step_runs, root_runs, no_roots}
 use Rattle.cap_judge.proofs.LogLemmas.{steps_push, roots_push}
 use Rattle.cap_judge.proofs.LogLemmas.{after_roots-push, after_steps-push}
@@ -189,3 +192,21 @@ root_ended old new place word NoMemory few ends =
 pub root_misplaced : (old : Held) (place : Place) (word : Word) → 0 < old.steps → EndsFor old (Root place word) (Refused Misplaced)
 root_misplaced old place word some =
     ap (λ (b : Bool). first_of ((b, Misplaced) ∷ root_tests (account_of old) place word)) (lt-ltb 0 old.steps some)
+
+-- a step has a form by all rules
+step_formed : (rules_are : Rules) (step : steps_module.Step) → has_form rules_are (Step step) ≡ true
+step_formed One step = refl
+step_formed TwoStrict step = refl
+step_formed TwoClear step = refl
+
+-- a step at the front of some bytes that was made
+pub front_made : (old new : Reading) (bytes rest : List ℕ) (step : steps_module.Step) → old.ended ≡ false → new.ended ≡ false
+    → Begins IsInRange spelling 10 bytes (Step step) rest → Makes old.held step new.held → TakesFront old bytes new rest
+front_made old new bytes rest step unended still begins makes =
+    (Step step, begins, λ text spells. (Step step, (spells, step_formed old.held.rules step), stepped old new step unended still begins.0 makes))
+
+-- and one that was not
+pub front_refused : (old : Reading) (new : Held) (bytes rest : List ℕ) (step : steps_module.Step) (end : StepEnd) → old.ended ≡ false
+    → Begins IsInRange spelling 10 bytes (Step step) rest → EndsStep old.held step end new → EndsFront old bytes end
+front_refused old new bytes rest step end unended begins ends =
+    (Step step, rest, begins, λ text spells. line_known old text (Step step) end unended (spells, step_formed old.held.rules step) (step_ended old.held new step end ends))

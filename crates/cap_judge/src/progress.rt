@@ -59,14 +59,13 @@ impl<M: TaggedStore> Progress<M> {
         ensures same { IfErr result (λ _. reading_of M.contents self.new ≡ reading_of M.contents self.old) }
     {
         match read_line(text) {
-            Some(line) => self.take_known::<0>(&line),
+            Some(line) => self.take_known(&line),
             None => Err(StepEnd::Refused(Refusal::BadLine)),
         }
     }
 
     /// Takes the next line, whatever bytes spell it, as `take_line` takes these.
-    #[inline(always)]
-    pub fn take_known<const COPY: u8>(&mut self, line: &Line) -> Result<(), StepEnd>
+    pub fn take_known(&mut self, line: &Line) -> Result<(), StepEnd>
         requires in_range { IsInRange line.now }
         requires unended { self.old.ended ≡ false }
         ensures ok { OnOk result ((text : List ℕ) → Spells text line.now
@@ -75,15 +74,14 @@ impl<M: TaggedStore> Progress<M> {
         ensures same { IfErr result (λ _. reading_of M.contents self.new ≡ reading_of M.contents self.old) }
     {
         if has_form(self.machine.rules(), line) {
-            self.take::<COPY>(line)
+            self.take(line)
         } else {
             Err(StepEnd::Refused(Refusal::BadLine))
         }
     }
 
     // Takes a line that has a form, after the header.
-    #[inline(always)]
-    fn take<const COPY: u8>(&mut self, line: &Line) -> Result<(), StepEnd>
+    fn take(&mut self, line: &Line) -> Result<(), StepEnd>
         requires in_range { IsInRange line.now }
         requires unended { self.old.ended ≡ false }
         ensures ok { OnOk result (Takes (reading_of M.contents self.old) line.now (reading_of M.contents self.new)) }
@@ -93,7 +91,7 @@ impl<M: TaggedStore> Progress<M> {
         match *line {
             Line::Version(_) | Line::Mode(_) => Err(StepEnd::Refused(Refusal::Misplaced)),
             Line::Root(place, word) => self.take_root(place, word),
-            Line::Step(step) => self.machine.make::<COPY>(&step),
+            Line::Step(step) => self.machine.step(&step),
             Line::End(count) => self.take_end(count),
         }
     }

@@ -11,9 +11,6 @@ use Rattle.cap_log.specs.Lines.{IsInRange, IsNumber, IsVersion, IsOffset, IsPlac
 use Rattle.cap_log.specs.Parts.{Begins, BeginsWithNone, FitsBoth, IsMode, IsSized, loaded_spelling, result_spelling, spaced, stored_spelling}
 use Rattle.cap_log.specs.declared.heads.Head.{Head}
 use Rattle.cap_log.specs.declared.heads.Head.TheVariants as head
-use Rattle.cap_log.specs.declared.heads.RegisterStep.TheVariants as registers
-use Rattle.cap_log.specs.declared.heads.NumberStep.TheVariants as number
-use Rattle.cap_log.specs.declared.heads.AccessStep.TheVariants as access
 use Rattle.cap_log.specs.declared.lines.Place.{Place}
 use Rattle.cap_log.specs.declared.lines.Step.TheVariants as step
 use Rattle.cap_log.specs.declared.lines.Mode.{Mode}
@@ -88,50 +85,123 @@ FitsWord = λ (a : Word). IsWord a.0
 abbrev pub word_text : Word → List ℕ
 word_text = λ (a : Word). hex_digits 32 a.0
 
+-- operands by their shape
+abbrev pub Copied : Type 0
+Copied = Target × (Register × Recorded)
+
+abbrev pub FitsCopied : Copied → Type 0
+FitsCopied = FitsBoth FitsTarget target_text (FitsBoth FitsRegister register_text FitsRecorded)
+
+abbrev pub copied_text : Copied → List ℕ
+copied_text = spaced target_text (spaced register_text recorded_text)
+
+abbrev pub Sealed : Type 0
+Sealed = Target × (Register × (Register × Recorded))
+
+abbrev pub FitsSealed : Sealed → Type 0
+FitsSealed = FitsBoth FitsTarget target_text (FitsBoth FitsRegister register_text (FitsBoth FitsRegister register_text FitsRecorded))
+
+abbrev pub sealed_text : Sealed → List ℕ
+sealed_text = spaced target_text (spaced register_text (spaced register_text recorded_text))
+
+abbrev pub Numbered : Type 0
+Numbered = Target × (Register × (Number × Recorded))
+
+abbrev pub FitsNumbered : Numbered → Type 0
+FitsNumbered = FitsBoth FitsTarget target_text (FitsBoth FitsRegister register_text (FitsBoth FitsNumber number_text FitsRecorded))
+
+abbrev pub numbered_text : Numbered → List ℕ
+numbered_text = spaced target_text (spaced register_text (spaced number_text recorded_text))
+
+abbrev pub CapLoaded : Type 0
+CapLoaded = Target × (Register × (Offset × Recorded))
+
+abbrev pub FitsCapLoaded : CapLoaded → Type 0
+FitsCapLoaded = FitsBoth FitsTarget target_text (FitsBoth FitsRegister register_text (FitsBoth FitsOffset offset_text FitsRecorded))
+
+abbrev pub cap_loaded_text : CapLoaded → List ℕ
+cap_loaded_text = spaced target_text (spaced register_text (spaced offset_text recorded_text))
+
+abbrev pub CapStored : Type 0
+CapStored = Register × (Register × Offset)
+
+abbrev pub FitsCapStored : CapStored → Type 0
+FitsCapStored = FitsBoth FitsRegister register_text (FitsBoth FitsRegister register_text FitsOffset)
+
+abbrev pub cap_stored_text : CapStored → List ℕ
+cap_stored_text = spaced register_text (spaced register_text offset_text)
+
+abbrev pub DataLoaded : Type 0
+DataLoaded = Register × (Offset × Loaded)
+
+abbrev pub FitsDataLoaded : DataLoaded → Type 0
+FitsDataLoaded = FitsBoth FitsRegister register_text (FitsBoth FitsOffset offset_text FitsLoaded)
+
+abbrev pub data_loaded_text : DataLoaded → List ℕ
+data_loaded_text = spaced register_text (spaced offset_text loaded_text)
+
+abbrev pub DataStored : Type 0
+DataStored = Register × (Offset × Stored)
+
+abbrev pub FitsDataStored : DataStored → Type 0
+FitsDataStored = FitsBoth FitsRegister register_text (FitsBoth FitsOffset offset_text FitsStored)
+
+abbrev pub data_stored_text : DataStored → List ℕ
+data_stored_text = spaced register_text (spaced offset_text stored_text)
+
 -- what stands behind a head
 abbrev pub Operands : Head → Type 0
 Operands head.Version = ℕ
 Operands head.Mode = Mode
 Operands head.Root = Place × Word
-Operands (head.Registers registers.Move) = Target × (Register × Recorded)
-Operands (head.Registers registers.ClearTag) = Target × (Register × Recorded)
-Operands (head.Registers registers.Seal) = Target × (Register × (Register × Recorded))
-Operands (head.Registers registers.Unseal) = Target × (Register × (Register × Recorded))
-Operands (head.Number kind) = Target × (Register × (Number × Recorded))
-Operands (head.Access access.LoadCap) = Target × (Register × (Offset × Recorded))
-Operands (head.Access access.StoreCap) = Register × (Register × Offset)
-Operands (head.Access access.Load) = Register × (Offset × Loaded)
-Operands (head.Access access.Store) = Register × (Offset × Stored)
+Operands head.Move = Copied
+Operands head.ClearTag = Copied
+Operands head.SetBounds = Numbered
+Operands head.SetBoundsExact = Numbered
+Operands head.SetAddr = Numbered
+Operands head.AndPerm = Numbered
+Operands head.Seal = Sealed
+Operands head.Unseal = Sealed
+Operands head.LoadCap = CapLoaded
+Operands head.StoreCap = CapStored
+Operands head.Load = DataLoaded
+Operands head.Store = DataStored
 Operands head.End = Count
 
 abbrev pub Fits : (h : Head) → Operands h → Type 0
 Fits head.Version = IsVersion
 Fits head.Mode = IsMode
 Fits head.Root = FitsBoth IsPlace place_spelling FitsWord
-Fits (head.Registers registers.Move) = FitsBoth FitsTarget target_text (FitsBoth FitsRegister register_text FitsRecorded)
-Fits (head.Registers registers.ClearTag) = FitsBoth FitsTarget target_text (FitsBoth FitsRegister register_text FitsRecorded)
-Fits (head.Registers registers.Seal) = FitsBoth FitsTarget target_text (FitsBoth FitsRegister register_text (FitsBoth FitsRegister register_text FitsRecorded))
-Fits (head.Registers registers.Unseal) = FitsBoth FitsTarget target_text (FitsBoth FitsRegister register_text (FitsBoth FitsRegister register_text FitsRecorded))
-Fits (head.Number kind) = FitsBoth FitsTarget target_text (FitsBoth FitsRegister register_text (FitsBoth FitsNumber number_text FitsRecorded))
-Fits (head.Access access.LoadCap) = FitsBoth FitsTarget target_text (FitsBoth FitsRegister register_text (FitsBoth FitsOffset offset_text FitsRecorded))
-Fits (head.Access access.StoreCap) = FitsBoth FitsRegister register_text (FitsBoth FitsRegister register_text FitsOffset)
-Fits (head.Access access.Load) = FitsBoth FitsRegister register_text (FitsBoth FitsOffset offset_text FitsLoaded)
-Fits (head.Access access.Store) = FitsBoth FitsRegister register_text (FitsBoth FitsOffset offset_text FitsStored)
+Fits head.Move = FitsCopied
+Fits head.ClearTag = FitsCopied
+Fits head.SetBounds = FitsNumbered
+Fits head.SetBoundsExact = FitsNumbered
+Fits head.SetAddr = FitsNumbered
+Fits head.AndPerm = FitsNumbered
+Fits head.Seal = FitsSealed
+Fits head.Unseal = FitsSealed
+Fits head.LoadCap = FitsCapLoaded
+Fits head.StoreCap = FitsCapStored
+Fits head.Load = FitsDataLoaded
+Fits head.Store = FitsDataStored
 Fits head.End = FitsCount
 
 abbrev pub spelled : (h : Head) → Operands h → List ℕ
 spelled head.Version = decimal
 spelled head.Mode = mode_spelling
 spelled head.Root = spaced place_spelling word_text
-spelled (head.Registers registers.Move) = spaced target_text (spaced register_text recorded_text)
-spelled (head.Registers registers.ClearTag) = spaced target_text (spaced register_text recorded_text)
-spelled (head.Registers registers.Seal) = spaced target_text (spaced register_text (spaced register_text recorded_text))
-spelled (head.Registers registers.Unseal) = spaced target_text (spaced register_text (spaced register_text recorded_text))
-spelled (head.Number kind) = spaced target_text (spaced register_text (spaced number_text recorded_text))
-spelled (head.Access access.LoadCap) = spaced target_text (spaced register_text (spaced offset_text recorded_text))
-spelled (head.Access access.StoreCap) = spaced register_text (spaced register_text offset_text)
-spelled (head.Access access.Load) = spaced register_text (spaced offset_text loaded_text)
-spelled (head.Access access.Store) = spaced register_text (spaced offset_text stored_text)
+spelled head.Move = copied_text
+spelled head.ClearTag = copied_text
+spelled head.SetBounds = numbered_text
+spelled head.SetBoundsExact = numbered_text
+spelled head.SetAddr = numbered_text
+spelled head.AndPerm = numbered_text
+spelled head.Seal = sealed_text
+spelled head.Unseal = sealed_text
+spelled head.LoadCap = cap_loaded_text
+spelled head.StoreCap = cap_stored_text
+spelled head.Load = data_loaded_text
+spelled head.Store = data_stored_text
 spelled head.End = count_text
 
 -- the line that they make
@@ -139,18 +209,18 @@ abbrev pub made : (h : Head) → Operands h → Line
 made head.Version version = line.Version version
 made head.Mode mode = line.Mode mode
 made head.Root x = line.Root x.0 x.1
-made (head.Registers registers.Move) x = line.Step (step.Move x.0.0 x.1.0.0 x.1.1.0)
-made (head.Registers registers.ClearTag) x = line.Step (step.ClearTag x.0.0 x.1.0.0 x.1.1.0)
-made (head.Registers registers.Seal) x = line.Step (step.Seal x.0.0 x.1.0.0 x.1.1.0.0 x.1.1.1.0)
-made (head.Registers registers.Unseal) x = line.Step (step.Unseal x.0.0 x.1.0.0 x.1.1.0.0 x.1.1.1.0)
-made (head.Number number.SetBounds) x = line.Step (step.SetBounds x.0.0 x.1.0.0 x.1.1.0.0 x.1.1.1.0)
-made (head.Number number.SetBoundsExact) x = line.Step (step.SetBoundsExact x.0.0 x.1.0.0 x.1.1.0.0 x.1.1.1.0)
-made (head.Number number.SetAddr) x = line.Step (step.SetAddr x.0.0 x.1.0.0 x.1.1.0.0 x.1.1.1.0)
-made (head.Number number.AndPerm) x = line.Step (step.AndPerm x.0.0 x.1.0.0 x.1.1.0.0 x.1.1.1.0)
-made (head.Access access.LoadCap) x = line.Step (step.LoadCap x.0.0 x.1.0.0 x.1.1.0.0 x.1.1.1.0)
-made (head.Access access.StoreCap) x = line.Step (step.StoreCap x.0.0 x.1.0.0 x.1.1.0)
-made (head.Access access.Load) x = line.Step (step.Load x.0.0 x.1.0.0 x.1.1.size x.1.1.value)
-made (head.Access access.Store) x = line.Step (step.Store x.0.0 x.1.0.0 x.1.1.size x.1.1.value)
+made head.Move x = line.Step (step.Move x.0.0 x.1.0.0 x.1.1.0)
+made head.ClearTag x = line.Step (step.ClearTag x.0.0 x.1.0.0 x.1.1.0)
+made head.Seal x = line.Step (step.Seal x.0.0 x.1.0.0 x.1.1.0.0 x.1.1.1.0)
+made head.Unseal x = line.Step (step.Unseal x.0.0 x.1.0.0 x.1.1.0.0 x.1.1.1.0)
+made head.SetBounds x = line.Step (step.SetBounds x.0.0 x.1.0.0 x.1.1.0.0 x.1.1.1.0)
+made head.SetBoundsExact x = line.Step (step.SetBoundsExact x.0.0 x.1.0.0 x.1.1.0.0 x.1.1.1.0)
+made head.SetAddr x = line.Step (step.SetAddr x.0.0 x.1.0.0 x.1.1.0.0 x.1.1.1.0)
+made head.AndPerm x = line.Step (step.AndPerm x.0.0 x.1.0.0 x.1.1.0.0 x.1.1.1.0)
+made head.LoadCap x = line.Step (step.LoadCap x.0.0 x.1.0.0 x.1.1.0.0 x.1.1.1.0)
+made head.StoreCap x = line.Step (step.StoreCap x.0.0 x.1.0.0 x.1.1.0)
+made head.Load x = line.Step (step.Load x.0.0 x.1.0.0 x.1.1.size x.1.1.value)
+made head.Store x = line.Step (step.Store x.0.0 x.1.0.0 x.1.1.size x.1.1.value)
 made head.End x = line.End x.0
 
 -- the head and the operands of a line
@@ -158,18 +228,18 @@ abbrev pub head_of : Line → Head
 head_of (line.Version version) = head.Version
 head_of (line.Mode mode) = head.Mode
 head_of (line.Root place word) = head.Root
-head_of (line.Step (step.Move target source result)) = head.Registers registers.Move
-head_of (line.Step (step.ClearTag target source result)) = head.Registers registers.ClearTag
-head_of (line.Step (step.Seal target source authority result)) = head.Registers registers.Seal
-head_of (line.Step (step.Unseal target source authority result)) = head.Registers registers.Unseal
-head_of (line.Step (step.SetBounds target source n result)) = head.Number number.SetBounds
-head_of (line.Step (step.SetBoundsExact target source n result)) = head.Number number.SetBoundsExact
-head_of (line.Step (step.SetAddr target source n result)) = head.Number number.SetAddr
-head_of (line.Step (step.AndPerm target source n result)) = head.Number number.AndPerm
-head_of (line.Step (step.LoadCap target authority offset result)) = head.Access access.LoadCap
-head_of (line.Step (step.StoreCap source authority offset)) = head.Access access.StoreCap
-head_of (line.Step (step.Load authority offset size value)) = head.Access access.Load
-head_of (line.Step (step.Store authority offset size value)) = head.Access access.Store
+head_of (line.Step (step.Move target source result)) = head.Move
+head_of (line.Step (step.ClearTag target source result)) = head.ClearTag
+head_of (line.Step (step.Seal target source authority result)) = head.Seal
+head_of (line.Step (step.Unseal target source authority result)) = head.Unseal
+head_of (line.Step (step.SetBounds target source n result)) = head.SetBounds
+head_of (line.Step (step.SetBoundsExact target source n result)) = head.SetBoundsExact
+head_of (line.Step (step.SetAddr target source n result)) = head.SetAddr
+head_of (line.Step (step.AndPerm target source n result)) = head.AndPerm
+head_of (line.Step (step.LoadCap target authority offset result)) = head.LoadCap
+head_of (line.Step (step.StoreCap source authority offset)) = head.StoreCap
+head_of (line.Step (step.Load authority offset size value)) = head.Load
+head_of (line.Step (step.Store authority offset size value)) = head.Store
 head_of (line.End steps) = head.End
 
 abbrev pub operands_of : (l : Line) → Operands (head_of l)
@@ -226,41 +296,22 @@ fits-of (line.Step (step.Load authority offset size value)) fits = (fits.0, regi
 fits-of (line.Step (step.Store authority offset size value)) fits = (fits.0, register-spaceless authority fits.0, (fits.1, offset-spaceless offset fits.1, (fits.2, fits.3)))
 fits-of (line.End steps) fits = fits
 
-pub spelling-of : (l : Line) → spelling l ≡ head_spelling (head_of l) ++ 32 ∷ spelled (head_of l) (operands_of l)
-unfolding spelling
-spelling-of (line.Version version) = refl
-spelling-of (line.Mode mode) = refl
-spelling-of (line.Root place word) = refl
-spelling-of (line.Step (step.Move target source result)) = refl
-spelling-of (line.Step (step.ClearTag target source result)) = refl
-spelling-of (line.Step (step.Seal target source authority result)) = refl
-spelling-of (line.Step (step.Unseal target source authority result)) = refl
-spelling-of (line.Step (step.SetBounds target source n result)) = refl
-spelling-of (line.Step (step.SetBoundsExact target source n result)) = refl
-spelling-of (line.Step (step.SetAddr target source n result)) = refl
-spelling-of (line.Step (step.AndPerm target source n result)) = refl
-spelling-of (line.Step (step.LoadCap target authority offset result)) = refl
-spelling-of (line.Step (step.StoreCap source authority offset)) = refl
-spelling-of (line.Step (step.Load authority offset size value)) = refl
-spelling-of (line.Step (step.Store authority offset size value)) = refl
-spelling-of (line.End steps) = refl
-
 in_range-made : (h : Head) (x : Operands h) → Fits h x → IsInRange (made h x)
 in_range-made head.Version x fits = fits
 in_range-made head.Mode x fits = fits
 in_range-made head.Root x fits = (fits.0, fits.2)
-in_range-made (head.Registers registers.Move) x fits = (fits.0, fits.2.0, fits.2.2)
-in_range-made (head.Registers registers.ClearTag) x fits = (fits.0, fits.2.0, fits.2.2)
-in_range-made (head.Registers registers.Seal) x fits = (fits.0, fits.2.0, fits.2.2.0, fits.2.2.2)
-in_range-made (head.Registers registers.Unseal) x fits = (fits.0, fits.2.0, fits.2.2.0, fits.2.2.2)
-in_range-made (head.Number number.SetBounds) x fits = (fits.0, fits.2.0, fits.2.2.0, fits.2.2.2)
-in_range-made (head.Number number.SetBoundsExact) x fits = (fits.0, fits.2.0, fits.2.2.0, fits.2.2.2)
-in_range-made (head.Number number.SetAddr) x fits = (fits.0, fits.2.0, fits.2.2.0, fits.2.2.2)
-in_range-made (head.Number number.AndPerm) x fits = (fits.0, fits.2.0, fits.2.2.0, fits.2.2.2)
-in_range-made (head.Access access.LoadCap) x fits = (fits.0, fits.2.0, fits.2.2.0, fits.2.2.2)
-in_range-made (head.Access access.StoreCap) x fits = (fits.0, fits.2.0, fits.2.2)
-in_range-made (head.Access access.Load) x fits = (fits.0, fits.2.0, fits.2.2.0, fits.2.2.1)
-in_range-made (head.Access access.Store) x fits = (fits.0, fits.2.0, fits.2.2.0, fits.2.2.1)
+in_range-made head.Move x fits = (fits.0, fits.2.0, fits.2.2)
+in_range-made head.ClearTag x fits = (fits.0, fits.2.0, fits.2.2)
+in_range-made head.Seal x fits = (fits.0, fits.2.0, fits.2.2.0, fits.2.2.2)
+in_range-made head.Unseal x fits = (fits.0, fits.2.0, fits.2.2.0, fits.2.2.2)
+in_range-made head.SetBounds x fits = (fits.0, fits.2.0, fits.2.2.0, fits.2.2.2)
+in_range-made head.SetBoundsExact x fits = (fits.0, fits.2.0, fits.2.2.0, fits.2.2.2)
+in_range-made head.SetAddr x fits = (fits.0, fits.2.0, fits.2.2.0, fits.2.2.2)
+in_range-made head.AndPerm x fits = (fits.0, fits.2.0, fits.2.2.0, fits.2.2.2)
+in_range-made head.LoadCap x fits = (fits.0, fits.2.0, fits.2.2.0, fits.2.2.2)
+in_range-made head.StoreCap x fits = (fits.0, fits.2.0, fits.2.2)
+in_range-made head.Load x fits = (fits.0, fits.2.0, fits.2.2.0, fits.2.2.1)
+in_range-made head.Store x fits = (fits.0, fits.2.0, fits.2.2.0, fits.2.2.1)
 in_range-made head.End x fits = fits
 
 spelling-made : (h : Head) (x : Operands h) → spelling (made h x) ≡ head_spelling h ++ 32 ∷ spelled h x
@@ -268,19 +319,22 @@ unfolding spelling
 spelling-made head.Version x = refl
 spelling-made head.Mode x = refl
 spelling-made head.Root x = refl
-spelling-made (head.Registers registers.Move) x = refl
-spelling-made (head.Registers registers.ClearTag) x = refl
-spelling-made (head.Registers registers.Seal) x = refl
-spelling-made (head.Registers registers.Unseal) x = refl
-spelling-made (head.Number number.SetBounds) x = refl
-spelling-made (head.Number number.SetBoundsExact) x = refl
-spelling-made (head.Number number.SetAddr) x = refl
-spelling-made (head.Number number.AndPerm) x = refl
-spelling-made (head.Access access.LoadCap) x = refl
-spelling-made (head.Access access.StoreCap) x = refl
-spelling-made (head.Access access.Load) x = refl
-spelling-made (head.Access access.Store) x = refl
+spelling-made head.Move x = refl
+spelling-made head.ClearTag x = refl
+spelling-made head.Seal x = refl
+spelling-made head.Unseal x = refl
+spelling-made head.SetBounds x = refl
+spelling-made head.SetBoundsExact x = refl
+spelling-made head.SetAddr x = refl
+spelling-made head.AndPerm x = refl
+spelling-made head.LoadCap x = refl
+spelling-made head.StoreCap x = refl
+spelling-made head.Load x = refl
+spelling-made head.Store x = refl
 spelling-made head.End x = refl
+
+pub spelling-of : (l : Line) → spelling l ≡ head_spelling (head_of l) ++ 32 ∷ spelled (head_of l) (operands_of l)
+spelling-of l = sym (ap spelling (made-of l)) ∙ spelling-made (head_of l) (operands_of l)
 
 -- heads
 head-plain : (h : Head) → IsHead h → HasNoFeed (head_spelling h)
@@ -290,18 +344,18 @@ head-short : (h : Head) → IsHead h → length (head_spelling h) ≤ 14
 head-short head.Version fits = lit≤ tt
 head-short head.Mode fits = lit≤ tt
 head-short head.Root fits = lit≤ tt
-head-short (head.Registers registers.Move) fits = lit≤ tt
-head-short (head.Registers registers.ClearTag) fits = lit≤ tt
-head-short (head.Registers registers.Seal) fits = lit≤ tt
-head-short (head.Registers registers.Unseal) fits = lit≤ tt
-head-short (head.Number number.SetBounds) fits = lit≤ tt
-head-short (head.Number number.SetBoundsExact) fits = lit≤ tt
-head-short (head.Number number.SetAddr) fits = lit≤ tt
-head-short (head.Number number.AndPerm) fits = lit≤ tt
-head-short (head.Access access.LoadCap) fits = lit≤ tt
-head-short (head.Access access.StoreCap) fits = lit≤ tt
-head-short (head.Access access.Load) fits = lit≤ tt
-head-short (head.Access access.Store) fits = lit≤ tt
+head-short head.Move fits = lit≤ tt
+head-short head.ClearTag fits = lit≤ tt
+head-short head.Seal fits = lit≤ tt
+head-short head.Unseal fits = lit≤ tt
+head-short head.SetBounds fits = lit≤ tt
+head-short head.SetBoundsExact fits = lit≤ tt
+head-short head.SetAddr fits = lit≤ tt
+head-short head.AndPerm fits = lit≤ tt
+head-short head.LoadCap fits = lit≤ tt
+head-short head.StoreCap fits = lit≤ tt
+head-short head.Load fits = lit≤ tt
+head-short head.Store fits = lit≤ tt
 head-short head.End fits = lit≤ tt
 
 -- the head that a word names
@@ -310,18 +364,18 @@ named word =
     if bytes_eq word (codes "capcheck") then head.Version else (
     if bytes_eq word (codes "mode") then head.Mode else (
     if bytes_eq word (codes "root") then head.Root else (
-    if bytes_eq word (codes "move") then head.Registers registers.Move else (
-    if bytes_eq word (codes "cleartag") then head.Registers registers.ClearTag else (
-    if bytes_eq word (codes "seal") then head.Registers registers.Seal else (
-    if bytes_eq word (codes "unseal") then head.Registers registers.Unseal else (
-    if bytes_eq word (codes "setbounds") then head.Number number.SetBounds else (
-    if bytes_eq word (codes "setboundsexact") then head.Number number.SetBoundsExact else (
-    if bytes_eq word (codes "setaddr") then head.Number number.SetAddr else (
-    if bytes_eq word (codes "andperm") then head.Number number.AndPerm else (
-    if bytes_eq word (codes "lc") then head.Access access.LoadCap else (
-    if bytes_eq word (codes "sc") then head.Access access.StoreCap else (
-    if bytes_eq word (codes "load") then head.Access access.Load else (
-    if bytes_eq word (codes "store") then head.Access access.Store else (
+    if bytes_eq word (codes "move") then head.Move else (
+    if bytes_eq word (codes "cleartag") then head.ClearTag else (
+    if bytes_eq word (codes "seal") then head.Seal else (
+    if bytes_eq word (codes "unseal") then head.Unseal else (
+    if bytes_eq word (codes "setbounds") then head.SetBounds else (
+    if bytes_eq word (codes "setboundsexact") then head.SetBoundsExact else (
+    if bytes_eq word (codes "setaddr") then head.SetAddr else (
+    if bytes_eq word (codes "andperm") then head.AndPerm else (
+    if bytes_eq word (codes "lc") then head.LoadCap else (
+    if bytes_eq word (codes "sc") then head.StoreCap else (
+    if bytes_eq word (codes "load") then head.Load else (
+    if bytes_eq word (codes "store") then head.Store else (
     head.End)))))))))))))))
 
 named-spelling : (h : Head) → named (head_spelling h) ≡ h
@@ -329,18 +383,18 @@ unfolding named
 named-spelling head.Version = refl
 named-spelling head.Mode = refl
 named-spelling head.Root = refl
-named-spelling (head.Registers registers.Move) = refl
-named-spelling (head.Registers registers.ClearTag) = refl
-named-spelling (head.Registers registers.Seal) = refl
-named-spelling (head.Registers registers.Unseal) = refl
-named-spelling (head.Number number.SetBounds) = refl
-named-spelling (head.Number number.SetBoundsExact) = refl
-named-spelling (head.Number number.SetAddr) = refl
-named-spelling (head.Number number.AndPerm) = refl
-named-spelling (head.Access access.LoadCap) = refl
-named-spelling (head.Access access.StoreCap) = refl
-named-spelling (head.Access access.Load) = refl
-named-spelling (head.Access access.Store) = refl
+named-spelling head.Move = refl
+named-spelling head.ClearTag = refl
+named-spelling head.Seal = refl
+named-spelling head.Unseal = refl
+named-spelling head.SetBounds = refl
+named-spelling head.SetBoundsExact = refl
+named-spelling head.SetAddr = refl
+named-spelling head.AndPerm = refl
+named-spelling head.LoadCap = refl
+named-spelling head.StoreCap = refl
+named-spelling head.Load = refl
+named-spelling head.Store = refl
 named-spelling head.End = refl
 
 pub head-operand : IsOperand IsHead head_spelling 14
@@ -414,19 +468,62 @@ short_mode modes.Clear = lit≤ tt
 pub mode-operand : IsOperand IsMode mode_spelling 6
 mode-operand = record { one = λ a b fits fits' e. one_mode a b e; plain = λ a fits. plain_mode a; short = λ a fits. short_mode a }
 
+-- operands of each shape have one spelling each
+copied_part : IsOperand FitsCopied copied_text 44
+copied_part =
+    FitsBoth-operand FitsTarget target_text 3 (FitsBoth FitsRegister register_text FitsRecorded) (spaced register_text recorded_text) 40 target_part
+    (FitsBoth-operand FitsRegister register_text 3 FitsRecorded recorded_text 36 register_part recorded_part)
+
+sealed_part : IsOperand FitsSealed sealed_text 48
+sealed_part =
+    FitsBoth-operand FitsTarget target_text 3 (FitsBoth FitsRegister register_text (FitsBoth FitsRegister register_text FitsRecorded)) (spaced register_text (spaced register_text recorded_text)) 44 target_part
+    (FitsBoth-operand FitsRegister register_text 3 (FitsBoth FitsRegister register_text FitsRecorded) (spaced register_text recorded_text) 40 register_part
+    (FitsBoth-operand FitsRegister register_text 3 FitsRecorded recorded_text 36 register_part recorded_part))
+
+numbered_part : IsOperand FitsNumbered numbered_text 61
+numbered_part =
+    FitsBoth-operand FitsTarget target_text 3 (FitsBoth FitsRegister register_text (FitsBoth FitsNumber number_text FitsRecorded)) (spaced register_text (spaced number_text recorded_text)) 57 target_part
+    (FitsBoth-operand FitsRegister register_text 3 (FitsBoth FitsNumber number_text FitsRecorded) (spaced number_text recorded_text) 53 register_part
+    (FitsBoth-operand FitsNumber number_text 16 FitsRecorded recorded_text 36 number_part recorded_part))
+
+cap_loaded_part : IsOperand FitsCapLoaded cap_loaded_text 50
+cap_loaded_part =
+    FitsBoth-operand FitsTarget target_text 3 (FitsBoth FitsRegister register_text (FitsBoth FitsOffset offset_text FitsRecorded)) (spaced register_text (spaced offset_text recorded_text)) 46 target_part
+    (FitsBoth-operand FitsRegister register_text 3 (FitsBoth FitsOffset offset_text FitsRecorded) (spaced offset_text recorded_text) 42 register_part
+    (FitsBoth-operand FitsOffset offset_text 5 FitsRecorded recorded_text 36 offset_part recorded_part))
+
+cap_stored_part : IsOperand FitsCapStored cap_stored_text 13
+cap_stored_part =
+    FitsBoth-operand FitsRegister register_text 3 (FitsBoth FitsRegister register_text FitsOffset) (spaced register_text offset_text) 9 register_part
+    (FitsBoth-operand FitsRegister register_text 3 FitsOffset offset_text 5 register_part offset_part)
+
+data_loaded_part : IsOperand FitsDataLoaded data_loaded_text 30
+data_loaded_part =
+    FitsBoth-operand FitsRegister register_text 3 (FitsBoth FitsOffset offset_text FitsLoaded) (spaced offset_text loaded_text) 26 register_part
+    (FitsBoth-operand FitsOffset offset_text 5 FitsLoaded loaded_text 20 offset_part loaded_part)
+
+data_stored_part : IsOperand FitsDataStored data_stored_text 28
+data_stored_part =
+    FitsBoth-operand FitsRegister register_text 3 (FitsBoth FitsOffset offset_text FitsStored) (spaced offset_text stored_text) 24 register_part
+    (FitsBoth-operand FitsOffset offset_text 5 FitsStored stored_text 18 offset_part stored_part)
+
 pub shape : (h : Head) → IsOperand (Fits h) (spelled h) 80
 shape head.Version = longer IsVersion decimal 1 80 version-operand (lit≤ tt)
 shape head.Mode = longer IsMode mode_spelling 6 80 mode-operand (lit≤ tt)
-shape head.Root = longer (FitsBoth IsPlace place_spelling FitsWord) (spaced place_spelling word_text) 50 80 (FitsBoth-operand IsPlace place_spelling 17 FitsWord word_text 32 place-operand word_part) (lit≤ tt)
-shape (head.Registers registers.Move) = longer (FitsBoth FitsTarget target_text (FitsBoth FitsRegister register_text FitsRecorded)) (spaced target_text (spaced register_text recorded_text)) 44 80 (FitsBoth-operand FitsTarget target_text 3 (FitsBoth FitsRegister register_text FitsRecorded) (spaced register_text recorded_text) 40 target_part (FitsBoth-operand FitsRegister register_text 3 FitsRecorded recorded_text 36 register_part recorded_part)) (lit≤ tt)
-shape (head.Registers registers.ClearTag) = longer (FitsBoth FitsTarget target_text (FitsBoth FitsRegister register_text FitsRecorded)) (spaced target_text (spaced register_text recorded_text)) 44 80 (FitsBoth-operand FitsTarget target_text 3 (FitsBoth FitsRegister register_text FitsRecorded) (spaced register_text recorded_text) 40 target_part (FitsBoth-operand FitsRegister register_text 3 FitsRecorded recorded_text 36 register_part recorded_part)) (lit≤ tt)
-shape (head.Registers registers.Seal) = longer (FitsBoth FitsTarget target_text (FitsBoth FitsRegister register_text (FitsBoth FitsRegister register_text FitsRecorded))) (spaced target_text (spaced register_text (spaced register_text recorded_text))) 48 80 (FitsBoth-operand FitsTarget target_text 3 (FitsBoth FitsRegister register_text (FitsBoth FitsRegister register_text FitsRecorded)) (spaced register_text (spaced register_text recorded_text)) 44 target_part (FitsBoth-operand FitsRegister register_text 3 (FitsBoth FitsRegister register_text FitsRecorded) (spaced register_text recorded_text) 40 register_part (FitsBoth-operand FitsRegister register_text 3 FitsRecorded recorded_text 36 register_part recorded_part))) (lit≤ tt)
-shape (head.Registers registers.Unseal) = longer (FitsBoth FitsTarget target_text (FitsBoth FitsRegister register_text (FitsBoth FitsRegister register_text FitsRecorded))) (spaced target_text (spaced register_text (spaced register_text recorded_text))) 48 80 (FitsBoth-operand FitsTarget target_text 3 (FitsBoth FitsRegister register_text (FitsBoth FitsRegister register_text FitsRecorded)) (spaced register_text (spaced register_text recorded_text)) 44 target_part (FitsBoth-operand FitsRegister register_text 3 (FitsBoth FitsRegister register_text FitsRecorded) (spaced register_text recorded_text) 40 register_part (FitsBoth-operand FitsRegister register_text 3 FitsRecorded recorded_text 36 register_part recorded_part))) (lit≤ tt)
-shape (head.Number kind) = longer (FitsBoth FitsTarget target_text (FitsBoth FitsRegister register_text (FitsBoth FitsNumber number_text FitsRecorded))) (spaced target_text (spaced register_text (spaced number_text recorded_text))) 61 80 (FitsBoth-operand FitsTarget target_text 3 (FitsBoth FitsRegister register_text (FitsBoth FitsNumber number_text FitsRecorded)) (spaced register_text (spaced number_text recorded_text)) 57 target_part (FitsBoth-operand FitsRegister register_text 3 (FitsBoth FitsNumber number_text FitsRecorded) (spaced number_text recorded_text) 53 register_part (FitsBoth-operand FitsNumber number_text 16 FitsRecorded recorded_text 36 number_part recorded_part))) (lit≤ tt)
-shape (head.Access access.LoadCap) = longer (FitsBoth FitsTarget target_text (FitsBoth FitsRegister register_text (FitsBoth FitsOffset offset_text FitsRecorded))) (spaced target_text (spaced register_text (spaced offset_text recorded_text))) 50 80 (FitsBoth-operand FitsTarget target_text 3 (FitsBoth FitsRegister register_text (FitsBoth FitsOffset offset_text FitsRecorded)) (spaced register_text (spaced offset_text recorded_text)) 46 target_part (FitsBoth-operand FitsRegister register_text 3 (FitsBoth FitsOffset offset_text FitsRecorded) (spaced offset_text recorded_text) 42 register_part (FitsBoth-operand FitsOffset offset_text 5 FitsRecorded recorded_text 36 offset_part recorded_part))) (lit≤ tt)
-shape (head.Access access.StoreCap) = longer (FitsBoth FitsRegister register_text (FitsBoth FitsRegister register_text FitsOffset)) (spaced register_text (spaced register_text offset_text)) 13 80 (FitsBoth-operand FitsRegister register_text 3 (FitsBoth FitsRegister register_text FitsOffset) (spaced register_text offset_text) 9 register_part (FitsBoth-operand FitsRegister register_text 3 FitsOffset offset_text 5 register_part offset_part)) (lit≤ tt)
-shape (head.Access access.Load) = longer (FitsBoth FitsRegister register_text (FitsBoth FitsOffset offset_text FitsLoaded)) (spaced register_text (spaced offset_text loaded_text)) 30 80 (FitsBoth-operand FitsRegister register_text 3 (FitsBoth FitsOffset offset_text FitsLoaded) (spaced offset_text loaded_text) 26 register_part (FitsBoth-operand FitsOffset offset_text 5 FitsLoaded loaded_text 20 offset_part loaded_part)) (lit≤ tt)
-shape (head.Access access.Store) = longer (FitsBoth FitsRegister register_text (FitsBoth FitsOffset offset_text FitsStored)) (spaced register_text (spaced offset_text stored_text)) 28 80 (FitsBoth-operand FitsRegister register_text 3 (FitsBoth FitsOffset offset_text FitsStored) (spaced offset_text stored_text) 24 register_part (FitsBoth-operand FitsOffset offset_text 5 FitsStored stored_text 18 offset_part stored_part)) (lit≤ tt)
+shape head.Root = longer (FitsBoth IsPlace place_spelling FitsWord) (spaced place_spelling word_text) 50 80
+    (FitsBoth-operand IsPlace place_spelling 17 FitsWord word_text 32 place-operand word_part) (lit≤ tt)
+shape head.Move = longer FitsCopied copied_text 44 80 copied_part (lit≤ tt)
+shape head.ClearTag = longer FitsCopied copied_text 44 80 copied_part (lit≤ tt)
+shape head.SetBounds = longer FitsNumbered numbered_text 61 80 numbered_part (lit≤ tt)
+shape head.SetBoundsExact = longer FitsNumbered numbered_text 61 80 numbered_part (lit≤ tt)
+shape head.SetAddr = longer FitsNumbered numbered_text 61 80 numbered_part (lit≤ tt)
+shape head.AndPerm = longer FitsNumbered numbered_text 61 80 numbered_part (lit≤ tt)
+shape head.Seal = longer FitsSealed sealed_text 48 80 sealed_part (lit≤ tt)
+shape head.Unseal = longer FitsSealed sealed_text 48 80 sealed_part (lit≤ tt)
+shape head.LoadCap = longer FitsCapLoaded cap_loaded_text 50 80 cap_loaded_part (lit≤ tt)
+shape head.StoreCap = longer FitsCapStored cap_stored_text 13 80 cap_stored_part (lit≤ tt)
+shape head.Load = longer FitsDataLoaded data_loaded_text 30 80 data_loaded_part (lit≤ tt)
+shape head.Store = longer FitsDataStored data_stored_text 28 80 data_stored_part (lit≤ tt)
 shape head.End = longer FitsCount count_text 10 80 count_part (lit≤ tt)
 
 -- a head and operands at the front of some bytes are their line

@@ -15,9 +15,6 @@ use Rattle.cap_log.specs.Lines.{IsOffset, IsPlace, IsRegister, place_spelling, r
 use Rattle.cap_log.specs.Parts.{HasNoSpace, Lacks}
 use Rattle.cap_log.specs.declared.heads.Head.{Head}
 use Rattle.cap_log.specs.declared.heads.Head.TheVariants as head
-use Rattle.cap_log.specs.declared.heads.RegisterStep.TheVariants as registers
-use Rattle.cap_log.specs.declared.heads.NumberStep.TheVariants as number
-use Rattle.cap_log.specs.declared.heads.AccessStep.TheVariants as access
 use Rattle.cap_log.specs.declared.lines.Place.{Place}
 use Rattle.cap_log.specs.declared.lines.Place.TheVariants.{Register, Granule}
 
@@ -89,18 +86,18 @@ above : (h : Head) → list_all (λ b. nat_lt 32 b) (head_spelling h) ≡ true
 above head.Version = refl
 above head.Mode = refl
 above head.Root = refl
-above (head.Registers registers.Move) = refl
-above (head.Registers registers.ClearTag) = refl
-above (head.Registers registers.Seal) = refl
-above (head.Registers registers.Unseal) = refl
-above (head.Number number.SetBounds) = refl
-above (head.Number number.SetBoundsExact) = refl
-above (head.Number number.SetAddr) = refl
-above (head.Number number.AndPerm) = refl
-above (head.Access access.LoadCap) = refl
-above (head.Access access.StoreCap) = refl
-above (head.Access access.Load) = refl
-above (head.Access access.Store) = refl
+above head.Move = refl
+above head.ClearTag = refl
+above head.Seal = refl
+above head.Unseal = refl
+above head.SetBounds = refl
+above head.SetBoundsExact = refl
+above head.SetAddr = refl
+above head.AndPerm = refl
+above head.LoadCap = refl
+above head.StoreCap = refl
+above head.Load = refl
+above head.Store = refl
 above head.End = refl
 
 pub Lacks-head : (c : ℕ) (h : Head) → c ≤ 32 → Lacks c (head_spelling h)

@@ -11,32 +11,10 @@ pub enum Head {
     Mode,
     /// `root`.
     Root,
-    /// A step from registers to a register.
-    Registers(RegisterStep),
-    /// A step with a number.
-    Number(NumberStep),
-    /// A step that reads or writes memory.
-    Access(AccessStep),
-    /// `end`.
-    End,
-}
-
-/// A step whose operands are registers.
-#[derive(Clone, Copy, Debug, PartialEq, Eq)]
-pub enum RegisterStep {
     /// `move`.
     Move,
     /// `cleartag`.
     ClearTag,
-    /// `seal`.
-    Seal,
-    /// `unseal`.
-    Unseal,
-}
-
-/// A step whose operands are two registers and a number.
-#[derive(Clone, Copy, Debug, PartialEq, Eq)]
-pub enum NumberStep {
     /// `setbounds`.
     SetBounds,
     /// `setboundsexact`.
@@ -45,11 +23,10 @@ pub enum NumberStep {
     SetAddr,
     /// `andperm`.
     AndPerm,
-}
-
-/// A step with an authority and an offset.
-#[derive(Clone, Copy, Debug, PartialEq, Eq)]
-pub enum AccessStep {
+    /// `seal`.
+    Seal,
+    /// `unseal`.
+    Unseal,
     /// `lc`.
     LoadCap,
     /// `sc`.
@@ -58,4 +35,6 @@ pub enum AccessStep {
     Load,
     /// `store`.
     Store,
+    /// `end`.
+    End,
 }

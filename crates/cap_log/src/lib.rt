@@ -6,7 +6,7 @@
 //! [`write_line`] writes a line's one spelling. [`front`] finds the line that some bytes begin with.
 //!
 //! A line can also be taken in two steps: its [`Head`], and by [`take_operands`] what stands behind that.
-//! Where the head names a step, one of three functions takes the operands of its sort alone.
+//! Each kind of step has a type of its own, as [`Move`], by which its [`Operands`] are taken alone.
 //!
 //! The parts of a line are [`Part`]s: each takes itself from the front of some bytes, with the byte
 //! that ends it, and two with a space between them are one. [`Equals`], [`Flag`], [`Count`], [`Number`],
@@ -35,10 +35,13 @@ mod writing;
 
 pub use crate::fronts::Front;
 pub use crate::fronts::finding::front;
-pub use crate::heads::{AccessStep, Head, NumberStep, RegisterStep};
+pub use crate::heads::Head;
 pub use crate::lines::{Line, Mode, Place, Step};
 pub use crate::nexts::Next;
-pub use crate::operands::take_operands;
+pub use crate::operands::accesses::{Load, LoadCap, Store, StoreCap};
+pub use crate::operands::numbers::{AndPerm, SetAddr, SetBounds, SetBoundsExact};
+pub use crate::operands::registers::{ClearTag, Move, Seal, Unseal};
+pub use crate::operands::{Operands, take_operands};
 pub use crate::parts::decimals::Count;
 pub use crate::parts::hexadecimals::{Number, WideNumber};
 pub use crate::parts::signs::{Equals, Flag};

@@ -20,7 +20,7 @@ pub fn take_line(bytes: &[u8]) -> Option<(Line, &[u8])>
     ensures none { IfNone result (BeginsWithNone IsInRange spelling 10 bytes.now) }
 {
     let (head, rest) = Head::take(bytes, b' ')?;
-    take_operands::<0>(head, rest)
+    take_operands(head, rest)
 }
 
 /// Reads a line from its bytes, without its line feed: the line that they spell, or `None` where

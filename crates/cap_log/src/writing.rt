@@ -7,7 +7,7 @@ ghost use Rattle.cap_log.specs.declared.lines.Line.{Line};
 ghost use Rattle.cap_log.specs.declared.lines.Line.TheVariants as line;
 
 use crate::buffers::put;
-use crate::heads::{AccessStep, Head, NumberStep, RegisterStep};
+use crate::heads::Head;
 use crate::lines::{Line, Mode, Place, Step};
 use crate::parts::Part;
 use crate::parts::decimals::Count;
@@ -97,7 +97,7 @@ fn write_step(step: Step, buffer: &mut [u8]) -> usize
             result,
         } => {
             let operands = (Target(target), (Register(source), Recorded(result)));
-            (Head::Registers(RegisterStep::Move), operands).write(buffer, 0)
+            (Head::Move, operands).write(buffer, 0)
         }
         Step::ClearTag {
             target,
@@ -105,7 +105,7 @@ fn write_step(step: Step, buffer: &mut [u8]) -> usize
             result,
         } => {
             let operands = (Target(target), (Register(source), Recorded(result)));
-            (Head::Registers(RegisterStep::ClearTag), operands).write(buffer, 0)
+            (Head::ClearTag, operands).write(buffer, 0)
         }
         Step::SetBounds {
             target,
@@ -117,7 +117,7 @@ fn write_step(step: Step, buffer: &mut [u8]) -> usize
                 Target(target),
                 (Register(source), (Number(length), Recorded(result))),
             );
-            (Head::Number(NumberStep::SetBounds), operands).write(buffer, 0)
+            (Head::SetBounds, operands).write(buffer, 0)
         }
         Step::SetBoundsExact {
             target,
@@ -129,7 +129,7 @@ fn write_step(step: Step, buffer: &mut [u8]) -> usize
                 Target(target),
                 (Register(source), (Number(length), Recorded(result))),
             );
-            (Head::Number(NumberStep::SetBoundsExact), operands).write(buffer, 0)
+            (Head::SetBoundsExact, operands).write(buffer, 0)
         }
         Step::SetAddr {
             target,
@@ -141,7 +141,7 @@ fn write_step(step: Step, buffer: &mut [u8]) -> usize
                 Target(target),
                 (Register(source), (Number(address), Recorded(result))),
             );
-            (Head::Number(NumberStep::SetAddr), operands).write(buffer, 0)
+            (Head::SetAddr, operands).write(buffer, 0)
         }
         Step::AndPerm {
             target,
@@ -153,7 +153,7 @@ fn write_step(step: Step, buffer: &mut [u8]) -> usize
                 Target(target),
                 (Register(source), (Number(mask), Recorded(result))),
             );
-            (Head::Number(NumberStep::AndPerm), operands).write(buffer, 0)
+            (Head::AndPerm, operands).write(buffer, 0)
         }
         Step::Seal {
             target,
@@ -165,7 +165,7 @@ fn write_step(step: Step, buffer: &mut [u8]) -> usize
                 Target(target),
                 (Register(source), (Register(authority), Recorded(result))),
             );
-            (Head::Registers(RegisterStep::Seal), operands).write(buffer, 0)
+            (Head::Seal, operands).write(buffer, 0)
         }
         Step::Unseal {
             target,
@@ -177,7 +177,7 @@ fn write_step(step: Step, buffer: &mut [u8]) -> usize
                 Target(target),
                 (Register(source), (Register(authority), Recorded(result))),
             );
-            (Head::Registers(RegisterStep::Unseal), operands).write(buffer, 0)
+            (Head::Unseal, operands).write(buffer, 0)
         }
         Step::LoadCap {
             target,
@@ -189,7 +189,7 @@ fn write_step(step: Step, buffer: &mut [u8]) -> usize
                 Target(target),
                 (Register(authority), (Offset(offset), Recorded(result))),
             );
-            (Head::Access(AccessStep::LoadCap), operands).write(buffer, 0)
+            (Head::LoadCap, operands).write(buffer, 0)
         }
         Step::StoreCap {
             source,
@@ -197,7 +197,7 @@ fn write_step(step: Step, buffer: &mut [u8]) -> usize
             offset,
         } => {
             let operands = (Register(source), (Register(authority), Offset(offset)));
-            (Head::Access(AccessStep::StoreCap), operands).write(buffer, 0)
+            (Head::StoreCap, operands).write(buffer, 0)
         }
         Step::Load {
             authority,
@@ -209,7 +209,7 @@ fn write_step(step: Step, buffer: &mut [u8]) -> usize
                 Register(authority),
                 (Offset(offset), Loaded { size, value }),
             );
-            (Head::Access(AccessStep::Load), operands).write(buffer, 0)
+            (Head::Load, operands).write(buffer, 0)
         }
         Step::Store {
             authority,
@@ -221,7 +221,7 @@ fn write_step(step: Step, buffer: &mut [u8]) -> usize
                 Register(authority),
                 (Offset(offset), Stored { size, value }),
             );
-            (Head::Access(AccessStep::Store), operands).write(buffer, 0)
+            (Head::Store, operands).write(buffer, 0)
         }
     }
 }

@@ -20,7 +20,9 @@ ghost use Rattle.cap_machine.specs.States.{granule_key};
 
 use crate::ends::StepEnd;
 use crate::granules::{number_in, put_capability, put_number};
+use crate::instructions::Instruction;
 use crate::machine::{MOST_STEPS, Machine};
+use cap_log::{Load, LoadCap, Store, StoreCap};
 use cap_ops::{Access, Kind, OpFault, Refusal, loaded, may_access_soundly};
 use cap_word::Cap;
 use tagmem::{NoMemory, TaggedStore};
@@ -46,100 +48,6 @@ impl<M: TaggedStore> Machine<M> {
         ensures { result ≡ code_for tag (code_in (held_of M.contents self.now) (granule_key granule)) }
     {
         if tag { self.memory.code(granule) } else { 0 }
-    }
-
-    // Makes the step that loads a capability.
-    #[inline(always)]
-    pub(crate) fn load_capability(
-        &mut self,
-        target: u8,
-        authority: u8,
-        offset: i16,
-        recorded: Cap,
-    ) -> Result<(), StepEnd>
-        requires target { IsTarget target }
-        requires authority { authority ≤ 31 }
-        requires offset { IsOffset offset }
-        ensures { AnswersStep (held_of M.contents self.old) (steps.LoadCap target authority offset recorded)
-            result (held_of M.contents self.new) }
-    {
-        match self.reach(authority, Kind::LoadCap, offset, 16) {
-            Ok(address) => {
-                let derived = loaded(self.register(authority), self.granule(address / 16));
-                let code = self.granule_code(derived.tag, address / 16);
-                self.finish(target, derived, recorded, code)
-            }
-            Err(fault) => Err(StepEnd::Refused(Refusal::from(fault))),
-        }
-    }
-
-    // Makes the step that stores a register's capability.
-    #[inline(always)]
-    pub(crate) fn store_capability(
-        &mut self,
-        source: u8,
-        authority: u8,
-        offset: i16,
-    ) -> Result<(), StepEnd>
-        requires source { source ≤ 31 }
-        requires authority { authority ≤ 31 }
-        requires offset { IsOffset offset }
-        ensures { AnswersStep (held_of M.contents self.old) (steps.StoreCap source authority offset) result (held_of M.contents self.new) }
-    {
-        let stored = self.register(source);
-        match self.reach(authority, Kind::StoreCap(stored), offset, 16) {
-            Ok(address) => self.put_counted(address / 16, stored, self.codes[source as usize]),
-            Err(fault) => Err(StepEnd::Refused(Refusal::from(fault))),
-        }
-    }
-
-    // Makes the step that stores a value.
-    #[inline(always)]
-    pub(crate) fn store(
-        &mut self,
-        authority: u8,
-        offset: i16,
-        size: u8,
-        value: u64,
-    ) -> Result<(), StepEnd>
-        requires authority { authority ≤ 31 }
-        requires offset { IsOffset offset }
-        requires sized { IsDataSize size }
-        ensures { AnswersStep (held_of M.contents self.old) (steps.Store authority offset size value) result (held_of M.contents self.new) }
-    {
-        match self.reach(authority, Kind::StoreData, offset, size) {
-            Ok(address) => self.put_value_counted(address / 16, (address % 16) as u8, size, value),
-            Err(fault) => Err(StepEnd::Refused(Refusal::from(fault))),
-        }
-    }
-
-    // Makes the step that loads a value.
-    #[inline(always)]
-    pub(crate) fn load(
-        &mut self,
-        authority: u8,
-        offset: i16,
-        size: u8,
-        value: u64,
-    ) -> Result<(), StepEnd>
-        requires authority { authority ≤ 31 }
-        requires offset { IsOffset offset }
-        requires sized { IsDataSize size }
-        ensures { AnswersStep (held_of M.contents self.old) (steps.Load authority offset size value) result (held_of M.contents self.new) }
-    {
-        match self.reach(authority, Kind::LoadData, offset, size) {
-            Ok(address) => {
-                if number_in(&self.memory, address / 16, (address % 16) as u8, size) != value {
-                    return Err(StepEnd::Refused(Refusal::WrongResult));
-                }
-                if self.steps >= MOST_STEPS {
-                    return Err(StepEnd::Refused(Refusal::LimitPassed));
-                }
-                self.steps += 1;
-                Ok(())
-            }
-            Err(fault) => Err(StepEnd::Refused(Refusal::from(fault))),
-        }
     }
 
     // Whether one step more that names a granule passes a limit.
@@ -200,6 +108,68 @@ impl<M: TaggedStore> Machine<M> {
                 Ok(())
             }
             Err(NoMemory) => Err(StepEnd::NoMemory),
+        }
+    }
+}
+
+impl Instruction for LoadCap {
+    #[inline(always)]
+    fn perform<M: TaggedStore>(self, machine: &mut Machine<M>) -> Result<(), StepEnd> {
+        match machine.reach(self.authority, Kind::LoadCap, self.offset, 16) {
+            Ok(address) => {
+                let granule = machine.granule(address / 16);
+                let derived = loaded(machine.register(self.authority), granule);
+                let code = machine.granule_code(derived.tag, address / 16);
+                machine.finish(self.target, derived, self.result, code)
+            }
+            Err(fault) => Err(StepEnd::Refused(Refusal::from(fault))),
+        }
+    }
+}
+
+impl Instruction for StoreCap {
+    #[inline(always)]
+    fn perform<M: TaggedStore>(self, machine: &mut Machine<M>) -> Result<(), StepEnd> {
+        let stored = machine.register(self.source);
+        match machine.reach(self.authority, Kind::StoreCap(stored), self.offset, 16) {
+            Ok(address) => {
+                let code = machine.codes[self.source as usize];
+                machine.put_counted(address / 16, stored, code)
+            }
+            Err(fault) => Err(StepEnd::Refused(Refusal::from(fault))),
+        }
+    }
+}
+
+impl Instruction for Store {
+    #[inline(always)]
+    fn perform<M: TaggedStore>(self, machine: &mut Machine<M>) -> Result<(), StepEnd> {
+        match machine.reach(self.authority, Kind::StoreData, self.offset, self.size) {
+            Ok(address) => {
+                let byte = (address % 16) as u8;
+                machine.put_value_counted(address / 16, byte, self.size, self.value)
+            }
+            Err(fault) => Err(StepEnd::Refused(Refusal::from(fault))),
+        }
+    }
+}
+
+impl Instruction for Load {
+    #[inline(always)]
+    fn perform<M: TaggedStore>(self, machine: &mut Machine<M>) -> Result<(), StepEnd> {
+        match machine.reach(self.authority, Kind::LoadData, self.offset, self.size) {
+            Ok(address) => {
+                let byte = (address % 16) as u8;
+                if number_in(&machine.memory, address / 16, byte, self.size) != self.value {
+                    return Err(StepEnd::Refused(Refusal::WrongResult));
+                }
+                if machine.steps >= MOST_STEPS {
+                    return Err(StepEnd::Refused(Refusal::LimitPassed));
+                }
+                machine.steps += 1;
+                Ok(())
+            }
+            Err(fault) => Err(StepEnd::Refused(Refusal::from(fault))),
         }
     }
 }

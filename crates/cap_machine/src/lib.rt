@@ -13,6 +13,7 @@ mod declaring;
 mod ends;
 mod granules;
 mod holding;
+mod instructions;
 mod laws;
 mod machine;
 mod operating;
@@ -21,6 +22,7 @@ mod rules;
 mod stepping;
 
 pub use crate::ends::StepEnd;
+pub use crate::instructions::Instruction;
 pub use crate::laws::{
     accesses_lie_inside, authority_never_grows, origins_are_roots, origins_follow_descent,
     runs_end_in_accounts, steps_stay_within,

@@ -1,8 +1,6 @@
 //! Steps that are operations on registers.
 
 ghost use Rattle.std.specs.Prelude.{◌≤◌, Ok};
-ghost use Rattle.cap_log.specs.Lines.{IsTarget};
-ghost use Rattle.cap_log.specs.declared.lines.Step.TheVariants as steps;
 ghost use Rattle.cap_ops.specs.Operations.{
   and_perm_result,
   and_perm_tests,
@@ -15,12 +13,13 @@ ghost use Rattle.cap_ops.specs.Operations.{
   unseal_result,
   unseal_tests,
 };
-ghost use Rattle.cap_machine.specs.Helds.{AnswersStep, EndsBy, held_of};
+ghost use Rattle.cap_machine.specs.Helds.{EndsBy};
 
 use crate::ends::StepEnd;
+use crate::instructions::Instruction;
 use crate::machine::Machine;
 use crate::rules::Rules;
-use cap_log::Step;
+use cap_log::{AndPerm, ClearTag, Move, Seal, SetAddr, SetBounds, SetBoundsExact, Unseal};
 use cap_ops::{
     OpFault, and_perm, and_perm_clear, clear_tag, seal, seal_clear, set_addr, set_addr_clear,
     set_bounds, set_bounds_clear, unseal, unseal_clear,
@@ -28,183 +27,73 @@ use cap_ops::{
 use cap_word::Cap;
 use tagmem::TaggedStore;
 
-impl<M: TaggedStore> Machine<M> {
-    // Makes the step that copies a register.
+impl Instruction for Move {
     #[inline(always)]
-    pub(crate) fn copy(&mut self, target: u8, source: u8, recorded: Cap) -> Result<(), StepEnd>
-        requires target { IsTarget target }
-        requires source { source ≤ 31 }
-        ensures { AnswersStep (held_of M.contents self.old) (steps.Move target source recorded) result (held_of M.contents self.new) }
-    {
-        let step = Step::Move {
-            target,
-            source,
-            result: recorded,
-        };
-        let outcome = Ok(self.register(source));
-        self.conclude(&step, target, source, outcome, recorded)
+    fn perform<M: TaggedStore>(self, machine: &mut Machine<M>) -> Result<(), StepEnd> {
+        let outcome = Ok(machine.register(self.source));
+        machine.conclude(self, self.target, self.source, outcome, self.result)
     }
+}
 
-    // Makes the step that clears a tag.
+impl Instruction for ClearTag {
     #[inline(always)]
-    pub(crate) fn clear_tag(&mut self, target: u8, source: u8, recorded: Cap) -> Result<(), StepEnd>
-        requires target { IsTarget target }
-        requires source { source ≤ 31 }
-        ensures { AnswersStep (held_of M.contents self.old) (steps.ClearTag target source recorded) result (held_of M.contents self.new) }
-    {
-        let step = Step::ClearTag {
-            target,
-            source,
-            result: recorded,
-        };
-        let outcome = Ok(clear_tag(self.register(source)));
-        self.conclude(&step, target, source, outcome, recorded)
+    fn perform<M: TaggedStore>(self, machine: &mut Machine<M>) -> Result<(), StepEnd> {
+        let outcome = Ok(clear_tag(machine.register(self.source)));
+        machine.conclude(self, self.target, self.source, outcome, self.result)
     }
+}
 
-    // Makes the step that sets bounds, rounded.
+impl Instruction for SetBounds {
     #[inline(always)]
-    pub(crate) fn set_bounds(
-        &mut self,
-        target: u8,
-        source: u8,
-        length: u64,
-        recorded: Cap,
-    ) -> Result<(), StepEnd>
-        requires target { IsTarget target }
-        requires source { source ≤ 31 }
-        ensures { AnswersStep (held_of M.contents self.old) (steps.SetBounds target source length recorded)
-            result (held_of M.contents self.new) }
-    {
-        let step = Step::SetBounds {
-            target,
-            source,
-            length,
-            result: recorded,
-        };
-        let outcome = set_bounds_by(self.rules, self.register(source), length, false);
-        self.conclude(&step, target, source, outcome, recorded)
+    fn perform<M: TaggedStore>(self, machine: &mut Machine<M>) -> Result<(), StepEnd> {
+        let source = machine.register(self.source);
+        let outcome = set_bounds_by(machine.rules, source, self.length, false);
+        machine.conclude(self, self.target, self.source, outcome, self.result)
     }
+}
 
-    // Makes the step that sets bounds as they are asked for.
+impl Instruction for SetBoundsExact {
     #[inline(always)]
-    pub(crate) fn set_bounds_exact(
-        &mut self,
-        target: u8,
-        source: u8,
-        length: u64,
-        recorded: Cap,
-    ) -> Result<(), StepEnd>
-        requires target { IsTarget target }
-        requires source { source ≤ 31 }
-        ensures { AnswersStep (held_of M.contents self.old) (steps.SetBoundsExact target source length recorded)
-            result (held_of M.contents self.new) }
-    {
-        let step = Step::SetBoundsExact {
-            target,
-            source,
-            length,
-            result: recorded,
-        };
-        let outcome = set_bounds_by(self.rules, self.register(source), length, true);
-        self.conclude(&step, target, source, outcome, recorded)
+    fn perform<M: TaggedStore>(self, machine: &mut Machine<M>) -> Result<(), StepEnd> {
+        let source = machine.register(self.source);
+        let outcome = set_bounds_by(machine.rules, source, self.length, true);
+        machine.conclude(self, self.target, self.source, outcome, self.result)
     }
+}
 
-    // Makes the step that sets an address.
+impl Instruction for SetAddr {
     #[inline(always)]
-    pub(crate) fn set_address(
-        &mut self,
-        target: u8,
-        source: u8,
-        address: u64,
-        recorded: Cap,
-    ) -> Result<(), StepEnd>
-        requires target { IsTarget target }
-        requires source { source ≤ 31 }
-        ensures { AnswersStep (held_of M.contents self.old) (steps.SetAddr target source address recorded)
-            result (held_of M.contents self.new) }
-    {
-        let step = Step::SetAddr {
-            target,
-            source,
-            address,
-            result: recorded,
-        };
-        let outcome = set_addr_by(self.rules, self.register(source), address);
-        self.conclude(&step, target, source, outcome, recorded)
+    fn perform<M: TaggedStore>(self, machine: &mut Machine<M>) -> Result<(), StepEnd> {
+        let outcome = set_addr_by(machine.rules, machine.register(self.source), self.address);
+        machine.conclude(self, self.target, self.source, outcome, self.result)
     }
+}
 
-    // Makes the step that takes permissions away.
+impl Instruction for AndPerm {
     #[inline(always)]
-    pub(crate) fn and_permissions(
-        &mut self,
-        target: u8,
-        source: u8,
-        mask: u64,
-        recorded: Cap,
-    ) -> Result<(), StepEnd>
-        requires target { IsTarget target }
-        requires source { source ≤ 31 }
-        ensures { AnswersStep (held_of M.contents self.old) (steps.AndPerm target source mask recorded)
-            result (held_of M.contents self.new) }
-    {
-        let step = Step::AndPerm {
-            target,
-            source,
-            mask,
-            result: recorded,
-        };
-        let outcome = and_perm_by(self.rules, self.register(source), mask);
-        self.conclude(&step, target, source, outcome, recorded)
+    fn perform<M: TaggedStore>(self, machine: &mut Machine<M>) -> Result<(), StepEnd> {
+        let outcome = and_perm_by(machine.rules, machine.register(self.source), self.mask);
+        machine.conclude(self, self.target, self.source, outcome, self.result)
     }
+}
 
-    // Makes the step that seals.
+impl Instruction for Seal {
     #[inline(always)]
-    pub(crate) fn seal(
-        &mut self,
-        target: u8,
-        source: u8,
-        authority: u8,
-        recorded: Cap,
-    ) -> Result<(), StepEnd>
-        requires target { IsTarget target }
-        requires source { source ≤ 31 }
-        requires authority { authority ≤ 31 }
-        ensures { AnswersStep (held_of M.contents self.old) (steps.Seal target source authority recorded)
-            result (held_of M.contents self.new) }
-    {
-        let step = Step::Seal {
-            target,
-            source,
-            authority,
-            result: recorded,
-        };
-        let outcome = seal_by(self.rules, self.register(source), self.register(authority));
-        self.conclude(&step, target, source, outcome, recorded)
+    fn perform<M: TaggedStore>(self, machine: &mut Machine<M>) -> Result<(), StepEnd> {
+        let source = machine.register(self.source);
+        let authority = machine.register(self.authority);
+        let outcome = seal_by(machine.rules, source, authority);
+        machine.conclude(self, self.target, self.source, outcome, self.result)
     }
+}
 
-    // Makes the step that unseals.
+impl Instruction for Unseal {
     #[inline(always)]
-    pub(crate) fn unseal(
-        &mut self,
-        target: u8,
-        source: u8,
-        authority: u8,
-        recorded: Cap,
-    ) -> Result<(), StepEnd>
-        requires target { IsTarget target }
-        requires source { source ≤ 31 }
-        requires authority { authority ≤ 31 }
-        ensures { AnswersStep (held_of M.contents self.old) (steps.Unseal target source authority recorded)
-            result (held_of M.contents self.new) }
-    {
-        let step = Step::Unseal {
-            target,
-            source,
-            authority,
-            result: recorded,
-        };
-        let outcome = unseal_by(self.rules, self.register(source), self.register(authority));
-        self.conclude(&step, target, source, outcome, recorded)
+    fn perform<M: TaggedStore>(self, machine: &mut Machine<M>) -> Result<(), StepEnd> {
+        let source = machine.register(self.source);
+        let authority = machine.register(self.authority);
+        let outcome = unseal_by(machine.rules, source, authority);
+        machine.conclude(self, self.target, self.source, outcome, self.result)
     }
 }
 

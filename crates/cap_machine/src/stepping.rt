@@ -19,9 +19,13 @@ ghost use Rattle.cap_machine.specs.Places.{IsCoded};
 ghost use Rattle.cap_machine.specs.Steps.{is_same_cap};
 
 use crate::ends::StepEnd;
+use crate::instructions::Instruction;
 use crate::machine::{MOST_STEPS, Machine};
 use crate::places::code_for;
-use cap_log::Step;
+use cap_log::{
+    AndPerm, ClearTag, Load, LoadCap, Move, Operands, Seal, SetAddr, SetBounds, SetBoundsExact,
+    Step, Store, StoreCap, Unseal,
+};
 use cap_ops::{OpFault, Refusal};
 use cap_word::Cap;
 use tagmem::TaggedStore;
@@ -54,13 +58,11 @@ impl<M: TaggedStore> Machine<M> {
         ensures clears { OnOk result
             (ClearsBeyond self.old.rules (state_of (held_of M.contents self.old)) step.now (state_of (held_of M.contents self.new))) }
     {
-        self.make::<0>(step)
+        self.make(step)
     }
 
-    /// Makes a step as [`step`](Machine::step) does. `COPY` changes nothing: who knows the kind of the step takes
-    /// a number of its own, and has a copy without the other kinds.
-    #[inline(always)]
-    pub fn make<const COPY: u8>(&mut self, step: &Step) -> Result<(), StepEnd>
+    // Makes a step of any kind.
+    fn make(&mut self, step: &Step) -> Result<(), StepEnd>
         requires { IsStepInRange step.now }
         ensures { AnswersStep (held_of M.contents self.old) step.now result (held_of M.contents self.new) }
     {
@@ -69,90 +71,159 @@ impl<M: TaggedStore> Machine<M> {
                 target,
                 source,
                 result,
-            } => self.copy(target, source, result),
+            } => Move {
+                target,
+                source,
+                result,
+            }
+            .perform(self),
             Step::ClearTag {
                 target,
                 source,
                 result,
-            } => self.clear_tag(target, source, result),
+            } => ClearTag {
+                target,
+                source,
+                result,
+            }
+            .perform(self),
             Step::SetBounds {
                 target,
                 source,
                 length,
                 result,
-            } => self.set_bounds(target, source, length, result),
+            } => SetBounds {
+                target,
+                source,
+                length,
+                result,
+            }
+            .perform(self),
             Step::SetBoundsExact {
                 target,
                 source,
                 length,
                 result,
-            } => self.set_bounds_exact(target, source, length, result),
+            } => SetBoundsExact {
+                target,
+                source,
+                length,
+                result,
+            }
+            .perform(self),
             Step::SetAddr {
                 target,
                 source,
                 address,
                 result,
-            } => self.set_address(target, source, address, result),
+            } => SetAddr {
+                target,
+                source,
+                address,
+                result,
+            }
+            .perform(self),
             Step::AndPerm {
                 target,
                 source,
                 mask,
                 result,
-            } => self.and_permissions(target, source, mask, result),
+            } => AndPerm {
+                target,
+                source,
+                mask,
+                result,
+            }
+            .perform(self),
             Step::Seal {
                 target,
                 source,
                 authority,
                 result,
-            } => self.seal(target, source, authority, result),
+            } => Seal {
+                target,
+                source,
+                authority,
+                result,
+            }
+            .perform(self),
             Step::Unseal {
                 target,
                 source,
                 authority,
                 result,
-            } => self.unseal(target, source, authority, result),
+            } => Unseal {
+                target,
+                source,
+                authority,
+                result,
+            }
+            .perform(self),
             Step::LoadCap {
                 target,
                 authority,
                 offset,
                 result,
-            } => self.load_capability(target, authority, offset, result),
+            } => LoadCap {
+                target,
+                authority,
+                offset,
+                result,
+            }
+            .perform(self),
             Step::StoreCap {
                 source,
                 authority,
                 offset,
-            } => self.store_capability(source, authority, offset),
+            } => StoreCap {
+                source,
+                authority,
+                offset,
+            }
+            .perform(self),
             Step::Load {
                 authority,
                 offset,
                 size,
                 value,
-            } => self.load(authority, offset, size, value),
+            } => Load {
+                authority,
+                offset,
+                size,
+                value,
+            }
+            .perform(self),
             Step::Store {
                 authority,
                 offset,
                 size,
                 value,
-            } => self.store(authority, offset, size, value),
+            } => Store {
+                authority,
+                offset,
+                size,
+                value,
+            }
+            .perform(self),
         }
     }
 
     // Ends a step that is an operation on registers, from what the operation gave.
     #[inline(always)]
-    pub(crate) fn conclude(
+    pub(crate) fn conclude<O: Operands>(
         &mut self,
-        step: &Step,
+        step: O,
         target: u8,
         source: u8,
         outcome: Result<Cap, OpFault>,
         recorded: Cap,
     ) -> Result<(), StepEnd>
-        requires in_range { IsStepInRange step.now }
+        requires in_range { IsStepInRange (O.step step) }
         requires target { IsTarget target }
-        requires operation { IsOperation (state_of (held_of M.contents self.old)) step.now target recorded }
-        requires source { IsSource (state_of (held_of M.contents self.old)) step.now source }
-        requires derives { Derives (held_of M.contents self.old) step.now outcome }
-        ensures { AnswersStep (held_of M.contents self.old) step.now result (held_of M.contents self.new) }
+        requires operation { IsOperation (state_of (held_of M.contents self.old)) (O.step step) target recorded }
+        requires source { IsSource (state_of (held_of M.contents self.old)) (O.step step) source }
+        requires derives { Derives (held_of M.contents self.old) (O.step step) outcome }
+        ensures { AnswersStep (held_of M.contents self.old) (O.step step) result (held_of M.contents self.new) }
     {
         match outcome {
             Ok(derived) => self.finish(target, derived, recorded, self.codes[source as usize]),

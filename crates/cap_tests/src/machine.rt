@@ -1,7 +1,10 @@
 //! Roots and steps over the list store, each given as the line of a log that says it.
 
-use cap_log::{Line, Place, read_line};
-use cap_machine::{Machine, Refusal, StepEnd};
+use cap_log::{
+    ClearTag, Head, Line, Load, LoadCap, Move, Place, Seal, SetAddr, Store, StoreCap, read_line,
+    take_operands,
+};
+use cap_machine::{Instruction, Machine, Refusal, StepEnd};
 use cap_ops::OpFault;
 use cap_word::{Cap, Word};
 use std::alloc::Global;
@@ -458,24 +461,60 @@ fn refusals_have_numbers_and_names(rt: HostRuntime) {
     assert_eq!(rt; Refusal::from(OpFault::Misaligned).number(), 20);
 }
 
-// Each copy of `make` makes the step that `step` makes.
-#[test]
-fn copies_make_the_same_step(rt: HostRuntime) {
-    let move_line = b"move c2 c1 = 1 ffff1ffffc0180040000000000000000";
-    let mut machine = machine_after(
-        &rt,
-        rt.alloc(),
-        &["root c1 ffff1ffffc0180040000000000000000"],
-    );
-    match read_line(move_line) {
-        Some(Line::Step(step)) => {
-            assert_eq!(rt; machine.make::<1>(&step), Ok(()));
-            is(&rt, machine.register(2), true, ALL);
-            assert_eq!(rt; machine.make::<2>(&step), Ok(()));
-            assert_eq!(rt; machine.steps(), 2);
+// A kind of step is made from its operands as `step` makes it from its line.
+fn performs<I: Instruction + Drop>(rt: &impl Abort, alloc: Global, head: Head, operands: &[u8]) {
+    let roots = [
+        "root c1 ffff1ffffc0180040000000000000000",
+        "root c2 ffff1ffffc0180040000000000000001",
+    ];
+    let mut performed = machine_after(rt, alloc, &roots);
+    let mut stepped = machine_after(rt, alloc, &roots);
+    match (I::take(operands), take_operands(head, operands)) {
+        (Some((instruction, _)), Some((Line::Step(step), _))) => {
+            assert_eq!(rt; instruction.perform(&mut performed), stepped.step(&step));
+            assert_eq!(rt; performed.steps(), 1);
+            assert_eq!(rt; performed.register(3), stepped.register(3));
+            assert_eq!(rt; performed.granule(0), stepped.granule(0));
         }
         _ => panic!(rt; "no step"),
     }
+}
+
+#[test]
+fn instructions_make_their_steps(rt: HostRuntime) {
+    performs::<Move>(
+        &rt,
+        rt.alloc(),
+        Head::Move,
+        b"c3 c1 = 1 ffff1ffffc0180040000000000000000\n",
+    );
+    performs::<ClearTag>(
+        &rt,
+        rt.alloc(),
+        Head::ClearTag,
+        b"c3 c1 = 0 ffff1ffffc0180040000000000000000\n",
+    );
+    performs::<SetAddr>(
+        &rt,
+        rt.alloc(),
+        Head::SetAddr,
+        b"c3 c1 0000000000000010 = 1 ffff1ffffc0180040000000000000010\n",
+    );
+    performs::<Seal>(
+        &rt,
+        rt.alloc(),
+        Head::Seal,
+        b"c3 c1 c2 = 1 ffff00000c0180040000000000000000\n",
+    );
+    performs::<StoreCap>(&rt, rt.alloc(), Head::StoreCap, b"c1 c1 0\n");
+    performs::<LoadCap>(
+        &rt,
+        rt.alloc(),
+        Head::LoadCap,
+        b"c3 c1 0 = 0 00001ffffc0180040000000000000000\n",
+    );
+    performs::<Store>(&rt, rt.alloc(), Head::Store, b"c1 0 2 5678\n");
+    performs::<Load>(&rt, rt.alloc(), Head::Load, b"c1 0 2 = 0000\n");
 }
 
 #[test]

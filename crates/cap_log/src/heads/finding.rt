@@ -6,7 +6,7 @@ ghost use Rattle.cap_log.specs.Parts.{Begins, BeginsWithNone};
 ghost use Rattle.cap_log.specs.Spaceless.{head-spaceless};
 
 use crate::buffers::put;
-use crate::heads::{AccessStep, Head, NumberStep, RegisterStep};
+use crate::heads::Head;
 use crate::parts::cutting::behind;
 use crate::parts::{Part, Single};
 
@@ -25,11 +25,11 @@ impl Part for Head {
             b'n' => take_second_n(bytes, end),
             b't' => {
                 let rest = behind(bytes, b"store", end)?;
-                Some((Head::Access(AccessStep::Store), rest))
+                Some((Head::Store, rest))
             }
             b'l' => {
                 let rest = behind(bytes, b"cleartag", end)?;
-                Some((Head::Registers(RegisterStep::ClearTag), rest))
+                Some((Head::ClearTag, rest))
             }
             b'a' => {
                 let rest = behind(bytes, b"capcheck", end)?;
@@ -56,10 +56,10 @@ fn take_second_o(bytes: &[u8], end: u8) -> Option<(Head, &[u8])>
     ensures none { IfNone result (BeginsWithNone IsHead head_spelling end bytes.now) }
 {
     if let Some(rest) = behind(bytes, b"move", end) {
-        return Some((Head::Registers(RegisterStep::Move), rest));
+        return Some((Head::Move, rest));
     }
     if let Some(rest) = behind(bytes, b"load", end) {
-        return Some((Head::Access(AccessStep::Load), rest));
+        return Some((Head::Load, rest));
     }
     if let Some(rest) = behind(bytes, b"root", end) {
         return Some((Head::Root, rest));
@@ -78,16 +78,16 @@ fn take_second_e(bytes: &[u8], end: u8) -> Option<(Head, &[u8])>
     ensures none { IfNone result (BeginsWithNone IsHead head_spelling end bytes.now) }
 {
     if let Some(rest) = behind(bytes, b"setaddr", end) {
-        return Some((Head::Number(NumberStep::SetAddr), rest));
+        return Some((Head::SetAddr, rest));
     }
     if let Some(rest) = behind(bytes, b"setbounds", end) {
-        return Some((Head::Number(NumberStep::SetBounds), rest));
+        return Some((Head::SetBounds, rest));
     }
     if let Some(rest) = behind(bytes, b"setboundsexact", end) {
-        return Some((Head::Number(NumberStep::SetBoundsExact), rest));
+        return Some((Head::SetBoundsExact, rest));
     }
     if let Some(rest) = behind(bytes, b"seal", end) {
-        return Some((Head::Registers(RegisterStep::Seal), rest));
+        return Some((Head::Seal, rest));
     }
     None
 }
@@ -100,10 +100,10 @@ fn take_second_c(bytes: &[u8], end: u8) -> Option<(Head, &[u8])>
     ensures none { IfNone result (BeginsWithNone IsHead head_spelling end bytes.now) }
 {
     if let Some(rest) = behind(bytes, b"lc", end) {
-        return Some((Head::Access(AccessStep::LoadCap), rest));
+        return Some((Head::LoadCap, rest));
     }
     if let Some(rest) = behind(bytes, b"sc", end) {
-        return Some((Head::Access(AccessStep::StoreCap), rest));
+        return Some((Head::StoreCap, rest));
     }
     None
 }
@@ -116,10 +116,10 @@ fn take_second_n(bytes: &[u8], end: u8) -> Option<(Head, &[u8])>
     ensures none { IfNone result (BeginsWithNone IsHead head_spelling end bytes.now) }
 {
     if let Some(rest) = behind(bytes, b"andperm", end) {
-        return Some((Head::Number(NumberStep::AndPerm), rest));
+        return Some((Head::AndPerm, rest));
     }
     if let Some(rest) = behind(bytes, b"unseal", end) {
-        return Some((Head::Registers(RegisterStep::Unseal), rest));
+        return Some((Head::Unseal, rest));
     }
     if let Some(rest) = behind(bytes, b"end", end) {
         return Some((Head::End, rest));
@@ -135,18 +135,18 @@ fn head_text(head: Head) -> &'static [u8]
         Head::Version => b"capcheck",
         Head::Mode => b"mode",
         Head::Root => b"root",
-        Head::Registers(RegisterStep::Move) => b"move",
-        Head::Registers(RegisterStep::ClearTag) => b"cleartag",
-        Head::Registers(RegisterStep::Seal) => b"seal",
-        Head::Registers(RegisterStep::Unseal) => b"unseal",
-        Head::Number(NumberStep::SetBounds) => b"setbounds",
-        Head::Number(NumberStep::SetBoundsExact) => b"setboundsexact",
-        Head::Number(NumberStep::SetAddr) => b"setaddr",
-        Head::Number(NumberStep::AndPerm) => b"andperm",
-        Head::Access(AccessStep::LoadCap) => b"lc",
-        Head::Access(AccessStep::StoreCap) => b"sc",
-        Head::Access(AccessStep::Load) => b"load",
-        Head::Access(AccessStep::Store) => b"store",
+        Head::Move => b"move",
+        Head::ClearTag => b"cleartag",
+        Head::Seal => b"seal",
+        Head::Unseal => b"unseal",
+        Head::SetBounds => b"setbounds",
+        Head::SetBoundsExact => b"setboundsexact",
+        Head::SetAddr => b"setaddr",
+        Head::AndPerm => b"andperm",
+        Head::LoadCap => b"lc",
+        Head::StoreCap => b"sc",
+        Head::Load => b"load",
+        Head::Store => b"store",
         Head::End => b"end",
     }
 }

@@ -1,9 +1,6 @@
 use Rattle.std.proofs.Common.{◌≡◌, ◌∷◌, ◌++◌, List, ℕ, ap, arith, codes, get_or}
 use Rattle.cap_log.specs.declared.heads.Head.{Head}
 use Rattle.cap_log.specs.declared.heads.Head.TheVariants as head
-use Rattle.cap_log.specs.declared.heads.RegisterStep.TheVariants as registers
-use Rattle.cap_log.specs.declared.heads.NumberStep.TheVariants as number
-use Rattle.cap_log.specs.declared.heads.AccessStep.TheVariants as access
 use Rattle.cap_log.specs.Heads.{head_spelling}
 use Rattle.cap_log.specs.Parts.{BeginsWithout}
 use Rattle.cap_log.proofs.heads.finding.take_second_e.Goals as goal
@@ -17,14 +14,10 @@ no_head : (end : ℕ) (bytes : List ℕ) → second_of bytes ≡ 101
     → BeginsWithout (codes "setaddr") end bytes → BeginsWithout (codes "setbounds") end bytes
     → BeginsWithout (codes "setboundsexact") end bytes → BeginsWithout (codes "seal") end bytes
     → (h : Head) (rest : List ℕ) → bytes ≡ head_spelling h ++ end ∷ rest → ⊥
-no_head end bytes second setaddr setbounds exact seal (head.Number number.SetAddr) rest e = setaddr rest e
-no_head end bytes second setaddr setbounds exact seal (head.Number number.SetBounds) rest e = setbounds rest e
-no_head end bytes second setaddr setbounds exact seal (head.Number number.SetBoundsExact) rest e = exact rest e
-no_head end bytes second setaddr setbounds exact seal (head.Registers registers.Seal) rest e = seal rest e
-no_head end bytes second setaddr setbounds exact seal (head.Access access.LoadCap) rest e = omega (arith, second, ap second_of e)
-no_head end bytes second setaddr setbounds exact seal (head.Access access.StoreCap) rest e = omega (arith, second, ap second_of e)
-no_head end bytes second setaddr setbounds exact seal (head.Access access.Load) rest e = omega (arith, second, ap second_of e)
-no_head end bytes second setaddr setbounds exact seal (head.Access access.Store) rest e = omega (arith, second, ap second_of e)
+no_head end bytes second setaddr setbounds exact seal head.SetAddr rest e = setaddr rest e
+no_head end bytes second setaddr setbounds exact seal head.SetBounds rest e = setbounds rest e
+no_head end bytes second setaddr setbounds exact seal head.SetBoundsExact rest e = exact rest e
+no_head end bytes second setaddr setbounds exact seal head.Seal rest e = seal rest e
 no_head end bytes second setaddr setbounds exact seal h rest e = omega (arith, second, ap second_of e)
 
 pub returns-clause-none : goal.returns-clause-none

@@ -1,0 +1,12 @@
+use Rattle.cap_log.specs.declared.heads.Head.TheVariants as head
+use Rattle.cap_log.proofs.OffsetLemmas.{offset-bits}
+use Rattle.cap_log.proofs.Shapes.{no_operands, takes-made}
+use Rattle.cap_log.proofs.operands.accesses.LoadCapOperands.take.Goals as goal
+
+pub returns-in_err-target-clause-none : goal.returns-in_err-target-clause-none
+returns-in_err-target-clause-none c = rw c.from_residual.ensures (no_operands head.LoadCap c.args.bytes.now c.in_err-target.ensures.none)
+
+pub returns-clause-some : goal.returns-clause-some
+returns-clause-some c =
+    let read = c.in_ok-target in
+    rw (offset-bits read.offset.0 read.ensures.some.0.2.2.0) (takes-made head.LoadCap (read.target, (read.authority, (read.offset, read.recorded))) c.args.bytes.now read.rest.now read.ensures.some)
