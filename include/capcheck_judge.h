@@ -4,12 +4,16 @@
  *
  * Link with libcapcheck_judge.a; libcapcheck_c.a, which has the functions of capcheck.h, may be linked
  * beside it. The judge here is the one of the program, and proved: a yes and a no mean what docs/MACHINE.md
- * says of them, and the same bytes get the same verdict. It takes memory by malloc, realloc and free, where
- * a line names sixteen bytes of memory for the first time. It needs memcpy, memmove and memset beside them.
+ * says of them, and the same bytes get the same verdict. It takes memory by malloc, realloc and free: for a
+ * judge that is opened, and where a line names sixteen bytes of memory for the first time. It needs memcpy,
+ * memmove and memset beside them.
  *
  * What a caller owes:
- *   capcheck_judge_bytes   bytes points to `length` bytes that may be read, and isn't null, not even where
- *                          length is 0. During the call nothing writes them.
+ *   bytes, line   point to `length` bytes that may be read, and aren't null, not even where length is 0.
+ *                 During the call nothing writes them.
+ *   judge         points to a capcheck_judge whose bytes are all 0, or that is as the last call on it left it.
+ *                 Of an open one and its copies only one is used. It is used by the thread that opened it, by
+ *                 one call at a time.
  *   malloc and realloc give blocks that are aligned to 16 bytes, or to the greatest power of two below that
  *   divides the size. No function is called from a signal handler, or in a forked child of a process with
  *   threads.
@@ -25,9 +29,12 @@ extern "C" {
 
 /* How an answer stands. */
 enum capcheck_state {
-    CAPCHECK_YES = 1,      /* the bytes are a log whose steps have a run from its roots */
-    CAPCHECK_NO = 2,       /* they are none: a line is at fault */
-    CAPCHECK_NO_MEMORY = 3 /* memory was refused, and there is no verdict */
+    CAPCHECK_GOES_ON = 0,   /* no line so far is at fault; what follows decides */
+    CAPCHECK_YES = 1,       /* the bytes are a log whose steps have a run from its roots */
+    CAPCHECK_NO = 2,        /* they are none: a line is at fault */
+    CAPCHECK_NO_MEMORY = 3, /* memory was refused, and there is no verdict */
+    CAPCHECK_NO_JUDGE = 4,  /* the judge isn't open */
+    CAPCHECK_NO_LINE = 5    /* the bytes are no line */
 };
 
 /* An answer. What a state has no number for is 0. */
@@ -60,6 +67,79 @@ enum capcheck_line_refusal {
  * before the call ends. */
 CAPCHECK_CHECKED
 capcheck_answer capcheck_judge_bytes(const uint8_t *bytes, size_t length);
+
+/* ---- A judge that is handed the lines of a log one by one ---- */
+
+/* A judge: its fields are the library's. All bytes 0, as CAPCHECK_NO_JUDGE_YET has them, is one that isn't
+ * open. Any call but capcheck_judge_open answers of it that there is no judge, and follows no pointer. */
+typedef struct capcheck_judge {
+    void *at;
+    bool held;
+} capcheck_judge;
+
+#define CAPCHECK_NO_JUDGE_YET {NULL, false}
+
+/* A capability, where `present` is 1. Where it is 0 there is none, and it is NULL without a tag. */
+typedef struct capcheck_optional_cap {
+    capcheck_cap cap;
+    uint8_t present;
+} capcheck_optional_cap;
+
+/* What the rules give for a step: a capability for its register, or the number that it loads. */
+enum capcheck_expected_kind {
+    CAPCHECK_EXPECTS_NOTHING = 0,
+    CAPCHECK_EXPECTS_CAPABILITY = 1,
+    CAPCHECK_EXPECTS_NUMBER = 2
+};
+
+/* Where there is no capability it is NULL without a tag, and where there is no number it is 0. */
+typedef struct capcheck_expected {
+    capcheck_cap cap;
+    uint64_t number;
+    uint8_t size; /* how many bytes the number has in memory: 1, 2, 4 or 8 */
+    uint8_t kind; /* enum capcheck_expected_kind */
+} capcheck_expected;
+
+/* Opens a judge that no line was handed to. One that is open already begins anew. CAPCHECK_GOES_ON, or
+ * CAPCHECK_NO_MEMORY: then it isn't open. */
+CAPCHECK_CHECKED
+uint8_t capcheck_judge_open(capcheck_judge *judge);
+
+/* Hands over the next line, `length` bytes with the line feed, as the calls of capcheck.h write it.
+ *   CAPCHECK_GOES_ON    it is taken, and no line so far is at fault
+ *   CAPCHECK_NO         it is taken, and it or one before it is at fault
+ *   CAPCHECK_NO_MEMORY  it isn't taken, since malloc or realloc failed: nothing has changed, and it may be
+ *                       handed over again
+ *   CAPCHECK_NO_LINE    it isn't taken, since the bytes aren't one line with its line feed. Of 96 bytes and
+ *                       more without one the first are a line that is too long: CAPCHECK_NO
+ *   CAPCHECK_NO_JUDGE   the judge isn't open */
+CAPCHECK_CHECKED
+uint8_t capcheck_judge_line(capcheck_judge *judge, const char *line, size_t length);
+
+/* How the lines so far stand: CAPCHECK_GOES_ON, or CAPCHECK_NO with the line and the refusal, which stand
+ * whatever lines follow. */
+CAPCHECK_CHECKED
+capcheck_answer capcheck_judge_answer(capcheck_judge *judge);
+
+/* The verdict if no line follows, CAPCHECK_YES or CAPCHECK_NO. Lines may still be handed over behind it. */
+CAPCHECK_CHECKED
+capcheck_answer capcheck_judge_end(capcheck_judge *judge);
+
+/* What the machine of the log holds behind the lines so far; after a line at fault, what it held before that
+ * line: a register, 0 to 31, of which 0 is always NULL without a tag; or the sixteen bytes of memory in which
+ * an address lies. */
+CAPCHECK_CHECKED
+capcheck_optional_cap capcheck_judge_register(capcheck_judge *judge, uint64_t number);
+CAPCHECK_CHECKED
+capcheck_optional_cap capcheck_judge_granule(capcheck_judge *judge, uint64_t address);
+
+/* After a no for CAPCHECK_WRONG_RESULT: what the rules give for the step, where the line records another result.
+ * CAPCHECK_EXPECTS_NOTHING after any other no, before a no, and where the judge isn't open. */
+CAPCHECK_CHECKED
+capcheck_expected capcheck_judge_expected(capcheck_judge *judge);
+
+/* Closes a judge, and gives its memory back. One that isn't open stays so. */
+void capcheck_judge_close(capcheck_judge *judge);
 
 #ifdef __cplusplus
 }

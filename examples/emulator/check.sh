@@ -45,13 +45,21 @@ if command -v "${CXX:-c++}" > "$work/found"; then
     quietly "$work/calls"
 fi
 
+# Logs drawn at random, as they are, with tags and loaded numbers changed, and cut inside a line.
+for kind in moves memory mixed; do
+    python3 bench/random_log.py "$kind" 150 > "$work/$kind.log"
+    sed -E '100,$s/= 1 /= 0 /; 100,$s/^(load .*)[0-7]$/\18/' "$work/$kind.log" > "$work/$kind.changed.log"
+    head -c 4000 "$work/$kind.log" > "$work/$kind.cut.log"
+done
+logs="$(echo examples/*.log) $(echo "$work"/*.log)"
+
 # The judge for C against the program, log by log, as C and as C++, and by each compiler that is here.
-for log in examples/*.log; do
+for log in $logs; do
     "$judge" judge "$log" || [ $? = 1 ]
 done > "$work/wanted"
 compared() {
     quietly "$@" $strict -Wconversion examples/emulator/judging.c -x none $libraries -o "$work/judging"
-    "$work/judging" examples/*.log > "$work/got"
+    "$work/judging" $logs > "$work/got"
     cmp "$work/wanted" "$work/got" || { echo "check.sh: judging, built by $*, gives other verdicts" >&2; exit 1; }
 }
 for compiler in "${CC:-cc}" gcc clang; do
@@ -65,8 +73,43 @@ for compiler in "${CXX:-c++}" g++ clang++; do
     compared "$compiler" -std=c++20 -x c++
 done
 if command -v valgrind > "$work/found"; then
-    quietly valgrind -q --leak-check=full --error-exitcode=9 "$work/judging" examples/*.log
+    quietly valgrind -q --leak-check=full --error-exitcode=9 "$work/judging" $logs
 fi
+
+# A program that gets the lines from a pipe stops at the line that the program names: there it has read no line more.
+quietly ${CC:-cc} -std=c99 $strict -Wconversion examples/emulator/stopping.c $libraries -o "$work/stopping"
+stopped=0
+for log in examples/*.log "$work"/*.changed.log; do
+    status=0
+    "$work/stopping" < "$log" > "$work/got" 2> "$work/complaints" || status=$?
+    verdict=$("$judge" judge "$log") || [ $? = 1 ]
+    [ "$(cat "$work/got")" = "$verdict" ] || { echo "check.sh: stopping gives another verdict on $log" >&2; exit 1; }
+    case $verdict in
+        yes*) wanted=0 ;;
+        no*)
+            wanted=1
+            stopped=$((stopped + 1))
+            number=$(echo "$verdict" | cut -d' ' -f2)
+            [ "$(head -n 1 "$work/complaints")" = "stopped behind $number lines: $(sed -n "${number}p" "$log")" ] ||
+                { echo "check.sh: stopping stops elsewhere on $log" >&2; exit 1; }
+            gives=$("$judge" judge --why "$log" | sed -nE 's/^gives (c[0-9]+ )?([01] [0-9a-f]{32}|[0-9a-f]+)$/gives \2/p')
+            [ "$(grep '^gives ' "$work/complaints")" = "$gives" ] ||
+                { echo "check.sh: stopping tells other results on $log" >&2; exit 1; }
+            ;;
+    esac
+    [ "$status" = "$wanted" ] || { echo "check.sh: stopping ends with status $status on $log" >&2; exit 1; }
+done
+[ "$stopped" -gt 0 ] || { echo 'check.sh: no log has a no' >&2; exit 1; }
+
+# The example with the judge linked in: it ends as before, or stops in the step that is at fault, and the log ends there.
+quietly ${CC:-cc} -std=c99 $strict -Wconversion -DJUDGED examples/emulator/emulator.c $libraries -o "$work/judged"
+"$work/judged" > "$work/log" 2> "$work/complaints"
+[ "$(cat "$work/complaints")" = 'emulator: yes 27 1' ] || { echo 'check.sh: the judged emulator gets another verdict' >&2; exit 1; }
+status=0
+"$work/judged" --bug > "$work/log" 2> "$work/complaints" || status=$?
+[ "$status" = 1 ] && [ "$(wc -l < "$work/log")" = 12 ] && grep -qx 'emulator: stopped at line 12: NotExact' "$work/complaints" ||
+    { echo 'check.sh: the judged emulator stops elsewhere' >&2; exit 1; }
+grep -q '^emulator: c4 is 1 .* and in the log 1 ' "$work/complaints" || { echo 'check.sh: the judged emulator shows no difference' >&2; exit 1; }
 
 judged 'yes 27 1' 0
 judged 'no 12 12 NotExact' 1 --bug

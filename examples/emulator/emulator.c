@@ -8,8 +8,14 @@
  *
  * The machine has no traps: where the library refuses a step, it says so on standard error, and goes on
  * with the word that the step would have made, as a wrong emulator does.
+ *
+ * Compiled with -DJUDGED it has the judge linked in. Then it stops in the very step that writes the first
+ * line at fault, and shows what the rules give and where its registers differ from those of the log.
  */
 #include <capcheck.h>
+#ifdef JUDGED
+#include <capcheck_judge.h>
+#endif
 
 #include <stdio.h>
 #include <stdlib.h>
@@ -39,12 +45,74 @@ static uint8_t tags[HEAP_SIZE / GRANULE];
 static char line[CAPCHECK_LINE_SIZE];
 static uint64_t lines;
 
+#ifdef JUDGED
+static capcheck_judge judge = CAPCHECK_NO_JUDGE_YET;
+
+static void open_judge(void) {
+    if (capcheck_judge_open(&judge) != CAPCHECK_GOES_ON) {
+        fprintf(stderr, "emulator: no memory for the judge\n");
+        exit(2);
+    }
+}
+
+/* Shows a register that the machine of the log, which the judge keeps, holds otherwise than this one. */
+static void show_difference(unsigned number) {
+    capcheck_cap here = registers[number];
+    capcheck_cap there = capcheck_judge_register(&judge, number).cap;
+    if (here.tag != there.tag || here.word.high != there.word.high || here.word.low != there.word.low)
+        fprintf(stderr, "emulator: c%u is %u %016llx%016llx, and in the log %u %016llx%016llx\n", number,
+                (unsigned)here.tag, (unsigned long long)here.word.high, (unsigned long long)here.word.low,
+                (unsigned)there.tag, (unsigned long long)there.word.high, (unsigned long long)there.word.low);
+}
+
+/* Shows what the rules give for the step, where the emulator has made something else. */
+static void show_expected(void) {
+    capcheck_expected given = capcheck_judge_expected(&judge);
+    if (given.kind == CAPCHECK_EXPECTS_CAPABILITY)
+        fprintf(stderr, "emulator: the rules give %u %016llx%016llx\n", (unsigned)given.cap.tag,
+                (unsigned long long)given.cap.word.high, (unsigned long long)given.cap.word.low);
+    else if (given.kind == CAPCHECK_EXPECTS_NUMBER)
+        fprintf(stderr, "emulator: the rules give %0*llx\n", 2 * given.size, (unsigned long long)given.number);
+}
+
+/* Hands the line that was written to the judge, and stops where it is at fault. */
+static void judge_line(size_t length) {
+    uint8_t state = capcheck_judge_line(&judge, line, length);
+    if (state == CAPCHECK_GOES_ON)
+        return;
+    capcheck_answer answer = capcheck_judge_answer(&judge);
+    if (state == CAPCHECK_NO)
+        fprintf(stderr, "emulator: stopped at line %llu: %s\n", (unsigned long long)answer.line,
+                capcheck_refusal_name(answer.refusal).text);
+    else
+        fprintf(stderr, "emulator: the judge can't take line %llu: %u\n", (unsigned long long)lines, (unsigned)state);
+    show_expected();
+    for (unsigned number = 1; number < 32; number++)
+        show_difference(number);
+    capcheck_judge_close(&judge);
+    exit(state == CAPCHECK_NO ? 1 : 2);
+}
+
+/* Says what the verdict on the whole log is. */
+static void end_judge(void) {
+    capcheck_answer answer = capcheck_judge_end(&judge);
+    capcheck_judge_close(&judge);
+    if (answer.state == CAPCHECK_YES)
+        fprintf(stderr, "emulator: yes %lu %lu\n", (unsigned long)answer.steps, (unsigned long)answer.roots);
+}
+#else
+static void open_judge(void) {}
+static void judge_line(size_t length) { (void)length; }
+static void end_judge(void) {}
+#endif
+
 static void write_line(size_t length) {
     if (length == 0 || fwrite(line, 1, length, stdout) != length) {
         fprintf(stderr, "emulator: line %llu can't be written\n", (unsigned long long)lines + 1);
         exit(2);
     }
     lines++;
+    judge_line(length);
 }
 
 static void complain(uint8_t refusal) {
@@ -161,6 +229,9 @@ int main(int argc, char **argv) {
         fprintf(stderr, "usage: emulator [--bug]\n");
         return 2;
     }
+    for (unsigned number = 0; number < 32; number++)
+        registers[number].word = capcheck_null();
+    open_judge();
     write_line(capcheck_line_version(line, 2));
     write_line(capcheck_line_mode(line, false));
 
@@ -193,5 +264,6 @@ int main(int argc, char **argv) {
     if (registers[OBJECT].tag != 0)
         return 2;
     write_line(capcheck_line_end(line, lines - header));
+    end_judge();
     return fflush(stdout) == 0 ? 0 : 2;
 }

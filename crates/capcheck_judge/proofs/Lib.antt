@@ -1,0 +1,3 @@
+pub mod HandleFields
+pub mod HandleLemmas
+pub mod HeldFields

@@ -3,7 +3,11 @@
 ghost use Rattle.std.specs.Prelude.{◌≡◌};
 ghost use Rattle.capcheck_judge.specs.Answers.{numbers_of, without_verdict};
 
+use cap_halves::values::Capability;
 use cap_judge::verdict::Verdict;
+
+/// The state of lines of which none is at fault so far.
+pub(crate) const GOES_ON: u8 = 0;
 
 /// The state of an answer that is a yes.
 pub(crate) const YES: u8 = 1;
@@ -13,6 +17,12 @@ pub(crate) const NO: u8 = 2;
 
 /// The state of an answer without a verdict, for want of memory.
 pub(crate) const NO_MEMORY: u8 = 3;
+
+/// The state of an answer of a handle that holds no judge.
+pub(crate) const NO_JUDGE: u8 = 4;
+
+/// The state of bytes that are no line.
+pub(crate) const NO_LINE: u8 = 5;
 
 /// What a judge answers (in C `capcheck_answer`).
 #[repr(C)]
@@ -24,10 +34,35 @@ pub struct Answer {
     pub steps: u32,
     /// After a yes how many root lines the log has, else 0.
     pub roots: u32,
-    /// 1 for a yes, 2 for a no, and 3 where memory for a granule was refused.
+    /// 1 for a yes, 2 for a no, 0 where no line is at fault so far, 3 where memory for a granule was refused, and 4
+    /// where there is no judge.
     pub state: u8,
     /// After a no the number of the refusal, 1 to 25, else 0.
     pub refusal: u8,
+}
+
+/// A capability, or none (in C `capcheck_optional_cap`).
+#[repr(C)]
+#[derive(Debug, Clone, Copy, PartialEq, Eq)]
+pub struct OptionalCap {
+    /// The capability; NULL without a tag where there is none.
+    pub cap: Capability,
+    /// 1 where there is a capability, else 0.
+    pub present: u8,
+}
+
+/// What the rules give for a step (in C `capcheck_expected`).
+#[repr(C)]
+#[derive(Debug, Clone, Copy, PartialEq, Eq)]
+pub struct Given {
+    /// The capability that the step's register gets; NULL without a tag where there is none.
+    pub cap: Capability,
+    /// The number that the step loads, else 0.
+    pub number: u64,
+    /// How many bytes this number has in memory, else 0.
+    pub size: u8,
+    /// 1 where it is the capability, 2 where it is the number, and 0 where there is none.
+    pub kind: u8,
 }
 
 /// A verdict as C gets it.

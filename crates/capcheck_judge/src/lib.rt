@@ -6,4 +6,8 @@
 #![tactic(auto)]
 
 mod answers;
+mod handle;
+mod held;
 mod judging;
+mod lines;
+mod places;

@@ -1,0 +1,16 @@
+use Rattle.std.proofs.Common.{◌≡◌, ◌∙◌, ap, sym}
+use Rattle.std.specs.Prelude.{Some}
+use Rattle.capcheck_judge.proofs.HandleLemmas.{held_taken}
+use Rattle.capcheck_judge.proofs.lines.capcheck_judge_end.Goals as goal
+
+pub returns-in-Some-clause-verdict : goal.returns-in-Some-clause-verdict
+returns-in-Some-clause-verdict c = λ bytes holds.
+    let is : c.args.judge.now.judge ≡ Some c.deref.result.now = c.in-Some.ensures.taken ∙ ap Some (sym c.deref.ensures) in
+    let taken = held_taken c.args.judge.now.judge bytes holds c.deref.result.now is in
+    record {
+      verdict = c.end-verdict.result;
+      numbers = c.numbers_of.ensures;
+      is_verdict = c.end-verdict.ensures.verdict bytes taken;
+      authority = c.end-verdict.ensures.authority bytes taken;
+      escape = c.end-verdict.ensures.escape bytes taken;
+    }

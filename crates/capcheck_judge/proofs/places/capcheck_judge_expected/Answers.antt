@@ -1,0 +1,10 @@
+use Rattle.std.proofs.Common.{◌≡◌, ◌∙◌, ap, sym}
+use Rattle.std.specs.Prelude.{Some}
+use Rattle.capcheck_judge.proofs.HandleLemmas.{held_taken}
+use Rattle.capcheck_judge.proofs.places.capcheck_judge_expected.Goals as goal
+
+pub returns-in-Some-clause-expected : goal.returns-in-Some-clause-expected
+returns-in-Some-clause-expected c = λ bytes holds.
+    let is : c.args.judge.now.judge ≡ Some c.deref.result.now = c.in-Some.ensures.taken ∙ ap Some (sym c.deref.ensures) in
+    let taken = held_taken c.args.judge.now.judge bytes holds c.deref.result.now is in
+    record { expected = c.expected-expected.result; numbers = c.given_of.ensures; expects = c.expected-expected.ensures bytes taken }

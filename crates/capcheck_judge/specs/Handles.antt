@@ -1,0 +1,73 @@
+-- What a handle of C holds, and what the calls on it answer (this profile's own, as are all below).
+use Rattle.std.specs.Prelude.{◌≡◌, ℕ, List, Option, None, Some}
+use denote.RattleType.{RattleType}
+use Rattle.cap_machine.specs.States.{State}
+use Rattle.tagmem.specs.contracts.page_store.PageStore.{the_row as store_row}
+use Rattle.tagmem.specs.contracts.page_store.PageStoreTaggedStore.TheImpl.{ghosts}
+use Rattle.cap_judge.specs.contracts.by_lines.Judge.{the_row as judge_row}
+use Rattle.cap_word.specs.declared.word.Cap.{Cap}
+use Rattle.cap_halves.specs.Passed.{cap_of, no_cap}
+use Rattle.cap_judge.specs.declared.verdict.Expected.{Expected}
+use Rattle.cap_judge.specs.declared.verdict.Expected.TheVariants.{Capability, Number}
+use Rattle.cap_judge.specs.declared.verdict.Verdict.{Verdict}
+use Rattle.cap_judge.specs.Expectations.{Expects}
+use Rattle.cap_judge.specs.Judgings.{account_before}
+use Rattle.cap_judge.specs.Standings.{BeginsWhole, HasTaken, Known, Stands, known_of}
+use Rattle.cap_judge.specs.Verdicts.{IsVerdict, GuardsAuthority, EscapesExactly}
+use Rattle.capcheck_judge.specs.Answers.{numbers_of, without_verdict}
+use Rattle.capcheck_judge.specs.declared.answers.Answer.{Answer}
+use Rattle.capcheck_judge.specs.declared.answers.Given.{Given}
+
+-- what a handle holds: a judge, or none
+abbrev pub Held : Type 0
+Held = Option (RattleType.Denot (judge_row store_row ghosts))
+
+-- all that the judge of a handle knows, where there is one
+abbrev pub known_in : Held → Option Known
+known_in None = None
+known_in (Some judge) = Some (known_of ghosts.contents judge)
+
+-- a handle holds a judge that has taken these bytes
+pub record Holds (held : Held) (bytes : List ℕ) : Type 0 where
+  pub judge : RattleType.Denot (judge_row store_row ghosts)
+  pub held_is : held ≡ Some judge
+  pub taken : HasTaken ghosts.contents judge bytes
+
+-- what the machine holds behind these bytes, or before their line at fault
+abbrev pub state_behind : {held : Held} {bytes : List ℕ} → Holds held bytes → State
+state_behind holds = (account_before holds.taken.beginning).state
+
+-- how the bytes stand, in numbers: the state 0 says that none of their lines is at fault
+abbrev pub Standing : Option Verdict → Answer → Type 0
+Standing None answer = answer ≡ without_verdict 0
+Standing (Some verdict) answer = answer ≡ numbers_of verdict
+
+-- C learns how a log stands that begins with these bytes: no line is at fault so far, or the no that stands whatever follows
+pub record AnswersSoFar (bytes : List ℕ) (answer : Answer) : Type 0 where
+  pub verdict : Option Verdict
+  pub numbers : Standing verdict answer
+  pub stands : Stands bytes verdict
+  pub none : BeginsWhole bytes → verdict ≡ None
+
+-- C gets the verdict on these bytes, with what follows from it
+pub record AnswersEnd (bytes : List ℕ) (answer : Answer) : Type 0 where
+  pub verdict : Verdict
+  pub numbers : answer ≡ numbers_of verdict
+  pub is_verdict : IsVerdict bytes verdict
+  pub authority : GuardsAuthority bytes verdict
+  pub escape : EscapesExactly bytes verdict
+
+-- what the rules give, in numbers: the kind 1 is a capability, 2 a number, and 0 none
+abbrev pub IsGivenAs : Cap → ℕ → ℕ → ℕ → Given → Type 0
+IsGivenAs cap number size kind given = (cap_of given.cap ≡ cap) × (given.number ≡ number) × (given.size ≡ size) × (given.kind ≡ kind)
+
+abbrev pub IsGiven : Option Expected → Given → Type 0
+IsGiven None given = IsGivenAs no_cap 0 0 0 given
+IsGiven (Some (Capability cap)) given = IsGivenAs cap 0 0 1 given
+IsGiven (Some (Number value size)) given = IsGivenAs no_cap value size 2 given
+
+-- C learns what the rules give for the first fault of these bytes, where it is refused for its result
+pub record AnswersExpected (bytes : List ℕ) (given : Given) : Type 0 where
+  pub expected : Option Expected
+  pub numbers : IsGiven expected given
+  pub expects : Expects bytes expected

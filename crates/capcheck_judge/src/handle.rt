@@ -1,0 +1,91 @@
+//! A judge that C holds: a pointer that only this library follows.
+
+ghost use Rattle.std.specs.Prelude.{◌≡◌, MatchOption, Option, None, Some};
+ghost use Rattle.std.specs.Box.Ownership.{box_owns};
+ghost use Rattle.std.specs.Coded.{coded_option};
+ghost use denote.RattleType.{RattleType};
+ghost use Rattle.tagmem.specs.contracts.page_store.PageStore.{the_row as pages};
+ghost use Rattle.tagmem.specs.contracts.page_store.PageStoreTaggedStore.TheImpl.{ghosts};
+ghost use Rattle.cap_judge.specs.contracts.by_lines.Judge.{the_row as judge_row};
+ghost use Rattle.capcheck_judge.specs.Holding.{held_by};
+
+use crate::held::{Held, keep, own};
+use cap_judge::by_lines::Judge;
+use std::alloc::{Allocator, Global};
+use std::marker::Model;
+use std::{mem, ptr};
+use tagmem::PageStore;
+
+/// A judge, or none (in C `capcheck_judge`). All bytes 0 is none. It has no drop: what holds a judge has to be
+/// closed.
+#[repr(C)]
+#[derive(Drop)]
+pub struct Handle {
+    at: *mut u8,
+    held: bool,
+    alloc: Global,
+    ghost judge: { Option (RattleType.Denot (judge_row pages ghosts)) } by { coded_option (RattleType.coded (judge_row pages ghosts)) },
+}
+
+impl Model for Handle {
+    ghost also_owns = { λ h. held_by (box_owns (⟦<Global as Allocator>⟧.dealloc_token h.alloc)
+        (judge_row pages ghosts) h.at) h.held h.judge };
+}
+
+impl Handle {
+    /// Takes the judge out, where there is one, and leaves none.
+    pub(crate) fn take(&mut self, alloc: Global) -> Option<Box<Judge<PageStore>>>
+        ensures taken { MatchOption result (self.old.judge ≡ None) (λ judge. self.old.judge ≡ Some judge.value) }
+        ensures left { self.new.judge ≡ None }
+    {
+        match mem::replace(self, Handle::none(alloc)).into_held() {
+            Some(judge) => Some(own(judge)),
+            None => None,
+        }
+    }
+
+    /// Puts a judge in. One that was there is forgotten.
+    pub(crate) fn put(&mut self, judge: Box<Judge<PageStore>>)
+        ensures { self.new.judge ≡ Some judge.value }
+    {
+        *self = Handle::of(keep(judge));
+    }
+
+    // No judge.
+    fn none(alloc: Global) -> Handle
+        ensures { result.judge ≡ None }
+    {
+        Handle {
+            at: ptr::null_mut(),
+            held: false,
+            alloc,
+        }
+    }
+
+    // A handle of a judge.
+    fn of(judge: Held<Judge<PageStore>, Global>) -> Handle
+        ensures { result.judge ≡ Some judge.value }
+    {
+        let Held { at, alloc } = judge;
+        Handle {
+            at: at as *mut u8,
+            held: true,
+            alloc,
+        }
+    }
+
+    // The judge of a handle, where there is one.
+    fn into_held(self) -> Option<Held<Judge<PageStore>, Global>>
+        ensures { MatchOption result (self.judge ≡ None) (λ judge. self.judge ≡ Some judge.value) }
+    {
+        let Handle { at, held, alloc } = self;
+        if held {
+            Some(Held {
+                at: at as *mut Judge<PageStore>,
+                alloc,
+            })
+        } else {
+            None
+        }
+    }
+}

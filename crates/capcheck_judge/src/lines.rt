@@ -1,0 +1,139 @@
+//! A judge that C opens, hands the lines of a log to, and closes.
+
+ghost use Rattle.std.specs.Prelude.{◌≡◌, ◌≢◌, ◌↔◌, ◌⊎◌, ◌<◌, ℕ, List, [], ◌++◌, None};
+ghost use Rattle.cap_judge.specs.Logs.{MayLackMemory};
+ghost use Rattle.cap_judge.specs.Standings.{BeginsWhole, HasTaken, IsNoLine, known_of};
+ghost use Rattle.capcheck_judge.specs.Answers.{without_verdict};
+ghost use Rattle.capcheck_judge.specs.Handles.{AnswersEnd, AnswersSoFar, Holds, known_in};
+
+use crate::answers::{
+    Answer, GOES_ON, NO, NO_JUDGE, NO_LINE, NO_MEMORY, numbers_of, without_verdict,
+};
+use crate::handle::Handle;
+use cap_judge::by_lines::Judge;
+use cap_judge::verdict::TakeFault;
+use std::alloc::Global;
+use tagmem::{PageStore, TaggedStore};
+
+/// Opens a judge that has taken no line. What the handle held is closed. 0, or 3 where memory for the judge was
+/// refused; then the handle holds none.
+#[unsafe(no_mangle)]
+pub extern "C" fn capcheck_judge_open(alloc: Global, judge: &mut Handle) -> u8
+    ensures answers { (result ≡ 0) ⊎ (result ≡ 3) }
+    ensures opened { result ≡ 0 → Holds judge.new.judge [] }
+    ensures no_memory { result ≡ 3 → judge.new.judge ≡ None }
+{
+    capcheck_judge_close(alloc, judge);
+    match Box::new(alloc, Judge::over_pages(alloc)) {
+        Ok(opened) => {
+            judge.put(opened);
+            GOES_ON
+        }
+        Err(_) => NO_MEMORY,
+    }
+}
+
+/// Hands over the next line, with its line feed. 0 where it was taken, and no line so far is at fault; 2 where it
+/// was taken, and it or one before it is; 3 where memory was refused, 4 where the handle holds no judge, and 5 where
+/// the bytes are neither one line with its line feed nor begin with more bytes than a line has. From 3 on nothing
+/// has changed, and the line may be handed over again.
+#[unsafe(no_mangle)]
+pub extern "C" fn capcheck_judge_line(alloc: Global, judge: &mut Handle, line: &[u8]) -> u8
+    ensures answers { result < 6 }
+    ensures never_yes { result ≢ 1 }
+
+    // A line that is taken is taken behind all that was taken before.
+    ensures taken { result < 3 → (bytes : List ℕ) → Holds judge.old.judge bytes → Holds judge.new.judge (bytes ++ line.now) }
+    ensures goes_on { result ≡ 0 → (bytes : List ℕ) → Holds judge.old.judge bytes → BeginsWhole (bytes ++ line.now) }
+    ensures at_fault { result ≡ 2 → (bytes : List ℕ) → Holds judge.old.judge bytes → BeginsWhole (bytes ++ line.now) → ⊥ }
+    ensures unchanged { 2 < result → known_in judge.new.judge ≡ known_in judge.old.judge }
+    ensures still_holds { 2 < result → (bytes : List ℕ) → Holds judge.old.judge bytes → Holds judge.new.judge bytes }
+
+    // Memory is wanted only where a line that no test refuses names a granule for the first time.
+    ensures no_memory { result ≡ 3 → (bytes : List ℕ) → Holds judge.old.judge bytes → MayLackMemory (bytes ++ line.now) }
+    ensures no_judge { (result ≡ 4) ↔ (judge.old.judge ≡ None) }
+    ensures no_line { (result ≡ 5) ↔ ((judge.old.judge ≢ None) × IsNoLine line.now) }
+    ensures held { (judge.new.judge ≡ None) ↔ (judge.old.judge ≡ None) }
+{
+    match judge.take(alloc) {
+        Some(held) => {
+            let mut held = held;
+            let state = take_line(&mut held, line);
+            judge.put(held);
+            state
+        }
+        None => NO_JUDGE,
+    }
+}
+
+/// How the lines so far stand: the state is 0 while none of them is at fault, and else 2 with the no that stands
+/// whatever lines follow. It is 4 where the handle holds no judge.
+#[unsafe(no_mangle)]
+pub extern "C" fn capcheck_judge_answer(alloc: Global, judge: &mut Handle) -> Answer
+    ensures answer { (bytes : List ℕ) → Holds judge.old.judge bytes → AnswersSoFar bytes result }
+    ensures no_judge { judge.old.judge ≡ None → result ≡ without_verdict 4 }
+    ensures kept { judge.new.judge ≡ judge.old.judge }
+{
+    match judge.take(alloc) {
+        Some(held) => {
+            let answer = held.answer();
+            judge.put(held);
+            match answer {
+                Some(no) => numbers_of(no),
+                None => without_verdict(GOES_ON),
+            }
+        }
+        None => without_verdict(NO_JUDGE),
+    }
+}
+
+/// The verdict on the lines so far as a whole log: the state is 1 for a yes and 2 for a no, and 4 where the handle
+/// holds no judge. Further lines may be handed over behind it.
+#[unsafe(no_mangle)]
+pub extern "C" fn capcheck_judge_end(alloc: Global, judge: &mut Handle) -> Answer
+    ensures verdict { (bytes : List ℕ) → Holds judge.old.judge bytes → AnswersEnd bytes result }
+    ensures no_judge { judge.old.judge ≡ None → result ≡ without_verdict 4 }
+    ensures kept { judge.new.judge ≡ judge.old.judge }
+{
+    match judge.take(alloc) {
+        Some(held) => {
+            let verdict = held.end();
+            judge.put(held);
+            numbers_of(verdict)
+        }
+        None => without_verdict(NO_JUDGE),
+    }
+}
+
+/// Closes the judge, and gives its memory back. The handle then holds none.
+#[unsafe(no_mangle)]
+pub extern "C" fn capcheck_judge_close(alloc: Global, judge: &mut Handle)
+    ensures { judge.new.judge ≡ None }
+{
+    drop(judge.take(alloc));
+}
+
+/// Hands a line to a judge: 0, 2, 3 or 5, as [`capcheck_judge_line`] says.
+fn take_line(judge: &mut Judge<PageStore>, line: &[u8]) -> u8
+    ensures answers { (result ≡ 0) ⊎ (result ≡ 2) ⊎ (result ≡ 3) ⊎ (result ≡ 5) }
+    ensures taken { result < 3 → (bytes : List ℕ) → HasTaken ⟦<PageStore as TaggedStore>⟧.contents judge.old bytes
+        → HasTaken ⟦<PageStore as TaggedStore>⟧.contents judge.new (bytes ++ line.now) }
+    ensures goes_on { result ≡ 0 → (bytes : List ℕ) → HasTaken ⟦<PageStore as TaggedStore>⟧.contents judge.old bytes
+        → BeginsWhole (bytes ++ line.now) }
+    ensures at_fault { result ≡ 2 → (bytes : List ℕ) → HasTaken ⟦<PageStore as TaggedStore>⟧.contents judge.old bytes
+        → BeginsWhole (bytes ++ line.now) → ⊥ }
+    ensures unchanged { 2 < result → known_of ⟦<PageStore as TaggedStore>⟧.contents judge.new
+        ≡ known_of ⟦<PageStore as TaggedStore>⟧.contents judge.old }
+    ensures no_memory { result ≡ 3 → (bytes : List ℕ) → HasTaken ⟦<PageStore as TaggedStore>⟧.contents judge.old bytes
+        → MayLackMemory (bytes ++ line.now) }
+    ensures no_line { (result ≡ 5) ↔ IsNoLine line.now }
+{
+    match judge.take(line) {
+        Ok(()) => match judge.answer() {
+            None => GOES_ON,
+            Some(_) => NO,
+        },
+        Err(TakeFault::NoMemory) => NO_MEMORY,
+        Err(TakeFault::NoLine) => NO_LINE,
+    }
+}

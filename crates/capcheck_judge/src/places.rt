@@ -1,0 +1,128 @@
+//! What the machine of an open judge holds, and what it gives.
+
+ghost use Rattle.std.specs.Prelude.{◌≡◌, ◌⊎◌, ◌<◌, ◌≤◌, ◌/◌, ℕ, List, None};
+ghost use Rattle.cap_halves.specs.Passed.{cap_of, no_cap};
+ghost use Rattle.cap_machine.specs.States.{granule_key};
+ghost use Rattle.capcheck_judge.specs.Handles.{AnswersExpected, Holds, IsGiven, state_behind};
+
+use crate::answers::{Given, OptionalCap};
+use crate::handle::Handle;
+use cap_halves::halves::{given, no_capability};
+use cap_judge::verdict::Expected;
+use cap_word::Cap;
+use std::alloc::Global;
+
+/// What a register holds behind the lines so far, or before the line at fault: 0 to 31, of which 0 is c0. There is
+/// none above 31, and none where the handle holds no judge.
+#[unsafe(no_mangle)]
+pub extern "C" fn capcheck_judge_register(
+    alloc: Global,
+    judge: &mut Handle,
+    number: u64,
+) -> OptionalCap
+    ensures register { number ≤ 31 → (bytes : List ℕ) → (holds : Holds judge.old.judge bytes)
+        → (result.present ≡ 1) × (cap_of result.cap ≡ state_behind holds number) }
+    ensures none { (31 < number) ⊎ (judge.old.judge ≡ None) → (result.present ≡ 0) × (cap_of result.cap ≡ no_cap) }
+    ensures kept { judge.new.judge ≡ judge.old.judge }
+{
+    if number > 31 {
+        return nothing();
+    }
+    match judge.take(alloc) {
+        Some(held) => {
+            let cap = held.register(number as u8);
+            judge.put(held);
+            there(cap)
+        }
+        None => nothing(),
+    }
+}
+
+/// What the sixteen bytes of memory in which an address lies hold behind the lines so far, or before the line at
+/// fault. There is none where the handle holds no judge.
+#[unsafe(no_mangle)]
+pub extern "C" fn capcheck_judge_granule(
+    alloc: Global,
+    judge: &mut Handle,
+    address: u64,
+) -> OptionalCap
+    ensures granule { (bytes : List ℕ) → (holds : Holds judge.old.judge bytes)
+        → (result.present ≡ 1) × (cap_of result.cap ≡ state_behind holds (granule_key (address / 16))) }
+    ensures none { judge.old.judge ≡ None → (result.present ≡ 0) × (cap_of result.cap ≡ no_cap) }
+    ensures kept { judge.new.judge ≡ judge.old.judge }
+{
+    match judge.take(alloc) {
+        Some(held) => {
+            let cap = held.granule(address / 16);
+            judge.put(held);
+            there(cap)
+        }
+        None => nothing(),
+    }
+}
+
+/// What the rules give for the step at fault, where its line records another result. There is none after any other
+/// fault, where no line is at fault so far, and where the handle holds no judge.
+#[unsafe(no_mangle)]
+pub extern "C" fn capcheck_judge_expected(alloc: Global, judge: &mut Handle) -> Given
+    ensures expected { (bytes : List ℕ) → Holds judge.old.judge bytes → AnswersExpected bytes result }
+    ensures none { judge.old.judge ≡ None → IsGiven None result }
+    ensures kept { judge.new.judge ≡ judge.old.judge }
+{
+    match judge.take(alloc) {
+        Some(held) => {
+            let expected = held.expected();
+            judge.put(held);
+            given_of(expected)
+        }
+        None => given_of(None),
+    }
+}
+
+/// What the rules give, as C gets it.
+fn given_of(expected: Option<Expected>) -> Given
+    ensures { IsGiven expected result }
+{
+    match expected {
+        Some(Expected::Capability(cap)) => Given {
+            cap: given(cap),
+            number: 0,
+            size: 0,
+            kind: 1,
+        },
+        Some(Expected::Number { value, size }) => Given {
+            cap: no_capability(),
+            number: value,
+            size,
+            kind: 2,
+        },
+        None => Given {
+            cap: no_capability(),
+            number: 0,
+            size: 0,
+            kind: 0,
+        },
+    }
+}
+
+/// A capability as C gets it.
+fn there(cap: Cap) -> OptionalCap
+    ensures present { result.present ≡ 1 }
+    ensures cap { cap_of result.cap ≡ cap }
+{
+    OptionalCap {
+        cap: given(cap),
+        present: 1,
+    }
+}
+
+/// No capability: NULL without a tag.
+fn nothing() -> OptionalCap
+    ensures present { result.present ≡ 0 }
+    ensures cap { cap_of result.cap ≡ no_cap }
+{
+    OptionalCap {
+        cap: no_capability(),
+        present: 0,
+    }
+}
