@@ -23,7 +23,8 @@ use Rattle.cap_bounds.specs.Bounds.{
 }
 use Rattle.cap_bounds.specs.Range.{window_start}
 use Rattle.cap_bounds.proofs.Residues.{IsResidue-unique, same_residue}
-use Rattle.cap_bounds.proofs.Windows.{start_below, end_above, start_aligned, raw_from_start, raw_above, raw_within, raw_residue, top_residue}
+use Rattle.cap_bounds.proofs.Windows.{start_below, end_above, start_aligned, raw_from_start, raw_above, raw_within, raw_residue}
+use Rattle.cap_bounds.proofs.Windows.{top_residue}
 use Rattle.cap_bounds.proofs.Powers.{eighth_is, size_is, size-le, length-lt, pow_le}
 use Rattle.cap_bounds.proofs.Mantissas.{span_at-lt, mantissa_is, span_of-mantissa_of, IsMantissa-mantissa_of, IsMantissa-unique}
 

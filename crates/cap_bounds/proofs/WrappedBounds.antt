@@ -115,7 +115,8 @@ top_without_address e b a d h =
     ∙ sym (top_at-uncorrected e (raw_base_at e b a) (d * 2 ^ e) h)
 
 -- bytes in the bounds of a sound word, by how far the first of them and the last byte in bounds lie above the base
-pub in_bounds : (base length top address count first last : ℕ) → base + length ≡ top → top ≤ 2 ^ 64 → address < 2 ^ 64 → 0 < count → 0 < length
+pub in_bounds : (base length top address count first last : ℕ) → base + length ≡ top → top ≤ 2 ^ 64
+    → address < 2 ^ 64 → 0 < count → 0 < length
     → first ≡ (address + (2 ^ 64 - base)) % 2 ^ 64 → last ≡ (length % 2 ^ 64 + (2 ^ 64 - 1)) % 2 ^ 64
     → first ≤ last → count - 1 ≤ last - first → (base ≤ address) × (address + count ≤ top)
 in_bounds base length top address count first last whole fits small some long first_is last_is order room = (omega arith, omega arith)

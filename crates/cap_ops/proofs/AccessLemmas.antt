@@ -10,7 +10,8 @@ use Rattle.cap_ops.specs.Tests.{first_of}
 use Rattle.cap_ops.proofs.TestLemmas.{none_hold, IsInside-covers}
 
 -- an access that no test refuses is allowed
-pub IsAllowed-access : (authority : Cap) (kind : Kind) (offset : ℤ) (size : ℕ) → first_of (access_tests authority kind offset size) ≡ None → IsAllowed authority.word.0 (access_address authority.word.0 offset) size (permission_for kind)
+pub IsAllowed-access : (authority : Cap) (kind : Kind) (offset : ℤ) (size : ℕ) → first_of (access_tests authority kind offset size) ≡ None
+    → IsAllowed authority.word.0 (access_address authority.word.0 offset) size (permission_for kind)
 unfolding access_tests
 IsAllowed-access authority kind offset size h =
     let address = access_address authority.word.0 offset in
@@ -20,7 +21,8 @@ IsAllowed-access authority kind offset size h =
 
 -- an aligned access lies in one granule of memory
 one_granule : (address size k : ℕ) → size ≡ k → address % size ≡ 0 → (address % k ≡ 0 → address % 16 + k ≤ 16) → address % 16 + size ≤ 16
-one_granule address size k e aligned fits = subst (λ (x : ℕ). address % 16 + x ≤ 16) (sym e) (fits (subst (λ (x : ℕ). address % x ≡ 0) e aligned))
+one_granule address size k e aligned fits =
+    subst (λ (x : ℕ). address % 16 + x ≤ 16) (sym e) (fits (subst (λ (x : ℕ). address % x ≡ 0) e aligned))
 
 data_in_granule : (address size : ℕ) → is_data_size size ≡ true → address % size ≡ 0 → address % 16 + size ≤ 16
 data_in_granule address size h aligned =

@@ -1,5 +1,6 @@
 -- What follows from the tests of a new address.
-use Rattle.std.proofs.Common.{◌≡◌, ◌↔◌, ℕ, ◌+◌, ◌/◌, ◌%◌, ◌^◌, ◌<◌, ◌≤◌, Bool, true, false, not, [], ◌∷◌, Option, Some, None, Result, Ok, Err, if◌then◌else◌, refl, sym, ap, ◌∙◌, arith, subst}
+use Rattle.std.proofs.Common.{◌≡◌, ◌↔◌, ℕ, ◌+◌, ◌/◌, ◌%◌, ◌^◌, ◌<◌, ◌≤◌, Bool, true, false, not, [], ◌∷◌, Option, Some, None, Result, Ok}
+use Rattle.std.proofs.Common.{Err, if◌then◌else◌, refl, sym, ap, ◌∙◌, arith, subst}
 use Rattle.std.proofs.lemmas.Bool.{both_ways, not-false, and_parts, and_from, eqb-true, eq-eqb}
 use Rattle.cap_word.specs.declared.word.Cap.{Cap}
 use Rattle.cap_bounds.specs.Bounds.{base_of, top_of}
@@ -26,7 +27,8 @@ unfolding is_kept_at
 kept-KeepsBounds w address h = and_from _ _ (eq-eqb _ _ h.0) (eq-eqb _ _ h.1)
 
 -- a new address that no test refuses leaves the source's authority
-pub StaysWithin-set_addr : (source : Cap) (address : ℕ) → address < 2 ^ 64 → first_of (set_addr_tests source address) ≡ None → StaysWithin (set_addr_result source address) source
+pub StaysWithin-set_addr : (source : Cap) (address : ℕ) → address < 2 ^ 64 → first_of (set_addr_tests source address) ≡ None
+    → StaysWithin (set_addr_result source address) source
 unfolding set_addr_tests set_addr_result
 StaysWithin-set_addr source address fits h =
     let w = source.word.0 in
@@ -39,11 +41,14 @@ StaysWithin-set_addr source address fits h =
 
 -- what a new address is refused with
 first_fault : Bool → Bool → Bool → Option OpFault
-first_fault tagged is_sealed kept = if tagged then (if is_sealed then Some SourceSealed else (if not kept then Some NotRepresentable else None)) else None
+first_fault tagged is_sealed kept =
+    if tagged then (if is_sealed then Some SourceSealed else (if not kept then Some NotRepresentable else None)) else None
 
-first_of-set_addr : (source : Cap) (address : ℕ) → first_of (set_addr_tests source address) ≡ first_fault source.tag (is_sealed source.word.0) (is_kept_at source.word.0 address)
+first_of-set_addr : (source : Cap) (address : ℕ) → first_of (set_addr_tests source address)
+    ≡ first_fault source.tag (is_sealed source.word.0) (is_kept_at source.word.0 address)
 unfolding set_addr_tests first_fault
-first_of-set_addr source address = first_of-on_tagged source ((is_sealed source.word.0, SourceSealed) ∷ (not (is_kept_at source.word.0 address), NotRepresentable) ∷ [])
+first_of-set_addr source address =
+    first_of-on_tagged source ((is_sealed source.word.0, SourceSealed) ∷ (not (is_kept_at source.word.0 address), NotRepresentable) ∷ [])
 
 kept_since : (tagged seal kept : Bool) → tagged ≡ true → seal ≡ false → first_fault tagged seal kept ≡ None → kept ≡ true
 unfolding first_fault
@@ -52,7 +57,8 @@ kept_since true false false t u h = cc
 kept_since true true kept t u h = cc
 kept_since false seal kept t u h = cc
 
-fault_since : (tagged seal kept : Bool) (fault : OpFault) → tagged ≡ true → seal ≡ false → first_fault tagged seal kept ≡ Some fault → fault ≡ NotRepresentable
+fault_since : (tagged seal kept : Bool) (fault : OpFault) → tagged ≡ true → seal ≡ false
+    → first_fault tagged seal kept ≡ Some fault → fault ≡ NotRepresentable
 unfolding first_fault
 fault_since true false true fault t u h = cc
 fault_since true false false fault t u h = cc
@@ -67,25 +73,31 @@ lost_since true true kept h = cc
 lost_since false seal kept h = cc
 
 -- where a new address is refused for itself, it does not keep the bounds
-lost : (source : Cap) (address : ℕ) → first_of (set_addr_tests source address) ≡ Some NotRepresentable → KeepsBounds source.word.0 address → ⊥
+lost : (source : Cap) (address : ℕ) → first_of (set_addr_tests source address) ≡ Some NotRepresentable
+    → KeepsBounds source.word.0 address → ⊥
 lost source address h keeps =
-    let not_kept = lost_since source.tag (is_sealed source.word.0) (is_kept_at source.word.0 address) (sym (first_of-set_addr source address) ∙ h) in
+    let not_kept = lost_since source.tag (is_sealed source.word.0) (is_kept_at source.word.0 address)
+    (sym (first_of-set_addr source address) ∙ h) in
     both_ways _ not_kept (kept-KeepsBounds source.word.0 address keeps)
 
 -- a new address is refused exactly outside the representable range
-pub NotRepresentable-exact : (source : Cap) (address : ℕ) (result : Result Cap OpFault) → address < 2 ^ 64 → EndsWith result (set_addr_tests source address) (set_addr_result source address)
+pub NotRepresentable-exact : (source : Cap) (address : ℕ) (result : Result Cap OpFault) → address < 2 ^ 64
+    → EndsWith result (set_addr_tests source address) (set_addr_result source address)
     → source.tag ≡ true → is_sealed source.word.0 ≡ false → (result ≡ Err NotRepresentable) ↔ (IsRepresentable source.word.0 address → ⊥)
 NotRepresentable-exact source address (Ok cap) fits ends tagged unsealed =
     let w = source.word.0 in
-    let kept = kept_since source.tag (is_sealed w) (is_kept_at w address) tagged unsealed (sym (first_of-set_addr source address) ∙ ends.0) in
+    let kept = kept_since source.tag (is_sealed w) (is_kept_at w address) tagged unsealed
+    (sym (first_of-set_addr source address) ∙ ends.0) in
     (λ e. cc, λ outside. absurd (outside (IsRepresentable-from_keeps w address fits (KeepsBounds-kept w address kept))))
 NotRepresentable-exact source address (Err fault) fits ends tagged unsealed =
     let w = source.word.0 in
-    let which = fault_since source.tag (is_sealed w) (is_kept_at w address) fault tagged unsealed (sym (first_of-set_addr source address) ∙ ends) in
+    let which = fault_since source.tag (is_sealed w) (is_kept_at w address) fault tagged unsealed
+    (sym (first_of-set_addr source address) ∙ ends) in
     (λ _ inside. lost source address (ends ∙ ap Some which) (KeepsBounds-from_range w address fits inside), λ _. ap Err which)
 
 -- and so never from the base to the top
-pub NotRepresentable-near : (source : Cap) (address : ℕ) (result : Result Cap OpFault) → address < 2 ^ 64 → EndsWith result (set_addr_tests source address) (set_addr_result source address)
+pub NotRepresentable-near : (source : Cap) (address : ℕ) (result : Result Cap OpFault) → address < 2 ^ 64
+    → EndsWith result (set_addr_tests source address) (set_addr_result source address)
     → base_of source.word.0 ≤ address → address ≤ top_of source.word.0 → result ≡ Err NotRepresentable → ⊥
 NotRepresentable-near source address (Ok cap) fits ends from until e = cc
 NotRepresentable-near source address (Err fault) fits ends from until e =

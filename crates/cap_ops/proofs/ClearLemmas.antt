@@ -1,5 +1,6 @@
 -- The results of clear mode.
-use Rattle.std.proofs.Common.{◌≡◌, ◌↔◌, ℕ, ◌+◌, ◌^◌, ◌<◌, true, false, Bool, List, Some, None, Option, is_some, Result, Ok, Err, refl, sym, ap, subst, ◌∙◌}
+use Rattle.std.proofs.Common.{◌≡◌, ◌↔◌, ℕ, ◌+◌, ◌^◌, ◌<◌, true, false, Bool, List, Some, None, Option, is_some, Result, Ok, Err, refl, sym}
+use Rattle.std.proofs.Common.{ap, subst, ◌∙◌}
 use Rattle.std.specs.Bool.{if◌then◌else◌}
 use Rattle.std.proofs.lemmas.Bool.{false≢true}
 use Rattle.cap_word.specs.declared.word.Cap.{Cap}
@@ -24,29 +25,35 @@ StaysWithin-untagged cap source = record {
 pub clear_result-none : (tests : List (Bool × OpFault)) (result : Cap) → first_of tests ≡ None → clear_result tests result ≡ result
 clear_result-none tests result free = ap (λ (o : Option OpFault). if is_some o then cleared result else result) free
 
-pub clear_result-some : (tests : List (Bool × OpFault)) (result : Cap) (fault : OpFault) → first_of tests ≡ Some fault → clear_result tests result ≡ cleared result
+pub clear_result-some : (tests : List (Bool × OpFault)) (result : Cap) (fault : OpFault) → first_of tests ≡ Some fault
+    → clear_result tests result ≡ cleared result
 clear_result-some tests result fault found = ap (λ (o : Option OpFault). if is_some o then cleared result else result) found
 
 -- what stays within a source where no test holds, stays within it in clear mode
-pub StaysWithin-clear : (tests : List (Bool × OpFault)) (result source : Cap) → (first_of tests ≡ None → StaysWithin result source) → StaysWithin (clear_result tests result) source
+pub StaysWithin-clear : (tests : List (Bool × OpFault)) (result source : Cap) → (first_of tests ≡ None → StaysWithin result source)
+    → StaysWithin (clear_result tests result) source
 StaysWithin-clear tests result source within =
     elim (first_of tests) as (λ o. first_of tests ≡ o → StaysWithin (clear_result tests result) source) [
       | None ↦ λ free. subst (λ (cap : Cap). StaysWithin cap source) (sym (clear_result-none tests result free)) (within free)
-      | Some fault ↦ λ found. subst (λ (cap : Cap). StaysWithin cap source) (sym (clear_result-some tests result fault found)) (StaysWithin-untagged result source)
+      | Some fault ↦ λ found. subst (λ (cap : Cap). StaysWithin cap source) (sym (clear_result-some tests result fault found))
+          (StaysWithin-untagged result source)
     ] refl
 
 -- a call's outcome, or the result without its tag
-pub clear_result-outcome : (outcome : Result Cap OpFault) (tests : List (Bool × OpFault)) (result made : Cap) → EndsWith outcome tests result → Clears outcome result made
+pub clear_result-outcome : (outcome : Result Cap OpFault) (tests : List (Bool × OpFault)) (result made : Cap)
+    → EndsWith outcome tests result → Clears outcome result made
     → made ≡ clear_result tests result
 clear_result-outcome (Ok cap) tests result made ends clears = clears ∙ ends.1 ∙ sym (clear_result-none tests result ends.0)
 clear_result-outcome (Err fault) tests result made ends clears = clears ∙ sym (clear_result-some tests result fault ends)
 
 -- what has a tag in clear mode is the strict result
-pub strict_where_tagged : (tests : List (Bool × OpFault)) (result made : Cap) → made ≡ clear_result tests result → IsStrictWhereTagged tests result made
+pub strict_where_tagged : (tests : List (Bool × OpFault)) (result made : Cap) → made ≡ clear_result tests result
+    → IsStrictWhereTagged tests result made
 strict_where_tagged tests result made is =
     elim (first_of tests) as (λ o. first_of tests ≡ o → IsStrictWhereTagged tests result made) [
       | None ↦ λ free. λ held. (free, is ∙ clear_result-none tests result free)
-      | Some fault ↦ λ found. λ held. absurd (false≢true (sym (ap (λ (cap : Cap). cap.tag) (is ∙ clear_result-some tests result fault found)) ∙ held))
+      | Some fault ↦ λ found. λ held. absurd (false≢true (sym (ap (λ (cap : Cap). cap.tag)
+          (is ∙ clear_result-some tests result fault found)) ∙ held))
     ] refl
 
 set_bounds_tag : (source : Cap) (length : ℕ) → (set_bounds_result source length).tag ≡ source.tag
@@ -57,7 +64,8 @@ set_bounds_tag source length = refl
 pub untagged_where_beyond : (source : Cap) (length : ℕ) (exact : Bool) (made : Cap) → length < 2 ^ 64
     → made ≡ clear_result (set_bounds_tests source length exact) (set_bounds_result source length)
     → exact ≡ false → source.tag ≡ true → is_sealed source.word.0 ≡ false → IsSound source.word.0
-    → (made.tag ≡ false) ↔ (IsInside (address_of source.word.0) (address_of source.word.0 + length) (base_of source.word.0) (top_of source.word.0) → ⊥)
+    → (made.tag ≡ false) ↔ (IsInside (address_of source.word.0) (address_of source.word.0 + length)
+    (base_of source.word.0) (top_of source.word.0) → ⊥)
 untagged_where_beyond source length exact made fits is inexact tagged unsealed sound =
     let tests = set_bounds_tests source length exact in
     let result = set_bounds_result source length in

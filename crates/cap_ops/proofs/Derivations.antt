@@ -8,12 +8,14 @@ use Rattle.cap_ops.specs.Accesses.{loaded_result}
 use Rattle.cap_ops.specs.Authority.{StaysWithin}
 use Rattle.cap_ops.specs.Operations.{and_perm_result, cleared, perms_with_common_global, seal_result, unseal_result}
 use Rattle.cap_ops.specs.Permissions.{perm_view_of, perms_from_view, unsealed_type, with_perms, with_type}
-use Rattle.cap_ops.proofs.PermissionLemmas.{IsFewer-common, IsFewer-masked, IsFewer-same, perm_view_of-and_perm, perms_with_common_global-lt}
+use Rattle.cap_ops.proofs.PermissionLemmas.{IsFewer-common, IsFewer-masked, IsFewer-same, perm_view_of-and_perm}
+use Rattle.cap_ops.proofs.PermissionLemmas.{perms_with_common_global-lt}
 use Rattle.cap_ops.proofs.ReplacedFields.{perms_of-with_perms, perms_of-with_type, with_perms-low, with_type-low}
 use Rattle.cap_ops.proofs.ReachLemmas.{ReachesNoMore-refl, StaysWithin-words, no_more_low}
 
 -- the view of what masking makes
-pub view-and_perm_result : (source : Cap) (mask : ℕ) → perm_view_of (and_perm_result source mask).word.0 ≡ bit_and (perm_view_of source.word.0) mask
+pub view-and_perm_result : (source : Cap) (mask : ℕ) → perm_view_of (and_perm_result source mask).word.0
+    ≡ bit_and (perm_view_of source.word.0) mask
 unfolding and_perm_result
 view-and_perm_result source mask = perm_view_of-and_perm source.word.0 mask
 
@@ -22,7 +24,8 @@ unfolding and_perm_result
 StaysWithin-and_perm source mask =
     let w = source.word.0 in
     let kept = perms_from_view (bit_and (perm_view_of w) mask) in
-    StaysWithin-words (and_perm_result source mask) source refl (λ _ sound. no_more_low (with_perms w kept) w (with_perms-low w kept) (IsFewer-masked (with_perms w kept) w mask (perm_view_of-and_perm w mask)) sound)
+    StaysWithin-words (and_perm_result source mask) source refl (λ _ sound. no_more_low (with_perms w kept) w (with_perms-low w kept)
+    (IsFewer-masked (with_perms w kept) w mask (perm_view_of-and_perm w mask)) sound)
 
 pub StaysWithin-seal : (source authority : Cap) → StaysWithin (seal_result source authority) source
 unfolding seal_result
@@ -30,7 +33,8 @@ StaysWithin-seal source authority =
     let w = source.word.0 in
     let otype = address_of authority.word.0 % 2 ^ 18 in
     let small : otype < 2 ^ 18 = omega arith in
-    StaysWithin-words (seal_result source authority) source refl (λ _ sound. no_more_low (with_type w otype) w (with_type-low w otype) (IsFewer-same (with_type w otype) w (perms_of-with_type w otype small)) sound)
+    StaysWithin-words (seal_result source authority) source refl (λ _ sound. no_more_low (with_type w otype) w (with_type-low w otype)
+    (IsFewer-same (with_type w otype) w (perms_of-with_type w otype small)) sound)
 
 pub StaysWithin-unseal : (source authority : Cap) → StaysWithin (unseal_result source authority) source
 unfolding unseal_result
@@ -56,4 +60,5 @@ StaysWithin-loaded authority stored = record {
 
 -- and nothing without a tag reaches further
 pub StaysWithin-cleared : (source : Cap) → StaysWithin (cleared source) source
-StaysWithin-cleared source = record { from_tagged = λ t. absurd (false≢true t); no_more = λ _ _. ReachesNoMore-refl source.word.0; sound = λ _ sound. sound }
+StaysWithin-cleared source =
+    record { from_tagged = λ t. absurd (false≢true t); no_more = λ _ _. ReachesNoMore-refl source.word.0; sound = λ _ sound. sound }

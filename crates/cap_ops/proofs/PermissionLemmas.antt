@@ -1,5 +1,6 @@
 -- The permissions of a word: the view, single bits, and which words have no more.
-use Rattle.std.proofs.Common.{◌≡◌, ℕ, zero, suc, ◌+◌, ◌*◌, ◌/◌, ◌%◌, ◌^◌, ◌<◌, ◌≤◌, Bool, true, false, ◌==◌, ◌&&◌, min, sym, ap, ◌∙◌, refl, arith}
+use Rattle.std.proofs.Common.{◌≡◌, ℕ, zero, suc, ◌+◌, ◌*◌, ◌/◌, ◌%◌, ◌^◌, ◌<◌, ◌≤◌, Bool, true, false, ◌==◌, ◌&&◌, min, sym, ap, ◌∙◌, refl}
+use Rattle.std.proofs.Common.{arith}
 use Rattle.std.proofs.lemmas.Nat.{shr-shr, and_mod, and_shr, and_le_l, and_block}
 use Rattle.std.proofs.lemmas.Nat.Bits.{shr_and_one, bit_at_cat_low, bit_at_and, bit_at_lowest, bit_at-suc, bit_at-lt}
 use Rattle.std.proofs.lemmas.Bool.{eqb-true, eq-eqb}
@@ -36,7 +37,8 @@ pub IsFewer-masked : (x y mask : ℕ) → perm_view_of x ≡ bit_and (perm_view_
 unfolding has_permission
 IsFewer-masked x y mask e n h =
     let set : bit_at (perm_view_of x) n ≡ 1 = eqb-true _ _ h in
-    let both : bit_at (perm_view_of x) n ≡ min (bit_at (perm_view_of y) n) (bit_at mask n) = ap (λ (v : ℕ). bit_at v n) e ∙ bit_at_and (perm_view_of y) mask n in
+    let both : bit_at (perm_view_of x) n ≡ min (bit_at (perm_view_of y) n) (bit_at mask n) =
+    ap (λ (v : ℕ). bit_at v n) e ∙ bit_at_and (perm_view_of y) mask n in
     let low : bit_at (perm_view_of y) n < 2 = bit_at-lt (perm_view_of y) n in
     eq-eqb _ _ (omega arith)
 
@@ -66,14 +68,16 @@ perms_from_view-and w mask =
     ap (λ (x : ℕ). x % 2 ^ 4) (and_shr view mask 15)
     ∙ and_mod (view / 2 ^ 15) (mask / 2 ^ 15) 4
     ∙ ap (λ (x : ℕ). bit_and x (mask / 2 ^ 15 % 2 ^ 4)) (let e : view / 2 ^ 15 % 2 ^ 4 ≡ p / 2 ^ 12 = omega arith in e) in
-    let whole : bit_and p (mask % 2 ^ 12 + mask / 2 ^ 15 % 2 ^ 4 * 2 ^ 12) ≡ bit_and (p / 2 ^ 12) (mask / 2 ^ 15 % 2 ^ 4) * 2 ^ 12 + bit_and (p % 2 ^ 12) (mask % 2 ^ 12) =
+    let whole : bit_and p (mask % 2 ^ 12 + mask / 2 ^ 15 % 2 ^ 4 * 2 ^ 12)
+    ≡ bit_and (p / 2 ^ 12) (mask / 2 ^ 15 % 2 ^ 4) * 2 ^ 12 + bit_and (p % 2 ^ 12) (mask % 2 ^ 12) =
     ap (λ (x : ℕ). bit_and x (mask % 2 ^ 12 + mask / 2 ^ 15 % 2 ^ 4 * 2 ^ 12)) split
     ∙ ap (bit_and (p / 2 ^ 12 * 2 ^ 12 + p % 2 ^ 12)) field
     ∙ and_block 12 (p / 2 ^ 12) (mask / 2 ^ 15 % 2 ^ 4) (p % 2 ^ 12) (mask % 2 ^ 12) (omega arith) (omega arith) in
     omega arith
 
 -- a masked view is the view of the field that it stands for
-pub perm_view_of-masked : (w v mask : ℕ) → perms_of v ≡ perms_from_view (bit_and (perm_view_of w) mask) → perm_view_of v ≡ bit_and (perm_view_of w) mask
+pub perm_view_of-masked : (w v mask : ℕ) → perms_of v ≡ perms_from_view (bit_and (perm_view_of w) mask)
+    → perm_view_of v ≡ bit_and (perm_view_of w) mask
 unfolding perm_view_of perms_from_view
 perm_view_of-masked w v mask e =
     let p = perms_of w in
@@ -107,7 +111,8 @@ pub IsFewer-common : (x y other : ℕ) → perms_of x ≡ perms_with_common_glob
 IsFewer-common x y other e = by_cases (has_permission y global) (has_permission other global) refl refl where
   at_bits : (g h : Bool) → has_permission y global ≡ g → has_permission other global ≡ h → perms_of x ≡ perms_of y / 2 * 2 + bit_of (g && h)
   at_bits g h p q =
-      e ∙ ap (λ (b : Bool). perms_of y / 2 * 2 + bit_of (b && has_permission other global)) p ∙ ap (λ (b : Bool). perms_of y / 2 * 2 + bit_of (g && b)) q
+      e ∙ ap (λ (b : Bool). perms_of y / 2 * 2 + bit_of (b && has_permission other global)) p
+      ∙ ap (λ (b : Bool). perms_of y / 2 * 2 + bit_of (g && b)) q
 
   by_cases : (g h : Bool) → has_permission y global ≡ g → has_permission other global ≡ h → IsFewer x y
   by_cases true true p q = IsFewer-same x y (omega (arith, at_bits true true p q, global_odd y p))
@@ -115,7 +120,8 @@ IsFewer-common x y other e = by_cases (has_permission y global) (has_permission 
   by_cases false h p q = IsFewer-even x y (omega (arith, at_bits false h p q))
 
 -- the view of a word with the masked permissions
-pub perm_view_of-and_perm : (w mask : ℕ) → perm_view_of (with_perms w (perms_from_view (bit_and (perm_view_of w) mask))) ≡ bit_and (perm_view_of w) mask
+pub perm_view_of-and_perm : (w mask : ℕ) → perm_view_of (with_perms w (perms_from_view (bit_and (perm_view_of w) mask)))
+    ≡ bit_and (perm_view_of w) mask
 perm_view_of-and_perm w mask =
     let kept = perms_from_view (bit_and (perm_view_of w) mask) in
     let small : kept < 2 ^ 16 = omega (arith, sym (perms_from_view-and w mask), and_le_l (perms_of w) (perms_from_view mask)) in

@@ -27,7 +27,9 @@ pub no_more_low : (x y : ℕ) → x % 2 ^ 91 ≡ y % 2 ^ 91 → IsFewer x y → 
 no_more_low x y e fewer sound = (ReachesNoMore-same x y (base_of-low x y e) (top_of-low x y e) fewer, IsSound-low x y e sound)
 
 -- what stays within a source: two capabilities with the same tag, and words of which one reaches no more
-pub StaysWithin-words : (result source : Cap) → result.tag ≡ source.tag → (IsTrue source.tag → IsSound source.word.0 → ReachesNoMore result.word.0 source.word.0 × IsSound result.word.0) → StaysWithin result source
+pub StaysWithin-words : (result source : Cap) → result.tag ≡ source.tag
+    → (IsTrue source.tag → IsSound source.word.0 → ReachesNoMore result.word.0 source.word.0 × IsSound result.word.0)
+    → StaysWithin result source
 StaysWithin-words result source same words = record {
   from_tagged = λ tagged. sym same ∙ tagged;
   no_more = λ tagged sound. (words (sym same ∙ tagged) sound).0;
@@ -42,7 +44,8 @@ StaysWithin-refl cap = record { from_tagged = λ t. t; no_more = λ t sound. Rea
 pub StaysWithin-trans : (x y z : Cap) → StaysWithin x y → StaysWithin y z → StaysWithin x z
 StaysWithin-trans x y z p q = record {
   from_tagged = λ t. q.from_tagged (p.from_tagged t);
-  no_more = λ t sound. let u = p.from_tagged t in ReachesNoMore-trans x.word.0 y.word.0 z.word.0 (p.no_more t (q.sound u sound)) (q.no_more u sound);
+  no_more = λ t sound. let u = p.from_tagged t in ReachesNoMore-trans x.word.0 y.word.0 z.word.0
+      (p.no_more t (q.sound u sound)) (q.no_more u sound);
   sound = λ t sound. p.sound t (q.sound (p.from_tagged t) sound);
 }
 

@@ -1,5 +1,6 @@
 -- What the results of operations hold: object type, sealedness, Global, address.
-use Rattle.std.proofs.Common.{◌≡◌, ℕ, ◌+◌, ◌*◌, ◌/◌, ◌%◌, ◌^◌, ◌<◌, ◌≤◌, Bool, true, false, ◌&&◌, not, ◌==◌, IsTrue, IsFalse, None, refl, ap, ◌∙◌, arith, lit<}
+use Rattle.std.proofs.Common.{◌≡◌, ℕ, ◌+◌, ◌*◌, ◌/◌, ◌%◌, ◌^◌, ◌<◌, ◌≤◌, Bool, true, false, ◌&&◌, not, ◌==◌, IsTrue, IsFalse, None, refl}
+use Rattle.std.proofs.Common.{ap, ◌∙◌, arith, lit<}
 use Rattle.std.proofs.lemmas.Bool.{not-false, ltb-false, eqb-true, false_from_ne_true}
 use Rattle.std.proofs.lemmas.Nat.Bits.{bit_at_lowest}
 use Rattle.cap_word.specs.declared.word.Cap.{Cap}
@@ -33,7 +34,8 @@ sealed_with_type w otype h =
 
 -- the fields of what was sealed
 pub sealed_so : (source authority cap : Cap) → first_of (seal_tests source authority) ≡ None → cap ≡ seal_result source authority
-    → IsTrue cap.tag × IsTrue (is_sealed cap.word.0) × (otype_of cap.word.0 ≡ address_of authority.word.0) × (address_of cap.word.0 ≡ address_of source.word.0)
+    → IsTrue cap.tag × IsTrue (is_sealed cap.word.0) × (otype_of cap.word.0 ≡ address_of authority.word.0)
+    × (address_of cap.word.0 ≡ address_of source.word.0)
 unfolding seal_tests seal_result
 sealed_so source authority cap free is =
     let none = none_hold (seal_tests source authority) free in
@@ -81,7 +83,8 @@ unsealed_so source authority cap free is =
     let perms : perms_of cap.word.0 ≡ kept =
     ap perms_of word ∙ perms_of-with_type u unsealed_type (lit< tt) ∙ perms_of-with_perms w kept (perms_with_common_global-lt w other) in (
       ap (λ (c : Cap). c.tag) is ∙ not-false source.tag none.1.1.1.1.0,
-      ap (λ (n : ℕ). not (otype_of n == unsealed_type)) word ∙ ap (λ (n : ℕ). not (n == unsealed_type)) (otype_of-with_type u unsealed_type (lit< tt)),
+      ap (λ (n : ℕ). not (otype_of n == unsealed_type)) word ∙ ap (λ (n : ℕ). not (n == unsealed_type))
+          (otype_of-with_type u unsealed_type (lit< tt)),
       has_global cap.word.0 ∙ ap (λ (n : ℕ). n % 2 == 1) perms ∙ ap (λ (n : ℕ). n == 1) (common_global w other) ∙ bit_told _,
       ap address_of word ∙ address_of-with_type u unsealed_type ∙ address_of-with_perms w kept,
     )

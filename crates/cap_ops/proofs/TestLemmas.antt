@@ -1,5 +1,6 @@
 -- What follows where no test of a list holds, and from single tests.
-use Rattle.std.proofs.Common.{◌++◌, ◌≡◌, ℕ, Bool, true, false, List, [], ◌∷◌, Some, None, Result, MatchResult, if◌then◌else◌, refl, ap, ◌∙◌, sym}
+use Rattle.std.proofs.Common.{◌++◌, ◌≡◌, ℕ, Bool, true, false, List, [], ◌∷◌, Some, None, Result, MatchResult, if◌then◌else◌, refl, ap, ◌∙◌}
+use Rattle.std.proofs.Common.{sym}
 use Rattle.std.proofs.lemmas.Bool.{and_parts, and_from, leb-true, le-leb}
 use Rattle.cap_word.specs.declared.word.Cap.{Cap}
 use Rattle.cap_bounds.specs.Bounds.{base_of, top_of, IsInside}
@@ -12,7 +13,8 @@ abbrev pub NoneHold : {F : Type 0} → List (Bool × F) → Type 0
 NoneHold [] = Unit {0}
 NoneHold (test ∷ tests) = (test.0 ≡ false) × NoneHold tests
 
-head_fails : {F : Type 0} (test : Bool) (fault : F) (tests : List (Bool × F)) → first_of ((test, fault) ∷ tests) ≡ None → (test ≡ false) × (first_of tests ≡ None)
+head_fails : {F : Type 0} (test : Bool) (fault : F) (tests : List (Bool × F)) → first_of ((test, fault) ∷ tests) ≡ None
+    → (test ≡ false) × (first_of tests ≡ None)
 head_fails true fault tests h = cc
 head_fails false fault tests h = (refl, h)
 
@@ -20,18 +22,21 @@ pub none_hold : {F : Type 0} (tests : List (Bool × F)) → first_of tests ≡ N
 none_hold [] h = tt
 none_hold (test ∷ tests) h = let p = head_fails test.0 test.1 tests h in (p.0, none_hold tests p.1)
 
-if_tagged : {F : Type 0} (tagged : Bool) (tests : List (Bool × F)) → first_of (if tagged then tests else []) ≡ (if tagged then first_of tests else None)
+if_tagged : {F : Type 0} (tagged : Bool) (tests : List (Bool × F)) → first_of (if tagged then tests else [])
+    ≡ (if tagged then first_of tests else None)
 if_tagged true tests = refl
 if_tagged false tests = refl
 
 -- a tagged source meets the tests for one, and an untagged one none
-pub first_of-on_tagged : (source : Cap) (tests : List (Bool × OpFault)) → first_of (on_tagged source tests) ≡ (if source.tag then first_of tests else None)
+pub first_of-on_tagged : (source : Cap) (tests : List (Bool × OpFault))
+    → first_of (on_tagged source tests) ≡ (if source.tag then first_of tests else None)
 first_of-on_tagged source tests = if_tagged source.tag tests
 
 pub on_tagged-true : (source : Cap) (tests : List (Bool × OpFault)) → source.tag ≡ true → first_of (on_tagged source tests) ≡ first_of tests
 on_tagged-true source tests h = first_of-on_tagged source tests ∙ ap (λ (b : Bool). if b then first_of tests else None) h
 
-pub none_hold-tagged : (source : Cap) (tests : List (Bool × OpFault)) → source.tag ≡ true → first_of (on_tagged source tests) ≡ None → NoneHold tests
+pub none_hold-tagged : (source : Cap) (tests : List (Bool × OpFault)) → source.tag ≡ true
+    → first_of (on_tagged source tests) ≡ None → NoneHold tests
 none_hold-tagged source tests t h = none_hold tests (sym (on_tagged-true source tests t) ∙ h)
 
 -- a word covers what lies inside its bounds

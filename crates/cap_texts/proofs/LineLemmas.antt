@@ -17,7 +17,8 @@ four_after front a b c d = simp append_assoc
 
 -- the line of an object type
 pub type_line : (front digits name : List ℕ)
-    → front ++ codes "otype " ++ digits ++ codes " " ++ name ++ codes "\n" ≡ front ++ text_line (codes "otype") (digits ++ codes " " ++ name)
+    → front ++ codes "otype " ++ digits ++ codes " " ++ name ++ codes "\n" ≡ front
+    ++ text_line (codes "otype") (digits ++ codes " " ++ name)
 unfolding text_line
 type_line front digits name = simp append_assoc
 
@@ -31,9 +32,11 @@ six_after front a b c d e f = simp append_assoc
 pub seven_after : (front a b c d e f g : List ℕ) → front ++ a ++ b ++ c ++ d ++ e ++ f ++ g ≡ front ++ (a ++ b ++ c ++ d ++ e ++ f ++ g)
 seven_after front a b c d e f g = simp append_assoc
 
-pub eight_after : (front a b c d e f g h : List ℕ) → front ++ a ++ b ++ c ++ d ++ e ++ f ++ g ++ h ≡ front ++ (a ++ b ++ c ++ d ++ e ++ f ++ g ++ h)
+pub eight_after : (front a b c d e f g h : List ℕ) → front ++ a ++ b ++ c ++ d ++ e ++ f ++ g ++ h ≡ front
+    ++ (a ++ b ++ c ++ d ++ e ++ f ++ g ++ h)
 eight_after front a b c d e f g h = simp append_assoc
 
 pub twelve_after : (front a b c d e f g h i j k l : List ℕ)
-    → front ++ a ++ b ++ c ++ d ++ e ++ f ++ g ++ h ++ i ++ j ++ k ++ l ≡ front ++ (a ++ b ++ c ++ d ++ e ++ f ++ g ++ h ++ i ++ j ++ k ++ l)
+    → front ++ a ++ b ++ c ++ d ++ e ++ f ++ g ++ h ++ i ++ j ++ k ++ l ≡ front
+    ++ (a ++ b ++ c ++ d ++ e ++ f ++ g ++ h ++ i ++ j ++ k ++ l)
 twelve_after front a b c d e f g h i j k l = simp append_assoc

@@ -18,7 +18,8 @@ two_digits : (byte : ℕ) → byte < 256 → hex_digits 2 byte ≡ hex_digit (by
 unfolding hex_digits
 two_digits byte small =
     let high : byte / 16 % 16 ≡ byte / 16 = omega arith in
-    ap (λ (d : ℕ). hex_digit d ∷ hex_digit (byte / 1 % 16) ∷ []) high ∙ ap (λ (n : ℕ). hex_digit (byte / 16) ∷ hex_digit (n % 16) ∷ []) (div-one byte)
+    ap (λ (d : ℕ). hex_digit d ∷ hex_digit (byte / 1 % 16) ∷ []) high ∙ ap
+    (λ (n : ℕ). hex_digit (byte / 16) ∷ hex_digit (n % 16) ∷ []) (div-one byte)
 
 -- the text that `hex` writes is two digits for each byte
 pub bytes_text-is : (bytes : List ℕ) → IsBytes bytes → encode_lower bytes ≡ bytes_text bytes
@@ -56,7 +57,8 @@ unfolding hex_digits
 hex_digits-byte k byte n small fits =
     let quotient = div-mul-add byte (16 ^ k) n fits in
     let halved : (byte * 16 ^ k + n) / 16 ^ suc k ≡ byte / 16 =
-    ap (λ (d : ℕ). (byte * 16 ^ k + n) / d) (pow-suc 16 k) ∙ sym (div-div-eq-div-mul (byte * 16 ^ k + n) (16 ^ k) 16) ∙ ap (λ (q : ℕ). q / 16) quotient in
+    ap (λ (d : ℕ). (byte * 16 ^ k + n) / d) (pow-suc 16 k) ∙ sym (div-div-eq-div-mul (byte * 16 ^ k + n) (16 ^ k) 16)
+    ∙ ap (λ (q : ℕ). q / 16) quotient in
     let high : byte / 16 % 16 ≡ byte / 16 = omega arith in
     rw (halved, quotient, high, hex_digits-higher k byte n) refl
 
@@ -73,7 +75,8 @@ spelled_bytes (byte ∷ bytes) small =
     let below : byte * 16 ^ k ≤ 255 * 16 ^ k = mul-le-mul_right (16 ^ k) (let le : byte ≤ 255 = omega arith in le) in
     let fits : byte * 16 ^ k + rest.0 < 16 ^ suc (suc k) = omega (arith, pow-suc 16 (suc k), pow-suc 16 k, rest.1, below) in
     let text : hex_digit (byte / 16) ∷ hex_digit (byte % 16) ∷ encode_lower bytes ≡ hex_digits (suc (suc k)) (byte * 16 ^ k + rest.0) =
-    ap (λ (digits : List ℕ). hex_digit (byte / 16) ∷ hex_digit (byte % 16) ∷ digits) rest.2 ∙ sym (hex_digits-byte k byte rest.0 byte_fits rest.1) in
+    ap (λ (digits : List ℕ). hex_digit (byte / 16) ∷ hex_digit (byte % 16) ∷ digits) rest.2
+    ∙ sym (hex_digits-byte k byte rest.0 byte_fits rest.1) in
     (byte * 16 ^ k + rest.0, rw twice fits, rw twice text)
 
 -- the bytes of a word in memory as text are the digits of a number of 128 bits

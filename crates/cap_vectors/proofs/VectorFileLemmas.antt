@@ -59,14 +59,16 @@ fail_stands bytes true line all = subst (λ (b : List ℕ). FailsFirst b line) (
 fail_stands bytes false line all = all
 
 -- behind lines that state something true, before an answer of the next call, with what that says
-pub record Passes {S : Type 0} (gave : S → S → List ℕ → Type 0) (ended : S → Bool) (old new : S) (count : ℕ) (lines : Lines) (answer : Result Next PullFault) : Type 0 where
+pub record Passes {S : Type 0} (gave : S → S → List ℕ → Type 0) (ended : S → Bool) (old new : S) (count : ℕ) (lines : Lines)
+    (answer : Result Next PullFault) : Type 0 where
   pub given : List ℕ
   pub gives : gave old new given
   pub rest : List ℕ
   pub here : BeginsTrue given count rest
   pub next : IsNext rest (ended new) (kept lines) (over_of lines) answer
 
-pub passes : {S : Type 0} (gave : S → S → List ℕ → Type 0) (ended : S → Bool) (a b c : S) (count : ℕ) (before : List ℕ) (lines : Lines) (answer shown : Result Next PullFault)
+pub passes : {S : Type 0} (gave : S → S → List ℕ → Type 0) (ended : S → Bool) (a b c : S) (count : ℕ) (before : List ℕ) (lines : Lines)
+    (answer shown : Result Next PullFault)
     → ((x y z : S) (xs ys : List ℕ) → gave x y xs → gave y z ys → gave x z (xs ++ ys))
     → ((given : List ℕ) × gave a b given × BeginsTrue given count before)
     → Answered gave ended b c before lines answer → answer ≡ shown → Passes gave ended a c count lines shown
@@ -79,13 +81,19 @@ passes gave ended a b c count before lines answer shown joined so_far answered s
 }
 
 module _ {S : Type 0} {gave : S → S → List ℕ → Type 0} {ended : S → Bool} {old new : S} {lines : Lines} (count : ℕ) where
-  checked : {shown : Result Next PullFault} (verdict : VectorVerdict) (p : Passes gave ended old new count lines shown) → IsVectorVerdictOf p.given (ended new) verdict
+  checked : {shown : Result Next PullFault} (verdict : VectorVerdict) (p : Passes gave ended old new count lines shown)
+      → IsVectorVerdictOf p.given (ended new) verdict
       → Checked gave ended old new (Ok verdict)
   checked verdict p is = record { given = p.given; gives = p.gives; verdict = is; fault = tt }
 
   -- the source failed
   pub pulled : (fault failed : PullFault) → Passes gave ended old new count lines (Err failed) → Checked gave ended old new (Err fault)
-  pulled fault failed p = record { given = p.given; gives = p.gives; verdict = tt; fault = record { count = count; rest = p.rest; begins = p.here; cut = p.next.0 } }
+  pulled fault failed p = record {
+    given = p.given;
+    gives = p.gives;
+    verdict = tt;
+    fault = record { count = count; rest = p.rest; begins = p.here; cut = p.next.0 };
+  }
 
   -- the source has ended at a line's start
   pub all_passed : Passes gave ended old new count lines (Ok Finished) → Checked gave ended old new (Ok (Pass count))
@@ -95,21 +103,36 @@ module _ {S : Type 0} {gave : S → S → List ℕ → Type 0} {ended : S → Bo
 
   -- the line fails whatever follows
   fails_met : {shown : Result Next PullFault} (p : Passes gave ended old new count lines shown)
-      → ((more : List ℕ) → FrontIs (p.rest ++ more) (Unit {0}) (p.rest ++ more ≢ []) (FailsWhole (count + 1))) → Checked gave ended old new (Ok (Fail (count + 1)))
+      → ((more : List ℕ) → FrontIs (p.rest ++ more) (Unit {0}) (p.rest ++ more ≢ []) (FailsWhole (count + 1)))
+      → Checked gave ended old new (Ok (Fail (count + 1)))
   fails_met p all =
       checked (Fail (count + 1)) p
       (fail_stands p.given (ended new) (count + 1)
-      (λ more. record { before = count; rest = p.rest ++ more; begins = begins_more p.given p.rest more count p.here; number_is = refl; fails = all more }))
+      (λ more. record {
+        before = count;
+        rest = p.rest ++ more;
+        begins = begins_more p.given p.rest more count p.here;
+        number_is = refl;
+        fails = all more;
+      }))
 
   pub too_long : Passes gave ended old new count lines (Ok LineTooLong) → Checked gave ended old new (Ok (Fail (count + 1)))
   too_long p = fails_met p (λ more. inl (IsTooLong-more p.rest more p.next.0, tt))
 
-  pub line_fails : (text : _) → Passes gave ended old new count lines (Ok (Line text)) → FailsWhole (count + 1) text.now → Checked gave ended old new (Ok (Fail (count + 1)))
-  line_fails text p fails = fails_met p (λ more. inr (inr (text.now, kept lines ++ more, IsLine-more p.rest text.now (kept lines) more p.next.0, fails)))
+  pub line_fails : (text : _) → Passes gave ended old new count lines (Ok (Line text)) → FailsWhole (count + 1) text.now
+      → Checked gave ended old new (Ok (Fail (count + 1)))
+  line_fails text p fails =
+      fails_met p (λ more. inr (inr (text.now, kept lines ++ more, IsLine-more p.rest text.now (kept lines) more p.next.0, fails)))
 
   pub truncated : Passes gave ended old new count lines (Ok Truncated) → Checked gave ended old new (Ok (Fail (count + 1)))
   truncated p =
-      let is : FailsFirst p.given (count + 1) = record { before = count; rest = p.rest; begins = p.here; number_is = refl; fails = inr (inl (p.next.0, p.next.1)) } in
+      let is : FailsFirst p.given (count + 1) = record {
+        before = count;
+        rest = p.rest;
+        begins = p.here;
+        number_is = refl;
+        fails = inr (inl (p.next.0, p.next.1));
+      } in
       checked (Fail (count + 1)) p (subst (λ (b : Bool). IsVectorVerdictOf p.given b (Fail (count + 1))) (sym p.next.2) is)
 
   -- one line more states something true

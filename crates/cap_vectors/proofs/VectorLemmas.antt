@@ -37,7 +37,8 @@ pub keeps_word : (w address : ℕ) (answer : Bool)
 keeps_word w address answer = (codes " " ++ (hex_digits 16 address ++ (codes " = " ++ flag_digit answer)), simp append_assoc)
 
 pub keeps_address : (w address : ℕ) (answer : Bool)
-    → (rest : List ℕ) × (spelling (Keeps w address answer) ≡ (codes "keeps " ++ hex_digits 32 w ++ codes " ") ++ (hex_digits 16 address ++ rest))
+    → (rest : List ℕ) × (spelling (Keeps w address answer) ≡ (codes "keeps " ++ hex_digits 32 w ++ codes " ")
+    ++ (hex_digits 16 address ++ rest))
 keeps_address w address answer = (codes " = " ++ flag_digit answer, simp append_assoc)
 
 pub memory_word : (w : ℕ) (bytes : List ℕ) → (rest : List ℕ) × (spelling (Memory w bytes) ≡ codes "memory " ++ (hex_digits 32 w ++ rest))
@@ -46,7 +47,8 @@ memory_word w bytes = (codes " = " ++ bytes_text bytes, simp append_assoc)
 -- what is written of a rounding
 abbrev pub rounding_text : (base_rounded top_rounded : ℕ) (ie : Bool) (e : ℕ) (exact : Bool) → List ℕ
 rounding_text base_rounded top_rounded ie e exact =
-    codes " = " ++ hex_digits 16 base_rounded ++ codes " " ++ hex_digits 17 top_rounded ++ codes " " ++ flag_digit ie ++ codes " " ++ decimal e ++ codes " " ++ flag_digit exact
+    codes " = " ++ hex_digits 16 base_rounded ++ codes " " ++ hex_digits 17 top_rounded ++ codes " " ++ flag_digit ie ++ codes " "
+    ++ decimal e ++ codes " " ++ flag_digit exact
 
 pub round_base : (base size base_rounded top_rounded : ℕ) (ie : Bool) (e : ℕ) (exact : Bool)
     → (rest : List ℕ) × (spelling (Round base size base_rounded top_rounded ie e exact) ≡ codes "round " ++ (hex_digits 16 base ++ rest))
@@ -54,14 +56,17 @@ round_base base size base_rounded top_rounded ie e exact =
     (codes " " ++ (hex_digits 16 size ++ rounding_text base_rounded top_rounded ie e exact), simp append_assoc)
 
 three_then_more : (a b c d e f g h i j k l m n : List ℕ)
-    → a ++ b ++ c ++ d ++ e ++ f ++ g ++ h ++ i ++ j ++ k ++ l ++ m ++ n ≡ (a ++ b ++ c) ++ (d ++ (e ++ f ++ g ++ h ++ i ++ j ++ k ++ l ++ m ++ n))
+    → a ++ b ++ c ++ d ++ e ++ f ++ g ++ h ++ i ++ j ++ k ++ l ++ m ++ n ≡ (a ++ b ++ c)
+    ++ (d ++ (e ++ f ++ g ++ h ++ i ++ j ++ k ++ l ++ m ++ n))
 three_then_more a b c d e f g h i j k l m n = simp append_assoc
 
 pub round_length : (base size base_rounded top_rounded : ℕ) (ie : Bool) (e : ℕ) (exact : Bool)
-    → (rest : List ℕ) × (spelling (Round base size base_rounded top_rounded ie e exact) ≡ (codes "round " ++ hex_digits 16 base ++ codes " ") ++ (hex_digits 16 size ++ rest))
+    → (rest : List ℕ) × (spelling (Round base size base_rounded top_rounded ie e exact)
+    ≡ (codes "round " ++ hex_digits 16 base ++ codes " ") ++ (hex_digits 16 size ++ rest))
 round_length base size base_rounded top_rounded ie e exact = (
   rounding_text base_rounded top_rounded ie e exact,
-  three_then_more (codes "round ") (hex_digits 16 base) (codes " ") (hex_digits 16 size) (codes " = ") (hex_digits 16 base_rounded) (codes " ") (hex_digits 17 top_rounded) (codes " ")
+  three_then_more (codes "round ") (hex_digits 16 base) (codes " ") (hex_digits 16 size) (codes " = ") (hex_digits 16 base_rounded)
+      (codes " ") (hex_digits 17 top_rounded) (codes " ")
       (flag_digit ie) (codes " ") (decimal e) (codes " ") (flag_digit exact),
 )
 
@@ -81,12 +86,14 @@ pub same_keeps : (line written : List ℕ) (w v address address' : ℕ) (answer 
     → States written (Keeps v address' answer') → line ≡ written
 same_keeps line written w v address address' answer answer' is also h k =
     let first = h.true_vector.holds in
-    let second = subst (λ (x : ℕ). Holds (Keeps w x answer')) also (subst (λ (x : ℕ). Holds (Keeps x address' answer')) is k.true_vector.holds) in
+    let second = subst (λ (x : ℕ). Holds (Keeps w x answer')) also (subst (λ (x : ℕ). Holds (Keeps x address' answer'))
+    is k.true_vector.holds) in
     let same : answer ≡ answer' = same_from_decides answer answer' first second in
     let one : Keeps w address answer ≡ Keeps v address' answer' = cc in
     h.spelled ∙ ap spelling one ∙ sym k.spelled
 
-pub same_round : (line written : List ℕ) (base size base' size' base_rounded top_rounded base_rounded' top_rounded' : ℕ) (ie ie' : Bool) (e e' : ℕ) (exact exact' : Bool)
+pub same_round : (line written : List ℕ) (base size base' size' base_rounded top_rounded base_rounded' top_rounded' : ℕ) (ie ie' : Bool)
+    (e e' : ℕ) (exact exact' : Bool)
     → base' ≡ base → size' ≡ size → States line (Round base size base_rounded top_rounded ie e exact)
     → States written (Round base' size' base_rounded' top_rounded' ie' e' exact') → line ≡ written
 same_round line written base size base' size' base_rounded top_rounded base_rounded' top_rounded' ie ie' e e' exact exact' is also h k =

@@ -40,7 +40,8 @@ tells_known : (origins : Bool) (known given rest : List ℕ) (ended : Bool) (ver
 tells_known false known given rest ended verdict text are end is tells = tells
 tells_known true known given rest ended (No line refusal) text are end is tells = tells
 tells_known true known given rest true (Yes steps roots) text are end is tells =
-    subst (λ (bytes : List ℕ). Tells true bytes (Yes steps roots) text) (sym (are ∙ ap (λ (r : List ℕ). given ++ r) (end refl) ∙ append-nil given)) tells
+    subst (λ (bytes : List ℕ). Tells true bytes (Yes steps roots) text) (sym
+    (are ∙ ap (λ (r : List ℕ). given ++ r) (end refl) ∙ append-nil given)) tells
 tells_known true known given rest false (Yes steps roots) text are end is tells = absurd is
 
 told_known : (origins why : Bool) (known given rest : List ℕ) (ended : Bool) (verdict : Verdict) (text : List ℕ) → known ≡ given ++ rest
@@ -61,10 +62,18 @@ told_known origins true known given rest ended (No line refusal) text are end is
 -- what was printed for an input
 printed : (origins why : Bool) (left rest : Option (List ℕ)) (given : List ℕ) (ended : Bool) (verdict : Verdict) (text : List ℕ)
     → Consumes left rest given
-    → (ended ≡ true → (xs : List ℕ) → rest ≡ Some xs → xs ≡ []) → IsAnswerOf given ended (Ok verdict) → IsTold origins why given ended verdict text
+    → (ended ≡ true → (xs : List ℕ) → rest ≡ Some xs → xs ≡ []) → IsAnswerOf given ended (Ok verdict)
+    → IsTold origins why given ended verdict text
     → PrintsVerdict origins why left text (verdict_status verdict)
-printed origins why None rest given ended verdict text gives all answer tells =
-    (given, tt, verdict, verdict_given given ended verdict answer, told_known origins why given given [] ended verdict text (sym (append-nil given)) (λ e. refl) answer.verdict tells, refl)
+printed origins why None rest given ended verdict text gives all answer tells = (
+  given,
+  tt,
+  verdict,
+  verdict_given given ended verdict answer,
+  told_known origins why given given [] ended verdict text
+      (sym (append-nil given)) (λ e. refl) answer.verdict tells,
+  refl,
+)
 printed origins why (Some bytes) None given ended verdict text gives all answer tells = absurd gives
 printed origins why (Some bytes) (Some rest) given ended verdict text gives all answer tells =
     let end = λ (e : ended ≡ true). all e rest refl in (
@@ -76,26 +85,32 @@ printed origins why (Some bytes) (Some rest) given ended verdict text gives all 
       refl,
     )
 
-done_prints : (origins why : Bool) (left before after : Option (List ℕ)) (result : Result ℕ Fault) → IsInputDone origins why left before after result
+done_prints : (origins why : Bool) (left before after : Option (List ℕ)) (result : Result ℕ Fault)
+    → IsInputDone origins why left before after result
     → IfOk result (λ status. (text : List ℕ) × PrintsVerdict origins why left text status × Appends before after text)
 done_prints origins why left before after (Ok status) done =
     let w = done.written in (
       w.2,
-      subst (PrintsVerdict origins why left w.2) (sym w.5) (printed origins why left done.rest done.given done.ended w.0 w.2 done.gives done.all_given w.1 w.3),
+      subst (PrintsVerdict origins why left w.2) (sym w.5) (printed origins why left done.rest done.given done.ended w.0 w.2
+          done.gives done.all_given w.1 w.3),
       w.4,
     )
 done_prints origins why left before after (Err fault) done = tt
 
 -- the same of an input that was opened
-pub input_prints : {R : Type 0} (origins why : Bool) (remaining : R → Option (List ℕ)) (input : Option R) (reader : R) (before after : Option (List ℕ)) (result : Result ℕ Fault)
+pub input_prints : {R : Type 0} (origins why : Bool) (remaining : R → Option (List ℕ)) (input : Option R) (reader : R)
+    (before after : Option (List ℕ)) (result : Result ℕ Fault)
     → input ≡ Some reader → IsInputDone origins why (remaining reader) before after result
-    → IfOk result (λ status. (text : List ℕ) × PrintsVerdict origins why (known_bytes remaining input) text status × Appends before after text)
+    → IfOk result (λ status. (text : List ℕ) × PrintsVerdict origins why (known_bytes remaining input)
+    text status × Appends before after text)
 input_prints {R} origins why remaining input reader before after result is done =
-    subst (λ (o : Option R). IfOk result (λ status. (text : List ℕ) × PrintsVerdict origins why (known_bytes remaining o) text status × Appends before after text))
+    subst (λ (o : Option R). IfOk result (λ status. (text : List ℕ) × PrintsVerdict origins why (known_bytes remaining o) text status
+    × Appends before after text))
     (sym is) (done_prints origins why (remaining reader) before after result done)
 
 -- what was printed where there is no verdict
-done_stops : (origins why : Bool) (left before after : Option (List ℕ)) (result : Result ℕ Fault) → IsInputDone origins why left before after result
+done_stops : (origins why : Bool) (left before after : Option (List ℕ)) (result : Result ℕ Fault)
+    → IsInputDone origins why left before after result
     → IfErr result (λ fault. (written : List ℕ) × BeginsVerdict origins why left written × Appends before after written)
 done_stops origins why left before after (Ok status) done = tt
 done_stops origins why left before after (Err faults.Read) done = ([], inl refl, done.written.1)
@@ -108,23 +123,28 @@ done_stops origins why left before after (Err faults.BadWords) done = absurd don
 done_stops origins why left before after (Err faults.BadWord) done = absurd done.written
 done_stops origins why left before after (Err faults.BadRequest) done = absurd done.written
 
-pub input_stops : {R : Type 0} (origins why : Bool) (remaining : R → Option (List ℕ)) (input : Option R) (reader : R) (before after : Option (List ℕ)) (result : Result ℕ Fault)
+pub input_stops : {R : Type 0} (origins why : Bool) (remaining : R → Option (List ℕ)) (input : Option R) (reader : R)
+    (before after : Option (List ℕ)) (result : Result ℕ Fault)
     → input ≡ Some reader → IsInputDone origins why (remaining reader) before after result
-    → IfErr result (λ fault. (written : List ℕ) × BeginsVerdict origins why (known_bytes remaining input) written × Appends before after written)
+    → IfErr result (λ fault. (written : List ℕ) × BeginsVerdict origins why (known_bytes remaining input) written
+    × Appends before after written)
 input_stops {R} origins why remaining input reader before after result is done =
-    subst (λ (o : Option R). IfErr result (λ fault. (written : List ℕ) × BeginsVerdict origins why (known_bytes remaining o) written × Appends before after written))
+    subst (λ (o : Option R). IfErr result (λ fault. (written : List ℕ) × BeginsVerdict origins why (known_bytes remaining o) written
+    × Appends before after written))
     (sym is) (done_stops origins why (remaining reader) before after result done)
 
 few_status : (verdict : Verdict) → verdict_status verdict ≤ 1
 few_status (Yes steps roots) = omega arith
 few_status (No line refusal) = omega arith
 
-pub done_ok : (origins why : Bool) (left before after : Option (List ℕ)) (result : Result ℕ Fault) → IsInputDone origins why left before after result
+pub done_ok : (origins why : Bool) (left before after : Option (List ℕ)) (result : Result ℕ Fault)
+    → IsInputDone origins why left before after result
     → IfOk result (λ status. status ≤ 1)
 done_ok origins why left before after (Ok status) done = let few = few_status done.written.0 in let is = done.written.5 in omega arith
 done_ok origins why left before after (Err fault) done = tt
 
-pub done_err : (origins why : Bool) (left before after : Option (List ℕ)) (result : Result ℕ Fault) → IsInputDone origins why left before after result
+pub done_err : (origins why : Bool) (left before after : Option (List ℕ)) (result : Result ℕ Fault)
+    → IsInputDone origins why left before after result
     → IfErr result (λ fault. status_of fault ≡ 3)
 done_err origins why left before after (Ok status) done = tt
 done_err origins why left before after (Err faults.Read) done = refl

@@ -11,8 +11,10 @@ shown (Ok s) P A text p zero a = (text, (p, zero), a)
 shown (Err e) P A text p zero a = tt
 
 -- what was shown for an input that was opened
-pub shows_opened : {R : Type 0} (remaining : R → Option (List ℕ)) (input : Option R) (reader : R) (before after : Option (List ℕ)) (result : Result ℕ Fault) → input ≡ Some reader
+pub shows_opened : {R : Type 0} (remaining : R → Option (List ℕ)) (input : Option R) (reader : R) (before after : Option (List ℕ))
+    (result : Result ℕ Fault) → input ≡ Some reader
     → IfOk result (λ status. (text : List ℕ) × ShowsCheck (remaining reader) text status × Appends before after text)
     → IfOk result (λ status. (text : List ℕ) × ShowsCheck (known_bytes remaining input) text status × Appends before after text)
 shows_opened {R} remaining input reader before after result is shown =
-    subst (λ (o : Option R). IfOk result (λ status. (text : List ℕ) × ShowsCheck (known_bytes remaining o) text status × Appends before after text)) (sym is) shown
+    subst (λ (o : Option R). IfOk result (λ status. (text : List ℕ) × ShowsCheck (known_bytes remaining o) text status
+    × Appends before after text)) (sym is) shown

@@ -1,5 +1,6 @@
 -- A page more, with a write in one granule.
-use Rattle.std.proofs.Common.{◌≡◌, ℕ, ◌+◌, ◌/◌, ◌%◌, ◌^◌, ◌<◌, ◌≤◌, Bool, List, [], ◌∷◌, ◌++◌, length, get_or, set, All, Option, None, sym, ap, subst, ◌∙◌, arith}
+use Rattle.std.proofs.Common.{◌≡◌, ℕ, ◌+◌, ◌/◌, ◌%◌, ◌^◌, ◌<◌, ◌≤◌, Bool, List, [], ◌∷◌, ◌++◌, length, get_or, set, All, Option, None, sym}
+use Rattle.std.proofs.Common.{ap, subst, ◌∙◌, arith}
 use Rattle.std.specs.FinMap as map
 use Rattle.std.specs.FinMap.{from_entries}
 use Rattle.std.proofs.lemmas.List.{get_or_push}
@@ -66,7 +67,8 @@ module _ (pages : List Page) (old new : ℕ → Option ℕ) (index g : ℕ) (fir
       → AreStored (contents_of pages) → AreStored (contents_of (pages ++ page ∷ []))
   AreStored-add in_memory inside fits small is_for stored =
       subst (λ bs. AreStored (contents_of bs)) then_written
-      (AreStored-write (pages ++ first ∷ []) new index g first read_first page tag byte_index bytes code added.written in_memory inside fits small is_for
+      (AreStored-write (pages ++ first ∷ []) new index g first read_first page tag byte_index bytes code added.written
+      in_memory inside fits small is_for
       (subst AreStored (sym contents_of-first) stored))
 
   pub len-add : map.len (contents_of (pages ++ page ∷ [])) ≡ map.len (contents_of pages) + 1

@@ -1,5 +1,6 @@
 -- What chains of numbers tell, and how a number is put behind the others.
-use Rattle.std.proofs.Common.{◌≡◌, ◌≢◌, ℕ, suc, ◌+◌, ◌<◌, ◌≤◌, true, false, eqb, List, [], ◌∷◌, ◌++◌, get_or, set, length, refl, sym, ap, subst, ◌∙◌, arith}
+use Rattle.std.proofs.Common.{◌≡◌, ◌≢◌, ℕ, suc, ◌+◌, ◌<◌, ◌≤◌, true, false, eqb, List, [], ◌∷◌, ◌++◌, get_or, set, length, refl, sym, ap}
+use Rattle.std.proofs.Common.{subst, ◌∙◌, arith}
 use Rattle.std.proofs.lemmas.Bool.{eqb-true}
 use Rattle.std.proofs.lemmas.List.{get_or-set_same, get_or-set_other, get_or_push, get_or_append_left}
 use Rattle.std.proofs.lemmas.Bool.Decides.{nat_tests}
@@ -85,14 +86,16 @@ module _ (numbers : List ℕ) (mask limit : ℕ) (heads nexts new_heads new_next
   AreChains-step = record {
     from_heads = λ other.
         elim (eqb other place) as (λ b. eqb other place ≡ b → IsLast numbers mask other (limit + 1) (get_or new_heads other 0)) [
-          | true ↦ λ same. subst (λ p. IsLast numbers mask p (limit + 1) (get_or new_heads p 0)) (sym (eqb-true other place same)) head_of_own
+          | true ↦ λ same. subst (λ p. IsLast numbers mask p (limit + 1) (get_or new_heads p 0))
+              (sym (eqb-true other place same)) head_of_own
           | false ↦ λ apart. head_of_other other (λ is. grind (arith, nat_tests))
         ] refl;
     from_nexts = λ index lt.
         elim (eqb index limit)
         as (λ b. eqb index limit ≡ b → IsLast numbers mask (place_of mask (get_or numbers index 0)) index (get_or new_nexts index 0)) [
           | true ↦ λ same.
-              subst (λ i. IsLast numbers mask (place_of mask (get_or numbers i 0)) i (get_or new_nexts i 0)) (sym (eqb-true index limit same))
+              subst (λ i. IsLast numbers mask (place_of mask (get_or numbers i 0)) i (get_or new_nexts i 0))
+              (sym (eqb-true index limit same))
               (rw (next, ← its_place) (chains.from_heads place))
           | false ↦ λ apart.
               let before : index < limit = grind (arith, nat_tests) in
@@ -105,7 +108,8 @@ module _ (numbers nexts : List ℕ) (mask : ℕ) (heads : List ℕ) (number plac
     (in_range : place < length heads) (as_many : length nexts ≡ length numbers)
     (chains : AreChains numbers mask (length numbers) heads nexts) where
   pub AreChains-push :
-      AreChains (numbers ++ number ∷ []) mask (length numbers + 1) (set heads place (length numbers + 1)) (nexts ++ get_or heads place 0 ∷ [])
+      AreChains (numbers ++ number ∷ []) mask (length numbers + 1) (set heads place (length numbers + 1))
+      (nexts ++ get_or heads place 0 ∷ [])
   AreChains-push =
       let before : AreChains (numbers ++ number ∷ []) mask (length numbers) heads nexts =
       AreChains-alike numbers (numbers ++ number ∷ []) mask (length numbers) heads nexts

@@ -91,7 +91,14 @@ module _ (pages : List Page) (page : Page) (number index : ℕ)
       has i lt =
           elim (eqb number (page_number_at (pages ++ page ∷ []) i))
           as (λ b. eqb number (page_number_at (pages ++ page ∷ []) i) ≡ b → new (page_number_at (pages ++ page ∷ []) i) ≡ Some i) [
-            | true ↦ λ same. told_own _ same ∙ ap Some (grind (arith, length-push, last, absent i, page_number_at-before i, eqb-true _ _ same))
+            | true ↦ λ same. told_own _ same ∙ ap Some (grind (
+              arith,
+              length-push,
+              last,
+              absent i,
+              page_number_at-before i,
+              eqb-true _ _ same,
+            ))
             | false ↦ λ differs.
                 let before : i < length pages = grind (arith, nat_tests, length-push, last, page_number_at-last) in
                 told_other _ differs ∙ ap old (page_number_at-before i before) ∙ known.has i before

@@ -1,5 +1,6 @@
 -- What a search finds among entries whose granules rise, and what an edit at that index does.
-use Rattle.std.proofs.Common.{◌≡◌, ℕ, ◌+◌, ◌-◌, ◌<◌, ◌≤◌, List, [], ◌∷◌, length, get_or, set, take, drop, Some, None, false, Result, Ok, Err, IfOk, IfErr, OnOk, OnErr, is_ok, Bool, true, cond, sym, refl, ap, subst, ◌∙◌, arith}
+use Rattle.std.proofs.Common.{◌≡◌, ℕ, ◌+◌, ◌-◌, ◌<◌, ◌≤◌, List, [], ◌∷◌, length, get_or, set, take, drop, Some, None, false, Result, Ok}
+use Rattle.std.proofs.Common.{Err, IfOk, IfErr, OnOk, OnErr, is_ok, Bool, true, cond, sym, refl, ap, subst, ◌∙◌, arith}
 use Rattle.std.specs.FinMap as map
 use Rattle.std.specs.List.{insert}
 use Rattle.std.specs.List.Sorted.{IsSearchInRange, IsBinarySearchResult, IsNonDecreasingBy, IsStrictlyIncreasing}
@@ -36,8 +37,15 @@ module _ (l : List Listed) (far : RisesFar l) (k : ℕ) where
       grind (arith, nat_tests))
 
   -- a binary search ends at the granule's entry, or at the gap for it
-  pub searched : (r : Result ℕ ℕ) → IsSearchInRange r (length l) → IsBinarySearchResult (λ listed. nat_cmp listed.granule k) l r → record { found : IfOk r (IsEntryAt l k); absent : IfErr r (IsGapFor l k) }
-  searched (Ok index) in_range equal = record { found = record { in_range = in_range; has_granule = granule_at-get_or l index nothing in_range ∙ ranked _ k _ (sym (equal nothing)) }; absent = tt }
+  pub searched : (r : Result ℕ ℕ) → IsSearchInRange r (length l) → IsBinarySearchResult (λ listed. nat_cmp listed.granule k) l r
+      → record { found : IfOk r (IsEntryAt l k); absent : IfErr r (IsGapFor l k) }
+  searched (Ok index) in_range equal = record {
+    found = record {
+      in_range = in_range;
+      has_granule = granule_at-get_or l index nothing in_range ∙ ranked _ k _ (sym (equal nothing));
+    };
+    absent = tt;
+  }
   searched (Err index) in_range parted =
       let le_length : index ≤ length l = in_range in
       record {
@@ -65,22 +73,29 @@ module _ (l : List Listed) (rising : IsRising l) (k index : ℕ) (at : IsEntryAt
   get_at d = get-contents_of l k ∙ found_present l k index d at none_before_at
 
   -- the entry that is read there is the granule's, and says what stands in it
-  pub read_at : (x : Listed) → x ≡ get_or l index x → record { granule_is : x.granule ≡ k; entry_is : map.get (contents_of l) k ≡ Some (entry_of x) }
+  pub read_at : (x : Listed) → x ≡ get_or l index x → record {
+    granule_is : x.granule ≡ k;
+    entry_is : map.get (contents_of l) k ≡ Some (entry_of x);
+  }
   read_at x read = record {
     granule_is = ap (λ (listed : Listed). listed.granule) read ∙ sym (granule_at-get_or l index x at.in_range) ∙ at.has_granule;
     entry_is = get_at x ∙ ap (λ (listed : Listed). Some (entry_of listed)) (sym read);
   }
 
 -- a number between those below it and those above it keeps numbers rising
-rising_insert : (gs : List ℕ) (k index : ℕ) → IsStrictlyIncreasing gs → index ≤ length gs → ((i : ℕ) → i < index → get_or gs i 0 < k) → ((i : ℕ) → index ≤ i → i < length gs → k < get_or gs i 0) → IsStrictlyIncreasing (insert gs index k)
+rising_insert : (gs : List ℕ) (k index : ℕ) → IsStrictlyIncreasing gs → index ≤ length gs → ((i : ℕ) → i < index → get_or gs i 0 < k)
+    → ((i : ℕ) → index ≤ i → i < length gs → k < get_or gs i 0) → IsStrictlyIncreasing (insert gs index k)
 rising_insert gs k index rising in_range below above i lt =
     let new = insert gs index k in
     let longer : length new ≡ length gs + 1 = length-insert gs index k in_range in
     let lower : (i : ℕ) → i < index → get_or new i 0 ≡ get_or gs i 0 = λ i before. get_or-insert_below gs index k 0 i before in_range in
     let here : (i : ℕ) → i ≡ index → get_or new i 0 ≡ k = λ i is. rw is (get_or-insert_at gs index k 0 in_range) in
-    let higher : (i : ℕ) → index ≤ i → get_or new (i + 1) 0 ≡ get_or gs i 0 = λ i after. get_or-insert_above gs index k 0 i after in_range in
-    let moved : index < i → get_or new i 0 ≡ get_or gs (i - 1) 0 = λ after. subst (λ q. get_or new q 0 ≡ get_or gs (i - 1) 0) {x = i - 1 + 1} (omega arith) (higher (i - 1) (omega arith)) in
-    let step : index < i → get_or gs (i - 1) 0 < get_or gs i 0 = λ after. subst (λ q. get_or gs (i - 1) 0 < get_or gs q 0) {x = i - 1 + 1} (omega arith) (rising (i - 1) (omega arith)) in
+    let higher : (i : ℕ) → index ≤ i → get_or new (i + 1) 0 ≡ get_or gs i 0 =
+    λ i after. get_or-insert_above gs index k 0 i after in_range in
+    let moved : index < i → get_or new i 0 ≡ get_or gs (i - 1) 0 = λ after. subst (λ q. get_or new q 0 ≡ get_or gs (i - 1) 0)
+    {x = i - 1 + 1} (omega arith) (higher (i - 1) (omega arith)) in
+    let step : index < i → get_or gs (i - 1) 0 < get_or gs i 0 = λ after. subst (λ q. get_or gs (i - 1) 0 < get_or gs q 0) {x = i - 1 + 1}
+    (omega arith) (rising (i - 1) (omega arith)) in
     grind (arith, lower i, lower (i + 1), here i, here (i + 1), higher i, moved, step, rising i, below i, above i)
 
 -- a granule that has a gap was never put
@@ -89,17 +104,20 @@ get_in_gap l k index gap = get-contents_of l k ∙ found_absent l k (λ j lt sam
 
 module _ (l : List Listed) (x : Listed) (index : ℕ) where
   -- an entry at the index of the granule's own changes that granule alone
-  pub contents_of-set : IsRising l → IsEntryAt l x.granule index → contents_of (set l index x) ≡ map.insert (contents_of l) x.granule (entry_of x)
+  pub contents_of-set : IsRising l → IsEntryAt l x.granule index → contents_of (set l index x)
+      ≡ map.insert (contents_of l) x.granule (entry_of x)
   contents_of-set rising at = contents_of-put l (set l index x) x (found-set l x index at (none_before_at l rising x.granule index at))
 
   -- so does a new entry in its gap
   pub contents_of-insert : IsGapFor l x.granule index → contents_of (insert l index x) ≡ map.insert (contents_of l) x.granule (entry_of x)
-  contents_of-insert gap = contents_of-put l (insert l index x) x (found-insert l x index (λ j lt same. omega (arith, gap.lower_before j lt)))
+  contents_of-insert gap =
+      contents_of-put l (insert l index x) x (found-insert l x index (λ j lt same. omega (arith, gap.lower_before j lt)))
 
   -- the first keeps each granule
   pub IsRising-set : IsRising l → IsEntryAt l x.granule index → IsRising (set l index x)
   IsRising-set rising at =
-      let same : granules_of (set l index x) ≡ granules_of l = map-set_same (λ listed. listed.granule) l index x nothing (sym at.has_granule ∙ granule_at-get_or l index nothing at.in_range) in
+      let same : granules_of (set l index x) ≡ granules_of l = map-set_same (λ listed. listed.granule) l index x nothing
+      (sym at.has_granule ∙ granule_at-get_or l index nothing at.in_range) in
       subst IsStrictlyIncreasing (sym same) rising
 
   granules_of-insert : granules_of (insert l index x) ≡ insert (granules_of l) index x.granule
@@ -112,16 +130,19 @@ module _ (l : List Listed) (x : Listed) (index : ℕ) where
   pub IsRising-insert : IsRising l → IsGapFor l x.granule index → IsRising (insert l index x)
   IsRising-insert rising gap =
       let lengths : length (granules_of l) ≡ length l = length-map l (λ listed. listed.granule) in
-      subst IsStrictlyIncreasing (sym granules_of-insert) (rising_insert (granules_of l) x.granule index rising (omega (arith, gap.in_range)) gap.lower_before (λ i le lt. gap.higher_after i le (omega arith)))
+      subst IsStrictlyIncreasing (sym granules_of-insert) (rising_insert (granules_of l) x.granule index rising
+      (omega (arith, gap.in_range)) gap.lower_before (λ i le lt. gap.higher_after i le (omega arith)))
 
   -- and both keep each entry a granule's
   pub AllStored-insert : AllStored l → IsStored x.granule (entry_of x) → AllStored (insert l index x)
   AllStored-insert all stored =
       let Stored : Listed → Type 0 = λ listed. IsStored listed.granule (entry_of listed) in
-      All-append Stored (take index l) (x ∷ drop index l) (All-take Stored index l all) (All-cons Stored x (drop index l) stored (All-drop Stored index l all))
+      All-append Stored (take index l) (x ∷ drop index l) (All-take Stored index l all)
+      (All-cons Stored x (drop index l) stored (All-drop Stored index l all))
 
 -- what holds of a list that grew, and of one that didn't, holds of the list after a try to grow
-pub tried : (P : List Listed → Type 0) (grew : Bool) (after grown before : List Listed) → after ≡ cond grew grown before → P grown → P before → P after
+pub tried : (P : List Listed → Type 0) (grew : Bool) (after grown before : List Listed) → after ≡ cond grew grown before
+    → P grown → P before → P after
 tried P grew after grown before is p q = subst P (sym is) (elim grew as (λ b. P (cond b grown before)) [ true ↦ p | false ↦ q ])
 
 -- a fact for an `Ok`

@@ -1,5 +1,6 @@
 -- Where the next granule that was put is, by its page.
-use Rattle.std.proofs.Common.{◌≡◌, ◌≢◌, ℕ, ◌+◌, ◌*◌, ◌/◌, ◌%◌, ◌^◌, ◌<◌, ◌≤◌, List, [], ◌∷◌, get_or, Option, Some, None, sym, refl, ap, subst, ◌∙◌, arith}
+use Rattle.std.proofs.Common.{◌≡◌, ◌≢◌, ℕ, ◌+◌, ◌*◌, ◌/◌, ◌%◌, ◌^◌, ◌<◌, ◌≤◌, List, [], ◌∷◌, get_or, Option, Some, None, sym, refl, ap}
+use Rattle.std.proofs.Common.{subst, ◌∙◌, arith}
 use Rattle.std.specs.Prelude.{MatchOption}
 use Rattle.std.specs.FinMap as map
 use Rattle.std.proofs.lemmas.List.Elements.{All-get_or}
@@ -18,7 +19,8 @@ put_below m stored q put = by_entry (map.get m q) refl
     by_entry (Some entry) is = (stored q entry is).in_memory
 
 -- what is next after a stretch in which none was put
-pub next_after : (m : Granules) (from to : ℕ) (next : Option ℕ) → from ≤ to → NonePut m from to → IsNextPut m to next → IsNextPut m from next
+pub next_after : (m : Granules) (from to : ℕ) (next : Option ℕ) → from ≤ to → NonePut m from to
+    → IsNextPut m to next → IsNextPut m from next
 next_after m from to None le none after = λ q from_le. grind (arith, none q, after q)
 next_after m from to (Some next) le none after =
     (omega (arith, after.0), after.1, λ q from_le lt. grind (arith, none q, after.2 q))
@@ -44,8 +46,12 @@ module _ (pages : List Page) where
         let small : first < 16 = grind (arith, found.1, past) in
         let own : get_or (slots_of page) first None ≡ map.get (contents_of pages) (16 * n + first) =
         let index_is : first ≡ (16 * n + first) % 16 = omega arith in
-        ap (λ i. get_or (slots_of page) i None) index_is ∙ sym (get_own (16 * n + first) (omega arith)) in
-        (omega (arith, found.0), λ is. found.1 (own ∙ is), λ q le lt. get_own q (omega arith) ∙ found.2 (q % 16) (omega arith) (omega arith))
+        ap (λ i. get_or (slots_of page) i None) index_is ∙ sym (get_own (16 * n + first) (omega arith)) in (
+          omega (arith, found.0),
+          λ is. found.1 (own ∙ is),
+          λ q le lt. get_own q (omega arith)
+              ∙ found.2 (q % 16) (omega arith) (omega arith),
+        )
 
 -- a page has a granule that was put, so a number of which none was has no page
 pub absent_from_none_put : (pages : List Page) (directory : ℕ → Option ℕ) → IsDirectory pages directory → EachUsed pages
@@ -59,7 +65,8 @@ absent_from_none_put (first ∷ rest) directory known used n none index lt is =
     let own : n ≡ q / 16 = omega arith in
     let index_is : slot ≡ q % 16 = omega arith in
     ap (λ i. get_or (slots_of page) i None) index_is
-    ∙ sym (get_present pages directory known q index first (record { in_range = lt; has_number = is ∙ own })) ∙ none q (omega arith) (omega arith) in
+    ∙ sym (get_present pages directory known q index first (record { in_range = lt; has_number = is ∙ own }))
+    ∙ none q (omega arith) (omega arith) in
     let past : (slot : ℕ) → 16 ≤ slot → get_or (slots_of page) slot None ≡ None = λ slot large.
     get_or-eq_default (slots_of page) None (let wide = length-slots_of page in omega arith) in
     All-get_or (IsUsed) pages index first lt used (λ slot. grind (arith, inside slot, past slot))

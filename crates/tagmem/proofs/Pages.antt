@@ -14,7 +14,8 @@ use Rattle.std.proofs.lemmas.List.{get_or-set_same, get_or-set_other, length-map
 use Rattle.std.proofs.Math.ListN.{get_or-eq_default}
 use Rattle.tagmem.specs.declared.page.Page.{Page}
 use Rattle.tagmem.specs.Granules.{Entry}
-use Rattle.tagmem.specs.Pages.{slots_of, slot_with, with_slot, entries_from, entries_of, contents_of, page_number_at, numbers_of, IsPageAt, IsAbsent, IsNextPage, IsDirectory}
+use Rattle.tagmem.specs.Pages.{slots_of, slot_with, with_slot, entries_from, entries_of, contents_of, page_number_at, numbers_of, IsPageAt}
+use Rattle.tagmem.specs.Pages.{IsAbsent, IsNextPage, IsDirectory}
 use Rattle.tagmem.specs.Chains.{IsMissing, IsThere}
 use Rattle.tagmem.specs.Regions.{IsLeast}
 use Rattle.tagmem.proofs.Granules.{get-put}
@@ -23,14 +24,16 @@ use Rattle.tagmem.proofs.Slots.{length-slots_with, get_or-slots_with}
 -- a page has 16 slots
 pub length-slots_of : (page : Page) → length (slots_of page) ≡ 16
 length-slots_of page =
-    length-slots_with page.tags page.rows page.codes (page.each_has_tag ∙ sym page.each_has_row) (page.each_has_tag ∙ sym page.each_has_code)
+    length-slots_with page.tags page.rows page.codes (page.each_has_tag ∙ sym page.each_has_row)
+    (page.each_has_tag ∙ sym page.each_has_code)
     ∙ page.each_has_tag
 
 -- a slot of a page is its tag with its bytes and its code
 pub get_or-slots_of : (page : Page) (slot : ℕ)
     → get_or (slots_of page) slot None ≡ slot_with (get_or page.tags slot None) (get_or page.rows slot []) (get_or page.codes slot 0)
 get_or-slots_of page slot =
-    get_or-slots_with page.tags page.rows page.codes slot (page.each_has_tag ∙ sym page.each_has_row) (page.each_has_tag ∙ sym page.each_has_code)
+    get_or-slots_with page.tags page.rows page.codes slot (page.each_has_tag ∙ sym page.each_has_row)
+    (page.each_has_tag ∙ sym page.each_has_code)
 
 -- what a page says of a granule
 abbrev pub in_page : Page → ℕ → Option Entry
@@ -187,7 +190,8 @@ module _ (pages : List Page) (directory : ℕ → Option ℕ) (known : IsDirecto
   absent_from_none number none i lt is = none-some i (sym none ∙ ap directory (sym is) ∙ known.has i lt)
 
   -- what it finds is the page
-  pub found-directory : (number : ℕ) (found : Option ℕ) → found ≡ directory number → MatchOption found (IsAbsent pages number) (IsPageAt pages number)
+  pub found-directory : (number : ℕ) (found : Option ℕ) → found ≡ directory number
+      → MatchOption found (IsAbsent pages number) (IsPageAt pages number)
   found-directory number None is = absent_from_none number (sym is)
   found-directory number (Some index) is = known.right number index (sym is)
 
@@ -225,7 +229,8 @@ get_absent pages q absent = get-contents_of pages q ∙ found_absent pages q abs
 
 -- what a list of their numbers tells of pages
 pub found-numbers : (pages : List Page) (numbers : List ℕ) → numbers ≡ numbers_of pages → (number : ℕ) (found : Option ℕ)
-    → MatchOption found (IsMissing numbers number) (IsThere numbers number) → MatchOption found (IsAbsent pages number) (IsPageAt pages number)
+    → MatchOption found (IsMissing numbers number) (IsThere numbers number)
+    → MatchOption found (IsAbsent pages number) (IsPageAt pages number)
 found-numbers pages numbers same number None missing = λ index lt is.
     subst (λ ns. IsMissing ns number) same missing index (omega (arith, lt, length-map pages (λ (page : Page). page.number))) is
 found-numbers pages numbers same number (Some index) there =

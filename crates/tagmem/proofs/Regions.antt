@@ -1,5 +1,6 @@
 -- What is found in regions, and what becomes of it as they change and are added.
-use Rattle.std.proofs.Common.{◌≡◌, ◌≢◌, ℕ, ◌+◌, ◌*◌, ◌/◌, ◌%◌, ◌^◌, ◌<◌, ◌≤◌, true, false, cond, eqb, List, [], ◌∷◌, ◌++◌, length, get_or, set, map}
+use Rattle.std.proofs.Common.{◌≡◌, ◌≢◌, ℕ, ◌+◌, ◌*◌, ◌/◌, ◌%◌, ◌^◌, ◌<◌, ◌≤◌, true, false, cond, eqb, List, [], ◌∷◌, ◌++◌, length, get_or}
+use Rattle.std.proofs.Common.{set, map}
 use Rattle.std.proofs.Common.{Option, Some, None, sym, refl, ap, ◌∙◌, arith}
 use Rattle.std.specs.Prelude.{MatchOption}
 use Rattle.std.specs.Ordering.{nat_cmp}
@@ -9,7 +10,8 @@ use Rattle.std.specs.BTreeMap as tree
 use Rattle.std.specs.BTreeMap.{BTreeMap, Updates}
 use Rattle.std.proofs.lemmas.Bool.{eqb-true}
 use Rattle.std.proofs.lemmas.Bool.Decides.{nat_tests}
-use Rattle.std.proofs.lemmas.List.{get_or-map, get_or-set_same, get_or-set_other, get_or_push, get_or_append_left, length-append, length-map, map-append, map-set}
+use Rattle.std.proofs.lemmas.List.{get_or-map, get_or-set_same, get_or-set_other, get_or_push, get_or_append_left, length-append}
+use Rattle.std.proofs.lemmas.List.{length-map, map-append, map-set}
 use Rattle.std.proofs.lemmas.List.Elements.{All-append, All-cons, All-get_or, All-nil, All-set}
 use Rattle.std.proofs.lemmas.Option.{none-some, same_Some}
 use Rattle.std.proofs.Math.ListN.{length-set, get_or-eq_default}
@@ -25,7 +27,8 @@ index_at-default : (regions : List Region) (at : ℕ) (d : Region) (place : ℕ)
 index_at-default regions at d place in_range =
     ap (λ kept. index_kept (get_or kept place 0)) (get_or-map kept_in regions at d [] in_range)
 
-pub index_at-there : (regions : List Region) (at : ℕ) (region : Region) (place : ℕ) → at < length regions → region ≡ get_or regions at region
+pub index_at-there : (regions : List Region) (at : ℕ) (region : Region) (place : ℕ) → at < length regions
+    → region ≡ get_or regions at region
     → index_at regions (Some at) place ≡ index_in region place
 index_at-there regions at region place in_range is =
     index_at-default regions at region place in_range ∙ ap (λ r. index_in r place) (sym is)
@@ -171,7 +174,8 @@ module _ (regions : List Region) (old new : BTreeMap ℕ ℕ) (known : AreApart 
   told_other q differs = told q ∙ ap (λ b. cond b (Some at) (tree.get nat_cmp old q)) differs
 
   -- it is the new one or an old one
-  cases : (P : Type 0) (n r : ℕ) → tree.get nat_cmp new n ≡ Some r → (n ≡ number / 16 → r ≡ at → P) → (tree.get nat_cmp old n ≡ Some r → P) → P
+  cases : (P : Type 0) (n r : ℕ) → tree.get nat_cmp new n ≡ Some r → (n ≡ number / 16 → r ≡ at → P)
+      → (tree.get nat_cmp old n ≡ Some r → P) → P
   cases P n r gets if_new if_old =
       elim (eqb (number / 16) n) as (λ b. eqb (number / 16) n ≡ b → P) [
         | true ↦ λ same. if_new (sym (eqb-true (number / 16) n same)) (same_Some _ _ (sym gets ∙ told_own n same))
@@ -223,14 +227,17 @@ module _ (regions : List Region) (old new : BTreeMap ℕ ℕ) (known : AreApart 
             (λ was. omega (arith, long, known.in_range n r was));
         apart = λ n m r gets gets'.
             cases (n ≡ m) n r gets
-            (λ n_is r_is. cases (n ≡ m) m r gets' (λ m_is _. n_is ∙ sym m_is) (λ was. absurd (omega (arith, r_is, last, known.in_range m r was))))
-            (λ was. cases (n ≡ m) m r gets' (λ m_is r_is. absurd (omega (arith, r_is, last, known.in_range n r was))) (λ was'. known.apart n m r was was'));
+            (λ n_is r_is. cases (n ≡ m) m r gets' (λ m_is _. n_is ∙ sym m_is) (λ was. absurd
+            (omega (arith, r_is, last, known.in_range m r was))))
+            (λ was. cases (n ≡ m) m r gets' (λ m_is r_is. absurd (omega (arith, r_is, last, known.in_range n r was)))
+            (λ was'. known.apart n m r was was'));
         small = λ n r gets. cases (n < 2 ^ 60) n r gets (λ n_is r_is. omega (arith, n_is, in_memory)) (λ was. known.small n r was);
       }
 
   pub EachHasPage-push : EachHasPage regions → EachHasPage (regions ++ region ∷ [])
   EachHasPage-push used =
-      All-append HasPage regions (region ∷ []) used (All-cons HasPage region [] (HasPage-with region (number % 16) index own) (All-nil HasPage))
+      All-append HasPage regions (region ∷ []) used (All-cons HasPage region []
+      (HasPage-with region (number % 16) index own) (All-nil HasPage))
 
 -- nothing is found of a region below the least that stands from another on
 pub index_of-below : (regions : List Region) (by_number : BTreeMap ℕ ℕ) (from least : ℕ)
@@ -247,7 +254,8 @@ pub least-later : (find : ℕ → Option ℕ) (from region : ℕ) → ((q : ℕ)
     → from / 16 + 1 ≤ region → ((q : ℕ) → from / 16 + 1 ≤ q / 16 → q / 16 < region → find q ≡ None)
     → (((q : ℕ) → 16 * region + 0 ≤ q → q < 16 * region + 16 → find q ≡ None) → ⊥)
     → (o : Option ℕ)
-    → MatchOption o ((q : ℕ) → 16 * region + 0 ≤ q → q < 16 * region + 16 → find q ≡ None) (λ first. IsLeast find (16 * region + 0) (Some first))
+    → MatchOption o ((q : ℕ) → 16 * region + 0 ≤ q → q < 16 * region + 16 → find q ≡ None)
+    (λ first. IsLeast find (16 * region + 0) (Some first))
     → IsLeast find from o
 least-later find from region none above between some None empty = absurd (some empty)
 least-later find from region none above between some (Some least) found =

@@ -26,7 +26,8 @@ get_or-slots_with (tag ∷ tags) (row ∷ rows) (code ∷ codes) (suc i) same eq
     get_or-slots_with tags rows codes i (omega arith) (omega arith)
 
 -- a tag set with its bytes and its code is one of them set
-pub slots_with-set : (tags : List (Option Bool)) (rows : List (List ℕ)) (codes : List ℕ) (i : ℕ) (tag : Option Bool) (row : List ℕ) (code : ℕ)
+pub slots_with-set : (tags : List (Option Bool)) (rows : List (List ℕ)) (codes : List ℕ) (i : ℕ)
+    (tag : Option Bool) (row : List ℕ) (code : ℕ)
     → slots_with (set tags i tag) (set rows i row) (set codes i code) ≡ set (slots_with tags rows codes) i (slot_with tag row code)
 slots_with-set [] rows codes i tag row code = refl
 slots_with-set (t ∷ tags) [] codes zero tag row code = refl

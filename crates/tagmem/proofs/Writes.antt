@@ -8,7 +8,8 @@ use Rattle.std.proofs.lemmas.List.{get_or-map, get_or-set_same}
 use Rattle.std.proofs.lemmas.List.Elements.{All-set}
 use Rattle.std.proofs.lemmas.Option.{none-some, same_Some}
 use Rattle.tagmem.specs.declared.page.Page.{Page}
-use Rattle.tagmem.specs.Granules.{Entry, Granules, blank, entry_at, bytes_at, overwritten, with_write, HasRoom, IsCodeFor, IsStored, AreStored}
+use Rattle.tagmem.specs.Granules.{Entry, Granules, blank, entry_at, bytes_at, overwritten, with_write, HasRoom, IsCodeFor, IsStored}
+use Rattle.tagmem.specs.Granules.{AreStored}
 use Rattle.tagmem.specs.Pages.{slots_of, bytes_in_slot, contents_of, numbers_of, IsUsed, EachUsed, IsPageAt, IsDirectory}
 use Rattle.tagmem.proofs.Granules.{get-put, len-put, IsStored-overwritten, IsStored-entry_at}
 use Rattle.tagmem.proofs.Pages.{length-slots_of, get_present, contents_of-set}
@@ -49,7 +50,8 @@ pub IsUsed-written : (old new : Page) (slot : ℕ) (tag : Bool) (byte_index : �
     → slot < 16 → IsWritten old new slot tag byte_index bytes code → IsUsed new
 IsUsed-written old new slot tag byte_index bytes code small written none =
     let wide = length-slots_of old in
-    none-some _ (sym (none slot) ∙ ap (λ slots. get_or slots slot None) written.slots ∙ get_or-set_same (slots_of old) slot _ None (omega arith))
+    none-some _ (sym (none slot) ∙ ap (λ slots. get_or slots slot None) written.slots
+    ∙ get_or-set_same (slots_of old) slot _ None (omega arith))
 
 module _ (pages : List Page) (directory : ℕ → Option ℕ) (index g : ℕ) (first : Page)
     (read : IsRead pages directory index g first) where

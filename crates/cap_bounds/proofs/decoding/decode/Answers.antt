@@ -23,7 +23,8 @@ returns-then-cut_exponent-le-LAST_CORRECTED_EXPONENT-clause-top c =
     ∙ decoded_top c.args.word.0 s.result.cut_exponent s.result.b s.result.span c.address.result raw
     s.ensures.cut_exponent s.ensures.b s.ensures.span c.address.ensures refl
 
-pub returns-then-cut_exponent-le-LAST_CORRECTED_EXPONENT-clause-length : goal.returns-then-cut_exponent-le-LAST_CORRECTED_EXPONENT-clause-length
+pub returns-then-cut_exponent-le-LAST_CORRECTED_EXPONENT-clause-length :
+    goal.returns-then-cut_exponent-le-LAST_CORRECTED_EXPONENT-clause-length
 returns-then-cut_exponent-le-LAST_CORRECTED_EXPONENT-clause-length c =
     let s = c.scale_of-cut_exponent in
     let raw = raw_base_at s.result.cut_exponent s.result.b c.address.result in
@@ -48,7 +49,8 @@ returns-else-cut_exponent-le-LAST_CORRECTED_EXPONENT-clause-top c =
     ∙ decoded_top c.args.word.0 s.result.cut_exponent s.result.b s.result.span c.address.result raw
     s.ensures.cut_exponent s.ensures.b s.ensures.span c.address.ensures refl
 
-pub returns-else-cut_exponent-le-LAST_CORRECTED_EXPONENT-clause-length : goal.returns-else-cut_exponent-le-LAST_CORRECTED_EXPONENT-clause-length
+pub returns-else-cut_exponent-le-LAST_CORRECTED_EXPONENT-clause-length :
+    goal.returns-else-cut_exponent-le-LAST_CORRECTED_EXPONENT-clause-length
 returns-else-cut_exponent-le-LAST_CORRECTED_EXPONENT-clause-length c =
     let s = c.scale_of-cut_exponent in
     let raw = raw_base_at s.result.cut_exponent s.result.b c.address.result in

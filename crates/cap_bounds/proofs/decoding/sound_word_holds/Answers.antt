@@ -33,7 +33,8 @@ returns-then-first-last c =
     s.ensures.cut_exponent s.ensures.b s.ensures.span c.address.ensures refl in
     let first = (c.args.address + (2 ^ 64 - c.base_from.result)) % 2 ^ 64 in
     let last = (s.result.span * 2 ^ s.result.cut_exponent % 2 ^ 64 + (2 ^ 64 - 1)) % 2 ^ 64 in
-    let within = bounds_in (base_of w) (length_of w) (top_of w) c.args.address c.args.count first last c.requires.sound.0 c.requires.sound.1 (omega arith)
+    let within = bounds_in (base_of w) (length_of w) (top_of w) c.args.address c.args.count first last c.requires.sound.0
+    c.requires.sound.1 (omega arith)
     c.requires.some (ap (λ x. (c.args.address + (2 ^ 64 - x)) % 2 ^ 64) base) (ap (λ x. (x % 2 ^ 64 + (2 ^ 64 - 1)) % 2 ^ 64) length) in
     (λ is. absurd (false≢true is), λ inside. absurd (omega (arith, (within inside.0 inside.1).0, c.if-first-last.true)))
 
@@ -48,14 +49,17 @@ returns c =
     let base : c.base_from.result ≡ base_of w =
     c.base_from.ensures ∙ decoded_base w s.result.cut_exponent s.result.b s.result.span c.address.result raw
     s.ensures.cut_exponent s.ensures.b s.ensures.span c.address.ensures refl in
-    let some : s.result.span ≤ s.result.span * 2 ^ s.result.cut_exponent = le-mul_of_pos_right s.result.span (pow_pos s.result.cut_exponent) in
+    let some : s.result.span ≤ s.result.span * 2 ^ s.result.cut_exponent =
+    le-mul_of_pos_right s.result.span (pow_pos s.result.cut_exponent) in
     let first = (c.args.address + (2 ^ 64 - c.base_from.result)) % 2 ^ 64 in
     let last = (s.result.span * 2 ^ s.result.cut_exponent % 2 ^ 64 + (2 ^ 64 - 1)) % 2 ^ 64 in
     let first_is = ap (λ x. (c.args.address + (2 ^ 64 - x)) % 2 ^ 64) base in
     let last_is = ap (λ x. (x % 2 ^ 64 + (2 ^ 64 - 1)) % 2 ^ 64) length in
-    let to = in_bounds (base_of w) (length_of w) (top_of w) c.args.address c.args.count first last c.requires.sound.0 c.requires.sound.1 (omega arith)
+    let to = in_bounds (base_of w) (length_of w) (top_of w) c.args.address c.args.count first last c.requires.sound.0
+    c.requires.sound.1 (omega arith)
     c.requires.some (omega (arith, some, length, c.if-span-eq0.false)) first_is last_is c.if-first-last.false in
-    let from = bounds_in (base_of w) (length_of w) (top_of w) c.args.address c.args.count first last c.requires.sound.0 c.requires.sound.1 (omega arith)
+    let from = bounds_in (base_of w) (length_of w) (top_of w) c.args.address c.args.count first last c.requires.sound.0
+    c.requires.sound.1 (omega arith)
     c.requires.some first_is last_is in (
       λ is. to (omega (arith, leb-true _ _ is, c.from.ensures)),
       λ inside. le-leb _ _ (omega (arith, (from inside.0 inside.1).1, c.from.ensures)),

@@ -11,12 +11,15 @@ use Rattle.cap_ops.proofs.AccessLemmas.{IsAllowed-access, in_granule}
 use Rattle.cap_ops.proofs.accesses.access_by.Goals as goal
 
 -- what the tests that all failed leave
-allowed : (authority : Cap) (access : Access) (target : ℕ) (fault : Option OpFault) → FitsSigned w16 access.offset → target ≡ access_address authority.word.0 (cast_signed w16 (cast_unsigned w16 access.offset))
-    → fault ≡ first_of (access_tests authority access.kind access.offset access.size) → fault ≡ None → IsAllowed authority.word.0 target access.size (permission_for access.kind)
+allowed : (authority : Cap) (access : Access) (target : ℕ) (fault : Option OpFault) → FitsSigned w16 access.offset
+    → target ≡ access_address authority.word.0 (cast_signed w16 (cast_unsigned w16 access.offset))
+    → fault ≡ first_of (access_tests authority access.kind access.offset access.size) → fault ≡ None
+    → IsAllowed authority.word.0 target access.size (permission_for access.kind)
 allowed authority access target fault fits at first none =
     let w = authority.word.0 in
     let P : ℕ → Type 0 = λ address. IsAllowed w address access.size (permission_for access.kind) in
-    subst P (sym (at ∙ ap (access_address w) (to_z-of_z w16 access.offset fits))) (IsAllowed-access authority access.kind access.offset access.size (sym first ∙ none))
+    subst P (sym (at ∙ ap (access_address w) (to_z-of_z w16 access.offset fits)))
+    (IsAllowed-access authority access.kind access.offset access.size (sym first ∙ none))
 
 pub returns-in-None-clause-allowed : goal.returns-in-None-clause-allowed
 returns-in-None-clause-allowed g c =

@@ -17,12 +17,14 @@ returns-in-Some-clause-near c =
 pub returns-in-None-clause-stays_within : goal.returns-in-None-clause-stays_within
 returns-in-None-clause-stays_within c =
     let fits : c.args.address < 2 ^ 64 = omega arith in
-    StaysWithin-same c.moved.result _ c.args.source c.moved.ensures (StaysWithin-set_addr c.args.source c.args.address fits (sym c.set_addr_fault.ensures ∙ c.in-None.is))
+    StaysWithin-same c.moved.result _ c.args.source c.moved.ensures (StaysWithin-set_addr c.args.source c.args.address fits
+    (sym c.set_addr_fault.ensures ∙ c.in-None.is))
 
 pub returns-in-None-clause-range : goal.returns-in-None-clause-range
 returns-in-None-clause-range c =
     let fits : c.args.address < 2 ^ 64 = omega arith in
-    NotRepresentable-exact c.args.source c.args.address (Ok c.moved.result) fits (sym c.set_addr_fault.ensures ∙ c.in-None.is, c.moved.ensures)
+    NotRepresentable-exact c.args.source c.args.address (Ok c.moved.result) fits
+    (sym c.set_addr_fault.ensures ∙ c.in-None.is, c.moved.ensures)
 
 pub returns-in-None-clause-moved_so : goal.returns-in-None-clause-moved_so
 returns-in-None-clause-moved_so c =

@@ -6,8 +6,10 @@ use Rattle.cap_ops.proofs.sealing.seal.Goals as goal
 
 pub returns-in-None-clause-stays_within : goal.returns-in-None-clause-stays_within
 returns-in-None-clause-stays_within c =
-    StaysWithin-same c.with_authority_type.result _ c.args.source c.with_authority_type.ensures (StaysWithin-seal c.args.source c.args.authority)
+    StaysWithin-same c.with_authority_type.result _ c.args.source c.with_authority_type.ensures
+    (StaysWithin-seal c.args.source c.args.authority)
 
 pub returns-in-None-clause-sealed_so : goal.returns-in-None-clause-sealed_so
 returns-in-None-clause-sealed_so c =
-    sealed_so c.args.source c.args.authority c.with_authority_type.result (sym c.seal_fault.ensures ∙ c.in-None.is) c.with_authority_type.ensures
+    sealed_so c.args.source c.args.authority c.with_authority_type.result (sym c.seal_fault.ensures ∙ c.in-None.is)
+    c.with_authority_type.ensures

@@ -8,4 +8,5 @@ use Rattle.cap_texts.proofs.cap_lines.put_cap_line.Goals as goal
 pub returns-clause-written : goal.returns-clause-written
 unfolding cap_line
 returns-clause-written c =
-    let all = eight_after (take c.args.at c.args.buffer.now) c.args.name.now (codes " ") (place_spelling c.args.place) (codes " ") (tag_spelling c.args.cap.tag) (codes " ") (hex_digits 32 c.args.cap.word.0) (codes "\n") in cc
+    let all = eight_after (take c.args.at c.args.buffer.now) c.args.name.now (codes " ") (place_spelling c.args.place) (codes " ")
+    (tag_spelling c.args.cap.tag) (codes " ") (hex_digits 32 c.args.cap.word.0) (codes "\n") in cc

@@ -10,4 +10,6 @@ pub returns-clause-written : goal.returns-clause-written
 unfolding cap_lines
 returns-clause-written c =
     let w = c.args.cap.word.0 in
-    let all = four_after (take c.args.at c.args.buffer.now) (cap_line c.args.name.now c.args.place c.args.cap) (perms_line c.args.name.now (perm_view_of w)) (type_line c.args.name.now (otype_of w)) (bounds_line c.args.name.now (codes " bounds ") (base_of w) (top_of w)) in cc
+    let all = four_after (take c.args.at c.args.buffer.now) (cap_line c.args.name.now c.args.place c.args.cap)
+    (perms_line c.args.name.now (perm_view_of w)) (type_line c.args.name.now (otype_of w))
+    (bounds_line c.args.name.now (codes " bounds ") (base_of w) (top_of w)) in cc

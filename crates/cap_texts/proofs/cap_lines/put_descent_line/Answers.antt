@@ -6,4 +6,6 @@ use Rattle.cap_texts.proofs.cap_lines.put_descent_line.Goals as goal
 
 pub returns-clause-written : goal.returns-clause-written
 unfolding descent_line
-returns-clause-written c = let all = four_after (take c.args.at c.args.buffer.now) c.args.name.now (codes " origin ") (place_spelling c.args.root) (codes "\n") in cc
+returns-clause-written c =
+    let all = four_after (take c.args.at c.args.buffer.now) c.args.name.now (codes " origin ") (place_spelling c.args.root) (codes "\n") in
+    cc

@@ -12,5 +12,7 @@ pub returns-clause-written : goal.returns-clause-written
 unfolding bounds_lines
 returns-clause-written c =
     let w = c.args.word.0 in
-    let all = four_after (take c.args.at c.args.buffer.now) (text_line (codes "address") (hex_digits 16 (address_of w))) (text_line (codes "base") (hex_digits 16 (base_of w))) (text_line (codes "top") (hex_digits 17 (top_of w))) (text_line (codes "sound") (yes_or_no (is_sound w))) in
+    let all = four_after (take c.args.at c.args.buffer.now) (text_line (codes "address") (hex_digits 16 (address_of w)))
+    (text_line (codes "base") (hex_digits 16 (base_of w))) (text_line (codes "top") (hex_digits 17 (top_of w)))
+    (text_line (codes "sound") (yes_or_no (is_sound w))) in
     let same = is_sound-from c.sound.result w c.sound.ensures in cc

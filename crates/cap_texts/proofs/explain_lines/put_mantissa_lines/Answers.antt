@@ -11,4 +11,6 @@ pub returns-clause-written : goal.returns-clause-written
 unfolding mantissa_lines
 returns-clause-written c =
     let w = c.args.word.0 in
-    let all = four_after (take c.args.at c.args.buffer.now) (text_line (codes "ie") (decimal (bit_of (ie_of w)))) (text_line (codes "e") (decimal (e_of w))) (text_line (codes "b") (hex_digits 4 (b_of w))) (text_line (codes "t") (hex_digits 4 (mantissa_of (b_of w) (t_of w) (ie_of w)))) in cc
+    let all = four_after (take c.args.at c.args.buffer.now) (text_line (codes "ie") (decimal (bit_of (ie_of w))))
+    (text_line (codes "e") (decimal (e_of w))) (text_line (codes "b") (hex_digits 4 (b_of w)))
+    (text_line (codes "t") (hex_digits 4 (mantissa_of (b_of w) (t_of w) (ie_of w)))) in cc

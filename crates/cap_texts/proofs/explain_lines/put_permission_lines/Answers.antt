@@ -11,4 +11,6 @@ pub returns-clause-written : goal.returns-clause-written
 unfolding permission_lines
 returns-clause-written c =
     let w = c.args.word.0 in
-    let all = four_after (take c.args.at c.args.buffer.now) (text_line (codes "perms") (hex_digits 8 (perm_view_of w))) (text_line (codes "otype") (hex_digits 5 (otype_of w) ++ codes " " ++ type_name (otype_of w))) (text_line (codes "flag") (decimal (bit_of (flag_of w)))) (text_line (codes "reserved") (decimal (reserved_of w))) in cc
+    let all = four_after (take c.args.at c.args.buffer.now) (text_line (codes "perms") (hex_digits 8 (perm_view_of w)))
+    (text_line (codes "otype") (hex_digits 5 (otype_of w) ++ codes " " ++ type_name (otype_of w)))
+    (text_line (codes "flag") (decimal (bit_of (flag_of w)))) (text_line (codes "reserved") (decimal (reserved_of w))) in cc

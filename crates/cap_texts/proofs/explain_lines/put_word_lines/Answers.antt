@@ -11,4 +11,5 @@ pub returns-clause-written : goal.returns-clause-written
 unfolding word_lines
 returns-clause-written c =
     let w = c.args.word.0 in
-    let all = three_after (take c.args.at c.args.buffer.now) (text_line (codes "word") (hex_digits 32 w)) (text_line (codes "memory") (bytes_text (memory_of w))) (text_line (codes "tag") (decimal (bit_of c.args.tag))) in cc
+    let all = three_after (take c.args.at c.args.buffer.now) (text_line (codes "word") (hex_digits 32 w))
+    (text_line (codes "memory") (bytes_text (memory_of w))) (text_line (codes "tag") (decimal (bit_of c.args.tag))) in cc

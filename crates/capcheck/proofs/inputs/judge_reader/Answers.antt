@@ -11,8 +11,16 @@ returns-in-Ok g c =
         given = r.given;
         ended = source.is_ended;
         rest = g.R.Read.remaining source.reader;
-        gives = subst (λ reader. Consumes (g.R.Read.remaining reader) (g.R.Read.remaining source.reader) r.given) c.new-source.ensures.reader r.gives;
+        gives = subst (λ reader. Consumes (g.R.Read.remaining reader) (g.R.Read.remaining source.reader) r.given)
+            c.new-source.ensures.reader r.gives;
         all_given = source.all_given;
-        written = (c.in-Ok.verdict, r.explanation.0, r.explanation.1, r.explanation.2, length r.explanation.1, flushed_all _ _ _ _ r.explanation.3 c.flush.ensures.bytes);
+        written = (
+          c.in-Ok.verdict,
+          r.explanation.0,
+          r.explanation.1,
+          r.explanation.2,
+          length r.explanation.1,
+          flushed_all _ _ _ _ r.explanation.3 c.flush.ensures.bytes,
+        );
       };
     }

@@ -61,7 +61,8 @@ keep_spec 𝓤 𝓛 𝓜 𝓡 wired T A LT LA g dict drop_T drop_A allocates dro
     enter ! 𝓣.C 𝓣.Λ fn (w ∷ []) end $ alloc_all ! (λ l. pass_all ! refl (held_good R Z LZ g b o h fits, tt) $
     sets ! (of_opd ! (get ! refl)) refl (held_good R Z LZ g b o h fits) $
     calls_at ! (λ f. framed 𝓤 𝓛.H 𝓜 𝓣 f) call
-    (met 𝓤 𝓛 𝓜 𝓡 (code.calls-std_alloc::boxed::Box::into_raw_with_allocator 𝓡.env wired) T A LT LA g dict drop_A drop_T allocates drops_A drops_T)
+    (met 𝓤 𝓛 𝓜 𝓡 (code.calls-std_alloc::boxed::Box::into_raw_with_allocator 𝓡.env wired)
+    T A LT LA g dict drop_A drop_T allocates drops_A drops_T)
     given (and_then ! (get ! refl) (no_more !)) (λ answer.
     -- it answers an address and the allocator, with the value at that address
     let Answer = Tuple (RawPtr ∷ Z ∷ []) in

@@ -9,5 +9,6 @@ returns-in-Some-clause-granule c = λ bytes holds.
     let is : c.args.judge.now.judge ≡ Some c.deref.result.now = c.in-Some.ensures.taken ∙ ap Some (sym c.deref.ensures) in (
       c.there.ensures.present,
       c.there.ensures.cap
-          ∙ held_state c.args.judge.now.judge bytes holds c.deref.result.now is c.granule-cap.result (granule_key (c.args.address / 16)) c.granule-cap.ensures,
+          ∙ held_state c.args.judge.now.judge bytes holds c.deref.result.now is c.granule-cap.result
+          (granule_key (c.args.address / 16)) c.granule-cap.ensures,
     )

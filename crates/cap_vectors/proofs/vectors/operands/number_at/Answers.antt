@@ -11,4 +11,5 @@ returns-then-line-at c n front rest fits before is =
 
 pub returns : goal.returns
 returns c n front rest fits before is =
-    subst (λ (r : Option ℕ). IsSomeAnd r (λ m. m ≡ n)) (sym (c.read_u64.ensures.reads_back n fits (slice_at c.args.line.now front (hex_digits 16 n) rest c.args.at 16 is before (length-hex_digits 16 n)))) refl
+    subst (λ (r : Option ℕ). IsSomeAnd r (λ m. m ≡ n)) (sym (c.read_u64.ensures.reads_back n fits
+    (slice_at c.args.line.now front (hex_digits 16 n) rest c.args.at 16 is before (length-hex_digits 16 n)))) refl

@@ -11,4 +11,5 @@ returns-then-line-at c n front rest fits before is =
 
 pub returns : goal.returns
 returns c n front rest fits before is =
-    c.read_word.ensures.reads_back n fits (slice_at c.args.line.now front (hex_digits 32 n) rest c.args.at 32 is before (length-hex_digits 32 n))
+    c.read_word.ensures.reads_back n fits (slice_at c.args.line.now front (hex_digits 32 n)
+    rest c.args.at 32 is before (length-hex_digits 32 n))

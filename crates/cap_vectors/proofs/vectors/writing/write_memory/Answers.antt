@@ -10,5 +10,13 @@ returns-clause-line c =
     let w = c.args.word.0 in
     record {
       spelled = search rules;
-      true_vector = record { in_range = (omega arith, length-memory_of w, All-from_get_or (λ byte. byte < 256) (memory_of w) 0 (λ k below. IsBytes-memory_of w k)); holds = refl };
+      true_vector = record {
+        in_range = (
+          omega arith,
+          length-memory_of w,
+          All-from_get_or (λ byte. byte < 256) (memory_of w) 0
+              (λ k below. IsBytes-memory_of w k),
+        );
+        holds = refl;
+      };
     }

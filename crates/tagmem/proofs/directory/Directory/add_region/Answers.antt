@@ -12,9 +12,12 @@ invariant_of-self-2 c =
     let last : c.len-at.result ≡ length s.regions.items = omega (arith, s.regions.ok.0, c.len-at.ensures, c.reserve.ensures.len) in
     rw items (record {
       apart = AreApart-push s.regions.items s.tree c.insert.new.self s.apart c.args.number c.len-at.result c.args.index region (omega arith)
-          c.requires.absent last c.in-Ok-insert.ensures.updates c.set.ensures.own (λ place other. c.set.ensures.others place other ∙ c.new-region.ensures place);
-      used = EachHasPage-push s.regions.items s.tree c.insert.new.self s.apart c.args.number c.len-at.result c.args.index region (omega arith)
-          c.requires.absent last c.in-Ok-insert.ensures.updates c.set.ensures.own (λ place other. c.set.ensures.others place other ∙ c.new-region.ensures place)
+          c.requires.absent last c.in-Ok-insert.ensures.updates c.set.ensures.own
+          (λ place other. c.set.ensures.others place other ∙ c.new-region.ensures place);
+      used =
+          EachHasPage-push s.regions.items s.tree c.insert.new.self s.apart c.args.number c.len-at.result c.args.index region (omega arith)
+          c.requires.absent last c.in-Ok-insert.ensures.updates c.set.ensures.own
+          (λ place other. c.set.ensures.others place other ∙ c.new-region.ensures place)
           s.used;
     })
 
@@ -26,4 +29,5 @@ returns-clause-ok c =
     let last : c.len-at.result ≡ length s.regions.items = omega (arith, s.regions.ok.0, c.len-at.ensures, c.reserve.ensures.len) in
     subst (λ items. IsWith (found_in s) (index_of items c.insert.new.self) c.args.number c.args.index) (sym items)
     (IsWith-push s.regions.items s.tree c.insert.new.self s.apart c.args.number c.len-at.result c.args.index region (omega arith)
-    c.requires.absent last c.in-Ok-insert.ensures.updates c.set.ensures.own (λ place other. c.set.ensures.others place other ∙ c.new-region.ensures place))
+    c.requires.absent last c.in-Ok-insert.ensures.updates c.set.ensures.own
+    (λ place other. c.set.ensures.others place other ∙ c.new-region.ensures place))

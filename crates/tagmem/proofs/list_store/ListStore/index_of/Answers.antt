@@ -11,4 +11,5 @@ returns c =
     let s = c.args.self.now in
     let facts = c.binary_search_by_key.ensures in
     let by_granule = facts.position (λ (listed : Listed). listed.granule) (answers_always _ _ _ (λ f a r g called. search rules)) in
-    searched s.entries.items (rises_far s.entries.items s.rising) c.args.granule c.binary_search_by_key.result (rw c.deref.ensures.value at facts.bound) (rw c.deref.ensures.value at by_granule)
+    searched s.entries.items (rises_far s.entries.items s.rising) c.args.granule c.binary_search_by_key.result
+    (rw c.deref.ensures.value at facts.bound) (rw c.deref.ensures.value at by_granule)

@@ -24,4 +24,5 @@ returns-clause-ok c = OnOk-from_is_ok c.map_err.result _ (λ ok.
     let old = c.args.self.now.entries.items in
     let new = insert old c.args.index c.args.listed in
     let grew : is_ok c.insert.result ≡ true = sym c.map_err.ensures.variant ∙ ok in
-    ap contents_of (c.insert.ensures.items ∙ ap (λ b. cond b new old) grew) ∙ contents_of-insert old c.args.listed c.args.index c.requires.absent)
+    ap contents_of (c.insert.ensures.items ∙ ap (λ b. cond b new old) grew)
+    ∙ contents_of-insert old c.args.listed c.args.index c.requires.absent)

@@ -13,7 +13,8 @@ invariant_of-self c =
     let s = c.args.self.now in
     record {
       rising = IsRising-set s.entries.items c.args.listed c.args.index s.rising c.requires.found;
-      stored = All-set (λ (listed : Listed). IsStored listed.granule (entry_of listed)) s.entries.items c.args.index c.args.listed c.requires.stored s.stored;
+      stored = All-set (λ (listed : Listed). IsStored listed.granule (entry_of listed))
+          s.entries.items c.args.index c.args.listed c.requires.stored s.stored;
       counted = omega (arith, length-set {A = Listed}, s.counted);
     }
 

@@ -42,7 +42,8 @@ pub invariant_of-self-in_default-insert : goal.invariant_of-self-in_default-inse
 invariant_of-self-in_default-insert c =
     let s = c.args.self.now in
     let chained = c.make_room.ensures.numbers ∙ s.chained in
-    let known = IsDirectory-same s.pages.items (found_in s.directory) (found_in c.insert.new.self) c.in_default-insert.ensures.err s.known in
+    let known = IsDirectory-same s.pages.items (found_in s.directory) (found_in c.insert.new.self)
+    c.in_default-insert.ensures.err s.known in
     rw c.reserve.ensures.items (record {
       chained = chained;
       known = known;
@@ -86,9 +87,11 @@ returns-clause-ok c =
     let number = c.new-page.ensures.number in
     let none = c.new-page.ensures.slots in
     let last : c.len-index.result ≡ length s.pages.items = omega (arith, s.pages.ok.0, c.len-index.ensures) in
-    let written : IsWritten c.new-page.result c.put.new.self (c.args.granule % 16) c.args.tag c.args.byte_index c.args.bytes.now c.args.code =
+    let written : IsWritten c.new-page.result c.put.new.self (c.args.granule % 16)
+    c.args.tag c.args.byte_index c.args.bytes.now c.args.code =
     record { number = c.put.ensures.number; slots = c.put.ensures.slots } in
-    let added : IsAdded s.pages.items (found_in s.directory) (found_in c.insert.new.self) c.len-index.result c.args.granule c.new-page.result c.put.new.self _ _ _ _ = record {
+    let added : IsAdded s.pages.items (found_in s.directory) (found_in c.insert.new.self)
+    c.len-index.result c.args.granule c.new-page.result c.put.new.self _ _ _ _ = record {
       known = s.known;
       used = s.used;
       absent = c.requires.absent;
@@ -108,9 +111,11 @@ invariant_of-self-2 c =
     let number = c.new-page.ensures.number in
     let none = c.new-page.ensures.slots in
     let last : c.len-index.result ≡ length s.pages.items = omega (arith, s.pages.ok.0, c.len-index.ensures) in
-    let written : IsWritten c.new-page.result c.put.new.self (c.args.granule % 16) c.args.tag c.args.byte_index c.args.bytes.now c.args.code =
+    let written : IsWritten c.new-page.result c.put.new.self (c.args.granule % 16)
+    c.args.tag c.args.byte_index c.args.bytes.now c.args.code =
     record { number = c.put.ensures.number; slots = c.put.ensures.slots } in
-    let added : IsAdded s.pages.items (found_in s.directory) (found_in c.insert.new.self) c.len-index.result c.args.granule c.new-page.result c.put.new.self _ _ _ _ = record {
+    let added : IsAdded s.pages.items (found_in s.directory) (found_in c.insert.new.self)
+    c.len-index.result c.args.granule c.new-page.result c.put.new.self _ _ _ _ = record {
       known = s.known;
       used = s.used;
       absent = c.requires.absent;
@@ -129,7 +134,8 @@ invariant_of-self-2 c =
           ∙ numbers_of-push s.pages.items page (c.args.granule / 16) c.len-index.result (c.put.ensures.number ∙ number) last;
       known = IsDirectory-add _ _ _ _ _ _ _ _ _ _ _ added;
       used = EachUsed-add _ _ _ _ _ _ _ _ _ _ _ added;
-      stored = AreStored-add _ _ _ _ _ _ _ _ _ _ _ added c.requires.in_memory c.requires.inside bytes (omega arith) c.requires.coded s.stored;
+      stored =
+          AreStored-add _ _ _ _ _ _ _ _ _ _ _ added c.requires.in_memory c.requires.inside bytes (omega arith) c.requires.coded s.stored;
       counted = omega (arith, len, s.counted);
       few = omega (arith, len, length-append s.pages.items (page ∷ []), s.few);
       fits = omega (arith, len, room);

@@ -12,7 +12,8 @@ found : (c : After-from) → IsNextPut (contents_of c.args.self.now.pages.items)
     (Some (16 * c.args.number + c.in-Some-first_from.first))
 found c =
     let s = c.args.self.now in
-    next_put-page s.pages.items (found_in s.directory) s.known c.args.number c.args.slot c.in-Some.index c.index.result.now c.in-Some.ensures c.index.ensures
+    next_put-page s.pages.items (found_in s.directory) s.known c.args.number c.args.slot c.in-Some.index c.index.result.now
+    c.in-Some.ensures c.index.ensures
     c.in-Some-first_from.first c.in-Some-first_from.ensures
 
 pub overflow_mul-result : goal.overflow_mul-result
@@ -34,7 +35,8 @@ returns-in-Some-first_from c =
 pub returns-in-None-first_from : goal.returns-in-None-first_from
 returns-in-None-first_from c =
     let s = c.args.self.now in
-    none_put-page s.pages.items (found_in s.directory) s.known c.args.number c.args.slot c.in-Some.index c.index.result.now c.in-Some.ensures c.index.ensures
+    none_put-page s.pages.items (found_in s.directory) s.known c.args.number c.args.slot c.in-Some.index c.index.result.now
+    c.in-Some.ensures c.index.ensures
     c.in-None-first_from.ensures
 
 -- an absent page has none

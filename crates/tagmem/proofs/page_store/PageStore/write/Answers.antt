@@ -4,7 +4,8 @@ use Rattle.std.proofs.Math.ListN.{length-set}
 use mir.Val.{bool_byte}
 use Rattle.tagmem.specs.Directories.{found_in}
 use Rattle.tagmem.specs.Pages.{slots_of}
-use Rattle.tagmem.proofs.Writes.{IsRead, IsWritten, numbers_of-write, IsDirectory-write, EachUsed-write, contents_of-write, AreStored-write, len-write, len_fits}
+use Rattle.tagmem.proofs.Writes.{IsRead, IsWritten, numbers_of-write, IsDirectory-write, EachUsed-write, contents_of-write, AreStored-write}
+use Rattle.tagmem.proofs.Writes.{len-write, len_fits}
 use Rattle.tagmem.proofs.page_store.PageStore.write.Goals as goal
 
 pub overflow_add-self : goal.overflow_add-self
@@ -44,7 +45,8 @@ invariant_of-self c =
     let bytes : All (λ byte. byte < 256) c.args.bytes.now =
     All-from_get_or (λ byte. byte < 256) c.args.bytes.now 0 (λ i lt. (c.type_inv.bytes i).fits) in
     record {
-      chained = s.chained ∙ sym (numbers_of-write s.pages.items (found_in s.directory) c.args.index c.args.granule old read page _ _ _ _ written);
+      chained =
+          s.chained ∙ sym (numbers_of-write s.pages.items (found_in s.directory) c.args.index c.args.granule old read page _ _ _ _ written);
       known = IsDirectory-write s.pages.items (found_in s.directory) c.args.index c.args.granule old read page _ _ _ _ written;
       used = EachUsed-write s.pages.items (found_in s.directory) c.args.index c.args.granule old read page _ _ _ _ written s.used;
       stored = AreStored-write s.pages.items (found_in s.directory) c.args.index c.args.granule old read page _ _ _ _ written

@@ -11,7 +11,8 @@ pub returns-in-Some : goal.returns-in-Some
 returns-in-Some c =
     let s = c.args.self.now in
     let says = λ (page : Page). code_in_slot (slots_of page) (c.args.granule % 16) in
-    let stands = get_present s.pages.items (found_in s.directory) s.known c.args.granule c.in-Some.index c.index.result.now c.in-Some.ensures in
+    let stands = get_present s.pages.items (found_in s.directory) s.known c.args.granule c.in-Some.index
+    c.index.result.now c.in-Some.ensures in
     c.code.ensures ∙ ap says c.index.ensures ∙ sym (ap (λ o. (unwrap_or o blank).2) stands)
 
 -- or it is absent

@@ -12,7 +12,8 @@ returns-in-Some c =
     let s = c.args.self.now in
     let says = λ (page : Page). shown (get_or (slots_of page) (c.args.granule % 16) None) in
     c.get.ensures ∙ ap says c.index.ensures
-    ∙ sym (ap shown (get_present s.pages.items (found_in s.directory) s.known c.args.granule c.in-Some.index c.index.result.now c.in-Some.ensures))
+    ∙ sym (ap shown (get_present s.pages.items (found_in s.directory) s.known c.args.granule c.in-Some.index
+    c.index.result.now c.in-Some.ensures))
 
 -- or it is absent
 pub returns-in-None : goal.returns-in-None
