@@ -32,11 +32,20 @@ tag_tested authority kind offset size free = not-false authority.tag (none_hold 
 
 granted_to : (state : State) (register : ℕ) (kind : Kind) (offset : ℤ) (bytes : ℕ) (access : Access)
     → first_of (access_tests (state register) kind offset bytes) ≡ None
-    → Some (record { authority = register; address = access_address (state register).word.0 offset; size = bytes; permission = permission_for kind }) ≡ Some access
+    → Some (record {
+      authority = register;
+      address = access_address (state register).word.0 offset;
+      size = bytes;
+      permission = permission_for kind;
+    }) ≡ Some access
     → IsGranted state access
 granted_to state register kind offset bytes access free is =
     subst (IsGranted state) (same_Some _ access is)
-    (record { tag = tag_tested (state register) kind offset bytes free; allowed = IsAllowed-access (state register) kind offset bytes free })
+    (record {
+      tag = tag_tested (state register) kind offset bytes free;
+      allowed = IsAllowed-access
+          (state register) kind offset bytes free;
+    })
 
 pub granted : (state : State) (step : Step) (access : Access) → first_of (row_of state step).tests ≡ None
     → (row_of state step).access ≡ Some access → IsGranted state access
@@ -68,7 +77,8 @@ pub lie_inside : (rules : Rules) (roots : List DeclaredRoot) (steps : List Step)
     → AccessesLieInside roots steps states
 lie_inside rules roots steps states sound ranges run moment step access at is =
     let state = state_at (start roots) states moment in
-    let free = ap (λ (row : Row). first_of row.tests) (sym (row_by-access rules (row_of state step) access is)) ∙ leads_at rules (start roots) steps states moment step run at in
+    let free = ap (λ (row : Row). first_of row.tests) (sym (row_by-access rules (row_of state step) access is))
+    ∙ leads_at rules (start roots) steps states moment step run at in
     let grant = granted state step access free is in
     let below = in_range steps moment step at in
     let root = one_root rules roots steps states sound ranges run moment (omega arith) access.authority grant.tag in

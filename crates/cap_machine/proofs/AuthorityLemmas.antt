@@ -1,5 +1,6 @@
 -- Each tagged capability of a run descends from one root, and reaches no more; so does each access.
-use Rattle.std.proofs.Common.{◌≡◌, ℕ, zero, suc, ◌≤◌, inl, inr, Bool, true, false, ◌∷◌, [], List, length, take, refl, sym, ap, subst, ◌∙◌, arith, Option, Some, None, Contains}
+use Rattle.std.proofs.Common.{◌≡◌, ℕ, zero, suc, ◌≤◌, inl, inr, Bool, true, false, ◌∷◌, [], List, length, take, refl, sym, ap, subst, ◌∙◌}
+use Rattle.std.proofs.Common.{arith, Option, Some, None, Contains}
 use Rattle.std.specs.Bool.{if◌then◌else◌}
 use Rattle.std.specs.List.{AllByRecursion}
 use Rattle.std.proofs.lemmas.Bool.{false≢true}
@@ -27,7 +28,8 @@ record Came (old new : State) (hit : Bool) (parent : Option Place) (key from : �
   pub sound : IsSound (new key).word.0
 
 -- at the place that is written
-came_there : (old new : State) (hit : Bool) (parent : Option Place) (write : Place × Cap) (key : ℕ) → IsSoundState old → WritesWithin old parent (Some write)
+came_there : (old new : State) (hit : Bool) (parent : Option Place) (write : Place × Cap) (key : ℕ) → IsSoundState old
+    → WritesWithin old parent (Some write)
     → hit ≡ true → new key ≡ write.1 → (new key).tag ≡ true → (from : ℕ) × Came old new hit parent key from
 came_there old new hit None write key sound within there is held = absurd (within (ap (λ (cap : Cap). cap.tag) (sym is) ∙ held))
 came_there old new hit (Some parent) write key sound within there is held =
@@ -36,15 +38,18 @@ came_there old new hit (Some parent) write key sound within there is held =
     let sound_from = sound (key_of parent) tagged_from in (
       key_of parent,
       record {
-        by = ap (λ (b : Bool). parent_in b (new key).tag (Some parent) key) there ∙ ap (λ (b : Bool). if b then Some (key_of parent) else None) held;
+        by = ap (λ (b : Bool). parent_in b (new key).tag (Some parent) key) there
+            ∙ ap (λ (b : Bool). if b then Some (key_of parent) else None) held;
         tag = tagged_from;
-        no_more = subst (λ (cap : Cap). ReachesNoMore cap.word.0 (old (key_of parent)).word.0) (sym is) (within.no_more held_there sound_from);
+        no_more =
+            subst (λ (cap : Cap). ReachesNoMore cap.word.0 (old (key_of parent)).word.0) (sym is) (within.no_more held_there sound_from);
         sound = subst (λ (cap : Cap). IsSound cap.word.0) (sym is) (within.sound held_there sound_from);
       },
     )
 
 -- at every other place
-came_here : (old new : State) (hit : Bool) (parent : Option Place) (key : ℕ) → IsSoundState old → hit ≡ false → new key ≡ old key → (new key).tag ≡ true
+came_here : (old new : State) (hit : Bool) (parent : Option Place) (key : ℕ) → IsSoundState old → hit ≡ false
+    → new key ≡ old key → (new key).tag ≡ true
     → (from : ℕ) × Came old new hit parent key from
 came_here old new hit parent key sound elsewhere is held =
     let held_here = ap (λ (cap : Cap). cap.tag) (sym is) ∙ held in (
@@ -68,7 +73,8 @@ came old (Some write) parent key sound within held =
       | inr unlike ↦ came_here old new _ parent key sound unlike.0 (ap there unlike.0) held
     ]
 
-pub one_back : (rules : Rules) (old : State) (step : Step) (new : State) (key : ℕ) → IsStepInRange step → IsSoundState old → Leads rules old step new → (new key).tag ≡ true
+pub one_back : (rules : Rules) (old : State) (step : Step) (new : State) (key : ℕ) → IsStepInRange step → IsSoundState old
+    → Leads rules old step new → (new key).tag ≡ true
     → (from : ℕ) × ComesFrom old step new key from
 one_back rules old step new key range sound leads held =
     let row = row_of old step in
@@ -87,10 +93,13 @@ one_back rules old step new key range sound leads held =
     )
 
 -- a step keeps each tagged capability sound
-pub sound_after : (rules : Rules) (old : State) (step : Step) (new : State) → IsStepInRange step → IsSoundState old → Leads rules old step new → IsSoundState new
-sound_after rules old step new range sound leads key held = let from = one_back rules old step new key range sound leads held in from.1.sound
+pub sound_after : (rules : Rules) (old : State) (step : Step) (new : State) → IsStepInRange step → IsSoundState old
+    → Leads rules old step new → IsSoundState new
+sound_after rules old step new range sound leads key held =
+    let from = one_back rules old step new key range sound leads held in from.1.sound
 
-pub sound_along : (rules : Rules) (state : State) (steps : List Step) (states : List State) → AllByRecursion IsStepInRange steps → IsSoundState state
+pub sound_along : (rules : Rules) (state : State) (steps : List Step) (states : List State)
+    → AllByRecursion IsStepInRange steps → IsSoundState state
     → IsRun rules state steps states → IsSoundState (last_of state states)
 sound_along rules state [] [] range sound run = sound
 sound_along rules state [] (next ∷ states) range sound run = absurd run
@@ -104,14 +113,17 @@ pub record ChainsTo (state : State) (steps : List Step) (states : List State) (c
   pub tag : (state from).tag ≡ true
   pub no_more : ReachesNoMore cap.word.0 (state from).word.0
 
-pub back : (rules : Rules) (state : State) (steps : List Step) (states : List State) (moment key : ℕ) → AllByRecursion IsStepInRange steps → IsSoundState state
+pub back : (rules : Rules) (state : State) (steps : List Step) (states : List State) (moment key : ℕ)
+    → AllByRecursion IsStepInRange steps → IsSoundState state
     → IsRun rules state steps states → moment ≤ length steps → (state_at state states moment key).tag ≡ true
     → (from : ℕ) × ChainsTo state (take moment steps) (take moment states) (state_at state states moment key) key from
-back rules state steps states zero key ranges sound run within held = (key, record { descends = refl; tag = held; no_more = ReachesNoMore-refl (state key).word.0 })
+back rules state steps states zero key ranges sound run within held =
+    (key, record { descends = refl; tag = held; no_more = ReachesNoMore-refl (state key).word.0 })
 back rules state [] states (suc moment) key ranges sound run within held = absurd (omega arith)
 back rules state (step ∷ steps) [] (suc moment) key ranges sound run within held = absurd run
 back rules state (step ∷ steps) (next ∷ states) (suc moment) key ranges sound run within held =
-    let later = back rules next steps states moment key ranges.1 (sound_after rules state step next ranges.0 sound run.0) run.1 (omega arith) held in
+    let later = back rules next steps states moment key ranges.1 (sound_after rules state step next ranges.0 sound run.0) run.1
+    (omega arith) held in
     let earlier = one_back rules state step next later.0 ranges.0 sound run.0 later.1.tag in (
       earlier.0,
       record {
@@ -122,7 +134,8 @@ back rules state (step ∷ steps) (next ∷ states) (suc moment) key ranges soun
     )
 
 -- there is one chain
-pub one_chain : (state : State) (steps : List Step) (states : List State) (key a b : ℕ) → Descends state steps states key a → Descends state steps states key b → a ≡ b
+pub one_chain : (state : State) (steps : List Step) (states : List State) (key a b : ℕ) → Descends state steps states key a
+    → Descends state steps states key b → a ≡ b
 one_chain state [] states key a b h k = sym h ∙ k
 one_chain state (step ∷ steps) [] key a b h k = absurd h
 one_chain state (step ∷ steps) (next ∷ states) key a b h k =
@@ -149,17 +162,20 @@ start_sound roots sound key held =
     subst (λ (cap : Cap). IsSound cap.word.0) (sym root.3) (sound root.0 root.1)
 
 -- a tagged place at a moment of a run descends from one root, and reaches no more
-pub one_root : (rules : Rules) (roots : List DeclaredRoot) (steps : List Step) (states : List State) → AreSound roots → AllByRecursion IsStepInRange steps → IsRun rules (start roots) steps states
+pub one_root : (rules : Rules) (roots : List DeclaredRoot) (steps : List Step) (states : List State) → AreSound roots
+    → AllByRecursion IsStepInRange steps → IsRun rules (start roots) steps states
     → AuthorityNeverGrows roots steps states
 one_root rules roots steps states sound ranges run moment within key held =
     let chain = back rules (start roots) steps states moment key ranges (start_sound roots sound) run within held in
     let root = rooted_at roots chain.0 chain.1.tag in
-    let leads_there = subst (λ (from : ℕ). Descends (start roots) (take moment steps) (take moment states) key from) (sym root.2) chain.1.descends in (
+    let leads_there = subst (λ (from : ℕ). Descends (start roots) (take moment steps) (take moment states) key from)
+    (sym root.2) chain.1.descends in (
       root.0,
       record {
         declared = root.1;
         descends = leads_there;
-        only = λ from other. one_chain (start roots) (take moment steps) (take moment states) key from (key_of root.0.place) other leads_there;
+        only =
+            λ from other. one_chain (start roots) (take moment steps) (take moment states) key from (key_of root.0.place) other leads_there;
       },
       subst (λ (cap : Cap). ReachesNoMore (state_at (start roots) states moment key).word.0 cap.word.0) root.3 chain.1.no_more,
     )

@@ -29,7 +29,8 @@ use Rattle.cap_machine.proofs.StepLemmas.{hits-row_by, parent_in}
 -- the places that codes are of
 pub place_at-key : (place : Place) → IsPlace place → place_at (key_of place) ≡ Some place
 place_at-key (Register n) range =
-    cond-false (n == 0) _ _ (ne_eqb n 0 (λ e. let f : n ≡ 0 = e in omega (arith, range.0))) ∙ cond-true (nat_lt n 32) _ _ (lt-ltb n 32 (omega (arith, range.1)))
+    cond-false (n == 0) _ _ (ne_eqb n 0 (λ e. let f : n ≡ 0 = e in omega (arith, range.0)))
+    ∙ cond-true (nat_lt n 32) _ _ (lt-ltb n 32 (omega (arith, range.1)))
 place_at-key (Granule g) range =
     let past : nat_lt (g + 32) 32 ≡ false = le-ltb (g + 32) 32 (omega arith) in
     let back : g + 32 - 32 ≡ g = omega arith in
@@ -43,10 +44,12 @@ place_in_range code below =
       | inr unlike ↦
           elim (cases_lt code 32) [
             | inl low ↦
-                subst (λ (o : Option Place). IfSome o IsPlace) (sym (cond-false (code == 0) None _ unlike.0 ∙ cond-true (nat_lt code 32) (Some (Register code)) _ (lt-ltb code 32 low)))
+                subst (λ (o : Option Place). IfSome o IsPlace) (sym (cond-false (code == 0) None _ unlike.0
+                ∙ cond-true (nat_lt code 32) (Some (Register code)) _ (lt-ltb code 32 low)))
                 (omega (arith, unlike.1), omega arith)
             | inr high ↦
-                subst (λ (o : Option Place). IfSome o IsPlace) (sym (cond-false (code == 0) None _ unlike.0 ∙ cond-false (nat_lt code 32) _ (Some (Granule (code - 32))) (le-ltb code 32 high)))
+                subst (λ (o : Option Place). IfSome o IsPlace) (sym (cond-false (code == 0) None _ unlike.0
+                ∙ cond-false (nat_lt code 32) _ (Some (Granule (code - 32))) (le-ltb code 32 high)))
                 (omega arith)
           ]
     ]
@@ -76,7 +79,8 @@ root_coded (Granule g) range =
 pub coded_blank : (state : State) (codes : ℕ → ℕ) → ((key : ℕ) → state key ≡ untagged_null) → ((key : ℕ) → codes key ≡ 0)
     → AreCoded state codes
 coded_blank state codes null none key =
-    subst (λ (cap : Cap). IsCoded cap.tag (codes key)) (sym (null key)) (subst (IsCoded false) (sym (none key)) ((λ _. refl, λ _. refl), lit< tt))
+    subst (λ (cap : Cap). IsCoded cap.tag (codes key)) (sym (null key)) (subst (IsCoded false) (sym (none key))
+    ((λ _. refl, λ _. refl), lit< tt))
 
 coded_choice : (b : Bool) (x y : Cap) (m n : ℕ) → IsCoded x.tag m → IsCoded y.tag n
     → let cap : Cap = if b then x else y in IsCoded cap.tag (if b then m else n)
@@ -93,7 +97,8 @@ pub coded_register : (registers : List Cap) (codes : List ℕ) (memory : Granule
     → AreCoded (places_of registers memory) (codes_of codes memory) → IsCoded cap.tag code
     → AreCoded (places_of (set registers target cap) memory) (codes_of (set codes target code) memory)
 coded_register registers codes memory target cap code sized coded_so low all one =
-    subst (λ (state : State). AreCoded state (codes_of (set codes target code) memory)) (sym (state-register registers memory target cap sized low))
+    subst (λ (state : State). AreCoded state (codes_of (set codes target code) memory))
+    (sym (state-register registers memory target cap sized low))
     (subst (AreCoded (put (places_of registers memory) target cap)) (sym (codes-register codes memory target code coded_so low))
     (coded_put (places_of registers memory) (codes_of codes memory) target cap code all one))
 
@@ -102,8 +107,10 @@ pub coded_granule : (registers : List Cap) (codes : List ℕ) (memory : Granules
     → AreCoded (places_of registers memory) (codes_of codes memory) → IsCoded entry.0 entry.2
     → AreCoded (places_of registers (map.insert memory granule entry)) (codes_of codes (map.insert memory granule entry))
 coded_granule registers codes memory granule entry all one =
-    subst (λ (state : State). AreCoded state (codes_of codes (map.insert memory granule entry))) (sym (state-granule registers memory granule entry))
-    (subst (AreCoded (put (places_of registers memory) (granule_key granule) (cap_of entry))) (sym (codes-granule codes memory granule entry))
+    subst (λ (state : State). AreCoded state (codes_of codes (map.insert memory granule entry)))
+    (sym (state-granule registers memory granule entry))
+    (subst (AreCoded (put (places_of registers memory) (granule_key granule) (cap_of entry)))
+    (sym (codes-granule codes memory granule entry))
     (coded_put (places_of registers memory) (codes_of codes memory) (granule_key granule) (cap_of entry) entry.2 all one))
 
 -- the code of a register's origin
@@ -150,7 +157,9 @@ origin-written old step place value code writes from =
     let state = state_of old in
     let row = row_of state step in
     fun_ext (λ key.
-    let hit : hits row.writes key ≡ (key_of place == key) = sym (hits-row_by old.rules row key) ∙ ap (λ (w : Option (Place × Cap)). hits w key) writes in
+    let hit : hits row.writes key ≡ (key_of place == key) = sym (hits-row_by old.rules row key)
+    ∙ ap (λ (w : Option (Place × Cap)). hits w key) writes in
     origin_there origins row.parent (key_of place == key) value (state key) key code from
     ∙ ap (λ (b : Bool). option_and_then origins (parent_in b (put state (key_of place) value key).tag row.parent key)) (sym hit)
-    ∙ ap (λ (w : Option (Place × Cap)). option_and_then origins (parent_in (hits row.writes key) (state_with state w key).tag row.parent key)) (sym writes))
+    ∙ ap (λ (w : Option (Place × Cap)). option_and_then origins (parent_in (hits row.writes key)
+    (state_with state w key).tag row.parent key)) (sym writes))

@@ -101,7 +101,8 @@ first_escapes account step h =
     let tests = (row_in account step).tests in
     elim (first_of tests) as (λ o. first_of tests ≡ o → first_of tests ≡ Some faults.BoundsEscape) [
       | None ↦ λ is. absurd (no_last_test _ _ (sym (first_mapped-none tests _ is) ∙ h))
-      | Some fault ↦ λ is. is ∙ ap (λ (f : OpFault). Some f) (only_escape fault (same_Some _ _ (sym (first_mapped-some tests _ fault is) ∙ h)))
+      | Some fault ↦ λ is. is ∙ ap (λ (f : OpFault). Some f) (only_escape fault
+          (same_Some _ _ (sym (first_mapped-some tests _ fault is) ∙ h)))
     ] refl
 
 answers : (old new : Held) (step : Step) (result : Result (Unit {0}) StepEnd) → EndsIn old step result new
@@ -120,7 +121,8 @@ answered old new step (Err NoMemory) ends h = let free = ends.0 in cc
 -- the same by any rules
 escapes_by : (rules : Rules) (source : Cap) (length : ℕ) (exact : Bool) → length < 2 ^ 64 → source.tag ≡ true
     → is_sealed source.word.0 ≡ false → IsSound source.word.0
-    → (first_of (tests_by rules (set_bounds_tests source length exact)) ≡ Some faults.BoundsEscape) ↔ ((rules ≢ TwoClear) × (HasRoomFor source length → ⊥))
+    → (first_of (tests_by rules (set_bounds_tests source length exact)) ≡ Some faults.BoundsEscape)
+    ↔ ((rules ≢ TwoClear) × (HasRoomFor source length → ⊥))
 escapes_by One source length exact fits held unsealed sound =
     let both = escapes source length exact fits held unsealed sound in (λ h. (λ e. cc, both.0 h), λ p. both.1 p.1)
 escapes_by TwoStrict source length exact fits held unsealed sound =
@@ -142,7 +144,8 @@ asks TwoStrict state source length exact fits sound h =
 narrowed : (account : Account) (step : Step) (source length : ℕ) (exact : Bool)
     → (row_in account step).tests ≡ tests_by account.rules (set_bounds_tests (account.state source) length exact) → length < 2 ^ 64
     → IsSoundState account.state
-    → (first_of (step_tests account step) ≡ Some BoundsEscape) ↔ ((account.rules ≢ TwoClear) × AsksBeyond account.state (Some (source, length)))
+    → (first_of (step_tests account step) ≡ Some BoundsEscape) ↔ ((account.rules ≢ TwoClear)
+    × AsksBeyond account.state (Some (source, length)))
 narrowed account step source length exact same fits sound = (
   λ h. asks account.rules account.state source length exact fits sound (sym (ap first_of same) ∙ first_escapes account step h),
   λ beyond.
@@ -203,7 +206,8 @@ free_by TwoClear row free = cleared_free row.access row free
 never : (account : Account) (step : Step) → asked_by step ≡ None
     → (first_of (step_tests account step) ≡ Some BoundsEscape) ↔ ((account.rules ≢ TwoClear) × ⊥)
 never account step none = (
-  λ h. absurd (not_first _ (free_by account.rules (row_of account.state step) (row_free account.state step none)) (first_escapes account step h)),
+  λ h. absurd (not_first _ (free_by account.rules (row_of account.state step) (row_free account.state step none))
+      (first_escapes account step h)),
   λ beyond. absurd beyond.1,
 )
 
@@ -211,9 +215,11 @@ never account step none = (
 pub escapes_first : (account : Account) (step : Step) → IsStepInRange step → IsSoundState account.state
     → (first_of (step_tests account step) ≡ Some BoundsEscape) ↔ Escapes account.rules account.state step
 escapes_first account (SetBounds target source length recorded) range sound =
-    narrowed account (SetBounds target source length recorded) source length false (ap (λ (row : Row). row.tests) (row_by-operation account.rules target source recorded _ _)) range.2 sound
+    narrowed account (SetBounds target source length recorded) source length false
+    (ap (λ (row : Row). row.tests) (row_by-operation account.rules target source recorded _ _)) range.2 sound
 escapes_first account (SetBoundsExact target source length recorded) range sound =
-    narrowed account (SetBoundsExact target source length recorded) source length true (ap (λ (row : Row). row.tests) (row_by-operation account.rules target source recorded _ _)) range.2 sound
+    narrowed account (SetBoundsExact target source length recorded) source length true
+    (ap (λ (row : Row). row.tests) (row_by-operation account.rules target source recorded _ _)) range.2 sound
 escapes_first account (Move target source recorded) range sound = never account (Move target source recorded) refl
 escapes_first account (ClearTag target source recorded) range sound = never account (ClearTag target source recorded) refl
 escapes_first account (SetAddr target source address recorded) range sound = never account (SetAddr target source address recorded) refl
@@ -275,5 +281,6 @@ clears_along rules roots steps states sound ranges run moment step is =
 pub step_within : (old new : Held) (step : Step) (result : Result (Unit {0}) StepEnd) → IsStepInRange step → IsSoundState (state_of old)
     → EndsIn old step result new
     → OnOk result (StaysWithinParents (state_of old) step (state_of new))
-step_within old new step (Ok done) range sound ends = λ key held. one_back old.rules (state_of old) step (state_of new) key range sound ends.leads held
+step_within old new step (Ok done) range sound ends =
+    λ key held. one_back old.rules (state_of old) step (state_of new) key range sound ends.leads held
 step_within old new step (Err end) range sound ends = tt

@@ -1,5 +1,6 @@
 -- Granules as capabilities and as numbers.
-use Rattle.std.proofs.Common.{◌≡◌, ℕ, zero, suc, ◌+◌, ◌*◌, ◌/◌, ◌%◌, ◌^◌, ◌<◌, ◌≤◌, false, List, [], ◌∷◌, length, drop, take, get_or, refl, sym, ap, ◌∙◌, arith, Option, Some, None, IfSome}
+use Rattle.std.proofs.Common.{◌≡◌, ℕ, zero, suc, ◌+◌, ◌*◌, ◌/◌, ◌%◌, ◌^◌, ◌<◌, ◌≤◌, false, List, [], ◌∷◌, length, drop, take, get_or, refl}
+use Rattle.std.proofs.Common.{sym, ap, ◌∙◌, arith, Option, Some, None, IfSome}
 use Rattle.std.proofs.Math.Nat.{div-div-eq-div-mul, pow-suc, pow-zero, div-one, zero-div}
 use Rattle.std.proofs.lemmas.Nat.{pow-add}
 use Rattle.std.specs.Prelude.{unwrap_or, replicate}
@@ -25,16 +26,19 @@ cap_of entry = record { tag = entry.0; word = record { 0 = stored_word entry.1 }
 -- a granule that was never put holds NULL without a tag
 pub granule_cap-absent : (memory : Granules) (granule : ℕ) → map.get memory granule ≡ None → granule_cap memory granule ≡ untagged_null
 granule_cap-absent memory granule absent =
-    ap (λ (o : Option Entry). cap_of (unwrap_or o blank)) absent ∙ ap (λ (n : ℕ). let cap : Cap = record { tag = false; word = record { 0 = n } } in cap) zero_word
+    ap (λ (o : Option Entry). cap_of (unwrap_or o blank)) absent ∙ ap (λ (n : ℕ). let cap :
+    Cap = record { tag = false; word = record { 0 = n } } in cap) zero_word
 
 -- the number of the bytes from an index on
-pub number_of-drop : (bytes : List ℕ) (byte_index : ℕ) → ((i : ℕ) → get_or bytes i 0 < 256) → number_of bytes / 2 ^ (8 * byte_index) ≡ number_of (drop byte_index bytes)
+pub number_of-drop : (bytes : List ℕ) (byte_index : ℕ) → ((i : ℕ) → get_or bytes i 0 < 256)
+    → number_of bytes / 2 ^ (8 * byte_index) ≡ number_of (drop byte_index bytes)
 unfolding number_of
 number_of-drop bytes zero small = div-one (number_of bytes)
 number_of-drop [] (suc byte_index) small = zero-div (2 ^ (8 * suc byte_index))
 number_of-drop (x ∷ xs) (suc byte_index) small =
     let first : x < 256 = small 0 in
-    let power : 2 ^ (8 * suc byte_index) ≡ 256 * 2 ^ (8 * byte_index) = ap (λ (n : ℕ). 2 ^ n) (let f : 8 * suc byte_index ≡ 8 + 8 * byte_index = omega arith in f) ∙ pow-add 2 8 (8 * byte_index) in
+    let power : 2 ^ (8 * suc byte_index) ≡ 256 * 2 ^ (8 * byte_index) = ap (λ (n : ℕ). 2 ^ n)
+    (let f : 8 * suc byte_index ≡ 8 + 8 * byte_index = omega arith in f) ∙ pow-add 2 8 (8 * byte_index) in
     let rest : (x + 256 * number_of xs) / 256 ≡ number_of xs = omega arith in
     ap (λ (n : ℕ). (x + 256 * number_of xs) / n) power
     ∙ sym (div-div-eq-div-mul (x + 256 * number_of xs) 256 (2 ^ (8 * byte_index)))
@@ -47,15 +51,49 @@ number_at-low_1 bytes byte_index sixteen small inside = omega (arith, number_of_
 
 pub number_at-low_2 : (bytes : List ℕ) (byte_index : ℕ) → length bytes ≡ 16 → ((i : ℕ) → get_or bytes i 0 < 256) → byte_index + 2 ≤ 16
     → number_of (drop byte_index bytes) % 65536 ≡ number_at bytes byte_index 2
-number_at-low_2 bytes byte_index sixteen small inside = omega (arith, number_of_drop bytes (byte_index) (omega arith), small (byte_index), number_of_drop bytes (byte_index + 1) (omega arith), small (byte_index + 1))
+number_at-low_2 bytes byte_index sixteen small inside = omega (
+  arith,
+  number_of_drop bytes (byte_index) (omega arith),
+  small (byte_index),
+  number_of_drop bytes (byte_index + 1) (omega arith),
+  small (byte_index + 1),
+)
 
 pub number_at-low_4 : (bytes : List ℕ) (byte_index : ℕ) → length bytes ≡ 16 → ((i : ℕ) → get_or bytes i 0 < 256) → byte_index + 4 ≤ 16
     → number_of (drop byte_index bytes) % 4294967296 ≡ number_at bytes byte_index 4
-number_at-low_4 bytes byte_index sixteen small inside = omega (arith, number_of_drop bytes (byte_index) (omega arith), small (byte_index), number_of_drop bytes (byte_index + 1) (omega arith), small (byte_index + 1), number_of_drop bytes (byte_index + 1 + 1) (omega arith), small (byte_index + 1 + 1), number_of_drop bytes (byte_index + 1 + 1 + 1) (omega arith), small (byte_index + 1 + 1 + 1))
+number_at-low_4 bytes byte_index sixteen small inside = omega (
+  arith,
+  number_of_drop bytes (byte_index) (omega arith),
+  small (byte_index),
+  number_of_drop bytes (byte_index + 1) (omega arith),
+  small (byte_index + 1),
+  number_of_drop bytes (byte_index + 1 + 1) (omega arith),
+  small (byte_index + 1 + 1),
+  number_of_drop bytes (byte_index + 1 + 1 + 1) (omega arith),
+  small (byte_index + 1 + 1 + 1),
+)
 
 pub number_at-low_8 : (bytes : List ℕ) (byte_index : ℕ) → length bytes ≡ 16 → ((i : ℕ) → get_or bytes i 0 < 256) → byte_index + 8 ≤ 16
     → number_of (drop byte_index bytes) % 18446744073709551616 ≡ number_at bytes byte_index 8
-number_at-low_8 bytes byte_index sixteen small inside = omega (arith, number_of_drop bytes (byte_index) (omega arith), small (byte_index), number_of_drop bytes (byte_index + 1) (omega arith), small (byte_index + 1), number_of_drop bytes (byte_index + 1 + 1) (omega arith), small (byte_index + 1 + 1), number_of_drop bytes (byte_index + 1 + 1 + 1) (omega arith), small (byte_index + 1 + 1 + 1), number_of_drop bytes (byte_index + 1 + 1 + 1 + 1) (omega arith), small (byte_index + 1 + 1 + 1 + 1), number_of_drop bytes (byte_index + 1 + 1 + 1 + 1 + 1) (omega arith), small (byte_index + 1 + 1 + 1 + 1 + 1), number_of_drop bytes (byte_index + 1 + 1 + 1 + 1 + 1 + 1) (omega arith), small (byte_index + 1 + 1 + 1 + 1 + 1 + 1), number_of_drop bytes (byte_index + 1 + 1 + 1 + 1 + 1 + 1 + 1) (omega arith), small (byte_index + 1 + 1 + 1 + 1 + 1 + 1 + 1))
+number_at-low_8 bytes byte_index sixteen small inside = omega (
+  arith,
+  number_of_drop bytes (byte_index) (omega arith),
+  small (byte_index),
+  number_of_drop bytes (byte_index + 1) (omega arith),
+  small (byte_index + 1),
+  number_of_drop bytes (byte_index + 1 + 1) (omega arith),
+  small (byte_index + 1 + 1),
+  number_of_drop bytes (byte_index + 1 + 1 + 1) (omega arith),
+  small (byte_index + 1 + 1 + 1),
+  number_of_drop bytes (byte_index + 1 + 1 + 1 + 1) (omega arith),
+  small (byte_index + 1 + 1 + 1 + 1),
+  number_of_drop bytes (byte_index + 1 + 1 + 1 + 1 + 1) (omega arith),
+  small (byte_index + 1 + 1 + 1 + 1 + 1),
+  number_of_drop bytes (byte_index + 1 + 1 + 1 + 1 + 1 + 1) (omega arith),
+  small (byte_index + 1 + 1 + 1 + 1 + 1 + 1),
+  number_of_drop bytes (byte_index + 1 + 1 + 1 + 1 + 1 + 1 + 1) (omega arith),
+  small (byte_index + 1 + 1 + 1 + 1 + 1 + 1 + 1),
+)
 
 -- the bytes that std's conversion gives, as many as are taken
 pub taken_bytes : (k n i v : ℕ) → k ≤ n → take k (bytes_low_first i n v) ≡ low_bytes k (v / 256 ^ i)
@@ -71,7 +109,8 @@ pub low_taken : (k v : ℕ) → k ≤ 8 → take k (to_le_bytes w64 v) ≡ low_b
 low_taken k v below = taken_bytes k 8 0 v below ∙ ap (low_bytes k) (ap (λ (x : ℕ). v / x) (pow-zero 256) ∙ div-one v)
 
 -- a granule that was put is one of memory
-pub next_in_memory : (memory : Granules) (from : ℕ) (found : Option ℕ) → AreStored memory → IsNextPut memory from found → IfSome found (λ next. next < 2 ^ 60)
+pub next_in_memory : (memory : Granules) (from : ℕ) (found : Option ℕ) → AreStored memory → IsNextPut memory from found
+    → IfSome found (λ next. next < 2 ^ 60)
 next_in_memory memory from None stored next = tt
 next_in_memory memory from (Some granule) stored next =
     elim (map.get memory granule) as (λ o. map.get memory granule ≡ o → granule < 2 ^ 60) [

@@ -87,16 +87,19 @@ neither false limit h = absurd (none-some WrongResult (sym h))
 -- the tests of a step whose operation none refuses
 step_tests-free : (old : Held) (step : Step) → first_of (row_in (account_of old) step).tests ≡ None
     → first_of (step_tests (account_of old) step)
-    ≡ first_of (ending (is_recorded (row_in (account_of old) step)) (nat_le most_steps old.steps || passes_granule_limit (account_of old) (named_by (row_in (account_of old) step))))
+    ≡ first_of (ending (is_recorded (row_in (account_of old) step)) (nat_le most_steps old.steps || passes_granule_limit (account_of old)
+    (named_by (row_in (account_of old) step))))
 step_tests-free old step free = first_mapped-none ((row_in (account_of old) step).tests) _ free
 
 -- a step that names no granule
 tail_unnamed : (old : Held) (step : Step) (recorded : Bool) → named_by (row_in (account_of old) step) ≡ None
     → is_recorded (row_in (account_of old) step) ≡ recorded
-    → first_of (ending (is_recorded (row_in (account_of old) step)) (nat_le most_steps old.steps || passes_granule_limit (account_of old) (named_by (row_in (account_of old) step))))
+    → first_of (ending (is_recorded (row_in (account_of old) step)) (nat_le most_steps old.steps || passes_granule_limit (account_of old)
+    (named_by (row_in (account_of old) step))))
     ≡ first_of (last_tests old recorded)
 tail_unnamed old step recorded named same =
-    ap (λ (r : Bool). first_of (ending r (nat_le most_steps old.steps || passes_granule_limit (account_of old) (named_by (row_in (account_of old) step))))) same
+    ap (λ (r : Bool). first_of (ending r (nat_le most_steps old.steps || passes_granule_limit (account_of old)
+    (named_by (row_in (account_of old) step))))) same
     ∙ ap (λ (o : Option ℕ). first_of (ending recorded (nat_le most_steps old.steps || passes_granule_limit (account_of old) o))) named
     ∙ ap (λ (b : Bool). first_of (ending recorded b)) (or-false (nat_le most_steps old.steps))
 
@@ -104,10 +107,12 @@ tail_unnamed old step recorded named same =
 tail_named : (old : Held) (step : Step) (granule : ℕ) (past : Bool) → named_by (row_in (account_of old) step) ≡ Some granule
     → is_recorded (row_in (account_of old) step) ≡ true
     → is_past_limits old granule ≡ past
-    → first_of (ending (is_recorded (row_in (account_of old) step)) (nat_le most_steps old.steps || passes_granule_limit (account_of old) (named_by (row_in (account_of old) step))))
+    → first_of (ending (is_recorded (row_in (account_of old) step)) (nat_le most_steps old.steps || passes_granule_limit (account_of old)
+    (named_by (row_in (account_of old) step))))
     ≡ (if past then Some LimitPassed else None)
 tail_named old step granule past named same limit =
-    ap (λ (r : Bool). first_of (ending r (nat_le most_steps old.steps || passes_granule_limit (account_of old) (named_by (row_in (account_of old) step))))) same
+    ap (λ (r : Bool). first_of (ending r (nat_le most_steps old.steps || passes_granule_limit (account_of old)
+    (named_by (row_in (account_of old) step))))) same
     ∙ ap (λ (o : Option ℕ). first_of (ending true (nat_le most_steps old.steps || passes_granule_limit (account_of old) o))) named
     ∙ ap (λ (b : Bool). first_of (ending true b)) limit
 
@@ -135,7 +140,8 @@ made old step target value recorded code named writes same sized coded_so low fr
       tests = step_tests-free old step free ∙ tail_unnamed old step (is_same_cap recorded value) named same ∙ last;
       leads = record { allowed = free; recorded = same ∙ (neither _ _ last).0; after = after };
       account =
-          ap (λ (s : State). account_with old.rules s (origins_by (codes_of codes old.memory)) old.roots (old.steps + 1) (named_in old.memory) (fin.len old.memory)) after
+          ap (λ (s : State). account_with old.rules s (origins_by (codes_of codes old.memory)) old.roots (old.steps + 1)
+          (named_in old.memory) (fin.len old.memory)) after
           ∙ ap (λ (o : Origins). account_with old.rules next o old.roots (old.steps + 1) (named_in old.memory) (fin.len old.memory)) origins
           ∙ sym (ap (stepped_on old step) named);
     }
@@ -165,13 +171,15 @@ pub finished : (old new : Held) (step : Step) (target : ℕ) (derived recorded :
     → first_of (row_in (account_of old) step).tests ≡ None → IsFrom old step derived code
     → Finishes old target derived recorded code result new → EndsIn old step result new
 finished old new step target derived recorded code (Ok done) named writes same sized coded_so low free from ends =
-    subst (λ (h : Held). Makes old step h) (sym ends.1) (made old step target derived recorded code named writes same sized coded_so low free from ends.0)
+    subst (λ (h : Held). Makes old step h) (sym ends.1) (made old step target derived recorded code named writes same sized
+    coded_so low free from ends.0)
 finished old new step target derived recorded code (Err end) named writes same sized coded_so low free from ends =
     refused old new step (is_same_cap recorded derived) end named same free ends
 
 -- an operation on registers, by the rules
 pub row_by-operation : (rules : Rules) (target source : ℕ) (recorded : Cap) (tests : List (Bool × OpFault)) (result : Cap)
-    → row_by rules (operation target source recorded tests result) ≡ operation target source recorded (tests_by rules tests) (value_by rules tests result)
+    → row_by rules (operation target source recorded tests result) ≡ operation target source recorded (tests_by rules tests)
+    (value_by rules tests result)
 row_by-operation One target source recorded tests result = refl
 row_by-operation TwoStrict target source recorded tests result = refl
 row_by-operation TwoClear target source recorded tests result = refl
@@ -203,7 +211,8 @@ unaccessed state step target recorded is = ap (λ (r : Row). r.access) is.1
 from_source : (old : Held) (step : Step) (source : ℕ) (derived : Cap) → IsSource (state_of old) step source
     → IsFrom old step derived (get_or old.codes source 0)
 from_source old step source derived is held =
-    ap (λ (o : Option Place). option_and_then (origins_by (code_in old)) (option_map key_of o)) is.1 ∙ ap place_at (code-register old source is.0)
+    ap (λ (o : Option Place). option_and_then (origins_by (code_in old)) (option_map key_of o)) is.1
+    ∙ ap place_at (code-register old source is.0)
 
 -- and stays within it
 pub source_within : (old : Held) (step : Step) (target source : ℕ) (recorded derived : Cap) → IsStepInRange step
@@ -233,8 +242,11 @@ pub operation_faulted : (old : Held) (step : Step) (target : ℕ) (recorded : Ca
     → IsOperation (state_of old) step target recorded → Derives old step (Err fault) → refusal ≡ refusal_of fault
     → EndsStep old step (Refused refusal) old
 operation_faulted old step target recorded fault refusal is derives same =
-    let row = operation_row old step target recorded is in
-    (first_mapped-some (row_in (account_of old) step).tests _ fault (ap (λ (r : Row). first_of r.tests) row ∙ derives) ∙ ap (λ (r : Refusal). Some r) (sym same), refl)
+    let row = operation_row old step target recorded is in (
+      first_mapped-some (row_in (account_of old) step).tests _ fault (ap (λ (r : Row). first_of r.tests) row ∙ derives)
+          ∙ ap (λ (r : Refusal). Some r) (sym same),
+      refl,
+    )
 
 -- a step that puts an entry into a granule
 put_made : (old : Held) (step : Step) (granule : ℕ) (entry : Entry) (value : Cap) (code : ℕ)
@@ -259,10 +271,13 @@ put_made old step granule entry value code named writes same holds code_is from 
       tests = step_tests-free old step free ∙ tail_named old step granule false named same within;
       leads = record { allowed = free; recorded = same; after = after };
       account =
-          ap (λ (s : State). account_with old.rules s (origins_by (codes_of old.codes memory)) old.roots (old.steps + 1) (named_in memory) (fin.len memory)) after
+          ap (λ (s : State). account_with old.rules s (origins_by (codes_of old.codes memory)) old.roots (old.steps + 1)
+          (named_in memory) (fin.len memory)) after
           ∙ ap (λ (o : Origins). account_with old.rules next o old.roots (old.steps + 1) (named_in memory) (fin.len memory)) origins_are
-          ∙ ap (λ (names : ℕ → Bool). account_with old.rules next origins old.roots (old.steps + 1) names (fin.len memory)) (named-put old.memory granule entry)
-          ∙ ap (account_with old.rules next origins old.roots (old.steps + 1) (also_named granule (named_in old.memory))) (len-put old.memory granule entry)
+          ∙ ap (λ (names : ℕ → Bool). account_with old.rules next origins old.roots (old.steps + 1) names (fin.len memory))
+          (named-put old.memory granule entry)
+          ∙ ap (account_with old.rules next origins old.roots (old.steps + 1) (also_named granule (named_in old.memory)))
+          (len-put old.memory granule entry)
           ∙ sym (ap (stepped_on old step) named);
     }
 
@@ -286,7 +301,8 @@ put_finished : (old new : Held) (step : Step) (granule : ℕ) (entry : Entry) (v
     → EndsPutIn old granule (record old { memory = fin.insert old.memory granule entry; steps = old.steps + 1 }) result new
     → EndsIn old step result new
 put_finished old new step granule entry value code (Ok done) named writes same holds code_is from free put_is =
-    subst (λ (h : Held). Makes old step h) (sym put_is.1) (put_made old step granule entry value code named writes same holds code_is from free put_is.0)
+    subst (λ (h : Held). Makes old step h) (sym put_is.1) (put_made old step granule entry value code named writes same
+    holds code_is from free put_is.0)
 put_finished old new step granule entry value code (Err end) named writes same holds code_is from free put_is =
     put_ended old new step granule end named same free put_is
 
@@ -303,7 +319,8 @@ stored old new source authority offset result fits low coded free put_is =
     let code = get_or old.codes source 0 in
     let same = code-register old source low in
     let row = same_row old (steps.StoreCap source authority offset) _ refl in
-    put_finished old new (steps.StoreCap source authority offset) (address_through (state_of old) authority offset / 16) (cap_is.tag, memory_of cap_is.word.0, code) cap_is code result
+    put_finished old new (steps.StoreCap source authority offset) (address_through (state_of old) authority offset / 16)
+    (cap_is.tag, memory_of cap_is.word.0, code) cap_is code result
     (ap named_by row) (ap (λ (r : Row). r.writes) row) (ap is_recorded row)
     (ap (λ (n : ℕ). let c : Cap = record { tag = cap_is.tag; word = record { 0 = n } } in c) (stored_word-memory_of cap_is.word.0 fits))
     (sym (code_for-coded cap_is.tag code (subst (IsCoded cap_is.tag) same coded))) (λ held. ap place_at same)
@@ -324,7 +341,8 @@ granule_bytes held granule stored_all =
     let sixteen = length-bytes_at held.memory stored_all granule in
     let same : granule_key granule - 32 ≡ granule = omega arith in
     let past : nat_lt (granule_key granule) 32 ≡ false = le-ltb (granule_key granule) 32 (omega arith) in
-    ap (λ (b : Bool). memory_of (let c : Cap = if b then get_or held.registers (granule_key granule) untagged_null else granule_cap held.memory (granule_key granule - 32) in c).word.0) past
+    ap (λ (b : Bool). memory_of (let c : Cap = if b then get_or held.registers (granule_key granule)
+    untagged_null else granule_cap held.memory (granule_key granule - 32) in c).word.0) past
     ∙ ap (λ (g : ℕ). memory_of (stored_word (bytes_at held.memory g))) same
     ∙ memory_of-stored_word bytes sixteen (λ i. byte_small bytes i (bytes_at_fit held.memory stored_all granule))
 
@@ -333,16 +351,27 @@ pub stored_value : (old new : Held) (authority : ℕ) (offset : ℤ) (size value
     → AreStored old.memory
     → first_of (row_of (state_of old) (steps.Store authority offset size value)).tests ≡ None
     → EndsPutIn old (address_through (state_of old) authority offset / 16)
-    (with_value_put old (address_through (state_of old) authority offset / 16) (address_through (state_of old) authority offset % 16) size value) result new
+    (with_value_put old (address_through (state_of old) authority offset / 16)
+    (address_through (state_of old) authority offset % 16) size value) result new
     → EndsIn old (steps.Store authority offset size value) result new
 stored_value old new authority offset size value result stored_all free put_is =
     let a = address_through (state_of old) authority offset in
     let g = a / 16 in
     let cap_is = state_of old (granule_key g) in
     let row = same_row old (steps.Store authority offset size value) _ refl in
-    put_finished old new (steps.Store authority offset size value) g (false, overwritten (bytes_at old.memory g) (a % 16) (low_bytes size value), 0) (with_value cap_is (a % 16) size value) 0 result
+    put_finished old new (steps.Store authority offset size value) g (
+      false,
+      overwritten (bytes_at old.memory g) (a % 16) (low_bytes size value),
+      0,
+    ) (with_value cap_is (a % 16) size value) 0 result
     (ap named_by row) (ap (λ (r : Row). r.writes) row) (ap is_recorded row)
-    (ap (λ (bytes : List ℕ). let c : Cap = record { tag = false; word = record { 0 = stored_word (overwritten bytes (a % 16) (low_bytes size value)) } } in c) (sym (granule_bytes old g stored_all)))
+    (ap (λ (bytes : List ℕ). let c : Cap = record {
+      tag = false;
+      word = record {
+        0 = stored_word
+            (overwritten bytes (a % 16) (low_bytes size value));
+      };
+    } in c) (sym (granule_bytes old g stored_all)))
     refl (λ held. absurd (false≢true held))
     (ap (λ (r : Row). first_of r.tests) row ∙ free) put_is
 
@@ -358,7 +387,8 @@ value_in held address (suc (suc size)) stored_all inside =
     let rest = value_in held (address + 1) (suc size) stored_all (omega arith)
     ∙ ap (λ (g : ℕ). number_at (bytes_at held.memory g) ((address + 1) % 16) (suc size)) same_granule
     ∙ ap (λ (p : ℕ). number_at (bytes_at held.memory (address / 16)) p (suc size)) next_place in
-    ap (λ (bytes : List ℕ). get_or bytes (address % 16) 0 + 256 * value_at (state_of held) (address + 1) (suc size)) (granule_bytes held (address / 16) stored_all)
+    ap (λ (bytes : List ℕ). get_or bytes (address % 16) 0 + 256 * value_at (state_of held) (address + 1) (suc size))
+    (granule_bytes held (address / 16) stored_all)
     ∙ ap (λ (v : ℕ). get_or (bytes_at held.memory (address / 16)) (address % 16) 0 + 256 * v) rest
 
 -- a load is made
@@ -379,7 +409,8 @@ loaded_value old authority offset size value free same few =
           ∙ ap (λ (b : Bool). first_of (ending true b)) (lt-leb most_steps old.steps few);
       leads = record { allowed = allowed; recorded = recorded; after = after };
       account =
-          ap (λ (s : State). account_with old.rules s (origins_after (origins_by (code_in old)) (state_of old) step s) old.roots (old.steps + 1) (named_in old.memory) (fin.len old.memory)) after
+          ap (λ (s : State). account_with old.rules s (origins_after (origins_by (code_in old)) (state_of old) step s) old.roots
+          (old.steps + 1) (named_in old.memory) (fin.len old.memory)) after
           ∙ sym (ap (stepped_on old step) (ap named_by row));
     }
 
@@ -391,22 +422,29 @@ pub load_refused : (old : Held) (authority : ℕ) (offset : ℤ) (size value : �
     → EndsStep old (steps.Load authority offset size value) (Refused refusal) old
 load_refused old authority offset size value recorded refusal free same found =
     let step = steps.Load authority offset size value in
-    let row = same_row old step _ refl in
-    (step_tests-free old step (ap (λ (r : Row). first_of r.tests) row ∙ free) ∙ tail_unnamed old step recorded (ap named_by row) (ap is_recorded row ∙ same) ∙ found, refl)
+    let row = same_row old step _ refl in (
+      step_tests-free old step (ap (λ (r : Row). first_of r.tests) row ∙ free)
+          ∙ tail_unnamed old step recorded (ap named_by row) (ap is_recorded row ∙ same) ∙ found,
+      refl,
+    )
 
 -- an access that is refused
 pub faulted_as : (old : Held) (step : Step) (access : Access) (fault : OpFault) (refusal : Refusal)
     → (row_of (state_of old) step).access ≡ Some access
     → first_of (row_of (state_of old) step).tests ≡ Some fault → refusal ≡ refusal_of fault → EndsStep old step (Refused refusal) old
 faulted_as old step access fault refusal accesses found is =
-    let row = same_row old step access accesses in
-    (first_mapped-some (row_in (account_of old) step).tests _ fault (ap (λ (r : Row). first_of r.tests) row ∙ found) ∙ ap (λ (r : Refusal). Some r) (sym is), refl)
+    let row = same_row old step access accesses in (
+      first_mapped-some (row_in (account_of old) step).tests _ fault (ap (λ (r : Row). first_of r.tests) row ∙ found)
+          ∙ ap (λ (r : Refusal). Some r) (sym is),
+      refl,
+    )
 
 -- a loaded capability
 pub loaded_cap : (old new : Held) (target authority : ℕ) (offset : ℤ) (recorded : Cap) (result : Result (Unit {0}) StepEnd)
     → length old.registers ≡ 32 → length old.codes ≡ 32 → target ≤ 31
     → first_of (row_of (state_of old) (steps.LoadCap target authority offset recorded)).tests ≡ None
-    → (let key = granule_key (granule_through (state_of old) authority offset) in let derived = loaded_result (state_of old authority) (state_of old key) in
+    → (let key = granule_key (granule_through (state_of old) authority offset) in
+    let derived = loaded_result (state_of old authority) (state_of old key) in
     Finishes old target derived recorded (code_for derived.tag (code_in old key)) result new)
     → EndsIn old (steps.LoadCap target authority offset recorded) result new
 loaded_cap old new target authority offset recorded result sized coded_so low free ends =
@@ -415,7 +453,8 @@ loaded_cap old new target authority offset recorded result sized coded_so low fr
     let key = granule_key (granule_through (state_of old) authority offset) in
     let derived = loaded_result (state_of old authority) (state_of old key) in
     finished old new step target derived recorded (code_for derived.tag (code_in old key)) result
-    (ap named_by row) (ap (λ (r : Row). r.writes) row) (ap is_recorded row) sized coded_so low (ap (λ (r : Row). first_of r.tests) row ∙ free)
+    (ap named_by row) (ap (λ (r : Row). r.writes) row) (ap is_recorded row) sized coded_so low
+    (ap (λ (r : Row). first_of r.tests) row ∙ free)
     (λ held. ap (λ (b : Bool). place_at (code_for b (code_in old key))) (sym held)) ends
 
 -- what an offset is, passed to a call

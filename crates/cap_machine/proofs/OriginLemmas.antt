@@ -91,7 +91,8 @@ after_run account (step ∷ steps) (next ∷ states) run =
     let after = with_step account step in
     let one = with_step-grows account step in
     let same : after.state ≡ next = sym run.0.after in
-    let later = subst (λ (rules : Rules). IsRun rules after.state steps states) (sym one.rules_stay) (subst (λ (state : State). IsRun account.rules state steps states) (sym same) run.1) in
+    let later = subst (λ (rules : Rules). IsRun rules after.state steps states) (sym one.rules_stay)
+    (subst (λ (state : State). IsRun account.rules state steps states) (sym same) run.1) in
     let rest = after_run after steps states later in (
       rest.0 ∙ ap (λ (state : State). last_of state states) same,
       rest.1 ∙ ap (λ (state : State). origins_along (origins_after account.origin account.state step state) state steps states) same,
@@ -137,10 +138,13 @@ origins_found rules roots steps states sound distinct ranges run key held =
     let after = after_run rooted steps states (from_roots rules roots steps states distinct run) in
     let last = last_moment rules (start roots) steps states run in
     let state_is = sym (last_after rules roots steps states distinct run) ∙ sym last.0 in
-    let root = one_root rules roots steps states sound ranges run (length steps) (omega arith) key (ap (λ (s : State). (s key).tag) (sym state_is) ∙ held) in
+    let root = one_root rules roots steps states sound ranges run (length steps) (omega arith) key
+    (ap (λ (s : State). (s key).tag) (sym state_is) ∙ held) in
     let descends = root.1 in
-    let whole = subst (λ (l : List Step). Descends (start roots) l (take (length steps) states) key (key_of root.0.place)) (take_all (length steps) steps (omega arith)) descends.descends in
-    let back = subst (λ (l : List State). Descends (start roots) steps l key (key_of root.0.place)) (take_all (length steps) states (omega (arith, last.1))) whole in (
+    let whole = subst (λ (l : List Step). Descends (start roots) l (take (length steps) states) key (key_of root.0.place))
+    (take_all (length steps) steps (omega arith)) descends.descends in
+    let back = subst (λ (l : List State). Descends (start roots) steps l key (key_of root.0.place))
+    (take_all (length steps) states (omega (arith, last.1))) whole in (
       root.0,
       descends,
       ap (λ (o : Origins). o key) after.1

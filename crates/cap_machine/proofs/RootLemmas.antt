@@ -28,7 +28,8 @@ took old (Register n) word sized coded_so range fits free = record {
   tests = free;
   account =
       let state = put (state_of old) n (tagged word) in
-      ap (λ (s : State). account_with old.rules s (origins_by (codes_of (set old.codes n n) old.memory)) (old.roots + 1) old.steps (named_in old.memory) (map.len old.memory))
+      ap (λ (s : State). account_with old.rules s (origins_by (codes_of (set old.codes n n) old.memory)) (old.roots + 1) old.steps
+      (named_in old.memory) (map.len old.memory))
       (state-register old.registers old.memory n (tagged word) sized range.1)
       ∙ ap (λ (o : Origins). account_with old.rules state o (old.roots + 1) old.steps (named_in old.memory) (map.len old.memory))
       (ap origins_by (codes-register old.codes old.memory n n coded_so range.1) ∙ origins-put (code_in old) n n
@@ -42,11 +43,15 @@ took old (Granule g) word sized coded_so range fits free = record {
       let after = map.insert old.memory g entry in
       let state = put (state_of old) key (tagged word) in
       let origins = put (origins_by (code_in old)) key (Some (Granule g)) in
-      ap (λ (s : State). account_with old.rules s (origins_by (codes_of old.codes after)) (old.roots + 1) old.steps (named_in after) (map.len after))
-      (state-granule old.registers old.memory g entry ∙ ap (λ (n : ℕ). put (state_of old) key (tagged (record { 0 = n }))) (stored_word-memory_of word.0 fits))
+      ap (λ (s : State). account_with old.rules s (origins_by (codes_of old.codes after)) (old.roots + 1) old.steps
+      (named_in after) (map.len after))
+      (state-granule old.registers old.memory g entry ∙ ap (λ (n : ℕ). put (state_of old) key (tagged (record { 0 = n })))
+      (stored_word-memory_of word.0 fits))
       ∙ ap (λ (o : Origins). account_with old.rules state o (old.roots + 1) old.steps (named_in after) (map.len after))
       (ap origins_by (codes-granule old.codes old.memory g entry) ∙ origins-put (code_in old) key key
       ∙ ap (put (origins_by (code_in old)) key) (place_at-key (Granule g) range))
-      ∙ ap (λ (named : ℕ → Bool). account_with old.rules state origins (old.roots + 1) old.steps named (map.len after)) (named-put old.memory g entry)
-      ∙ ap (account_with old.rules state origins (old.roots + 1) old.steps (also_named g (named_in old.memory))) (len-put old.memory g entry);
+      ∙ ap (λ (named : ℕ → Bool). account_with old.rules state origins (old.roots + 1) old.steps named (map.len after))
+      (named-put old.memory g entry)
+      ∙ ap (account_with old.rules state origins (old.roots + 1) old.steps (also_named g (named_in old.memory)))
+      (len-put old.memory g entry);
 }

@@ -1,5 +1,6 @@
 -- A state whose tagged capabilities are sound stays such a state.
-use Rattle.std.proofs.Common.{◌≡◌, ℕ, ◌<◌, ◌≤◌, ◌^◌, ◌==◌, ◌-◌, Bool, true, false, not, ◌&&◌, eqb, refl, nat_lt, get_or, arith, List, length, sym, ap, subst, ◌∙◌}
+use Rattle.std.proofs.Common.{◌≡◌, ℕ, ◌<◌, ◌≤◌, ◌^◌, ◌==◌, ◌-◌, Bool, true, false, not, ◌&&◌, eqb, refl, nat_lt, get_or, arith, List}
+use Rattle.std.proofs.Common.{length, sym, ap, subst, ◌∙◌}
 use Rattle.std.specs.Bool.{if◌then◌else◌}
 use Rattle.std.proofs.Math.ListN.{set}
 use Rattle.std.proofs.lemmas.List.{get_or-set_other}
@@ -34,13 +35,16 @@ IsSoundState-null_state state empty key held = absurd (false≢true (sym (ap (λ
 pub sound_register : (registers : List Cap) (memory : Granules) (target : ℕ) (cap : Cap) → length registers ≡ 32 → target ≤ 31
     → IsSoundState (places_of registers memory) → IsSoundCap cap → IsSoundState (places_of (set registers target cap) memory)
 sound_register registers memory target cap sized low all one =
-    subst IsSoundState (sym (state-register registers memory target cap sized low)) (IsSoundState-put (places_of registers memory) target cap all one)
+    subst IsSoundState (sym (state-register registers memory target cap sized low))
+    (IsSoundState-put (places_of registers memory) target cap all one)
 
 -- a granule that holds another sound capability
 pub sound_granule : (registers : List Cap) (memory : Granules) (granule : ℕ) (entry : Entry)
-    → IsSoundState (places_of registers memory) → IsSoundCap (cap_of entry) → IsSoundState (places_of registers (map.insert memory granule entry))
+    → IsSoundState (places_of registers memory) → IsSoundCap (cap_of entry)
+    → IsSoundState (places_of registers (map.insert memory granule entry))
 sound_granule registers memory granule entry all one =
-    subst IsSoundState (sym (state-granule registers memory granule entry)) (IsSoundState-put (places_of registers memory) (granule_key granule) (cap_of entry) all one)
+    subst IsSoundState (sym (state-granule registers memory granule entry))
+    (IsSoundState-put (places_of registers memory) (granule_key granule) (cap_of entry) all one)
 
 -- a capability as its granule keeps it
 pub sound_entry : (cap : Cap) (code : ℕ) → cap.word.0 < 2 ^ 128 → IsSoundCap cap → IsSoundCap (cap_of (cap.tag, memory_of cap.word.0, code))
@@ -51,11 +55,13 @@ pub untagged_sound : (word : Word) → IsSoundCap (record { tag = false; word = 
 untagged_sound word held = absurd (false≢true held)
 
 -- a granule's capability is the state's at its key
-pub granule_state : (registers : List Cap) (memory : Granules) (granule : ℕ) → places_of registers memory (granule_key granule) ≡ granule_cap memory granule
+pub granule_state : (registers : List Cap) (memory : Granules) (granule : ℕ)
+    → places_of registers memory (granule_key granule) ≡ granule_cap memory granule
 granule_state registers memory granule =
     let past : nat_lt (granule_key granule) 32 ≡ false = le-ltb (granule_key granule) 32 (omega arith) in
     let same : granule_key granule - 32 ≡ granule = omega arith in
-    ap (λ (b : Bool). if b then get_or registers (granule_key granule) untagged_null else granule_cap memory (granule_key granule - 32)) past
+    ap (λ (b : Bool). if b then get_or registers (granule_key granule) untagged_null else granule_cap memory (granule_key granule - 32))
+    past
     ∙ ap (granule_cap memory) same
 
 -- register 0 stays NULL without a tag where another register is written

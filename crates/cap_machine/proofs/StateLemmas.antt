@@ -64,7 +64,8 @@ register_key registers default value granules target key sized low =
           ∙ get_or-set_same registers target value default (omega arith)
           ∙ sym (cond-true (target == key) value _ same.0)
       | inr unlike ↦
-          ap (λ c. if nat_lt key 32 then c else granules (key - 32)) (get_or-set_other registers target key value default (λ e. unlike.1 (sym e)))
+          ap (λ c. if nat_lt key 32 then c else granules (key - 32)) (get_or-set_other registers target key value
+          default (λ e. unlike.1 (sym e)))
           ∙ sym (cond-false (target == key) value _ unlike.0)
     ]
 
@@ -102,7 +103,8 @@ granule_of_key told memory granule entry key high =
           ∙ sym (cond-false (granule_key granule == key) (told entry) _ unlike.0)
     ]
 
-granule_key_put : {A : Type 0} (registers : List A) (default : A) (told : Entry → A) (memory : Granules) (granule : ℕ) (entry : Entry) (key : ℕ)
+granule_key_put : {A : Type 0} (registers : List A) (default : A) (told : Entry → A) (memory : Granules)
+    (granule : ℕ) (entry : Entry) (key : ℕ)
     → at_places registers default (telling told (map.insert memory granule entry)) key
     ≡ put (at_places registers default (telling told memory)) (granule_key granule) (told entry) key
 granule_key_put registers default told memory granule entry key =
@@ -122,7 +124,8 @@ granule_key_put registers default told memory granule entry key =
 
 -- a granule of which something else is told
 granule_put : {A : Type 0} (registers : List A) (default : A) (told : Entry → A) (memory : Granules) (granule : ℕ) (entry : Entry)
-    → at_places registers default (telling told (map.insert memory granule entry)) ≡ put (at_places registers default (telling told memory)) (granule_key granule) (told entry)
+    → at_places registers default (telling told (map.insert memory granule entry))
+    ≡ put (at_places registers default (telling told memory)) (granule_key granule) (told entry)
 granule_put registers default told memory granule entry = fun_ext (λ key. granule_key_put registers default told memory granule entry key)
 
 -- a granule that holds another entry
@@ -149,7 +152,8 @@ also_named granule named other = granule == other || named other
 pub named-put : (memory : Granules) (granule : ℕ) (entry : Entry)
     → named_in (map.insert memory granule entry) ≡ also_named granule (named_in memory)
 named-put memory granule entry =
-    fun_ext (λ other. ap is_some (get-put memory granule entry other) ∙ some_or entry (other == granule) (map.get memory other) ∙ ap (λ b. b || is_some (map.get memory other)) (eqb-turned other granule))
+    fun_ext (λ other. ap is_some (get-put memory granule entry other) ∙ some_or entry (other == granule) (map.get memory other)
+    ∙ ap (λ b. b || is_some (map.get memory other)) (eqb-turned other granule))
 
 -- an account of these
 abbrev pub account_with : Rules → State → Origins → ℕ → ℕ → (ℕ → Bool) → ℕ → Account
@@ -158,12 +162,22 @@ account_with rules_are state origins roots steps named granules =
 
 -- the account of registers that all hold NULL, and an empty memory
 pub blank_account : (rules_are : Rules) (memory : Granules) (value : Cap) → memory ≡ map.empty → value ≡ untagged_null
-    → account_of (record { rules = rules_are; registers = replicate 32 value; codes = replicate 32 0; memory = memory; roots = 0; steps = 0 }) ≡ no_account rules_are
+    → account_of (record {
+      rules = rules_are;
+      registers = replicate 32 value;
+      codes = replicate 32 0;
+      memory = memory;
+      roots = 0;
+      steps = 0;
+    }) ≡ no_account rules_are
 blank_account rules_are memory value empty null =
     let origins = λ (k : ℕ). place_at (codes_of (replicate 32 0) memory k) in
     let unrooted : Origins = λ k. None in
-    ap (λ (state : State). account_with rules_are state origins 0 0 (named_in memory) (map.len memory)) (fun_ext (λ key. blank_state memory value key empty null))
-    ∙ ap (λ (o : Origins). account_with rules_are null_state o 0 0 (named_in memory) (map.len memory)) (fun_ext (λ (key : ℕ). ap place_at (blank_code memory key empty)))
+    ap (λ (state : State). account_with rules_are state origins 0 0 (named_in memory) (map.len memory))
+    (fun_ext (λ key. blank_state memory value key empty null))
+    ∙ ap (λ (o : Origins). account_with rules_are null_state o 0 0 (named_in memory) (map.len memory))
+    (fun_ext (λ (key : ℕ). ap place_at (blank_code memory key empty)))
     ∙ ap (λ (m : Granules). account_with rules_are null_state unrooted 0 0 (named_in m) (map.len m)) empty
-    ∙ ap (λ (named : ℕ → Bool). let m : Granules = map.empty in account_with rules_are null_state unrooted 0 0 named (map.len m)) (fun_ext (λ (g : ℕ). ap is_some (map.get-empty nat_cmp g)))
+    ∙ ap (λ (named : ℕ → Bool). let m : Granules = map.empty in account_with rules_are null_state unrooted 0 0 named (map.len m))
+    (fun_ext (λ (g : ℕ). ap is_some (map.get-empty nat_cmp g)))
     ∙ ap (account_with rules_are null_state unrooted 0 0 (λ (g : ℕ). false)) (map.len-empty nat_cmp Entry)

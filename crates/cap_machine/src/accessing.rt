@@ -25,7 +25,7 @@ use crate::machine::{MOST_STEPS, Machine};
 use cap_log::{Load, LoadCap, Store, StoreCap};
 use cap_ops::{Access, Kind, OpFault, Refusal, loaded, may_access_soundly};
 use cap_word::Cap;
-use tagmem::{NoMemory, TaggedStore};
+use tagmem::TaggedStore;
 
 impl<M: TaggedStore> Machine<M> {
     // The address of an access through a register, where that allows it.
@@ -73,13 +73,9 @@ impl<M: TaggedStore> Machine<M> {
         if self.is_past_limits(granule) {
             return Err(StepEnd::Refused(Refusal::LimitPassed));
         }
-        match put_capability(&mut self.memory, granule, stored, code) {
-            Ok(()) => {
-                self.steps += 1;
-                Ok(())
-            }
-            Err(NoMemory) => Err(StepEnd::NoMemory),
-        }
+        put_capability(&mut self.memory, granule, stored, code)?;
+        self.steps += 1;
+        Ok(())
     }
 
     // Puts a value's bytes into a granule and counts the step.
@@ -102,28 +98,20 @@ impl<M: TaggedStore> Machine<M> {
         if self.is_past_limits(granule) {
             return Err(StepEnd::Refused(Refusal::LimitPassed));
         }
-        match put_number(&mut self.memory, granule, byte_index, size, value) {
-            Ok(()) => {
-                self.steps += 1;
-                Ok(())
-            }
-            Err(NoMemory) => Err(StepEnd::NoMemory),
-        }
+        put_number(&mut self.memory, granule, byte_index, size, value)?;
+        self.steps += 1;
+        Ok(())
     }
 }
 
 impl Instruction for LoadCap {
     #[inline(always)]
     fn perform<M: TaggedStore>(self, machine: &mut Machine<M>) -> Result<(), StepEnd> {
-        match machine.reach(self.authority, Kind::LoadCap, self.offset, 16) {
-            Ok(address) => {
-                let granule = machine.granule(address / 16);
-                let derived = loaded(machine.register(self.authority), granule);
-                let code = machine.granule_code(derived.tag, address / 16);
-                machine.finish(self.target, derived, self.result, code)
-            }
-            Err(fault) => Err(StepEnd::Refused(Refusal::from(fault))),
-        }
+        let address = machine.reach(self.authority, Kind::LoadCap, self.offset, 16)?;
+        let granule = machine.granule(address / 16);
+        let derived = loaded(machine.register(self.authority), granule);
+        let code = machine.granule_code(derived.tag, address / 16);
+        machine.finish(self.target, derived, self.result, code)
     }
 }
 
@@ -131,45 +119,33 @@ impl Instruction for StoreCap {
     #[inline(always)]
     fn perform<M: TaggedStore>(self, machine: &mut Machine<M>) -> Result<(), StepEnd> {
         let stored = machine.register(self.source);
-        match machine.reach(self.authority, Kind::StoreCap(stored), self.offset, 16) {
-            Ok(address) => {
-                let code = machine.codes[self.source as usize];
-                machine.put_counted(address / 16, stored, code)
-            }
-            Err(fault) => Err(StepEnd::Refused(Refusal::from(fault))),
-        }
+        let address = machine.reach(self.authority, Kind::StoreCap(stored), self.offset, 16)?;
+        let code = machine.codes[self.source as usize];
+        machine.put_counted(address / 16, stored, code)
     }
 }
 
 impl Instruction for Store {
     #[inline(always)]
     fn perform<M: TaggedStore>(self, machine: &mut Machine<M>) -> Result<(), StepEnd> {
-        match machine.reach(self.authority, Kind::StoreData, self.offset, self.size) {
-            Ok(address) => {
-                let byte = (address % 16) as u8;
-                machine.put_value_counted(address / 16, byte, self.size, self.value)
-            }
-            Err(fault) => Err(StepEnd::Refused(Refusal::from(fault))),
-        }
+        let address = machine.reach(self.authority, Kind::StoreData, self.offset, self.size)?;
+        let byte = (address % 16) as u8;
+        machine.put_value_counted(address / 16, byte, self.size, self.value)
     }
 }
 
 impl Instruction for Load {
     #[inline(always)]
     fn perform<M: TaggedStore>(self, machine: &mut Machine<M>) -> Result<(), StepEnd> {
-        match machine.reach(self.authority, Kind::LoadData, self.offset, self.size) {
-            Ok(address) => {
-                let byte = (address % 16) as u8;
-                if number_in(&machine.memory, address / 16, byte, self.size) != self.value {
-                    return Err(StepEnd::Refused(Refusal::WrongResult));
-                }
-                if machine.steps >= MOST_STEPS {
-                    return Err(StepEnd::Refused(Refusal::LimitPassed));
-                }
-                machine.steps += 1;
-                Ok(())
-            }
-            Err(fault) => Err(StepEnd::Refused(Refusal::from(fault))),
+        let address = machine.reach(self.authority, Kind::LoadData, self.offset, self.size)?;
+        let byte = (address % 16) as u8;
+        if number_in(&machine.memory, address / 16, byte, self.size) != self.value {
+            return Err(StepEnd::Refused(Refusal::WrongResult));
         }
+        if machine.steps >= MOST_STEPS {
+            return Err(StepEnd::Refused(Refusal::LimitPassed));
+        }
+        machine.steps += 1;
+        Ok(())
     }
 }

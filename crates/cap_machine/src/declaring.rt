@@ -40,13 +40,9 @@ impl<M: TaggedStore> Machine<M> {
         if let Some(refusal) = self.root_fault(place, word) {
             return Err(StepEnd::Refused(refusal));
         }
-        match self.place_root(place, word) {
-            Ok(()) => {
-                self.roots += 1;
-                Ok(())
-            }
-            Err(NoMemory) => Err(StepEnd::NoMemory),
-        }
+        self.place_root(place, word)?;
+        self.roots += 1;
+        Ok(())
     }
 
     // What a place holds.

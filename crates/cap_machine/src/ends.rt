@@ -1,6 +1,11 @@
 //! Why a root or a step was not made.
 
-use cap_ops::Refusal;
+ghost use Rattle.std.specs.Prelude.{◌≡◌};
+ghost use Rattle.cap_ops.specs.Refusals.{refusal_of};
+ghost use Rattle.cap_machine.specs.declared.ends.StepEnd.TheVariants as ends;
+
+use cap_ops::{OpFault, Refusal};
+use tagmem::NoMemory;
 
 /// Why a machine did not take a root or make a step. It is then as it was before.
 #[derive(Debug, Clone, Copy, PartialEq, Eq)]
@@ -9,4 +14,20 @@ pub enum StepEnd {
     Refused(Refusal),
     /// No test holds, but there was no memory for a granule that is named for the first time.
     NoMemory,
+}
+
+impl From<OpFault> for StepEnd {
+    ghost from_gives = { λ fault end. end ≡ ends.Refused (refusal_of fault) };
+
+    fn from(fault: OpFault) -> StepEnd {
+        StepEnd::Refused(Refusal::from(fault))
+    }
+}
+
+impl From<NoMemory> for StepEnd {
+    ghost from_gives = { λ _ end. end ≡ ends.NoMemory };
+
+    fn from(_fault: NoMemory) -> StepEnd {
+        StepEnd::NoMemory
+    }
 }

@@ -225,10 +225,8 @@ impl<M: TaggedStore> Machine<M> {
         requires derives { Derives (held_of M.contents self.old) (O.step step) outcome }
         ensures { AnswersStep (held_of M.contents self.old) (O.step step) result (held_of M.contents self.new) }
     {
-        match outcome {
-            Ok(derived) => self.finish(target, derived, recorded, self.codes[source as usize]),
-            Err(fault) => Err(StepEnd::Refused(Refusal::from(fault))),
-        }
+        let derived = outcome?;
+        self.finish(target, derived, recorded, self.codes[source as usize])
     }
 
     // Writes a step's result to a register, with its parent's code where it is tagged, and counts the

@@ -10,7 +10,14 @@ use Rattle.cap_machine.proofs.granules.number_from.Goals as goal
 -- a data size that is none of the smaller ones
 eight : (size : ℕ) → IsDataSize size → size ≢ 1 → size ≢ 2 → size ≢ 4 → size ≡ 8
 eight size sized one two four =
-    elim sized [ inl e ↦ absurd (one e) | inr s ↦ elim s [ inl e ↦ absurd (two e) | inr t ↦ elim t [ inl e ↦ absurd (four e) | inr e ↦ e ] ] ]
+    elim sized [
+      | inl e ↦ absurd (one e)
+      | inr s ↦ elim s [
+        | inl e ↦ absurd (two e)
+        | inr t ↦
+            elim t [ inl e ↦ absurd (four e) | inr e ↦ e ]
+      ]
+    ]
 
 pub returns-then-size-eq1 : goal.returns-then-size-eq1
 returns-then-size-eq1 c =

@@ -2,6 +2,8 @@ use Rattle.std.proofs.Common.{ℕ, sym, ap, ◌∙◌, refl, rules, true, false,
 use Rattle.std.proofs.lemmas.Bool.{eq-eqb, ne_eqb}
 use Rattle.cap_log.specs.declared.lines.Step.TheVariants as steps
 use Rattle.cap_ops.specs.declared.kinds.Kind.TheVariants as kinds
+use Rattle.std.proofs.lemmas.Result.{err_from_is_err_and}
+use Rattle.cap_ops.specs.Refusals.{refusal_of}
 use Rattle.cap_machine.specs.Changes.{ReachesAddress}
 use Rattle.cap_machine.specs.Helds.{held_of, state_of}
 use Rattle.cap_machine.specs.States.{value_at}
@@ -11,9 +13,11 @@ use Rattle.cap_machine.proofs.accessing.LoadInstruction.perform.Goals as goal
 pub returns-then-number_in-self : goal.returns-then-number_in-self
 returns-then-number_in-self g c =
     let old = held_of g.M.TaggedStore.contents c.args.machine.now in
-    let address = c.in-Ok.address in
-    let out = passed (λ o. ReachesAddress (state_of old) c.args.self.authority kinds.LoadData o c.args.self.size (Ok c.in-Ok.address)) c.args.self.offset (search rules) c.in-Ok.ensures.outcome in
-    let read = c.number_in.ensures ∙ sym (value_in old address c.args.self.size (g.met.M.TaggedStore.are_stored c.args.machine.now.memory) c.in-Ok.ensures.in_one_granule)
+    let address = c.in_ok-address.address in
+    let out = passed (λ o. ReachesAddress (state_of old) c.args.self.authority kinds.LoadData o c.args.self.size
+    (Ok c.in_ok-address.address)) c.args.self.offset (search rules) c.in_ok-address.ensures.outcome in
+    let read = c.number_in.ensures ∙ sym (value_in old address c.args.self.size (g.met.M.TaggedStore.are_stored c.args.machine.now.memory)
+    c.in_ok-address.ensures.in_one_granule)
     ∙ ap (λ (a : ℕ). value_at (state_of old) a c.args.self.size) out.1 in
     load_refused old c.args.self.authority c.args.self.offset c.args.self.size c.args.self.value false _ out.0
     (ne_eqb c.args.self.value _ (λ e. c.if-number_in-self.true (read ∙ sym e))) refl
@@ -21,25 +25,34 @@ returns-then-number_in-self g c =
 pub returns-then-machine-ge-MOST_STEPS : goal.returns-then-machine-ge-MOST_STEPS
 returns-then-machine-ge-MOST_STEPS g c =
     let old = held_of g.M.TaggedStore.contents c.args.machine.now in
-    let address = c.in-Ok.address in
-    let out = passed (λ o. ReachesAddress (state_of old) c.args.self.authority kinds.LoadData o c.args.self.size (Ok c.in-Ok.address)) c.args.self.offset (search rules) c.in-Ok.ensures.outcome in
-    let read = c.number_in.ensures ∙ sym (value_in old address c.args.self.size (g.met.M.TaggedStore.are_stored c.args.machine.now.memory) c.in-Ok.ensures.in_one_granule)
+    let address = c.in_ok-address.address in
+    let out = passed (λ o. ReachesAddress (state_of old) c.args.self.authority kinds.LoadData o c.args.self.size
+    (Ok c.in_ok-address.address)) c.args.self.offset (search rules) c.in_ok-address.ensures.outcome in
+    let read = c.number_in.ensures ∙ sym (value_in old address c.args.self.size (g.met.M.TaggedStore.are_stored c.args.machine.now.memory)
+    c.in_ok-address.ensures.in_one_granule)
     ∙ ap (λ (a : ℕ). value_at (state_of old) a c.args.self.size) out.1 in
     load_refused old c.args.self.authority c.args.self.offset c.args.self.size c.args.self.value true _ out.0
     (eq-eqb c.args.self.value _ (sym c.if-number_in-self.false ∙ read)) (search rules)
 
-pub returns-else-machine-ge-MOST_STEPS : goal.returns-else-machine-ge-MOST_STEPS
-returns-else-machine-ge-MOST_STEPS g c =
+pub returns : goal.returns
+returns g c =
     let old = held_of g.M.TaggedStore.contents c.args.machine.now in
-    let address = c.in-Ok.address in
-    let out = passed (λ o. ReachesAddress (state_of old) c.args.self.authority kinds.LoadData o c.args.self.size (Ok c.in-Ok.address)) c.args.self.offset (search rules) c.in-Ok.ensures.outcome in
-    let read = c.number_in.ensures ∙ sym (value_in old address c.args.self.size (g.met.M.TaggedStore.are_stored c.args.machine.now.memory) c.in-Ok.ensures.in_one_granule)
+    let address = c.in_ok-address.address in
+    let out = passed (λ o. ReachesAddress (state_of old) c.args.self.authority kinds.LoadData o c.args.self.size
+    (Ok c.in_ok-address.address)) c.args.self.offset (search rules) c.in_ok-address.ensures.outcome in
+    let read = c.number_in.ensures ∙ sym (value_in old address c.args.self.size (g.met.M.TaggedStore.are_stored c.args.machine.now.memory)
+    c.in_ok-address.ensures.in_one_granule)
     ∙ ap (λ (a : ℕ). value_at (state_of old) a c.args.self.size) out.1 in
-    loaded_value old c.args.self.authority c.args.self.offset c.args.self.size c.args.self.value out.0 (sym c.if-number_in-self.false ∙ read) c.if-machine-ge-MOST_STEPS.false
+    loaded_value old c.args.self.authority c.args.self.offset c.args.self.size c.args.self.value out.0
+    (sym c.if-number_in-self.false ∙ read) c.if-machine-ge-MOST_STEPS.false
 
-pub returns-in-Err : goal.returns-in-Err
-returns-in-Err g c =
+pub returns-in_err-address : goal.returns-in_err-address
+returns-in_err-address g c =
+    let fault = c.in_err-address.field-0.0 in
     let old = held_of g.M.TaggedStore.contents c.args.machine.now in
-    faulted_as old (steps.Load c.args.self.authority c.args.self.offset c.args.self.size c.args.self.value) _ c.in-Err.fault c.from.result refl
-    (passed (λ o. ReachesAddress (state_of old) c.args.self.authority kinds.LoadData o c.args.self.size (Err c.in-Err.fault)) c.args.self.offset (search rules) c.in-Err.ensures.outcome)
-    c.from.ensures
+    let is = err_from_is_err_and c.from_residual.result c.from_residual.ensures.1 in
+    rw (is.1, is.2) (faulted_as old (steps.Load c.args.self.authority c.args.self.offset c.args.self.size c.args.self.value)
+    _ fault (refusal_of fault) refl
+    (passed (λ o. ReachesAddress (state_of old) c.args.self.authority kinds.LoadData o c.args.self.size (Err fault)) c.args.self.offset
+    (search rules) c.in_err-address.ensures.outcome)
+    refl)

@@ -4,33 +4,45 @@ use Rattle.cap_log.specs.declared.lines.Step.TheVariants as steps
 use Rattle.cap_ops.specs.declared.kinds.Kind.TheVariants as kinds
 use Rattle.cap_ops.specs.Tests.{first_of}
 use Rattle.cap_ops.specs.Accesses.{access_address, access_tests}
+use Rattle.std.proofs.lemmas.Result.{err_from_is_err_and}
+use Rattle.cap_ops.specs.Refusals.{refusal_of}
 use Rattle.cap_machine.specs.Changes.{ReachesAddress}
 use Rattle.cap_machine.specs.Helds.{held_of, state_of}
 use Rattle.cap_machine.specs.Changes.{with_cap_put}
 use Rattle.cap_machine.proofs.MadeLemmas.{EndsPutIn, stored, faulted_as, passed}
 use Rattle.cap_machine.proofs.accessing.StoreCapInstruction.perform.Goals as goal
 
-pub returns-in-Ok : goal.returns-in-Ok
-returns-in-Ok g c =
+pub returns : goal.returns
+returns g c =
     let machine = c.args.machine.now in
     let old = held_of g.M.TaggedStore.contents machine in
     let new = held_of g.M.TaggedStore.contents c.put_counted.new.self in
     let state = state_of old in
-    let address = c.in-Ok.address in
+    let address = c.in_ok-address.address in
     let code = get_or old.codes c.args.self.source 0 in
     let is = c.register-stored.ensures.holds in
-    let out = subst (λ (cap : Cap). (first_of (access_tests (state c.args.self.authority) (kinds.StoreCap cap) c.args.self.offset 16) ≡ None)
+    let out = subst (λ (cap : Cap). (first_of (access_tests (state c.args.self.authority) (kinds.StoreCap cap) c.args.self.offset 16)
+    ≡ None)
     × (address ≡ access_address (state c.args.self.authority).word.0 c.args.self.offset)) is
-    (passed (λ o. ReachesAddress (state_of old) c.args.self.authority (kinds.StoreCap c.register-stored.result) o 16 (Ok c.in-Ok.address)) c.args.self.offset (search rules) c.in-Ok.ensures.outcome) in
-    let put_there = subst (λ (cap : Cap). EndsPutIn old (address / 16) (with_cap_put old (address / 16) cap code) c.put_counted.result new) is c.put_counted.ensures in
-    let put_through = subst (λ (a : ℕ). EndsPutIn old (a / 16) (with_cap_put old (a / 16) (state c.args.self.source) code) c.put_counted.result new) out.1 put_there in
-    stored old new c.args.self.source c.args.self.authority c.args.self.offset c.put_counted.result (subst (λ (cap : Cap). cap.word.0 < 2 ^ 128) is (search rules))
+    (passed (λ o. ReachesAddress (state_of old) c.args.self.authority (kinds.StoreCap c.register-stored.result) o 16
+    (Ok c.in_ok-address.address)) c.args.self.offset (search rules) c.in_ok-address.ensures.outcome) in
+    let put_there = subst (λ (cap : Cap). EndsPutIn old (address / 16) (with_cap_put old (address / 16) cap code) c.put_counted.result new)
+    is c.put_counted.ensures in
+    let put_through = subst (λ (a : ℕ). EndsPutIn old (a / 16) (with_cap_put old (a / 16) (state c.args.self.source) code)
+    c.put_counted.result new) out.1 put_there in
+    stored old new c.args.self.source c.args.self.authority c.args.self.offset c.put_counted.result
+    (subst (λ (cap : Cap). cap.word.0 < 2 ^ 128) is (search rules))
     c.requires.0 (machine.coded c.args.self.source) out.0 put_through
 
-pub returns-in-Err : goal.returns-in-Err
-returns-in-Err g c =
+pub returns-in_err-address : goal.returns-in_err-address
+returns-in_err-address g c =
+    let fault = c.in_err-address.field-0.0 in
     let old = held_of g.M.TaggedStore.contents c.args.machine.now in
-    let found = subst (λ (cap : Cap). first_of (access_tests (state_of old c.args.self.authority) (kinds.StoreCap cap) c.args.self.offset 16) ≡ Some c.in-Err.fault)
+    let found = subst (λ (cap : Cap). first_of (access_tests (state_of old c.args.self.authority) (kinds.StoreCap cap)
+    c.args.self.offset 16) ≡ Some fault)
     c.register-stored.ensures.holds
-    (passed (λ o. ReachesAddress (state_of old) c.args.self.authority (kinds.StoreCap c.register-stored.result) o 16 (Err c.in-Err.fault)) c.args.self.offset (search rules) c.in-Err.ensures.outcome) in
-    faulted_as old (steps.StoreCap c.args.self.source c.args.self.authority c.args.self.offset) _ c.in-Err.fault c.from.result refl found c.from.ensures
+    (passed (λ o. ReachesAddress (state_of old) c.args.self.authority (kinds.StoreCap c.register-stored.result) o 16 (Err fault))
+    c.args.self.offset (search rules) c.in_err-address.ensures.outcome) in
+    let is = err_from_is_err_and c.from_residual.result c.from_residual.ensures.1 in
+    rw (is.1, is.2) (faulted_as old (steps.StoreCap c.args.self.source c.args.self.authority c.args.self.offset) _ fault
+    (refusal_of fault) refl found refl)

@@ -16,6 +16,7 @@ invariant_of-self g c =
     record {
       zero = zero_register machine.registers c.args.target c.args.recorded c.requires.target.0 machine.zero;
       sound = sound_register machine.registers memory c.args.target c.args.recorded (search rules) c.requires.target.1 machine.sound sound;
-      coded = coded_register machine.registers machine.codes memory c.args.target c.args.recorded c.code_for.result (search rules) (search rules)
+      coded = coded_register machine.registers machine.codes memory c.args.target c.args.recorded c.code_for.result
+          (search rules) (search rules)
           c.requires.target.1 machine.coded (subst (λ (cap : Cap). IsCoded cap.tag c.code_for.result) same coded);
     }

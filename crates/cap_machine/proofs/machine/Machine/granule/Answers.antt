@@ -7,4 +7,5 @@ use Rattle.cap_machine.proofs.machine.Machine.granule.Goals as goal
 pub returns-clause-sound : goal.returns-clause-sound
 returns-clause-sound g c =
     let machine = c.args.self.now in
-    subst IsSoundCap (granule_state machine.registers (g.M.TaggedStore.contents machine.memory) c.args.granule ∙ sym c.capability_at.ensures) (machine.sound (granule_key c.args.granule))
+    subst IsSoundCap (granule_state machine.registers (g.M.TaggedStore.contents machine.memory) c.args.granule
+    ∙ sym c.capability_at.ensures) (machine.sound (granule_key c.args.granule))

@@ -19,8 +19,10 @@ invariant_of-self g c =
     let fits = subst IsPlace c.in-Register.is c.requires.in_range in
     record {
       zero = zero_register machine.registers number (tagged c.args.word) fits.0 machine.zero;
-      sound = sound_register machine.registers memory number (tagged c.args.word) (search rules) fits.1 machine.sound (λ _. c.requires.sound);
-      coded = coded_register machine.registers machine.codes memory number (tagged c.args.word) c.from.result (search rules) (search rules) fits.1 machine.coded
+      sound =
+          sound_register machine.registers memory number (tagged c.args.word) (search rules) fits.1 machine.sound (λ _. c.requires.sound);
+      coded = coded_register machine.registers machine.codes memory number (tagged c.args.word) c.from.result (search rules)
+          (search rules) fits.1 machine.coded
           (subst (IsCoded true) (sym c.from.ensures) (root_coded (Register number) fits));
     }
 
@@ -34,8 +36,11 @@ invariant_of-self-in-Granule g c =
     let put = with_cap old granule true (memory_of c.args.word.0) (granule_key granule) in
     record {
       zero = machine.zero;
-      sound = each-tried c.put_capability.result (λ m. IsSoundState (places_of machine.registers m)) old put _ c.put_capability.ensures.ok c.put_capability.ensures.err
-          (sound_granule machine.registers old granule entry machine.sound (sound_entry (tagged c.args.word) (granule_key granule) (search rules) (λ _. c.requires.sound))) machine.sound;
-      coded = each-tried c.put_capability.result (λ m. AreCoded (places_of machine.registers m) (codes_of machine.codes m)) old put _ c.put_capability.ensures.ok c.put_capability.ensures.err
+      sound = each-tried c.put_capability.result (λ m. IsSoundState (places_of machine.registers m))
+          old put _ c.put_capability.ensures.ok c.put_capability.ensures.err
+          (sound_granule machine.registers old granule entry machine.sound (sound_entry (tagged c.args.word) (granule_key granule)
+          (search rules) (λ _. c.requires.sound))) machine.sound;
+      coded = each-tried c.put_capability.result (λ m. AreCoded (places_of machine.registers m) (codes_of machine.codes m))
+          old put _ c.put_capability.ensures.ok c.put_capability.ensures.err
           (coded_granule machine.registers machine.codes old granule entry machine.coded (root_coded (Granule granule) fits)) machine.coded;
     }

@@ -7,15 +7,16 @@ use Rattle.cap_machine.proofs.SoundLemmas.{sound_granule, untagged_sound}
 use Rattle.cap_machine.proofs.CodeLemmas.{coded_granule}
 use Rattle.cap_machine.proofs.machine.Machine.put_value_counted.Goals as goal
 
-pub invariant_of-self : goal.invariant_of-self
-invariant_of-self g c =
+pub invariant_of-self-2 : goal.invariant_of-self-2
+invariant_of-self-2 g c =
     let machine = c.args.self.now in
     let old = g.M.TaggedStore.contents machine.memory in
     let entry : Entry = (false, overwritten (bytes_at old c.args.granule) c.args.byte_index (low_bytes c.args.size c.args.value), 0) in
     record {
       zero = machine.zero;
-      sound = subst (λ (m : Granules). IsSoundState (places_of machine.registers m)) (sym c.in-Ok.ensures.ok)
+      sound = subst (λ (m : Granules). IsSoundState (places_of machine.registers m)) (sym c.in_ok-put_number.ensures.ok)
           (sound_granule machine.registers old c.args.granule entry machine.sound (untagged_sound _));
-      coded = subst (λ (m : Granules). AreCoded (places_of machine.registers m) (codes_of machine.codes m)) (sym c.in-Ok.ensures.ok)
+      coded =
+          subst (λ (m : Granules). AreCoded (places_of machine.registers m) (codes_of machine.codes m)) (sym c.in_ok-put_number.ensures.ok)
           (coded_granule machine.registers machine.codes old c.args.granule entry machine.coded ((λ _. refl, λ _. refl), lit< tt));
     }
