@@ -25,7 +25,8 @@ no_cut c bytes a x lacks e =
     lacks (length a) 0 (omega arith) (ap (λ (bs : List ℕ). get_or bs (length a) 0) e ∙ get_or_at a c x 0 (length a) refl)
 
 -- a word that is cut off, and any other cut of the same bytes
-pub same_word : {end : ℕ} {bytes word rest : List ℕ} → IsCutAt end bytes word rest → (word' rest' : List ℕ) → Lacks end word' → bytes ≡ word' ++ end ∷ rest'
+pub same_word : {end : ℕ} {bytes word rest : List ℕ} → IsCutAt end bytes word rest → (word' rest' : List ℕ) → Lacks end word'
+    → bytes ≡ word' ++ end ∷ rest'
     → (word ≡ word') × (rest ≡ rest')
 same_word {end} {bytes} {word} {rest} cut word' rest' lacks e = same_cut end word word' rest rest' cut.one lacks (sym cut.whole ∙ e)
 

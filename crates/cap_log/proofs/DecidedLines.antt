@@ -287,7 +287,8 @@ lines P d =
 -- bytes spell a line, or none
 pub line_decided : (bytes : List ℕ) → ((line : Line) × Spells bytes line) ⊎ ((line : Line) → Spells bytes line → ⊥)
 line_decided bytes =
-    elim (lines (λ line. bytes ≡ spelling line) (λ line. by_test (bytes_eq bytes (spelling line)) (bytes_eq-Decides bytes (spelling line)))) [
+    elim (lines (λ line. bytes ≡ spelling line)
+    (λ line. by_test (bytes_eq bytes (spelling line)) (bytes_eq-Decides bytes (spelling line)))) [
       | inl found ↦ inl (found.0, (found.1, found.2))
       | inr none ↦ inr (λ line spells. none (line, spells.0, spells.1))
     ]
@@ -332,6 +333,10 @@ front_decided bytes =
           let fewer = short.1 in elim (first_feed bytes (length bytes)) [
             | inl at ↦ let few =
                 at.1 in inr (inr (take at.0 bytes, drop (at.0 + 1) bytes, IsLine-at bytes at.0 (omega arith) (omega arith) at.2 at.3))
-            | inr none ↦ inr (inl (omega arith, subst HasNoFeed (take-length bytes) (HasNoFeed-take bytes (length bytes) (omega arith) none)))
+            | inr none ↦ inr (inl (
+              omega arith,
+              subst HasNoFeed (take-length bytes)
+                  (HasNoFeed-take bytes (length bytes) (omega arith) none),
+            ))
           ]
     ]

@@ -1,5 +1,6 @@
 -- Decimal numbers: which texts they have, and what a loop over the digits keeps.
-use Rattle.std.proofs.Common.{◌≡◌, ℕ, ◌+◌, ◌-◌, ◌*◌, ◌<◌, ◌≤◌, ◌^◌, List, ◌∷◌, ◌++◌, length, take, drop, get_or, sym, ap, ◌∙◌, arith, inl, inr, decimal}
+use Rattle.std.proofs.Common.{◌≡◌, ℕ, ◌+◌, ◌-◌, ◌*◌, ◌<◌, ◌≤◌, ◌^◌, List, ◌∷◌, ◌++◌, length, take, drop, get_or, sym, ap, ◌∙◌, arith, inl}
+use Rattle.std.proofs.Common.{inr, decimal}
 use Rattle.std.specs.Char.{digit_value}
 use Rattle.std.specs.Str.Parse.{AllDigits, digits_value}
 use Rattle.std.proofs.lemmas.Bool.{cases_eq, cases_lt}
@@ -13,7 +14,8 @@ use Rattle.std.proofs.lemmas.Str.Parse.{IsNumeralModel, numerals_by_value, tells
 use Rattle.cap_log.specs.Parts.{IsFrontNumber}
 use Rattle.cap_log.specs.Spaceless.{Lacks-decimal}
 use Rattle.cap_log.proofs.Cuts.{same_cut}
-use Rattle.std.proofs.lemmas.Fmt.{decimal_is_IsNumeral, length-decimal-le, first_decimal, decimal_digit, decimal_injective, decimal-digits_value}
+use Rattle.std.proofs.lemmas.Fmt.{decimal_is_IsNumeral, length-decimal-le, first_decimal, decimal_digit, decimal_injective}
+use Rattle.std.proofs.lemmas.Fmt.{decimal-digits_value}
 
 own : IsNumeralModel (AllDigits 10) (digits_value 10)
 own = numerals_by_value (AllDigits 10) tells_digits
@@ -41,7 +43,8 @@ decimal_lead n small zero =
     ]
 
 -- digits with no zero in front are the text of their number
-pub decimal-of_digits : (ds : List ℕ) → AllDigits 10 ds → 0 < length ds → (get_or ds 0 0 ≡ 48 → length ds ≡ 1) → digits_value 10 ds < 2 ^ 32 → ds ≡ decimal (digits_value 10 ds)
+pub decimal-of_digits : (ds : List ℕ) → AllDigits 10 ds → 0 < length ds → (get_or ds 0 0 ≡ 48 → length ds ≡ 1) → digits_value 10 ds < 2 ^ 32
+    → ds ≡ decimal (digits_value 10 ds)
 decimal-of_digits ds all some lead small = sym (decimal-digits_value own ds all some lead (omega arith))
 
 -- fewer than ten digits are a small number
@@ -53,12 +56,14 @@ digits_value-small ds i below short all =
     omega arith
 
 -- one more digit
-pub digits-next : (ds : List ℕ) (i : ℕ) → i < length ds → AllDigits 10 (take i ds) → 48 ≤ get_or ds i 0 → get_or ds i 0 ≤ 57 → AllDigits 10 (take (i + 1) ds)
+pub digits-next : (ds : List ℕ) (i : ℕ) → i < length ds → AllDigits 10 (take i ds) → 48 ≤ get_or ds i 0 → get_or ds i 0 ≤ 57
+    → AllDigits 10 (take (i + 1) ds)
 digits-next ds i below all low high =
     let digit = digit_value-is (get_or ds i 0) low high in
     digits_more 10 ds i below all (omega arith)
 
-pub digits_value-next : (ds : List ℕ) (i : ℕ) → i < length ds → 48 ≤ get_or ds i 0 → get_or ds i 0 ≤ 57 → digits_value 10 (take i ds) * 10 + (get_or ds i 0 - 48) ≡ digits_value 10 (take (i + 1) ds)
+pub digits_value-next : (ds : List ℕ) (i : ℕ) → i < length ds → 48 ≤ get_or ds i 0 → get_or ds i 0 ≤ 57
+    → digits_value 10 (take i ds) * 10 + (get_or ds i 0 - 48) ≡ digits_value 10 (take (i + 1) ds)
 digits_value-next ds i below low high =
     let digit = digit_value-is (get_or ds i 0) low high in
     let more = digits_value_more 10 ds i below in
@@ -74,7 +79,8 @@ front_length most bytes ds value count end rest front low all short e =
     elim (cases_lt count (length ds)) [
       | inl less ↦
           let digit = digit_at ds count all less in
-          let same : get_or bytes count 0 ≡ get_or ds count 0 = ap (λ (bs : List ℕ). get_or bs count 0) e ∙ get_or-append ds (end ∷ rest) 0 count less in
+          let same : get_or bytes count 0 ≡ get_or ds count 0 = ap (λ (bs : List ℕ). get_or bs count 0) e
+          ∙ get_or-append ds (end ∷ rest) 0 count less in
           absurd (front.stops (omega arith) (omega arith) (omega (arith, digit.0)) (omega (arith, digit.1)))
       | inr least ↦ elim (cases_lt (length ds) count) [
         | inl more ↦
@@ -107,9 +113,11 @@ pub front_facts : (most : ℕ) (bytes : List ℕ) (value count end n : ℕ) (res
 front_facts most bytes value count end n rest front low small short e =
     let bounds = decimal_length n small in
     let is = front_is most bytes value count end n rest front low small short e in
-    let seam : get_or bytes (length (decimal n)) 0 ≡ end = ap (λ (bs : List ℕ). get_or bs (length (decimal n)) 0) e ∙ get_or-append_seam (decimal n) end rest 0 in
+    let seam : get_or bytes (length (decimal n)) 0 ≡ end = ap (λ (bs : List ℕ). get_or bs (length (decimal n)) 0) e
+    ∙ get_or-append_seam (decimal n) end rest 0 in
     let long : length bytes ≡ length (decimal n) + length (end ∷ rest) = ap length e ∙ length-append (decimal n) (end ∷ rest) in
-    let first : get_or bytes 0 0 ≡ get_or (decimal n) 0 0 = ap (λ (bs : List ℕ). get_or bs 0 0) e ∙ get_or-append (decimal n) (end ∷ rest) 0 0 bounds.0 in
+    let first : get_or bytes 0 0 ≡ get_or (decimal n) 0 0 = ap (λ (bs : List ℕ). get_or bs 0 0) e
+    ∙ get_or-append (decimal n) (end ∷ rest) 0 0 bounds.0 in
     record {
       some = omega (arith, is.0, bounds.0);
       before = omega (arith, is.0);
@@ -126,12 +134,15 @@ number_in_front most bytes value count end front some before ended small lead =
     let kept : length (take count bytes) ≡ count = length-take-le count bytes front.inside in
     let first = get_or-take count bytes 0 0 some in
     let digits : take count bytes ≡ decimal value =
-    decimal-of_digits (take count bytes) front.digits (omega arith) (λ zero. kept ∙ lead (sym first ∙ zero)) (omega (arith, front.value_is)) ∙ ap decimal (sym front.value_is) in
+    decimal-of_digits (take count bytes) front.digits (omega arith) (λ zero. kept ∙ lead (sym first ∙ zero)) (omega (arith, front.value_is))
+    ∙ ap decimal (sym front.value_is) in
     sym (take-append-drop count bytes) ∙ ap (λ (ds : List ℕ). ds ++ drop count bytes) digits
     ∙ ap (λ (rest : List ℕ). decimal value ++ rest) (drop_more bytes count 0 before ∙ ap (λ (b : ℕ). b ∷ drop (count + 1) bytes) ended)
 
 -- numbers that stand at the front of the same bytes with the byte that ends them are one
-pub same_number : (end m n : ℕ) (rest rest' : List ℕ) → end ≤ 32 → m < 2 ^ 32 → n < 2 ^ 32 → decimal m ++ end ∷ rest ≡ decimal n ++ end ∷ rest' → m ≡ n
+pub same_number : (end m n : ℕ) (rest rest' : List ℕ) → end ≤ 32 → m < 2 ^ 32 → n < 2 ^ 32
+    → decimal m ++ end ∷ rest ≡ decimal n ++ end ∷ rest' → m ≡ n
 same_number end m n rest rest' low small small' e =
     decimal_injective m n (omega arith) (omega arith)
-    (same_cut end (decimal m) (decimal n) rest rest' (Lacks-decimal end m (omega arith) (omega arith)) (Lacks-decimal end n (omega arith) (omega arith)) e).0
+    (same_cut end (decimal m) (decimal n) rest rest' (Lacks-decimal end m (omega arith) (omega arith))
+    (Lacks-decimal end n (omega arith) (omega arith)) e).0

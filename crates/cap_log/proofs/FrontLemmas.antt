@@ -1,5 +1,6 @@
 -- Fronts: what a search for a line feed finds, and that exactly one front fits.
-use Rattle.std.proofs.Common.{◌≡◌, ◌≢◌, ℕ, ◌+◌, ◌<◌, ◌≤◌, List, [], ◌∷◌, ◌++◌, length, take, drop, get_or, sym, ap, ◌∙◌, refl, subst, append_assoc, arith}
+use Rattle.std.proofs.Common.{◌≡◌, ◌≢◌, ℕ, ◌+◌, ◌<◌, ◌≤◌, List, [], ◌∷◌, ◌++◌, length, take, drop, get_or, sym, ap, ◌∙◌, refl, subst}
+use Rattle.std.proofs.Common.{append_assoc, arith}
 use Rattle.std.proofs.lemmas.List.{drop_more, take-append-drop, get_or_at, get_or-take, length-take-le, length-append, take-append-le}
 use Rattle.std.proofs.lemmas.List.Elements.{All-head, All-tail, All-from_get_or}
 use Rattle.cap_log.specs.Front.{HasNoFeed, IsLine, IsTooLong, IsCut}
@@ -11,9 +12,11 @@ HasNoFeed-take bytes n fits none =
     All-from_get_or (λ b. b ≢ 10) (take n bytes) 0 (λ k below e. none k (omega arith) (sym (get_or-take n bytes k 0 (omega arith)) ∙ e))
 
 -- a line feed at n, and none before it
-pub IsLine-at : (bytes : List ℕ) (n : ℕ) → n < length bytes → n ≤ 95 → get_or bytes n 0 ≡ 10 → ((k : ℕ) → k < n → get_or bytes k 0 ≡ 10 → ⊥) → IsLine bytes (take n bytes) (drop (n + 1) bytes)
+pub IsLine-at : (bytes : List ℕ) (n : ℕ) → n < length bytes → n ≤ 95 → get_or bytes n 0 ≡ 10 → ((k : ℕ) → k < n → get_or bytes k 0 ≡ 10 → ⊥)
+    → IsLine bytes (take n bytes) (drop (n + 1) bytes)
 IsLine-at bytes n below short here none = record {
-  whole = sym (take-append-drop n bytes) ∙ ap (λ (rest : List ℕ). take n bytes ++ rest) (drop_more bytes n 0 below ∙ ap (λ (b : ℕ). b ∷ drop (n + 1) bytes) here);
+  whole = sym (take-append-drop n bytes) ∙ ap (λ (rest : List ℕ). take n bytes ++ rest)
+      (drop_more bytes n 0 below ∙ ap (λ (b : ℕ). b ∷ drop (n + 1) bytes) here);
   one = HasNoFeed-take bytes n (omega arith) none;
   short = omega (arith, length-take-le n bytes (omega arith));
 }
@@ -30,7 +33,8 @@ same_end (c ∷ a) (d ∷ b) x y p q e =
     (cc (both.0, first), both.1)
 
 -- bytes begin with one line at most
-pub IsLine-same : (bytes line rest line' rest' : List ℕ) → IsLine bytes line rest → IsLine bytes line' rest' → (line ≡ line') × (rest ≡ rest')
+pub IsLine-same : (bytes line rest line' rest' : List ℕ) → IsLine bytes line rest → IsLine bytes line' rest'
+    → (line ≡ line') × (rest ≡ rest')
 IsLine-same bytes line rest line' rest' h h' = same_end line line' rest rest' h.one h'.one (sym h.whole ∙ h'.whole)
 
 feed_at : (bytes line rest : List ℕ) → IsLine bytes line rest → (length line < length bytes) × (get_or bytes (length line) 0 ≡ 10)

@@ -16,7 +16,8 @@ no_minus n more rest small e =
     Lacks-decimal 45 n (omega arith) small 0 0 some (sym (ap (λ (bs : List ℕ). get_or bs 0 0) e ∙ get_or-append (decimal n) more 0 0 some))
 
 -- digits behind a minus sign that spell no number, or one out of range
-pub no_negative : (end : ℕ) (digits : List ℕ) → ((n : ℕ) (rest : List ℕ) → n < 2 ^ 32 → digits ≡ decimal n ++ end ∷ rest → (1 ≤ n) × (n ≤ 2048) → ⊥)
+pub no_negative : (end : ℕ) (digits : List ℕ) → ((n : ℕ) (rest : List ℕ) → n < 2 ^ 32
+    → digits ≡ decimal n ++ end ∷ rest → (1 ≤ n) × (n ≤ 2048) → ⊥)
     → (z : ℤ) (rest : List ℕ) → IsOffset z → 45 ∷ digits ≡ signed_decimal z ++ end ∷ rest → ⊥
 no_negative end digits none (pos n) rest fits e = no_minus n (end ∷ rest) digits (omega (arith, ints, fits)) e
 no_negative end digits none (negsuc n) rest fits e =

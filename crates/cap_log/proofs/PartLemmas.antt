@@ -1,5 +1,6 @@
 -- The parts of a line, one by one: each value in range has one short spelling, without a line feed.
-use Rattle.std.proofs.Common.{◌≡◌, ◌≢◌, ℕ, suc, ◌+◌, ◌*◌, ◌%◌, ◌<◌, ◌≤◌, ◌^◌, ℤ, pos, negsuc, Bool, true, false, eqb, List, [], ◌∷◌, ◌++◌, length, get_or, take, drop, sym, ap, subst, ◌∙◌, refl, inl, inr, arith, decimal, codes}
+use Rattle.std.proofs.Common.{◌≡◌, ◌≢◌, ℕ, suc, ◌+◌, ◌*◌, ◌%◌, ◌<◌, ◌≤◌, ◌^◌, ℤ, pos, negsuc, Bool, true, false, eqb, List, [], ◌∷◌, ◌++◌}
+use Rattle.std.proofs.Common.{length, get_or, take, drop, sym, ap, subst, ◌∙◌, refl, inl, inr, arith, decimal, codes}
 use Rattle.std.specs.Fmt.{signed_decimal}
 use Rattle.std.specs.Cmp.Lexicographic.{pointwise}
 use Rattle.std.proofs.lemmas.Bool.{false≢true}
@@ -9,15 +10,17 @@ use Rattle.std.proofs.lemmas.List.Elements.{All-append, All-cons}
 use Rattle.cap_word.specs.Digits.{hex_digits}
 use Rattle.cap_word.specs.declared.word.Cap.{Cap}
 use Rattle.cap_word.proofs.DigitLemmas.{length-hex_digits, pow_256}
-use Rattle.cap_log.specs.Lines.{IsDataSize, IsDataValue, IsNumber, IsOffset, IsPlace, IsRegister, IsTarget, IsWord, place_spelling, register_spelling, tag_spelling}
-use Rattle.cap_log.specs.Parts.{Begins, BeginsWithNone, HasNoSpace, IsSized, loaded_spelling, result_spelling, stored_spelling, tag_front}
+use Rattle.cap_log.specs.Lines.{IsDataSize, IsDataValue, IsNumber, IsOffset, IsPlace, IsRegister, IsTarget, IsWord, place_spelling}
+use Rattle.cap_log.specs.Lines.{register_spelling, tag_spelling}
+use Rattle.cap_log.specs.Parts.{Begins, BeginsWithNone, HasNoSpace, IsSized, loaded_spelling, result_spelling, stored_spelling}
 use Rattle.cap_log.specs.declared.lines.Place.{Place}
 use Rattle.cap_log.specs.declared.lines.Place.TheVariants.{Register, Granule}
 use Rattle.cap_log.specs.Parts.{Lacks}
 use Rattle.cap_log.proofs.Cuts.{Lacks-by_test, same_cut}
 use Rattle.cap_word.proofs.ReadingLemmas.{hex_digits-same}
 use Rattle.cap_log.proofs.OperandLemmas.{IsOperand}
-pub use Rattle.cap_log.specs.Spaceless.{Lacks-decimal, Lacks-hex, Lacks-signed, number-spaceless, offset-mag, offset-spaceless, place-spaceless, register-spaceless}
+pub use Rattle.cap_log.specs.Spaceless.{Lacks-decimal, Lacks-hex, Lacks-signed, number-spaceless, offset-mag, offset-spaceless}
+pub use Rattle.cap_log.specs.Spaceless.{place-spaceless, register-spaceless}
 
 -- counts
 pub count-operand : IsOperand (λ n. n < 2 ^ 32) decimal 10
@@ -94,10 +97,13 @@ result-long : (t : Bool) (x : List ℕ) → length (61 ∷ 32 ∷ (tag_spelling 
 result-long true x = omega arith
 result-long false x = omega arith
 
--- the first four bytes
-pub take_result : (t : Bool) (x more : List ℕ) → take 4 (61 ∷ 32 ∷ (tag_spelling t ++ 32 ∷ x) ++ more) ≡ tag_front t
-take_result true x more = refl
-take_result false x more = refl
+-- behind the first four bytes
+pub drop_result : (t : Bool) (x more : List ℕ) → drop 4 (61 ∷ 32 ∷ (tag_spelling t ++ 32 ∷ x) ++ more) ≡ x ++ more
+drop_result true x more = refl
+drop_result false x more = refl
+
+pub length-result : (result : Cap) → length (result_spelling result) ≡ 36
+length-result result = omega (arith, result-long result.tag (hex_digits 32 result.word.0), length-hex_digits 32 result.word.0)
 
 result_of : Bool → ℕ → Cap
 result_of tag n = record { tag = tag; word = record { 0 = n } }
@@ -116,8 +122,11 @@ result-operand = record {
 
 -- offsets
 offset-short : (z : ℤ) → IsOffset z → length (signed_decimal z) ≤ 5
-offset-short (pos n) fits = let small = offset-mag (pos n) fits in let short = length-decimal-le 4 n (omega arith) (omega arith) (omega arith) in omega arith
-offset-short (negsuc n) fits = let small = offset-mag (negsuc n) fits in let short = length-decimal-le 4 (suc n) (omega arith) (omega arith) (omega arith) in omega arith
+offset-short (pos n) fits =
+    let small = offset-mag (pos n) fits in let short = length-decimal-le 4 n (omega arith) (omega arith) (omega arith) in omega arith
+offset-short (negsuc n) fits =
+    let small = offset-mag (negsuc n) fits in
+    let short = length-decimal-le 4 (suc n) (omega arith) (omega arith) (omega arith) in omega arith
 
 pub offset-operand : IsOperand IsOffset signed_decimal 5
 offset-operand = record {
@@ -138,9 +147,11 @@ size-spaceless n fits = let small = size-small n fits in Lacks-decimal 32 n (ome
 
 -- values of a size
 pub value-same : (size m n : ℕ) → IsDataValue size m → IsDataValue size n → hex_digits (2 * size) m ≡ hex_digits (2 * size) n → m ≡ n
-value-same size m n small small' e = hex_digits-same (2 * size) m n (subst (λ (p : ℕ). m < p) (pow_256 size) small) (subst (λ (p : ℕ). n < p) (pow_256 size) small') e
+value-same size m n small small' e =
+    hex_digits-same (2 * size) m n (subst (λ (p : ℕ). m < p) (pow_256 size) small) (subst (λ (p : ℕ). n < p) (pow_256 size) small') e
 
-sized_parts : (s t m n : ℕ) → IsSized s m → IsSized t n → decimal s ≡ decimal t → hex_digits (2 * s) m ≡ hex_digits (2 * t) n → (s ≡ t) × (m ≡ n)
+sized_parts : (s t m n : ℕ) → IsSized s m → IsSized t n → decimal s ≡ decimal t
+    → hex_digits (2 * s) m ≡ hex_digits (2 * t) n → (s ≡ t) × (m ≡ n)
 sized_parts s t m n fits fits' size digits =
     let small = size-small s fits.0 in
     let small' = size-small t fits'.0 in
@@ -152,13 +163,15 @@ sized_parts s t m n fits fits' size digits =
 pub loaded-operand : IsOperand (λ (x : ℕ × ℕ). IsSized x.0 x.1) (λ x. loaded_spelling x.0 x.1) 20
 loaded-operand = record {
   one = λ a b fits fits' e.
-      let cut = same_cut 32 (decimal a.0) (decimal b.0) (61 ∷ 32 ∷ hex_digits (2 * a.0) a.1) (61 ∷ 32 ∷ hex_digits (2 * b.0) b.1) (size-spaceless a.0 fits.0) (size-spaceless b.0 fits'.0) e in
+      let cut = same_cut 32 (decimal a.0) (decimal b.0) (61 ∷ 32 ∷ hex_digits (2 * a.0) a.1) (61 ∷ 32 ∷ hex_digits (2 * b.0) b.1)
+      (size-spaceless a.0 fits.0) (size-spaceless b.0 fits'.0) e in
       let parts = sized_parts a.0 b.0 a.1 b.1 fits fits' cut.0 (ap (λ (bs : List ℕ). drop 2 bs) cut.1) in
       ap (λ x. (x, a.1)) parts.0 ∙ ap (λ y. (b.0, y)) parts.1;
   plain = λ a fits.
       let small = size-small a.0 fits.0 in
       All-append (λ b. b ≢ 10) (decimal a.0) (32 ∷ 61 ∷ 32 ∷ hex_digits (2 * a.0) a.1) (Lacks-decimal 10 a.0 (omega arith) (omega arith))
-      (All-append (λ b. b ≢ 10) (codes " = ") (hex_digits (2 * a.0) a.1) (Lacks-by_test 10 (codes " = ") refl) (Lacks-hex 10 (2 * a.0) a.1 refl));
+      (All-append (λ b. b ≢ 10) (codes " = ") (hex_digits (2 * a.0) a.1) (Lacks-by_test 10 (codes " = ") refl)
+      (Lacks-hex 10 (2 * a.0) a.1 refl));
   short = λ a fits.
       let small = size-small a.0 fits.0 in
       let size = length-decimal-le 1 a.0 (omega arith) (omega arith) (omega arith) in
@@ -168,7 +181,8 @@ loaded-operand = record {
 pub stored-operand : IsOperand (λ (x : ℕ × ℕ). IsSized x.0 x.1) (λ x. stored_spelling x.0 x.1) 18
 stored-operand = record {
   one = λ a b fits fits' e.
-      let cut = same_cut 32 (decimal a.0) (decimal b.0) (hex_digits (2 * a.0) a.1) (hex_digits (2 * b.0) b.1) (size-spaceless a.0 fits.0) (size-spaceless b.0 fits'.0) e in
+      let cut = same_cut 32 (decimal a.0) (decimal b.0) (hex_digits (2 * a.0) a.1) (hex_digits (2 * b.0) b.1) (size-spaceless a.0 fits.0)
+      (size-spaceless b.0 fits'.0) e in
       let parts = sized_parts a.0 b.0 a.1 b.1 fits fits' cut.0 cut.1 in
       ap (λ x. (x, a.1)) parts.0 ∙ ap (λ y. (b.0, y)) parts.1;
   plain = λ a fits.
@@ -182,13 +196,16 @@ stored-operand = record {
 }
 
 -- behind an @ stands the address of a granule
-pub no_address : (end : ℕ) (digits : List ℕ) → BeginsWithNone IsNumber (hex_digits 16) end digits → BeginsWithNone IsPlace place_spelling end (64 ∷ digits)
-no_address end digits none (Register n) rest begins = let h : ◌≡◌ {A = ℕ} 64 99 = ap (λ (bs : List ℕ). get_or bs 0 0) begins.1 in absurd (omega arith)
+pub no_address : (end : ℕ) (digits : List ℕ) → BeginsWithNone IsNumber (hex_digits 16) end digits
+    → BeginsWithNone IsPlace place_spelling end (64 ∷ digits)
+no_address end digits none (Register n) rest begins =
+    let h : ◌≡◌ {A = ℕ} 64 99 = ap (λ (bs : List ℕ). get_or bs 0 0) begins.1 in absurd (omega arith)
 no_address end digits none (Granule n) rest begins = none (16 * n) rest (omega (arith, begins.0), ap (λ (bs : List ℕ). drop 1 bs) begins.1)
 
 pub no_granule : (end address : ℕ) (digits rest : List ℕ) → Begins IsNumber (hex_digits 16) end digits address rest → (address % 16 ≡ 0 → ⊥)
     → BeginsWithNone IsPlace place_spelling end (64 ∷ digits)
-no_granule end address digits rest found other (Register n) rest' begins = let h : ◌≡◌ {A = ℕ} 64 99 = ap (λ (bs : List ℕ). get_or bs 0 0) begins.1 in absurd (omega arith)
+no_granule end address digits rest found other (Register n) rest' begins =
+    let h : ◌≡◌ {A = ℕ} 64 99 = ap (λ (bs : List ℕ). get_or bs 0 0) begins.1 in absurd (omega arith)
 no_granule end address digits rest found other (Granule n) rest' begins =
     let same = sym found.1 ∙ ap (λ (bs : List ℕ). drop 1 bs) begins.1 in
     let text = sym (take_at (hex_digits 16 address) (end ∷ rest) 16 (length-hex_digits 16 address)) ∙ ap (λ (bs : List ℕ). take 16 bs) same
@@ -197,13 +214,9 @@ no_granule end address digits rest found other (Granule n) rest' begins =
     other (omega arith)
 
 -- and without an @, a register that is written
-pub no_place : (end : ℕ) (bytes : List ℕ) → pointwise eqb (take 1 bytes) (64 ∷ []) ≡ false → BeginsWithNone IsTarget register_spelling end bytes
+pub no_place : (end : ℕ) (bytes : List ℕ) → pointwise eqb (take 1 bytes) (64 ∷ []) ≡ false
+    → BeginsWithNone IsTarget register_spelling end bytes
     → BeginsWithNone IsPlace place_spelling end bytes
 no_place end bytes other none (Register n) rest begins = none n rest begins
 no_place end bytes other none (Granule n) rest begins =
     false≢true (sym other ∙ ap (λ (bs : List ℕ). pointwise eqb (take 1 bs) (64 ∷ [])) begins.1)
-
--- a flag is one digit
-pub tag-long : (tag : Bool) → length (tag_spelling tag) ≡ 1
-tag-long true = refl
-tag-long false = refl

@@ -1,5 +1,6 @@
 -- Lines by their heads: what stands behind the head, and the line that head and operands make.
-use Rattle.std.proofs.Common.{append_assoc, ◌≡◌, ◌≢◌, ℕ, ◌<◌, ◌≤◌, ◌^◌, List, ◌∷◌, ◌++◌, length, sym, ap, subst, ◌∙◌, refl, arith, inl, inr, decimal, codes, lit≤, if◌then◌else◌}
+use Rattle.std.proofs.Common.{append_assoc, ◌≡◌, ◌≢◌, ℕ, ◌<◌, ◌≤◌, ◌^◌, List, ◌∷◌, ◌++◌, length, sym, ap, subst, ◌∙◌, refl, arith, inl, inr}
+use Rattle.std.proofs.Common.{decimal, codes, lit≤, if◌then◌else◌}
 use Rattle.std.specs.Fmt.{signed_decimal}
 use Rattle.std.proofs.lemmas.Fmt.{decimal_digit, decimal_injective, length-decimal-le}
 use Rattle.std.specs.Str.{bytes_eq}
@@ -7,8 +8,10 @@ use Rattle.cap_word.specs.Digits.{hex_digits}
 use Rattle.cap_word.specs.declared.word.Word.{Word}
 use Rattle.cap_log.specs.Front.{HasNoFeed}
 use Rattle.cap_log.specs.Heads.{IsHead, head_spelling}
-use Rattle.cap_log.specs.Lines.{IsInRange, IsNumber, IsVersion, IsOffset, IsPlace, IsRegister, IsTarget, IsWord, mode_spelling, place_spelling, register_spelling, spelling}
-use Rattle.cap_log.specs.Parts.{Begins, BeginsWithNone, FitsBoth, IsMode, IsSized, loaded_spelling, result_spelling, spaced, stored_spelling}
+use Rattle.cap_log.specs.Lines.{IsInRange, IsNumber, IsVersion, IsOffset, IsPlace, IsRegister, IsTarget, IsWord, mode_spelling}
+use Rattle.cap_log.specs.Lines.{place_spelling, register_spelling, spelling}
+use Rattle.cap_log.specs.Parts.{Begins, BeginsWithNone, FitsBoth, IsMode, IsSized, loaded_spelling, result_spelling, spaced}
+use Rattle.cap_log.specs.Parts.{stored_spelling}
 use Rattle.cap_log.specs.declared.heads.Head.{Head}
 use Rattle.cap_log.specs.declared.heads.Head.TheVariants as head
 use Rattle.cap_log.specs.declared.lines.Place.{Place}
@@ -28,7 +31,9 @@ use Rattle.cap_log.specs.declared.parts.sized.Stored.{Stored}
 use Rattle.cap_log.proofs.Cuts.{Lacks-by_test, same_cut}
 use Rattle.cap_log.specs.Spaceless.{Lacks-head, head-spaceless}
 use Rattle.cap_log.proofs.OperandLemmas.{FitsBoth-operand, IsOperand, longer, mapped}
-use Rattle.cap_log.proofs.PartLemmas.{Lacks-decimal, count-operand, loaded-operand, number-operand, number-spaceless, offset-operand, offset-spaceless, place-operand, place-spaceless, register-operand, register-spaceless, result-operand, stored-operand, target-operand, word-operand}
+use Rattle.cap_log.proofs.PartLemmas.{Lacks-decimal, count-operand, loaded-operand, number-operand, number-spaceless, offset-operand}
+use Rattle.cap_log.proofs.PartLemmas.{offset-spaceless, place-operand, place-spaceless, register-operand, register-spaceless}
+use Rattle.cap_log.proofs.PartLemmas.{result-operand, stored-operand, target-operand, word-operand}
 
 -- the parts, as the code has them
 abbrev pub FitsRegister : Register → Type 0
@@ -248,16 +253,25 @@ operands_of (line.Mode mode) = mode
 operands_of (line.Root place word) = (place, word)
 operands_of (line.Step (step.Move target source result)) = (record { 0 = target }, (record { 0 = source }, record { 0 = result }))
 operands_of (line.Step (step.ClearTag target source result)) = (record { 0 = target }, (record { 0 = source }, record { 0 = result }))
-operands_of (line.Step (step.Seal target source authority result)) = (record { 0 = target }, (record { 0 = source }, (record { 0 = authority }, record { 0 = result })))
-operands_of (line.Step (step.Unseal target source authority result)) = (record { 0 = target }, (record { 0 = source }, (record { 0 = authority }, record { 0 = result })))
-operands_of (line.Step (step.SetBounds target source n result)) = (record { 0 = target }, (record { 0 = source }, (record { 0 = n }, record { 0 = result })))
-operands_of (line.Step (step.SetBoundsExact target source n result)) = (record { 0 = target }, (record { 0 = source }, (record { 0 = n }, record { 0 = result })))
-operands_of (line.Step (step.SetAddr target source n result)) = (record { 0 = target }, (record { 0 = source }, (record { 0 = n }, record { 0 = result })))
-operands_of (line.Step (step.AndPerm target source n result)) = (record { 0 = target }, (record { 0 = source }, (record { 0 = n }, record { 0 = result })))
-operands_of (line.Step (step.LoadCap target authority offset result)) = (record { 0 = target }, (record { 0 = authority }, (record { 0 = offset }, record { 0 = result })))
+operands_of (line.Step (step.Seal target source authority result)) =
+    (record { 0 = target }, (record { 0 = source }, (record { 0 = authority }, record { 0 = result })))
+operands_of (line.Step (step.Unseal target source authority result)) =
+    (record { 0 = target }, (record { 0 = source }, (record { 0 = authority }, record { 0 = result })))
+operands_of (line.Step (step.SetBounds target source n result)) =
+    (record { 0 = target }, (record { 0 = source }, (record { 0 = n }, record { 0 = result })))
+operands_of (line.Step (step.SetBoundsExact target source n result)) =
+    (record { 0 = target }, (record { 0 = source }, (record { 0 = n }, record { 0 = result })))
+operands_of (line.Step (step.SetAddr target source n result)) =
+    (record { 0 = target }, (record { 0 = source }, (record { 0 = n }, record { 0 = result })))
+operands_of (line.Step (step.AndPerm target source n result)) =
+    (record { 0 = target }, (record { 0 = source }, (record { 0 = n }, record { 0 = result })))
+operands_of (line.Step (step.LoadCap target authority offset result)) =
+    (record { 0 = target }, (record { 0 = authority }, (record { 0 = offset }, record { 0 = result })))
 operands_of (line.Step (step.StoreCap source authority offset)) = (record { 0 = source }, (record { 0 = authority }, record { 0 = offset }))
-operands_of (line.Step (step.Load authority offset size value)) = (record { 0 = authority }, (record { 0 = offset }, record { size = size; value = value }))
-operands_of (line.Step (step.Store authority offset size value)) = (record { 0 = authority }, (record { 0 = offset }, record { size = size; value = value }))
+operands_of (line.Step (step.Load authority offset size value)) =
+    (record { 0 = authority }, (record { 0 = offset }, record { size = size; value = value }))
+operands_of (line.Step (step.Store authority offset size value)) =
+    (record { 0 = authority }, (record { 0 = offset }, record { size = size; value = value }))
 operands_of (line.End steps) = record { 0 = steps }
 
 pub made-of : (l : Line) → made (head_of l) (operands_of l) ≡ l
@@ -282,18 +296,51 @@ pub fits-of : (l : Line) → IsInRange l → Fits (head_of l) (operands_of l)
 fits-of (line.Version version) fits = fits
 fits-of (line.Mode mode) fits = fits
 fits-of (line.Root place word) fits = (fits.0, place-spaceless place fits.0, fits.1)
-fits-of (line.Step (step.Move target source result)) fits = (fits.0, register-spaceless target fits.0.1, (fits.1, register-spaceless source fits.1, fits.2))
-fits-of (line.Step (step.ClearTag target source result)) fits = (fits.0, register-spaceless target fits.0.1, (fits.1, register-spaceless source fits.1, fits.2))
-fits-of (line.Step (step.Seal target source authority result)) fits = (fits.0, register-spaceless target fits.0.1, (fits.1, register-spaceless source fits.1, (fits.2, register-spaceless authority fits.2, fits.3)))
-fits-of (line.Step (step.Unseal target source authority result)) fits = (fits.0, register-spaceless target fits.0.1, (fits.1, register-spaceless source fits.1, (fits.2, register-spaceless authority fits.2, fits.3)))
-fits-of (line.Step (step.SetBounds target source n result)) fits = (fits.0, register-spaceless target fits.0.1, (fits.1, register-spaceless source fits.1, (fits.2, number-spaceless n, fits.3)))
-fits-of (line.Step (step.SetBoundsExact target source n result)) fits = (fits.0, register-spaceless target fits.0.1, (fits.1, register-spaceless source fits.1, (fits.2, number-spaceless n, fits.3)))
-fits-of (line.Step (step.SetAddr target source n result)) fits = (fits.0, register-spaceless target fits.0.1, (fits.1, register-spaceless source fits.1, (fits.2, number-spaceless n, fits.3)))
-fits-of (line.Step (step.AndPerm target source n result)) fits = (fits.0, register-spaceless target fits.0.1, (fits.1, register-spaceless source fits.1, (fits.2, number-spaceless n, fits.3)))
-fits-of (line.Step (step.LoadCap target authority offset result)) fits = (fits.0, register-spaceless target fits.0.1, (fits.1, register-spaceless authority fits.1, (fits.2, offset-spaceless offset fits.2, fits.3)))
-fits-of (line.Step (step.StoreCap source authority offset)) fits = (fits.0, register-spaceless source fits.0, (fits.1, register-spaceless authority fits.1, fits.2))
-fits-of (line.Step (step.Load authority offset size value)) fits = (fits.0, register-spaceless authority fits.0, (fits.1, offset-spaceless offset fits.1, (fits.2, fits.3)))
-fits-of (line.Step (step.Store authority offset size value)) fits = (fits.0, register-spaceless authority fits.0, (fits.1, offset-spaceless offset fits.1, (fits.2, fits.3)))
+fits-of (line.Step (step.Move target source result)) fits =
+    (fits.0, register-spaceless target fits.0.1, (fits.1, register-spaceless source fits.1, fits.2))
+fits-of (line.Step (step.ClearTag target source result)) fits =
+    (fits.0, register-spaceless target fits.0.1, (fits.1, register-spaceless source fits.1, fits.2))
+fits-of (line.Step (step.Seal target source authority result)) fits = (
+  fits.0,
+  register-spaceless target fits.0.1,
+  (
+    fits.1,
+    register-spaceless source fits.1,
+    (fits.2, register-spaceless authority fits.2, fits.3),
+  ),
+)
+fits-of (line.Step (step.Unseal target source authority result)) fits = (
+  fits.0,
+  register-spaceless target fits.0.1,
+  (
+    fits.1,
+    register-spaceless source fits.1,
+    (fits.2, register-spaceless authority fits.2, fits.3),
+  ),
+)
+fits-of (line.Step (step.SetBounds target source n result)) fits =
+    (fits.0, register-spaceless target fits.0.1, (fits.1, register-spaceless source fits.1, (fits.2, number-spaceless n, fits.3)))
+fits-of (line.Step (step.SetBoundsExact target source n result)) fits =
+    (fits.0, register-spaceless target fits.0.1, (fits.1, register-spaceless source fits.1, (fits.2, number-spaceless n, fits.3)))
+fits-of (line.Step (step.SetAddr target source n result)) fits =
+    (fits.0, register-spaceless target fits.0.1, (fits.1, register-spaceless source fits.1, (fits.2, number-spaceless n, fits.3)))
+fits-of (line.Step (step.AndPerm target source n result)) fits =
+    (fits.0, register-spaceless target fits.0.1, (fits.1, register-spaceless source fits.1, (fits.2, number-spaceless n, fits.3)))
+fits-of (line.Step (step.LoadCap target authority offset result)) fits = (
+  fits.0,
+  register-spaceless target fits.0.1,
+  (
+    fits.1,
+    register-spaceless authority fits.1,
+    (fits.2, offset-spaceless offset fits.2, fits.3),
+  ),
+)
+fits-of (line.Step (step.StoreCap source authority offset)) fits =
+    (fits.0, register-spaceless source fits.0, (fits.1, register-spaceless authority fits.1, fits.2))
+fits-of (line.Step (step.Load authority offset size value)) fits =
+    (fits.0, register-spaceless authority fits.0, (fits.1, offset-spaceless offset fits.1, (fits.2, fits.3)))
+fits-of (line.Step (step.Store authority offset size value)) fits =
+    (fits.0, register-spaceless authority fits.0, (fits.1, offset-spaceless offset fits.1, (fits.2, fits.3)))
 fits-of (line.End steps) fits = fits
 
 in_range-made : (h : Head) (x : Operands h) → Fits h x → IsInRange (made h x)
@@ -421,10 +468,12 @@ recorded_part : IsOperand FitsRecorded recorded_text 36
 recorded_part = mapped (λ r. IsWord r.word.0) result_spelling 36 result-operand (λ (a : Recorded). a.0) (λ x. record { 0 = x }) (λ _. refl)
 
 loaded_part : IsOperand FitsLoaded loaded_text 20
-loaded_part = mapped (λ (x : ℕ × ℕ). IsSized x.0 x.1) (λ x. loaded_spelling x.0 x.1) 20 loaded-operand (λ (a : Loaded). (a.size, a.value)) (λ x. record { size = x.0; value = x.1 }) (λ _. refl)
+loaded_part = mapped (λ (x : ℕ × ℕ). IsSized x.0 x.1) (λ x. loaded_spelling x.0 x.1) 20 loaded-operand (λ (a : Loaded). (a.size, a.value))
+    (λ x. record { size = x.0; value = x.1 }) (λ _. refl)
 
 stored_part : IsOperand FitsStored stored_text 18
-stored_part = mapped (λ (x : ℕ × ℕ). IsSized x.0 x.1) (λ x. stored_spelling x.0 x.1) 18 stored-operand (λ (a : Stored). (a.size, a.value)) (λ x. record { size = x.0; value = x.1 }) (λ _. refl)
+stored_part = mapped (λ (x : ℕ × ℕ). IsSized x.0 x.1) (λ x. stored_spelling x.0 x.1) 18 stored-operand (λ (a : Stored). (a.size, a.value))
+    (λ x. record { size = x.0; value = x.1 }) (λ _. refl)
 
 count_part : IsOperand FitsCount count_text 10
 count_part = mapped (λ n. n < 2 ^ 32) decimal 10 count-operand (λ (a : Count). a.0) (λ x. record { 0 = x }) (λ _. refl)
@@ -436,7 +485,8 @@ pub version_two : (version : ℕ) → IsVersion version → version ≢ 1 → ve
 version_two version (inl one) other = absurd (other one)
 version_two version (inr two) other = two
 
-pub no_version : (rest : List ℕ) → (rest ≡ codes "1" → ⊥) → (rest ≡ codes "2" → ⊥) → (version : ℕ) → IsVersion version → rest ≡ decimal version → ⊥
+pub no_version : (rest : List ℕ) → (rest ≡ codes "1" → ⊥) → (rest ≡ codes "2" → ⊥) → (version : ℕ)
+    → IsVersion version → rest ≡ decimal version → ⊥
 no_version rest first second version (inl one) e = first (e ∙ ap decimal one ∙ decimal_digit 1 (omega arith))
 no_version rest first second version (inr two) e = second (e ∙ ap decimal two ∙ decimal_digit 2 (omega arith))
 
@@ -471,40 +521,50 @@ mode-operand = record { one = λ a b fits fits' e. one_mode a b e; plain = λ a 
 -- operands of each shape have one spelling each
 copied_part : IsOperand FitsCopied copied_text 44
 copied_part =
-    FitsBoth-operand FitsTarget target_text 3 (FitsBoth FitsRegister register_text FitsRecorded) (spaced register_text recorded_text) 40 target_part
+    FitsBoth-operand FitsTarget target_text 3 (FitsBoth FitsRegister register_text FitsRecorded)
+    (spaced register_text recorded_text) 40 target_part
     (FitsBoth-operand FitsRegister register_text 3 FitsRecorded recorded_text 36 register_part recorded_part)
 
 sealed_part : IsOperand FitsSealed sealed_text 48
 sealed_part =
-    FitsBoth-operand FitsTarget target_text 3 (FitsBoth FitsRegister register_text (FitsBoth FitsRegister register_text FitsRecorded)) (spaced register_text (spaced register_text recorded_text)) 44 target_part
-    (FitsBoth-operand FitsRegister register_text 3 (FitsBoth FitsRegister register_text FitsRecorded) (spaced register_text recorded_text) 40 register_part
+    FitsBoth-operand FitsTarget target_text 3 (FitsBoth FitsRegister register_text (FitsBoth FitsRegister register_text FitsRecorded))
+    (spaced register_text (spaced register_text recorded_text)) 44 target_part
+    (FitsBoth-operand FitsRegister register_text 3 (FitsBoth FitsRegister register_text FitsRecorded)
+    (spaced register_text recorded_text) 40 register_part
     (FitsBoth-operand FitsRegister register_text 3 FitsRecorded recorded_text 36 register_part recorded_part))
 
 numbered_part : IsOperand FitsNumbered numbered_text 61
 numbered_part =
-    FitsBoth-operand FitsTarget target_text 3 (FitsBoth FitsRegister register_text (FitsBoth FitsNumber number_text FitsRecorded)) (spaced register_text (spaced number_text recorded_text)) 57 target_part
-    (FitsBoth-operand FitsRegister register_text 3 (FitsBoth FitsNumber number_text FitsRecorded) (spaced number_text recorded_text) 53 register_part
+    FitsBoth-operand FitsTarget target_text 3 (FitsBoth FitsRegister register_text (FitsBoth FitsNumber number_text FitsRecorded))
+    (spaced register_text (spaced number_text recorded_text)) 57 target_part
+    (FitsBoth-operand FitsRegister register_text 3 (FitsBoth FitsNumber number_text FitsRecorded)
+    (spaced number_text recorded_text) 53 register_part
     (FitsBoth-operand FitsNumber number_text 16 FitsRecorded recorded_text 36 number_part recorded_part))
 
 cap_loaded_part : IsOperand FitsCapLoaded cap_loaded_text 50
 cap_loaded_part =
-    FitsBoth-operand FitsTarget target_text 3 (FitsBoth FitsRegister register_text (FitsBoth FitsOffset offset_text FitsRecorded)) (spaced register_text (spaced offset_text recorded_text)) 46 target_part
-    (FitsBoth-operand FitsRegister register_text 3 (FitsBoth FitsOffset offset_text FitsRecorded) (spaced offset_text recorded_text) 42 register_part
+    FitsBoth-operand FitsTarget target_text 3 (FitsBoth FitsRegister register_text (FitsBoth FitsOffset offset_text FitsRecorded))
+    (spaced register_text (spaced offset_text recorded_text)) 46 target_part
+    (FitsBoth-operand FitsRegister register_text 3 (FitsBoth FitsOffset offset_text FitsRecorded)
+    (spaced offset_text recorded_text) 42 register_part
     (FitsBoth-operand FitsOffset offset_text 5 FitsRecorded recorded_text 36 offset_part recorded_part))
 
 cap_stored_part : IsOperand FitsCapStored cap_stored_text 13
 cap_stored_part =
-    FitsBoth-operand FitsRegister register_text 3 (FitsBoth FitsRegister register_text FitsOffset) (spaced register_text offset_text) 9 register_part
+    FitsBoth-operand FitsRegister register_text 3 (FitsBoth FitsRegister register_text FitsOffset)
+    (spaced register_text offset_text) 9 register_part
     (FitsBoth-operand FitsRegister register_text 3 FitsOffset offset_text 5 register_part offset_part)
 
 data_loaded_part : IsOperand FitsDataLoaded data_loaded_text 30
 data_loaded_part =
-    FitsBoth-operand FitsRegister register_text 3 (FitsBoth FitsOffset offset_text FitsLoaded) (spaced offset_text loaded_text) 26 register_part
+    FitsBoth-operand FitsRegister register_text 3 (FitsBoth FitsOffset offset_text FitsLoaded)
+    (spaced offset_text loaded_text) 26 register_part
     (FitsBoth-operand FitsOffset offset_text 5 FitsLoaded loaded_text 20 offset_part loaded_part)
 
 data_stored_part : IsOperand FitsDataStored data_stored_text 28
 data_stored_part =
-    FitsBoth-operand FitsRegister register_text 3 (FitsBoth FitsOffset offset_text FitsStored) (spaced offset_text stored_text) 24 register_part
+    FitsBoth-operand FitsRegister register_text 3 (FitsBoth FitsOffset offset_text FitsStored)
+    (spaced offset_text stored_text) 24 register_part
     (FitsBoth-operand FitsOffset offset_text 5 FitsStored stored_text 18 offset_part stored_part)
 
 pub shape : (h : Head) → IsOperand (Fits h) (spelled h) 80
@@ -536,18 +596,23 @@ takes-made h x bytes rest begins = (
 )
 
 -- the bytes of a line, cut behind its head
-head_cut : (l : Line) (bytes rest : List ℕ) → bytes ≡ spelling l ++ 10 ∷ rest → bytes ≡ head_spelling (head_of l) ++ 32 ∷ (spelled (head_of l) (operands_of l) ++ 10 ∷ rest)
+head_cut : (l : Line) (bytes rest : List ℕ) → bytes ≡ spelling l ++ 10 ∷ rest
+    → bytes ≡ head_spelling (head_of l) ++ 32 ∷ (spelled (head_of l) (operands_of l) ++ 10 ∷ rest)
 head_cut l bytes rest e =
-    e ∙ ap (λ (bs : List ℕ). bs ++ 10 ∷ rest) (spelling-of l) ∙ append_assoc (head_spelling (head_of l)) (32 ∷ spelled (head_of l) (operands_of l)) (10 ∷ rest)
+    e ∙ ap (λ (bs : List ℕ). bs ++ 10 ∷ rest) (spelling-of l) ∙ append_assoc (head_spelling (head_of l))
+    (32 ∷ spelled (head_of l) (operands_of l)) (10 ∷ rest)
 
 -- bytes that begin with no head begin with no line
 pub no_head : (bytes : List ℕ) → BeginsWithNone IsHead head_spelling 32 bytes → BeginsWithNone IsInRange spelling 10 bytes
 no_head bytes none l rest begins = none (head_of l) (spelled (head_of l) (operands_of l) ++ 10 ∷ rest) (tt, head_cut l bytes rest begins.1)
 
 -- nor do a head and no operands for it
-pub no_operands : (h : Head) (bytes : List ℕ) → BeginsWithNone (Fits h) (spelled h) 10 bytes → BeginsWithNone IsInRange spelling 10 (head_spelling h ++ 32 ∷ bytes)
+pub no_operands : (h : Head) (bytes : List ℕ) → BeginsWithNone (Fits h) (spelled h) 10 bytes
+    → BeginsWithNone IsInRange spelling 10 (head_spelling h ++ 32 ∷ bytes)
 no_operands h bytes none l rest begins =
     let behind = spelled (head_of l) (operands_of l) ++ 10 ∷ rest in
-    let parts = same_cut 32 (head_spelling h) (head_spelling (head_of l)) bytes behind (head-spaceless h) (head-spaceless (head_of l)) (head_cut l (head_spelling h ++ 32 ∷ bytes) rest begins.1) in
+    let parts = same_cut 32 (head_spelling h) (head_spelling (head_of l)) bytes behind (head-spaceless h) (head-spaceless (head_of l))
+    (head_cut l (head_spelling h ++ 32 ∷ bytes) rest begins.1) in
     let same : h ≡ head_of l = head-operand.one h (head_of l) tt tt parts.0 in
-    subst (λ k. BeginsWithNone (Fits k) (spelled k) 10 bytes → ⊥) (sym same) (λ none. none (operands_of l) rest (fits-of l begins.0, parts.1)) none
+    subst (λ k. BeginsWithNone (Fits k) (spelled k) 10 bytes → ⊥) (sym same)
+    (λ none. none (operands_of l) rest (fits-of l begins.0, parts.1)) none

@@ -16,7 +16,8 @@ piece_lengths-some zero lengths some = absurd (some refl)
 piece_lengths-some (suc left) lengths some = refl
 
 -- behind a piece
-pub piece_lengths-next : (left n : ℕ) (lengths others : List ℕ) → left ≡ 0 → lengths ≡ n ∷ others → piece_lengths left lengths ≡ piece_lengths n others
+pub piece_lengths-next : (left n : ℕ) (lengths others : List ℕ) → left ≡ 0 → lengths ≡ n ∷ others
+    → piece_lengths left lengths ≡ piece_lengths n others
 unfolding piece_lengths
 piece_lengths-next zero n [] others none next = absurd cc
 piece_lengths-next zero n (m ∷ lengths) others none next = cc (next)

@@ -21,14 +21,18 @@ same_made h k e x = subst (λ k. (y : Operands k) → Fits h x → Fits k y → 
 
 pub one_spelling : (bytes : List ℕ) (a b : Line) → Spells bytes a → Spells bytes b → a ≡ b
 one_spelling bytes a b spells spells' =
-    let parts = same_cut 32 (head_spelling (head_of a)) (head_spelling (head_of b)) (spelled (head_of a) (operands_of a)) (spelled (head_of b) (operands_of b))
+    let parts = same_cut 32 (head_spelling (head_of a)) (head_spelling (head_of b)) (spelled (head_of a) (operands_of a))
+    (spelled (head_of b) (operands_of b))
     (head-spaceless (head_of a)) (head-spaceless (head_of b)) (sym (spelling-of a) ∙ (sym spells.1 ∙ (spells'.1 ∙ spelling-of b))) in
-    sym (made-of a) ∙ same_made (head_of a) (head_of b) (head-operand.one (head_of a) (head_of b) tt tt parts.0) (operands_of a) (operands_of b) (fits-of a spells.0) (fits-of b spells'.0) parts.1 ∙ made-of b
+    sym (made-of a) ∙ same_made (head_of a) (head_of b) (head-operand.one (head_of a) (head_of b) tt tt parts.0) (operands_of a)
+    (operands_of b) (fits-of a spells.0) (fits-of b spells'.0) parts.1 ∙ made-of b
 
 -- a spelling has no line feed and at most 95 bytes
 pub spelling-plain : (l : Line) → IsInRange l → HasNoFeed (spelling l)
-spelling-plain l fits = rw (spelling-of l) (All-append (λ b. b ≢ 10) (head_spelling (head_of l)) (32 ∷ spelled (head_of l) (operands_of l)) (head-operand.plain (head_of l) tt)
-    (All-cons (λ b. b ≢ 10) 32 (spelled (head_of l) (operands_of l)) (omega arith) ((shape (head_of l)).plain (operands_of l) (fits-of l fits))))
+spelling-plain l fits = rw (spelling-of l) (All-append (λ b. b ≢ 10) (head_spelling (head_of l)) (32 ∷ spelled (head_of l) (operands_of l))
+    (head-operand.plain (head_of l) tt)
+    (All-cons (λ b. b ≢ 10) 32 (spelled (head_of l) (operands_of l)) (omega arith)
+    ((shape (head_of l)).plain (operands_of l) (fits-of l fits))))
 
 pub spelling-short : (l : Line) → IsInRange l → length (spelling l) ≤ 95
 spelling-short l fits =
@@ -45,13 +49,15 @@ IsLine-spelling l fits rest = record { whole = refl; one = spelling-plain l fits
 pub line_fits : (l : Line) → IsInRange l → FitsBoth IsHead head_spelling (Fits (head_of l)) (head_of l, operands_of l)
 line_fits l fits = (tt, head-spaceless (head_of l), fits-of l fits)
 
-pub line_room : (l : Line) → IsInRange l → (n : ℕ) → 95 ≤ n → 0 + length (head_spelling (head_of l) ++ 32 ∷ spelled (head_of l) (operands_of l)) ≤ n
+pub line_room : (l : Line) → IsInRange l → (n : ℕ) → 95 ≤ n → 0 + length
+    (head_spelling (head_of l) ++ 32 ∷ spelled (head_of l) (operands_of l)) ≤ n
 line_room l fits n room =
     let short = spelling-short l fits in
     let same = ap length (spelling-of l) in
     omega arith
 
-pub line_written : (l : Line) (old new : List ℕ) (end : ℕ) → Writes 0 (head_spelling (head_of l) ++ 32 ∷ spelled (head_of l) (operands_of l)) old new end → Writes 0 (spelling l) old new end
+pub line_written : (l : Line) (old new : List ℕ) (end : ℕ) → Writes 0 (head_spelling (head_of l) ++ 32
+    ∷ spelled (head_of l) (operands_of l)) old new end → Writes 0 (spelling l) old new end
 line_written l old new end written = subst (λ (text : List ℕ). Writes 0 text old new end) (sym (spelling-of l)) written
 
 -- a version's number is one digit
@@ -66,9 +72,11 @@ pub fed_none : (bytes : List ℕ) → BeginsWithNone IsInRange spelling 10 (byte
 fed_none bytes none l spells = none l [] (spells.0, ap (λ (b : List ℕ). b ++ 10 ∷ []) spells.1)
 
 pub fed_some : (bytes rest : List ℕ) (l : Line) → Begins IsInRange spelling 10 (bytes ++ 10 ∷ []) l rest → rest ≡ [] → Spells bytes l
-fed_some bytes rest l begins all = (begins.0, append_cancel_right bytes (spelling l) (10 ∷ []) (begins.1 ∙ ap (λ (r : List ℕ). spelling l ++ 10 ∷ r) all))
+fed_some bytes rest l begins all =
+    (begins.0, append_cancel_right bytes (spelling l) (10 ∷ []) (begins.1 ∙ ap (λ (r : List ℕ). spelling l ++ 10 ∷ r) all))
 
-pub fed_more : (bytes rest : List ℕ) (l : Line) → Begins IsInRange spelling 10 (bytes ++ 10 ∷ []) l rest → rest ≢ [] → (k : Line) → Spells bytes k → ⊥
+pub fed_more : (bytes rest : List ℕ) (l : Line) → Begins IsInRange spelling 10 (bytes ++ 10 ∷ []) l rest → rest ≢ []
+    → (k : Line) → Spells bytes k → ⊥
 fed_more bytes rest l begins more k spells =
     let e = ap (λ (b : List ℕ). b ++ 10 ∷ []) (sym spells.1) ∙ begins.1 in
     more (sym (same_cut 10 (spelling k) (spelling l) [] rest (spelling-plain k spells.0) (spelling-plain l begins.0) e).1)

@@ -1,11 +1,14 @@
 -- Parts at the front of some bytes: what a cut and a reading of the word say of them.
-use Rattle.std.proofs.Common.{◌≡◌, ℕ, List, ◌∷◌, ◌++◌, length, take, sym, ap, ◌∙◌}
-use Rattle.std.proofs.lemmas.List.{take_at, append_assoc}
+use Rattle.std.proofs.Common.{◌≡◌, ℕ, ◌+◌, ◌<◌, ◌≤◌, Bool, List, [], ◌∷◌, ◌++◌, length, take, drop, get_or, sym, ap, ◌∙◌, arith}
+use Rattle.std.proofs.lemmas.List.{append_assoc, drop_more, get_or_at, length-append, take-append-drop, take_at}
+use Rattle.cap_word.specs.Digits.{hex_digits}
+use Rattle.cap_log.specs.Lines.{tag_spelling}
 use Rattle.cap_log.specs.Parts.{Begins, BeginsWithNone, FitsBoth, HasNoSpace, IsCutAt, Lacks, spaced}
 use Rattle.cap_log.proofs.Cuts.{no_cut, same_cut, same_word}
 
 -- a word that was read, in front of the byte that ends it
-pub taken : {A : Type 0} (Fits : A → Type 0) (spelled : A → List ℕ) (end : ℕ) (bytes word rest : List ℕ) (a : A) → bytes ≡ word ++ end ∷ rest
+pub taken : {A : Type 0} (Fits : A → Type 0) (spelled : A → List ℕ) (end : ℕ) (bytes word rest : List ℕ)
+    (a : A) → bytes ≡ word ++ end ∷ rest
     → Fits a × (word ≡ spelled a) → Begins Fits spelled end bytes a rest
 taken Fits spelled end bytes word rest a whole read = (read.0, whole ∙ ap (λ (w : List ℕ). w ++ end ∷ rest) read.1)
 
@@ -19,24 +22,55 @@ module _ {A : Type 0} (Fits : A → Type 0) (spelled : A → List ℕ) (end : �
       → ((a : A) → Fits a → word ≡ spelled a → ⊥) → BeginsWithNone Fits spelled end bytes
   none_read lacks cut none a rest begins = none a begins.0 (same_word cut (spelled a) rest (lacks a begins.0) begins.1).0
 
-  -- bytes without so many before the byte that ends them, where all spellings have so many
-  pub none_so_long : (n : ℕ) → ((a : A) → Fits a → length (spelled a) ≡ n) → (bytes : List ℕ)
-      → ((word rest : List ℕ) → length word ≡ n → bytes ≡ word ++ end ∷ rest → ⊥) → BeginsWithNone Fits spelled end bytes
-  none_so_long n long bytes none a rest begins = none (spelled a) rest (long a begins.0) begins.1
+  -- where all spellings have so many bytes: no more than these, another byte behind them, or bytes that are none
+  pub none_short : (n : ℕ) → ((a : A) → Fits a → length (spelled a) ≡ n) → (bytes : List ℕ) → length bytes ≤ n
+      → BeginsWithNone Fits spelled end bytes
+  none_short n long bytes few a rest begins =
+      let same = long a begins.0 in
+      let whole = ap length begins.1 ∙ length-append (spelled a) (end ∷ rest) in
+      omega arith
 
-  -- a word of so many that is none
-  pub none_fixed : (n : ℕ) → ((a : A) → Fits a → length (spelled a) ≡ n) → (bytes word rest : List ℕ) → (length word ≡ n) × (bytes ≡ word ++ end ∷ rest)
-      → ((a : A) → Fits a → word ≡ spelled a → ⊥) → BeginsWithNone Fits spelled end bytes
-  none_fixed n long bytes word rest cut none a rest' begins =
-      none a begins.0 (sym (take_at word (end ∷ rest) n cut.0) ∙ ap (take n) (sym cut.1 ∙ begins.1) ∙ take_at (spelled a) (end ∷ rest') n (long a begins.0))
+  pub none_ended_so : (n : ℕ) → ((a : A) → Fits a → length (spelled a) ≡ n) → (bytes : List ℕ) → (get_or bytes n 0 ≡ end → ⊥)
+      → BeginsWithNone Fits spelled end bytes
+  none_ended_so n long bytes other a rest begins =
+      other (ap (λ (bs : List ℕ). get_or bs n 0) begins.1 ∙ get_or_at (spelled a) end rest 0 n (long a begins.0))
+
+  pub none_in_front : (n : ℕ) → ((a : A) → Fits a → length (spelled a) ≡ n) → (bytes : List ℕ)
+      → ((a : A) → Fits a → take n bytes ≡ spelled a → ⊥) → BeginsWithNone Fits spelled end bytes
+  none_in_front n long bytes none a rest begins =
+      none a begins.0 (ap (take n) begins.1 ∙ take_at (spelled a) (end ∷ rest) n (long a begins.0))
+
+-- so many bytes, the one behind them and the rest
+pub cut_behind : (n end : ℕ) (bytes : List ℕ) → n < length bytes → get_or bytes n 0 ≡ end → bytes ≡ take n bytes ++ end ∷ drop (n + 1) bytes
+cut_behind n end bytes before ended =
+    sym (take-append-drop n bytes)
+    ∙ ap (λ (rest : List ℕ). take n bytes ++ rest) (drop_more bytes n 0 before ∙ ap (λ (b : ℕ). b ∷ drop (n + 1) bytes) ended)
+
+-- a result in front: what stands before its word, the word's digits, and the byte that ends them
+pub result_in_front : (tag : Bool) (end n : ℕ) (bytes : List ℕ) → 36 < length bytes → get_or bytes 36 0 ≡ end → get_or bytes 0 0 ≡ 61
+    → get_or bytes 1 0 ≡ 32 → get_or bytes 2 0 ∷ [] ≡ tag_spelling tag → get_or bytes 3 0 ≡ 32 → take 32 (drop 4 bytes) ≡ hex_digits 32 n
+    → bytes ≡ (61 ∷ 32 ∷ (tag_spelling tag ++ 32 ∷ hex_digits 32 n)) ++ end ∷ drop 37 bytes
+result_in_front tag end n [] long _ _ _ _ _ _ = absurd (omega arith)
+result_in_front tag end n (a ∷ []) long _ _ _ _ _ _ = absurd (omega arith)
+result_in_front tag end n (a ∷ b ∷ []) long _ _ _ _ _ _ = absurd (omega arith)
+result_in_front tag end n (a ∷ b ∷ x ∷ []) long _ _ _ _ _ _ = absurd (omega arith)
+result_in_front tag end n (a ∷ b ∷ x ∷ d ∷ rest) long ended first second third fourth digits =
+    let word = cut_behind 32 end rest (omega arith) ended ∙ ap (λ (ds : List ℕ). ds ++ end ∷ drop 33 rest) digits in
+    ap (λ (k : ℕ). k ∷ b ∷ x ∷ d ∷ rest) first ∙ ap (λ (k : ℕ). 61 ∷ k ∷ x ∷ d ∷ rest) second
+    ∙ ap (λ (ts : List ℕ). 61 ∷ 32 ∷ (ts ++ d ∷ rest)) third
+    ∙ ap (λ (k : ℕ). 61 ∷ 32 ∷ (tag_spelling tag ++ k ∷ rest)) fourth
+    ∙ ap (λ (bs : List ℕ). 61 ∷ 32 ∷ (tag_spelling tag ++ 32 ∷ bs)) word
+    ∙ ap (λ (bs : List ℕ). 61 ∷ 32 ∷ bs) (sym (append_assoc (tag_spelling tag) (32 ∷ hex_digits 32 n) (end ∷ drop 33 rest)))
 
 -- two parts
 module _ {A B : Type 0} (P : A → Type 0) (first : A → List ℕ) (Q : B → Type 0) (second : B → List ℕ) (end : ℕ) (bytes : List ℕ) where
   -- their bytes, cut behind the first
-  both_cut : (pair : A × B) (rest : List ℕ) → Begins (FitsBoth P first Q) (spaced first second) end bytes pair rest → bytes ≡ first pair.0 ++ 32 ∷ (second pair.1 ++ end ∷ rest)
+  both_cut : (pair : A × B) (rest : List ℕ) → Begins (FitsBoth P first Q) (spaced first second) end bytes pair rest
+      → bytes ≡ first pair.0 ++ 32 ∷ (second pair.1 ++ end ∷ rest)
   both_cut pair rest begins = begins.1 ∙ append_assoc (first pair.0) (32 ∷ second pair.1) (end ∷ rest)
 
-  pub both : (a : A) (b : B) (middle rest : List ℕ) → HasNoSpace (first a) → Begins P first 32 bytes a middle → Begins Q second end middle b rest
+  pub both : (a : A) (b : B) (middle rest : List ℕ) → HasNoSpace (first a) → Begins P first 32 bytes a middle
+      → Begins Q second end middle b rest
       → Begins (FitsBoth P first Q) (spaced first second) end bytes (a, b) rest
   both a b middle rest one x y = (
     (x.0, one, y.0),
@@ -49,5 +83,6 @@ module _ {A B : Type 0} (P : A → Type 0) (first : A → List ℕ) (Q : B → T
   pub no_second : (a : A) (middle : List ℕ) → HasNoSpace (first a) → Begins P first 32 bytes a middle → BeginsWithNone Q second end middle
       → BeginsWithNone (FitsBoth P first Q) (spaced first second) end bytes
   no_second a middle one x none pair rest begins =
-      let same = same_cut 32 (first a) (first pair.0) middle (second pair.1 ++ end ∷ rest) one begins.0.1 (sym x.1 ∙ both_cut pair rest begins) in
+      let same = same_cut 32 (first a) (first pair.0) middle (second pair.1 ++ end ∷ rest) one begins.0.1
+      (sym x.1 ∙ both_cut pair rest begins) in
       none pair.1 rest (begins.0.2, same.1)

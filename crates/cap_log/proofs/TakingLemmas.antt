@@ -1,5 +1,6 @@
 -- What was found, with more given behind it, and what follows for an answer.
-use Rattle.std.proofs.Common.{◌≡◌, ◌≢◌, ℕ, zero, suc, ◌≤◌, Bool, List, [], ◌∷◌, ◌++◌, length, take, None, refl, sym, ap, subst, ◌∙◌, arith, append_assoc, append-nil}
+use Rattle.std.proofs.Common.{◌≡◌, ◌≢◌, ℕ, zero, suc, ◌≤◌, Bool, List, [], ◌∷◌, ◌++◌, length, take, None, refl, sym, ap, subst, ◌∙◌, arith}
+use Rattle.std.proofs.Common.{append_assoc, append-nil}
 use Rattle.std.proofs.lemmas.List.{length-append, take_at}
 use Rattle.std.proofs.lemmas.List.Elements.{All-take}
 use Rattle.cap_log.specs.Front.{HasNoFeed, IsCut, IsFront}
@@ -36,7 +37,8 @@ given_more gave a b c before middle after more joined so_far gives all = (
 )
 
 -- an answer from what was found
-pub answered : {S : Type 0} (gave : S → S → List ℕ → Type 0) (ended : S → Bool) (old new : S) (before after : List ℕ) (front : Front) (lines : Lines)
+pub answered : {S : Type 0} (gave : S → S → List ℕ → Type 0) (ended : S → Bool) (old new : S) (before after : List ℕ)
+    (front : Front) (lines : Lines)
     (answer : Result Next PullFault) → Found gave old new before after front
     → (IsFront after front → IsNext after (ended new) (kept lines) (over_of lines) answer) → Answered gave ended old new before lines answer
 answered gave ended old new before after front lines answer found makes = record {
@@ -46,7 +48,8 @@ answered gave ended old new before after front lines answer found makes = record
 }
 
 -- there are more lines, so none was over
-pub not_again : {S : Type 0} (old new : S) (before after : Lines) (answer : Result Next PullFault) → over_of before ≡ None → Again old new before after answer
+pub not_again : {S : Type 0} (old new : S) (before after : Lines) (answer : Result Next PullFault) → over_of before ≡ None
+    → Again old new before after answer
 not_again old new before after answer none over is = absurd (none-some over (sym none ∙ is))
 
 pub take_front : (m n : ℕ) (xs : List ℕ) → m ≤ n → take m (take n xs) ≡ take m xs
@@ -57,7 +60,10 @@ take_front (suc m) (suc n) (x ∷ xs) h = ap (λ (ys : List ℕ). x ∷ ys) (tak
 
 -- what begins cut bytes is cut
 cut_before : (bytes more : List ℕ) → IsCut (bytes ++ more) → IsCut bytes
-cut_before bytes more cut = (omega (arith, cut.0, length-append bytes more), subst HasNoFeed (take_at bytes more (length bytes) refl) (All-take (λ b. b ≢ 10) (length bytes) (bytes ++ more) cut.1))
+cut_before bytes more cut = (
+  omega (arith, cut.0, length-append bytes more),
+  subst HasNoFeed (take_at bytes more (length bytes) refl) (All-take (λ b. b ≢ 10) (length bytes) (bytes ++ more) cut.1),
+)
 
 -- nothing was pulled where what was kept is not cut
 pub untouched : {S : Type 0} (gave : S → S → List ℕ → Type 0) (a b old new : S) (before middle : List ℕ) (front : Front)

@@ -5,7 +5,8 @@ use Rattle.cap_log.specs.Parts.{Writes}
 pub use Rattle.cap_log.specs.Written.{whole, length-Writes, Writes-then}
 
 -- three texts
-pub Writes-three : (at i j k : ℕ) (a b c old first second new : List ℕ) → Writes at a old first i → Writes i b first second j → Writes j c second new k
+pub Writes-three : (at i j k : ℕ) (a b c old first second new : List ℕ) → Writes at a old first i
+    → Writes i b first second j → Writes j c second new k
     → Writes at (a ++ (b ++ c)) old new k
 Writes-three at i j k a b c old first second new one two three =
     Writes-then at i k a (b ++ c) old first new one (Writes-then i j k b c first second new two three)
@@ -22,5 +23,6 @@ front_and_byte i j c a old mid new first second room =
     let long : length (take i mid) ≡ i = length-take-le i mid (omega arith) in (
       both.written,
       both.rest j (omega arith),
-      ap (λ (k : ℕ). take k new) last ∙ (ap (λ (bs : List ℕ). take i bs) (whole i j (c ∷ []) mid new second) ∙ (take_at (take i mid) (c ∷ drop j mid) i long ∙ first.written)),
+      ap (λ (k : ℕ). take k new) last ∙ (ap (λ (bs : List ℕ). take i bs) (whole i j (c ∷ []) mid new second)
+          ∙ (take_at (take i mid) (c ∷ drop j mid) i long ∙ first.written)),
     )

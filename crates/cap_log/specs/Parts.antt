@@ -1,5 +1,5 @@
 -- What a reader of a part of a line answers and a writer writes, and the parts themselves. All of it is this profile's own.
-use Rattle.std.specs.Prelude.{◌≡◌, ◌≢◌, ℕ, ◌+◌, ◌*◌, ◌^◌, ◌<◌, ◌≤◌, Bool, true, false, List, [], ◌∷◌, ◌++◌, length, take, drop, Option}
+use Rattle.std.specs.Prelude.{◌≡◌, ◌≢◌, ℕ, ◌+◌, ◌*◌, ◌^◌, ◌<◌, ◌≤◌, List, [], ◌∷◌, ◌++◌, length, take, drop, Option}
 use Rattle.std.specs.Prelude.{Some, None, All, codes, decimal, slice_index}
 use Rattle.std.specs.List.{join_with_byte}
 use Rattle.std.specs.Str.Parse.{AllDigits, digits_value}
@@ -69,23 +69,6 @@ pub record IsFrontNumber (most : ℕ) (bytes : List ℕ) (value count : ℕ) : T
   pub digits : AllDigits 10 (take count bytes)
   pub value_is : value ≡ digits_value 10 (take count bytes)
   pub stops : count < most → count < length bytes → 48 ≤ slice_index bytes count → slice_index bytes count ≤ 57 → ⊥
-
--- every value is in range
-abbrev pub IsAny : {A : Type 0} → A → Type 0
-IsAny a = Unit {0}
-
--- an equals sign
-abbrev pub equals_spelling : {A : Type 0} → A → List ℕ
-equals_spelling a = codes "="
-
--- a number of seventeen hexadecimal digits
-abbrev pub IsWideNumber : ℕ → Type 0
-IsWideNumber n = n < 2 ^ 68
-
--- what stands before a result's word
-abbrev pub tag_front : Bool → List ℕ
-tag_front true = codes "= 1 "
-tag_front false = codes "= 0 "
 
 -- the result at the end of a step
 abbrev pub result_spelling : Cap → List ℕ

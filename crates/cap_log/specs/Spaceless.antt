@@ -1,5 +1,5 @@
 -- Laws of spellings: which bytes they lack.
-use Rattle.std.proofs.Common.{◌≡◌, ◌≢◌, ℕ, zero, suc, ◌*◌, ◌/◌, ◌%◌, ◌^◌, ◌<◌, ◌≤◌, ℤ, pos, negsuc, Bool, true, false, not, eqb, nat_lt}
+use Rattle.std.proofs.Common.{◌≡◌, ◌≢◌, ℕ, zero, suc, ◌*◌, ◌/◌, ◌%◌, ◌^◌, ◌<◌, ◌≤◌, ℤ, pos, negsuc, true, not, eqb, nat_lt}
 use Rattle.std.proofs.Common.{List, [], ◌∷◌, refl, arith, codes, decimal}
 use Rattle.std.specs.Fmt.{signed_decimal}
 use Rattle.std.specs.List.{list_all}
@@ -11,7 +11,7 @@ use Rattle.std.proofs.lemmas.Str.Parse.{digit_at}
 use lib.Signed.{mag}
 use Rattle.cap_word.specs.Digits.{hex_digit, hex_digits}
 use Rattle.cap_log.specs.Heads.{head_spelling}
-use Rattle.cap_log.specs.Lines.{IsOffset, IsPlace, IsRegister, place_spelling, register_spelling, tag_spelling}
+use Rattle.cap_log.specs.Lines.{IsOffset, IsPlace, IsRegister, place_spelling, register_spelling}
 use Rattle.cap_log.specs.Parts.{HasNoSpace, Lacks}
 use Rattle.cap_log.specs.declared.heads.Head.{Head}
 use Rattle.cap_log.specs.declared.heads.Head.TheVariants as head
@@ -105,14 +105,6 @@ Lacks-head c h low = Lacks-by_above c (head_spelling h) low (above h)
 
 pub head-spaceless : (h : Head) → HasNoSpace (head_spelling h)
 head-spaceless h = Lacks-head 32 h (omega arith)
-
--- signs and flags
-pub equals-spaceless : HasNoSpace (codes "=")
-equals-spaceless = Lacks-by_test 32 (codes "=") refl
-
-pub tag-spaceless : (tag : Bool) → HasNoSpace (tag_spelling tag)
-tag-spaceless true = Lacks-by_test 32 (codes "1") refl
-tag-spaceless false = Lacks-by_test 32 (codes "0") refl
 
 -- words, and numbers of any so many digits
 pub digits-spaceless : (k n : ℕ) → HasNoSpace (hex_digits k n)

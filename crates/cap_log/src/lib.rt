@@ -9,8 +9,7 @@
 //! Each kind of step has a type of its own, as [`Move`], by which its [`Operands`] are taken alone.
 //!
 //! The parts of a line are [`Part`]s: each takes itself from the front of some bytes, with the byte
-//! that ends it, and two with a space between them are one. [`Equals`], [`Flag`], [`Count`], [`Number`],
-//! [`WideNumber`] and `cap_word`'s `Word` serve other files of lines too.
+//! that ends it, and two with a space between them are one.
 //!
 //! A [`Source`] gives bytes a piece at a time, and [`Lines`] are the lines of what it gives, however
 //! it is cut. A [`Sink`] takes bytes a piece at a time, and [`push_all`] pushes a whole text. The
@@ -42,10 +41,7 @@ pub use crate::operands::accesses::{Load, LoadCap, Store, StoreCap};
 pub use crate::operands::numbers::{AndPerm, SetAddr, SetBounds, SetBoundsExact};
 pub use crate::operands::registers::{ClearTag, Move, Seal, Unseal};
 pub use crate::operands::{Operands, take_operands};
-pub use crate::parts::decimals::Count;
-pub use crate::parts::hexadecimals::{Number, WideNumber};
-pub use crate::parts::signs::{Equals, Flag};
-pub use crate::parts::{Part, Single};
+pub use crate::parts::Part;
 pub use crate::pushing::push_all;
 pub use crate::reading::{read_line, spellings_are_distinct, take_line};
 pub use crate::sinks::failing::FailingSink;

@@ -9,7 +9,6 @@ pub mod hexadecimals;
 pub mod offsets;
 pub mod registers;
 pub mod results;
-pub mod signs;
 pub mod sized;
 
 use crate::buffers::put;

@@ -1,6 +1,6 @@
 //! Words at the front of some bytes.
 
-ghost use Rattle.std.specs.Prelude.{◌≡◌, ℕ, List, ◌∷◌, ◌++◌, IfNone, IfSome, length};
+ghost use Rattle.std.specs.Prelude.{◌≡◌, ◌∷◌, ◌++◌, IfNone, IfSome};
 ghost use Rattle.cap_log.specs.Parts.{BeginsWithout, IsCutAt, Lacks};
 
 /// Cuts some bytes at the first byte of a kind, or answers `None` where there is none.
@@ -14,19 +14,6 @@ pub fn split_end(bytes: &[u8], end: u8) -> Option<(&[u8], &[u8])>
         }
     }
     None
-}
-
-/// Cuts off so many bytes and the byte behind them, or answers `None` where that is another byte or
-/// there are too few.
-#[inline(always)]
-pub fn split_fixed(bytes: &[u8], count: usize, end: u8) -> Option<(&[u8], &[u8])>
-    ensures some { IfSome result (λ parts. (length parts.0.now ≡ count) × (bytes.now ≡ parts.0.now ++ end ∷ parts.1.now)) }
-    ensures none { IfNone result ((word rest : List ℕ) → length word ≡ count → bytes.now ≡ word ++ end ∷ rest → ⊥) }
-{
-    if bytes.len() <= count || bytes[count] != end {
-        return None;
-    }
-    Some((&bytes[..count], &bytes[count + 1..]))
 }
 
 /// What stands behind a text at the front of some bytes and the byte that ends it, or `None` where they

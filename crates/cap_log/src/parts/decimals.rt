@@ -14,7 +14,7 @@ const COUNT_DIGITS: usize = 10;
 const COUNT_BOUND: u64 = 1 << 32;
 
 /// A decimal number, with no sign and no leading zero.
-#[derive(Clone, Copy, Debug, PartialEq, Eq)]
+#[derive(Clone, Copy)]
 pub struct Count(pub u32);
 
 impl Part for Count {

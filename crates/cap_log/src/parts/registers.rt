@@ -1,8 +1,8 @@
 //! Registers, and the places of roots.
 
-ghost use Rattle.std.specs.Prelude.{◌+◌, ◌≤◌, length, IfSome, IfNone};
+ghost use Rattle.std.specs.Prelude.{◌+◌, ◌≤◌, length};
 ghost use Rattle.cap_log.specs.Lines.{IsPlace, IsRegister, IsTarget, place_spelling, register_spelling};
-ghost use Rattle.cap_log.specs.Parts.{Begins, BeginsWithNone, IsEnd, Writes};
+ghost use Rattle.cap_log.specs.Parts.{Writes};
 ghost use Rattle.cap_log.specs.Spaceless.{place-spaceless, register-spaceless};
 
 use crate::buffers::{put, put_decimal};
@@ -27,8 +27,28 @@ impl Part for Register {
 
     #[inline(always)]
     fn take(bytes: &[u8], end: u8) -> Option<(Register, &[u8])> {
-        let (number, rest) = take_register(bytes, end)?;
-        Some((Register(number), rest))
+        if bytes.len() < 3 || bytes[0] != b'c' {
+            return None;
+        }
+        if !bytes[1].is_ascii_digit() {
+            return None;
+        }
+        let first = bytes[1] - b'0';
+        if bytes[2] == end {
+            return Some((Register(first), &bytes[3..]));
+        }
+        if bytes.len() < 4 || bytes[3] != end {
+            return None;
+        }
+        if first < LEAST_TENS || !bytes[2].is_ascii_digit() {
+            return None;
+        }
+        let number = 10 * first + (bytes[2] - b'0');
+        if number <= GREATEST_REGISTER {
+            Some((Register(number), &bytes[4..]))
+        } else {
+            None
+        }
     }
 
     fn write(&self, buffer: &mut [u8], at: usize) -> usize {
@@ -50,11 +70,11 @@ impl Part for Target {
 
     #[inline(always)]
     fn take(bytes: &[u8], end: u8) -> Option<(Target, &[u8])> {
-        let (number, rest) = take_register(bytes, end)?;
-        if number == NULL_REGISTER {
+        let (register, rest) = Register::take(bytes, end)?;
+        if register.0 == NULL_REGISTER {
             return None;
         }
-        Some((Target(number), rest))
+        Some((Target(register.0), rest))
     }
 
     fn write(&self, buffer: &mut [u8], at: usize) -> usize {
@@ -100,37 +120,6 @@ impl Part for Place {
                 write_number(buffer, next, 16 * number)
             }
         }
-    }
-}
-
-// Takes a register, `c0` to `c31`, and the byte that ends it.
-#[inline(always)]
-fn take_register(bytes: &[u8], end: u8) -> Option<(u8, &[u8])>
-    requires { IsEnd end }
-    ensures some { IfSome result (λ p. Begins IsRegister register_spelling end bytes.now p.0 p.1.now) }
-    ensures none { IfNone result (BeginsWithNone IsRegister register_spelling end bytes.now) }
-{
-    if bytes.len() < 3 || bytes[0] != b'c' {
-        return None;
-    }
-    if !bytes[1].is_ascii_digit() {
-        return None;
-    }
-    let first = bytes[1] - b'0';
-    if bytes[2] == end {
-        return Some((first, &bytes[3..]));
-    }
-    if bytes.len() < 4 || bytes[3] != end {
-        return None;
-    }
-    if first < LEAST_TENS || !bytes[2].is_ascii_digit() {
-        return None;
-    }
-    let number = 10 * first + (bytes[2] - b'0');
-    if number <= GREATEST_REGISTER {
-        Some((number, &bytes[4..]))
-    } else {
-        None
     }
 }
 

@@ -2,13 +2,22 @@
 
 ghost use Rattle.cap_word.specs.Digits.{hex_digits};
 ghost use Rattle.cap_log.specs.Lines.{IsWord};
-ghost use Rattle.cap_log.specs.Parts.{IsAny, Reads, result_spelling, tag_front};
+ghost use Rattle.cap_log.specs.Parts.{result_spelling};
 ghost use Rattle.cap_log.specs.Spaceless.{digits-spaceless};
 
 use crate::buffers::put;
-use crate::parts::cutting::split_fixed;
 use crate::parts::{Part, Single};
 use cap_word::{Cap, Word, read_word, word_text};
+
+/// How many digits a word has.
+const WORD_DIGITS: usize = 32;
+
+/// A result's word begins behind so many bytes: `= `, a tag and a space.
+const WORD_START: usize = 4;
+
+/// How many bytes a result has. The byte that ends it is looked at first, so that those before it are known
+/// to stand there.
+const RESULT_LENGTH: usize = WORD_START + WORD_DIGITS;
 
 impl Part for Word {
     ghost fits = { λ word. IsWord word.0 };
@@ -17,9 +26,11 @@ impl Part for Word {
 
     #[inline(always)]
     fn take(bytes: &[u8], end: u8) -> Option<(Word, &[u8])> {
-        let (digits, rest) = split_fixed(bytes, 32, end)?;
-        let word = read_word(digits)?;
-        Some((word, rest))
+        if bytes.len() <= WORD_DIGITS || bytes[WORD_DIGITS] != end {
+            return None;
+        }
+        let word = read_word(&bytes[..WORD_DIGITS])?;
+        Some((word, &bytes[WORD_DIGITS + 1..]))
     }
 
     fn write(&self, buffer: &mut [u8], at: usize) -> usize {
@@ -42,10 +53,16 @@ impl Part for Recorded {
 
     #[inline(always)]
     fn take(bytes: &[u8], end: u8) -> Option<(Recorded, &[u8])> {
-        let (front, digits) = bytes.split_first_chunk::<4>()?;
-        let tag = read_tag(front)?;
-        let (word, rest) = Word::take(digits, end)?;
-        Some((Recorded(Cap { tag, word }), rest))
+        if bytes.len() <= RESULT_LENGTH || bytes[RESULT_LENGTH] != end {
+            return None;
+        }
+        let tag = match bytes {
+            [b'=', b' ', b'1', b' ', ..] => true,
+            [b'=', b' ', b'0', b' ', ..] => false,
+            _ => return None,
+        };
+        let word = read_word(&bytes[WORD_START..RESULT_LENGTH])?;
+        Some((Recorded(Cap { tag, word }), &bytes[RESULT_LENGTH + 1..]))
     }
 
     fn write(&self, buffer: &mut [u8], at: usize) -> usize {
@@ -56,17 +73,5 @@ impl Part for Recorded {
             let digits = put(buffer, at, b"= 0 ");
             put(buffer, digits, &word_text(self.0.word))
         }
-    }
-}
-
-// Reads what stands before a result's word: an equals sign and a tag, with a space behind each.
-#[inline(always)]
-fn read_tag(front: &[u8; 4]) -> Option<bool>
-    ensures { Reads IsAny tag_front front.now result }
-{
-    match *front {
-        [b'=', b' ', b'1', b' '] => Some(true),
-        [b'=', b' ', b'0', b' '] => Some(false),
-        _ => None,
     }
 }

@@ -3,11 +3,11 @@
 ghost use Rattle.std.specs.Prelude.{◌≡◌, ℕ, ◌*◌, List, ◌++◌, decimal, IfSome, IfNone};
 ghost use Rattle.cap_word.specs.Digits.{hex_digits};
 ghost use Rattle.cap_log.specs.Lines.{IsDataSize, IsDataValue};
-ghost use Rattle.cap_log.specs.Parts.{Begins, BeginsWithNone, IsEnd, IsSized, Reads, loaded_spelling, stored_spelling};
+ghost use Rattle.cap_log.specs.Parts.{Begins, BeginsWithNone, IsEnd, IsSized, loaded_spelling, stored_spelling};
 
 use crate::buffers::{put, put_decimal, put_hex};
 use crate::parts::Part;
-use crate::parts::cutting::{behind, split_fixed};
+use crate::parts::cutting::behind;
 use cap_word::{take_bytes, take_u64};
 
 /// The size and the value that a load records: the size, `= ` and the value's digits.
@@ -83,9 +83,13 @@ fn take_size(bytes: &[u8]) -> Option<(u8, &[u8])>
     ensures some { IfSome result (λ p. Begins IsDataSize decimal 32 bytes.now p.0 p.1.now) }
     ensures none { IfNone result (BeginsWithNone IsDataSize decimal 32 bytes.now) }
 {
-    let (digit, rest) = split_fixed(bytes, 1, b' ')?;
-    let size = read_size(digit)?;
-    Some((size, rest))
+    match bytes {
+        [b'1', b' ', rest @ ..] => Some((1, rest)),
+        [b'2', b' ', rest @ ..] => Some((2, rest)),
+        [b'4', b' ', rest @ ..] => Some((4, rest)),
+        [b'8', b' ', rest @ ..] => Some((8, rest)),
+        _ => None,
+    }
 }
 
 // Takes a value of so many bytes, two digits for each, and the byte that ends it.
@@ -113,23 +117,5 @@ fn take_digits(bytes: &[u8], size: u8) -> Option<(u64, &[u8])>
         take_u64(bytes)
     } else {
         take_bytes(bytes, size)
-    }
-}
-
-// Reads a size, 1, 2, 4 or 8.
-#[inline(always)]
-fn read_size(word: &[u8]) -> Option<u8>
-    ensures { Reads IsDataSize decimal word.now result }
-{
-    if word == b"1".as_slice() {
-        Some(1)
-    } else if word == b"2".as_slice() {
-        Some(2)
-    } else if word == b"4".as_slice() {
-        Some(4)
-    } else if word == b"8".as_slice() {
-        Some(8)
-    } else {
-        None
     }
 }

@@ -1,11 +1,8 @@
-//! The parts that other files of lines have too.
+//! Parts of lines, one by one and in a row.
 
-use cap_log::{Count, Equals, Flag, Number, Part, WideNumber};
-use cap_word::Word;
+use cap_log::{Head, Part, Place, read_line};
+use cap_word::{Word, null};
 use std::process::Abort;
-
-// A vector's right side: two numbers and a flag.
-type Bounds = (Equals, (Number, (WideNumber, Flag)));
 
 // These bytes are no such part before a line feed.
 fn refuses<P: Part + Drop>(rt: &impl Abort, bytes: &[u8]) {
@@ -14,12 +11,11 @@ fn refuses<P: Part + Drop>(rt: &impl Abort, bytes: &[u8]) {
 
 #[test]
 fn takes_a_row_of_parts(rt: HostRuntime) {
-    let text = b"= 0000000000001000 1000000000000000f 1\nrest";
-    match Bounds::take(text, b'\n') {
-        Some(((_, (base, (top, flag))), rest)) => {
-            assert_eq!(rt; base, Number(0x1000));
-            assert_eq!(rt; top, WideNumber(0x1000_0000_0000_0000f));
-            assert_eq!(rt; flag, Flag(true));
+    let text = b"@0000000000000120 00001ffffc0180040000000000000000\nrest";
+    match <(Place, Word)>::take(text, b'\n') {
+        Some(((place, word), rest)) => {
+            assert_eq!(rt; place, Place::Granule(0x12));
+            assert_eq!(rt; word, null());
             assert_eq!(rt; rest, b"rest".as_slice());
         }
         None => assert!(rt; false),
@@ -28,39 +24,37 @@ fn takes_a_row_of_parts(rt: HostRuntime) {
 
 #[test]
 fn refuses_other_parts(rt: HostRuntime) {
-    refuses::<Equals>(&rt, b"=");
-    refuses::<Equals>(&rt, b"\n");
-    refuses::<Equals>(&rt, b"==\n");
-    refuses::<Flag>(&rt, b"2\n");
-    refuses::<Flag>(&rt, b"01\n");
-    refuses::<Flag>(&rt, b"1 ");
-    refuses::<WideNumber>(&rt, b"1000000000000000\n");
-    refuses::<WideNumber>(&rt, b"100000000000000000\n");
-    refuses::<WideNumber>(&rt, b"1000000000000000F\n");
-    refuses::<WideNumber>(&rt, b"g0000000000000000\n");
-    refuses::<WideNumber>(&rt, b"1000000000000000 \n");
-    refuses::<Count>(&rt, b"052\n");
-    refuses::<Count>(&rt, b"\n");
-    refuses::<Count>(&rt, b"5 2\n");
+    refuses::<Head>(&rt, b"move");
+    refuses::<Head>(&rt, b"move ");
+    refuses::<Head>(&rt, b"\n");
+    refuses::<Place>(&rt, b"c5");
+    refuses::<Place>(&rt, b"c5 ");
+    refuses::<Place>(&rt, b"c05\n");
+    refuses::<Place>(&rt, b"c0\n");
+    refuses::<Place>(&rt, b"c32\n");
+    refuses::<Place>(&rt, b"@0000000000000008\n");
+    refuses::<Place>(&rt, b"@000000000000010\n");
+    refuses::<Place>(&rt, b"@00000000000000100\n");
     refuses::<Word>(&rt, b"00001ffffc018004000000000000000\n");
-    refuses::<(Equals, Flag)>(&rt, b"=1\n");
-    refuses::<(Equals, Flag)>(&rt, b"=  1\n");
+    refuses::<Word>(&rt, b"00001ffffc01800400000000000000000\n");
+    refuses::<Word>(&rt, b"00001FFFFC0180040000000000000000\n");
+    refuses::<Word>(&rt, b"00001ffffc0180040000000000000000 ");
+    refuses::<(Place, Word)>(&rt, b"c5  00001ffffc0180040000000000000000\n");
+    refuses::<(Place, Word)>(&rt, b"c500001ffffc0180040000000000000000\n");
 }
 
 #[test]
-fn the_greatest_wide_number(rt: HostRuntime) {
-    let wide = WideNumber::take(b"fffffffffffffffff ", b' ');
-    assert_eq!(rt;
-        wide,
-        Some((WideNumber(0xf_ffff_ffff_ffff_ffff), b"".as_slice()))
-    );
+fn refuses_other_counts(rt: HostRuntime) {
+    assert!(rt; read_line(b"end 052").is_none());
+    assert!(rt; read_line(b"end ").is_none());
+    assert!(rt; read_line(b"end 5 2").is_none());
 }
 
 #[test]
-fn writes_signs(rt: HostRuntime) {
-    let mut buffer = [b'.'; 4];
-    assert_eq!(rt; Equals.write(&mut buffer, 1), 2);
-    assert_eq!(rt; Flag(false).write(&mut buffer, 2), 3);
-    assert_eq!(rt; Flag(true).write(&mut buffer, 3), 4);
-    assert_eq!(rt; buffer, *b".=01");
+fn writes_places(rt: HostRuntime) {
+    let mut buffer = [b'.'; 20];
+    assert_eq!(rt; Place::Register(31).write(&mut buffer, 1), 4);
+    assert_eq!(rt; buffer, *b".c31................");
+    assert_eq!(rt; Place::Granule(0x12).write(&mut buffer, 2), 19);
+    assert_eq!(rt; buffer, *b".c@0000000000000120.");
 }

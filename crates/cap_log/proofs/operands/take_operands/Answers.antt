@@ -7,25 +7,31 @@ use Rattle.cap_log.proofs.TakeLemmas.{none_ended, none_read, taken}
 use Rattle.cap_log.proofs.operands.take_operands.Goals as goal
 
 pub returns-in_err-place-in-Root-clause-none : goal.returns-in_err-place-in-Root-clause-none
-returns-in_err-place-in-Root-clause-none c = rw (c.from_residual-in_err-place-in-Root.ensures, c.in-Root.is) (no_operands head.Root c.args.bytes.now c.in_err-place-in-Root.ensures.none)
+returns-in_err-place-in-Root-clause-none c = rw (c.from_residual-in_err-place-in-Root.ensures, c.in-Root.is)
+    (no_operands head.Root c.args.bytes.now c.in_err-place-in-Root.ensures.none)
 
 pub returns-in_err-count-in-End-clause-none : goal.returns-in_err-count-in-End-clause-none
-returns-in_err-count-in-End-clause-none c = rw (c.from_residual-in_err-count-in-End.ensures, c.in-End.is) (no_operands head.End c.args.bytes.now c.in_err-count-in-End.ensures.none)
+returns-in_err-count-in-End-clause-none c =
+    rw (c.from_residual-in_err-count-in-End.ensures, c.in-End.is) (no_operands head.End c.args.bytes.now c.in_err-count-in-End.ensures.none)
 
 pub returns-in_ok-place-in-Root-clause-some : goal.returns-in_ok-place-in-Root-clause-some
-returns-in_ok-place-in-Root-clause-some c = rw c.in-Root.is (takes-made head.Root (c.in_ok-place-in-Root.place, c.in_ok-place-in-Root.word) c.args.bytes.now c.in_ok-place-in-Root.rest.now c.in_ok-place-in-Root.ensures.some)
+returns-in_ok-place-in-Root-clause-some c = rw c.in-Root.is (takes-made head.Root (c.in_ok-place-in-Root.place, c.in_ok-place-in-Root.word)
+    c.args.bytes.now c.in_ok-place-in-Root.rest.now c.in_ok-place-in-Root.ensures.some)
 
 pub returns-in_ok-count-in-End-clause-some : goal.returns-in_ok-count-in-End-clause-some
-returns-in_ok-count-in-End-clause-some c = rw c.in-End.is (takes-made head.End c.in_ok-count-in-End.count c.args.bytes.now c.in_ok-count-in-End.rest.now c.in_ok-count-in-End.ensures.some)
+returns-in_ok-count-in-End-clause-some c = rw c.in-End.is (takes-made head.End c.in_ok-count-in-End.count c.args.bytes.now
+    c.in_ok-count-in-End.rest.now c.in_ok-count-in-End.ensures.some)
 
 pub returns-in_err-word-in-Version-clause-none : goal.returns-in_err-word-in-Version-clause-none
 returns-in_err-word-in-Version-clause-none c =
-    rw (c.from_residual.ensures, c.in-Version.is) (no_operands head.Version c.args.bytes.now (none_ended IsVersion decimal 10 c.args.bytes.now c.in_err-word-in-Version.ensures.none))
+    rw (c.from_residual.ensures, c.in-Version.is) (no_operands head.Version c.args.bytes.now
+    (none_ended IsVersion decimal 10 c.args.bytes.now c.in_err-word-in-Version.ensures.none))
 
 pub returns-in_err-version-in-Version-clause-none : goal.returns-in_err-version-in-Version-clause-none
 returns-in_err-version-in-Version-clause-none c =
     rw (c.from_residual-in_err-version-in-Version.ensures, c.in-Version.is)
-    (no_operands head.Version c.args.bytes.now (none_read IsVersion decimal 10 version-operand.plain c.in_ok-word-in-Version.ensures.some c.in_err-version-in-Version.ensures))
+    (no_operands head.Version c.args.bytes.now (none_read IsVersion decimal 10 version-operand.plain c.in_ok-word-in-Version.ensures.some
+    c.in_err-version-in-Version.ensures))
 
 pub returns-in_ok-version-in-Version-clause-some : goal.returns-in_ok-version-in-Version-clause-some
 returns-in_ok-version-in-Version-clause-some c =
@@ -35,12 +41,14 @@ returns-in_ok-version-in-Version-clause-some c =
 
 pub returns-in_err-word-in-Mode-clause-none : goal.returns-in_err-word-in-Mode-clause-none
 returns-in_err-word-in-Mode-clause-none c =
-    rw (c.from_residual-in_err-word-in-Mode.ensures, c.in-Mode.is) (no_operands head.Mode c.args.bytes.now (none_ended IsMode mode_spelling 10 c.args.bytes.now c.in_err-word-in-Mode.ensures.none))
+    rw (c.from_residual-in_err-word-in-Mode.ensures, c.in-Mode.is) (no_operands head.Mode c.args.bytes.now
+    (none_ended IsMode mode_spelling 10 c.args.bytes.now c.in_err-word-in-Mode.ensures.none))
 
 pub returns-in_err-mode-in-Mode-clause-none : goal.returns-in_err-mode-in-Mode-clause-none
 returns-in_err-mode-in-Mode-clause-none c =
     rw (c.from_residual-in_err-mode-in-Mode.ensures, c.in-Mode.is)
-    (no_operands head.Mode c.args.bytes.now (none_read IsMode mode_spelling 10 mode-operand.plain c.in_ok-word-in-Mode.ensures.some c.in_err-mode-in-Mode.ensures))
+    (no_operands head.Mode c.args.bytes.now (none_read IsMode mode_spelling 10 mode-operand.plain c.in_ok-word-in-Mode.ensures.some
+    c.in_err-mode-in-Mode.ensures))
 
 pub returns-in_ok-mode-in-Mode-clause-some : goal.returns-in_ok-mode-in-Mode-clause-some
 returns-in_ok-mode-in-Mode-clause-some c =

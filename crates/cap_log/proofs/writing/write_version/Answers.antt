@@ -8,4 +8,5 @@ returns-then-version-eq1 c = rw c.if-version-eq1.true (version_written 1 (omega 
 
 pub returns-else-version-eq1 : goal.returns-else-version-eq1
 returns-else-version-eq1 c =
-    rw (version_two c.args.version c.requires.in_range c.if-version-eq1.false) (version_written 2 (omega arith) _ _ _ c.put-else-version-eq1.ensures)
+    rw (version_two c.args.version c.requires.in_range c.if-version-eq1.false)
+    (version_written 2 (omega arith) _ _ _ c.put-else-version-eq1.ensures)

@@ -19,12 +19,14 @@ returns-then-not-is_ascii_digit c =
 
 pub overflow_mul-value : goal.overflow_mul-value
 overflow_mul-value c =
-    let small = digits_value-small c.args.bytes.now c.loop-index.index (omega (arith, c.requires.inside, c.loop-index-test.true)) (omega (arith, c.requires.inside, c.loop-index-test.true)) c.loop-index.invariant.digits in
+    let small = digits_value-small c.args.bytes.now c.loop-index.index (omega (arith, c.requires.inside, c.loop-index-test.true))
+    (omega (arith, c.requires.inside, c.loop-index-test.true)) c.loop-index.invariant.digits in
     omega (arith, c.loop-index.invariant.value_is)
 
 pub overflow_add-value : goal.overflow_add-value
 overflow_add-value c =
-    let small = digits_value-small c.args.bytes.now c.loop-index.index (omega (arith, c.requires.inside, c.loop-index-test.true)) (omega (arith, c.requires.inside, c.loop-index-test.true)) c.loop-index.invariant.digits in
+    let small = digits_value-small c.args.bytes.now c.loop-index.index (omega (arith, c.requires.inside, c.loop-index-test.true))
+    (omega (arith, c.requires.inside, c.loop-index-test.true)) c.loop-index.invariant.digits in
     omega (arith, c.loop-index.invariant.value_is, c.from.ensures, c.type_inv.bytes c.loop-index.index)
 
 pub loop-index-preserved : goal.loop-index-preserved

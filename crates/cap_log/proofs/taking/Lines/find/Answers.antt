@@ -38,7 +38,8 @@ pub loop-found-preserved : goal.loop-found-preserved
 loop-found-preserved g c =
     let ok = c.in-Ok.ensures.ok in
     let cut : c.front-found.result ≡ Cut = search rules in record {
-      given = given_more g.S.Source.gave c.args.source.now c.loop-found.source c.fill.new.source _ _ _ ok.0 g.met.S.Source.joined c.loop-found.invariant.given ok.3 ok.2;
+      given = given_more g.S.Source.gave c.args.source.now c.loop-found.source c.fill.new.source _ _ _ ok.0 g.met.S.Source.joined
+          c.loop-found.invariant.given ok.3 ok.2;
       counted = c.in-Ok.ensures.counted ∙ c.loop-found.invariant.counted;
       over = c.loop-found.invariant.over;
       kept_first = untouched g.S.Source.gave c.args.source.now c.loop-found.source _ _ _ _ c.front-found.result c.loop-found.invariant.given

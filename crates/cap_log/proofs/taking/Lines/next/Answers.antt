@@ -8,14 +8,28 @@ use Rattle.cap_log.proofs.taking.Lines.next.Goals as goal
 pub returns-in-Ok-TooLong : goal.returns-in-Ok-TooLong
 returns-in-Ok-TooLong g c =
     let found = c.in-Ok-TooLong in (
-      (refl, λ _. tt, (λ _. answered _ _ _ _ _ _ _ _ _ found.ensures.ok (λ is. (subst (IsFront _) found.field-0-is is, refl, refl)), not_again _ _ _ _ _ c.in_default.is)),
+      (
+        refl,
+        λ _. tt,
+        (
+          λ _. answered _ _ _ _ _ _ _ _ _ found.ensures.ok (λ is. (subst (IsFront _) found.field-0-is is, refl, refl)),
+          not_again _ _ _ _ _ c.in_default.is,
+        ),
+      ),
       record { answers = tt; counted = found.ensures.counted; fault_counted = tt; kept_first = found.ensures.kept_first },
     )
 
 pub returns-in-Err : goal.returns-in-Err
 returns-in-Err g c =
     let found = c.in-Err in (
-      (refl, λ _. tt, (λ _. answered _ _ _ _ _ _ _ _ _ found.ensures.err (λ is. (is, refl, found.ensures.no_end)), not_again _ _ _ _ _ c.in_default.is)),
+      (
+        refl,
+        λ _. tt,
+        (
+          λ _. answered _ _ _ _ _ _ _ _ _ found.ensures.err (λ is. (is, refl, found.ensures.no_end)),
+          not_again _ _ _ _ _ c.in_default.is,
+        ),
+      ),
       record { answers = tt; counted = tt; fault_counted = λ _. found.ensures.fault_counted; kept_first = found.ensures.kept_first },
     )
 
@@ -24,7 +38,14 @@ returns-then-is_empty g c =
     let found = c.in-Ok-Cut in
     let none : items c.find.new.self.window ≡ [] = nil_from_length _ (ap length (sym c.as_slice.ensures.value) ∙ search rules) in
     let end : g.S.Source.ended c.find.new.source ≡ true = search rules in (
-      (refl, λ _. tt, (λ _. answered _ _ _ _ _ _ _ _ _ found.ensures.ok (λ is. (none, end, refl, refl)), not_again _ _ _ _ _ c.in_default.is)),
+      (
+        refl,
+        λ _. tt,
+        (
+          λ _. answered _ _ _ _ _ _ _ _ _ found.ensures.ok (λ is. (none, end, refl, refl)),
+          not_again _ _ _ _ _ c.in_default.is,
+        ),
+      ),
       record { answers = tt; counted = found.ensures.counted; fault_counted = tt; kept_first = found.ensures.kept_first },
     )
 
@@ -33,7 +54,20 @@ returns-else-is_empty g c =
     let found = c.in-Ok-Cut in
     let some : items c.find.new.self.window ≢ [] = search rules in
     let end : g.S.Source.ended c.find.new.source ≡ true = search rules in (
-      (refl, λ _. tt, (λ _. answered _ _ _ _ _ _ _ _ _ found.ensures.ok (λ is. (subst (IsFront _) found.field-0-is is, some, end, refl, refl)), not_again _ _ _ _ _ c.in_default.is)),
+      (
+        refl,
+        λ _. tt,
+        (
+          λ _. answered _ _ _ _ _ _ _ _ _ found.ensures.ok (λ is. (
+            subst (IsFront _) found.field-0-is is,
+            some,
+            end,
+            refl,
+            refl,
+          )),
+          not_again _ _ _ _ _ c.in_default.is,
+        ),
+      ),
       record { answers = tt; counted = found.ensures.counted; fault_counted = tt; kept_first = found.ensures.kept_first },
     )
 
@@ -46,6 +80,16 @@ returns-in-Ok-Line g c =
     let short : n ≤ w.end - w.start = omega (arith, front.0, length-take {A = ℕ}, length-drop {A = ℕ}) in
     let text : take n (items w) ≡ c.before-in-Ok-Line.result.now =
     take_front n (w.end - w.start) (drop w.start w.bytes) short ∙ sym (search rules) in (
-      (refl, λ _. tt, (λ _. answered _ _ _ _ _ _ _ _ _ found.ensures.ok (λ is. (rw (sym text, c.consume.ensures.items) front.1, found.ensures.over ∙ c.in_default.is)), not_again _ _ _ _ _ c.in_default.is)),
+      (
+        refl,
+        λ _. tt,
+        (
+          λ _. answered _ _ _ _ _ _ _ _ _ found.ensures.ok (λ is. (
+            rw (sym text, c.consume.ensures.items) front.1,
+            found.ensures.over ∙ c.in_default.is,
+          )),
+          not_again _ _ _ _ _ c.in_default.is,
+        ),
+      ),
       record { answers = tt; counted = found.ensures.counted; fault_counted = tt; kept_first = found.ensures.kept_first },
     )

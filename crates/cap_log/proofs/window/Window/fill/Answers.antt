@@ -12,7 +12,13 @@ returns-clause-ok g c =
     let kept = c.in_ok-count.ensures in (
       take n piece,
       length-take-le n piece kept.fits,
-      grown w.bytes piece w.start w.end _ n w.ordered within kept.fits ∙ ap (λ (t : List ℕ). t ++ take n piece) c.move_to_front.ensures.items,
+      grown w.bytes piece w.start w.end _ n w.ordered within kept.fits ∙ ap (λ (t : List ℕ). t ++ take n piece)
+          c.move_to_front.ensures.items,
       kept.bytes,
-      kept.end ∙ is_end-room (length piece) n (omega (arith, c.requires, c.move_to_front.ensures.room, ap length c.move_to_front.ensures.items)),
+      kept.end ∙ is_end-room (length piece) n (omega (
+        arith,
+        c.requires,
+        c.move_to_front.ensures.room,
+        ap length c.move_to_front.ensures.items,
+      )),
     )

@@ -9,4 +9,5 @@ returns-in_err-source-clause-none c = rw c.from_residual.ensures (no_operands he
 pub returns-clause-some : goal.returns-clause-some
 returns-clause-some c =
     let read = c.in_ok-source in
-    rw (offset-bits read.offset.0 read.ensures.some.0.2.2) (takes-made head.StoreCap (read.source, (read.authority, read.offset)) c.args.bytes.now read.rest.now read.ensures.some)
+    rw (offset-bits read.offset.0 read.ensures.some.0.2.2) (takes-made head.StoreCap (read.source, (read.authority, read.offset))
+    c.args.bytes.now read.rest.now read.ensures.some)

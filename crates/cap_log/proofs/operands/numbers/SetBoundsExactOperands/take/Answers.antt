@@ -3,9 +3,11 @@ use Rattle.cap_log.proofs.Shapes.{no_operands, takes-made}
 use Rattle.cap_log.proofs.operands.numbers.SetBoundsExactOperands.take.Goals as goal
 
 pub returns-in_err-target-clause-none : goal.returns-in_err-target-clause-none
-returns-in_err-target-clause-none c = rw c.from_residual.ensures (no_operands head.SetBoundsExact c.args.bytes.now c.in_err-target.ensures.none)
+returns-in_err-target-clause-none c =
+    rw c.from_residual.ensures (no_operands head.SetBoundsExact c.args.bytes.now c.in_err-target.ensures.none)
 
 pub returns-clause-some : goal.returns-clause-some
 returns-clause-some c =
     let read = c.in_ok-target in
-    takes-made head.SetBoundsExact (read.target, (read.source, (read.length, read.recorded))) c.args.bytes.now read.rest.now read.ensures.some
+    takes-made head.SetBoundsExact (read.target, (read.source, (read.length, read.recorded)))
+    c.args.bytes.now read.rest.now read.ensures.some

@@ -15,8 +15,10 @@ pub returns-in-Some-clause-none : goal.returns-in-Some-clause-none
 returns-in-Some-clause-none c =
     let strip = c.in-Some.ensures.cases in
     subst (BeginsWithNone IsPlace place_spelling c.args.end) (sym (stripped 64 _ _ strip.0 strip.1))
-    (no_granule c.args.end c.in_ok-address.address.0 c.in-Some.digits.now c.in_ok-address.rest.now c.in_ok-address.ensures.some c.if-address-eq0.false)
+    (no_granule c.args.end c.in_ok-address.address.0 c.in-Some.digits.now c.in_ok-address.rest.now
+    c.in_ok-address.ensures.some c.if-address-eq0.false)
 
 pub returns-in_err-target-clause-none : goal.returns-in_err-target-clause-none
 returns-in_err-target-clause-none c = rw c.from_residual-in_err-target.ensures
-    (no_place c.args.end c.args.bytes.now c.in_default.ensures.cases (λ n rest begins. c.in_err-target.ensures.none (record { 0 = n }) rest begins))
+    (no_place c.args.end c.args.bytes.now c.in_default.ensures.cases (λ n rest begins. c.in_err-target.ensures.none
+    (record { 0 = n }) rest begins))

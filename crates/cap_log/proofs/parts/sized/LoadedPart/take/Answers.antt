@@ -5,7 +5,8 @@ use Rattle.cap_log.proofs.SizedLemmas.{loaded_cut, no_sized, same_size}
 use Rattle.cap_log.proofs.parts.sized.LoadedPart.take.Goals as goal
 
 pub returns-in_err-size-clause-none : goal.returns-in_err-size-clause-none
-returns-in_err-size-clause-none c = rw c.from_residual.ensures (λ a rest begins. c.in_err-size.ensures.none a.size _ (loaded_cut a.size a.value c.args.end c.args.bytes.now rest begins))
+returns-in_err-size-clause-none c = rw c.from_residual.ensures (λ a rest begins. c.in_err-size.ensures.none a.size _
+    (loaded_cut a.size a.value c.args.end c.args.bytes.now rest begins))
 
 pub returns-in_err-digits-clause-none : goal.returns-in_err-digits-clause-none
 returns-in_err-digits-clause-none c = rw c.from_residual-in_err-digits.ensures (λ a rest begins.
@@ -15,4 +16,5 @@ returns-in_err-digits-clause-none c = rw c.from_residual-in_err-digits.ensures (
 pub returns-in_err-value-clause-none : goal.returns-in_err-value-clause-none
 returns-in_err-value-clause-none c = rw c.from_residual-in_err-value.ensures (λ a rest begins.
     let same = same_size _ _ _ _ _ c.in_ok-size.ensures.some (loaded_cut a.size a.value c.args.end c.args.bytes.now rest begins) in
-    no_sized _ a.size a.value c.args.end _ rest same.0 c.in_err-value.ensures.none begins.0.1 (c.in_ok-digits.ensures.cases.1 ∙ ap (λ (bs : List ℕ). drop 2 bs) same.1))
+    no_sized _ a.size a.value c.args.end _ rest same.0 c.in_err-value.ensures.none begins.0.1
+    (c.in_ok-digits.ensures.cases.1 ∙ ap (λ (bs : List ℕ). drop 2 bs) same.1))

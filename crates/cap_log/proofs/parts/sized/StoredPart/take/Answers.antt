@@ -2,7 +2,8 @@ use Rattle.cap_log.proofs.SizedLemmas.{no_sized, same_size, stored_cut}
 use Rattle.cap_log.proofs.parts.sized.StoredPart.take.Goals as goal
 
 pub returns-in_err-size-clause-none : goal.returns-in_err-size-clause-none
-returns-in_err-size-clause-none c = rw c.from_residual.ensures (λ a rest begins. c.in_err-size.ensures.none a.size _ (stored_cut a.size a.value c.args.end c.args.bytes.now rest begins))
+returns-in_err-size-clause-none c = rw c.from_residual.ensures (λ a rest begins. c.in_err-size.ensures.none a.size _
+    (stored_cut a.size a.value c.args.end c.args.bytes.now rest begins))
 
 pub returns-in_err-value-clause-none : goal.returns-in_err-value-clause-none
 returns-in_err-value-clause-none c = rw c.from_residual-in_err-value.ensures (λ a rest begins.
