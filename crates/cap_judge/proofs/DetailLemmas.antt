@@ -27,7 +27,9 @@ OfLine account text refusal details =
     ((line : Line) × SpellsBy account.rules text line × (details ≡ known_lines account line refusal))
     ⊎ (((line : Line) → SpellsBy account.rules text line → ⊥) × (details ≡ []))
 
-pub details_other : (account : Account) (text : List ℕ) (refusal : Refusal) (details : List ℕ) → (refusal ≡ BadHeader → ⊥) → (refusal ≡ LineTooLong → ⊥) → (refusal ≡ BadLine → ⊥) → (refusal ≡ BadMode → ⊥) → (refusal ≡ Misplaced → ⊥) → (refusal ≡ Truncated → ⊥) → (refusal ≡ WrongCount → ⊥) → (refusal ≡ LimitPassed → ⊥)
+pub details_other : (account : Account) (text : List ℕ) (refusal : Refusal) (details : List ℕ) → (refusal ≡ BadHeader → ⊥)
+    → (refusal ≡ LineTooLong → ⊥) → (refusal ≡ BadLine → ⊥) → (refusal ≡ BadMode → ⊥) → (refusal ≡ Misplaced → ⊥)
+    → (refusal ≡ Truncated → ⊥) → (refusal ≡ WrongCount → ⊥) → (refusal ≡ LimitPassed → ⊥)
     → OfLine account text refusal details → AreDetails account text refusal details
 details_other account text BadHeader details n0 n1 n2 n3 n4 n5 n6 n7 is = absurd (n0 refl)
 details_other account text LineTooLong details n0 n1 n2 n3 n4 n5 n6 n7 is = absurd (n1 refl)
@@ -51,13 +53,15 @@ step_form TwoStrict step = refl
 step_form TwoClear step = refl
 
 -- a line of which nothing is told, whether it has a form or not
-pub nothing_told : (account : Account) (text : List ℕ) (line : Line) (refusal : Refusal) (formed : Bool) → has_form account.rules line ≡ formed
+pub nothing_told : (account : Account) (text : List ℕ) (line : Line) (refusal : Refusal) (formed : Bool)
+    → has_form account.rules line ≡ formed
     → Spells text line → [] ≡ known_lines account line refusal → OfLine account text refusal []
 nothing_told account text line refusal true formed spells none = inl (line, (spells, formed), none)
 nothing_told account text line refusal false formed spells none = inr (no_form account.rules text line spells formed, refl)
 
 -- a root that is refused for another reason than its place
 pub root_other : (account : Account) (place : Place) (word : Word) (refusal : Refusal) → (refusal ≡ PlaceTaken → ⊥)
-    → root_lines account place word refusal ≡ cap_lines (codes "root") place (tagged word) ++ text_line (codes "length") (hex_digits 17 (length_of word.0))
+    → root_lines account place word refusal ≡ cap_lines (codes "root") place (tagged word)
+    ++ text_line (codes "length") (hex_digits 17 (length_of word.0))
 root_other account place word PlaceTaken other = absurd (other refl)
 root_other account place word refusal other = refl

@@ -32,7 +32,8 @@ account_sound : (rules_are : Rules) (roots : List DeclaredRoot) (steps : List St
 account_sound rules_are roots steps runs =
     let run = runs.run in
     subst IsSoundState (last_state rules_are roots steps runs)
-    (sound_along rules_are (start roots) steps run.0 (steps_in_range roots steps (behind_header rules_are _ runs.grammar)) (start_sound roots (are_sound roots runs.sound)) run.1)
+    (sound_along rules_are (start roots) steps run.0 (steps_in_range roots steps (behind_header rules_are _ runs.grammar))
+    (start_sound roots (are_sound roots runs.sound)) run.1)
 
 -- no other line is refused so
 no_root_test : (a b c d : Bool) → first_of ((a, Misplaced) ∷ (b, PlaceTaken) ∷ (c, UnsoundRoot) ∷ (d, LimitPassed) ∷ []) ≡ Some BoundsEscape
@@ -60,7 +61,8 @@ line_escapes account (lines.End count) sound bytes spelled h = absurd (no_end_te
 -- what a whole line is refused for
 refused_escapes : (account : Account) (rest text more : List ℕ) (refusal : Refusal) → IsSoundState account.state → IsLine rest text more
     → RefusesLine account text refusal → refusal ≡ BoundsEscape
-    → (bytes : List ℕ) × (after : List ℕ) × (step : Step) × IsLine rest bytes after × SpellsBy account.rules bytes (lines.Step step) × Escapes account.rules account.state step
+    → (bytes : List ℕ) × (after : List ℕ) × (step : Step) × IsLine rest bytes after × SpellsBy account.rules bytes (lines.Step step)
+    × Escapes account.rules account.state step
 refused_escapes account rest text more refusal sound whole (inl none) h = absurd (let bad = none.1 in cc)
 refused_escapes account rest text more refusal sound whole (inr found) h =
     let is = line_escapes account found.0 sound text found.1 (found.2 ∙ ap (λ (r : Refusal). Some r) h) in
@@ -89,7 +91,8 @@ body_escapes rules_are roots steps rest refusal runs (inr (inr line)) =
       λ h. refused_escapes account rest line.0 line.1 refusal sound line.2 line.3 h,
       λ escapes.
           let same = IsLine-same rest escapes.0 escapes.1 line.0 line.1 escapes.3 line.2 in
-          escape_refused account line.0 escapes.2 refusal sound (subst (λ (t : List ℕ). SpellsBy account.rules t (lines.Step escapes.2)) same.0 escapes.4) escapes.5 line.3,
+          escape_refused account line.0 escapes.2 refusal sound (subst (λ (t : List ℕ). SpellsBy account.rules t (lines.Step escapes.2))
+          same.0 escapes.4) escapes.5 line.3,
     )
 
 -- before the body, and after the end line, nothing is refused so

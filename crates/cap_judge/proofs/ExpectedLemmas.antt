@@ -23,12 +23,14 @@ use Rattle.cap_ops.specs.declared.kinds.Kind.TheVariants.{LoadData}
 use Rattle.cap_ops.specs.Refusals.{refusal_of}
 use Rattle.cap_ops.specs.Tests.{first_of}
 use Rattle.cap_ops.specs.declared.refusal.Refusal.{Refusal}
-use Rattle.cap_ops.specs.declared.refusal.Refusal.TheVariants.{Misplaced, PlaceTaken, UnsoundRoot, WrongResult, LimitPassed, WrongCount, Truncated, LineTooLong}
+use Rattle.cap_ops.specs.declared.refusal.Refusal.TheVariants.{Misplaced, PlaceTaken, UnsoundRoot, WrongResult, LimitPassed, WrongCount}
+use Rattle.cap_ops.specs.declared.refusal.Refusal.TheVariants.{Truncated, LineTooLong}
 use Rattle.cap_ops.specs.declared.refusal.Refusal.TheVariants.{BadHeader, BadMode}
 use Rattle.cap_machine.specs.declared.rules.Rules.{Rules}
 use Rattle.cap_machine.specs.declared.rules.Rules.TheVariants.{One, TwoStrict, TwoClear}
 use Rattle.cap_machine.specs.States.{State, DeclaredRoot, value_at}
-use Rattle.cap_machine.specs.Steps.{Access, Recorded, Row, Nothing as Unrecorded, Written, address_through, agrees, clear_row, is_recorded, row_by, row_of}
+use Rattle.cap_machine.specs.Steps.{Access, Recorded, Row, Nothing as Unrecorded, Written, address_through, agrees, clear_row, is_recorded}
+use Rattle.cap_machine.specs.Steps.{row_by, row_of}
 use Rattle.cap_machine.specs.Accounts.{Account, row_in, step_tests}
 use Rattle.cap_machine.specs.Helds.{account_of}
 use Rattle.cap_judge.specs.declared.verdict.Expected.{Expected}
@@ -71,7 +73,8 @@ none_before [] rest h = (refl, h)
 none_before ((true, fault) ∷ tests) rest h = absurd (no_fault fault (same_Some _ _ h))
 none_before ((false, fault) ∷ tests) rest h = none_before tests rest h
 
-other_recorded : (recorded limit : Bool) → first_of ((not recorded, WrongResult) ∷ (limit, LimitPassed) ∷ []) ≡ Some WrongResult → recorded ≡ false
+other_recorded : (recorded limit : Bool) → first_of ((not recorded, WrongResult) ∷ (limit, LimitPassed) ∷ [])
+    ≡ Some WrongResult → recorded ≡ false
 other_recorded true true h = cc
 other_recorded true false h = cc
 other_recorded false limit h = refl
@@ -105,13 +108,16 @@ written None records access recorded cap is h = absurd (none-some cap h)
 written (Some write) records access recorded cap is h =
     ap (λ (r : Recorded). given_for (Some write) r access) is ∙ ap (λ (c : Cap). Some (Capability c)) (same_Some _ _ h)
 
-by_rules : (rules_are : Rules) (row : Row) (recorded cap : Cap) → row.records ≡ Written recorded → first_of (row_by rules_are row).tests ≡ None
+by_rules : (rules_are : Rules) (row : Row) (recorded cap : Cap) → row.records ≡ Written recorded
+    → first_of (row_by rules_are row).tests ≡ None
     → option_map (λ (write : Place × Cap). write.1) (clear_row row.access row).writes ≡ Some cap
     → given_in (row_by rules_are row) ≡ Some (Capability cap)
 by_rules One row recorded cap is none h =
-    written row.writes row.records row.access recorded cap is (sym (ap (option_map (λ (write : Place × Cap). write.1)) (kept_writes row.access row none)) ∙ h)
+    written row.writes row.records row.access recorded cap is (sym (ap (option_map (λ (write : Place × Cap). write.1))
+    (kept_writes row.access row none)) ∙ h)
 by_rules TwoStrict row recorded cap is none h =
-    written row.writes row.records row.access recorded cap is (sym (ap (option_map (λ (write : Place × Cap). write.1)) (kept_writes row.access row none)) ∙ h)
+    written row.writes row.records row.access recorded cap is (sym (ap (option_map (λ (write : Place × Cap). write.1))
+    (kept_writes row.access row none)) ∙ h)
 by_rules TwoClear row recorded cap is none h =
     let cleared = clear_row row.access row in
     written cleared.writes cleared.records cleared.access recorded cap (kept_records row.access row ∙ is) h
@@ -119,7 +125,8 @@ by_rules TwoClear row recorded cap is none h =
 operated : (account : Account) (step : Step) (recorded given : Cap) → (row_of account.state step).records ≡ Written recorded
     → (let row = row_of account.state step in option_map (λ (write : Place × Cap). write.1) (clear_row row.access row).writes ≡ Some given)
     → GivesFor account step (Some (Capability given))
-operated account step recorded given is h = λ wrong. by_rules account.rules (row_of account.state step) recorded given is (free_of_tests account step wrong) h
+operated account step recorded given is h =
+    λ wrong. by_rules account.rules (row_of account.state step) recorded given is (free_of_tests account step wrong) h
 
 -- what the rules give for a step that writes a register
 abbrev pub IsNoStore : Step → Type 0
@@ -139,17 +146,27 @@ no_store step a b c = tt
 pub gives_capability : (account : Account) (step : Step) (given : Cap) (fault : Option OpFault) → IsNoStore step
     → (let row = row_of account.state step in
     let cleared_row = clear_row row.access row in
-    IfWritten row.records ((option_map (λ (write : Place × Cap). write.1) cleared_row.writes ≡ Some given) × (lost_for row.access row ≡ fault)))
+    IfWritten row.records ((option_map (λ (write : Place × Cap). write.1) cleared_row.writes ≡ Some given)
+    × (lost_for row.access row ≡ fault)))
     → GivesFor account step (Some (Capability given))
-gives_capability account (steps.Move target source recorded) given fault kind is = operated account (steps.Move target source recorded) recorded given refl is.0
-gives_capability account (steps.ClearTag target source recorded) given fault kind is = operated account (steps.ClearTag target source recorded) recorded given refl is.0
-gives_capability account (steps.SetBounds target source size recorded) given fault kind is = operated account (steps.SetBounds target source size recorded) recorded given refl is.0
-gives_capability account (steps.SetBoundsExact target source size recorded) given fault kind is = operated account (steps.SetBoundsExact target source size recorded) recorded given refl is.0
-gives_capability account (steps.SetAddr target source address recorded) given fault kind is = operated account (steps.SetAddr target source address recorded) recorded given refl is.0
-gives_capability account (steps.AndPerm target source mask recorded) given fault kind is = operated account (steps.AndPerm target source mask recorded) recorded given refl is.0
-gives_capability account (steps.Seal target source authority recorded) given fault kind is = operated account (steps.Seal target source authority recorded) recorded given refl is.0
-gives_capability account (steps.Unseal target source authority recorded) given fault kind is = operated account (steps.Unseal target source authority recorded) recorded given refl is.0
-gives_capability account (steps.LoadCap target authority offset recorded) given fault kind is = operated account (steps.LoadCap target authority offset recorded) recorded given refl is.0
+gives_capability account (steps.Move target source recorded) given fault kind is =
+    operated account (steps.Move target source recorded) recorded given refl is.0
+gives_capability account (steps.ClearTag target source recorded) given fault kind is =
+    operated account (steps.ClearTag target source recorded) recorded given refl is.0
+gives_capability account (steps.SetBounds target source size recorded) given fault kind is =
+    operated account (steps.SetBounds target source size recorded) recorded given refl is.0
+gives_capability account (steps.SetBoundsExact target source size recorded) given fault kind is =
+    operated account (steps.SetBoundsExact target source size recorded) recorded given refl is.0
+gives_capability account (steps.SetAddr target source address recorded) given fault kind is =
+    operated account (steps.SetAddr target source address recorded) recorded given refl is.0
+gives_capability account (steps.AndPerm target source mask recorded) given fault kind is =
+    operated account (steps.AndPerm target source mask recorded) recorded given refl is.0
+gives_capability account (steps.Seal target source authority recorded) given fault kind is =
+    operated account (steps.Seal target source authority recorded) recorded given refl is.0
+gives_capability account (steps.Unseal target source authority recorded) given fault kind is =
+    operated account (steps.Unseal target source authority recorded) recorded given refl is.0
+gives_capability account (steps.LoadCap target authority offset recorded) given fault kind is =
+    operated account (steps.LoadCap target authority offset recorded) recorded given refl is.0
 gives_capability account (steps.StoreCap source authority offset) given fault kind is = absurd kind
 gives_capability account (steps.Store authority offset size value) given fault kind is = absurd kind
 gives_capability account (steps.Load authority offset size value) given fault kind is = absurd kind
@@ -162,7 +179,8 @@ stores TwoClear row none =
     let cleared_row = clear_row row.access row in ap (agrees cleared_row.writes) (kept_records row.access row ∙ none)
 
 pub nothing_recorded : (account : Account) (step : Step) → (row_of account.state step).records ≡ Unrecorded → GivesFor account step None
-nothing_recorded account step none = λ h. false≢true (sym (records_other account step h) ∙ stores account.rules (row_of account.state step) none)
+nothing_recorded account step none =
+    λ h. false≢true (sym (records_other account step h) ∙ stores account.rules (row_of account.state step) none)
 
 -- a load
 load_tests : (rules_are : Rules) (state : State) (authority : ℕ) (offset : ℤ) (size value : ℕ)
@@ -175,7 +193,8 @@ pub load_allowed : (account : Account) (authority : ℕ) (offset : ℤ) (size va
     → first_of (step_tests account (steps.Load authority offset size value)) ≡ Some WrongResult
     → first_of (access_tests (account.state authority) LoadData offset size) ≡ None
 load_allowed account authority offset size value h =
-    ap first_of (sym (load_tests account.rules account.state authority offset size value)) ∙ free_of_tests account (steps.Load authority offset size value) h
+    ap first_of (sym (load_tests account.rules account.state authority offset size value))
+    ∙ free_of_tests account (steps.Load authority offset size value) h
 
 load_by : (rules_are : Rules) (state : State) (authority : ℕ) (offset : ℤ) (size value : ℕ)
     → given_in (row_by rules_are (row_of state (steps.Load authority offset size value)))
@@ -194,7 +213,8 @@ pub stored_cap : (account : Account) (step : Step) (source authority : ℕ) (off
 stored_cap account step source authority offset is =
     subst (λ (s : Step). GivesFor account s None) (sym is) (nothing_recorded account (steps.StoreCap source authority offset) refl)
 
-pub stored : (account : Account) (step : Step) (authority : ℕ) (offset : ℤ) (size value : ℕ) → step ≡ steps.Store authority offset size value
+pub stored : (account : Account) (step : Step) (authority : ℕ) (offset : ℤ) (size value : ℕ)
+    → step ≡ steps.Store authority offset size value
     → GivesFor account step None
 stored account step authority offset size value is =
     subst (λ (s : Step). GivesFor account s None) (sym is) (nothing_recorded account (steps.Store authority offset size value) refl)
@@ -204,7 +224,8 @@ abbrev OfLine : Account → Line → Option Expected → Type 0
 OfLine account (lines.Step step) result = GivesFor account step result
 OfLine account line result = Unit {0}
 
-pub for_text : (account : Account) (text : List ℕ) (step : Step) (result : Option Expected) → Spells text (lines.Step step) → GivesFor account step result
+pub for_text : (account : Account) (text : List ℕ) (step : Step) (result : Option Expected) → Spells text (lines.Step step)
+    → GivesFor account step result
     → GivesForText account text result
 for_text account text step result spells gives other spelled =
     subst (λ (l : Line). OfLine account l result) (one_spelling text (lines.Step step) (lines.Step other) spells spelled) gives
@@ -212,7 +233,8 @@ for_text account text step result spells gives other spelled =
 -- The first fault
 
 -- no line of what is accepted is refused so
-finished_otherwise : (ended : Bool) (steps roots line number : ℕ) → (if ended then Yes steps roots else No number Truncated) ≡ No line WrongResult → ⊥
+finished_otherwise : (ended : Bool) (steps roots line number : ℕ) → (if ended then Yes steps roots else No number Truncated)
+    ≡ No line WrongResult → ⊥
 finished_otherwise true steps roots line number h = cc
 finished_otherwise false steps roots line number h = cc
 
@@ -238,7 +260,8 @@ none_at_fault known bytes none taken = λ line fault.
 pub other_fault : (known : Known) (fault : Fault) (bytes : List ℕ) → known.fault ≡ Some fault → (fault.refusal ≡ WrongResult → ⊥)
     → Taken known bytes → Expects bytes None
 other_fault known fault bytes some other taken = λ line wrong.
-    let same = one_verdict bytes (No fault.line fault.refusal) (No line WrongResult) (fault_now known fault bytes some taken) wrong in other cc
+    let same = one_verdict bytes (No fault.line fault.refusal) (No line WrongResult) (fault_now known fault bytes some taken) wrong in
+    other cc
 
 -- the text of a fault is that of the line
 text_is : (rest text line more : List ℕ) → IsLastFront rest false text → IsLine rest line more → text ≡ line
@@ -247,7 +270,8 @@ text_is rest text line more (inr (inl cut)) whole = absurd (false≢true cut.1.1
 text_is rest text line more (inr (inr front)) whole = front.3 ∙ (IsLine-same rest front.0 front.1 line more front.2 whole).0
 
 -- no line but a step is refused so
-no_root_test : (a b c d : Bool) → first_of ((a, Misplaced) ∷ (b, PlaceTaken) ∷ (c, UnsoundRoot) ∷ (d, LimitPassed) ∷ []) ≡ Some WrongResult → ⊥
+no_root_test : (a b c d : Bool) → first_of ((a, Misplaced) ∷ (b, PlaceTaken) ∷ (c, UnsoundRoot) ∷ (d, LimitPassed) ∷ []) ≡ Some WrongResult
+    → ⊥
 no_root_test true b c d h = cc
 no_root_test false true c d h = cc
 no_root_test false false true d h = cc
@@ -279,7 +303,8 @@ body_expects : (rules_are : Rules) (roots : List DeclaredRoot) (steps_are : List
     → GivesForText (account_after rules_are roots steps_are) text result → Expects bytes result
 body_expects rules_are roots steps_are rest bytes text result is runs (inl long) front gives = absurd (let bad = long.1 in cc)
 body_expects rules_are roots steps_are rest bytes text result is runs (inr (inl cut)) front gives = absurd (let bad = cut.1 in cc)
-body_expects rules_are roots steps_are rest bytes text result is runs (inr (inr (line, more, whole, inl none))) front gives = absurd (let bad = none.1 in cc)
+body_expects rules_are roots steps_are rest bytes text result is runs (inr (inr (line, more, whole, inl none))) front gives =
+    absurd (let bad = none.1 in cc)
 body_expects rules_are roots steps_are rest bytes text result is runs (inr (inr (line, more, whole, inr found))) front gives =
     let account = account_after rules_are roots steps_are in
     let one = is_step account found.0 found.2 in
@@ -309,14 +334,16 @@ never_before rest refusal P other whole (inl long) = let bad = long.1 in cc
 never_before rest refusal P other whole (inr (inl cut)) = let bad = cut.1 in cc
 never_before rest refusal P other whole (inr (inr line)) = other (whole line.0 line.3)
 
-by_beginning : (standing : Standing) (beginning : Beginning) (rest bytes text : List ℕ) (result : Option Expected) → IsAfter standing beginning
+by_beginning : (standing : Standing) (beginning : Beginning) (rest bytes text : List ℕ)
+    (result : Option Expected) → IsAfter standing beginning
     → bytes ≡ text_of (lines_of beginning) ++ rest → IsAccepted beginning → Refuses beginning rest WrongResult → IsLastFront rest false text
     → ((reading : Reading) → standing ≡ Within reading → GivesForText (account_of reading.held) text result) → Expects bytes result
 by_beginning standing Nothing rest bytes text result after is accepted refused front gives =
     absurd (never_before rest BadHeader _ (λ h. cc) (λ text whole. sym whole.1) refused)
 by_beginning standing NoMode rest bytes text result after is accepted refused front gives =
     absurd (never_before rest BadMode _ (λ h. cc) (λ text whole. sym whole.1) refused)
-by_beginning standing (Whole rules_are roots steps_are) rest bytes text result after is accepted refused front gives = absurd (let bad = refused.1 in cc)
+by_beginning standing (Whole rules_are roots steps_are) rest bytes text result after is accepted refused front gives =
+    absurd (let bad = refused.1 in cc)
 by_beginning AtStart (Body rules_are roots steps_are) rest bytes text result after is accepted refused front gives = absurd cc
 by_beginning AtMode (Body rules_are roots steps_are) rest bytes text result after is accepted refused front gives = absurd cc
 by_beginning (Within reading) (Body rules_are roots steps_are) rest bytes text result after is accepted refused front gives =
@@ -324,13 +351,15 @@ by_beginning (Within reading) (Body rules_are roots steps_are) rest bytes text r
     (subst (λ (a : Account). GivesForText a text result) after.1.account (gives reading refl))
 by_beginning Nowhere (Body rules_are roots steps_are) rest bytes text result after is accepted refused front gives = absurd after
 
-pub wrong_result : (known : Known) (fault : Fault) (bytes : List ℕ) (result : Option Expected) → known.fault ≡ Some fault → fault.refusal ≡ WrongResult
+pub wrong_result : (known : Known) (fault : Fault) (bytes : List ℕ) (result : Option Expected) → known.fault ≡ Some fault
+    → fault.refusal ≡ WrongResult
     → ((reading : Reading) → known.standing ≡ Within reading → GivesForText (account_of reading.held) (bytes_of fault.text) result)
     → Taken known bytes → Expects bytes result
 wrong_result known fault bytes result some wrong gives taken =
     let is : IsFaultAt taken.beginning taken.rest fault = subst (IsRest taken.beginning taken.rest) some taken.rest_is in
     let refused = subst (λ (r : List ℕ). Refuses taken.beginning r fault.refusal) (append-nil taken.rest) (is.refused []) in
-    by_beginning known.standing taken.beginning taken.rest bytes (bytes_of fault.text) result taken.after taken.behind.bytes_are taken.behind.accepted
+    by_beginning known.standing taken.beginning taken.rest bytes (bytes_of fault.text)
+    result taken.after taken.behind.bytes_are taken.behind.accepted
     (subst (Refuses taken.beginning taken.rest) wrong refused) is.front gives
 
 -- what is within one standing is one reading

@@ -87,7 +87,8 @@ body_in_turn rules_are roots steps to range reads =
     let behind_roots = Reads-split behind_header.0 to (map root_line roots) (map Step steps) behind_header.2 in
     let later = AllByRecursion-split IsInRange (header_lines rules_are) _ range in
     let ranges = AllByRecursion-split IsInRange (map root_line roots) (map Step steps) later.1 in
-    let roots_read = subst (λ (s : Stage). Reads s (map root_line roots) behind_roots.0) (sym (header_stage rules_are behind_header.0 behind_header.1))
+    let roots_read = subst (λ (s : Stage). Reads s (map root_line roots) behind_roots.0)
+    (sym (header_stage rules_are behind_header.0 behind_header.1))
     behind_roots.1 in
     let rooted = roots_in_turn rules_are [] roots behind_roots.0 (no_roots rules_are) ranges.0 roots_read in
     let steps_read = subst (λ (s : Stage). Reads s (map Step steps) to) (sym rooted.1) behind_roots.2 in

@@ -110,7 +110,8 @@ refused_behind bytes rest beginning line refusal here number unended refused = r
 }
 
 -- a line that wants memory
-pub lacks : (bytes text more : List ℕ) (reading : Reading) (beginning : Beginning) → StandsFor reading beginning → WantsMemory beginning text
+pub lacks : (bytes text more : List ℕ) (reading : Reading) (beginning : Beginning)
+    → StandsFor reading beginning → WantsMemory beginning text
     → bytes ≡ text_of (lines_of beginning) ++ text ++ 10 ∷ more → MayLackMemory bytes
 lacks bytes text more reading Nothing stands wants are = absurd wants
 lacks bytes text more reading NoMode stands wants are = absurd wants
@@ -189,7 +190,8 @@ leads_by bytes reading (Whole rules_are roots steps) stands ended are = record {
 pub leads : (bytes : List ℕ) (reading : Reading) (line : ℕ) → IsAt bytes reading [] line → reading.ended ≡ true → LeadsTo bytes reading.held
 leads bytes reading line here ended = leads_by bytes reading here.beginning here.stands ended here.bytes_are
 
-pub misplaced_by : (beginning : Beginning) (reading : Reading) (rest : List ℕ) → StandsFor reading beginning → reading.ended ≡ true → rest ≢ []
+pub misplaced_by : (beginning : Beginning) (reading : Reading) (rest : List ℕ) → StandsFor reading beginning
+    → reading.ended ≡ true → rest ≢ []
     → Refuses beginning rest Misplaced
 misplaced_by Nothing reading rest stands ended more = absurd stands
 misplaced_by NoMode reading rest stands ended more = absurd stands
@@ -230,9 +232,11 @@ behind_header TwoStrict lines all = all.1.1
 behind_header TwoClear lines all = all.1.1
 
 -- every log is guarded, by the machine's laws of runs
-pub guarded : ((rules_are : Rules) (roots : List DeclaredRoot) (made : List Step) (states : List State) → AreSound roots → AllByRecursion IsStepInRange made → IsRun rules_are (start roots) made states
+pub guarded : ((rules_are : Rules) (roots : List DeclaredRoot) (made : List Step) (states : List State) → AreSound roots
+    → AllByRecursion IsStepInRange made → IsRun rules_are (start roots) made states
     → AuthorityNeverGrows roots made states)
-    → ((rules_are : Rules) (roots : List DeclaredRoot) (made : List Step) (states : List State) → AreSound roots → AllByRecursion IsStepInRange made → IsRun rules_are (start roots) made states
+    → ((rules_are : Rules) (roots : List DeclaredRoot) (made : List Step) (states : List State) → AreSound roots
+    → AllByRecursion IsStepInRange made → IsRun rules_are (start roots) made states
     → AccessesLieInside roots made states)
     → (bytes : List ℕ) → IsGuarded bytes
 guarded grows inside bytes rules_are roots made states log run =
@@ -243,10 +247,12 @@ guarded grows inside bytes rules_are roots made states log run =
 -- and clears tags as runs do
 pub cleared_along : ((rules_are : Rules) (roots : List DeclaredRoot) (made : List Step) (states : List State) → AreSound roots
     → AllByRecursion IsStepInRange made → IsRun rules_are (start roots) made states → ClearsExactly rules_are roots made states)
-    → (bytes : List ℕ) (rules_are : Rules) (roots : List DeclaredRoot) (made : List Step) (states : List State) → IsLogOf bytes rules_are roots made
+    → (bytes : List ℕ) (rules_are : Rules) (roots : List DeclaredRoot) (made : List Step) (states : List State)
+    → IsLogOf bytes rules_are roots made
     → IsRun rules_are (start roots) made states → ClearsExactly rules_are roots made states
 cleared_along clears bytes rules_are roots made states log run =
-    clears rules_are roots made states (are_sound roots log.runs.sound) (steps_in_range roots made (behind_header rules_are _ log.runs.grammar)) run
+    clears rules_are roots made states (are_sound roots log.runs.sound) (steps_in_range roots made
+    (behind_header rules_are _ log.runs.grammar)) run
 
 pub guards : (bytes : List ℕ) → IsGuarded bytes → (verdict : Verdict) → GuardsAuthority bytes verdict
 guards bytes all (Yes steps roots) = all

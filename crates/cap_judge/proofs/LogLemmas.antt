@@ -38,7 +38,8 @@ tag-start (root ∷ roots) place =
     tag_of_choice (key_of root.place == key_of place) (tagged root.word) (start roots (key_of place)) _ refl (tag-start roots place)
 
 -- one step more
-pub IsRun-push : (rules : Rules) (state : State) (steps : List steps_module.Step) (states : List State) (step : steps_module.Step) (next : State)
+pub IsRun-push : (rules : Rules) (state : State) (steps : List steps_module.Step) (states : List State)
+    (step : steps_module.Step) (next : State)
     → IsRun rules state steps states → Leads rules (last_of state states) step next
     → IsRun rules state (steps ++ step ∷ []) (states ++ next ∷ [])
 IsRun-push rules state [] [] step next run leads = (leads, tt)

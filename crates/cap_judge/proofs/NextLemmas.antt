@@ -117,7 +117,8 @@ step_runs rules_are roots steps step next runs range free leads =
 
 -- the tests of a root that none refuses
 root_free : (account : Account) (place : Place) (word : Word) → first_of (root_tests account place word) ≡ None
-    → ((account.state (key_of place)).tag ≡ false) × IsTrue (is_sound word.0) × (nat_le most_roots account.roots ≡ false) × (passes_granule_limit account (granule_of place) ≡ false)
+    → ((account.state (key_of place)).tag ≡ false) × IsTrue (is_sound word.0) × (nat_le most_roots account.roots ≡ false)
+    × (passes_granule_limit account (granule_of place) ≡ false)
 root_free account place word free =
     let none = none_hold (root_tests account place word) free in
     let last = or_parts _ _ none.1.1.0 in
@@ -142,7 +143,8 @@ root_runs rules_are roots root runs place_range word_range free =
     let after = after_roots-push (no_account rules_are) roots root in
     record {
       grammar = subst (AllByRecursion IsInRange) (sym (roots_push rules_are roots root))
-          (AllByRecursion-append IsInRange (body_lines rules_are roots []) (Root root.place root.word ∷ []) runs.grammar ((place_range, word_range), tt));
+          (AllByRecursion-append IsInRange (body_lines rules_are roots []) (Root root.place root.word ∷ []) runs.grammar
+          ((place_range, word_range), tt));
       distinct = subst (IsDistinct nat_eq) (sym (map-push (λ (r : DeclaredRoot). key_of r.place) roots root))
           (IsDistinct-push (map (λ (r : DeclaredRoot). key_of r.place) roots) (key_of root.place) runs.distinct unlike);
       sound = AllByRecursion-append (λ (r : DeclaredRoot). IsTrue (is_sound r.word.0)) roots (root ∷ []) runs.sound (clear.1, tt);

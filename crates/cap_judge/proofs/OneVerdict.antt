@@ -56,7 +56,8 @@ formed TwoClear line one = refl
 
 -- sound roots at distinct places are read, where their account keeps to the limits
 roots_read : (rules_are : Rules) (account : Account) (roots : List DeclaredRoot) → account.rules ≡ rules_are → account.steps ≡ 0
-    → IsDistinct nat_eq (keys roots) → AreFree account.state roots → AllByRecursion (λ (root : DeclaredRoot). IsTrue (is_sound root.word.0)) roots
+    → IsDistinct nat_eq (keys roots) → AreFree account.state roots → AllByRecursion
+    (λ (root : DeclaredRoot). IsTrue (is_sound root.word.0)) roots
     → account.roots + length roots ≤ most_roots → (after_roots account roots).granules ≤ most_granules rules_are
     → Reads (Within account) (map (λ (root : DeclaredRoot). Root root.place root.word) roots) (Within (after_roots account roots))
 unfolding IsDistinct

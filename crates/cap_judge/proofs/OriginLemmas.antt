@@ -38,7 +38,8 @@ origins_from-suc origins key count = refl
 pub one_line : (origins : ℕ → Option Place) (place : Place) → IsPlace place
     → lines_from origins (key_of place) 1 ≡ origin_lines (listed place (origins (key_of place)))
 one_line origins place is =
-    ap origin_lines (origins_from-suc origins (key_of place) 0 ∙ ap (λ (l : List Origin). listed (place_of (key_of place)) (origins (key_of place)) ++ l) (origins_from-zero origins (key_of place + 1))
+    ap origin_lines (origins_from-suc origins (key_of place) 0 ∙ ap (λ (l : List Origin). listed (place_of (key_of place))
+    (origins (key_of place)) ++ l) (origins_from-zero origins (key_of place + 1))
     ∙ append-nil _ ∙ ap (λ (p : Place). listed p (origins (key_of place))) (place_of-key_of place is))
 
 -- so many places, and so many more
@@ -79,7 +80,8 @@ lines_skip origins key a b least none =
     let sum : b ≡ a + (b - a) = omega arith in
     sym
     (ap (lines_from origins key) sum ∙ lines_split origins key a (b - a)
-    ∙ ap (λ (l : List Origin). lines_from origins key a ++ origin_lines l) (origins_none origins (key + a) (b - a) (λ k from until. none k from (omega arith)))
+    ∙ ap (λ (l : List Origin). lines_from origins key a ++ origin_lines l)
+    (origins_none origins (key + a) (b - a) (λ k from until. none k from (omega arith)))
     ∙ append-nil (lines_from origins key a))
 
 -- a granule that was not put has no origin
@@ -87,7 +89,8 @@ pub unput : (held : Held) (granule : ℕ) → get held.memory granule ≡ None �
 unput held granule none =
     let back : granule + 32 - 32 ≡ granule = omega arith in
     ap place_at
-    (cond-false (nat_lt (granule + 32) 32) (slice_index_or held.codes (granule + 32) 0) (code_at held.memory (granule + 32 - 32)) (le-ltb (granule + 32) 32 (omega arith))
+    (cond-false (nat_lt (granule + 32) 32) (slice_index_or held.codes (granule + 32) 0) (code_at held.memory (granule + 32 - 32))
+    (le-ltb (granule + 32) 32 (omega arith))
     ∙ ap (code_at held.memory) back ∙ ap (λ (o : Option Entry). let entry = unwrap_or o blank in entry.2) none)
 
 -- so it has no lines
@@ -115,7 +118,8 @@ began n (x ∷ xs) ys zs = let rest = began n xs ys zs in (suc rest.0, ap (λ (l
 pub one_more : (origins : ℕ → Option Place) (key done key_behind next : ℕ) → key_behind ≡ key + done → next ≡ done + 1
     → lines_from origins key done ++ lines_from origins key_behind 1 ≡ lines_from origins key next
 one_more origins key done key_behind next here more =
-    ap (λ (k : ℕ). lines_from origins key done ++ lines_from origins k 1) here ∙ sym (ap (lines_from origins key) more ∙ lines_split origins key done 1)
+    ap (λ (k : ℕ). lines_from origins key done ++ lines_from origins k 1) here
+    ∙ sym (ap (lines_from origins key) more ∙ lines_split origins key done 1)
 
 -- the same where it is the last
 pub behind : (n : ℕ) (xs ys : List ℕ) → (m : ℕ) × (take m (xs ++ ys) ≡ xs ++ take n ys)
@@ -143,7 +147,8 @@ pub line_of : (origins : ℕ → Option Place) (place root : Place) (text : List
     → text ≡ origin_line place root
     → text ≡ lines_from origins (key_of place) 1
 line_of origins place root text is some spelled =
-    spelled ∙ sym (one_line origins place is ∙ ap (λ (o : Option Place). origin_lines (listed place o)) some ∙ append-nil (origin_line place root))
+    spelled ∙ sym (one_line origins place is ∙ ap (λ (o : Option Place). origin_lines (listed place o)) some
+    ∙ append-nil (origin_line place root))
 
 pub no_line : (origins : ℕ → Option Place) (place : Place) → IsPlace place → origins (key_of place) ≡ None
     → [] ≡ lines_from origins (key_of place) 1
@@ -154,13 +159,15 @@ pub no_lines : (origins : ℕ → Option Place) (key : ℕ) → [] ≡ lines_fro
 no_lines origins key = sym (ap origin_lines (origins_from-zero origins key))
 
 -- two texts, one behind the other
-module _ {K : Type 0} (took : K → K → List ℕ → Type 0) (a b c : K) (joined : (x y z : K) (xs ys : List ℕ) → took x y xs → took y z ys → took x z (xs ++ ys))
+module _ {K : Type 0} (took : K → K → List ℕ → Type 0) (a b c : K) (joined : (x y z : K) (xs ys : List ℕ) → took x y xs
+    → took y z ys → took x z (xs ++ ys))
     (xs ys text : List ℕ) (is : xs ++ ys ≡ text) where
   pub both_ok : (result : Result (Unit {0}) PushFault) → took a b xs → OnOk result (took b c ys) → OnOk result (took a c text)
   both_ok (Ok done) before now = subst (took a c) is (joined a b c xs ys before now)
   both_ok (Err fault) before now = tt
 
-  pub both_err : (result : Result (Unit {0}) PushFault) → took a b xs → OnErr result ((n : ℕ) × took b c (take n ys)) → OnErr result ((n : ℕ) × took a c (take n text))
+  pub both_err : (result : Result (Unit {0}) PushFault) → took a b xs → OnErr result ((n : ℕ) × took b c (take n ys))
+      → OnErr result ((n : ℕ) × took a c (take n text))
   both_err (Ok done) before now = tt
   both_err (Err fault) before now =
       let m = behind now.0 xs ys in

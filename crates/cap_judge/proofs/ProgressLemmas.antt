@@ -88,8 +88,11 @@ pub stepped : (old new : Reading) (step : steps_module.Step) → old.ended ≡ f
     → Makes old.held step new.held → Takes old (Step step) new
 stepped old new step unended still range makes Nothing stands = absurd stands
 stepped old new step unended still range makes NoMode stands = absurd stands
-stepped old new step unended still range makes (Body rules_are roots steps) stands =
-    (Body rules_are roots (steps ++ step ∷ []), (still, step_on rules_are roots steps old.held new.held step stands.1 range makes), steps_push rules_are roots steps step)
+stepped old new step unended still range makes (Body rules_are roots steps) stands = (
+  Body rules_are roots (steps ++ step ∷ []),
+  (still, step_on rules_are roots steps old.held new.held step stands.1 range makes),
+  steps_push rules_are roots steps step,
+)
 stepped old new step unended still range makes (Whole rules_are roots steps) stands = absurd (false≢true (sym unended ∙ stands.0))
 
 -- a step that is not made
@@ -120,16 +123,30 @@ rooted old new place word unended still rootless place_range word_range declares
 rooted old new place word unended still rootless place_range word_range declares (Body rules_are roots (step ∷ steps)) stands =
     absurd (let counted = stands.1.steps_are in omega arith)
 rooted old new place word unended still rootless place_range word_range declares (Body rules_are roots []) stands =
-    let root : DeclaredRoot = record { place = place; word = word } in
-    (Body rules_are (roots ++ root ∷ []) [], (still, root_on rules_are roots root old.held new.held stands.1 place_range word_range declares), roots_push rules_are roots root)
+    let root : DeclaredRoot = record { place = place; word = word } in (
+      Body rules_are (roots ++ root ∷ []) [],
+      (
+        still,
+        root_on rules_are roots root old.held new.held stands.1 place_range word_range
+            declares,
+      ),
+      roots_push rules_are roots root,
+    )
 rooted old new place word unended still rootless place_range word_range declares (Whole rules_are roots steps) stands =
     absurd (false≢true (sym unended ∙ stands.0))
 
 -- what a new machine holds stands for a header
 pub header_read : (held : Held) (rules_are : Rules) → account_of held ≡ no_account rules_are
     → StandsFor (record { held = held; ended = false }) (Body rules_are [] [])
-header_read held rules_are account =
-    (refl, record { runs = no_roots rules_are; account = account; roots_are = ap (λ (a : Account). a.roots) account; steps_are = ap (λ (a : Account). a.steps) account })
+header_read held rules_are account = (
+  refl,
+  record {
+    runs = no_roots rules_are;
+    account = account;
+    roots_are = ap (λ (a : Account). a.roots) account;
+    steps_are = ap (λ (a : Account). a.steps) account;
+  },
+)
 
 -- a line that is refused, as the line that these bytes spell
 known_refused : (reading : Reading) (text : List ℕ) (line : Line) (refusal : Refusal) (beginning : Beginning)
@@ -157,9 +174,11 @@ known_wants reading text (Whole rules_are roots steps) unended wants stands = ab
 
 pub line_known : (reading : Reading) (text : List ℕ) (line : Line) (end : StepEnd) → reading.ended ≡ false
     → SpellsBy reading.held.rules text line → EndsFor reading.held line end → EndsNext reading text end
-line_known reading text line (Refused refusal) unended spells ends = λ beginning stands. known_refused reading text line refusal beginning unended spells ends stands
+line_known reading text line (Refused refusal) unended spells ends =
+    λ beginning stands. known_refused reading text line refusal beginning unended spells ends stands
 line_known reading text line NoMemory unended spells ends =
-    λ beginning stands. known_wants reading text beginning unended (record { line = line; spelled = spells; free = ends.0; first = ends.1 }) stands
+    λ beginning stands. known_wants reading text beginning unended (record { line = line; spelled = spells; free = ends.0; first = ends.1 })
+    stands
 
 -- the same of an answer
 pub known_ended : (reading : Reading) (line : Line) (result : Result (Unit {0}) StepEnd) → reading.ended ≡ false
@@ -202,11 +221,23 @@ step_formed TwoClear step = refl
 -- a step at the front of some bytes that was made
 pub front_made : (old new : Reading) (bytes rest : List ℕ) (step : steps_module.Step) → old.ended ≡ false → new.ended ≡ false
     → Begins IsInRange spelling 10 bytes (Step step) rest → Makes old.held step new.held → TakesFront old bytes new rest
-front_made old new bytes rest step unended still begins makes =
-    (Step step, begins, λ text spells. (Step step, (spells, step_formed old.held.rules step), stepped old new step unended still begins.0 makes))
+front_made old new bytes rest step unended still begins makes = (
+  Step step,
+  begins,
+  λ text spells. (
+    Step step,
+    (spells, step_formed old.held.rules step),
+    stepped old new step unended still begins.0 makes,
+  ),
+)
 
 -- and one that was not
 pub front_refused : (old : Reading) (new : Held) (bytes rest : List ℕ) (step : steps_module.Step) (end : StepEnd) → old.ended ≡ false
     → Begins IsInRange spelling 10 bytes (Step step) rest → EndsStep old.held step end new → EndsFront old bytes end
-front_refused old new bytes rest step end unended begins ends =
-    (Step step, rest, begins, λ text spells. line_known old text (Step step) end unended (spells, step_formed old.held.rules step) (step_ended old.held new step end ends))
+front_refused old new bytes rest step end unended begins ends = (
+  Step step,
+  rest,
+  begins,
+  λ text spells. line_known old text (Step step) end unended (spells, step_formed old.held.rules step)
+      (step_ended old.held new step end ends),
+)

@@ -101,7 +101,8 @@ rising_from origins key zero =
 rising_from origins key (suc count) =
     subst (λ (l : List Origin). IsStrictlySortedBy nat_cmp (keys l)) (sym (origins_from-suc origins key count))
     (rising_listed key (origins key) (origins_from origins (key + 1) count)
-    (all_from (λ o. key < key_of o.place) origins (key + 1) count (λ k root from until is. subst (λ (n : ℕ). key < n) (sym (key_of-place_of k)) (omega arith)))
+    (all_from (λ o. key < key_of o.place) origins (key + 1) count (λ k root from until is. subst (λ (n : ℕ). key < n)
+    (sym (key_of-place_of k)) (omega arith)))
     (rising_from origins (key + 1) count))
 
 -- each place that has one is there
@@ -154,7 +155,8 @@ inside held is (suc k) root some =
           let same : granule + 32 ≡ suc k = omega arith in
           absurd
           (none-some root
-          (sym (unput held granule (past held is.stored granule (omega arith) (get held.memory granule) refl)) ∙ ap (account_of held).origin same ∙ some))
+          (sym (unput held granule (past held is.stored granule (omega arith) (get held.memory granule) refl))
+          ∙ ap (account_of held).origin same ∙ some))
     ]
 
 module _ (bytes : List ℕ) (held : Held) (is : IsHeld held) (to : LeadsTo bytes held) where
@@ -176,13 +178,15 @@ module _ (bytes : List ℕ) (held : Held) (is : IsHeld held) (to : LeadsTo bytes
       let back = sym (key_of-place_of key) in
       record {
         in_range = place_range key some below;
-        tag = subst (λ (k : ℕ). IsTrue (last_of (start to.roots) to.log.runs.run.0 k).tag) back (ap (λ (s : State). (s key).tag) last ∙ tag);
+        tag =
+            subst (λ (k : ℕ). IsTrue (last_of (start to.roots) to.log.runs.run.0 k).tag) back (ap (λ (s : State). (s key).tag) last ∙ tag);
         from = found.0;
         descends = subst (λ (k : ℕ). DescendsFrom to.roots to.steps to.log.runs.run.0 (length to.steps) k found.0) back found.1;
         root_is = same_Some root found.0.place (sym has ∙ found.2);
       }
 
-  complete : (key : ℕ) → IsTrue (last_of (start to.roots) to.log.runs.run.0 key).tag → Contains (keys (origins_from (account_of held).origin 1 (31 + 2 ^ 60))) key
+  complete : (key : ℕ) → IsTrue (last_of (start to.roots) to.log.runs.run.0 key).tag
+      → Contains (keys (origins_from (account_of held).origin 1 (31 + 2 ^ 60))) key
   complete key tag =
       let found = law key (ap (λ (s : State). (s key).tag) (sym last) ∙ tag) in
       let within = inside held is key found.0.place found.2 in

@@ -178,7 +178,8 @@ turn (Whole rules_are roots steps) unended text = absurd unended
 abbrev Follows : Beginning → List ℕ → Type 0
 Follows beginning rest =
     ((refusal : Refusal) × Refuses beginning rest refusal)
-    ⊎ ((next : Beginning) × IsAccepted next × ((more : List ℕ) × (text_of (lines_of beginning) ++ rest ≡ text_of (lines_of next) ++ more) × (length more < length rest)))
+    ⊎ ((next : Beginning) × IsAccepted next × ((more : List ℕ) × (text_of (lines_of beginning) ++ rest ≡ text_of (lines_of next) ++ more)
+    × (length more < length rest)))
 
 -- a whole line follows
 by_turn : (beginning : Beginning) → IsUnended beginning → (rest text more : List ℕ) → IsAccepted beginning → IsLine rest text more
@@ -271,7 +272,8 @@ verdict_from (suc fuel) bytes Nothing rest few here =
 verdict_from (suc fuel) bytes NoMode rest few here =
     from_here fuel bytes (verdict_from fuel bytes) NoMode rest few here (follows NoMode tt rest here.accepted)
 verdict_from (suc fuel) bytes (Body rules_are roots steps) rest few here =
-    from_here fuel bytes (verdict_from fuel bytes) (Body rules_are roots steps) rest few here (follows (Body rules_are roots steps) tt rest here.accepted)
+    from_here fuel bytes (verdict_from fuel bytes) (Body rules_are roots steps) rest few here
+    (follows (Body rules_are roots steps) tt rest here.accepted)
 
 pub some_verdict : (bytes : List ℕ) → (verdict : Verdict) × IsVerdict bytes verdict
 some_verdict bytes = verdict_from (length bytes + 1) bytes Nothing bytes (omega arith) (record { bytes_are = refl; accepted = tt })

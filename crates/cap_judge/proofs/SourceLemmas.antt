@@ -67,7 +67,8 @@ long_some (b ∷ bytes) long = λ e. cc
 
 pub line_some : (rest text left : List ℕ) → IsLine rest text left → rest ≢ []
 line_some rest text left is =
-    λ none. let long : length (text ++ 10 ∷ left) ≡ 0 = ap length (sym is.whole ∙ none) in omega (arith, length-append text (10 ∷ left), long)
+    λ none. let long : length (text ++ 10 ∷ left) ≡ 0 =
+    ap length (sym is.whole ∙ none) in omega (arith, length-append text (10 ∷ left), long)
 
 pub nothing_cut : (rest : List ℕ) → rest ≡ [] → IsCut rest
 nothing_cut rest none = subst IsCut (sym none) (omega arith, All-nil (λ b. b ≢ 10))
@@ -79,14 +80,16 @@ no_stands bytes true line refusal all = subst (λ (b : List ℕ). IsFirstFault b
 no_stands bytes false line refusal all = all
 
 -- behind an accepted beginning, before an answer of the next call, with what that says
-pub record Meets {S : Type 0} (gave : S → S → List ℕ → Type 0) (ended : S → Bool) (old new : S) (beginning : Beginning) (lines : Lines) (answer : Result Next PullFault) : Type 0 where
+pub record Meets {S : Type 0} (gave : S → S → List ℕ → Type 0) (ended : S → Bool) (old new : S) (beginning : Beginning) (lines : Lines)
+    (answer : Result Next PullFault) : Type 0 where
   pub given : List ℕ
   pub gives : gave old new given
   pub rest : List ℕ
   pub here : IsBehind given beginning rest
   pub next : IsNext rest (ended new) (kept lines) (over_of lines) answer
 
-pub meets : {S : Type 0} (gave : S → S → List ℕ → Type 0) (ended : S → Bool) (a b c : S) (beginning : Beginning) (before : List ℕ) (lines : Lines) (answer shown : Result Next PullFault)
+pub meets : {S : Type 0} (gave : S → S → List ℕ → Type 0) (ended : S → Bool) (a b c : S) (beginning : Beginning) (before : List ℕ)
+    (lines : Lines) (answer shown : Result Next PullFault)
     → ((x y z : S) (xs ys : List ℕ) → gave x y xs → gave y z ys → gave x z (xs ++ ys))
     → ((given : List ℕ) × gave a b given × IsBehind given beginning before)
     → Answered gave ended b c before lines answer → answer ≡ shown → Meets gave ended a c beginning lines shown
@@ -99,22 +102,33 @@ meets gave ended a b c beginning before lines answer shown joined so_far answere
 }
 
 -- the same where the progress stands
-pub meets_at : {S : Type 0} (gave : S → S → List ℕ → Type 0) (ended : S → Bool) (a b c : S) (reading : Reading) (line : ℕ) (before : List ℕ) (lines : Lines) (answer shown : Result Next PullFault)
+pub meets_at : {S : Type 0} (gave : S → S → List ℕ → Type 0) (ended : S → Bool) (a b c : S) (reading : Reading) (line : ℕ) (before : List ℕ)
+    (lines : Lines) (answer shown : Result Next PullFault)
     → ((x y z : S) (xs ys : List ℕ) → gave x y xs → gave y z ys → gave x z (xs ++ ys)) → (so_far : HasRead gave a b reading before line)
     → Answered gave ended b c before lines answer → answer ≡ shown → Meets gave ended a c so_far.2.beginning lines shown
 meets_at gave ended a b c reading line before lines answer shown joined so_far answered same =
-    meets gave ended a b c so_far.2.beginning before lines answer shown joined (so_far.0, so_far.1, behind so_far.0 before reading line so_far.2) answered same
+    meets gave ended a b c so_far.2.beginning before lines answer shown joined
+    (so_far.0, so_far.1, behind so_far.0 before reading line so_far.2) answered same
 
-pub at_met : {S : Type 0} {gave : S → S → List ℕ → Type 0} {ended : S → Bool} {old new : S} {lines : Lines} {shown : Result Next PullFault} (given before : List ℕ) (reading : Reading) (line : ℕ)
+pub at_met : {S : Type 0} {gave : S → S → List ℕ → Type 0} {ended : S → Bool} {old new : S} {lines : Lines} {shown : Result Next PullFault}
+    (given before : List ℕ) (reading : Reading) (line : ℕ)
     (here : IsAt given reading before line) (m : Meets gave ended old new here.beginning lines shown) → IsAt m.given reading m.rest line
-at_met given before reading line here m = record { beginning = here.beginning; stands = here.stands; bytes_are = m.here.bytes_are; line_is = here.line_is }
+at_met given before reading line here m =
+    record { beginning = here.beginning; stands = here.stands; bytes_are = m.here.bytes_are; line_is = here.line_is }
 
 answer_ok : (given : List ℕ) (ended : Bool) (verdict : Verdict) → IsVerdictOf given ended verdict → IsAnswerOf given ended (Ok verdict)
 answer_ok given ended verdict is =
-    record { verdict = is; authority = guards given (guarded one_root lie_inside given) verdict; escape = λ more. escapes_exactly (given ++ more) verdict; fault = tt; answers = λ none e. cc }
+    record {
+      verdict = is;
+      authority = guards given (guarded one_root lie_inside given) verdict;
+      escape = λ more. escapes_exactly (given ++ more) verdict;
+      fault = tt;
+      answers = λ none e. cc;
+    }
 
 answer_memory : (given : List ℕ) (ended : Bool) → MayLackMemory given → IsAnswerOf given ended (Err NoMemory)
-answer_memory given ended lack = record { verdict = tt; authority = tt; escape = tt; fault = lack; answers = λ none e. no_lack given none lack }
+answer_memory given ended lack =
+    record { verdict = tt; authority = tt; escape = tt; fault = lack; answers = λ none e. no_lack given none lack }
 
 answer_pull : (given : List ℕ) (ended : Bool) → BeginsLog given → IsAnswerOf given ended (Err Pull)
 answer_pull given ended is = record { verdict = tt; authority = tt; escape = tt; fault = is; answers = λ none e. cc }
@@ -126,14 +140,17 @@ no_leads bytes held (Ok (No line refusal)) none = tt
 no_leads bytes held (Err fault) none = tt
 
 -- an answer on the bytes given, with what the machine holds and the text of the line that was refused
-pub judged_by : {S : Type 0} (gave : S → S → List ℕ → Type 0) (ended : S → Bool) (old new : S) (held : Held) (text given : List ℕ) (result shown : Result Verdict JudgeFault) → result ≡ shown
-    → gave old new given → IsAnswerOf given (ended new) shown → IfOk shown (LeadsAfter given held) → IfOk shown (StopsIn given (ended new) held text)
+pub judged_by : {S : Type 0} (gave : S → S → List ℕ → Type 0) (ended : S → Bool) (old new : S) (held : Held) (text given : List ℕ)
+    (result shown : Result Verdict JudgeFault) → result ≡ shown
+    → gave old new given → IsAnswerOf given (ended new) shown → IfOk shown (LeadsAfter given held)
+    → IfOk shown (StopsIn given (ended new) held text)
     → JudgedBy gave ended old new result held text
 judged_by gave ended old new held text given result shown is gives answer leads stops =
     subst (λ (r : Result Verdict JudgeFault). JudgedBy gave ended old new r held text) (sym is)
     (record { judged = record { given = given; gives = gives; answer = answer }; leads = leads; stops = stops })
 
-pub judged_no : {S : Type 0} (gave : S → S → List ℕ → Type 0) (ended : S → Bool) (old new : S) (held : Held) (text given : List ℕ) (result shown : Result Verdict JudgeFault) → result ≡ shown
+pub judged_no : {S : Type 0} (gave : S → S → List ℕ → Type 0) (ended : S → Bool) (old new : S) (held : Held) (text given : List ℕ)
+    (result shown : Result Verdict JudgeFault) → result ≡ shown
     → IsNoYes shown → gave old new given → IsAnswerOf given (ended new) shown → IfOk shown (StopsIn given (ended new) held text)
     → JudgedBy gave ended old new result held text
 judged_no gave ended old new held text given result shown is none gives answer stops =
@@ -147,55 +164,74 @@ pub no_answer : (line : ℕ) (end : StepEnd) → IsNoYes (answer_at line end)
 no_answer line (Refused refusal) = tt
 no_answer line ends.NoMemory = tt
 
-module _ {S : Type 0} {gave : S → S → List ℕ → Type 0} {ended : S → Bool} {old new : S} {lines : Lines} (beginning : Beginning) (line : ℕ) where
+module _ {S : Type 0} {gave : S → S → List ℕ → Type 0} {ended : S → Bool} {old new : S} {lines : Lines}
+    (beginning : Beginning) (line : ℕ) where
   -- the source failed
   pub pulled : {fault : PullFault} → (m : Meets gave ended old new beginning lines (Err fault)) → IsAnswerOf m.given (ended new) (Err Pull)
   pulled m = answer_pull m.given (ended new) (record { beginning = beginning; rest = m.rest; behind = m.here; cut = m.next.0 })
 
   -- the line is refused whatever follows
-  refused_met : {shown : Result Next PullFault} (refusal : Refusal) (m : Meets gave ended old new beginning lines shown) → line ≡ length (lines_of beginning) + 1 → IsUnended beginning
+  refused_met : {shown : Result Next PullFault} (refusal : Refusal) (m : Meets gave ended old new beginning lines shown)
+      → line ≡ length (lines_of beginning) + 1 → IsUnended beginning
       → ((more : List ℕ) → RefusesFront beginning (m.rest ++ more) refusal) → IsAnswerOf m.given (ended new) (Ok (No line refusal))
   refused_met refusal m number unended all =
       answer_ok m.given (ended new) (No line refusal)
       (no_stands m.given (ended new) line refusal
-      (λ more. refused_behind (m.given ++ more) (m.rest ++ more) beginning line refusal (behind_more m.given m.rest more beginning m.here) number unended (all more)))
+      (λ more. refused_behind (m.given ++ more) (m.rest ++ more) beginning line refusal
+      (behind_more m.given m.rest more beginning m.here) number unended (all more)))
 
-  pub too_long_met : (m : Meets gave ended old new beginning lines (Ok nexts.LineTooLong)) → line ≡ length (lines_of beginning) + 1 → IsUnended beginning → IsAnswerOf m.given (ended new) (Ok (No line LineTooLong))
+  pub too_long_met : (m : Meets gave ended old new beginning lines (Ok nexts.LineTooLong)) → line ≡ length (lines_of beginning) + 1
+      → IsUnended beginning → IsAnswerOf m.given (ended new) (Ok (No line LineTooLong))
   too_long_met m number unended = refused_met LineTooLong m number unended (λ more. inl (IsTooLong-more m.rest more m.next.0, refl))
 
-  pub line_met : (text : _) (refusal : Refusal) → (m : Meets gave ended old new beginning lines (Ok (nexts.Line text))) → line ≡ length (lines_of beginning) + 1 → IsUnended beginning
+  pub line_met : (text : _) (refusal : Refusal) → (m : Meets gave ended old new beginning lines (Ok (nexts.Line text)))
+      → line ≡ length (lines_of beginning) + 1 → IsUnended beginning
       → RefusesWhole beginning text.now refusal → IsAnswerOf m.given (ended new) (Ok (No line refusal))
   line_met text refusal m number unended refused =
-      refused_met refusal m number unended (λ more. inr (inr (text.now, kept lines ++ more, IsLine-more m.rest text.now (kept lines) more m.next.0, refused)))
+      refused_met refusal m number unended (λ more. inr (inr (
+        text.now,
+        kept lines ++ more,
+        IsLine-more m.rest text.now (kept lines) more m.next.0,
+        refused,
+      )))
 
-  cut_met : {shown : Result Next PullFault} (m : Meets gave ended old new beginning lines shown) → line ≡ length (lines_of beginning) + 1 → IsUnended beginning → IsCut m.rest → ended new ≡ true
+  cut_met : {shown : Result Next PullFault} (m : Meets gave ended old new beginning lines shown) → line ≡ length (lines_of beginning) + 1
+      → IsUnended beginning → IsCut m.rest → ended new ≡ true
       → IsAnswerOf m.given (ended new) (Ok (No line Truncated))
   cut_met m number unended is end =
       answer_ok m.given (ended new) (No line Truncated)
-      (subst (λ (b : Bool). IsVerdictOf m.given b (No line Truncated)) (sym end) (refused_behind m.given m.rest beginning line Truncated m.here number unended (inr (inl (is, refl)))))
+      (subst (λ (b : Bool). IsVerdictOf m.given b (No line Truncated)) (sym end)
+      (refused_behind m.given m.rest beginning line Truncated m.here number unended (inr (inl (is, refl)))))
 
-  pub truncated_met : (m : Meets gave ended old new beginning lines (Ok nexts.Truncated)) → line ≡ length (lines_of beginning) + 1 → IsUnended beginning → IsAnswerOf m.given (ended new) (Ok (No line Truncated))
+  pub truncated_met : (m : Meets gave ended old new beginning lines (Ok nexts.Truncated)) → line ≡ length (lines_of beginning) + 1
+      → IsUnended beginning → IsAnswerOf m.given (ended new) (Ok (No line Truncated))
   truncated_met m number unended = cut_met m number unended m.next.0 m.next.2
 
-  pub finished_met : (m : Meets gave ended old new beginning lines (Ok nexts.Finished)) → line ≡ length (lines_of beginning) + 1 → IsUnended beginning → IsAnswerOf m.given (ended new) (Ok (No line Truncated))
+  pub finished_met : (m : Meets gave ended old new beginning lines (Ok nexts.Finished)) → line ≡ length (lines_of beginning) + 1
+      → IsUnended beginning → IsAnswerOf m.given (ended new) (Ok (No line Truncated))
   finished_met m number unended = cut_met m number unended (nothing_cut m.rest m.next.0) m.next.1
 
-module _ {S : Type 0} {gave : S → S → List ℕ → Type 0} {ended : S → Bool} {old new : S} {lines : Lines} (given before : List ℕ) (reading : Reading) (line : ℕ) where
-  misplaced_met : {shown : Result Next PullFault} (here : IsAt given reading before line) (m : Meets gave ended old new here.beginning lines shown) → reading.ended ≡ true → m.rest ≢ []
+module _ {S : Type 0} {gave : S → S → List ℕ → Type 0} {ended : S → Bool} {old new : S} {lines : Lines} (given before : List ℕ)
+    (reading : Reading) (line : ℕ) where
+  misplaced_met : {shown : Result Next PullFault} (here : IsAt given reading before line)
+      (m : Meets gave ended old new here.beginning lines shown) → reading.ended ≡ true → m.rest ≢ []
       → IsAnswerOf m.given (ended new) (Ok (No line Misplaced))
   misplaced_met here m end some =
       answer_ok m.given (ended new) (No line Misplaced)
       (no_stands m.given (ended new) line Misplaced
-      (λ more. misplaced (m.given ++ more) (m.rest ++ more) reading line (at_more m.given m.rest more reading line (at_met given before reading line here m)) end (some-more m.rest more some)))
+      (λ more. misplaced (m.given ++ more) (m.rest ++ more) reading line (at_more m.given m.rest more reading line
+      (at_met given before reading line here m)) end (some-more m.rest more some)))
 
   -- by whether the end line has come
   pub too_long_at : (now : Bool) → reading.ended ≡ now → (here : IsAt given reading before line)
-      → (m : Meets gave ended old new here.beginning lines (Ok nexts.LineTooLong)) → IsAnswerOf m.given (ended new) (Ok (refusal_in line now LineTooLong))
+      → (m : Meets gave ended old new here.beginning lines (Ok nexts.LineTooLong))
+      → IsAnswerOf m.given (ended new) (Ok (refusal_in line now LineTooLong))
   too_long_at false is here m = too_long_met here.beginning line m here.line_is (unended_here given before reading line here is)
   too_long_at true is here m = misplaced_met here m is (long_some m.rest m.next.0)
 
   pub truncated_at : (now : Bool) → reading.ended ≡ now → (here : IsAt given reading before line)
-      → (m : Meets gave ended old new here.beginning lines (Ok nexts.Truncated)) → IsAnswerOf m.given (ended new) (Ok (refusal_in line now Truncated))
+      → (m : Meets gave ended old new here.beginning lines (Ok nexts.Truncated))
+      → IsAnswerOf m.given (ended new) (Ok (refusal_in line now Truncated))
   truncated_at false is here m = truncated_met here.beginning line m here.line_is (unended_here given before reading line here is)
   truncated_at true is here m = misplaced_met here m is m.next.1
 
@@ -207,32 +243,38 @@ module _ {S : Type 0} {gave : S → S → List ℕ → Type 0} {ended : S → Bo
   finished_at true is here m =
       let at_end = subst (λ (r : List ℕ). IsAt m.given reading r line) m.next.0 (at_met given before reading line here m) in (
         answer_ok m.given (ended new) (Yes reading.held.steps reading.held.roots)
-            (subst (λ (b : Bool). IsVerdictOf m.given b (Yes reading.held.steps reading.held.roots)) (sym m.next.1) (yes m.given reading line at_end is)),
+            (subst (λ (b : Bool). IsVerdictOf m.given b (Yes reading.held.steps reading.held.roots)) (sym m.next.1)
+            (yes m.given reading line at_end is)),
         leads m.given reading line at_end is,
       )
 
   -- a line after the end line
-  pub after_end : (text : _) (here : IsAt given reading before line) → (m : Meets gave ended old new here.beginning lines (Ok (nexts.Line text)))
+  pub after_end : (text : _) (here : IsAt given reading before line) → (m : Meets gave ended old new here.beginning
+      lines (Ok (nexts.Line text)))
       → reading.ended ≡ true → IsAnswerOf m.given (ended new) (Ok (No line Misplaced))
   after_end text here m end = misplaced_met here m end (line_some m.rest text.now (kept lines) m.next.0)
 
   -- a line that is not taken
   pub line_ended : (text : _) (end : StepEnd) (here : IsAt given reading before line)
-      → (m : Meets gave ended old new here.beginning lines (Ok (nexts.Line text))) → reading.ended ≡ false → EndsNext reading text.now end → IsAnswerOf m.given (ended new) (answer_at line end)
+      → (m : Meets gave ended old new here.beginning lines (Ok (nexts.Line text))) → reading.ended ≡ false → EndsNext reading text.now end
+      → IsAnswerOf m.given (ended new) (answer_at line end)
   line_ended text (Refused refusal) here m unended refused =
-      line_met here.beginning line text refusal m here.line_is (unended_here given before reading line here unended) (refused here.beginning here.stands)
+      line_met here.beginning line text refusal m here.line_is (unended_here given before reading line here unended)
+      (refused here.beginning here.stands)
   line_ended text ends.NoMemory here m unended wants =
       answer_memory m.given (ended new)
       (wants_memory m.given m.rest text.now (kept lines) reading line (at_met given before reading line here m) m.next.0 wants)
 
 -- after a line the lines are not over
-pub over_after : {S : Type 0} {gave : S → S → List ℕ → Type 0} {ended : S → Bool} {old new : S} {before : List ℕ} {lines : Lines} {answer : Result Next PullFault} {text : _}
+pub over_after : {S : Type 0} {gave : S → S → List ℕ → Type 0} {ended : S → Bool} {old new : S} {before : List ℕ} {lines : Lines}
+    {answer : Result Next PullFault} {text : _}
     → Answered gave ended old new before lines answer → answer ≡ Ok (nexts.Line text) → over_of lines ≡ None
 over_after {S} {gave} {ended} {old} {new} {before} {lines} {answer} {text} answered same =
     (subst (IsNext (before ++ answered.given) (ended new) (kept lines) (over_of lines)) same answered.answers).1
 
 -- where lines that are kept were taken, nothing was pulled
-pub later_read : {S : Type 0} (gave : S → S → List ℕ → Type 0) (begun source : S) (old : Reading) (before : List ℕ) (first : ℕ) (new : Reading) (rest : List ℕ) (line : ℕ)
+pub later_read : {S : Type 0} (gave : S → S → List ℕ → Type 0) (begun source : S) (old : Reading) (before : List ℕ) (first : ℕ)
+    (new : Reading) (rest : List ℕ) (line : ℕ)
     → IsLaterAt old before first new rest line → HasRead gave begun source old before first → HasRead gave begun source new rest line
 later_read gave begun source old before first new rest line on so_far = (so_far.0, so_far.1, on so_far.0 so_far.2)
 
@@ -241,25 +283,35 @@ pub kept_line : (before after : List ℕ) (known : Line) → IsInRange known →
     → IsLine before (spelling known) after
 kept_line before after known range is = subst (λ (b : List ℕ). IsLine b (spelling known) after) (sym is) (IsLine-spelling known range after)
 
-module _ (reading : Reading) (line : ℕ) (before after : List ℕ) (known : Line) (taken : IsInRange known × (before ≡ spelling known ++ 10 ∷ after))
+module _ (reading : Reading) (line : ℕ) (before after : List ℕ) (known : Line)
+    (taken : IsInRange known × (before ≡ spelling known ++ 10 ∷ after))
     (given : List ℕ) (here : IsAt given reading before line) where
-  pub kept_ended : (ended : Bool) (end : StepEnd) → reading.ended ≡ false → ((text : List ℕ) → Spells text known → EndsNext reading text end)
+  pub kept_ended : (ended : Bool) (end : StepEnd) → reading.ended ≡ false
+      → ((text : List ℕ) → Spells text known → EndsNext reading text end)
       → IsAnswerOf given ended (answer_at line end)
   kept_ended ended (Refused refusal) unended refused =
       let whole = kept_line before after known taken.0 taken.1 in
       let stands_behind = behind given before reading line here in
       answer_ok given ended (No line refusal)
       (no_stands given ended line refusal
-      (λ more. refused_behind (given ++ more) (before ++ more) here.beginning line refusal (behind_more given before more here.beginning stands_behind) here.line_is
+      (λ more. refused_behind (given ++ more) (before ++ more) here.beginning line refusal
+      (behind_more given before more here.beginning stands_behind) here.line_is
       (unended_here given before reading line here unended)
-      (inr (inr (spelling known, after ++ more, IsLine-more before (spelling known) after more whole, refused (spelling known) (taken.0, refl) here.beginning here.stands)))))
+      (inr (inr (
+        spelling known,
+        after ++ more,
+        IsLine-more before (spelling known) after more whole,
+        refused (spelling known) (taken.0, refl) here.beginning here.stands,
+      )))))
   kept_ended ended ends.NoMemory unended wants =
       answer_memory given ended
-      (wants_memory given before (spelling known) after reading line here (kept_line before after known taken.0 taken.1) (wants (spelling known) (taken.0, refl)))
+      (wants_memory given before (spelling known) after reading line here (kept_line before after known taken.0 taken.1)
+      (wants (spelling known) (taken.0, refl)))
 
   pub kept_goes_on : (next : Reading) → ((text : List ℕ) → Spells text known → GoesOn reading text next) → IsAt given next after (line + 1)
   kept_goes_on next on =
-      goes_on given before (spelling known) after reading next line here (kept_line before after known taken.0 taken.1) (on (spelling known) (taken.0, refl))
+      goes_on given before (spelling known) after reading next line here (kept_line before after known taken.0 taken.1)
+      (on (spelling known) (taken.0, refl))
 
 -- there are no more lines than the limits allow
 few_header : (rules_are : Rules) → length (header_lines rules_are) ≤ 2
@@ -332,7 +384,8 @@ pub of_all : (bytes given rest : List ℕ) (ended : Bool) (result : Result Verdi
     → (ended ≡ true → rest ≡ []) → IsAnswerOf given ended result
     → result ≢ Err Pull → IfOk result (IsVerdict bytes) × IfErr result (IsFault bytes)
 of_all bytes given rest ended result are end answer no_pull =
-    subst (λ (b : List ℕ). IfOk result (IsVerdict b) × IfErr result (IsFault b)) (sym are) (whole_answer given rest ended result end answer no_pull)
+    subst (λ (b : List ℕ). IfOk result (IsVerdict b) × IfErr result (IsFault b)) (sym are)
+    (whole_answer given rest ended result end answer no_pull)
 
 pub escape_of : (bytes : List ℕ) (result : Result Verdict JudgeFault) → IfOk result (EscapesExactly bytes)
 escape_of bytes (Ok verdict) = escapes_exactly bytes verdict

@@ -63,7 +63,8 @@ refused_at line text beginning refusal goes whole refused more =
 pub bad_version : (line text : List ℕ) → IsLine line text [] → ((version : ℕ) → Spells text (lines.Version version) → ⊥)
     → EndsLine AtStart line (Refused BadHeader)
 bad_version line text whole none = λ beginning is more.
-    subst (λ (b : Beginning). Refuses b (line ++ more) BadHeader) (sym is) (refused_at line text Nothing BadHeader tt whole (none, refl) more)
+    subst (λ (b : Beginning). Refuses b (line ++ more) BadHeader) (sym is)
+    (refused_at line text Nothing BadHeader tt whole (none, refl) more)
 
 -- at the mode line
 pub bad_mode : (line text : List ℕ) → IsLine line text [] → ((mode : Mode) → Spells text (lines.Mode mode) → ⊥)
@@ -87,7 +88,8 @@ pub takes_two : (line text : List ℕ) (version : ℕ) (next : Standing) → IsL
 takes_two line text version next whole spells other after = λ beginning is. (
   NoMode,
   subst (λ (s : Standing). IsAfter s NoMode) (sym after) refl,
-  pushed line text [] (lines.Version 2) whole (version_two text version spells other).1 ∙ ap (λ (b : Beginning). text_of (lines_of b) ++ line) (sym is),
+  pushed line text [] (lines.Version 2) whole (version_two text version spells other).1
+      ∙ ap (λ (b : Beginning). text_of (lines_of b) ++ line) (sym is),
 )
 
 -- the mode line
@@ -96,12 +98,14 @@ pub takes_mode : (line text : List ℕ) (mode : Mode) (next : Standing) → IsLi
 takes_mode line text modes.Strict next whole spells after = λ beginning is. (
   Body TwoStrict [] [],
   after,
-  pushed line text (lines_of NoMode) (lines.Mode modes.Strict) whole spells.1 ∙ ap (λ (b : Beginning). text_of (lines_of b) ++ line) (sym is),
+  pushed line text (lines_of NoMode) (lines.Mode modes.Strict) whole spells.1
+      ∙ ap (λ (b : Beginning). text_of (lines_of b) ++ line) (sym is),
 )
 takes_mode line text modes.Clear next whole spells after = λ beginning is. (
   Body TwoClear [] [],
   after,
-  pushed line text (lines_of NoMode) (lines.Mode modes.Clear) whole spells.1 ∙ ap (λ (b : Beginning). text_of (lines_of b) ++ line) (sym is),
+  pushed line text (lines_of NoMode) (lines.Mode modes.Clear) whole spells.1
+      ∙ ap (λ (b : Beginning). text_of (lines_of b) ++ line) (sym is),
 )
 
 -- the line at the front of a line with its line feed is that line
@@ -119,7 +123,8 @@ front_ended reading line text end whole ended =
     ended.3 text (ended.2.0, (IsLine-same line text [] (spelling known) ended.1 whole front).0)
 
 -- behind the header
-pub takes_next : (old new : Reading) (line text : List ℕ) → IsLine line text [] → GoesOn old text new → TakesLine (Within old) line (Within new)
+pub takes_next : (old new : Reading) (line text : List ℕ) → IsLine line text [] → GoesOn old text new
+    → TakesLine (Within old) line (Within new)
 takes_next old new line text whole on = λ beginning stands.
     let next = on.2 beginning stands in
     (next.0, next.1, ap text_of next.2 ∙ pushed line text (lines_of beginning) on.0 whole on.1.0.1)
@@ -133,11 +138,14 @@ ends_next reading line text NoMemory not_ended whole wants = λ beginning stands
     (ap (λ (l : List ℕ). text_of (lines_of beginning) ++ l) whole.whole ∙ sym (append_assoc (text_of (lines_of beginning)) text (10 ∷ [])))
 
 -- after the end line
-pub ends_misplaced : (reading : Reading) (line : List ℕ) → reading.ended ≡ true → line ≢ [] → EndsLine (Within reading) line (Refused Misplaced)
-ends_misplaced reading line ended some = λ beginning stands more. misplaced_by beginning reading (line ++ more) stands ended (some-more line more some)
+pub ends_misplaced : (reading : Reading) (line : List ℕ) → reading.ended ≡ true → line ≢ []
+    → EndsLine (Within reading) line (Refused Misplaced)
+ends_misplaced reading line ended some =
+    λ beginning stands more. misplaced_by beginning reading (line ++ more) stands ended (some-more line more some)
 
 -- a line that is too long
-long_at : (line : List ℕ) (beginning : Beginning) → IsTooLong line → IsUnended beginning → (more : List ℕ) → Refuses beginning (line ++ more) LineTooLong
+long_at : (line : List ℕ) (beginning : Beginning) → IsTooLong line → IsUnended beginning → (more : List ℕ)
+    → Refuses beginning (line ++ more) LineTooLong
 long_at line beginning long goes more = front_refused beginning (line ++ more) LineTooLong goes (inl (IsTooLong-more line more long, refl))
 
 -- it is refused for its length where the end line has not come
@@ -155,14 +163,18 @@ ends_long Nowhere line goes long = λ beginning is. absurd is
 cut_off : (beginning : Beginning) (line : ℕ) → IsAccepted beginning → IsUnended beginning → line ≡ length (lines_of beginning) + 1
     → IsVerdict (text_of (lines_of beginning)) (No line Truncated)
 cut_off beginning line is goes number =
-    refused_behind (text_of (lines_of beginning)) [] beginning line Truncated (record { bytes_are = sym (append-nil (text_of (lines_of beginning))); accepted = is })
+    refused_behind (text_of (lines_of beginning)) [] beginning line Truncated
+    (record { bytes_are = sym (append-nil (text_of (lines_of beginning))); accepted = is })
     number goes (inr (inl (nothing_cut [] refl, refl)))
 
 pub end_header : (standing : Standing) (beginning : Beginning) (line : ℕ) → IsUnendedAt standing → IsAfter standing beginning
     → line ≡ length (lines_of beginning) + 1 → IsVerdict (text_of (lines_of beginning)) (No line Truncated)
-end_header AtStart beginning line goes is number = cut_off beginning line (accepted_after AtStart beginning is) (subst IsUnended (sym is) tt) number
-end_header AtMode beginning line goes is number = cut_off beginning line (accepted_after AtMode beginning is) (subst IsUnended (sym is) tt) number
-end_header (Within reading) beginning line goes stands number = cut_off beginning line (accepted beginning reading stands) (unended beginning reading stands goes) number
+end_header AtStart beginning line goes is number =
+    cut_off beginning line (accepted_after AtStart beginning is) (subst IsUnended (sym is) tt) number
+end_header AtMode beginning line goes is number =
+    cut_off beginning line (accepted_after AtMode beginning is) (subst IsUnended (sym is) tt) number
+end_header (Within reading) beginning line goes stands number =
+    cut_off beginning line (accepted beginning reading stands) (unended beginning reading stands goes) number
 end_header Nowhere beginning line goes is number = absurd is
 
 -- the verdict by whether the end line has come
@@ -185,10 +197,12 @@ end_within reading beginning line stands number = end_by reading.ended reading b
 abbrev pub counted : Reading → ℕ
 counted reading = length (header_lines reading.held.rules) + 1 + reading.held.roots + reading.held.steps
 
-body_count : (reading : Reading) (rules_are : Rules) (roots : List DeclaredRoot) (steps : List Step) → Reaches reading.held rules_are roots steps
+body_count : (reading : Reading) (rules_are : Rules) (roots : List DeclaredRoot) (steps : List Step)
+    → Reaches reading.held rules_are roots steps
     → counted reading ≡ length (body_lines rules_are roots steps) + 1
 body_count reading rules_are roots steps reaches =
-    let same : reading.held.rules ≡ rules_are = ap (λ (a : Account). a.rules) reaches.account ∙ (account_after-grows rules_are roots steps).rules_stay in
+    let same : reading.held.rules ≡ rules_are = ap (λ (a : Account). a.rules) reaches.account
+    ∙ (account_after-grows rules_are roots steps).rules_stay in
     omega (arith, ap (λ (r : Rules). length (header_lines r)) same, reaches.roots_are, reaches.steps_are, few_body rules_are roots steps)
 
 pub number_before : (reading : Reading) (beginning : Beginning) → StandsFor reading beginning → reading.ended ≡ false
@@ -204,4 +218,9 @@ number_behind reading Nothing stands is = absurd stands
 number_behind reading NoMode stands is = absurd stands
 number_behind reading (Body rules_are roots steps) stands is = absurd (false≢true (sym stands.0 ∙ is))
 number_behind reading (Whole rules_are roots steps) stands is =
-    omega (arith, body_count reading rules_are roots steps stands.1, length-append (body_lines rules_are roots steps) (lines.End (length steps) ∷ []))
+    omega (
+      arith,
+      body_count reading rules_are roots steps stands.1,
+      length-append (body_lines rules_are roots steps)
+          (lines.End (length steps) ∷ []),
+    )

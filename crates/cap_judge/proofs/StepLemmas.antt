@@ -1,5 +1,6 @@
 -- The report on a step.
-use Rattle.std.proofs.Common.{◌≡◌, ℕ, ℤ, ◌*◌, ◌^◌, ◌%◌, ◌≤◌, List, [], ◌++◌, Option, Some, None, refl, sym, ap, ◌∙◌, append_assoc, append-nil, codes, arith}
+use Rattle.std.proofs.Common.{◌≡◌, ℕ, ℤ, ◌*◌, ◌^◌, ◌%◌, ◌≤◌, List, [], ◌++◌, Option, Some, None, refl, sym, ap, ◌∙◌, append_assoc}
+use Rattle.std.proofs.Common.{append-nil, codes, arith}
 use Rattle.std.proofs.Math.Pow.{pow_mono}
 use Rattle.std.proofs.Math.Nat.{mul-le-mul}
 use Rattle.cap_word.specs.Digits.{hex_digits}
@@ -15,7 +16,8 @@ use Rattle.cap_judge.specs.StepLines.{asked_parts, step_lines, value_lines}
 
 -- the values of a load that no test refuses
 pub values_shown : (front : List ℕ) (access : Access) (recorded in_memory : ℕ) (fault : Option OpFault) → fault ≡ None
-    → front ++ text_line (codes "gives") (hex_digits (2 * access.size) in_memory) ++ text_line (codes "recorded") (hex_digits (2 * access.size) recorded)
+    → front ++ text_line (codes "gives") (hex_digits (2 * access.size) in_memory)
+    ++ text_line (codes "recorded") (hex_digits (2 * access.size) recorded)
     ≡ front ++ (value_lines (Read recorded in_memory) (Some access) fault ++ [])
 values_shown front access recorded in_memory None none = simp (append_assoc, append-nil)
 values_shown front access recorded in_memory (Some f) is = cc

@@ -41,7 +41,8 @@ long_front rest ended text front long = last_front rest ended text front (λ cut
 
 pub kept_front : (rest line left : List ℕ) (ended : Bool) (text : List ℕ) → IsFrontText rest text → IsLine rest line left
     → IsLastFront rest ended text
-kept_front rest line left ended text front whole = last_front rest ended text front (λ cut. absurd (IsLine-not_cut rest line left whole cut))
+kept_front rest line left ended text front whole =
+    last_front rest ended text front (λ cut. absurd (IsLine-not_cut rest line left whole cut))
 
 -- a line that was lent is its own text
 line_text : (rest line left text : List ℕ) → IsLine rest line left → IsFrontText line text → text ≡ line
@@ -66,8 +67,10 @@ stops given ended held line text rest reading here same front = record {
 }
 
 -- the same behind a beginning of which the machine holds nothing
-pub stops_met : {S : Type 0} {gave : S → S → List ℕ → Type 0} {ended : S → Bool} {old new : S} {lines : Lines} {shown : Result Next PullFault} (beginning : Beginning) (line : ℕ) (held : Held) (text : List ℕ)
-    → (m : Meets gave ended old new beginning lines shown) → line ≡ length (lines_of beginning) + 1 → account_of held ≡ account_before beginning
+pub stops_met : {S : Type 0} {gave : S → S → List ℕ → Type 0} {ended : S → Bool} {old new : S} {lines : Lines}
+    {shown : Result Next PullFault} (beginning : Beginning) (line : ℕ) (held : Held) (text : List ℕ)
+    → (m : Meets gave ended old new beginning lines shown) → line ≡ length (lines_of beginning) + 1
+    → account_of held ≡ account_before beginning
     → IsLastFront m.rest (ended new) text → StopsBefore m.given (ended new) held line text
 stops_met beginning line held text m number account front =
     record { beginning = beginning; rest = m.rest; behind = m.here; line_is = number; account = account; front = front }

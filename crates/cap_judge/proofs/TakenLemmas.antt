@@ -16,7 +16,8 @@ use Rattle.cap_judge.specs.declared.faults.Fault.{Fault}
 use Rattle.cap_judge.specs.declared.verdict.Verdict.{Verdict}
 use Rattle.cap_judge.specs.declared.verdict.Verdict.TheVariants.{Yes, No}
 use Rattle.cap_judge.specs.FaultLines.{IsFrontText, bytes_of}
-use Rattle.cap_judge.specs.Logs.{Beginning, Nothing, NoMode, Body, Whole, IsAccepted, IsFirstFault, MayLackMemory, body_lines, lines_of, text_of, Refuses}
+use Rattle.cap_judge.specs.Logs.{Beginning, Nothing, NoMode, Body, Whole, IsAccepted, IsFirstFault, MayLackMemory, body_lines, lines_of}
+use Rattle.cap_judge.specs.Logs.{text_of, Refuses}
 use Rattle.cap_judge.specs.Verdicts.{IsYes, IsVerdict}
 use Rattle.cap_judge.specs.Judgings.{IsBehind, IsLastFront}
 use Rattle.cap_judge.specs.Standings.{Standing, IsAfter, TakesLine, EndsLine, Known, IsRest, IsFaultAt, Taken, BeginsWhole, Stands}
@@ -31,10 +32,12 @@ use Rattle.cap_judge.proofs.StopLemmas.{last_front}
 no_rest : (beginning : Beginning) (rest : List ℕ) (fault : Option Fault) → fault ≡ None → IsRest beginning rest fault → rest ≡ []
 no_rest beginning rest fault none is = subst (IsRest beginning rest) none is
 
-pub all_taken : (known : Known) (bytes : List ℕ) (taken : Taken known bytes) → known.fault ≡ None → bytes ≡ text_of (lines_of taken.beginning)
+pub all_taken : (known : Known) (bytes : List ℕ) (taken : Taken known bytes) → known.fault ≡ None
+    → bytes ≡ text_of (lines_of taken.beginning)
 all_taken known bytes taken none =
     let text = text_of (lines_of taken.beginning) in
-    taken.behind.bytes_are ∙ ap (λ (r : List ℕ). text ++ r) (no_rest taken.beginning taken.rest known.fault none taken.rest_is) ∙ append-nil text
+    taken.behind.bytes_are ∙ ap (λ (r : List ℕ). text ++ r) (no_rest taken.beginning taken.rest known.fault none taken.rest_is)
+    ∙ append-nil text
 
 -- one line more
 pub taken_line : (old new : Known) (bytes line : List ℕ) → old.fault ≡ None → new.fault ≡ None → TakesLine old.standing line new.standing
@@ -45,7 +48,8 @@ taken_line old new bytes line none still takes taken =
       beginning = next.0;
       rest = [];
       behind = record {
-        bytes_are = ap (λ (b : List ℕ). b ++ line) (all_taken old bytes taken none) ∙ sym next.2 ∙ sym (append-nil (text_of (lines_of next.0)));
+        bytes_are =
+            ap (λ (b : List ℕ). b ++ line) (all_taken old bytes taken none) ∙ sym next.2 ∙ sym (append-nil (text_of (lines_of next.0)));
         accepted = accepted_after new.standing next.0 next.1;
       };
       after = next.1;
@@ -53,7 +57,8 @@ taken_line old new bytes line none still takes taken =
     }
 
 -- the first line at fault
-pub taken_fault : (old new : Known) (fault : Fault) (bytes line : List ℕ) → old.fault ≡ None → new.fault ≡ Some fault → new.standing ≡ old.standing
+pub taken_fault : (old new : Known) (fault : Fault) (bytes line : List ℕ) → old.fault ≡ None → new.fault ≡ Some fault
+    → new.standing ≡ old.standing
     → ((beginning : Beginning) → IsAfter old.standing beginning → fault.line ≡ length (lines_of beginning) + 1)
     → IsLastFront line false (bytes_of fault.text) → EndsLine old.standing line (Refused fault.refusal)
     → Taken old bytes → Taken new (bytes ++ line)
@@ -79,7 +84,8 @@ rest_more beginning rest more None some is = absurd (some refl)
 rest_more beginning rest more (Some fault) some is = record {
   line_is = is.line_is;
   front = front_more rest more (bytes_of fault.text) is.front;
-  refused = λ after. subst (λ (r : List ℕ). Refuses beginning r fault.refusal) (sym (append_assoc rest more after)) (is.refused (more ++ after));
+  refused =
+      λ after. subst (λ (r : List ℕ). Refuses beginning r fault.refusal) (sym (append_assoc rest more after)) (is.refused (more ++ after));
 }
 
 pub taken_behind : (known : Known) (bytes line : List ℕ) → (known.fault ≡ None → ⊥) → Taken known bytes → Taken known (bytes ++ line)
@@ -106,7 +112,8 @@ fault_front line text front uncut = last_front line false text front (λ cut. ab
 
 -- no line is at fault
 pub begins : (known : Known) (bytes : List ℕ) → known.fault ≡ None → Taken known bytes → BeginsWhole bytes
-begins known bytes none taken = record { beginning = taken.beginning; bytes_are = all_taken known bytes taken none; accepted = taken.behind.accepted }
+begins known bytes none taken =
+    record { beginning = taken.beginning; bytes_are = all_taken known bytes taken none; accepted = taken.behind.accepted }
 
 -- a line is
 pub first_fault : (known : Known) (fault : Fault) (bytes : List ℕ) → known.fault ≡ Some fault → Taken known bytes
@@ -144,7 +151,14 @@ goes_to_yes Nothing accepted = record {
   more = text_of (lines_of (Whole One [] []));
   steps = 0;
   roots = 0;
-  log = record { rules = One; roots = []; steps = []; log = record { bytes_are = refl; runs = no_roots One }; step_count_is = refl; root_count_is = refl };
+  log = record {
+    rules = One;
+    roots = [];
+    steps = [];
+    log = record { bytes_are = refl; runs = no_roots One };
+    step_count_is = refl;
+    root_count_is = refl;
+  };
 }
 goes_to_yes NoMode accepted = record {
   more = text_of (lines.Mode modes.Strict ∷ lines.End 0 ∷ []);
@@ -201,5 +215,6 @@ pub not_at_fault : (known : Known) (fault : Fault) (bytes : List ℕ) → known.
 not_at_fault known fault bytes some taken begun =
     let on = goes_to_yes begun.beginning begun.accepted in
     let is = subst (λ (b : List ℕ). IsYes (b ++ on.more) on.steps on.roots) (sym begun.bytes_are) on.log in
-    let same = one_verdict (bytes ++ on.more) (Yes on.steps on.roots) (No fault.line fault.refusal) is (first_fault known fault bytes some taken on.more) in
+    let same = one_verdict (bytes ++ on.more) (Yes on.steps on.roots) (No fault.line fault.refusal) is
+    (first_fault known fault bytes some taken on.more) in
     cc

@@ -61,7 +61,8 @@ at_beginning (Whole rules_are roots steps) = refl
 same_place : (bytes : List ℕ) (a b : Beginning) (rest rest' : List ℕ) → IsBehind bytes a rest → IsBehind bytes b rest'
     → length (lines_of a) ≡ length (lines_of b) → (account_before a ≡ account_before b) × (rest ≡ rest')
 same_place bytes a b rest rest' here there long =
-    let same = same_lines (lines_of a) (lines_of b) rest rest' (accepted_in_range a here.accepted) (accepted_in_range b there.accepted) long (sym here.bytes_are ∙ there.bytes_are) in
+    let same = same_lines (lines_of a) (lines_of b) rest rest' (accepted_in_range a here.accepted) (accepted_in_range b there.accepted) long
+    (sym here.bytes_are ∙ there.bytes_are) in
     let read = subst (λ (ls : List Line). Reads Unread ls (stage_of a)) same.0 (accepted_read a here.accepted) in
     let stage = reads_one Unread (lines_of b) (stage_of a) (stage_of b) read (accepted_read b there.accepted) in
     (sym (at_beginning a) ∙ ap account_at stage ∙ at_beginning b, same.1)
@@ -72,7 +73,8 @@ front_more : (rest : List ℕ) (ended : Bool) (text more : List ℕ) → (ended 
 front_more rest ended text more end (inl long) =
     inl (IsTooLong-more rest more long.0, long.1 ∙ sym (take-append-le 96 rest more long.0.0))
 front_more rest ended text more end (inr (inl cut)) =
-    subst (λ (b : List ℕ). IsFrontText b text) (sym (ap (λ (m : List ℕ). rest ++ m) (end cut.1.1) ∙ append-nil rest)) (inr (inl (cut.0, cut.1.0)))
+    subst (λ (b : List ℕ). IsFrontText b text) (sym (ap (λ (m : List ℕ). rest ++ m) (end cut.1.1) ∙ append-nil rest))
+    (inr (inl (cut.0, cut.1.0)))
 front_more rest ended text more end (inr (inr line)) =
     inr (inr (line.0, line.1 ++ more, IsLine-more rest line.0 line.1 more line.2, line.3))
 
@@ -85,7 +87,8 @@ behind_more bytes rest more beginning here = record {
 
 reported_at : (bytes : List ℕ) (line : ℕ) (refusal : Refusal) (beginning : Beginning) (rest text report : List ℕ) (account : Account)
     → (fault : IsFirstFault bytes line refusal) → IsBehind bytes beginning rest → line ≡ length (lines_of beginning) + 1
-    → account ≡ account_before beginning → IsFrontText rest text → IsLineReport account text refusal report → IsReport bytes line refusal report
+    → account ≡ account_before beginning → IsFrontText rest text → IsLineReport account text refusal report
+    → IsReport bytes line refusal report
 reported_at bytes line refusal beginning rest text report account fault here number is front told =
     let there : IsBehind bytes fault.beginning fault.rest = record { bytes_are = fault.bytes_are; accepted = fault.accepted } in
     let counted = fault.number_is in
@@ -99,7 +102,8 @@ reported_at bytes line refusal beginning rest text report account fault here num
 
 -- where a judge stopped, the report of that line is the report of the first fault, whatever bytes follow where the source has not ended
 pub reported : (given : List ℕ) (ended : Bool) (held : Held) (line : ℕ) (refusal : Refusal) (text report : List ℕ)
-    → IsVerdictOf given ended (No line refusal) → StopsBefore given ended held line text → IsLineReport (account_of held) text refusal report
+    → IsVerdictOf given ended (No line refusal) → StopsBefore given ended held line text
+    → IsLineReport (account_of held) text refusal report
     → (more : List ℕ) → (ended ≡ true → more ≡ []) → IsReport (given ++ more) line refusal report
 reported given ended held line refusal text report verdict stops told more end =
     reported_at (given ++ more) line refusal stops.beginning (stops.rest ++ more) text report (account_of held)
@@ -126,13 +130,15 @@ on_err (Ok v) f h = tt
 on_err (Err e) f h = f h
 
 -- the text of a yes, and of a no
-pub why_yes : (origins now : Bool) (held : Held) (text : List ℕ) (verdict : Verdict) (steps roots : ℕ) → verdict ≡ Yes steps roots → origins ≡ now
+pub why_yes : (origins now : Bool) (held : Held) (text : List ℕ) (verdict : Verdict) (steps roots : ℕ)
+    → verdict ≡ Yes steps roots → origins ≡ now
     → IsWhyText origins held text verdict (if now then report_text held verdict else verdict_line verdict)
 why_yes origins now held text verdict steps roots is asked =
     subst (λ (v : Verdict). IsWhyText origins held text v (if now then report_text held v else verdict_line v)) (sym is)
     (ap (λ (b : Bool). if b then report_text held (Yes steps roots) else verdict_line (Yes steps roots)) (sym asked))
 
-pub why_no : (origins : Bool) (held : Held) (text : List ℕ) (verdict : Verdict) (line : ℕ) (refusal : Refusal) (report : List ℕ) → verdict ≡ No line refusal
+pub why_no : (origins : Bool) (held : Held) (text : List ℕ) (verdict : Verdict) (line : ℕ) (refusal : Refusal)
+    (report : List ℕ) → verdict ≡ No line refusal
     → IsLineReport (account_of held) text refusal report → IsWhyText origins held text verdict (verdict_line verdict ++ report)
 why_no origins held text verdict line refusal report is by =
     subst (λ (v : Verdict). IsWhyText origins held text v (verdict_line v ++ report)) (sym is) (report, by, refl)

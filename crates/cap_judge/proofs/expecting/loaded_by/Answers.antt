@@ -11,5 +11,6 @@ pub returns-in-Err : goal.returns-in-Err
 returns-in-Err g c = λ wrong.
     let account = account_of (held_of g.M.TaggedStore.contents c.args.machine.now) in
     let none = load_allowed account c.args.authority c.args.offset c.args.size c.args.value wrong in
-    let found : first_of (access_tests (account.state c.args.authority) LoadData c.args.offset c.args.size) ≡ Some c.in-Err.field-0 = search rules in
+    let found : first_of (access_tests (account.state c.args.authority) LoadData c.args.offset c.args.size) ≡ Some c.in-Err.field-0 =
+    search rules in
     none-some c.in-Err.field-0 (sym none ∙ found)

@@ -8,4 +8,13 @@ unfolding length_of
 returns c =
     let few : c.min.result ≤ 52 = omega (arith, c.min.ensures) in
     few_units (c.from.result + 16384 - c.from-2.result) c.min.result few
-    ∙ rw (c.from.ensures, c.from-2.ensures, c.mantissa.ensures.value, c.min.ensures, c.split-fields.ensures.b, c.split-fields.ensures.t, c.split-fields.ensures.ie, c.split-fields.ensures.e) refl
+    ∙ rw (
+      c.from.ensures,
+      c.from-2.ensures,
+      c.mantissa.ensures.value,
+      c.min.ensures,
+      c.split-fields.ensures.b,
+      c.split-fields.ensures.t,
+      c.split-fields.ensures.ie,
+      c.split-fields.ensures.e,
+    ) refl

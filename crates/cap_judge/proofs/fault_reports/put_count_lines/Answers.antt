@@ -9,4 +9,5 @@ pub returns-clause-written : goal.returns-clause-written
 unfolding count_lines
 returns-clause-written g c =
     let account = account_of (held_of g.M.TaggedStore.contents c.args.machine.now) in
-    let all = three_after (take c.args.at c.args.buffer.now) (text_line (codes "roots") (decimal account.roots)) (text_line (codes "steps") (decimal account.steps)) (text_line (codes "granules") (decimal account.granules)) in cc
+    let all = three_after (take c.args.at c.args.buffer.now) (text_line (codes "roots") (decimal account.roots))
+    (text_line (codes "steps") (decimal account.steps)) (text_line (codes "granules") (decimal account.granules)) in cc

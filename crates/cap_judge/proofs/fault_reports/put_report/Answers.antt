@@ -14,5 +14,6 @@ returns-clause-report g c =
     let d = c.put_details.ensures.written in (
       line_line text ++ d.0,
       record { details = d.0; are = subst (λ (t : List ℕ). AreDetails account t c.args.refusal d.0) is d.1; report_is = refl },
-      d.2 ∙ ap (λ (f : List ℕ). f ++ d.0) c.put_line_line-at.ensures.written ∙ append_assoc front _ d.0 ∙ ap (λ (t : List ℕ). front ++ (line_line t ++ d.0)) is,
+      d.2 ∙ ap (λ (f : List ℕ). f ++ d.0) c.put_line_line-at.ensures.written ∙ append_assoc front _ d.0
+          ∙ ap (λ (t : List ℕ). front ++ (line_line t ++ d.0)) is,
     )

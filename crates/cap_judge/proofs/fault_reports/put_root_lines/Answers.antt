@@ -14,4 +14,5 @@ returns-in_default-clause-written g c =
     let length_line = λ (n : ℕ). text_line (codes "length") (hex_digits 17 n) in
     c.put_hex_line.ensures.written ∙ ap (λ (f : List ℕ). f ++ length_line c.length_of.result) c.put_cap_lines-at.ensures.written
     ∙ append_assoc front caps (length_line c.length_of.result) ∙ ap (λ (n : ℕ). front ++ (caps ++ length_line n)) c.length_of.ensures
-    ∙ ap (λ (l : List ℕ). front ++ l) (sym (root_other (account_of (held_of g.M.TaggedStore.contents c.args.machine.now)) c.args.place c.args.word c.args.refusal c.in_default.not-PlaceTaken))
+    ∙ ap (λ (l : List ℕ). front ++ l) (sym (root_other (account_of (held_of g.M.TaggedStore.contents c.args.machine.now))
+    c.args.place c.args.word c.args.refusal c.in_default.not-PlaceTaken))

@@ -12,102 +12,138 @@ use Rattle.cap_judge.proofs.headers.read_header_keeping.Goals as goal
 pub returns-in-Ok-LineTooLong-clause-read : goal.returns-in-Ok-LineTooLong-clause-read
 returns-in-Ok-LineTooLong-clause-read g c =
     let m = at_version g.S.Source.gave g.S.Source.ended c.args.source.now c.next.new.source _ _ _ _ g.met.S.Source.joined
-    (g.met.S.Source.nothing c.args.source.now) c.requires.fresh (c.next.follows.holds-at-none.0 c.requires.begun) (c.in-Ok-LineTooLong.is ∙ ap Ok c.in-Ok-LineTooLong.field-0-is) in
+    (g.met.S.Source.nothing c.args.source.now) c.requires.fresh (c.next.follows.holds-at-none.0 c.requires.begun)
+    (c.in-Ok-LineTooLong.is ∙ ap Ok c.in-Ok-LineTooLong.field-0-is) in
     let ended = g.S.Source.ended c.next.new.source in
     let text = bytes_of c.no_at-in-Ok-LineTooLong.result.1 in
     let front = subst (λ (b : List ℕ). IsFrontText b text) (c.kept.ensures.value ∙ m.next.2) c.no_at-in-Ok-LineTooLong.ensures.front in
-    as_no g.S.Source.gave g.S.Source.ended c.args.source.now c.next.new.source _ text m.given 1 _ c.no_at-in-Ok-LineTooLong.ensures.answer m.gives (too_long_met Nothing 1 m refl tt)
+    as_no g.S.Source.gave g.S.Source.ended c.args.source.now c.next.new.source _ text m.given 1 _ c.no_at-in-Ok-LineTooLong.ensures.answer
+    m.gives (too_long_met Nothing 1 m refl tt)
     (λ held none. stops_met Nothing 1 held text m refl none (long_front m.rest ended text front m.next.0))
 
 pub returns-in-Ok-Truncated-clause-read : goal.returns-in-Ok-Truncated-clause-read
 returns-in-Ok-Truncated-clause-read g c =
     let m = at_version g.S.Source.gave g.S.Source.ended c.args.source.now c.next.new.source _ _ _ _ g.met.S.Source.joined
-    (g.met.S.Source.nothing c.args.source.now) c.requires.fresh (c.next.follows.holds-at-none.0 c.requires.begun) (c.in-Ok-Truncated.is ∙ ap Ok c.in-Ok-Truncated.field-0-is) in
+    (g.met.S.Source.nothing c.args.source.now) c.requires.fresh (c.next.follows.holds-at-none.0 c.requires.begun)
+    (c.in-Ok-Truncated.is ∙ ap Ok c.in-Ok-Truncated.field-0-is) in
     let ended = g.S.Source.ended c.next.new.source in
     let text = bytes_of c.no_at-in-Ok-Truncated.result.1 in
-    let front = subst (λ (b : List ℕ). IsFrontText b text) (c.kept-in-Ok-Truncated.ensures.value ∙ m.next.4) c.no_at-in-Ok-Truncated.ensures.front in
-    as_no g.S.Source.gave g.S.Source.ended c.args.source.now c.next.new.source _ text m.given 1 _ c.no_at-in-Ok-Truncated.ensures.answer m.gives (truncated_met Nothing 1 m refl tt)
+    let front = subst (λ (b : List ℕ). IsFrontText b text) (c.kept-in-Ok-Truncated.ensures.value ∙ m.next.4)
+    c.no_at-in-Ok-Truncated.ensures.front in
+    as_no g.S.Source.gave g.S.Source.ended c.args.source.now c.next.new.source _ text m.given 1 _ c.no_at-in-Ok-Truncated.ensures.answer
+    m.gives (truncated_met Nothing 1 m refl tt)
     (λ held none. stops_met Nothing 1 held text m refl none (last_front m.rest ended text front (λ cut. m.next.2)))
 
 pub returns-in-Ok-Finished-clause-read : goal.returns-in-Ok-Finished-clause-read
 returns-in-Ok-Finished-clause-read g c =
     let m = at_version g.S.Source.gave g.S.Source.ended c.args.source.now c.next.new.source _ _ _ _ g.met.S.Source.joined
-    (g.met.S.Source.nothing c.args.source.now) c.requires.fresh (c.next.follows.holds-at-none.0 c.requires.begun) (c.in-Ok-Finished.is ∙ ap Ok c.in-Ok-Finished.field-0-is) in
+    (g.met.S.Source.nothing c.args.source.now) c.requires.fresh (c.next.follows.holds-at-none.0 c.requires.begun)
+    (c.in-Ok-Finished.is ∙ ap Ok c.in-Ok-Finished.field-0-is) in
     let ended = g.S.Source.ended c.next.new.source in
     let text = bytes_of c.no_at-in-Ok-Finished.result.1 in
-    let front = subst (λ (b : List ℕ). IsFrontText b text) (c.kept-in-Ok-Finished.ensures.value ∙ m.next.3) c.no_at-in-Ok-Finished.ensures.front in
-    as_no g.S.Source.gave g.S.Source.ended c.args.source.now c.next.new.source _ text m.given 1 _ c.no_at-in-Ok-Finished.ensures.answer m.gives (finished_met Nothing 1 m refl tt)
+    let front = subst (λ (b : List ℕ). IsFrontText b text) (c.kept-in-Ok-Finished.ensures.value ∙ m.next.3)
+    c.no_at-in-Ok-Finished.ensures.front in
+    as_no g.S.Source.gave g.S.Source.ended c.args.source.now c.next.new.source _ text m.given 1 _ c.no_at-in-Ok-Finished.ensures.answer
+    m.gives (finished_met Nothing 1 m refl tt)
     (λ held none. stops_met Nothing 1 held text m refl none (last_front m.rest ended text front (λ cut. m.next.1)))
 
 pub returns-in-None-clause-read : goal.returns-in-None-clause-read
 returns-in-None-clause-read g c =
     let m = at_version g.S.Source.gave g.S.Source.ended c.args.source.now c.next.new.source _ _ _ _ g.met.S.Source.joined
-    (g.met.S.Source.nothing c.args.source.now) c.requires.fresh (c.next.follows.holds-at-none.0 c.requires.begun) (c.in-Ok-Line.is ∙ ap Ok c.in-Ok-Line.field-0-is) in
+    (g.met.S.Source.nothing c.args.source.now) c.requires.fresh (c.next.follows.holds-at-none.0 c.requires.begun)
+    (c.in-Ok-Line.is ∙ ap Ok c.in-Ok-Line.field-0-is) in
     let ended = g.S.Source.ended c.next.new.source in
     let text = bytes_of c.no_at.result.1 in
-    as_no g.S.Source.gave g.S.Source.ended c.args.source.now c.next.new.source _ text m.given 1 _ c.no_at.ensures.answer m.gives (line_met Nothing 1 c.in-Ok-Line.text _ m refl tt (c.in-None.ensures.none, refl))
-    (λ held none. stops_met Nothing 1 held text m refl none (lent_front m.rest c.in-Ok-Line.text.now _ ended text c.no_at.ensures.front m.next.0))
+    as_no g.S.Source.gave g.S.Source.ended c.args.source.now c.next.new.source _ text m.given 1 _ c.no_at.ensures.answer m.gives
+    (line_met Nothing 1 c.in-Ok-Line.text _ m refl tt (c.in-None.ensures.none, refl))
+    (λ held none. stops_met Nothing 1 held text m refl none (lent_front m.rest c.in-Ok-Line.text.now _ ended text
+    c.no_at.ensures.front m.next.0))
 
 pub returns-in-Ok-LineTooLong-next-clause-read : goal.returns-in-Ok-LineTooLong-next-clause-read
 returns-in-Ok-LineTooLong-next-clause-read g c =
     let first = at_version g.S.Source.gave g.S.Source.ended c.args.source.now c.next.new.source _ _ _ _ g.met.S.Source.joined
-    (g.met.S.Source.nothing c.args.source.now) c.requires.fresh (c.next.follows.holds-at-none.0 c.requires.begun) (c.in-Ok-Line.is ∙ ap Ok c.in-Ok-Line.field-0-is) in
-    let m = at_mode g.S.Source.gave g.S.Source.ended c.args.source.now c.next.new.source c.next-2.new.source _ _ c.in-Ok-Line.text c.in-Some.version _ _ g.met.S.Source.joined
-    first c.in-Some.ensures.some c.if-version-eq1.false c.next-2.follows.holds-at-none.0 (c.in-Ok-LineTooLong-next.is ∙ ap Ok c.in-Ok-LineTooLong-next.field-0-is) in
+    (g.met.S.Source.nothing c.args.source.now) c.requires.fresh (c.next.follows.holds-at-none.0 c.requires.begun)
+    (c.in-Ok-Line.is ∙ ap Ok c.in-Ok-Line.field-0-is) in
+    let m = at_mode g.S.Source.gave g.S.Source.ended c.args.source.now c.next.new.source c.next-2.new.source _ _ c.in-Ok-Line.text
+    c.in-Some.version _ _ g.met.S.Source.joined
+    first c.in-Some.ensures.some c.if-version-eq1.false c.next-2.follows.holds-at-none.0
+    (c.in-Ok-LineTooLong-next.is ∙ ap Ok c.in-Ok-LineTooLong-next.field-0-is) in
     let ended = g.S.Source.ended c.next-2.new.source in
     let text = bytes_of c.no_at-in-Ok-LineTooLong-next.result.1 in
-    let front = subst (λ (b : List ℕ). IsFrontText b text) (c.kept-in-Ok-LineTooLong-next.ensures.value ∙ m.next.2) c.no_at-in-Ok-LineTooLong-next.ensures.front in
-    as_no g.S.Source.gave g.S.Source.ended c.args.source.now c.next-2.new.source _ text m.given 2 _ c.no_at-in-Ok-LineTooLong-next.ensures.answer m.gives (too_long_met NoMode 2 m refl tt)
+    let front = subst (λ (b : List ℕ). IsFrontText b text) (c.kept-in-Ok-LineTooLong-next.ensures.value ∙ m.next.2)
+    c.no_at-in-Ok-LineTooLong-next.ensures.front in
+    as_no g.S.Source.gave g.S.Source.ended c.args.source.now c.next-2.new.source _ text m.given 2 _
+    c.no_at-in-Ok-LineTooLong-next.ensures.answer m.gives (too_long_met NoMode 2 m refl tt)
     (λ held none. stops_met NoMode 2 held text m refl none (long_front m.rest ended text front m.next.0))
 
 pub returns-in-Ok-Truncated-next-clause-read : goal.returns-in-Ok-Truncated-next-clause-read
 returns-in-Ok-Truncated-next-clause-read g c =
     let first = at_version g.S.Source.gave g.S.Source.ended c.args.source.now c.next.new.source _ _ _ _ g.met.S.Source.joined
-    (g.met.S.Source.nothing c.args.source.now) c.requires.fresh (c.next.follows.holds-at-none.0 c.requires.begun) (c.in-Ok-Line.is ∙ ap Ok c.in-Ok-Line.field-0-is) in
-    let m = at_mode g.S.Source.gave g.S.Source.ended c.args.source.now c.next.new.source c.next-2.new.source _ _ c.in-Ok-Line.text c.in-Some.version _ _ g.met.S.Source.joined
-    first c.in-Some.ensures.some c.if-version-eq1.false c.next-2.follows.holds-at-none.0 (c.in-Ok-Truncated-next.is ∙ ap Ok c.in-Ok-Truncated-next.field-0-is) in
+    (g.met.S.Source.nothing c.args.source.now) c.requires.fresh (c.next.follows.holds-at-none.0 c.requires.begun)
+    (c.in-Ok-Line.is ∙ ap Ok c.in-Ok-Line.field-0-is) in
+    let m = at_mode g.S.Source.gave g.S.Source.ended c.args.source.now c.next.new.source c.next-2.new.source _ _ c.in-Ok-Line.text
+    c.in-Some.version _ _ g.met.S.Source.joined
+    first c.in-Some.ensures.some c.if-version-eq1.false c.next-2.follows.holds-at-none.0
+    (c.in-Ok-Truncated-next.is ∙ ap Ok c.in-Ok-Truncated-next.field-0-is) in
     let ended = g.S.Source.ended c.next-2.new.source in
     let text = bytes_of c.no_at-in-Ok-Truncated-next.result.1 in
-    let front = subst (λ (b : List ℕ). IsFrontText b text) (c.kept-in-Ok-Truncated-next.ensures.value ∙ m.next.4) c.no_at-in-Ok-Truncated-next.ensures.front in
-    as_no g.S.Source.gave g.S.Source.ended c.args.source.now c.next-2.new.source _ text m.given 2 _ c.no_at-in-Ok-Truncated-next.ensures.answer m.gives (truncated_met NoMode 2 m refl tt)
+    let front = subst (λ (b : List ℕ). IsFrontText b text) (c.kept-in-Ok-Truncated-next.ensures.value ∙ m.next.4)
+    c.no_at-in-Ok-Truncated-next.ensures.front in
+    as_no g.S.Source.gave g.S.Source.ended c.args.source.now c.next-2.new.source _ text m.given 2 _
+    c.no_at-in-Ok-Truncated-next.ensures.answer m.gives (truncated_met NoMode 2 m refl tt)
     (λ held none. stops_met NoMode 2 held text m refl none (last_front m.rest ended text front (λ cut. m.next.2)))
 
 pub returns-in-Ok-Finished-next-clause-read : goal.returns-in-Ok-Finished-next-clause-read
 returns-in-Ok-Finished-next-clause-read g c =
     let first = at_version g.S.Source.gave g.S.Source.ended c.args.source.now c.next.new.source _ _ _ _ g.met.S.Source.joined
-    (g.met.S.Source.nothing c.args.source.now) c.requires.fresh (c.next.follows.holds-at-none.0 c.requires.begun) (c.in-Ok-Line.is ∙ ap Ok c.in-Ok-Line.field-0-is) in
-    let m = at_mode g.S.Source.gave g.S.Source.ended c.args.source.now c.next.new.source c.next-2.new.source _ _ c.in-Ok-Line.text c.in-Some.version _ _ g.met.S.Source.joined
-    first c.in-Some.ensures.some c.if-version-eq1.false c.next-2.follows.holds-at-none.0 (c.in-Ok-Finished-next.is ∙ ap Ok c.in-Ok-Finished-next.field-0-is) in
+    (g.met.S.Source.nothing c.args.source.now) c.requires.fresh (c.next.follows.holds-at-none.0 c.requires.begun)
+    (c.in-Ok-Line.is ∙ ap Ok c.in-Ok-Line.field-0-is) in
+    let m = at_mode g.S.Source.gave g.S.Source.ended c.args.source.now c.next.new.source c.next-2.new.source _ _ c.in-Ok-Line.text
+    c.in-Some.version _ _ g.met.S.Source.joined
+    first c.in-Some.ensures.some c.if-version-eq1.false c.next-2.follows.holds-at-none.0
+    (c.in-Ok-Finished-next.is ∙ ap Ok c.in-Ok-Finished-next.field-0-is) in
     let ended = g.S.Source.ended c.next-2.new.source in
     let text = bytes_of c.no_at-in-Ok-Finished-next.result.1 in
-    let front = subst (λ (b : List ℕ). IsFrontText b text) (c.kept-in-Ok-Finished-next.ensures.value ∙ m.next.3) c.no_at-in-Ok-Finished-next.ensures.front in
-    as_no g.S.Source.gave g.S.Source.ended c.args.source.now c.next-2.new.source _ text m.given 2 _ c.no_at-in-Ok-Finished-next.ensures.answer m.gives (finished_met NoMode 2 m refl tt)
+    let front = subst (λ (b : List ℕ). IsFrontText b text) (c.kept-in-Ok-Finished-next.ensures.value ∙ m.next.3)
+    c.no_at-in-Ok-Finished-next.ensures.front in
+    as_no g.S.Source.gave g.S.Source.ended c.args.source.now c.next-2.new.source _ text m.given 2 _
+    c.no_at-in-Ok-Finished-next.ensures.answer m.gives (finished_met NoMode 2 m refl tt)
     (λ held none. stops_met NoMode 2 held text m refl none (last_front m.rest ended text front (λ cut. m.next.1)))
 
 pub returns-in-None-mode_of-clause-read : goal.returns-in-None-mode_of-clause-read
 returns-in-None-mode_of-clause-read g c =
     let first = at_version g.S.Source.gave g.S.Source.ended c.args.source.now c.next.new.source _ _ _ _ g.met.S.Source.joined
-    (g.met.S.Source.nothing c.args.source.now) c.requires.fresh (c.next.follows.holds-at-none.0 c.requires.begun) (c.in-Ok-Line.is ∙ ap Ok c.in-Ok-Line.field-0-is) in
-    let m = at_mode g.S.Source.gave g.S.Source.ended c.args.source.now c.next.new.source c.next-2.new.source _ _ c.in-Ok-Line.text c.in-Some.version _ _ g.met.S.Source.joined
-    first c.in-Some.ensures.some c.if-version-eq1.false c.next-2.follows.holds-at-none.0 (c.in-Ok-Line-next.is ∙ ap Ok c.in-Ok-Line-next.field-0-is) in
+    (g.met.S.Source.nothing c.args.source.now) c.requires.fresh (c.next.follows.holds-at-none.0 c.requires.begun)
+    (c.in-Ok-Line.is ∙ ap Ok c.in-Ok-Line.field-0-is) in
+    let m = at_mode g.S.Source.gave g.S.Source.ended c.args.source.now c.next.new.source c.next-2.new.source _ _ c.in-Ok-Line.text
+    c.in-Some.version _ _ g.met.S.Source.joined
+    first c.in-Some.ensures.some c.if-version-eq1.false c.next-2.follows.holds-at-none.0
+    (c.in-Ok-Line-next.is ∙ ap Ok c.in-Ok-Line-next.field-0-is) in
     let ended = g.S.Source.ended c.next-2.new.source in
     let text = bytes_of c.no_at-in-None-mode_of.result.1 in
-    as_no g.S.Source.gave g.S.Source.ended c.args.source.now c.next-2.new.source _ text m.given 2 _ c.no_at-in-None-mode_of.ensures.answer m.gives (line_met NoMode 2 c.in-Ok-Line-next.text _ m refl tt (c.in-None-mode_of.ensures.none, refl))
-    (λ held none. stops_met NoMode 2 held text m refl none (lent_front m.rest c.in-Ok-Line-next.text.now _ ended text c.no_at-in-None-mode_of.ensures.front m.next.0))
+    as_no g.S.Source.gave g.S.Source.ended c.args.source.now c.next-2.new.source _ text m.given 2 _ c.no_at-in-None-mode_of.ensures.answer
+    m.gives (line_met NoMode 2 c.in-Ok-Line-next.text _ m refl tt (c.in-None-mode_of.ensures.none, refl))
+    (λ held none. stops_met NoMode 2 held text m refl none (lent_front m.rest c.in-Ok-Line-next.text.now _ ended text
+    c.no_at-in-None-mode_of.ensures.front m.next.0))
 
 pub returns-then-version-eq1-clause-read : goal.returns-then-version-eq1-clause-read
 returns-then-version-eq1-clause-read g c =
     let m = at_version g.S.Source.gave g.S.Source.ended c.args.source.now c.next.new.source _ _ _ _ g.met.S.Source.joined
-    (g.met.S.Source.nothing c.args.source.now) c.requires.fresh (c.next.follows.holds-at-none.0 c.requires.begun) (c.in-Ok-Line.is ∙ ap Ok c.in-Ok-Line.field-0-is) in
+    (g.met.S.Source.nothing c.args.source.now) c.requires.fresh (c.next.follows.holds-at-none.0 c.requires.begun)
+    (c.in-Ok-Line.is ∙ ap Ok c.in-Ok-Line.field-0-is) in
     read_one c.in-Ok-Line.text m (subst (λ (v : ℕ). Spells c.in-Ok-Line.text.now (Version v)) c.if-version-eq1.true c.in-Some.ensures.some)
 
 pub returns-in-Some-mode_of-clause-read : goal.returns-in-Some-mode_of-clause-read
 returns-in-Some-mode_of-clause-read g c =
     let first = at_version g.S.Source.gave g.S.Source.ended c.args.source.now c.next.new.source _ _ _ _ g.met.S.Source.joined
-    (g.met.S.Source.nothing c.args.source.now) c.requires.fresh (c.next.follows.holds-at-none.0 c.requires.begun) (c.in-Ok-Line.is ∙ ap Ok c.in-Ok-Line.field-0-is) in
-    let m = at_mode g.S.Source.gave g.S.Source.ended c.args.source.now c.next.new.source c.next-2.new.source _ _ c.in-Ok-Line.text c.in-Some.version _ _ g.met.S.Source.joined
-    first c.in-Some.ensures.some c.if-version-eq1.false c.next-2.follows.holds-at-none.0 (c.in-Ok-Line-next.is ∙ ap Ok c.in-Ok-Line-next.field-0-is) in
-    subst (λ rules. ReadsHeader g.S.Source.gave c.args.source.now c.next-2.new.source c.next-2.follows.lender-at-none rules) (sym c.rules_of.ensures)
+    (g.met.S.Source.nothing c.args.source.now) c.requires.fresh (c.next.follows.holds-at-none.0 c.requires.begun)
+    (c.in-Ok-Line.is ∙ ap Ok c.in-Ok-Line.field-0-is) in
+    let m = at_mode g.S.Source.gave g.S.Source.ended c.args.source.now c.next.new.source c.next-2.new.source _ _ c.in-Ok-Line.text
+    c.in-Some.version _ _ g.met.S.Source.joined
+    first c.in-Some.ensures.some c.if-version-eq1.false c.next-2.follows.holds-at-none.0
+    (c.in-Ok-Line-next.is ∙ ap Ok c.in-Ok-Line-next.field-0-is) in
+    subst (λ rules. ReadsHeader g.S.Source.gave c.args.source.now c.next-2.new.source c.next-2.follows.lender-at-none rules)
+    (sym c.rules_of.ensures)
     (read_two c.in-Ok-Line-next.text c.in-Some-mode_of.mode m c.in-Some-mode_of.ensures.some)
 
 pub returns-in-Err-clause-read : goal.returns-in-Err-clause-read
@@ -116,16 +152,20 @@ returns-in-Err-clause-read g c =
     (g.met.S.Source.nothing c.args.source.now) c.requires.fresh (c.next.follows.holds-at-none.0 c.requires.begun) (c.in-Err.is) in (
       tt,
       record { given = m.given; gives = m.gives; answer = pulled Nothing 1 m },
-      λ held none. judged_no g.S.Source.gave g.S.Source.ended c.args.source.now c.next.new.source held _ m.given _ _ refl tt m.gives (pulled Nothing 1 m) tt,
+      λ held none. judged_no g.S.Source.gave g.S.Source.ended c.args.source.now c.next.new.source held _ m.given _ _ refl tt
+          m.gives (pulled Nothing 1 m) tt,
     )
 
 pub returns-in-Err-next-clause-read : goal.returns-in-Err-next-clause-read
 returns-in-Err-next-clause-read g c =
     let first = at_version g.S.Source.gave g.S.Source.ended c.args.source.now c.next.new.source _ _ _ _ g.met.S.Source.joined
-    (g.met.S.Source.nothing c.args.source.now) c.requires.fresh (c.next.follows.holds-at-none.0 c.requires.begun) (c.in-Ok-Line.is ∙ ap Ok c.in-Ok-Line.field-0-is) in
-    let m = at_mode g.S.Source.gave g.S.Source.ended c.args.source.now c.next.new.source c.next-2.new.source _ _ c.in-Ok-Line.text c.in-Some.version _ _ g.met.S.Source.joined
+    (g.met.S.Source.nothing c.args.source.now) c.requires.fresh (c.next.follows.holds-at-none.0 c.requires.begun)
+    (c.in-Ok-Line.is ∙ ap Ok c.in-Ok-Line.field-0-is) in
+    let m = at_mode g.S.Source.gave g.S.Source.ended c.args.source.now c.next.new.source c.next-2.new.source _ _ c.in-Ok-Line.text
+    c.in-Some.version _ _ g.met.S.Source.joined
     first c.in-Some.ensures.some c.if-version-eq1.false c.next-2.follows.holds-at-none.0 (c.in-Err-next.is) in (
       tt,
       record { given = m.given; gives = m.gives; answer = pulled NoMode 2 m },
-      λ held none. judged_no g.S.Source.gave g.S.Source.ended c.args.source.now c.next-2.new.source held _ m.given _ _ refl tt m.gives (pulled NoMode 2 m) tt,
+      λ held none. judged_no g.S.Source.gave g.S.Source.ended c.args.source.now c.next-2.new.source held _ m.given _ _ refl tt
+          m.gives (pulled NoMode 2 m) tt,
     )

@@ -5,5 +5,6 @@ use Rattle.cap_judge.proofs.headers.version_of.Goals as goal
 pub returns-in_default : goal.returns-in_default
 returns-in_default c = record {
   some = tt;
-  none = λ version spells. c.in_default.not-Version version (one_spelling c.args.text.now c.in-Some.line (Version version) c.in-Some.ensures.some spells);
+  none = λ version spells. c.in_default.not-Version version (one_spelling c.args.text.now c.in-Some.line (Version version)
+      c.in-Some.ensures.some spells);
 }

@@ -9,7 +9,8 @@ use Rattle.cap_judge.proofs.judging.judge_bytes.Goals as goal
 both : (c : goal.After-judge) → IfOk c.judge.result (IsVerdict c.args.bytes.now) × IfErr c.judge.result (IsFault c.args.bytes.now)
 both c =
     let judged = c.judge.ensures.judged in
-    of_all c.args.bytes.now judged.given c.judge.new.source.rest.now c.judge.new.source.is_ended c.judge.result (search rules) c.judge.new.source.all_given judged.answer
+    of_all c.args.bytes.now judged.given c.judge.new.source.rest.now c.judge.new.source.is_ended c.judge.result (search rules)
+    c.judge.new.source.all_given judged.answer
     (λ e. let grew = c.judge.ensures.fault_counted e in omega (arith, grew))
 
 pub returns-clause-verdict : goal.returns-clause-verdict

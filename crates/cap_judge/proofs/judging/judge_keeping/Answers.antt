@@ -6,14 +6,16 @@ use Rattle.cap_judge.proofs.judging.judge_keeping.Goals as goal
 pub judge_rest-answer-requires-clause-here : goal.judge_rest-answer-requires-clause-here
 judge_rest-answer-requires-clause-here g c = (
   c.args.source.now,
-  at_body g.S.Source.gave c.args.source.now c.read_header_keeping.new.source _ c.in-Ok.rules (reading_of g.M.TaggedStore.contents c.new-progress.result)
+  at_body g.S.Source.gave c.args.source.now c.read_header_keeping.new.source _ c.in-Ok.rules
+      (reading_of g.M.TaggedStore.contents c.new-progress.result)
       c.first_line.result c.in-Ok.ensures.read c.new-progress.ensures c.first_line.ensures,
 )
 
 pub returns-in-Ok-clause-judged : goal.returns-in-Ok-clause-judged
 returns-in-Ok-clause-judged g c =
     c.judge_rest-answer.ensures.judged c.args.source.now
-    (at_body g.S.Source.gave c.args.source.now c.read_header_keeping.new.source _ c.in-Ok.rules (reading_of g.M.TaggedStore.contents c.new-progress.result)
+    (at_body g.S.Source.gave c.args.source.now c.read_header_keeping.new.source _ c.in-Ok.rules
+    (reading_of g.M.TaggedStore.contents c.new-progress.result)
     c.first_line.result c.in-Ok.ensures.read c.new-progress.ensures c.first_line.ensures)
 
 pub returns-in-Err-clause-judged : goal.returns-in-Err-clause-judged

@@ -6,16 +6,19 @@ use Rattle.cap_judge.proofs.origins.push_origins.Goals as goal
 pub returns-in-Ok-clause-ok : goal.returns-in-Ok-clause-ok
 returns-in-Ok-clause-ok g c =
     let held = held_of g.M.TaggedStore.contents c.args.machine.now in
-    both_ok g.K.Sink.took c.args.sink.now c.push_registers.new.sink c.push_granules.new.sink g.met.K.Sink.joined _ _ _ (sym (lines_split (account_of held).origin 1 31 (2 ^ 60)))
+    both_ok g.K.Sink.took c.args.sink.now c.push_registers.new.sink c.push_granules.new.sink g.met.K.Sink.joined _ _ _
+    (sym (lines_split (account_of held).origin 1 31 (2 ^ 60)))
     c.push_granules.result c.in-Ok.ensures.ok c.push_granules.ensures.ok
 
 pub returns-in-Ok-clause-err : goal.returns-in-Ok-clause-err
 returns-in-Ok-clause-err g c =
     let held = held_of g.M.TaggedStore.contents c.args.machine.now in
-    both_err g.K.Sink.took c.args.sink.now c.push_registers.new.sink c.push_granules.new.sink g.met.K.Sink.joined _ _ _ (sym (lines_split (account_of held).origin 1 31 (2 ^ 60)))
+    both_err g.K.Sink.took c.args.sink.now c.push_registers.new.sink c.push_granules.new.sink g.met.K.Sink.joined _ _ _
+    (sym (lines_split (account_of held).origin 1 31 (2 ^ 60)))
     c.push_granules.result c.in-Ok.ensures.ok c.push_granules.ensures.err
 
 pub returns-in-Err-clause-err : goal.returns-in-Err-clause-err
 returns-in-Err-clause-err g c =
     let held = held_of g.M.TaggedStore.contents c.args.machine.now in
-    first_err (g.K.Sink.took c.args.sink.now c.push_registers.new.sink) _ _ _ (sym (lines_split (account_of held).origin 1 31 (2 ^ 60))) c.in-Err.ensures.err
+    first_err (g.K.Sink.took c.args.sink.now c.push_registers.new.sink) _ _ _
+    (sym (lines_split (account_of held).origin 1 31 (2 ^ 60))) c.in-Err.ensures.err

@@ -5,7 +5,8 @@ use Rattle.cap_judge.proofs.origins.push_registers.Goals as goal
 
 pub loop-number-init : goal.loop-number-init
 loop-number-init g c = record {
-  taken = subst (λ text. g.K.Sink.took c.args.sink.now c.args.sink.now text) (no_lines (account_of (held_of g.M.TaggedStore.contents c.args.machine.now)).origin 1) (g.met.K.Sink.nothing c.args.sink.now);
+  taken = subst (λ text. g.K.Sink.took c.args.sink.now c.args.sink.now text)
+      (no_lines (account_of (held_of g.M.TaggedStore.contents c.args.machine.now)).origin 1) (g.met.K.Sink.nothing c.args.sink.now);
   counted = refl;
 }
 
@@ -31,7 +32,9 @@ loop-number-preserved g c =
     let here : number ≡ 1 + (number - 1) = omega arith in
     let more : number + 1 - 1 ≡ (number - 1) + 1 = omega arith in
     record {
-      taken = subst (λ text. g.K.Sink.took c.args.sink.now c.push_place.new.sink text) (one_more origins 1 (number - 1) number (number + 1 - 1) here more)
-          (g.met.K.Sink.joined c.args.sink.now c.loop-number.sink c.push_place.new.sink _ _ c.loop-number.invariant.taken c.in_default.ensures.ok);
+      taken = subst (λ text. g.K.Sink.took c.args.sink.now c.push_place.new.sink text)
+          (one_more origins 1 (number - 1) number (number + 1 - 1) here more)
+          (g.met.K.Sink.joined c.args.sink.now c.loop-number.sink c.push_place.new.sink _ _
+          c.loop-number.invariant.taken c.in_default.ensures.ok);
       counted = c.in_default.ensures.counted ∙ c.loop-number.invariant.counted;
     }

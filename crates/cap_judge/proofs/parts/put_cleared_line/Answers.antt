@@ -7,4 +7,5 @@ use Rattle.cap_judge.proofs.parts.put_cleared_line.Goals as goal
 pub returns-clause-written : goal.returns-clause-written
 unfolding cleared_line
 returns-clause-written c =
-    let all = five_after (take c.args.at c.args.buffer.now) (codes "cleared ") (decimal (refusal_number c.args.refusal)) (codes " ") (name_of c.args.refusal) (codes "\n") in cc
+    let all = five_after (take c.args.at c.args.buffer.now) (codes "cleared ") (decimal (refusal_number c.args.refusal)) (codes " ")
+    (name_of c.args.refusal) (codes "\n") in cc

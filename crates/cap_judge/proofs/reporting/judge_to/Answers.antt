@@ -7,7 +7,11 @@ returns-in-Err-NoMemory-clause-reported g c =
     let judged = c.in-Err-NoMemory.ensures.judged in record {
       given = judged.given;
       gives = judged.gives;
-      explanation = (subst (λ fault. IsAnswerOf judged.given (g.S.Source.ended c.judge.new.source) (Err fault)) c.in-Err-NoMemory.field-0-is judged.answer, g.met.K.Sink.nothing c.args.sink.now);
+      explanation = (
+        subst (λ fault. IsAnswerOf judged.given (g.S.Source.ended c.judge.new.source) (Err fault))
+            c.in-Err-NoMemory.field-0-is judged.answer,
+        g.met.K.Sink.nothing c.args.sink.now,
+      );
     }
 
 pub returns-in-Err-NoMemory-clause-counted : goal.returns-in-Err-NoMemory-clause-counted

@@ -7,8 +7,10 @@ use Rattle.cap_judge.proofs.by_lines.Judge.expected.Goals as goal
 
 pub returns-in-WrongResult : goal.returns-in-WrongResult
 returns-in-WrongResult g c = λ bytes taken.
-    wrong_result (known_of g.M.TaggedStore.contents c.args.self.now) c.in-Some.fault bytes c.expected.result c.in-Some.is c.in-WrongResult.is
-    (λ reading is. subst (λ t. GivesForText (account_of reading.held) t c.expected.result) c.as_slice.ensures.value (c.expected.ensures reading is)) taken
+    wrong_result (known_of g.M.TaggedStore.contents c.args.self.now) c.in-Some.fault bytes c.expected.result
+    c.in-Some.is c.in-WrongResult.is
+    (λ reading is. subst (λ t. GivesForText (account_of reading.held) t c.expected.result) c.as_slice.ensures.value
+    (c.expected.ensures reading is)) taken
 
 pub returns-in_default : goal.returns-in_default
 returns-in_default g c = λ bytes taken.

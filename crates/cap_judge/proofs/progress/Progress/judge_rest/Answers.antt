@@ -25,69 +25,84 @@ returns-in-Err-next-clause-judged g c = λ begun was.
     let here = later_read g.S.Source.gave begun c.lines.source _ _ _ _ _ _ c.in-Ok.ensures.ok (c.lines.invariant.here begun was) in
     let m = meets_at g.S.Source.gave g.S.Source.ended begun c.lines.source c.next.new.source reading c.in-Ok.next _ _ _ _
     g.met.S.Source.joined here (c.next.follows.holds-at-none.0 (c.take_kept.ensures.over ∙ c.lines.invariant.more)) (c.in-Err-next.is) in
-    judged_no g.S.Source.gave g.S.Source.ended begun c.next.new.source reading.held _ m.given _ _ refl tt m.gives (pulled here.2.beginning c.in-Ok.next m) tt
+    judged_no g.S.Source.gave g.S.Source.ended begun c.next.new.source reading.held _ m.given _ _ refl tt m.gives
+    (pulled here.2.beginning c.in-Ok.next m) tt
 
 pub returns-in-Ok-Finished-clause-judged : goal.returns-in-Ok-Finished-clause-judged
 returns-in-Ok-Finished-clause-judged g c = λ begun was.
     let reading = reading_of g.M.TaggedStore.contents c.take_kept.new.self in
     let here = later_read g.S.Source.gave begun c.lines.source _ _ _ _ _ _ c.in-Ok.ensures.ok (c.lines.invariant.here begun was) in
     let m = meets_at g.S.Source.gave g.S.Source.ended begun c.lines.source c.next.new.source reading c.in-Ok.next _ _ _ _
-    g.met.S.Source.joined here (c.next.follows.holds-at-none.0 (c.take_kept.ensures.over ∙ c.lines.invariant.more)) (c.in-Ok-Finished.is ∙ ap Ok c.in-Ok-Finished.field-0-is) in
+    g.met.S.Source.joined here (c.next.follows.holds-at-none.0 (c.take_kept.ensures.over ∙ c.lines.invariant.more))
+    (c.in-Ok-Finished.is ∙ ap Ok c.in-Ok-Finished.field-0-is) in
     let ended = g.S.Source.ended c.next.new.source in
     let text = bytes_of c.of-self.result in
     let at = at_met here.0 _ reading c.in-Ok.next here.2 m in
     let front = subst (λ (b : List ℕ). IsFrontText b text) (c.kept.ensures.value ∙ m.next.3) c.of-self.ensures in
     let known = finished_at here.0 _ reading c.in-Ok.next c.take_kept.new.self.ended refl here.2 m in
-    judged_by g.S.Source.gave g.S.Source.ended begun c.next.new.source reading.held text m.given _ _ (ap Ok c.finished_verdict.ensures) m.gives known.0 known.1
-    (stops_finished m.given ended reading.held c.in-Ok.next text c.take_kept.new.self.ended _ _ (stops m.given ended reading.held c.in-Ok.next text m.rest reading at refl (last_front m.rest ended text front (λ cut. m.next.1))))
+    judged_by g.S.Source.gave g.S.Source.ended begun c.next.new.source reading.held text m.given _ _
+    (ap Ok c.finished_verdict.ensures) m.gives known.0 known.1
+    (stops_finished m.given ended reading.held c.in-Ok.next text c.take_kept.new.self.ended _ _
+    (stops m.given ended reading.held c.in-Ok.next text m.rest reading at refl (last_front m.rest ended text front (λ cut. m.next.1))))
 
 pub returns-in-Ok-Truncated-clause-judged : goal.returns-in-Ok-Truncated-clause-judged
 returns-in-Ok-Truncated-clause-judged g c = λ begun was.
     let reading = reading_of g.M.TaggedStore.contents c.take_kept.new.self in
     let here = later_read g.S.Source.gave begun c.lines.source _ _ _ _ _ _ c.in-Ok.ensures.ok (c.lines.invariant.here begun was) in
     let m = meets_at g.S.Source.gave g.S.Source.ended begun c.lines.source c.next.new.source reading c.in-Ok.next _ _ _ _
-    g.met.S.Source.joined here (c.next.follows.holds-at-none.0 (c.take_kept.ensures.over ∙ c.lines.invariant.more)) (c.in-Ok-Truncated.is ∙ ap Ok c.in-Ok-Truncated.field-0-is) in
+    g.met.S.Source.joined here (c.next.follows.holds-at-none.0 (c.take_kept.ensures.over ∙ c.lines.invariant.more))
+    (c.in-Ok-Truncated.is ∙ ap Ok c.in-Ok-Truncated.field-0-is) in
     let ended = g.S.Source.ended c.next.new.source in
     let text = bytes_of c.of-self-in-Ok-Truncated.result in
     let at = at_met here.0 _ reading c.in-Ok.next here.2 m in
-    let front = subst (λ (b : List ℕ). IsFrontText b text) (c.kept-in-Ok-Truncated.ensures.value ∙ m.next.4) c.of-self-in-Ok-Truncated.ensures in
-    judged_no g.S.Source.gave g.S.Source.ended begun c.next.new.source reading.held text m.given _ _ (ap Ok c.refused.ensures) (no_refused c.in-Ok.next c.take_kept.new.self.ended Truncated)
+    let front = subst (λ (b : List ℕ). IsFrontText b text) (c.kept-in-Ok-Truncated.ensures.value ∙ m.next.4)
+    c.of-self-in-Ok-Truncated.ensures in
+    judged_no g.S.Source.gave g.S.Source.ended begun c.next.new.source reading.held text m.given _ _ (ap Ok c.refused.ensures)
+    (no_refused c.in-Ok.next c.take_kept.new.self.ended Truncated)
     m.gives (truncated_at here.0 _ reading c.in-Ok.next c.take_kept.new.self.ended refl here.2 m)
-    (stops_refused m.given ended reading.held c.in-Ok.next text c.take_kept.new.self.ended Truncated (stops m.given ended reading.held c.in-Ok.next text m.rest reading at refl (last_front m.rest ended text front (λ cut. m.next.2))))
+    (stops_refused m.given ended reading.held c.in-Ok.next text c.take_kept.new.self.ended Truncated
+    (stops m.given ended reading.held c.in-Ok.next text m.rest reading at refl (last_front m.rest ended text front (λ cut. m.next.2))))
 
 pub returns-in-Ok-LineTooLong-clause-judged : goal.returns-in-Ok-LineTooLong-clause-judged
 returns-in-Ok-LineTooLong-clause-judged g c = λ begun was.
     let reading = reading_of g.M.TaggedStore.contents c.take_kept.new.self in
     let here = later_read g.S.Source.gave begun c.lines.source _ _ _ _ _ _ c.in-Ok.ensures.ok (c.lines.invariant.here begun was) in
     let m = meets_at g.S.Source.gave g.S.Source.ended begun c.lines.source c.next.new.source reading c.in-Ok.next _ _ _ _
-    g.met.S.Source.joined here (c.next.follows.holds-at-none.0 (c.take_kept.ensures.over ∙ c.lines.invariant.more)) (c.in-Ok-LineTooLong.is ∙ ap Ok c.in-Ok-LineTooLong.field-0-is) in
+    g.met.S.Source.joined here (c.next.follows.holds-at-none.0 (c.take_kept.ensures.over ∙ c.lines.invariant.more))
+    (c.in-Ok-LineTooLong.is ∙ ap Ok c.in-Ok-LineTooLong.field-0-is) in
     let ended = g.S.Source.ended c.next.new.source in
     let text = bytes_of c.of-self-in-Ok-LineTooLong.result in
     let at = at_met here.0 _ reading c.in-Ok.next here.2 m in
-    let front = subst (λ (b : List ℕ). IsFrontText b text) (c.kept-in-Ok-LineTooLong.ensures.value ∙ m.next.2) c.of-self-in-Ok-LineTooLong.ensures in
-    judged_no g.S.Source.gave g.S.Source.ended begun c.next.new.source reading.held text m.given _ _ (ap Ok c.refused-in-Ok-LineTooLong.ensures) (no_refused c.in-Ok.next c.take_kept.new.self.ended LineTooLong)
+    let front = subst (λ (b : List ℕ). IsFrontText b text) (c.kept-in-Ok-LineTooLong.ensures.value ∙ m.next.2)
+    c.of-self-in-Ok-LineTooLong.ensures in
+    judged_no g.S.Source.gave g.S.Source.ended begun c.next.new.source reading.held text m.given _ _
+    (ap Ok c.refused-in-Ok-LineTooLong.ensures) (no_refused c.in-Ok.next c.take_kept.new.self.ended LineTooLong)
     m.gives (too_long_at here.0 _ reading c.in-Ok.next c.take_kept.new.self.ended refl here.2 m)
-    (stops_refused m.given ended reading.held c.in-Ok.next text c.take_kept.new.self.ended LineTooLong (stops m.given ended reading.held c.in-Ok.next text m.rest reading at refl (long_front m.rest ended text front m.next.0)))
+    (stops_refused m.given ended reading.held c.in-Ok.next text c.take_kept.new.self.ended LineTooLong
+    (stops m.given ended reading.held c.in-Ok.next text m.rest reading at refl (long_front m.rest ended text front m.next.0)))
 
 pub returns-then-self-clause-judged : goal.returns-then-self-clause-judged
 returns-then-self-clause-judged g c = λ begun was.
     let reading = reading_of g.M.TaggedStore.contents c.take_kept.new.self in
     let here = later_read g.S.Source.gave begun c.lines.source _ _ _ _ _ _ c.in-Ok.ensures.ok (c.lines.invariant.here begun was) in
     let m = meets_at g.S.Source.gave g.S.Source.ended begun c.lines.source c.next.new.source reading c.in-Ok.next _ _ _ _
-    g.met.S.Source.joined here (c.next.follows.holds-at-none.0 (c.take_kept.ensures.over ∙ c.lines.invariant.more)) (c.in-Ok-Line.is ∙ ap Ok c.in-Ok-Line.field-0-is) in
+    g.met.S.Source.joined here (c.next.follows.holds-at-none.0 (c.take_kept.ensures.over ∙ c.lines.invariant.more))
+    (c.in-Ok-Line.is ∙ ap Ok c.in-Ok-Line.field-0-is) in
     let ended = g.S.Source.ended c.next.new.source in
     let text = bytes_of c.of-self-then-self.result in
     let at = at_met here.0 _ reading c.in-Ok.next here.2 m in
     judged_no g.S.Source.gave g.S.Source.ended begun c.next.new.source reading.held text m.given _ _ (ap Ok c.refused-then-self.ensures) tt
     m.gives (after_end here.0 _ reading c.in-Ok.next c.in-Ok-Line.text here.2 m c.if-self.true)
-    (stops m.given ended reading.held c.in-Ok.next text m.rest reading at refl (lent_front m.rest c.in-Ok-Line.text.now _ ended text c.of-self-then-self.ensures m.next.0))
+    (stops m.given ended reading.held c.in-Ok.next text m.rest reading at refl
+    (lent_front m.rest c.in-Ok-Line.text.now _ ended text c.of-self-then-self.ensures m.next.0))
 
 pub returns-in-Err-take_line-clause-judged : goal.returns-in-Err-take_line-clause-judged
 returns-in-Err-take_line-clause-judged g c = λ begun was.
     let reading = reading_of g.M.TaggedStore.contents c.take_kept.new.self in
     let here = later_read g.S.Source.gave begun c.lines.source _ _ _ _ _ _ c.in-Ok.ensures.ok (c.lines.invariant.here begun was) in
     let m = meets_at g.S.Source.gave g.S.Source.ended begun c.lines.source c.next.new.source reading c.in-Ok.next _ _ _ _
-    g.met.S.Source.joined here (c.next.follows.holds-at-none.0 (c.take_kept.ensures.over ∙ c.lines.invariant.more)) (c.in-Ok-Line.is ∙ ap Ok c.in-Ok-Line.field-0-is) in
+    g.met.S.Source.joined here (c.next.follows.holds-at-none.0 (c.take_kept.ensures.over ∙ c.lines.invariant.more))
+    (c.in-Ok-Line.is ∙ ap Ok c.in-Ok-Line.field-0-is) in
     let ended = g.S.Source.ended c.next.new.source in
     let text = bytes_of c.of-self-in-Err-take_line.result in
     let at = at_met here.0 _ reading c.in-Ok.next here.2 m in
@@ -95,8 +110,11 @@ returns-in-Err-take_line-clause-judged g c = λ begun was.
     let same = ap (λ (r : Reading). r.held) c.in-Err-take_line.ensures.same in
     judged_no g.S.Source.gave g.S.Source.ended begun c.next.new.source held text m.given _ _ c.answer_at.ensures
     (no_answer c.in-Ok.next c.in-Err-take_line.end)
-    m.gives (line_ended here.0 _ reading c.in-Ok.next c.in-Ok-Line.text c.in-Err-take_line.end here.2 m c.if-self.false c.in-Err-take_line.ensures.err)
-    (stops_answer m.given ended held c.in-Ok.next text c.in-Err-take_line.end (stops m.given ended held c.in-Ok.next text m.rest reading at same (lent_front m.rest c.in-Ok-Line.text.now _ ended text c.of-self-in-Err-take_line.ensures m.next.0)))
+    m.gives (line_ended here.0 _ reading c.in-Ok.next c.in-Ok-Line.text c.in-Err-take_line.end here.2 m c.if-self.false
+    c.in-Err-take_line.ensures.err)
+    (stops_answer m.given ended held c.in-Ok.next text c.in-Err-take_line.end
+    (stops m.given ended held c.in-Ok.next text m.rest reading at same
+    (lent_front m.rest c.in-Ok-Line.text.now _ ended text c.of-self-in-Err-take_line.ensures m.next.0)))
 
 pub lines-preserved : goal.lines-preserved
 lines-preserved g c =
@@ -104,10 +122,12 @@ lines-preserved g c =
     let next = reading_of g.M.TaggedStore.contents c.take_line.new.self in
     let taken = c.next.follows.holds-at-none.0 (c.take_kept.ensures.over ∙ c.lines.invariant.more) in
     let is = c.in-Ok-Line.is ∙ ap Ok c.in-Ok-Line.field-0-is in
-    let after : (begun : _) → HasRead g.S.Source.gave begun c.args.source.now (reading_of g.M.TaggedStore.contents c.args.self.now) (kept c.args.lines.now) c.args.first
+    let after : (begun : _) → HasRead g.S.Source.gave begun c.args.source.now (reading_of g.M.TaggedStore.contents c.args.self.now)
+    (kept c.args.lines.now) c.args.first
     → HasRead g.S.Source.gave begun c.next.new.source next (kept c.next.follows.lender-at-none) (c.in-Ok.next + 1) = λ begun was.
     let here = later_read g.S.Source.gave begun c.lines.source _ _ _ _ _ _ c.in-Ok.ensures.ok (c.lines.invariant.here begun was) in
-    let m = meets_at g.S.Source.gave g.S.Source.ended begun c.lines.source c.next.new.source reading c.in-Ok.next _ _ _ _ g.met.S.Source.joined here taken is in
+    let m = meets_at g.S.Source.gave g.S.Source.ended begun c.lines.source c.next.new.source reading c.in-Ok.next _ _ _ _
+    g.met.S.Source.joined here taken is in
     let before = at_met here.0 _ reading c.in-Ok.next here.2 m in
     (m.given, m.gives, goes_on m.given m.rest c.in-Ok-Line.text.now _ reading next c.in-Ok.next before m.next.0 c.in_default.ensures.ok) in
     record {
@@ -125,7 +145,8 @@ pub returns-in-Err-clause-judged : goal.returns-in-Err-clause-judged
 returns-in-Err-clause-judged g c = λ begun was.
     let here = c.lines.invariant.here begun was in
     let ended = g.S.Source.ended c.lines.source in
-    judged_no g.S.Source.gave g.S.Source.ended begun c.lines.source (held_of g.M.TaggedStore.contents c.take_kept.new.self.machine) (bytes_of c.take_kept.new.self.fault) here.0 _ _ refl c.in-Err.ensures.err.0
+    judged_no g.S.Source.gave g.S.Source.ended begun c.lines.source (held_of g.M.TaggedStore.contents c.take_kept.new.self.machine)
+    (bytes_of c.take_kept.new.self.fault) here.0 _ _ refl c.in-Err.ensures.err.0
     here.1 (c.in-Err.ensures.err.1 here.0 ended here.2) (c.in-Err.ensures.stops here.0 ended here.2)
 
 pub returns-in-Err-clause-fault_counted : goal.returns-in-Err-clause-fault_counted
@@ -133,5 +154,6 @@ returns-in-Err-clause-fault_counted g c = λ pull. absurd (c.in-Err.ensures.no_p
 
 pub overflow_add-line : goal.overflow_add-line
 overflow_add-line g c =
-    let was = later_read g.S.Source.gave c.requires.here.0 c.lines.source _ _ _ _ _ _ c.in-Ok.ensures.ok (c.lines.invariant.here c.requires.here.0 c.requires.here.1) in
+    let was = later_read g.S.Source.gave c.requires.here.0 c.lines.source _ _ _ _ _ _ c.in-Ok.ensures.ok
+    (c.lines.invariant.here c.requires.here.0 c.requires.here.1) in
     let some = few_at was.0 _ _ _ was.2 in omega arith

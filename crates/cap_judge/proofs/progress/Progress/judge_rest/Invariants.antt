@@ -6,7 +6,8 @@ use Rattle.cap_judge.proofs.progress.Progress.judge_rest.Given as goal
 -- the judge is at the line that the kept bytes begin with
 abbrev pub invariant-lines : goal.invariant-lines
 invariant-lines g l = record {
-  here : (begun : _) → HasRead g.S.Source.gave begun l.fn.source (reading_of g.M.TaggedStore.contents l.fn.self) (kept l.fn.lines) l.fn.first
+  here : (begun : _) → HasRead g.S.Source.gave begun l.fn.source (reading_of g.M.TaggedStore.contents l.fn.self) (kept l.fn.lines)
+      l.fn.first
       → HasRead g.S.Source.gave begun l.source (reading_of g.M.TaggedStore.contents l.self) (kept l.lines) l.line;
   counted : g.S.Source.faults l.source ≡ g.S.Source.faults l.fn.source;
   more : over_of l.lines ≡ None;

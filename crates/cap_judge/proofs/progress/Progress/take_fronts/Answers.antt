@@ -12,8 +12,10 @@ pub front-preserved : goal.front-preserved
 front-preserved g c =
     let reading = reading_of g.M.TaggedStore.contents c.front.self in
     let next = reading_of g.M.TaggedStore.contents c.take_front.new.self in
-    let taken = subst (λ (t : Option (Bor (List ℕ))). IfSome t (λ rest. TakesFront reading c.front.rest.now next rest.now)) c.in-Ok-Some.field-0-is c.in-Ok-Some.ensures.some in
-    let here : IsLaterAt (reading_of g.M.TaggedStore.contents c.args.self.now) c.args.bytes.now c.args.first next c.in-Ok-Some.behind.now (c.front.line + 1) = λ given at.
+    let taken = subst (λ (t : Option (Bor (List ℕ))). IfSome t (λ rest. TakesFront reading c.front.rest.now next rest.now))
+    c.in-Ok-Some.field-0-is c.in-Ok-Some.ensures.some in
+    let here : IsLaterAt (reading_of g.M.TaggedStore.contents c.args.self.now) c.args.bytes.now c.args.first next c.in-Ok-Some.behind.now
+    (c.front.line + 1) = λ given at.
     kept_goes_on reading c.front.line _ _ taken.0 taken.1 given (c.front.invariant.here given at) next taken.2 in
     record {
       here = here;
@@ -32,7 +34,8 @@ returns-in-Err-clause-err g c =
       subst IsNoYes (sym c.answer_at.ensures) (no_answer c.front.line c.in-Err.end),
       λ given ended at.
           subst (IsAnswerOf given ended) (sym c.answer_at.ensures)
-          (kept_ended reading c.front.line _ ends.1 ends.0 ends.2 given (c.front.invariant.here given at) ended c.in-Err.end c.if-self.false ends.3),
+          (kept_ended reading c.front.line _ ends.1 ends.0 ends.2 given (c.front.invariant.here given at)
+          ended c.in-Err.end c.if-self.false ends.3),
     )
 
 pub returns-in-Err-clause-stops : goal.returns-in-Err-clause-stops
@@ -45,4 +48,5 @@ returns-in-Err-clause-stops g c = λ given ended at.
     let same = ap (λ (r : Reading). r.held) c.in-Err.ensures.same in
     let front = kept_front c.front.rest.now (spelling ends.0) ends.1 ended text c.of-self.ensures whole in
     subst (λ answer. IfOk answer (StopsIn given ended held text)) (sym c.answer_at.ensures)
-    (stops_answer given ended held c.front.line text c.in-Err.end (stops given ended held c.front.line text c.front.rest.now reading (c.front.invariant.here given at) same front))
+    (stops_answer given ended held c.front.line text c.in-Err.end (stops given ended held c.front.line text c.front.rest.now reading
+    (c.front.invariant.here given at) same front))

@@ -16,4 +16,5 @@ pub returns-in-Err-clause-stops : goal.returns-in-Err-clause-stops
 returns-in-Err-clause-stops g c =
     let reading = reading_of g.M.TaggedStore.contents c.args.self.now in
     let held = held_of g.M.TaggedStore.contents c.take_lines.new.self.machine in
-    subst (λ (bytes : List ℕ). StopsAt reading bytes c.args.first held (bytes_of c.take_lines.new.self.fault) c.in-Err.answer) c.kept-kept.ensures.value c.in-Err.ensures.stops
+    subst (λ (bytes : List ℕ). StopsAt reading bytes c.args.first held (bytes_of c.take_lines.new.self.fault) c.in-Err.answer)
+    c.kept-kept.ensures.value c.in-Err.ensures.stops
