@@ -51,10 +51,9 @@ fn refuses_other_counts(rt: HostRuntime) {
 }
 
 #[test]
-fn writes_places(rt: HostRuntime) {
-    let mut buffer = [b'.'; 20];
-    assert_eq!(rt; Place::Register(31).write(&mut buffer, 1), 4);
-    assert_eq!(rt; buffer, *b".c31................");
-    assert_eq!(rt; Place::Granule(0x12).write(&mut buffer, 2), 19);
-    assert_eq!(rt; buffer, *b".c@0000000000000120.");
+fn writes_heads(rt: HostRuntime) {
+    let mut buffer = [b'.'; 8];
+    assert_eq!(rt; Head::Move.write(&mut buffer, 1), 5);
+    assert_eq!(rt; Head::LoadCap.write(&mut buffer, 5), 7);
+    assert_eq!(rt; buffer, *b".movelc.");
 }
