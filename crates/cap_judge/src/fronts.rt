@@ -24,8 +24,12 @@ impl<M: TaggedStore> Progress<M> {
     /// Takes the line at the front of some bytes: what comes behind its line feed, or `None`, and nothing has
     /// changed, where no line that has a form stands there whole. Where they are not the `LAST` bytes that are
     /// there, the answer is `None` too where there might be fewer of them than of a line.
+    ///
+    /// A caller whose bytes are one line `ALONE` has a copy of its own: with two callers of one copy the compiler
+    /// does not inline it into the loop over a log's lines. Measured over twelve logs: the throughput then falls to
+    /// 1.10 in the mean of that of a judge that proves nothing.
     #[inline(always)]
-    pub fn take_front<'a, const LAST: bool>(
+    pub fn take_front<'a, const LAST: bool, const ALONE: bool>(
         &mut self,
         bytes: &'a [u8],
     ) -> Result<Option<&'a [u8]>, StepEnd>
@@ -82,8 +86,10 @@ impl<M: TaggedStore> Progress<M> {
     }
 
     // Takes a step of one kind, from behind its head. Where a line of any length had room, so many bytes are left
-    // that the first test never holds; the compiler sees by it that no later one does.
-    #[inline(never)]
+    // that the first test never holds; the compiler sees by it that no later one does. It is inlined, so that the
+    // whole loop over a log's lines is one function. Measured: the throughput on moves beside the judge that proves
+    // nothing rises from 1.31 to 1.42.
+    #[inline(always)]
     fn run<'a, I: Instruction>(&mut self, operands: &'a [u8]) -> Result<Option<&'a [u8]>, StepEnd>
         requires unended { self.old.ended ≡ false }
         ensures some { IfOk result (λ taken. IfSome taken (λ rest. TakesFront (reading_of M.contents self.old)

@@ -229,7 +229,7 @@ impl<M: TaggedStore> Progress<M> {
         ensures err { IfErr result (EndsNext (reading_of M.contents self.old) text.now) }
         ensures same { IfErr result (λ _. reading_of M.contents self.new ≡ reading_of M.contents self.old) }
     {
-        match self.take_front::<true>(line) {
+        match self.take_front::<true, true>(line) {
             Ok(Some(_)) => Ok(()),
             Ok(None) => self.take_line(text),
             Err(end) => Err(end),

@@ -8,4 +8,4 @@ items w = slice_range w.bytes w.start w.end
 
 -- how many bytes fit behind them
 abbrev pub room : Window → ℕ
-room w = 16384 - w.end
+room w = 32768 - w.end

@@ -5,7 +5,7 @@ ghost use Rattle.cap_log.specs.Streams.{next_count};
 
 use crate::sources::{PullFault, Source};
 
-pub(crate) const SIZE: usize = 16384;
+pub(crate) const SIZE: usize = 32768;
 
 // The bytes from `start` to `end`, and room after them.
 #[derive(Drop)]
@@ -14,7 +14,7 @@ pub(crate) struct Window {
     start: usize,
     end: usize,
     ghost ordered: { start ≤ end },
-    ghost within: { end ≤ 16384 },
+    ghost within: { end ≤ 32768 },
 }
 
 impl Window {
@@ -38,7 +38,7 @@ impl Window {
 
     // The first bytes of those held.
     pub(crate) fn before(&self, start: usize, length: usize) -> &[u8]
-        requires { start + length ≤ 16384 }
+        requires { start + length ≤ 32768 }
         ensures value { result.now ≡ take length (drop start self.now.bytes) }
     {
         &self.bytes[start..start + length]
@@ -46,7 +46,7 @@ impl Window {
 
     pub(crate) fn start(&self) -> usize
         ensures value { result ≡ self.now.start }
-        ensures bound { result + length (items self.now) ≤ 16384 }
+        ensures bound { result + length (items self.now) ≤ 32768 }
     {
         self.start
     }
@@ -62,7 +62,7 @@ impl Window {
 
     fn move_to_front(&mut self)
         ensures items { items self.new ≡ items self.old }
-        ensures room { room self.new + length (items self.new) ≡ 16384 }
+        ensures room { room self.new + length (items self.new) ≡ 32768 }
     {
         let (start, end) = (self.start, self.end);
         self.bytes.copy_within(start..end, 0);
@@ -72,7 +72,7 @@ impl Window {
 
     // Moves what is held to the front and pulls once behind it.
     pub(crate) fn fill<S: Source>(&mut self, source: &mut S) -> Result<usize, PullFault>
-        requires { length (items self.old) < 16384 }
+        requires { length (items self.old) < 32768 }
         ensures ok { IfOk result (λ n. (more : List ℕ) × (length more ≡ n) × (items self.new ≡ items self.old ++ more)
             × S.gave source.old source.new more × (S.ended source.new ≡ (n == 0))) }
         ensures counted { OnOk result (S.faults source.new ≡ S.faults source.old) }

@@ -107,7 +107,8 @@ fn set_bounds_by(rules: Rules, source: Cap, length: u64, exact: bool) -> Result<
     }
 }
 
-#[inline(never)]
+// Its path by strict rules stands in the loop over a log's lines; the one in clear mode is called.
+#[inline(always)]
 fn set_addr_by(rules: Rules, source: Cap, address: u64) -> Result<Cap, OpFault>
     ensures { EndsBy rules (set_addr_tests source address) (set_addr_result source address) result }
 {
@@ -117,7 +118,8 @@ fn set_addr_by(rules: Rules, source: Cap, address: u64) -> Result<Cap, OpFault>
     }
 }
 
-#[inline(never)]
+// Its path by strict rules stands in the loop over a log's lines; the one in clear mode is called.
+#[inline(always)]
 fn and_perm_by(rules: Rules, source: Cap, mask: u64) -> Result<Cap, OpFault>
     ensures { EndsBy rules (and_perm_tests source) (and_perm_result source mask) result }
 {

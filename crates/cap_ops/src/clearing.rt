@@ -56,6 +56,8 @@ pub fn set_bounds_clear(source: Cap, length: u64, exact: bool) -> Cap
 
 /// [`set_addr`] in clear mode. The source gets another address; a tagged one loses its tag where it is
 /// sealed, and where the address does not keep its bounds.
+// Never inlined, so that the path by strict rules stands alone in a judge's loop.
+#[inline(never)]
 pub fn set_addr_clear(source: Cap, address: u64) -> Cap
     ensures result_is { result ≡ clear_result (set_addr_tests source address) (set_addr_result source address) }
     ensures strict { IsStrictWhereTagged (set_addr_tests source address) (set_addr_result source address) result }
@@ -66,6 +68,8 @@ pub fn set_addr_clear(source: Cap, address: u64) -> Cap
 
 /// [`and_perm`] in clear mode. The source keeps those of its permissions that the mask has too; a tagged
 /// one loses its tag where it is sealed.
+// Never inlined, for the same reason.
+#[inline(never)]
 pub fn and_perm_clear(source: Cap, mask: u64) -> Cap
     ensures result_is { result ≡ clear_result (and_perm_tests source) (and_perm_result source mask) }
     ensures strict { IsStrictWhereTagged (and_perm_tests source) (and_perm_result source mask) result }
