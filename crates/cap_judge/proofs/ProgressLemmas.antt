@@ -27,7 +27,7 @@ use Rattle.cap_machine.proofs.AccountLemmas.{with_root-grows, with_step-grows, a
 use Rattle.cap_judge.specs.Logs.{has_form, Beginning, Nothing, NoMode, Body, Whole, body_lines, after_roots}
 use Rattle.cap_judge.specs.Logs.{SpellsBy, RefusesWhole, line_tests}
 use Rattle.cap_judge.specs.Progresses.{Reading, Reaches, StandsFor, Takes, NamesFirst, WantsMemory, EndsFor, EndsNext}
-use Rattle.cap_judge.specs.Progresses.{EndsFront, TakesFront}
+use Rattle.cap_judge.specs.Progresses.{EndsAlone, EndsFront, TakesFront}
 use Rattle.cap_judge.proofs.NextLemmas.{step_runs, root_runs, no_roots}
 use Rattle.cap_judge.proofs.LogLemmas.{steps_push, roots_push}
 use Rattle.cap_judge.proofs.LogLemmas.{after_roots-push, after_steps-push}
@@ -234,10 +234,19 @@ front_made old new bytes rest step unended still begins makes = (
 -- and one that was not
 pub front_refused : (old : Reading) (new : Held) (bytes rest : List ℕ) (step : steps_module.Step) (end : StepEnd) → old.ended ≡ false
     → Begins IsInRange spelling 10 bytes (Step step) rest → EndsStep old.held step end new → EndsFront old bytes end
-front_refused old new bytes rest step end unended begins ends = (
+front_refused old new bytes rest step end unended begins ends =
+    (Step step, rest, begins, λ text spells. line_known old text (Step step) end unended (spells, step_formed old.held.rules step) (step_ended old.held new step end ends))
+
+-- the same of bytes that are that step alone
+pub alone_made : (old new : Reading) (bytes rest : List ℕ) (step : steps_module.Step) → old.ended ≡ false → new.ended ≡ false → rest ≡ []
+    → Begins IsInRange spelling 10 bytes (Step step) rest → Makes old.held step new.held → TakesFront old bytes new []
+alone_made old new bytes rest step unended still none begins makes =
+    subst (TakesFront old bytes new) none (front_made old new bytes rest step unended still begins makes)
+
+pub alone_refused : (old : Reading) (new : Held) (bytes rest : List ℕ) (step : steps_module.Step) (end : StepEnd) → old.ended ≡ false → rest ≡ []
+    → Begins IsInRange spelling 10 bytes (Step step) rest → EndsStep old.held step end new → EndsAlone old bytes end
+alone_refused old new bytes rest step end unended none begins ends = (
   Step step,
-  rest,
-  begins,
-  λ text spells. line_known old text (Step step) end unended (spells, step_formed old.held.rules step)
-      (step_ended old.held new step end ends),
+  subst (λ (r : List ℕ). Begins IsInRange spelling 10 bytes (Step step) r) none begins,
+  λ text spells. line_known old text (Step step) end unended (spells, step_formed old.held.rules step) (step_ended old.held new step end ends),
 )

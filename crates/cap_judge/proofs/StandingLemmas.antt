@@ -27,7 +27,7 @@ use Rattle.cap_judge.specs.Headers.{rules_of}
 use Rattle.cap_judge.specs.Logs.{Beginning, Nothing, NoMode, Body, Whole, header_lines, body_lines, lines_of, text_of}
 use Rattle.cap_judge.specs.Logs.{IsAccepted, RefusesWhole, Refuses}
 use Rattle.cap_judge.specs.Verdicts.{IsVerdict}
-use Rattle.cap_judge.specs.Progresses.{Reading, Reaches, StandsFor, EndsNext, GoesOn, TakesFront, EndsFront, IsAt}
+use Rattle.cap_judge.specs.Progresses.{Reading, Reaches, StandsFor, EndsNext, GoesOn, TakesFront, EndsAlone, IsAt}
 use Rattle.cap_judge.specs.Judgings.{IsBehind, finished}
 use Rattle.cap_judge.specs.Standings.{Standing, AtStart, AtMode, Within, Nowhere, IsAfter, TakesLine, EndsLine}
 use Rattle.cap_judge.proofs.JudgeLemmas.{IsUnended, accepted, unended, front_refused, lacks, misplaced_by, refused_behind, text_push, yes}
@@ -108,20 +108,6 @@ takes_mode line text modes.Clear next whole spells after = λ beginning is. (
       ∙ ap (λ (b : Beginning). text_of (lines_of b) ++ line) (sym is),
 )
 
--- the line at the front of a line with its line feed is that line
-pub front_taken : (old new : Reading) (line text rest : List ℕ) → IsLine line text [] → TakesFront old line new rest → GoesOn old text new
-front_taken old new line text rest whole taken =
-    let known = taken.0 in
-    let front = kept_line line rest known taken.1.0 taken.1.1 in
-    taken.2 text (taken.1.0, (IsLine-same line text [] (spelling known) rest whole front).0)
-
-pub front_ended : (reading : Reading) (line text : List ℕ) (end : StepEnd) → IsLine line text [] → EndsFront reading line end
-    → EndsNext reading text end
-front_ended reading line text end whole ended =
-    let known = ended.0 in
-    let front = kept_line line ended.1 known ended.2.0 ended.2.1 in
-    ended.3 text (ended.2.0, (IsLine-same line text [] (spelling known) ended.1 whole front).0)
-
 -- behind the header
 pub takes_next : (old new : Reading) (line text : List ℕ) → IsLine line text [] → GoesOn old text new
     → TakesLine (Within old) line (Within new)
@@ -136,6 +122,21 @@ ends_next reading line text (Refused refusal) not_ended whole refused = λ begin
 ends_next reading line text NoMemory not_ended whole wants = λ beginning stands.
     lacks (text_of (lines_of beginning) ++ line) text [] reading beginning stands (wants beginning stands)
     (ap (λ (l : List ℕ). text_of (lines_of beginning) ++ l) whole.whole ∙ sym (append_assoc (text_of (lines_of beginning)) text (10 ∷ [])))
+
+-- bytes that are one line
+pub alone_taken : (old new : Reading) (line : List ℕ) → TakesFront old line new []
+    → ((text : List ℕ) × IsLine line text []) × TakesLine (Within old) line (Within new)
+alone_taken old new line taken =
+    let known = taken.0 in
+    let whole = kept_line line [] known taken.1.0 taken.1.1 in
+    ((spelling known, whole), takes_next old new line (spelling known) whole (taken.2 (spelling known) (taken.1.0, refl)))
+
+pub alone_ended : (reading : Reading) (line : List ℕ) (end : StepEnd) → reading.ended ≡ false → EndsAlone reading line end
+    → ((text : List ℕ) × IsLine line text []) × EndsLine (Within reading) line end
+alone_ended reading line end unended ended =
+    let known = ended.0 in
+    let whole = kept_line line [] known ended.1.0 ended.1.1 in
+    ((spelling known, whole), ends_next reading line (spelling known) end unended whole (ended.2 (spelling known) (ended.1.0, refl)))
 
 -- after the end line
 pub ends_misplaced : (reading : Reading) (line : List ℕ) → reading.ended ≡ true → line ≢ []

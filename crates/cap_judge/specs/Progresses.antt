@@ -93,6 +93,11 @@ EndsFront reading bytes end =
     (line : Line) × (rest : List ℕ) × Begins IsInRange spelling 10 bytes line rest
     × ((text : List ℕ) → Spells text line → EndsNext reading text end)
 
+-- the bytes are one line, with its line feed, which was not taken
+abbrev pub EndsAlone : Reading → List ℕ → StepEnd → Type 0
+EndsAlone reading bytes end =
+    (line : Line) × Begins IsInRange spelling 10 bytes line [] × ((text : List ℕ) → Spells text line → EndsNext reading text end)
+
 -- wherever the judge was at the line that these bytes begin with, it is now at a later one, which the rest begins with
 abbrev pub IsLaterAt : Reading → List ℕ → ℕ → Reading → List ℕ → ℕ → Type 0
 IsLaterAt old kept first new rest line = (given : List ℕ) → IsAt given old kept first → IsAt given new rest line

@@ -66,20 +66,14 @@ impl<M: TaggedStore> Judge<M> {
         ensures no_memory { result ≡ Err NoMemory → (bytes : List ℕ) → HasTaken M.contents self.old bytes
             → MayLackMemory (bytes ++ line.now) }
     {
-        match front(line) {
-            Front::Line(length) => {
-                if length + 1 == line.len() {
-                    self.take_whole(line, &line[..length])
-                } else {
-                    Err(TakeFault::NoLine)
-                }
+        if self.fault.is_none() {
+            match self.stage.take_alone(line) {
+                Some(Ok(())) => return Ok(()),
+                Some(Err(end)) => return self.take_end(end, line),
+                None => {}
             }
-            Front::TooLong => {
-                self.take_long(line);
-                Ok(())
-            }
-            Front::Cut => Err(TakeFault::NoLine),
         }
+        self.take_front(line)
     }
 
     /// `None` exactly while the lines so far begin a log, and otherwise the no that stands whatever lines
@@ -138,6 +132,32 @@ impl<M: TaggedStore> Judge<M> {
         self.stage.granule(granule)
     }
 
+    // Takes bytes of any kind: where they end is found first.
+    #[inline(never)]
+    fn take_front(&mut self, line: &[u8]) -> Result<(), TakeFault>
+        ensures taken { OnOk result ((bytes : List ℕ) → HasTaken M.contents self.old bytes
+            → HasTaken M.contents self.new (bytes ++ line.now)) }
+        ensures unchanged { IfErr result (λ _. known_of M.contents self.new ≡ known_of M.contents self.old) }
+        ensures no_line { (result ≡ Err NoLine) ↔ IsNoLine line.now }
+        ensures no_memory { result ≡ Err NoMemory → (bytes : List ℕ) → HasTaken M.contents self.old bytes
+            → MayLackMemory (bytes ++ line.now) }
+    {
+        match front(line) {
+            Front::Line(length) => {
+                if length + 1 == line.len() {
+                    self.take_whole(line, &line[..length])
+                } else {
+                    Err(TakeFault::NoLine)
+                }
+            }
+            Front::TooLong => {
+                self.take_long(line);
+                Ok(())
+            }
+            Front::Cut => Err(TakeFault::NoLine),
+        }
+    }
+
     // Takes one line, with its line feed and without.
     fn take_whole(&mut self, line: &[u8], text: &[u8]) -> Result<(), TakeFault>
         requires { IsLine line.now text.now [] }
@@ -152,8 +172,25 @@ impl<M: TaggedStore> Judge<M> {
         }
         match self.stage.take_whole(line, text) {
             Ok(()) => Ok(()),
-            Err(StepEnd::NoMemory) => Err(TakeFault::NoMemory),
-            Err(StepEnd::Refused(refusal)) => {
+            Err(end) => self.take_end(end, line),
+        }
+    }
+
+    // Takes a line that is refused, unless memory was.
+    #[inline(never)]
+    fn take_end(&mut self, end: StepEnd, line: &[u8]) -> Result<(), TakeFault>
+        requires none { self.old.fault ≡ None }
+        requires uncut { IsCut line.now → ⊥ }
+        requires ends { EndsLine (standing_of M.contents self.old.stage) line.now end }
+        ensures taken { OnOk result ((bytes : List ℕ) → HasTaken M.contents self.old bytes
+            → HasTaken M.contents self.new (bytes ++ line.now)) }
+        ensures unchanged { IfErr result (λ _. known_of M.contents self.new ≡ known_of M.contents self.old) }
+        ensures no_memory { IfErr result (λ fault. (fault ≡ NoMemory) × ((bytes : List ℕ) → HasTaken M.contents self.old bytes
+            → MayLackMemory (bytes ++ line.now))) }
+    {
+        match end {
+            StepEnd::NoMemory => Err(TakeFault::NoMemory),
+            StepEnd::Refused(refusal) => {
                 self.refuse(refusal, line);
                 Ok(())
             }

@@ -156,7 +156,7 @@ impl<M: TaggedStore> Progress<M> {
             if self.ended {
                 return Ok((line, rest));
             }
-            match self.take_front::<LAST, false>(rest) {
+            match self.take_front::<LAST>(rest) {
                 Ok(Some(behind)) => {
                     rest = behind;
                     line += 1;

@@ -1,6 +1,6 @@
 //! What the lines of a log lead to that a judge is given one by one.
 
-ghost use Rattle.std.specs.Prelude.{◌≡◌, ◌+◌, ◌<◌, ◌≤◌, ◌^◌, ℕ, [], length, false, OnOk, IfErr, List};
+ghost use Rattle.std.specs.Prelude.{◌≡◌, ◌+◌, ◌<◌, ◌≤◌, ◌^◌, ℕ, [], length, false, OnOk, IfErr, IfNone, IfSome, List};
 ghost use Rattle.cap_log.specs.Front.{IsLine, IsTooLong};
 ghost use Rattle.cap_machine.specs.States.{granule_key, untagged_null};
 ghost use Rattle.cap_machine.specs.Helds.{account_of};
@@ -37,6 +37,23 @@ impl<M: TaggedStore> Stage<M> {
     ghost use Rattle.cap_judge.specs.Standings.{AtMode, AtStart, EndsLine, IsAfter, IsInHeader, TakesLine, Within, standing_of};
     ghost use Rattle.cap_judge.specs.Expectations.{GivesForText};
     ghost use Rattle.cap_judge.specs.Progresses.{Reading};
+
+    /// Takes bytes that are one line behind the header, with its line feed; `None`, and nothing has changed, where
+    /// they are not, where it has no form, and where the end line has come.
+    #[inline(always)]
+    pub fn take_alone(&mut self, line: &[u8]) -> Option<Result<(), StepEnd>>
+        ensures whole { IfSome result (λ _. (text : List ℕ) × IsLine line.now text []) }
+        ensures none { IfNone result (standing_of M.contents self.new ≡ standing_of M.contents self.old) }
+        ensures ok { IfSome result (λ answer. OnOk answer
+            (TakesLine (standing_of M.contents self.old) line.now (standing_of M.contents self.new))) }
+        ensures err { IfSome result (λ answer. IfErr answer (EndsLine (standing_of M.contents self.old) line.now)) }
+        ensures same { IfSome result (λ answer. IfErr answer (λ _. standing_of M.contents self.new ≡ standing_of M.contents self.old)) }
+    {
+        match self {
+            Stage::Behind(progress) => progress.take_one(line),
+            Stage::Begun(_) | Stage::Versioned(_) | Stage::Lost => None,
+        }
+    }
 
     /// Takes the next line, with its line feed and without.
     pub fn take_whole(&mut self, line: &[u8], text: &[u8]) -> Result<(), StepEnd>
@@ -205,10 +222,11 @@ fn nothing() -> Cap
 
 impl<M: TaggedStore> Progress<M> {
     ghost use Rattle.cap_judge.specs.Logs.{Beginning, lines_of};
-    ghost use Rattle.cap_judge.specs.Progresses.{EndsNext, GoesOn, StandsFor, reading_of};
+    ghost use Rattle.cap_judge.specs.Progresses.{StandsFor, reading_of};
     ghost use Rattle.cap_judge.specs.Standings.{EndsLine, TakesLine, Within};
 
     // Takes the next line, with its line feed and without. After the end line it is misplaced, whatever it is.
+    #[inline(never)]
     fn take_next(&mut self, line: &[u8], text: &[u8]) -> Result<(), StepEnd>
         requires whole { IsLine line.now text.now [] }
         ensures ok { OnOk result (TakesLine (Within (reading_of M.contents self.old)) line.now (Within (reading_of M.contents self.new))) }
@@ -218,21 +236,26 @@ impl<M: TaggedStore> Progress<M> {
         if self.ended {
             return Err(StepEnd::Refused(Refusal::Misplaced));
         }
-        self.take_unended(line, text)
+        self.take_line(text)
     }
 
-    // Takes the next line where the end line has not come.
-    fn take_unended(&mut self, line: &[u8], text: &[u8]) -> Result<(), StepEnd>
-        requires whole { IsLine line.now text.now [] }
-        requires unended { self.old.ended ≡ false }
-        ensures ok { OnOk result (GoesOn (reading_of M.contents self.old) text.now (reading_of M.contents self.new)) }
-        ensures err { IfErr result (EndsNext (reading_of M.contents self.old) text.now) }
-        ensures same { IfErr result (λ _. reading_of M.contents self.new ≡ reading_of M.contents self.old) }
+    // Takes bytes that are one line, with its line feed, unless the end line has come.
+    #[inline(always)]
+    fn take_one(&mut self, line: &[u8]) -> Option<Result<(), StepEnd>>
+        ensures whole { IfSome result (λ _. (text : List ℕ) × IsLine line.now text []) }
+        ensures none { IfNone result (self.new ≡ self.old) }
+        ensures ok { IfSome result (λ answer. OnOk answer
+            (TakesLine (Within (reading_of M.contents self.old)) line.now (Within (reading_of M.contents self.new)))) }
+        ensures err { IfSome result (λ answer. IfErr answer (EndsLine (Within (reading_of M.contents self.old)) line.now)) }
+        ensures same { IfSome result (λ answer. IfErr answer (λ _. reading_of M.contents self.new ≡ reading_of M.contents self.old)) }
     {
-        match self.take_front::<true, true>(line) {
-            Ok(Some(_)) => Ok(()),
-            Ok(None) => self.take_line(text),
-            Err(end) => Err(end),
+        if self.ended {
+            return None;
+        }
+        match self.take_alone(line) {
+            Some(Ok(())) => Some(Ok(())),
+            Some(Err(end)) => Some(Err(end)),
+            None => None,
         }
     }
 

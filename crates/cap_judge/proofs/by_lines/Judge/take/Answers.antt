@@ -1,27 +1,25 @@
-use Rattle.std.proofs.Common.{ap, refl, subst, arith, ◌+◌, [], take, drop, length}
-use Rattle.std.proofs.lemmas.List.{length-drop}
-use Rattle.cap_log.specs.Front.{IsFront}
-use Rattle.cap_log.proofs.FrontLemmas.{IsLine-same, IsLine-not_too_long, IsLine-not_cut, IsTooLong-not_cut}
+use Rattle.std.proofs.Common.{◌≡◌, ◌++◌, Err, List, OnOk, ap, rules, subst, ℕ}
+use Rattle.cap_judge.specs.Logs.{MayLackMemory}
+use Rattle.cap_judge.specs.Standings.{Known, Taken, known_of}
+use Rattle.cap_judge.specs.declared.verdict.TakeFault.TheVariants.{NoMemory}
+use Rattle.cap_judge.proofs.by_lines.Judge.take.Goals.{then-is_none+in-None, else-is_none}
 use Rattle.cap_judge.proofs.by_lines.Judge.take.Goals as goal
 
-pub returns-else-length-line-clause-no_line : goal.returns-else-length-line-clause-no_line
-returns-else-length-line-clause-no_line g c = (
-  λ is. (
-    λ text whole.
-        let line = c.args.line.now in
-        let n = c.in-Line.length in
-        let none = ap length (IsLine-same line text [] (take n line) (drop (n + 1) line) whole c.in-Line.ensures.1).1 in
-        c.if-length-line.false (omega (arith, none, length-drop (n + 1) line, c.in-Line.ensures.0)),
-    λ long.
-        let line = c.args.line.now in
-        let n = c.in-Line.length in
-        IsLine-not_too_long line (take n line) (drop (n + 1) line) c.in-Line.ensures.1 long,
-  ),
-  λ is. refl,
-)
-
-pub returns-in-Cut-clause-no_line : goal.returns-in-Cut-clause-no_line
-returns-in-Cut-clause-no_line g c =
+pub returns-clause-taken : goal.returns-clause-taken
+returns-clause-taken g c =
+    let contents = g.M.TaggedStore.contents in
     let line = c.args.line.now in
-    let cut = subst (IsFront line) c.in-Cut.is c.front.ensures in
-    (λ is. (λ text whole. IsLine-not_cut line text [] whole cut, λ long. IsTooLong-not_cut line long cut), λ is. refl)
+    let same : known_of contents c.if-is_none.self ≡ known_of contents c.args.self.now =
+    elim c.if-is_none.branch [ then-is_none+in-None w ↦ search rules | else-is_none w ↦ search rules ] in
+    subst
+    (λ (k : Known). OnOk c.take_front.result ((bytes : List ℕ) → Taken k bytes → Taken (known_of contents c.take_front.new.self) (bytes ++ line)))
+    same c.take_front.ensures.taken
+
+pub returns-clause-no_memory : goal.returns-clause-no_memory
+returns-clause-no_memory g c =
+    let contents = g.M.TaggedStore.contents in
+    let line = c.args.line.now in
+    let same : known_of contents c.if-is_none.self ≡ known_of contents c.args.self.now =
+    elim c.if-is_none.branch [ then-is_none+in-None w ↦ search rules | else-is_none w ↦ search rules ] in
+    subst (λ (k : Known). c.take_front.result ≡ Err NoMemory → (bytes : List ℕ) → Taken k bytes → MayLackMemory (bytes ++ line)) same
+    c.take_front.ensures.no_memory
