@@ -14,6 +14,3 @@ mod store;
 pub use crate::list_store::ListStore;
 pub use crate::page_store::PageStore;
 pub use crate::store::{NoMemory, TaggedStore};
-
-#[cfg(test)]
-mod tests;

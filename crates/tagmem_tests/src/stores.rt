@@ -6,8 +6,8 @@
 ghost use Rattle.std.specs.Prelude.{◌≡◌, ◌+◌, ◌^◌, ◌<◌, ◌≤◌, length};
 ghost use Rattle.tagmem.specs.Granules.{IsCodeFor};
 
-use crate::{ListStore, PageStore, TaggedStore};
 use std::process::Abort;
+use tagmem::{ListStore, PageStore, TaggedStore};
 
 const SLOTS: usize = 48;
 
@@ -338,25 +338,22 @@ fn pages_that_share_a_place_are_found(rt: HostRuntime) {
 }
 
 // The ends of pages that lie beside one another, have the same low bits, or end memory.
-fn end_of_page(choice: u32) -> u64
+fn end_of_page(rt: &impl Abort, choice: u32) -> u64
     ensures { result < 2 ^ 60 }
 {
-    let number = match choice % 8 {
-        0 => 0,
-        1 => 1,
-        2 => 1023,
-        3 => 1024,
-        4 => 2048,
-        5 => 1 << 55,
-        6 => (1 << 55) + 1024,
-        _ => (1 << 56) - 1,
-    };
-    let slot = match choice / 8 % 4 {
-        0 => 0,
-        1 => 1,
-        2 => 14,
-        _ => 15,
-    };
+    let numbers = [
+        0,
+        1,
+        1023,
+        1024,
+        2048,
+        1 << 55,
+        (1 << 55) + 1024,
+        (1 << 56) - 1,
+    ];
+    let number: u64 = numbers[choice as usize % 8];
+    let slot: u64 = [0, 1, 14, 15][choice as usize / 8 % 4];
+    assert!(rt; number < 1 << 56 && slot < 16);
     16 * number + slot
 }
 
@@ -367,8 +364,8 @@ fn a_list_and_pages_agree(rt: HostRuntime) {
     let mut random: u32 = 1;
     for _ in 0..1000 {
         random = random.wrapping_mul(1664525).wrapping_add(1013904223);
-        let granule = end_of_page(random >> 20);
-        let read = end_of_page(random >> 15);
+        let granule = end_of_page(&rt, random >> 20);
+        let read = end_of_page(&rt, random >> 15);
         let byte_index = (random >> 28) as u8;
         let bytes = bytes_from(((random >> 12) & 0xff) as u8);
         if random & 0x80000 == 0 {
