@@ -1,60 +1,12 @@
 //! A judge that is given the lines of a log one by one.
 
 use cap_judge::by_lines::Judge;
-use cap_judge::judging::judge_bytes;
 use cap_judge::verdict::{Expected, TakeFault, Verdict};
 use cap_machine::Refusal;
 use cap_word::{Cap, Word};
 use std::alloc::Global;
 use std::process::Abort;
 use tagmem::PageStore;
-
-/// After each whole line of a log its end is the verdict on the bytes so far. Its answer is none up to the first
-/// fault, and from then on that no.
-pub fn by_lines(rt: &impl Abort, alloc: Global, log: &[u8]) {
-    let mut judge = Judge::over_pages(alloc);
-    let mut first = None;
-    let mut lines = 0u64;
-    let mut taken = 0;
-    for at in 0..log.len() {
-        if log[at] == b'\n' {
-            let Some(line) = log.get(taken..at + 1) else {
-                panic!(rt; "no line");
-            };
-            assert_eq!(rt; judge.take(line), Ok(()));
-            taken = at + 1;
-            lines = lines.saturating_add(1);
-            stands(
-                rt,
-                &judge,
-                judge_bytes(alloc, &log[..at + 1]).ok(),
-                lines,
-                &mut first,
-            );
-        }
-    }
-}
-
-// A judge behind so many lines, on which there is this verdict.
-fn stands(
-    rt: &impl Abort,
-    judge: &Judge<PageStore>,
-    verdict: Option<Verdict>,
-    lines: u64,
-    first: &mut Option<Verdict>,
-) {
-    assert_eq!(rt; Some(judge.end()), verdict);
-    let line = lines.saturating_add(1);
-    let refusal = Refusal::Truncated;
-    let goes_on = match verdict {
-        Some(Verdict::Yes { steps: _, roots: _ }) => true,
-        _ => verdict == Some(Verdict::No { line, refusal }),
-    };
-    if first.is_none() && !goes_on {
-        *first = verdict;
-    }
-    assert_eq!(rt; judge.answer(), *first, "behind {lines} lines");
-}
 
 // Bytes that are no line are not taken; of too many the first are a line that is too long.
 #[test]

@@ -7,11 +7,12 @@ use cap_judge::reporting::judge_to;
 use cap_judge::verdict::{JudgeFault, JudgeToFault, TakeFault, Verdict};
 use cap_log::{FailingSink, FailingSource, SliceSink, SliceSource, Source, WriteSink};
 use cap_machine::Refusal;
+use fakes::Refusing;
 use std::alloc::Global;
 use std::io;
 use std::io::Write;
 use std::process::Abort;
-use tagmem::{ListStore, NoMemory, TaggedStore};
+use tagmem::{ListStore, TaggedStore};
 
 const MOVES: &[u8] = b"capcheck 1\n\
     root c1 ffff1ffffc0180040000000000000000\n\
@@ -195,85 +196,6 @@ fn a_sink_with_little_room(rt: HostRuntime) {
     assert_eq!(rt; room, *b"yes ");
 }
 
-// A store that refuses one growth, and then has memory again.
-#[derive(Drop)]
-struct Refusing<M: TaggedStore> {
-    inner: M,
-    // How many granules are put before the one that is refused. None once it was.
-    waits: Option<u32>,
-}
-
-impl<M: TaggedStore> Refusing<M> {
-    ghost use Rattle.std.specs.Prelude.{◌≡◌, ◌^◌, ◌<◌, true, None};
-    ghost use Rattle.std.specs.FinMap as map;
-
-    // Whether the growth for this granule is the one that is refused.
-    fn is_refused(&mut self, granule: u64) -> bool
-        requires { granule < 2 ^ 60 }
-        ensures kept { self.new.inner ≡ self.old.inner }
-        ensures only_new { result ≡ true → map.get (M.contents self.old.inner) granule ≡ None }
-    {
-        if self.inner.get(granule).is_some() {
-            return false;
-        }
-        match self.waits {
-            Some(0) => {
-                self.waits = None;
-                true
-            }
-            Some(count) => {
-                self.waits = Some(count - 1);
-                false
-            }
-            None => false,
-        }
-    }
-}
-
-impl<M: TaggedStore> TaggedStore for Refusing<M> {
-    ghost contents = { λ s. M.contents s.inner };
-
-    ghost are_stored = { λ s. M.are_stored s.inner };
-
-    ghost count_fits = { λ s. M.count_fits s.inner };
-
-    fn get(&self, granule: u64) -> Option<(bool, [u8; 16])> {
-        self.inner.get(granule)
-    }
-
-    fn code(&self, granule: u64) -> u64 {
-        self.inner.code(granule)
-    }
-
-    fn next_put(&self, granule: u64) -> Option<u64> {
-        self.inner.next_put(granule)
-    }
-
-    fn put_cap(
-        &mut self,
-        granule: u64,
-        tag: bool,
-        bytes: [u8; 16],
-        code: u64,
-    ) -> Result<(), NoMemory> {
-        if self.is_refused(granule) {
-            return Err(NoMemory);
-        }
-        self.inner.put_cap(granule, tag, bytes, code)
-    }
-
-    fn put_bytes(&mut self, granule: u64, at: u8, bytes: &[u8]) -> Result<(), NoMemory> {
-        if self.is_refused(granule) {
-            return Err(NoMemory);
-        }
-        self.inner.put_bytes(granule, at, bytes)
-    }
-
-    fn count(&self) -> u32 {
-        self.inner.count()
-    }
-}
-
 // A judge asks for memory so many times. Where one of these growths is refused it has no verdict.
 fn grows<S: Source>(
     rt: &impl Abort,
@@ -283,10 +205,7 @@ fn grows<S: Source>(
     at: u32,
     verdict: Verdict,
 ) {
-    let memory = Refusing {
-        inner: ListStore::new(alloc),
-        waits: Some(at),
-    };
+    let memory = Refusing::new(ListStore::new(alloc), at);
     assert_eq!(rt; memory.count(), 0);
     let answer = judge_in(source, memory);
     if at < growths {
@@ -344,10 +263,7 @@ fn growths_up_to_the_limit(rt: HostRuntime) {
 // A line for which memory was refused is handed over again.
 #[test]
 fn a_line_handed_over_again(rt: HostRuntime) {
-    let memory = Refusing {
-        inner: ListStore::new(rt.alloc()),
-        waits: Some(0),
-    };
+    let memory = Refusing::new(ListStore::new(rt.alloc()), 0);
     assert_eq!(rt; memory.count(), 0);
     let mut judge = Judge::new(memory);
     assert_eq!(rt; judge.take(b"capcheck 1\n"), Ok(()));

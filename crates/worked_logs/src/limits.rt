@@ -1,10 +1,13 @@
 //! Logs at the limits on roots and granules.
 
-use crate::logs::{ROOT, judges};
+use crate::verdicts::verdict_holds;
 use cap_judge::explaining::judge_why;
+use cap_judge::judging::judge_bytes;
 use cap_log::{SliceSink, SliceSource};
 use std::alloc::{AllocError, Global};
-use std::test::Fail;
+
+// The beginning of most logs: one root, of all permissions over the whole address space.
+const ROOT: &[u8] = b"capcheck 1\nroot c1 ffff1ffffc0180040000000000000000\n";
 
 // Appends the sixteen digits of a number.
 fn append_digits(log: &mut Vec<u8>, number: u64) -> Result<(), AllocError> {
@@ -41,7 +44,7 @@ fn append_block(log: &mut Vec<u8>, block: u32) -> Result<(), AllocError> {
 
 // The log of some blocks, and then some lines.
 fn blocks(alloc: Global, from: u32, until: u32, rest: &str) -> Result<Vec<u8>, AllocError> {
-    let mut log = Vec::from_slice(alloc, ROOT.as_bytes())?;
+    let mut log = Vec::from_slice(alloc, ROOT)?;
     for block in from..until {
         append_block(&mut log, block)?;
     }
@@ -116,38 +119,43 @@ const ROOTS: [(u32, &str, &str); 4] = [
     ),
 ];
 
-#[test]
-fn granules(rt: HostRuntime) -> Result<(), Fail> {
+/// Whether the logs at the limits have their verdicts, and the first granule too many is told of.
+pub fn limits_hold(alloc: Global) -> Result<bool, AllocError> {
     for (from, until, rest, line) in BLOCKS {
-        let log = blocks(rt.alloc(), from, until, rest)?;
-        judges(&rt, rest, log.as_slice(), line.as_bytes());
+        let log = blocks(alloc, from, until, rest)?;
+        if !is_judged(alloc, log.as_slice(), line)? {
+            return Ok(false);
+        }
     }
-    Ok(())
+    for (count, rest, line) in ROOTS {
+        let log = many_roots(alloc, count, rest)?;
+        if !is_judged(alloc, log.as_slice(), line)? {
+            return Ok(false);
+        }
+    }
+    is_reported(alloc)
 }
 
-#[test]
-fn roots(rt: HostRuntime) -> Result<(), Fail> {
-    for (count, rest, line) in ROOTS {
-        let log = many_roots(rt.alloc(), count, rest)?;
-        judges(&rt, rest, log.as_slice(), line.as_bytes());
+// Whether a log has the verdict with this line.
+fn is_judged(alloc: Global, log: &[u8], line: &str) -> Result<bool, AllocError> {
+    match judge_bytes(alloc, log) {
+        Ok(verdict) => verdict_holds(alloc, log, verdict, line.as_bytes()),
+        Err(_) => Ok(false),
     }
-    Ok(())
 }
 
 // What is told of the first granule too many.
-#[test]
-fn report_at_a_limit(rt: HostRuntime) -> Result<(), Fail> {
-    let log = blocks(rt.alloc(), 0, 257, "")?;
+fn is_reported(alloc: Global) -> Result<bool, AllocError> {
+    let log = blocks(alloc, 0, 257, "")?;
     let mut source = SliceSource::new(log.as_slice(), &[]);
     let mut room = [b'.'; 256];
     let mut sink = SliceSink::new(&mut room);
-    assert!(rt; judge_why(rt.alloc(), false, &mut source, &mut sink).is_ok());
+    let answer = judge_why(alloc, false, &mut source, &mut sink);
+    let taken = sink.taken();
     let text = "no 65796 24 LimitPassed\n\
         line store c2 -2048 1 00\n\
         roots 1\n\
         steps 65793\n\
         granules 65536\n";
-    assert_eq!(rt; sink.taken(), text.len());
-    assert!(rt; room.starts_with(text.as_bytes()));
-    Ok(())
+    Ok(answer.is_ok() && taken == text.len() && room.starts_with(text.as_bytes()))
 }

@@ -1,0 +1,31 @@
+//! A source without end.
+
+use cap_log::{PullFault, Source};
+
+/// One byte for ever, a byte a pull.
+#[derive(Drop)]
+pub struct Endless(pub u8);
+
+impl Source for Endless {
+    ghost use Rattle.std.specs.Prelude.{false};
+
+    ghost gave = { λ a b xs. Unit {0} };
+
+    ghost ended = { λ s. false };
+
+    ghost faults = { λ s. 0 };
+
+    ghost nothing = { λ s. tt };
+
+    ghost joined = { λ a b c xs ys h k. tt };
+
+    fn pull(&mut self, piece: &mut [u8]) -> Result<usize, PullFault> {
+        match piece.first_mut() {
+            Some(first) => {
+                *first = self.0;
+                Ok(1)
+            }
+            None => Ok(0),
+        }
+    }
+}

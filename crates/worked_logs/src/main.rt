@@ -1,0 +1,41 @@
+//! Judges worked logs in each way that there is, and names those that get another text than is written behind them.
+//!
+//! Standard input has the logs, in rows with an empty line behind each. The first line of a row is `#` or `*` and a
+//! name. Then come the lines of the log, each behind a mark: `|` for one that ends with a line feed, `~` for one
+//! that ends with a carriage return before it, and `!` for bytes without a line feed. Behind them stands the text,
+//! each line behind `=`: the verdict's line, and in a row with `*` also the origins after a yes, and the report on
+//! a no.
+#![tactic(auto)]
+
+mod by_lines;
+mod limits;
+mod origins;
+mod pieces;
+mod reports;
+mod rows;
+mod verdicts;
+
+use crate::limits::limits_hold;
+use crate::rows::Row;
+use std::io;
+
+fn main(rt: HostRuntime) -> io::Result<()> {
+    let text = io::read_to_string(rt.alloc(), rt.stdin())?;
+    let mut logs = 0u32;
+    let mut row = Row::new(rt.alloc());
+    for line in text.split('\n') {
+        if !line.is_empty() {
+            row.add(line)?;
+        } else if !row.is_empty() {
+            if !row.holds(rt.alloc())? {
+                println!(rt; "another text: {}", row.name())?;
+            }
+            logs = logs.saturating_add(1);
+            row = Row::new(rt.alloc());
+        }
+    }
+    if !limits_hold(rt.alloc())? {
+        println!(rt; "another text at a limit")?;
+    }
+    println!(rt; "{logs} logs")
+}

@@ -1,0 +1,84 @@
+//! Worked logs, as the program reads them.
+
+use crate::origins::origins_hold;
+use crate::reports::report_holds;
+use crate::verdicts::{line_behind, verdict_holds};
+use cap_judge::judging::judge_bytes;
+use cap_judge::verdict::Verdict;
+use std::alloc::{AllocError, Global};
+
+/// A log, and the text that belongs to it.
+#[derive(Drop)]
+pub struct Row<'a> {
+    name: &'a str,
+    log: Vec<u8>,
+    text: Vec<u8>,
+    // Whether the text is all that is told of the log, and not the verdict's line alone.
+    is_whole: bool,
+}
+
+impl<'a> Row<'a> {
+    /// No line of a row was added yet.
+    pub fn new(alloc: Global) -> Row<'a> {
+        Row {
+            name: "",
+            log: Vec::new(alloc),
+            text: Vec::new(alloc),
+            is_whole: false,
+        }
+    }
+
+    /// What the log shows.
+    pub fn name(&self) -> &'a str {
+        self.name
+    }
+
+    /// Whether the row has no text.
+    pub fn is_empty(&self) -> bool {
+        self.text.is_empty()
+    }
+
+    /// Adds a line of the row.
+    pub fn add(&mut self, line: &'a str) -> Result<(), AllocError> {
+        match line.as_bytes() {
+            [b'|', b' ', rest @ ..] => append(&mut self.log, rest, b"\n"),
+            [b'|'] => append(&mut self.log, b"", b"\n"),
+            [b'~', b' ', rest @ ..] => append(&mut self.log, rest, b"\r\n"),
+            [b'!', b' ', rest @ ..] => append(&mut self.log, rest, b""),
+            [b'=', b' ', rest @ ..] => append(&mut self.text, rest, b"\n"),
+            _ => {
+                self.name = line;
+                self.is_whole = line.starts_with('*');
+                Ok(())
+            }
+        }
+    }
+
+    /// Whether the log gets its text in each way.
+    pub fn holds(&self, alloc: Global) -> Result<bool, AllocError> {
+        let (log, text) = (self.log.as_slice(), self.text.as_slice());
+        let Ok(verdict) = judge_bytes(alloc, log) else {
+            return Ok(false);
+        };
+        let line = line_behind(text, 0);
+        if !verdict_holds(alloc, log, verdict, line)? {
+            return Ok(false);
+        }
+        if !self.is_whole {
+            return Ok(true);
+        }
+        match verdict {
+            Verdict::Yes { steps: _, roots: _ } => origins_hold(alloc, log, text),
+            Verdict::No {
+                line: _,
+                refusal: _,
+            } => Ok(origins_hold(alloc, log, line)? && report_holds(alloc, log, text)?),
+        }
+    }
+}
+
+// Appends a line and its end.
+fn append(out: &mut Vec<u8>, line: &[u8], end: &[u8]) -> Result<(), AllocError> {
+    out.extend_from_slice(line)?;
+    out.extend_from_slice(end)
+}
