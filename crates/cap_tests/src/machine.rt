@@ -7,9 +7,10 @@ use cap_log::{
 use cap_machine::{Instruction, Machine, Refusal, StepEnd};
 use cap_ops::OpFault;
 use cap_word::{Cap, Word};
+use fakes::Refusing;
 use std::alloc::Global;
 use std::process::Abort;
-use tagmem::{ListStore, NoMemory, PageStore, TaggedStore};
+use tagmem::{ListStore, PageStore, TaggedStore};
 
 /// All permissions and the whole address space, at address 0.
 const ALL: u128 = 0xffff_1fff_fc01_8004_0000_0000_0000_0000;
@@ -248,75 +249,6 @@ fn roots_have_places_of_their_own(rt: HostRuntime) {
     assert_eq!(rt; (machine.roots(), machine.steps()), (2, 1));
 }
 
-// A store that refuses the first granule that is put, and then has memory again.
-#[derive(Drop)]
-struct Refusing<M: TaggedStore> {
-    inner: M,
-    refuses: bool,
-}
-
-impl<M: TaggedStore> Refusing<M> {
-    ghost use Rattle.std.specs.Prelude.{◌≡◌, ◌^◌, ◌<◌, true, None};
-    ghost use Rattle.std.specs.FinMap as map;
-
-    // Whether the put of this granule is the one that is refused.
-    fn is_refused(&mut self, granule: u64) -> bool
-        requires { granule < 2 ^ 60 }
-        ensures kept { self.new.inner ≡ self.old.inner }
-        ensures only_new { result ≡ true → map.get (M.contents self.old.inner) granule ≡ None }
-    {
-        if !self.refuses || self.inner.get(granule).is_some() {
-            return false;
-        }
-        self.refuses = false;
-        true
-    }
-}
-
-impl<M: TaggedStore> TaggedStore for Refusing<M> {
-    ghost contents = { λ s. M.contents s.inner };
-
-    ghost are_stored = { λ s. M.are_stored s.inner };
-
-    ghost count_fits = { λ s. M.count_fits s.inner };
-
-    fn get(&self, granule: u64) -> Option<(bool, [u8; 16])> {
-        self.inner.get(granule)
-    }
-
-    fn code(&self, granule: u64) -> u64 {
-        self.inner.code(granule)
-    }
-
-    fn next_put(&self, granule: u64) -> Option<u64> {
-        self.inner.next_put(granule)
-    }
-
-    fn put_cap(
-        &mut self,
-        granule: u64,
-        tag: bool,
-        bytes: [u8; 16],
-        code: u64,
-    ) -> Result<(), NoMemory> {
-        if self.is_refused(granule) {
-            return Err(NoMemory);
-        }
-        self.inner.put_cap(granule, tag, bytes, code)
-    }
-
-    fn put_bytes(&mut self, granule: u64, byte_index: u8, bytes: &[u8]) -> Result<(), NoMemory> {
-        if self.is_refused(granule) {
-            return Err(NoMemory);
-        }
-        self.inner.put_bytes(granule, byte_index, bytes)
-    }
-
-    fn count(&self) -> u32 {
-        self.inner.count()
-    }
-}
-
 // A root or a step that had no memory is made when there is some, and counted once.
 #[test]
 fn again_after_want_of_memory(rt: HostRuntime) {
@@ -328,10 +260,7 @@ fn again_after_want_of_memory(rt: HostRuntime) {
         ("sc c1 c1 0", (1, 1)),
         ("store c1 0 1 aa", (1, 1)),
     ] {
-        let memory = Refusing {
-            inner: ListStore::new(rt.alloc()),
-            refuses: true,
-        };
+        let memory = Refusing::new(ListStore::new(rt.alloc()), 0);
         assert_eq!(rt; memory.count(), 0);
         let mut machine = Machine::new(memory);
         let root = "root c1 ffff1ffffc0180040000000000000000";

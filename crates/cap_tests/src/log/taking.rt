@@ -1,6 +1,7 @@
 //! Lines of bytes that come in pieces.
 
 use cap_log::{FailingSource, Lines, Next, PullFault, SliceSource, Source};
+use fakes::Endless;
 use std::process::Abort;
 
 const TEXT: &[u8] = b"capcheck 1\n\nend 0\n";
@@ -120,36 +121,11 @@ fn is_over_for_good(rt: HostRuntime) {
     stays_over(&rt, &[b'x'; 200], Next::LineTooLong, Next::LineTooLong);
 }
 
-// The byte x for ever.
-#[derive(Drop)]
-struct Endless;
-
-impl Source for Endless {
-    ghost use Rattle.std.specs.Prelude.{ℕ, List, Bool, false};
-
-    ghost gave = { λ a b xs. Unit {0} };
-
-    ghost ended = { λ s. false };
-
-    ghost faults = { λ s. 0 };
-
-    ghost nothing = { λ s. tt };
-
-    ghost joined = { λ a b c xs ys h k. tt };
-
-    fn pull(&mut self, piece: &mut [u8]) -> Result<usize, PullFault> {
-        for byte in piece.iter_mut().take(1) {
-            *byte = b'x';
-        }
-        Ok(piece.len().min(1))
-    }
-}
-
 #[test]
 fn a_line_without_end(rt: HostRuntime) {
     let mut lines = Lines::new();
-    gives(&rt, &mut lines, &mut Endless, Ok(Next::LineTooLong));
-    gives(&rt, &mut lines, &mut Endless, Ok(Next::LineTooLong));
+    gives(&rt, &mut lines, &mut Endless(b'x'), Ok(Next::LineTooLong));
+    gives(&rt, &mut lines, &mut Endless(b'x'), Ok(Next::LineTooLong));
 }
 
 // The lines before pull number `at`, which fails, and the fault for good.
