@@ -234,8 +234,13 @@ front_made old new bytes rest step unended still begins makes = (
 -- and one that was not
 pub front_refused : (old : Reading) (new : Held) (bytes rest : List ℕ) (step : steps_module.Step) (end : StepEnd) → old.ended ≡ false
     → Begins IsInRange spelling 10 bytes (Step step) rest → EndsStep old.held step end new → EndsFront old bytes end
-front_refused old new bytes rest step end unended begins ends =
-    (Step step, rest, begins, λ text spells. line_known old text (Step step) end unended (spells, step_formed old.held.rules step) (step_ended old.held new step end ends))
+front_refused old new bytes rest step end unended begins ends = (
+  Step step,
+  rest,
+  begins,
+  λ text spells. line_known old text (Step step) end unended (spells, step_formed old.held.rules step)
+      (step_ended old.held new step end ends),
+)
 
 -- the same of bytes that are that step alone
 pub alone_made : (old new : Reading) (bytes rest : List ℕ) (step : steps_module.Step) → old.ended ≡ false → new.ended ≡ false → rest ≡ []
@@ -243,10 +248,12 @@ pub alone_made : (old new : Reading) (bytes rest : List ℕ) (step : steps_modul
 alone_made old new bytes rest step unended still none begins makes =
     subst (TakesFront old bytes new) none (front_made old new bytes rest step unended still begins makes)
 
-pub alone_refused : (old : Reading) (new : Held) (bytes rest : List ℕ) (step : steps_module.Step) (end : StepEnd) → old.ended ≡ false → rest ≡ []
+pub alone_refused : (old : Reading) (new : Held) (bytes rest : List ℕ) (step : steps_module.Step) (end : StepEnd)
+    → old.ended ≡ false → rest ≡ []
     → Begins IsInRange spelling 10 bytes (Step step) rest → EndsStep old.held step end new → EndsAlone old bytes end
 alone_refused old new bytes rest step end unended none begins ends = (
   Step step,
   subst (λ (r : List ℕ). Begins IsInRange spelling 10 bytes (Step step) r) none begins,
-  λ text spells. line_known old text (Step step) end unended (spells, step_formed old.held.rules step) (step_ended old.held new step end ends),
+  λ text spells. line_known old text (Step step) end unended (spells, step_formed old.held.rules step)
+      (step_ended old.held new step end ends),
 )

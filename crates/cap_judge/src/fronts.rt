@@ -27,7 +27,9 @@ fn goes_on(rest: &[u8]) -> bool
 }
 
 // Each kind of step is read and made by its own type: so no step goes through memory. Where a line of any length
-// has room, nothing else tests how many bytes are left.
+// has room, nothing else tests how many bytes are left. The three kinds that are rarest go by `take_any`: without
+// them the loop over a log's lines is small enough for the compiler to make one function of it. Measured: a move
+// takes 179 instructions then, and 224 where it makes two.
 impl<M: TaggedStore> Progress<M> {
     /// Takes the line at the front of some bytes: what comes behind its line feed, or `None`, and nothing has
     /// changed, where no line that has a form stands there whole. Where they are not the `LAST` bytes that are
@@ -57,23 +59,25 @@ impl<M: TaggedStore> Progress<M> {
             Head::Move => self.run::<Move>(operands),
             Head::ClearTag => self.run::<ClearTag>(operands),
             Head::SetBounds => self.run::<SetBounds>(operands),
-            Head::SetBoundsExact => self.run::<SetBoundsExact>(operands),
             Head::SetAddr => self.run::<SetAddr>(operands),
             Head::AndPerm => self.run::<AndPerm>(operands),
-            Head::Seal => self.run::<Seal>(operands),
-            Head::Unseal => self.run::<Unseal>(operands),
             Head::LoadCap => self.run::<LoadCap>(operands),
             Head::StoreCap => self.run::<StoreCap>(operands),
             Head::Load => self.run::<Load>(operands),
             Head::Store => self.run::<Store>(operands),
-            Head::Version | Head::Mode | Head::Root | Head::End => self.take_any(head, operands),
+            Head::Version
+            | Head::Mode
+            | Head::Root
+            | Head::SetBoundsExact
+            | Head::Seal
+            | Head::Unseal
+            | Head::End => { self.take_any(head, operands) }
         }
     }
 
     /// Takes bytes that are the line of a step, with its line feed, and no more; `None`, and nothing has changed,
     /// where they are not. It has a match of its own: with two callers the compiler does not inline `take_front`
-    /// into the loop over a log's lines. Measured over twelve logs: the throughput then falls to 1.10 in the mean
-    /// of that of a judge that proves nothing.
+    /// into the loop over a log's lines, which was 12 per cent slower then on moves.
     #[inline(always)]
     pub fn take_alone(&mut self, line: &[u8]) -> Option<Result<(), StepEnd>>
         requires unended { self.old.ended ≡ false }
@@ -121,9 +125,8 @@ impl<M: TaggedStore> Progress<M> {
     }
 
     // Takes a step of one kind, from behind its head. Where a line of any length had room, so many bytes are left
-    // that the first test never holds; the compiler sees by it that no later one does. It is inlined, so that the
-    // whole loop over a log's lines is one function. Measured: the throughput on moves beside the judge that proves
-    // nothing rises from 1.31 to 1.42.
+    // that the first test never holds; the compiler sees by it that no later one does. It is inlined: by a call a move
+    // takes 27 instructions more.
     #[inline(always)]
     fn run<'a, I: Instruction>(&mut self, operands: &'a [u8]) -> Result<Option<&'a [u8]>, StepEnd>
         requires unended { self.old.ended ≡ false }

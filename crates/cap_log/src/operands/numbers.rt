@@ -1,4 +1,6 @@
 //! Steps whose operands are two registers and a number.
+//!
+//! The fields of each are those of the variant of [`Step`] that has its name, and in the same ranges.
 
 ghost use Rattle.cap_log.specs.declared.heads.Head.TheVariants as heads;
 ghost use Rattle.cap_log.specs.declared.lines.Step.TheVariants as steps;

@@ -12,7 +12,8 @@ returns-clause-taken g c =
     let same : known_of contents c.if-is_none.self ≡ known_of contents c.args.self.now =
     elim c.if-is_none.branch [ then-is_none+in-None w ↦ search rules | else-is_none w ↦ search rules ] in
     subst
-    (λ (k : Known). OnOk c.take_front.result ((bytes : List ℕ) → Taken k bytes → Taken (known_of contents c.take_front.new.self) (bytes ++ line)))
+    (λ (k : Known). OnOk c.take_front.result ((bytes : List ℕ) → Taken k bytes
+    → Taken (known_of contents c.take_front.new.self) (bytes ++ line)))
     same c.take_front.ensures.taken
 
 pub returns-clause-no_memory : goal.returns-clause-no_memory

@@ -28,4 +28,5 @@ returns-in-Err-clause-err g c =
     let behind = c.goes_on.ensures c.if-goes_on.false in
     let ends : EndsStep old.held (g.I.Operands.step read.instruction) c.in-Err.end new = search rules in
     let none : read.rest.now ≡ [] = search rules in
-    alone_refused old new bytes read.rest.now (g.I.Operands.step read.instruction) c.in-Err.end c.requires.unended none read.ensures.some ends
+    alone_refused old new bytes read.rest.now (g.I.Operands.step read.instruction)
+    c.in-Err.end c.requires.unended none read.ensures.some ends

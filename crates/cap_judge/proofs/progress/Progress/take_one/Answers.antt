@@ -9,7 +9,8 @@ returns-in-Some-Ok-clause-whole g c =
     let old = reading_of g.M.TaggedStore.contents c.args.self.now in
     let new = reading_of g.M.TaggedStore.contents c.take_alone.new.self in
     let line = c.args.line.now in
-    let taken = subst (λ (r : Result (Unit {0}) StepEnd). OnOk r (TakesFront old line new [])) c.in-Some-Ok.field-0-is c.in-Some-Ok.ensures.ok in
+    let taken = subst (λ (r : Result (Unit {0}) StepEnd). OnOk r (TakesFront old line new []))
+    c.in-Some-Ok.field-0-is c.in-Some-Ok.ensures.ok in
     (alone_taken old new line taken).0
 
 pub returns-in-Some-Ok-clause-ok : goal.returns-in-Some-Ok-clause-ok
@@ -17,19 +18,22 @@ returns-in-Some-Ok-clause-ok g c =
     let old = reading_of g.M.TaggedStore.contents c.args.self.now in
     let new = reading_of g.M.TaggedStore.contents c.take_alone.new.self in
     let line = c.args.line.now in
-    let taken = subst (λ (r : Result (Unit {0}) StepEnd). OnOk r (TakesFront old line new [])) c.in-Some-Ok.field-0-is c.in-Some-Ok.ensures.ok in
+    let taken = subst (λ (r : Result (Unit {0}) StepEnd). OnOk r (TakesFront old line new []))
+    c.in-Some-Ok.field-0-is c.in-Some-Ok.ensures.ok in
     (alone_taken old new line taken).1
 
 pub returns-in-Some-Err-clause-whole : goal.returns-in-Some-Err-clause-whole
 returns-in-Some-Err-clause-whole g c =
     let old = reading_of g.M.TaggedStore.contents c.args.self.now in
     let line = c.args.line.now in
-    let ended = subst (λ (r : Result (Unit {0}) StepEnd). IfErr r (EndsAlone old line)) c.in-Some-Err.field-0-is c.in-Some-Err.ensures.err in
+    let ended = subst (λ (r : Result (Unit {0}) StepEnd). IfErr r (EndsAlone old line))
+    c.in-Some-Err.field-0-is c.in-Some-Err.ensures.err in
     (alone_ended old line c.in-Some-Err.end c.if-self.false ended).0
 
 pub returns-in-Some-Err-clause-err : goal.returns-in-Some-Err-clause-err
 returns-in-Some-Err-clause-err g c =
     let old = reading_of g.M.TaggedStore.contents c.args.self.now in
     let line = c.args.line.now in
-    let ended = subst (λ (r : Result (Unit {0}) StepEnd). IfErr r (EndsAlone old line)) c.in-Some-Err.field-0-is c.in-Some-Err.ensures.err in
+    let ended = subst (λ (r : Result (Unit {0}) StepEnd). IfErr r (EndsAlone old line))
+    c.in-Some-Err.field-0-is c.in-Some-Err.ensures.err in
     (alone_ended old line c.in-Some-Err.end c.if-self.false ended).1
