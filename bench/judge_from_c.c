@@ -1,6 +1,7 @@
 /*
  * Times the judge that is linked into a program: it reads a log into memory, hands its lines over one by one, and
- * prints the processor's ns for a line, the least of the rounds; then the same for the whole log by one call.
+ * prints the processor's ns for a line, the least of the rounds; then the same for the whole log by one call. How
+ * long each line is was found before, since a program that makes a line knows its length.
  *
  *     judge_from_c LOG ROUNDS
  */
@@ -23,35 +24,50 @@ static double now(void) {
     return (double)spent.tv_sec * 1e9 + (double)spent.tv_nsec;
 }
 
-/* Hands the lines over, and answers how many there are. */
-static size_t by_lines(const char *bytes, size_t length) {
-    capcheck_judge judge = CAPCHECK_NO_JUDGE_YET;
+static char bytes[1 << 26];
+
+/* The length of each line, with its line feed. */
+static uint8_t lengths[1 << 23];
+
+/* Finds how long each line is, and answers how many there are. */
+static size_t find_lines(size_t length) {
     size_t count = 0;
+    for (size_t line = 0; line < length; count++) {
+        const char *end = (const char *)memchr(bytes + line, '\n', length - line);
+        if (end == NULL || end - (bytes + line) > 95 || count == sizeof lengths)
+            stop("a line is cut or too long, or there are too many");
+        lengths[count] = (uint8_t)(end - (bytes + line) + 1);
+        line += lengths[count];
+    }
+    return count;
+}
+
+/* Hands the lines over. */
+static void by_lines(size_t count) {
+    capcheck_judge judge = CAPCHECK_NO_JUDGE_YET;
+    const char *line = bytes;
     if (capcheck_judge_open(&judge) != CAPCHECK_GOES_ON)
         stop("no memory");
-    for (const char *line = bytes; line < bytes + length; count++) {
-        const char *end = (const char *)memchr(line, '\n', (size_t)(bytes + length - line));
-        if (end == NULL || capcheck_judge_line(&judge, line, (size_t)(end - line) + 1) != CAPCHECK_GOES_ON)
+    for (size_t at = 0; at < count; at++) {
+        if (capcheck_judge_line(&judge, line, lengths[at]) != CAPCHECK_GOES_ON)
             stop("a line isn't taken, or at fault");
-        line = end + 1;
+        line += lengths[at];
     }
     if (capcheck_judge_end(&judge).state != CAPCHECK_YES)
         stop("the verdict isn't a yes");
     capcheck_judge_close(&judge);
-    return count;
 }
 
 int main(int argc, char **argv) {
-    static char bytes[1 << 26];
     FILE *file = argc == 3 ? fopen(argv[1], "rb") : NULL;
     if (file == NULL)
         stop("judge_from_c LOG ROUNDS");
     size_t length = fread(bytes, 1, sizeof bytes, file);
+    size_t count = find_lines(length);
     double lines = 0, one_call = 0;
-    size_t count = 0;
     for (int round = 0; round < atoi(argv[2]); round++) {
         double begun = now();
-        count = by_lines(bytes, length);
+        by_lines(count);
         double between = now();
         if (capcheck_judge_bytes((const uint8_t *)bytes, length).state != CAPCHECK_YES)
             stop("the verdict isn't a yes");

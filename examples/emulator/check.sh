@@ -24,14 +24,16 @@ judged() {
     [ "$verdict" = "$1" ] && [ "$status" = "$2" ] || { echo "check.sh: wanted $1, status $2, and got status $status" >&2; exit 1; }
 }
 
-(cd crates/capcheck_c && quietly ${RT_LIB:-rt lib})
+# The two libraries are built side by side.
+(cd crates/capcheck_c && ${RT_LIB:-rt lib}) > "$work/built" 2>&1 &
+other=$!
 judge=${CAPCHECK:-}
 if [ -z "$judge" ]; then
     (cd crates/capcheck && quietly rt run -- judge ../../examples/moves.log)
     judge=crates/capcheck/out/capcheck
 fi
-
 quietly sh judge/build.sh
+wait "$other" || { cat "$work/built" >&2; echo 'check.sh: failed: the library for C' >&2; exit 1; }
 library=crates/capcheck_c/out/libcapcheck_c.a
 libraries="judge/out/libcapcheck_judge.a $library"
 strict='-Wall -Wextra -Werror -pedantic -O2 -Iinclude'
@@ -53,25 +55,33 @@ for kind in moves memory mixed; do
 done
 logs="$(echo examples/*.log) $(echo "$work"/*.log)"
 
-# The judge for C against the program, log by log, as C and as C++, and by each compiler that is here.
+# The judge for C against the program, log by log, as C and as C++, and by each compiler that is here, side by side.
 for log in $logs; do
     "$judge" judge "$log" || [ $? = 1 ]
 done > "$work/wanted"
 compared() {
-    quietly "$@" $strict -Wconversion examples/emulator/judging.c -x none $libraries -o "$work/judging"
-    "$work/judging" $logs > "$work/got"
-    cmp "$work/wanted" "$work/got" || { echo "check.sh: judging, built by $*, gives other verdicts" >&2; exit 1; }
+    local own
+    own=$(mktemp -d "$work/compared.XXXXXX")
+    "$@" $strict -Wconversion examples/emulator/judging.c -x none $libraries -o "$own/judging" > "$own/said" 2>&1 ||
+        { cat "$own/said" >&2; echo "check.sh: failed: $*" >&2; exit 1; }
+    "$own/judging" $logs > "$own/got"
+    cmp "$work/wanted" "$own/got" || { echo "check.sh: judging, built by $*, gives other verdicts" >&2; exit 1; }
 }
+tried=()
 for compiler in "${CC:-cc}" gcc clang; do
     command -v "$compiler" > "$work/found" || continue
-    compared "$compiler" -std=c99
-    compared "$compiler" -std=c11
+    compared "$compiler" -std=c99 & tried+=($!)
+    compared "$compiler" -std=c11 & tried+=($!)
 done
 for compiler in "${CXX:-c++}" g++ clang++; do
     command -v "$compiler" > "$work/found" || continue
-    compared "$compiler" -std=c++11 -x c++
-    compared "$compiler" -std=c++20 -x c++
+    compared "$compiler" -std=c++11 -x c++ & tried+=($!)
+    compared "$compiler" -std=c++20 -x c++ & tried+=($!)
 done
+for one in "${tried[@]}"; do
+    wait "$one"
+done
+quietly ${CC:-cc} -std=c99 $strict -Wconversion examples/emulator/judging.c $libraries -o "$work/judging"
 if command -v valgrind > "$work/found"; then
     quietly valgrind -q --leak-check=full --error-exitcode=9 "$work/judging" $logs
 fi

@@ -9,8 +9,6 @@ mod log;
 #[cfg(test)]
 mod machine;
 #[cfg(test)]
-mod ops;
-#[cfg(test)]
 mod texts;
 #[cfg(test)]
 mod vectors;

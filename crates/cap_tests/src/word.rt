@@ -1,5 +1,4 @@
 //! Words and their texts.
 
 mod layout;
-mod memory;
 mod texts;

@@ -38,31 +38,6 @@ fn ranges_end_as_defined(rt: HostRuntime) {
 }
 
 #[test]
-fn given_addresses(rt: HostRuntime) {
-    for (word, address, keeps) in [
-        (0xffff1ffffbffc0000000000000000000, 0xfffffffffffff800, true),
-        (0xffff1ffffbffc0000000000000000000, 0x37ff, true),
-        (0xffff1ffffbffc0000000000000000000, 0x3800, false),
-        (
-            0xffff1ffffbffc0000000000000000000,
-            0xfffffffffffff7ff,
-            false,
-        ),
-        (0xffff1ffffc0180040000000000000000, 0xffffffffffffffff, true),
-        (0xffff1ffffc0180030000000000000000, 0xffffffffffffffff, true),
-        (0xffff1ffffc0180020000000000000000, 0xe000000000000000, true),
-        (0xffff1ffffc0180010000000000000000, 0x6fffffffffffffff, true),
-        (
-            0xffff1ffffc0180010000000000000000,
-            0x7000000000000000,
-            false,
-        ),
-    ] {
-        assert_eq!(rt; keeps_bounds(Word(word), address), keeps);
-    }
-}
-
-#[test]
 fn given_ranges(rt: HostRuntime) {
     for (word, range) in [
         (

@@ -113,27 +113,6 @@ fn requests_at_the_end_round_as_defined(rt: HostRuntime) {
     }
 }
 
-#[test]
-fn given_requests(rt: HostRuntime) {
-    for (base, length, rounded_base, rounded_top, e, exact) in [
-        (0x1000, 0xfff, 0x1000, 0x1fff, 0, true),
-        (0x1000, 0x1001, 0x1000, 0x2008, 0, false),
-        (1, 0x1fff, 0, 0x2000, 1, false),
-        (1, u64::MAX - 1, 0, 1 << 64, 52, false),
-        (0, 0, 0, 0, 0, true),
-        (u64::MAX, 1, u64::MAX, 1 << 64, 0, true),
-        (0, 1 << 63, 0, 1 << 63, 51, true),
-        (1, u64::MAX, 0, 1 << 64, 52, false),
-    ] {
-        let rounded = round(base, length);
-        assert_eq!(rt; rounded.base, rounded_base);
-        assert_eq!(rt; rounded.top, rounded_top);
-        assert_eq!(rt; rounded.e, e);
-        assert_eq!(rt; rounded.ie, length >= 4096);
-        assert_eq!(rt; rounded.exact, exact);
-    }
-}
-
 // The reserved bits and the flag of a word stay.
 #[test]
 fn other_fields_are_kept(rt: HostRuntime) {

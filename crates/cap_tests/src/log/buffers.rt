@@ -10,12 +10,3 @@ fn puts_one_piece_behind_another(rt: HostRuntime) {
     assert_eq!(rt; put_hex(&mut buffer, 8, 5, 0x1_0abc), 13);
     assert_eq!(rt; buffer, *b"4096 at 10abc...................");
 }
-
-#[test]
-fn puts_the_greatest_numbers(rt: HostRuntime) {
-    let mut buffer = [b'.'; 32];
-    assert_eq!(rt; put_decimal(&mut buffer, 0, u64::MAX), 20);
-    assert_eq!(rt; buffer, *b"18446744073709551615............");
-    assert_eq!(rt; put_hex(&mut buffer, 0, 32, u128::MAX), 32);
-    assert_eq!(rt; buffer, [b'f'; 32]);
-}

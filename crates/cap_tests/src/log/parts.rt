@@ -1,6 +1,6 @@
 //! Parts of lines, one by one and in a row.
 
-use cap_log::{Head, Part, Place, read_line};
+use cap_log::{Head, Part, Place};
 use cap_word::{Word, null};
 use std::process::Abort;
 
@@ -41,13 +41,6 @@ fn refuses_other_parts(rt: HostRuntime) {
     refuses::<Word>(&rt, b"00001ffffc0180040000000000000000 ");
     refuses::<(Place, Word)>(&rt, b"c5  00001ffffc0180040000000000000000\n");
     refuses::<(Place, Word)>(&rt, b"c500001ffffc0180040000000000000000\n");
-}
-
-#[test]
-fn refuses_other_counts(rt: HostRuntime) {
-    assert!(rt; read_line(b"end 052").is_none());
-    assert!(rt; read_line(b"end ").is_none());
-    assert!(rt; read_line(b"end 5 2").is_none());
 }
 
 #[test]

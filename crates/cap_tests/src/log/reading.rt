@@ -1,9 +1,6 @@
 //! Lines that are read, each form at the ends of its ranges, and texts that are no line.
 
-use cap_log::{
-    AndPerm, ClearTag, Head, Line, Load, LoadCap, Mode, Move, Operands, Place, Seal, SetAddr,
-    SetBounds, SetBoundsExact, Step, Store, StoreCap, Unseal, read_line, take_line, take_operands,
-};
+use cap_log::{Head, Line, Mode, Place, Step, read_line, take_line, take_operands};
 use cap_word::{Cap, Word};
 use std::process::Abort;
 
@@ -296,73 +293,6 @@ fn takes_operands_behind_a_head(rt: HostRuntime) {
     is_taken(&rt, take_operands(Head::End, b"7\nx"), Line::End(7), b"x");
     assert!(rt; take_operands(Head::End, b"7").is_none());
     assert!(rt; take_operands(Head::Version, b"3\n").is_none());
-}
-
-// Operands of this kind of step, taken from behind the head of a line, are those that the line has.
-fn takes_step<O: Operands + Drop>(rt: &impl Abort, head: &[u8], line: &[u8]) {
-    assert!(rt; O::take(line).is_none());
-    match (line.strip_prefix(head), take_line(line)) {
-        (Some(operands), Some((found, _))) => match O::take(operands) {
-            Some((step, rest)) => {
-                assert_eq!(rt; Line::Step(step.into_step()), found);
-                assert_eq!(rt; rest, b"x".as_slice());
-            }
-            None => assert!(rt; false),
-        },
-        _ => assert!(rt; false),
-    }
-}
-
-#[test]
-fn takes_each_kind_of_step(rt: HostRuntime) {
-    takes_step::<Move>(
-        &rt,
-        b"move ",
-        b"move c1 c2 = 1 00000000000000000000000000000000\nx",
-    );
-    takes_step::<ClearTag>(
-        &rt,
-        b"cleartag ",
-        b"cleartag c1 c2 = 1 00000000000000000000000000000000\nx",
-    );
-    takes_step::<SetBounds>(
-        &rt,
-        b"setbounds ",
-        b"setbounds c1 c2 0000000000000040 = 1 00000000000000000000000000000000\nx",
-    );
-    takes_step::<SetBoundsExact>(
-        &rt,
-        b"setboundsexact ",
-        b"setboundsexact c1 c2 0000000000000040 = 1 00000000000000000000000000000000\nx",
-    );
-    takes_step::<SetAddr>(
-        &rt,
-        b"setaddr ",
-        b"setaddr c1 c2 0000000000000040 = 1 00000000000000000000000000000000\nx",
-    );
-    takes_step::<AndPerm>(
-        &rt,
-        b"andperm ",
-        b"andperm c1 c2 0000000000000040 = 1 00000000000000000000000000000000\nx",
-    );
-    takes_step::<Seal>(
-        &rt,
-        b"seal ",
-        b"seal c1 c2 c3 = 1 00000000000000000000000000000000\nx",
-    );
-    takes_step::<Unseal>(
-        &rt,
-        b"unseal ",
-        b"unseal c1 c2 c3 = 1 00000000000000000000000000000000\nx",
-    );
-    takes_step::<LoadCap>(
-        &rt,
-        b"lc ",
-        b"lc c1 c2 -16 = 1 00000000000000000000000000000000\nx",
-    );
-    takes_step::<StoreCap>(&rt, b"sc ", b"sc c1 c2 -16\nx");
-    takes_step::<Load>(&rt, b"load ", b"load c1 8 2 = 5678\nx");
-    takes_step::<Store>(&rt, b"store ", b"store c1 8 2 5678\nx");
 }
 
 #[test]

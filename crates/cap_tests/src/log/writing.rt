@@ -23,54 +23,28 @@ fn rewrites(rt: &impl Abort, text: &[u8]) {
 }
 
 #[test]
-fn rewrites_versions_roots_and_ends(rt: HostRuntime) {
-    rewrites(&rt, b"capcheck 1");
-    rewrites(&rt, b"root c31 ffff1ffffc0180040000000000000000");
-    rewrites(
-        &rt,
-        b"root @fffffffffffffff0 00000000000000000000000000000000",
-    );
-    rewrites(&rt, b"end 4294967295");
-}
-
-#[test]
-fn rewrites_register_steps(rt: HostRuntime) {
-    rewrites(&rt, b"move c2 c31 = 1 ffff1ffffc0180040000000000000000");
-    rewrites(&rt, b"cleartag c10 c0 = 0 00000000000000000000000000000000");
-    rewrites(&rt, b"seal c1 c0 c31 = 1 ffff1ffffc0180040000000000000000");
-    rewrites(
-        &rt,
-        b"unseal c31 c31 c0 = 0 00000000000000000000000000000000",
-    );
-}
-
-#[test]
-fn rewrites_number_steps(rt: HostRuntime) {
-    rewrites(
-        &rt,
-        b"setbounds c3 c2 0000000000000000 = 1 ffff1ffffc0180040000000000000000",
-    );
-    rewrites(
-        &rt,
-        b"setboundsexact c31 c31 ffffffffffffffff = 1 ffff1ffffc0180040000000000000000",
-    );
-    rewrites(
-        &rt,
-        b"setaddr c2 c1 000000000003fffb = 0 00000000000000000000000000000000",
-    );
-    rewrites(
-        &rt,
-        b"andperm c4 c2 000000000007fffe = 1 ffff1ffffc0180040000000000000000",
-    );
-}
-
-#[test]
-fn rewrites_accesses(rt: HostRuntime) {
-    rewrites(&rt, b"lc c3 c1 0 = 1 ffff1ffffc0180040000000000000000");
-    rewrites(&rt, b"sc c0 c31 -2048");
-    rewrites(&rt, b"load c1 -8 8 = ffffffffffffffff");
-    rewrites(&rt, b"store c1 2047 1 ff");
-    rewrites(&rt, b"store c1 8 4 12345678");
+fn rewrites_lines_of_each_kind(rt: HostRuntime) {
+    for text in [
+        "capcheck 1",
+        "root c31 ffff1ffffc0180040000000000000000",
+        "root @fffffffffffffff0 00000000000000000000000000000000",
+        "end 4294967295",
+        "move c2 c31 = 1 ffff1ffffc0180040000000000000000",
+        "cleartag c10 c0 = 0 00000000000000000000000000000000",
+        "seal c1 c0 c31 = 1 ffff1ffffc0180040000000000000000",
+        "unseal c31 c31 c0 = 0 00000000000000000000000000000000",
+        "setbounds c3 c2 0000000000000000 = 1 ffff1ffffc0180040000000000000000",
+        "setboundsexact c31 c31 ffffffffffffffff = 1 ffff1ffffc0180040000000000000000",
+        "setaddr c2 c1 000000000003fffb = 0 00000000000000000000000000000000",
+        "andperm c4 c2 000000000007fffe = 1 ffff1ffffc0180040000000000000000",
+        "lc c3 c1 0 = 1 ffff1ffffc0180040000000000000000",
+        "sc c0 c31 -2048",
+        "load c1 -8 8 = ffffffffffffffff",
+        "store c1 2047 1 ff",
+        "store c1 8 4 12345678",
+    ] {
+        rewrites(&rt, text.as_bytes());
+    }
 }
 
 #[test]
