@@ -5,22 +5,9 @@ use Rattle.std.proofs.lemmas.Nat.{pow_pos, shl_whole, shl_below}
 use Rattle.std.proofs.lemmas.Bool.{cases_lt}
 use Rattle.std.proofs.lemmas.Bool.Decides.{nat_tests}
 use Rattle.cap_word.specs.Fields.{ie_of, e_of, b_of, t_of, address_of}
-use Rattle.cap_bounds.specs.Bounds.{
-  window_start_at,
-  IsResidue,
-  IsWindow,
-  AreBounds,
-  span_at,
-  mantissa_of,
-  cut_exponent_of,
-  unit_of,
-  window_size,
-  raw_base_at,
-  top_at,
-  length_of,
-  base_of,
-  top_of,
-}
+use Rattle.cap_bounds.specs.Bounds.{window_start_at, IsResidue, IsWindow, AreBounds, span_at}
+use Rattle.cap_bounds.specs.Bounds.{mantissa_of, cut_exponent_of, unit_of, window_size, raw_base_at}
+use Rattle.cap_bounds.specs.Bounds.{top_at, length_of, base_of, top_of}
 use Rattle.cap_bounds.specs.Range.{window_start}
 use Rattle.cap_bounds.proofs.Residues.{IsResidue-unique, same_residue}
 use Rattle.cap_bounds.proofs.Windows.{start_below, end_above, start_aligned, raw_from_start, raw_above, raw_within, raw_residue}

@@ -12,15 +12,9 @@ use Rattle.cap_bounds.proofs.BoundedWords.{e_from, cut_from}
 use Rattle.cap_bounds.proofs.Decoded.{exponent-le, b_of-lt, length_is}
 use Rattle.cap_bounds.proofs.Units.{div_up-le}
 use Rattle.cap_bounds.proofs.LeastExponents.{IsLeastExponent-rounded}
-use Rattle.cap_bounds.proofs.Roundings.{
-  grain_of,
-  rounded_base-short,
-  rounded_top-short,
-  rounded_base-long,
-  rounded_top-long,
-  rounded_base-le,
-  rounded_top-ge,
-}
+use Rattle.cap_bounds.proofs.Roundings.{grain_of, rounded_base-short, rounded_top-short}
+use Rattle.cap_bounds.proofs.Roundings.{rounded_base-long, rounded_top-long, rounded_base-le}
+use Rattle.cap_bounds.proofs.Roundings.{rounded_top-ge}
 
 -- without IE a word is shorter than 4096
 length-short : (w : ℕ) → ie_of w ≡ false → length_of w < 4096

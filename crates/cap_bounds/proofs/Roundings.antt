@@ -4,16 +4,8 @@ use Rattle.std.proofs.Math.Nat.{mul-le-mul_right, mul-div_cancel, mod-eq_of_lt, 
 use Rattle.std.proofs.lemmas.Nat.{pow_pos}
 use Rattle.std.proofs.lemmas.Bool.{cases_lt}
 use Rattle.std.proofs.lemmas.Bool.Decides.{nat_tests}
-use Rattle.cap_bounds.specs.Rounding.{
-  div_up,
-  IsLeastExponent,
-  rounded_ie,
-  rounded_exponent,
-  rounded_base,
-  rounded_top,
-  rounded_b,
-  rounded_t,
-}
+use Rattle.cap_bounds.specs.Rounding.{div_up, IsLeastExponent, rounded_ie, rounded_exponent}
+use Rattle.cap_bounds.specs.Rounding.{rounded_base, rounded_top, rounded_b, rounded_t}
 use Rattle.cap_bounds.proofs.Units.{div_up-ge, div_up-le, down-le}
 use Rattle.cap_bounds.proofs.LeastExponents.{IsLeastExponent-rounded, IsLeastExponent-unique, rounded_exponent-short, rounded_exponent-le}
 use Rattle.cap_bounds.proofs.Powers.{pow_split, grain_is}

@@ -6,19 +6,9 @@ use Rattle.std.proofs.lemmas.Bool.{cases_lt}
 use Rattle.std.proofs.lemmas.Bool.Decides.{nat_tests}
 use Rattle.cap_word.specs.Fields.{ie_of, b_of, t_of, address_of}
 use Rattle.cap_bounds.specs.Bounds.{span_at, cut_exponent_of, unit_of, raw_base_at, length_of, base_of, top_of}
-use Rattle.cap_bounds.specs.SailDecoding.{
-  below_bit,
-  sail_mantissa,
-  sail_a3,
-  sail_a_top,
-  sail_high_three,
-  sail_r3,
-  sail_bound,
-  sail_corrected_top,
-  sail_base_65,
-  sail_base,
-  sail_top,
-}
+use Rattle.cap_bounds.specs.SailDecoding.{below_bit, sail_mantissa, sail_a3, sail_a_top}
+use Rattle.cap_bounds.specs.SailDecoding.{sail_high_three, sail_r3, sail_bound, sail_corrected_top}
+use Rattle.cap_bounds.specs.SailDecoding.{sail_base_65, sail_base, sail_top}
 use Rattle.cap_bounds.proofs.Powers.{pow_split}
 use Rattle.cap_bounds.proofs.Mantissas.{span_at-lt}
 use Rattle.cap_bounds.proofs.Decoded.{exponent-le, b_of-lt, t_of-lt, length_is, length_of-lt, top_at-corrected, top_at-uncorrected}

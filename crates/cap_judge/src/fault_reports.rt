@@ -5,12 +5,7 @@ ghost use Rattle.cap_machine.specs.Helds.{account_of, held_of};
 ghost use Rattle.cap_log.specs.Lines.{IsPlace};
 ghost use Rattle.cap_bounds.specs.Bounds.{length_of};
 ghost use Rattle.cap_judge.specs.FaultLines.{bytes_of};
-ghost use Rattle.cap_judge.specs.FaultReports.{
-  AreDetails,
-  IsLineReport,
-  count_lines,
-  root_lines,
-};
+ghost use Rattle.cap_judge.specs.FaultReports.{AreDetails, IsLineReport, count_lines, root_lines};
 
 use crate::fault_lines::FaultLine;
 use crate::step_lines::put_step_lines;

@@ -2,14 +2,8 @@
 
 ghost use Rattle.std.specs.Prelude.{◌≡◌, ℕ, ◌+◌, ◌*◌, ◌≤◌, ◌++◌, length, take, drop};
 ghost use Rattle.cap_ops.specs.Refusals.{refusal_of};
-ghost use Rattle.cap_judge.specs.Parts.{
-  IsWritten,
-  cleared_line,
-  differs_line,
-  lines_of_parts,
-  part_lines,
-  where_different,
-};
+ghost use Rattle.cap_judge.specs.Parts.{IsWritten, cleared_line, differs_line, lines_of_parts, part_lines};
+ghost use Rattle.cap_judge.specs.Parts.{where_different};
 
 use cap_log::Place;
 use cap_log::buffers::{put, put_decimal};

@@ -9,38 +9,15 @@ ghost use Rattle.cap_bounds.specs.Rounding.{rounded_base, rounded_top};
 ghost use Rattle.cap_log.specs.Lines.{IsDataSize, IsDataValue, IsOffset, IsStepInRange};
 ghost use Rattle.cap_log.specs.declared.lines.Place.TheVariants as places;
 ghost use Rattle.cap_log.specs.declared.lines.Step.TheVariants as steps;
-ghost use Rattle.cap_ops.specs.Operations.{
-  and_perm_result,
-  and_perm_tests,
-  clear_result,
-  seal_result,
-  seal_tests,
-  set_addr_result,
-  set_addr_tests,
-  set_bounds_result,
-  set_bounds_tests,
-  unseal_result,
-  unseal_tests,
-};
+ghost use Rattle.cap_ops.specs.Operations as ops;
 ghost use Rattle.cap_ops.specs.Tests.{first_of};
 ghost use Rattle.cap_machine.specs.Helds.{account_of, held_of, state_of};
 ghost use Rattle.cap_machine.specs.Steps.{Read, Written, address_through, clear_row, row_of};
 ghost use Rattle.cap_judge.specs.Parts.{IsWritten, lines_of_parts};
-ghost use Rattle.cap_judge.specs.StepLines.{
-  IfWritten,
-  asked_parts,
-  authority_part,
-  compared_parts,
-  lost_for,
-  needs_to_store,
-  operand_parts,
-  range_part,
-  reached_parts,
-  request_parts,
-  result_lines,
-  source_part,
-  step_lines,
-};
+ghost use Rattle.cap_judge.specs.StepLines.{IfWritten, asked_parts, authority_part, compared_parts};
+ghost use Rattle.cap_judge.specs.StepLines.{lost_for, needs_to_store, operand_parts, range_part};
+ghost use Rattle.cap_judge.specs.StepLines.{reached_parts, request_parts, result_lines, source_part};
+ghost use Rattle.cap_judge.specs.StepLines.{step_lines};
 ghost use Rattle.cap_judge.specs.declared.parts.Part.TheVariants as parts;
 
 use crate::operands::{authority_in, granule_in, reached, source_in};
@@ -449,8 +426,8 @@ fn fault_in(outcome: Result<Cap, OpFault>) -> Option<OpFault>
 
 // A capability with other bounds.
 fn bounded(held: Cap, length: u64, exact: bool) -> Given
-    ensures cap { result.cap ≡ clear_result (set_bounds_tests held length exact) (set_bounds_result held length) }
-    ensures fault { result.fault ≡ first_of (set_bounds_tests held length exact) }
+    ensures cap { result.cap ≡ ops.clear_result (ops.set_bounds_tests held length exact) (ops.set_bounds_result held length) }
+    ensures fault { result.fault ≡ first_of (ops.set_bounds_tests held length exact) }
 {
     Given {
         cap: set_bounds_clear(held, length, exact),
@@ -460,8 +437,8 @@ fn bounded(held: Cap, length: u64, exact: bool) -> Given
 
 // A capability with another address.
 fn moved(held: Cap, address: u64) -> Given
-    ensures cap { result.cap ≡ clear_result (set_addr_tests held address) (set_addr_result held address) }
-    ensures fault { result.fault ≡ first_of (set_addr_tests held address) }
+    ensures cap { result.cap ≡ ops.clear_result (ops.set_addr_tests held address) (ops.set_addr_result held address) }
+    ensures fault { result.fault ≡ first_of (ops.set_addr_tests held address) }
 {
     Given {
         cap: set_addr_clear(held, address),
@@ -471,8 +448,8 @@ fn moved(held: Cap, address: u64) -> Given
 
 // A capability with fewer permissions.
 fn permitted(held: Cap, mask: u64) -> Given
-    ensures cap { result.cap ≡ clear_result (and_perm_tests held) (and_perm_result held mask) }
-    ensures fault { result.fault ≡ first_of (and_perm_tests held) }
+    ensures cap { result.cap ≡ ops.clear_result (ops.and_perm_tests held) (ops.and_perm_result held mask) }
+    ensures fault { result.fault ≡ first_of (ops.and_perm_tests held) }
 {
     Given {
         cap: and_perm_clear(held, mask),
@@ -482,8 +459,8 @@ fn permitted(held: Cap, mask: u64) -> Given
 
 // A capability that is sealed by an authority.
 fn sealed(held: Cap, authority: Cap) -> Given
-    ensures cap { result.cap ≡ clear_result (seal_tests held authority) (seal_result held authority) }
-    ensures fault { result.fault ≡ first_of (seal_tests held authority) }
+    ensures cap { result.cap ≡ ops.clear_result (ops.seal_tests held authority) (ops.seal_result held authority) }
+    ensures fault { result.fault ≡ first_of (ops.seal_tests held authority) }
 {
     Given {
         cap: seal_clear(held, authority),
@@ -493,8 +470,8 @@ fn sealed(held: Cap, authority: Cap) -> Given
 
 // A capability that is unsealed by an authority.
 fn unsealed(held: Cap, authority: Cap) -> Given
-    ensures cap { result.cap ≡ clear_result (unseal_tests held authority) (unseal_result held authority) }
-    ensures fault { result.fault ≡ first_of (unseal_tests held authority) }
+    ensures cap { result.cap ≡ ops.clear_result (ops.unseal_tests held authority) (ops.unseal_result held authority) }
+    ensures fault { result.fault ≡ first_of (ops.unseal_tests held authority) }
 {
     Given {
         cap: unseal_clear(held, authority),

@@ -5,14 +5,8 @@ ghost use Rattle.cap_word.specs.Memory.{low_bytes};
 ghost use Rattle.cap_log.specs.Lines.{IsDataSize, IsDataValue, IsOffset, IsTarget};
 ghost use Rattle.cap_log.specs.declared.lines.Step.TheVariants as steps;
 ghost use Rattle.cap_ops.specs.Sizes.{size_fits};
-ghost use Rattle.cap_machine.specs.Changes.{
-  EndsPut,
-  ReachesAddress,
-  code_for,
-  is_past_limits,
-  with_cap_put,
-  with_value_put,
-};
+ghost use Rattle.cap_machine.specs.Changes.{EndsPut, ReachesAddress, code_for, is_past_limits};
+ghost use Rattle.cap_machine.specs.Changes.{with_cap_put, with_value_put};
 ghost use Rattle.cap_machine.specs.Helds.{AnswersStep, code_in, held_of, state_of};
 ghost use Rattle.cap_machine.specs.Parents.{IsSoundCap};
 ghost use Rattle.cap_machine.specs.Places.{IsCoded};

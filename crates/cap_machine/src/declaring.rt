@@ -6,13 +6,8 @@ ghost use Rattle.cap_ops.specs.Tests.{first_of};
 ghost use Rattle.cap_bounds.specs.Bounds.{IsSound};
 ghost use Rattle.cap_log.specs.Lines.{IsPlace};
 ghost use Rattle.cap_machine.specs.States.{key_of, tagged};
-ghost use Rattle.cap_machine.specs.Accounts.{
-  granule_of,
-  is_new,
-  most_roots,
-  passes_granule_limit,
-  root_tests,
-};
+ghost use Rattle.cap_machine.specs.Accounts.{granule_of, is_new, most_roots, passes_granule_limit};
+ghost use Rattle.cap_machine.specs.Accounts.{root_tests};
 ghost use Rattle.cap_machine.specs.Changes.{Placed};
 ghost use Rattle.cap_machine.specs.Helds.{EndsRoot, TakesRoot, held_of, state_of, account_of};
 

@@ -1,18 +1,7 @@
 //! Steps that are operations on registers.
 
 ghost use Rattle.std.specs.Prelude.{◌≤◌, Ok};
-ghost use Rattle.cap_ops.specs.Operations.{
-  and_perm_result,
-  and_perm_tests,
-  seal_result,
-  seal_tests,
-  set_addr_result,
-  set_addr_tests,
-  set_bounds_result,
-  set_bounds_tests,
-  unseal_result,
-  unseal_tests,
-};
+ghost use Rattle.cap_ops.specs.Operations as ops;
 ghost use Rattle.cap_machine.specs.Helds.{EndsBy};
 
 use crate::ends::StepEnd;
@@ -99,7 +88,7 @@ impl Instruction for Unseal {
 
 #[inline(never)]
 fn set_bounds_by(rules: Rules, source: Cap, length: u64, exact: bool) -> Result<Cap, OpFault>
-    ensures { EndsBy rules (set_bounds_tests source length exact) (set_bounds_result source length) result }
+    ensures { EndsBy rules (ops.set_bounds_tests source length exact) (ops.set_bounds_result source length) result }
 {
     match rules {
         Rules::TwoClear => Ok(set_bounds_clear(source, length, exact)),
@@ -110,7 +99,7 @@ fn set_bounds_by(rules: Rules, source: Cap, length: u64, exact: bool) -> Result<
 // Its path by strict rules stands in the loop over a log's lines; the one in clear mode is called.
 #[inline(always)]
 fn set_addr_by(rules: Rules, source: Cap, address: u64) -> Result<Cap, OpFault>
-    ensures { EndsBy rules (set_addr_tests source address) (set_addr_result source address) result }
+    ensures { EndsBy rules (ops.set_addr_tests source address) (ops.set_addr_result source address) result }
 {
     match rules {
         Rules::TwoClear => Ok(set_addr_clear(source, address)),
@@ -121,7 +110,7 @@ fn set_addr_by(rules: Rules, source: Cap, address: u64) -> Result<Cap, OpFault>
 // Its path by strict rules stands in the loop over a log's lines; the one in clear mode is called.
 #[inline(always)]
 fn and_perm_by(rules: Rules, source: Cap, mask: u64) -> Result<Cap, OpFault>
-    ensures { EndsBy rules (and_perm_tests source) (and_perm_result source mask) result }
+    ensures { EndsBy rules (ops.and_perm_tests source) (ops.and_perm_result source mask) result }
 {
     match rules {
         Rules::TwoClear => Ok(and_perm_clear(source, mask)),
@@ -131,7 +120,7 @@ fn and_perm_by(rules: Rules, source: Cap, mask: u64) -> Result<Cap, OpFault>
 
 #[inline(never)]
 fn seal_by(rules: Rules, source: Cap, authority: Cap) -> Result<Cap, OpFault>
-    ensures { EndsBy rules (seal_tests source authority) (seal_result source authority) result }
+    ensures { EndsBy rules (ops.seal_tests source authority) (ops.seal_result source authority) result }
 {
     match rules {
         Rules::TwoClear => Ok(seal_clear(source, authority)),
@@ -141,7 +130,7 @@ fn seal_by(rules: Rules, source: Cap, authority: Cap) -> Result<Cap, OpFault>
 
 #[inline(never)]
 fn unseal_by(rules: Rules, source: Cap, authority: Cap) -> Result<Cap, OpFault>
-    ensures { EndsBy rules (unseal_tests source authority) (unseal_result source authority) result }
+    ensures { EndsBy rules (ops.unseal_tests source authority) (ops.unseal_result source authority) result }
 {
     match rules {
         Rules::TwoClear => Ok(unseal_clear(source, authority)),

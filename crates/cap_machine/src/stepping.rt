@@ -3,15 +3,8 @@
 ghost use Rattle.std.specs.Prelude.{◌≡◌, ◌↔◌, ◌<◌, ◌≤◌, ◌+◌, MatchResult, OnOk, IfOk, Ok, Err, None, Some, true, false};
 ghost use Rattle.cap_ops.specs.Tests.{first_of};
 ghost use Rattle.cap_log.specs.Lines.{IsStepInRange, IsTarget};
-ghost use Rattle.cap_machine.specs.Changes.{
-  Derives,
-  EndsAccess,
-  IsOperation,
-  IsSource,
-  code_for,
-  last_tests,
-  with_register,
-};
+ghost use Rattle.cap_machine.specs.Changes.{Derives, EndsAccess, IsOperation, IsSource, code_for};
+ghost use Rattle.cap_machine.specs.Changes.{last_tests, with_register};
 ghost use Rattle.cap_machine.specs.Escapes.{ClearsBeyond, Escapes};
 ghost use Rattle.cap_machine.specs.Helds.{AnswersStep, held_of, state_of};
 ghost use Rattle.cap_machine.specs.Parents.{IsSoundCap, StaysWithinParents};

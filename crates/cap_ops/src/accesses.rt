@@ -1,14 +1,8 @@
 //! Accesses to memory through an authority.
 
 ghost use Rattle.std.specs.Prelude.{◌≡◌, ◌<◌, ◌≤◌, ◌%◌, ◌+◌, ◌↔◌, None, Some, true, MatchResult, IfOk, IsTrue};
-ghost use Rattle.cap_ops.specs.Accesses.{
-  IsAllowed,
-  access_address,
-  access_tests,
-  loaded_result,
-  permission_for,
-  stored_tests,
-};
+ghost use Rattle.cap_ops.specs.Accesses.{IsAllowed, access_address, access_tests, loaded_result};
+ghost use Rattle.cap_ops.specs.Accesses.{permission_for, stored_tests};
 ghost use Rattle.cap_bounds.specs.Bounds.{IsSound};
 ghost use Rattle.cap_ops.specs.Authority.{StaysWithin};
 ghost use Rattle.cap_ops.specs.Operations.{covers};

@@ -7,21 +7,10 @@ ghost use Rattle.cap_word.specs.Fields.{address_of};
 ghost use Rattle.cap_bounds.specs.Bounds.{IsInside, IsSound, base_of, top_of};
 ghost use Rattle.cap_ops.specs.Authority.{StaysWithin};
 ghost use Rattle.cap_ops.specs.Permissions.{is_sealed};
-ghost use Rattle.cap_ops.specs.Operations.{
-  Clears,
-  IsStrictWhereTagged,
-  and_perm_result,
-  and_perm_tests,
-  clear_result,
-  seal_result,
-  seal_tests,
-  set_addr_result,
-  set_addr_tests,
-  set_bounds_result,
-  set_bounds_tests,
-  unseal_result,
-  unseal_tests,
-};
+ghost use Rattle.cap_ops.specs.Operations.{Clears, IsStrictWhereTagged, and_perm_result, and_perm_tests};
+ghost use Rattle.cap_ops.specs.Operations.{clear_result, seal_result, seal_tests, set_addr_result};
+ghost use Rattle.cap_ops.specs.Operations.{set_addr_tests, set_bounds_result, set_bounds_tests};
+ghost use Rattle.cap_ops.specs.Operations.{unseal_result, unseal_tests};
 
 use crate::addresses::{moved, set_addr};
 use crate::faults::OpFault;

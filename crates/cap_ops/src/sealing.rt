@@ -3,16 +3,9 @@
 ghost use Rattle.std.specs.Prelude.{◌≡◌, ◌<◌, ◌&&◌, None, Some, MatchResult, IfOk, IsFalse, IsTrue};
 ghost use Rattle.cap_word.specs.Fields.{address_of, otype_of};
 ghost use Rattle.cap_ops.specs.Authority.{StaysWithin};
-ghost use Rattle.cap_ops.specs.Operations.{
-  holds_address,
-  is_sealed_with,
-  perms_with_common_global,
-  seal_result,
-  seal_tests,
-  type_authority_tests,
-  unseal_result,
-  unseal_tests,
-};
+ghost use Rattle.cap_ops.specs.Operations.{holds_address, is_sealed_with, perms_with_common_global};
+ghost use Rattle.cap_ops.specs.Operations.{seal_result, seal_tests, type_authority_tests, unseal_result};
+ghost use Rattle.cap_ops.specs.Operations.{unseal_tests};
 ghost use Rattle.cap_ops.specs.Permissions.{global, has_permission, is_sealed};
 ghost use Rattle.cap_ops.specs.Tests.{first_of};
 

@@ -4,16 +4,8 @@
 ghost use Rattle.std.specs.Prelude.{◌≡◌, ℕ, ◌+◌, ◌≤◌, ◌++◌, codes, length, take, drop};
 ghost use Rattle.cap_word.specs.Digits.{hex_digits};
 ghost use Rattle.cap_log.specs.Lines.{place_spelling, tag_spelling};
-ghost use Rattle.cap_texts.specs.CapLines.{
-  bounds_line,
-  cap_lines,
-  cap_line,
-  descent_line,
-  descent_lines,
-  operand_lines,
-  perms_line,
-  type_line,
-};
+ghost use Rattle.cap_texts.specs.CapLines.{bounds_line, cap_lines, cap_line, descent_line, descent_lines};
+ghost use Rattle.cap_texts.specs.CapLines.{operand_lines, perms_line, type_line};
 ghost use Rattle.cap_texts.specs.ExplainLines.{type_name};
 
 use crate::explain_lines::type_name;

@@ -1,28 +1,7 @@
 -- A word and its sixteen bytes in memory: each gives the other back.
-use Rattle.std.proofs.Common.{
-  ◌≡◌,
-  ℕ,
-  zero,
-  suc,
-  ◌+◌,
-  ◌*◌,
-  ◌/◌,
-  ◌%◌,
-  ◌^◌,
-  ◌<◌,
-  List,
-  [],
-  ◌∷◌,
-  length,
-  get_or,
-  drop,
-  sym,
-  ap,
-  ◌∙◌,
-  refl,
-  arith,
-  lit<,
-}
+use Rattle.std.proofs.Common.{◌≡◌, ◌+◌, ◌*◌, ◌/◌, ◌%◌, ◌^◌, ◌<◌, ◌∷◌, ◌∙◌}
+use Rattle.std.proofs.Common.{ℕ, zero, suc, List, [], length, get_or, drop, sym, ap, refl, arith}
+use Rattle.std.proofs.Common.{lit<}
 use Rattle.std.proofs.Math.Nat.{div-div-eq-div-mul, pow-suc, pow-zero, pow-succ', div-one}
 use Rattle.std.proofs.lemmas.Nat.{xor_lt, pow-add}
 use Rattle.std.proofs.lemmas.List.{at_drop_more, at_drop_all}

@@ -1,38 +1,7 @@
 -- Hexadecimal digits name one number, are just the bytes `0` to `9` and `a` to `f`, and can be put side by side.
-use Rattle.std.proofs.Common.{
-  ◌≡◌,
-  ℕ,
-  zero,
-  suc,
-  ◌+◌,
-  ◌-◌,
-  ◌*◌,
-  ◌/◌,
-  ◌%◌,
-  ◌^◌,
-  ◌<◌,
-  ◌≤◌,
-  true,
-  false,
-  eqb,
-  List,
-  [],
-  ◌∷◌,
-  ◌++◌,
-  length,
-  take,
-  drop,
-  sym,
-  ap,
-  ◌∙◌,
-  refl,
-  inl,
-  inr,
-  arith,
-  subst,
-  length-append,
-  append-nil,
-}
+use Rattle.std.proofs.Common.{◌≡◌, ◌+◌, ◌-◌, ◌*◌, ◌/◌, ◌%◌, ◌^◌, ◌<◌, ◌≤◌, ◌∷◌, ◌++◌, ◌∙◌}
+use Rattle.std.proofs.Common.{ℕ, zero, suc, true, false, eqb, List, [], length, take, drop, sym, ap}
+use Rattle.std.proofs.Common.{refl, inl, inr, arith, subst, length-append, append-nil}
 use Rattle.std.specs.Prelude.{All}
 use Rattle.std.specs.Char.{digit_value}
 use Rattle.std.proofs.Math.Nat as nat

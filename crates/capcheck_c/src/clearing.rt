@@ -6,21 +6,7 @@ ghost use Rattle.cap_word.specs.Fields.{address_of};
 ghost use Rattle.cap_bounds.specs.Bounds.{IsInside, IsSound, base_of, top_of};
 ghost use Rattle.cap_ops.specs.Accesses.{loaded_result};
 ghost use Rattle.cap_ops.specs.Authority.{StaysWithin};
-ghost use Rattle.cap_ops.specs.Operations.{
-  IsStrictWhereTagged,
-  and_perm_result,
-  and_perm_tests,
-  clear_result,
-  cleared,
-  seal_result,
-  seal_tests,
-  set_addr_result,
-  set_addr_tests,
-  set_bounds_result,
-  set_bounds_tests,
-  unseal_result,
-  unseal_tests,
-};
+ghost use Rattle.cap_ops.specs.Operations as ops;
 ghost use Rattle.cap_ops.specs.Permissions.{is_sealed, perm_view_of};
 ghost use Rattle.cap_halves.specs.Passed.{cap_of, is_set, whole_of};
 
@@ -39,8 +25,8 @@ pub extern "C" fn capcheck_set_bounds_clear(
     exact: u8,
 ) -> Capability
     ensures result_is { cap_of result
-        ≡ clear_result (set_bounds_tests (cap_of source) length (is_set exact)) (set_bounds_result (cap_of source) length) }
-    ensures strict { IsStrictWhereTagged (set_bounds_tests (cap_of source) length (is_set exact)) (set_bounds_result (cap_of source) length)
+        ≡ ops.clear_result (ops.set_bounds_tests (cap_of source) length (is_set exact)) (ops.set_bounds_result (cap_of source) length) }
+    ensures strict { ops.IsStrictWhereTagged (ops.set_bounds_tests (cap_of source) length (is_set exact)) (ops.set_bounds_result (cap_of source) length)
         (cap_of result) }
     ensures tag { result.tag ≤ 1 }
     ensures stays_within { StaysWithin (cap_of result) (cap_of source) }
@@ -55,8 +41,8 @@ pub extern "C" fn capcheck_set_bounds_clear(
 #[unsafe(no_mangle)]
 pub extern "C" fn capcheck_set_addr_clear(source: Capability, address: u64) -> Capability
     ensures result_is { cap_of result
-        ≡ clear_result (set_addr_tests (cap_of source) address) (set_addr_result (cap_of source) address) }
-    ensures strict { IsStrictWhereTagged (set_addr_tests (cap_of source) address) (set_addr_result (cap_of source) address)
+        ≡ ops.clear_result (ops.set_addr_tests (cap_of source) address) (ops.set_addr_result (cap_of source) address) }
+    ensures strict { ops.IsStrictWhereTagged (ops.set_addr_tests (cap_of source) address) (ops.set_addr_result (cap_of source) address)
         (cap_of result) }
     ensures tag { result.tag ≤ 1 }
     ensures stays_within { StaysWithin (cap_of result) (cap_of source) }
@@ -68,8 +54,8 @@ pub extern "C" fn capcheck_set_addr_clear(source: Capability, address: u64) -> C
 #[unsafe(no_mangle)]
 pub extern "C" fn capcheck_and_perm_clear(source: Capability, mask: u64) -> Capability
     ensures result_is { cap_of result
-        ≡ clear_result (and_perm_tests (cap_of source)) (and_perm_result (cap_of source) mask) }
-    ensures strict { IsStrictWhereTagged (and_perm_tests (cap_of source)) (and_perm_result (cap_of source) mask)
+        ≡ ops.clear_result (ops.and_perm_tests (cap_of source)) (ops.and_perm_result (cap_of source) mask) }
+    ensures strict { ops.IsStrictWhereTagged (ops.and_perm_tests (cap_of source)) (ops.and_perm_result (cap_of source) mask)
         (cap_of result) }
     ensures tag { result.tag ≤ 1 }
     ensures stays_within { StaysWithin (cap_of result) (cap_of source) }
@@ -82,8 +68,8 @@ pub extern "C" fn capcheck_and_perm_clear(source: Capability, mask: u64) -> Capa
 #[unsafe(no_mangle)]
 pub extern "C" fn capcheck_seal_clear(source: Capability, authority: Capability) -> Capability
     ensures result_is { cap_of result
-        ≡ clear_result (seal_tests (cap_of source) (cap_of authority)) (seal_result (cap_of source) (cap_of authority)) }
-    ensures strict { IsStrictWhereTagged (seal_tests (cap_of source) (cap_of authority)) (seal_result (cap_of source) (cap_of authority))
+        ≡ ops.clear_result (ops.seal_tests (cap_of source) (cap_of authority)) (ops.seal_result (cap_of source) (cap_of authority)) }
+    ensures strict { ops.IsStrictWhereTagged (ops.seal_tests (cap_of source) (cap_of authority)) (ops.seal_result (cap_of source) (cap_of authority))
         (cap_of result) }
     ensures tag { result.tag ≤ 1 }
     ensures stays_within { StaysWithin (cap_of result) (cap_of source) }
@@ -95,9 +81,9 @@ pub extern "C" fn capcheck_seal_clear(source: Capability, authority: Capability)
 #[unsafe(no_mangle)]
 pub extern "C" fn capcheck_unseal_clear(source: Capability, authority: Capability) -> Capability
     ensures result_is { cap_of result
-        ≡ clear_result (unseal_tests (cap_of source) (cap_of authority)) (unseal_result (cap_of source) (cap_of authority)) }
-    ensures strict { IsStrictWhereTagged (unseal_tests (cap_of source) (cap_of authority))
-        (unseal_result (cap_of source) (cap_of authority)) (cap_of result) }
+        ≡ ops.clear_result (ops.unseal_tests (cap_of source) (cap_of authority)) (ops.unseal_result (cap_of source) (cap_of authority)) }
+    ensures strict { ops.IsStrictWhereTagged (ops.unseal_tests (cap_of source) (cap_of authority))
+        (ops.unseal_result (cap_of source) (cap_of authority)) (cap_of result) }
     ensures tag { result.tag ≤ 1 }
     ensures stays_within { StaysWithin (cap_of result) (cap_of source) }
 {
@@ -107,7 +93,7 @@ pub extern "C" fn capcheck_unseal_clear(source: Capability, authority: Capabilit
 /// The capability without its tag.
 #[unsafe(no_mangle)]
 pub extern "C" fn capcheck_clear_tag(source: Capability) -> Capability
-    ensures result_is { cap_of result ≡ cleared (cap_of source) }
+    ensures result_is { cap_of result ≡ ops.cleared (cap_of source) }
     ensures tag { result.tag ≤ 1 }
     ensures stays_within { StaysWithin (cap_of result) (cap_of source) }
 {

@@ -8,6 +8,6 @@ returns-in_err-target-clause-none c = rw c.from_residual.ensures (no_operands he
 
 pub returns-clause-some : goal.returns-clause-some
 returns-clause-some c =
-    let read = c.in_ok-target in
-    rw (offset-bits read.offset.0 read.ensures.some.0.2.2.0) (takes-made head.LoadCap
-    (read.target, (read.authority, (read.offset, read.recorded))) c.args.bytes.now read.rest.now read.ensures.some)
+    rw (offset-bits c.in_ok-target.offset.0 c.in_ok-target.ensures.some.0.2.2.0) (takes-made head.LoadCap
+    (c.in_ok-target.target, (c.in_ok-target.authority, (c.in_ok-target.offset, c.in_ok-target.recorded))) c.args.bytes.now
+    c.in_ok-target.rest.now c.in_ok-target.ensures.some)

@@ -8,6 +8,6 @@ returns-in_err-authority-clause-none c = rw c.from_residual.ensures (no_operands
 
 pub returns-clause-some : goal.returns-clause-some
 returns-clause-some c =
-    let read = c.in_ok-authority in
-    rw (offset-bits read.offset.0 read.ensures.some.0.2.0) (takes-made head.Load (read.authority, (read.offset, read.loaded))
-    c.args.bytes.now read.rest.now read.ensures.some)
+    rw (offset-bits c.in_ok-authority.offset.0 c.in_ok-authority.ensures.some.0.2.0) (takes-made head.Load
+    (c.in_ok-authority.authority, (c.in_ok-authority.offset, c.in_ok-authority.loaded))
+    c.args.bytes.now c.in_ok-authority.rest.now c.in_ok-authority.ensures.some)

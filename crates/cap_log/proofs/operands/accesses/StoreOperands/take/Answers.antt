@@ -9,6 +9,6 @@ returns-in_err-authority-clause-none c =
 
 pub returns-clause-some : goal.returns-clause-some
 returns-clause-some c =
-    let read = c.in_ok-authority in
-    rw (offset-bits read.offset.0 read.ensures.some.0.2.0) (takes-made head.Store (read.authority, (read.offset, read.stored))
-    c.args.bytes.now read.rest.now read.ensures.some)
+    rw (offset-bits c.in_ok-authority.offset.0 c.in_ok-authority.ensures.some.0.2.0) (takes-made head.Store
+    (c.in_ok-authority.authority, (c.in_ok-authority.offset, c.in_ok-authority.stored))
+    c.args.bytes.now c.in_ok-authority.rest.now c.in_ok-authority.ensures.some)

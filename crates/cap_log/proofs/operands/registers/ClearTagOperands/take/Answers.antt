@@ -7,5 +7,5 @@ returns-in_err-target-clause-none c = rw c.from_residual.ensures (no_operands he
 
 pub returns-clause-some : goal.returns-clause-some
 returns-clause-some c =
-    let read = c.in_ok-target in
-    takes-made head.ClearTag (read.target, (read.source, read.recorded)) c.args.bytes.now read.rest.now read.ensures.some
+    takes-made head.ClearTag (c.in_ok-target.target, (c.in_ok-target.source, c.in_ok-target.recorded)) c.args.bytes.now
+    c.in_ok-target.rest.now c.in_ok-target.ensures.some

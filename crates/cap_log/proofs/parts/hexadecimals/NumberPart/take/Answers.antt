@@ -3,9 +3,7 @@ use Rattle.cap_log.proofs.Shapes.{FitsNumber, number_text}
 use Rattle.cap_log.proofs.TakeLemmas.{none_ended_so, none_in_front, none_short}
 use Rattle.cap_log.proofs.parts.hexadecimals.NumberPart.take.Goals as goal
 use Rattle.cap_log.proofs.parts.hexadecimals.NumberPart.take.Goals.{then-bytes-le-NUMBER_DIGITS-via-then-bytes-le-NUMBER_DIGITS}
-use Rattle.cap_log.proofs.parts.hexadecimals.NumberPart.take.Goals.{
-  then-bytes-le-NUMBER_DIGITS-via-else-bytes-le-NUMBER_DIGITS+then-bytes-end,
-}
+use Rattle.cap_log.proofs.parts.hexadecimals.NumberPart.take.Goals.{then-bytes-le-NUMBER_DIGITS-via-else-bytes-le-NUMBER_DIGITS+then-bytes-end}
 
 pub returns-then-bytes-le-NUMBER_DIGITS-clause-none : goal.returns-then-bytes-le-NUMBER_DIGITS-clause-none
 returns-then-bytes-le-NUMBER_DIGITS-clause-none c = elim c.then-bytes-le-NUMBER_DIGITS.branch [

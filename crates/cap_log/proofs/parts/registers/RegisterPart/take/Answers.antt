@@ -8,9 +8,7 @@ use Rattle.cap_log.proofs.parts.registers.RegisterPart.take.Goals.{then-bytes-lt
 use Rattle.cap_log.proofs.parts.registers.RegisterPart.take.Goals.{then-bytes-lt4-via-then-bytes-lt4}
 use Rattle.cap_log.proofs.parts.registers.RegisterPart.take.Goals.{then-bytes-lt4-via-else-bytes-lt4+then-bytes-end-2}
 use Rattle.cap_log.proofs.parts.registers.RegisterPart.take.Goals.{then-first-lt-LEAST_TENS-via-then-first-lt-LEAST_TENS}
-use Rattle.cap_log.proofs.parts.registers.RegisterPart.take.Goals.{
-  then-first-lt-LEAST_TENS-via-else-first-lt-LEAST_TENS+then-not-is_ascii_digit-2,
-}
+use Rattle.cap_log.proofs.parts.registers.RegisterPart.take.Goals.{then-first-lt-LEAST_TENS-via-else-first-lt-LEAST_TENS+then-not-is_ascii_digit-2}
 
 pub returns-then-bytes-lt3-clause-none : goal.returns-then-bytes-lt3-clause-none
 returns-then-bytes-lt3-clause-none c = λ a rest begins.
