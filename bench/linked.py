@@ -3,8 +3,10 @@
 steps: python3 bench/linked.py [ROUNDS]
 
 It wants the program and both libraries for C built. Prints for each log the least times of the processor in ns a line:
-of judge_from_c.c, which hands the lines over one by one and then all at once, and of `cat LOG | capcheck judge`."""
+of judge_from_c.c, which hands the lines over one by one and then all at once, and of `cat LOG | capcheck judge`. They
+are run in turns, since a machine that others use too is now faster and now slower."""
 import os
+import re
 import subprocess
 import sys
 import tempfile
@@ -26,6 +28,12 @@ def from_pipe(log):
     return used.ru_utime + used.ru_stime
 
 
+def from_c(linked, log):
+    """Times of a line, by lines and by one call."""
+    ran = subprocess.run([linked, log, "3"], stdout=subprocess.PIPE, check=True, text=True)
+    return [float(it) for it in re.findall(r"[\d.]+", ran.stdout)]
+
+
 def main():
     rounds = int(sys.argv[1]) if len(sys.argv) > 1 else 9
     with tempfile.TemporaryDirectory() as folder:
@@ -35,8 +43,9 @@ def main():
             log = os.path.join(folder, kind)
             with open(log, "w") as out:
                 subprocess.run(["sh", "bench/million.sh", kind], stdout=out, check=True)
-            print(kind, subprocess.run([linked, log, str(rounds)], stdout=subprocess.PIPE, check=True, text=True).stdout.strip(),
-                  f"from a pipe {1e3 * min(from_pipe(log) for _ in range(rounds)):.1f}", flush=True)
+            taken = [[*from_c(linked, log), 1e3 * from_pipe(log)] for _ in range(rounds)]
+            lines, one_call, pipe = (min(column) for column in zip(*taken))
+            print(f"{kind}: by lines {lines:.1f}, by one call {one_call:.1f}, from a pipe {pipe:.1f}", flush=True)
 
 
 main()
