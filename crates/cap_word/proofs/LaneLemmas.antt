@@ -2,15 +2,15 @@
 use Rattle.std.proofs.Common.{◌≡◌, ◌+◌, ◌-◌, ◌*◌, ◌/◌, ◌%◌, ◌^◌, ◌<◌, ◌≤◌, ◌||◌, ◌∷◌, ◌++◌, ◌∙◌}
 use Rattle.std.proofs.Common.{ℕ, suc, zero, Bool, true, false, not, cond, eqb, ltb, List, [], map}
 use Rattle.std.proofs.Common.{length, take, get_or, replicate, Fits, w8, refl, sym, ap, arith}
-use Rattle.std.proofs.lemmas.Bool.{agree_below, agree_below_at, eqb-true, false≢true, eq-eqb, not-false, lt-ltb, ltb-true}
+use Rattle.std.proofs.lemmas.Bool.{agree_below, agree_below_at, eqb-true, false≢true, not-false, lt-ltb, ltb-true}
 use Rattle.std.proofs.lemmas.List.{get_or-map, get_or-take, length-map, get_or_append_left}
 use Rattle.hex.specs.Hex.{encode_with, encode_lower}
 use lib.Lanes.{Each1, sel_l, mask_l, zip2, top}
 use lib.Bits.{bit_or}
 use Rattle.std.proofs.Math.Arith.{mod-mul}
 use Rattle.std.proofs.Math.Nat.{pow-suc, zero-mod}
-use Rattle.std.proofs.lemmas.Nat.{or_shifted, pow_pos}
-use Rattle.std.proofs.lemmas.Simd.{Each1-get_or, splat_is_map, zip2_splat, zip2_splat_left, map-map, mask_l-mod}
+use Rattle.std.proofs.lemmas.Nat.{or_of_8, or_shifted, pow_pos}
+use Rattle.std.proofs.lemmas.Simd.{Each1-from_get_or, Each1-get_or, splat_is_map, zip2_splat, zip2_splat_left, map-map, mask_l-mod}
 use Rattle.cap_word.specs.Digits.{hex_digit, hex_digits}
 use Rattle.cap_word.specs.Lanes.{IsLaneOf}
 
@@ -151,6 +151,18 @@ module _ (less sub add : ℕ → ℕ → ℕ) (zero ten a six more other : ℕ) 
       ∙ get_or-map lane v i 0 0 (omega arith) in
       rw at (lane_of lane bytes others digits (get_or v i 0) (below_256 v fits i lt))
 
+  -- and so they are bytes too
+  pub lanes_fit : agree_below (λ b. ltb (lane b) 256) (λ _. true) 256 ≡ true → (length lanes ≡ 16) × Each1 (Fits w8) lanes
+  lanes_fit test = rw lanes-is (
+    length-map v lane ∙ long,
+    Each1-from_get_or (Fits w8) (map lane v) 0 (λ i lt.
+        let few : i < 16 = omega (arith, lt, length-map v lane, long) in
+        let at = get_or-map lane v i 0 0 (omega arith) in
+        let small = ltb-true (lane (get_or v i 0)) 256 (agree_below_at (λ b. ltb (lane b) 256) (λ _. true) 256
+        (get_or v i 0) test (below_256 v fits i few)) in
+        record { fits = omega (arith, at, small) }),
+  )
+
 -- the mask of the lanes that are 128 or more
 module _ (v : List ℕ) (fits : (length v ≡ 16) × Each1 (Fits w8) v) (le : ℕ → ℕ → ℕ) where
   sixteen : length v ≡ 16
@@ -170,18 +182,18 @@ module _ (v : List ℕ) (fits : (length v ≡ 16) × Each1 (Fits w8) v) (le : �
   at test i lt = agree_below_at (λ x. top 7 (le 128 x)) (λ x. not (ltb x 128)) 256 (get_or v i 0) test (below_256 v fits i lt)
 
   pub all_low : agree_below (λ x. top 7 (le 128 x)) (λ x. not (ltb x 128)) 256 ≡ true → (k p : ℕ) → k ≤ 16 → p ≡ 2 ^ k
-      → eqb (mask % p) 0 ≡ true → (i : ℕ) → i < k → get_or v i 0 < 128
+      → mask % p ≡ 0 → (i : ℕ) → i < k → get_or v i 0 < 128
   all_low test k p few power none i lt =
-      let clear = ap (λ (m : ℕ). m % 2 ^ k) (sym mask-is) ∙ ap (λ (q : ℕ). mask % q) (sym power) ∙ eqb-true (mask % p) 0 none in
+      let clear = ap (λ (m : ℕ). m % 2 ^ k) (sym mask-is) ∙ ap (λ (q : ℕ). mask % q) (sym power) ∙ none in
       let passes = none_masked k (λ x. top 7 (le 128 x)) v clear i lt (omega arith) in
       ltb-true (get_or v i 0) 128 (not-false _ (sym (at test i (omega arith)) ∙ passes))
 
   pub not_all_low : agree_below (λ x. top 7 (le 128 x)) (λ x. not (ltb x 128)) 256 ≡ true → (k p : ℕ) → p ≡ 2 ^ k
-      → eqb (mask % p) 0 ≡ false → ((i : ℕ) → i < k → get_or v i 0 < 16) → ⊥
+      → (mask % p ≡ 0 → ⊥) → ((i : ℕ) → i < k → get_or v i 0 < 16) → ⊥
   not_all_low test k p power some low =
       let clear = mask_none k (λ x. top 7 (le 128 x)) v
       (λ i lt few. at test i (omega arith) ∙ ap not (lt-ltb (get_or v i 0) 128 (omega (arith, low i lt)))) in
-      false≢true (sym some ∙ eq-eqb (mask % p) 0 (ap (λ (q : ℕ). mask % q) power ∙ ap (λ (m : ℕ). m % 2 ^ k) mask-is ∙ clear))
+      some (ap (λ (q : ℕ). mask % q) power ∙ ap (λ (m : ℕ). m % 2 ^ k) mask-is ∙ clear)
 
 -- a byte of two digits
 pub paired : (v : List ℕ) (i j : ℕ) → length v ≡ 16 → i < 16 → j < 16 → get_or v i 0 < 16 → get_or v j 0 < 16
@@ -195,9 +207,12 @@ paired v i j long first second high low =
 abbrev pair : List ℕ → ℕ → ℕ → ℕ
 pair v i j = bit_or (get_or (v ++ v) i 0 * 16 % 256) (get_or (v ++ v) j 0)
 
+-- the bytes of eight pairs of lanes
+abbrev pub pairs : List ℕ → List ℕ
+pairs v = pair v 0 1 ∷ pair v 2 3 ∷ pair v 4 5 ∷ pair v 6 7 ∷ pair v 8 9 ∷ pair v 10 11 ∷ pair v 12 13 ∷ pair v 14 15 ∷ []
+
 pub pairs_at : (v : List ℕ) → length v ≡ 16 → (j : ℕ) → j < 8 → get_or v (2 * j) 0 < 16 → get_or v (2 * j + 1) 0 < 16
-    → get_or (pair v 0 1 ∷ pair v 2 3 ∷ pair v 4 5 ∷ pair v 6 7 ∷ pair v 8 9 ∷ pair v 10 11 ∷ pair v 12 13 ∷ pair v 14 15 ∷ []) j 0
-    ≡ 16 * get_or v (2 * j) 0 + get_or v (2 * j + 1) 0
+    → get_or (pairs v) j 0 ≡ 16 * get_or v (2 * j) 0 + get_or v (2 * j + 1) 0
 pairs_at v long zero lt high low = paired v 0 1 long (omega arith) (omega arith) high low
 pairs_at v long (suc zero) lt high low = paired v 2 3 long (omega arith) (omega arith) high low
 pairs_at v long (suc (suc zero)) lt high low = paired v 4 5 long (omega arith) (omega arith) high low
@@ -207,6 +222,24 @@ pairs_at v long (suc (suc (suc (suc (suc zero))))) lt high low = paired v 10 11 
 pairs_at v long (suc (suc (suc (suc (suc (suc zero)))))) lt high low = paired v 12 13 long (omega arith) (omega arith) high low
 pairs_at v long (suc (suc (suc (suc (suc (suc (suc zero))))))) lt high low = paired v 14 15 long (omega arith) (omega arith) high low
 pairs_at v long (suc (suc (suc (suc (suc (suc (suc (suc j)))))))) lt high low = absurd (omega arith)
+
+pub pairs_fit : (v : List ℕ) → (length v ≡ 16) × Each1 (Fits w8) v → (j : ℕ) → get_or (pairs v) j 0 < 256
+pairs_fit v fits j = at j where
+  few : (i k : ℕ) → i < 16 → k < 16 → pair v i k < 256
+  few i k first second =
+      let b = get_or_append_left v v 0 k (omega (arith, fits.0)) in
+      or_of_8 (get_or (v ++ v) i 0 * 16 % 256) (get_or (v ++ v) k 0) (omega arith) (rw b (below_256 v fits k second))
+
+  at : (j : ℕ) → get_or (pairs v) j 0 < 256
+  at zero = few 0 1 (omega arith) (omega arith)
+  at (suc zero) = few 2 3 (omega arith) (omega arith)
+  at (suc (suc zero)) = few 4 5 (omega arith) (omega arith)
+  at (suc (suc (suc zero))) = few 6 7 (omega arith) (omega arith)
+  at (suc (suc (suc (suc zero)))) = few 8 9 (omega arith) (omega arith)
+  at (suc (suc (suc (suc (suc zero))))) = few 10 11 (omega arith) (omega arith)
+  at (suc (suc (suc (suc (suc (suc zero)))))) = few 12 13 (omega arith) (omega arith)
+  at (suc (suc (suc (suc (suc (suc (suc zero))))))) = few 14 15 (omega arith) (omega arith)
+  at (suc (suc (suc (suc (suc (suc (suc (suc j)))))))) = omega arith
 
 -- the two digits of a byte
 pub pair_spelled : (x y v w b : ℕ) → IsLaneOf x v → IsLaneOf y w → v < 16 → w < 16 → b ≡ 16 * v + w

@@ -8,6 +8,7 @@ use Rattle.std.proofs.Math.Nat as nat
 use Rattle.std.proofs.Math.Seq.{take-append_seam, drop-append_seam}
 use Rattle.std.proofs.lemmas.Nat.{pow-add, div-mul-add}
 use Rattle.std.proofs.lemmas.Bool.{agree_below_at, cases_lt, eqb-true, eq-eqb, false≢true}
+use Rattle.std.proofs.lemmas.List.{take-append-drop, take-take, take_all}
 use Rattle.std.proofs.lemmas.List.Elements.{All-nil, All-cons, All-head, All-tail}
 use Rattle.cap_word.specs.Digits.{hex_digit, hex_digits, IsHexDigit, AreHexDigits}
 use Rattle.cap_word.proofs.DigitLemmas.{hex_digits-suc, length-hex_digits}
@@ -171,6 +172,37 @@ pub hex_digits-halves : (n : ℕ) → hex_digits 32 n ≡ hex_digits 16 (n / 2 ^
 hex_digits-halves n =
     let whole : n / 2 ^ 64 * 16 ^ 16 + n % 2 ^ 64 ≡ n = omega arith in
     ap (hex_digits 32) (sym whole) ∙ hex_digits-joined 16 16 (n / 2 ^ 64) (n % 2 ^ 64) (omega arith)
+
+-- and those of a text, cut in its middle
+pub front_half : (n : ℕ) (text high : List ℕ) → high ≡ take 16 text → text ≡ hex_digits 32 n → take 16 high ≡ hex_digits 16 (n / 2 ^ 64)
+front_half n text high front e =
+    ap (take 16) front ∙ take-take 16 16 text (omega arith) ∙ ap (take 16) (e ∙ hex_digits-halves n)
+    ∙ take-hex_digits 16 (n / 2 ^ 64) (hex_digits 16 (n % 2 ^ 64))
+
+pub back_half : (n : ℕ) (text back low : List ℕ) → back ≡ drop 16 text → low ≡ take 16 back → text ≡ hex_digits 32 n
+    → take 16 low ≡ hex_digits 16 (n % 2 ^ 64)
+back_half n text back low behind front e =
+    let is = behind ∙ ap (drop 16) (e ∙ hex_digits-halves n) ∙ drop-hex_digits 16 (n / 2 ^ 64) (hex_digits 16 (n % 2 ^ 64)) in
+    ap (take 16) front ∙ take-take 16 16 back (omega arith) ∙ ap (take 16) is
+    ∙ take_all 16 (hex_digits 16 (n % 2 ^ 64)) (omega (arith, length-hex_digits 16 (n % 2 ^ 64)))
+
+pub joined_halves : (h l : ℕ) (text high back low : List ℕ) → l < 2 ^ 64 → length text ≡ 32 → high ≡ take 16 text → back ≡ drop 16 text
+    → low ≡ take 16 back → take 16 high ≡ hex_digits 16 h → take 16 low ≡ hex_digits 16 l → text ≡ hex_digits 32 (h * 2 ^ 64 + l)
+joined_halves h l text high back low small long front behind next reads reads' =
+    let first = sym (take-take 16 16 text (omega arith)) ∙ ap (take 16) (sym front) ∙ reads in
+    let split = take-append-drop 16 text in
+    let short : length back ≤ 16 = omega (
+      arith,
+      long,
+      ap length split,
+      ap length behind,
+      length-append (take 16 text) (drop 16 text),
+      ap length first,
+      length-hex_digits 16 h,
+    ) in
+    let second = sym behind ∙ sym (take_all 16 back short) ∙ sym (take-take 16 16 back (omega arith)) ∙ ap (take 16) (sym next) ∙ reads' in
+    sym split ∙ ap (λ a. a ++ drop 16 text) first ∙ ap (λ b. hex_digits 16 h ++ b) second
+    ∙ sym (hex_digits-joined 16 16 h l small)
 
 -- a text that is the digits of a number is digits
 pub some_digits : (k n : ℕ) (text : List ℕ) → text ≡ hex_digits k n → AreHexDigits k text

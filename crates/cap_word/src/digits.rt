@@ -6,42 +6,6 @@ ghost use Rattle.cap_word.specs.Lanes.{IsLaneOf};
 
 use std::simd::prelude::*;
 
-// The value of each digit; 255 for every other byte.
-#[inline(always)]
-fn values(bytes: u8x16) -> u8x16
-    ensures { (i : ℕ) → i < 16 → IsLaneOf (slice_index bytes i) (slice_index result i) }
-{
-    let decimal = bytes - u8x16::splat(b'0');
-    let letter = bytes - u8x16::splat(b'a');
-    let other = letter
-        .simd_lt(u8x16::splat(6))
-        .select(letter + u8x16::splat(10), u8x16::splat(255));
-    decimal.simd_lt(u8x16::splat(10)).select(decimal, other)
-}
-
-// Whether the first lanes, so many, are values of digits: no other lane has its highest bit clear.
-#[inline(always)]
-fn are_digits(values: u8x16, count: u8) -> bool
-    requires at_most { count ≤ 16 }
-    requires lanes { (i : ℕ) → i < 16 → slice_index values i < 128 → slice_index values i < 16 }
-    ensures yes { result ≡ true → (i : ℕ) → i < count → slice_index values i < 16 }
-    ensures no { result ≡ false → ((i : ℕ) → i < count → slice_index values i < 16) → ⊥ }
-{
-    let others = values.simd_ge(u8x16::splat(128)).to_bitmask();
-    others % (1 << count) == 0
-}
-
-// The bytes that pairs of digits spell. What other lanes give is not said.
-#[inline(always)]
-fn pairs(values: u8x16) -> [u8; 8]
-    ensures { (j : ℕ) → j < 8 → slice_index values (2 * j) < 16 → slice_index values (2 * j + 1) < 16
-        → slice_index result j ≡ 16 * slice_index values (2 * j) + slice_index values (2 * j + 1) }
-{
-    let high = values.swizzle([0, 2, 4, 6, 8, 10, 12, 14]);
-    let low = values.swizzle([1, 3, 5, 7, 9, 11, 13, 15]);
-    (high << u8x8::splat(4) | low).to_array()
-}
-
 /// The number of so many bytes, at most eight, that the lower-case digits at the front of a text spell, two for
 /// each byte. It is `None` where other bytes stand among them. What stands behind them is read too, since a
 /// vector is quickest read whole, and left out.
@@ -53,9 +17,21 @@ pub(crate) fn read_front(text: &[u8; 16], size: u8) -> Option<u64>
     ensures some { IfSome result (λ n. take (2 * size) text.now ≡ hex_digits (2 * size) n) }
     ensures none { IfNone result ((n : ℕ) → n < 256 ^ size → take (2 * size) text.now ≡ hex_digits (2 * size) n → ⊥) }
 {
-    let values = values(u8x16::from_array(*text));
-    if are_digits(values, 2 * size) {
-        Some(u64::from_be_bytes(pairs(values)) >> (64 - 8 * size))
+    let bytes = u8x16::from_array(*text);
+    let decimal = bytes - u8x16::splat(b'0');
+    let letter = bytes - u8x16::splat(b'a');
+    let other = letter
+        .simd_lt(u8x16::splat(6))
+        .select(letter + u8x16::splat(10), u8x16::splat(255));
+    // The value of each digit; 255 for every other byte.
+    let values = decimal.simd_lt(u8x16::splat(10)).select(decimal, other);
+    let others = values.simd_ge(u8x16::splat(128)).to_bitmask();
+    if others % (1 << (2 * size)) == 0 {
+        // The bytes that pairs of digits spell.
+        let high = values.swizzle([0, 2, 4, 6, 8, 10, 12, 14]);
+        let low = values.swizzle([1, 3, 5, 7, 9, 11, 13, 15]);
+        let spelled = (high << u8x8::splat(4) | low).to_array();
+        Some(u64::from_be_bytes(spelled) >> (64 - 8 * size))
     } else {
         None
     }

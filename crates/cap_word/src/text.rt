@@ -7,18 +7,6 @@ ghost use Rattle.cap_word.specs.Digits.{AreHexDigits, hex_digits};
 use crate::digits::read_front;
 use crate::word::Word;
 
-/// Takes a word from the front of some bytes: its text, the 32 lower-case hexadecimal digits of its register
-/// layout, and what stands behind them. It is `None` where no such digits stand there.
-#[inline(always)]
-pub fn take_word(bytes: &[u8]) -> Option<(Word, &[u8])>
-    ensures some { IfSome result (λ p. bytes.now ≡ hex_digits 32 p.0.0 ++ p.1.now) }
-    ensures none { IfNone result ((n : ℕ) (rest : List ℕ) → n < 2 ^ 128 → bytes.now ≡ hex_digits 32 n ++ rest → ⊥) }
-{
-    let (high, rest) = take_u64(bytes)?;
-    let (low, rest) = take_u64(rest)?;
-    Some((Word((u128::from(high) << 64) + u128::from(low)), rest))
-}
-
 /// Reads a word from its text, the 32 lower-case hexadecimal digits of its register layout, most
 /// significant first. Anything else, an upper-case digit among them, is `None`.
 #[inline(always)]
@@ -30,8 +18,26 @@ pub fn read_word(text: &[u8]) -> Option<Word>
     ensures digits { IsSome result ↔ AreHexDigits 32 text.now }
     ensures reads_back { (n : ℕ) → n < 2 ^ 128 → text.now ≡ hex_digits 32 n → IsSomeAnd result (λ word. word.0 ≡ n) }
 {
-    let (word, rest) = take_word(text)?;
-    if rest.is_empty() { Some(word) } else { None }
+    let (high, rest) = text.split_first_chunk::<16>()?;
+    let (low, rest) = rest.split_first_chunk::<16>()?;
+    if !rest.is_empty() {
+        return None;
+    }
+    let high = read_front(high, 8)?;
+    let low = read_front(low, 8)?;
+    Some(Word((u128::from(high) << 64) + u128::from(low)))
+}
+
+/// Takes a word from the front of some bytes: its text, the 32 lower-case hexadecimal digits of its register
+/// layout, and what stands behind them. It is `None` where no such digits stand there.
+#[inline(always)]
+pub fn take_word(bytes: &[u8]) -> Option<(Word, &[u8])>
+    ensures some { IfSome result (λ p. bytes.now ≡ hex_digits 32 p.0.0 ++ p.1.now) }
+    ensures none { IfNone result ((n : ℕ) (rest : List ℕ) → n < 2 ^ 128 → bytes.now ≡ hex_digits 32 n ++ rest → ⊥) }
+{
+    let (text, rest) = bytes.split_first_chunk::<32>()?;
+    let word = read_word(text)?;
+    Some((word, rest))
 }
 
 /// The text of a word: the 32 lower-case hexadecimal digits of its register layout.
