@@ -108,9 +108,7 @@ def clauses(crate):
     """The texts of the clauses of the crate's public functions, each with the names that its file brings."""
     items, opened = public_items(crate)
     for path in glob.glob(f"crates/{crate}/src/**/*.rt", recursive=True):
-        if "tests" in path.split("/") or path.endswith("/tests.rt"):
-            continue
-        text = read(path).split("#[cfg(test)]\nmod tests {")[0]
+        text = read(path)
         module = path[len(f"crates/{crate}/src/"):-3].split("/")
         is_open = all(it in opened for it in module[:1])
         around, lines, at = "", text.split("\n"), 0

@@ -7,8 +7,6 @@ pub mod faults;
 mod inputs;
 mod outputs;
 pub mod running;
-#[cfg(test)]
-mod tests;
 pub mod words;
 
 use crate::faults::Fault;

@@ -1,10 +1,11 @@
-//! Judges worked logs in each way that there is, and names those that get another text than is written behind them.
+//! Judges worked logs and checks worked vector files in each way that there is, and names those that get another
+//! text than is written behind them.
 //!
-//! Standard input has the logs, in rows with an empty line behind each. The first line of a row is `#` or `*` and a
-//! name. Then come the lines of the log, each behind a mark: `|` for one that ends with a line feed, `~` for one
-//! that ends with a carriage return before it, and `!` for bytes without a line feed. Behind them stands the text,
-//! each line behind `=`: the verdict's line, and in a row with `*` also the origins after a yes, and the report on
-//! a no.
+//! Standard input has them in rows with an empty line behind each. The first line of a row is a mark and a name: `#`
+//! or `*` for a log, `+` for a vector file. Then come its lines, each behind a mark: `|` for one that ends with a line
+//! feed, `~` for one that ends with a carriage return before it, and `!` for bytes without a line feed. Behind them
+//! stands the text, each line behind `=`: the verdict's line, and in a row with `*` also the origins after a yes, and
+//! the report on a no.
 #![tactic(auto)]
 
 mod by_lines;
@@ -13,6 +14,7 @@ mod origins;
 mod pieces;
 mod reports;
 mod rows;
+mod vector_files;
 mod verdicts;
 
 use crate::limits::limits_hold;
@@ -21,7 +23,7 @@ use std::io;
 
 fn main(rt: HostRuntime) -> io::Result<()> {
     let text = io::read_to_string(rt.alloc(), rt.stdin())?;
-    let mut logs = 0u32;
+    let mut rows = 0u32;
     let mut row = Row::new(rt.alloc());
     for line in text.split('\n') {
         if !line.is_empty() {
@@ -30,12 +32,12 @@ fn main(rt: HostRuntime) -> io::Result<()> {
             if !row.holds(rt.alloc())? {
                 println!(rt; "another text: {}", row.name())?;
             }
-            logs = logs.saturating_add(1);
+            rows = rows.saturating_add(1);
             row = Row::new(rt.alloc());
         }
     }
     if !limits_hold(rt.alloc())? {
         println!(rt; "another text at a limit")?;
     }
-    println!(rt; "{logs} logs")
+    println!(rt; "{rows} rows")
 }

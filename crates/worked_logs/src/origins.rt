@@ -80,8 +80,8 @@ fn by_stepping(alloc: Global, log: &[u8], text: &[u8]) -> Result<bool, AllocErro
     Ok(out.as_slice() == text)
 }
 
-// How many bytes the first lines of a text are, so many.
-fn front_of(text: &[u8], lines: u64) -> usize {
+/// How many bytes the first lines of a text are, so many.
+pub fn front_of(text: &[u8], lines: u64) -> usize {
     let mut count = 0usize;
     for _ in 0..lines {
         count = count.saturating_add(line_behind(text, count).len());

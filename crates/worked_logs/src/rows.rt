@@ -1,13 +1,14 @@
-//! Worked logs, as the program reads them.
+//! Worked logs and vector files, as the program reads them.
 
 use crate::origins::origins_hold;
 use crate::reports::report_holds;
+use crate::vector_files::vectors_hold;
 use crate::verdicts::{line_behind, verdict_holds};
 use cap_judge::judging::judge_bytes;
 use cap_judge::verdict::Verdict;
 use std::alloc::{AllocError, Global};
 
-/// A log, and the text that belongs to it.
+/// A log or a vector file, and the text that belongs to it.
 #[derive(Drop)]
 pub struct Row<'a> {
     name: &'a str,
@@ -28,7 +29,7 @@ impl<'a> Row<'a> {
         }
     }
 
-    /// What the log shows.
+    /// What the row shows.
     pub fn name(&self) -> &'a str {
         self.name
     }
@@ -54,9 +55,12 @@ impl<'a> Row<'a> {
         }
     }
 
-    /// Whether the log gets its text in each way.
+    /// Whether the log or the vector file gets its text in each way.
     pub fn holds(&self, alloc: Global) -> Result<bool, AllocError> {
         let (log, text) = (self.log.as_slice(), self.text.as_slice());
+        if self.name.starts_with('+') {
+            return vectors_hold(alloc, log, text);
+        }
         let Ok(verdict) = judge_bytes(alloc, log) else {
             return Ok(false);
         };

@@ -1,8 +1,8 @@
-//! Words and their bounds, worked by hand and by plain ways of decoding.
+//! Words and their bounds, by plain ways of decoding.
 
 use crate::bounds::plain::{HOSTILE_WORDS, corrected_bounds, hostile_word, plain_bounds};
-use cap_bounds::{Interval, bounds, mantissa, sound, sound_word_holds};
-use cap_word::{Word, split};
+use cap_bounds::{Interval, bounds, sound, sound_word_holds};
+use cap_word::Word;
 use std::process::Abort;
 
 /// Asserts that the code answers as the definition, and as the Sail model's shifts and corrections.
@@ -59,37 +59,5 @@ fn short_words_decode_as_defined(rt: HostRuntime) {
         let word = hostile_word(index << 1);
         let address = (1u64 << (index & 63)).wrapping_sub(u64::from(index >> 12));
         agrees(&rt, Word((word.0 ^ (1 << 90)) ^ u128::from(address)));
-    }
-}
-
-#[test]
-fn given_mantissas(rt: HostRuntime) {
-    for (word, t) in [
-        (0x00001ffffc0180040000000000000000, 0x1000),
-        (0xffff1ffffbffd0000000000000001000, 0x1fff),
-        (0xffff1ffffc01a0030000000000000000, 0x3000),
-    ] {
-        assert_eq!(rt; mantissa(&cap_word::split(Word(word))), t);
-    }
-}
-
-#[test]
-fn given_bounds_and_addresses_in_an_interval(rt: HostRuntime) {
-    let interval = bounds(Word(0xffff1ffffbffd0000000000000001000));
-    for (base, top, inside) in [
-        (0x1000, 0x1fff, true),
-        (0x1fff, 0x1fff, true),
-        (0xfff, 0x1fff, false),
-        (0x1000, 0x2000, false),
-    ] {
-        assert_eq!(rt; interval.contains(base, top), inside);
-    }
-    for (address, inside) in [
-        (0xfff, false),
-        (0x1000, true),
-        (0x1ffe, true),
-        (0x1fff, false),
-    ] {
-        assert_eq!(rt; interval.holds(address), inside);
     }
 }

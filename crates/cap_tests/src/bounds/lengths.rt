@@ -1,7 +1,6 @@
-//! Lengths that are exact, and the law of least rounding.
+//! Lengths that are exact.
 
-use cap_bounds::{align_mask, least_law, round, round_length, sound};
-use cap_word::Word;
+use cap_bounds::{align_mask, round, round_length};
 use std::process::Abort;
 
 /// The first exact length from `length` on among the next 64, at base 0.
@@ -52,35 +51,5 @@ fn great_lengths_round_as_defined(rt: HostRuntime) {
             &rt,
             (top >> (index & 63)).wrapping_add(offset).wrapping_sub(16),
         );
-    }
-}
-
-#[test]
-fn given_lengths(rt: HostRuntime) {
-    for (length, rounded, mask) in [
-        (0xfff, 0xfff, 0xffffffffffffffff),
-        (0x1001, 0x1008, 0xfffffffffffffff8),
-        (0x1fff, 0x2000, 0xfffffffffffffff0),
-        (u64::MAX, 1 << 64, 0xff80000000000000),
-    ] {
-        assert_eq!(rt; round_length(length), rounded);
-        assert_eq!(rt; align_mask(length), mask);
-    }
-}
-
-#[test]
-fn given_requests_in_words(rt: HostRuntime) {
-    for (word, base, length, inside) in [
-        (0xffff1ffffbffd0000000000000001000, 0x1000, 0xfff, true),
-        (0xffff1ffffbffd0000000000000001000, 0x1000, 0x1000, false),
-        (0xffff1ffffc01c0070000000000000000, 1, u64::MAX - 1, true),
-        (0xffff1ffff80000000000000000000000, 0, 0, true),
-        (0xffff1ffff80000000000000000000000, 0, 1, false),
-    ] {
-        if sound(Word(word)) {
-            assert_eq!(rt; least_law(Word(word), base, length), inside);
-        } else {
-            assert!(rt; false, "a word that is not sound");
-        }
     }
 }

@@ -36,21 +36,3 @@ fn ranges_end_as_defined(rt: HostRuntime) {
         }
     }
 }
-
-#[test]
-fn given_ranges(rt: HostRuntime) {
-    for (word, range) in [
-        (
-            0xffff1ffffbffc0000000000000000000,
-            Some((0xfffffffffffff800, 0x4000)),
-        ),
-        (
-            0xffff1ffffc0180010000000000000000,
-            Some((0xf000000000000000, 0x8000000000000000)),
-        ),
-        (0xffff1ffffc0180040000000000000000, None),
-        (0xffff1ffffc0180020000000000000000, None),
-    ] {
-        assert_eq!(rt; reach(Word(word)), range);
-    }
-}

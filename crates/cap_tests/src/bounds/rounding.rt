@@ -112,13 +112,3 @@ fn requests_at_the_end_round_as_defined(rt: HostRuntime) {
         );
     }
 }
-
-// The reserved bits and the flag of a word stay.
-#[test]
-fn other_fields_are_kept(rt: HostRuntime) {
-    let word = Word(0xfffffffffc0180040000000000001000);
-    assert_eq!(rt;
-        with_bounds(word, &round(0x1000, 0xfff), 0x1000),
-        Word(0xfffffffffbffd0000000000000001000)
-    );
-}

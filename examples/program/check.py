@@ -1,0 +1,207 @@
+#!/usr/bin/env python3
+"""Runs the program, and compares its status, its standard output and its line on standard error with what is written
+here, worked by hand: for the rows of the file beside this one, and where its input or its output fails.
+
+    CAPCHECK=crates/capcheck/out/capcheck python3 examples/program/check.py
+
+Without CAPCHECK it runs that same program. The status is 1 where anything differs."""
+import os
+import re
+import resource
+import shlex
+import socket
+import subprocess
+import sys
+import tempfile
+
+ROOT = os.path.join(os.path.dirname(os.path.abspath(__file__)), "../..")
+PROGRAM = os.path.abspath(os.environ.get("CAPCHECK") or f"{ROOT}/crates/capcheck/out/capcheck")
+
+YES, NO = b"capcheck 1\nend 0\n", b"capcheck 1\nend 1\n"
+SAID_YES, SAID_NO = b"yes 0 0\n", b"no 2 6 WrongCount\n"
+VECTOR = b"memory 00001ffffc0180040000000000000000 = 00000000000000000000000000000000\n"
+BAD_WORDS, READ_FAULT, WRITE_FAULT = b"capcheck: bad words\n", b"capcheck: read fault\n", b"capcheck: write fault\n"
+
+JUDGE = [["judge"], ["judge", "--origins"], ["judge", "--why"]]
+ORDERS = [*JUDGE, ["judge", "log"], ["vectors", "file"]]
+ORDERS += [["round", "0000000000000001", "0000000000001fff"], ["explain", "00001ffffc0180040000000000000000"]]
+
+
+class Room:
+    """A folder in which the program runs, how many runs there were, and what was otherwise than it is wanted."""
+
+    def __init__(self, folder):
+        self.folder, self.count, self.wrong = folder, 0, []
+
+    def put(self, name, text):
+        """Writes a file of the folder, and gives its path."""
+        with open(f"{self.folder}/{name}", "wb") as it:
+            it.write(text)
+        return f"{self.folder}/{name}"
+
+    def run(self, words, given=subprocess.DEVNULL, out=subprocess.PIPE, err=subprocess.PIPE, closed=(), room=None):
+        """What a run with these words gives: its status, and what it wrote where no other place is named. Standard
+        input is a file, a socket or bytes. The descriptors that are `closed` are not there at its start, and with
+        `room` no file may grow above so many bytes."""
+
+        def prepare():
+            for number in closed:
+                os.close(number)
+            if room is not None:
+                resource.setrlimit(resource.RLIMIT_FSIZE, (room, room))
+
+        how = {"input": given} if isinstance(given, bytes) else {"stdin": given}
+        # At a limit Python's own signals stay: a write above it is then an error, and no signal that ends the program.
+        how.update(preexec_fn=prepare, restore_signals=room is None, timeout=60)
+        ran = subprocess.run([PROGRAM, *words], cwd=self.folder, stdout=out, stderr=err, **how)
+        return ran.returncode, ran.stdout, ran.stderr
+
+    def wants(self, what, ran, wanted):
+        """Notes whether a run gave what is wanted."""
+        self.count += 1
+        if ran != wanted:
+            self.wrong.append(f"{what}\n  gives  {ran}\n  wanted {wanted}")
+
+
+def packets(text, ends):
+    """A socket that gives one byte a read, and then its end, or an error where it doesn't end."""
+    own, other = socket.socketpair(socket.AF_UNIX, socket.SOCK_SEQPACKET)
+    for byte in text:
+        other.send(bytes([byte]))
+    if ends:
+        other.close()
+    else:
+        own.setblocking(False)
+    return own, other
+
+
+def broken(text):
+    """A socket that gives the bytes, and then the error of a writer that broke off."""
+    own, other = socket.socketpair()
+    other.send(text)
+    own.send(b"unread")
+    other.close()
+    return own, other
+
+
+def full_pipe():
+    """A pipe that takes no more bytes, and says so in place of waiting."""
+    given, other = os.pipe()
+    os.set_blocking(other, False)
+    try:
+        while True:
+            os.write(other, bytes(65536))
+    except BlockingIOError:
+        return given, other
+
+
+def rows(text):
+    """The rows of a text: for each the words of its runs with their status, the input, and what is printed."""
+    for row in text.split("\n\n"):
+        lines = [it for it in row.split("\n") if it and it[0] != "#"]
+        runs = [(int(it[0]), shlex.split(it[1:])) for it in lines if it[0].isdigit()]
+        parts = ["".join(f"{it[2:]}\n" for it in lines if it[0] == mark).encode() for mark in "|=!"]
+        if runs:
+            yield runs, *parts
+
+
+def agrees(text, wanted):
+    """Whether a text is the one that is wanted, where a line `..` stands for any lines."""
+    return re.fullmatch(b"(?s:.*)".join(re.escape(it) for it in wanted.split(b"..\n")), text)
+
+
+def printed(room):
+    """What is printed for the words and the input of each row."""
+    with open(f"{ROOT}/examples/program/rows", encoding="utf-8") as it:
+        text = it.read()
+    for runs, given, out, err in rows(text):
+        room.put("log", given)
+        room.put("file", given)
+        for status, words in runs:
+            ran = room.run(words, given)
+            room.wants(words, ran, (status, ran[1] if agrees(ran[1], out) else out, err))
+    room.wants("a word that isn't UTF-8", room.run([b"judge", b"\xff"], YES), (2, b"", BAD_WORDS))
+
+
+def inputs(room):
+    """An input that fails behind each of its bytes, one that ends there, and what can't be read at all."""
+    fault = (3, b"", READ_FAULT)
+    for count in range(len(YES) + 1):
+        for words in JUDGE:
+            for what, (own, other) in (("failing", packets(YES[:count], False)), ("breaking off", broken(YES[:count]))):
+                with own, other:
+                    room.wants(f"{words}, {what} behind {count} bytes", room.run(words, own), fault)
+        for words in JUDGE[:2]:
+            line = 1 if count <= YES.index(b"\n") else 2
+            cut = (1, f"no {line} 5 Truncated\n".encode(), b"")
+            own, other = packets(YES[:count], True)
+            with own:
+                room.wants(f"{words}, ending behind {count} bytes", room.run(words, own), (0, SAID_YES, b"") if count == len(YES) else cut)
+    folder = os.open(room.folder, os.O_RDONLY)
+    for words in JUDGE:
+        room.wants(f"{words}, a folder", room.run(words, folder), fault)
+        room.wants(f"{words}, a closed input", room.run(words, closed=[0]), fault)
+    os.close(folder)
+    for words in [*JUDGE, ["vectors"]]:
+        room.wants(f"{words}, a folder by its name", room.run([*words, "."]), fault)
+
+
+def verdicts(room):
+    """A no comes while the input stays open, and where it fails behind the first fault."""
+    for words in JUDGE[:2]:
+        given, other = os.pipe()
+        os.write(other, NO)
+        room.wants(f"{words}, a pipe that stays open", room.run(words, given), (1, SAID_NO, b""))
+        os.close(given)
+        os.close(other)
+        for what, (own, other) in (("failing", packets(NO, False)), ("breaking off", broken(NO))):
+            with own, other:
+                room.wants(f"{words}, {what} behind the first fault", room.run(words, own), (1, SAID_NO, b""))
+
+
+def outputs(room):
+    """Standard output that is full, that fills up, that is busy, that nobody reads any more, and that is closed."""
+    fault = (3, None, WRITE_FAULT)
+    with open("/dev/full", "wb") as full:
+        for given in (YES, NO, VECTOR):
+            room.put("log", given)
+            room.put("file", given)
+            for words in ORDERS:
+                room.wants(f"{words}, a full output", room.run(words, given, full), fault)
+    for left in range(len(SAID_YES) + 1):
+        for words in JUDGE:
+            with open(room.put("out", b""), "r+b") as out:
+                ran = room.run(words, YES, out, room=left)
+                out.seek(0)
+                wanted = fault if left < len(SAID_YES) else (0, None, b"")
+                room.wants(f"{words}, room for {left} bytes", (*ran, out.read()), (*wanted, SAID_YES[:left]))
+    busy, gone = full_pipe(), os.pipe()
+    os.close(gone[0])
+    for words in ORDERS:
+        room.wants(f"{words}, a pipe that takes no more", room.run(words, YES, busy[1]), fault)
+        room.wants(f"{words}, a pipe without a reader", room.run(words, YES, gone[1]), fault)
+        room.wants(f"{words}, a closed output", room.run(words, YES, closed=[1]), (3, b"", WRITE_FAULT))
+    for it in (*busy, gone[1]):
+        os.close(it)
+
+
+def errors(room):
+    """A standard error that is full or closed changes nothing else."""
+    with open("/dev/full", "wb") as full:
+        for words, given, out, status in ((["judges"], YES, b"", 2), (["judge", "gone"], YES, b"", 3), (["judge"], NO, SAID_NO, 1)):
+            room.wants(f"{words}, a full standard error", room.run(words, given, err=full), (status, out, None))
+            room.wants(f"{words}, a closed standard error", room.run(words, given, closed=[2]), (status, out, b""))
+        room.wants("both full", room.run(["judge"], YES, full, full), (3, None, None))
+
+
+def main():
+    with tempfile.TemporaryDirectory() as folder:
+        room = Room(folder)
+        for part in (printed, inputs, verdicts, outputs, errors):
+            part(room)
+    print("\n".join([*room.wrong, f"{room.count} runs of the program, {len(room.wrong)} otherwise than is wanted"]))
+    return 1 if room.wrong else 0
+
+
+if __name__ == "__main__":
+    sys.exit(main())
