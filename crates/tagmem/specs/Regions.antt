@@ -38,6 +38,10 @@ pub record AreApart (regions : List Region) (by_number : BTreeMap ℕ ℕ) : Typ
   pub apart : (region other at : ℕ) → tree.get nat_cmp by_number region ≡ Some at → tree.get nat_cmp by_number other ≡ Some at → region ≡ other
   pub small : (region at : ℕ) → tree.get nat_cmp by_number region ≡ Some at → region < 2 ^ 60
 
+-- a tree says of a number, if it is a region's, where it stands
+abbrev pub StandsAt : BTreeMap ℕ ℕ → ℕ → ℕ → Type 0
+StandsAt by_number region at = region < 2 ^ 60 → tree.get nat_cmp by_number region ≡ Some at
+
 -- the least number from one on of which something is found, where there is one
 abbrev pub IsLeast : (ℕ → Option ℕ) → ℕ → Option ℕ → Type 0
 IsLeast find from None = (number : ℕ) → from ≤ number → find number ≡ None

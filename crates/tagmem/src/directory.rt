@@ -1,8 +1,8 @@
 //! Where pages are, in the order of their numbers.
-ghost use Rattle.std.specs.Prelude.{◌≡◌, ◌/◌, ◌*◌, ◌+◌, ◌<◌, ◌≤◌, ℕ, None, Some, MatchOption, OnOk, OnErr};
+ghost use Rattle.std.specs.Prelude.{◌≡◌, ◌/◌, ◌*◌, ◌+◌, ◌^◌, ◌<◌, ◌≤◌, ℕ, None, Some, MatchOption, OnOk, OnErr};
 ghost use Rattle.std.specs.BTreeMap as tree;
 ghost use Rattle.std.specs.Ordering.{nat_cmp};
-ghost use Rattle.tagmem.specs.Regions.{AreApart, EachHasPage};
+ghost use Rattle.tagmem.specs.Regions.{AreApart, EachHasPage, StandsAt};
 
 use crate::region::Region;
 use crate::store::NoMemory;
@@ -16,6 +16,10 @@ pub(crate) struct Directory {
     regions: Vec<Region>,
     // Where each region stands in the list, by its number.
     tree: BTreeMap<u64, usize>,
+    // The number of the region that was added last, and where it stands. At first it is that of no region.
+    last: u64,
+    last_at: usize,
+    ghost latest: { StandsAt tree last last_at },
     ghost apart: { AreApart regions.items tree },
     ghost used: { EachHasPage regions.items },
 }
@@ -31,6 +35,8 @@ impl Directory {
         Directory {
             regions: Vec::new(alloc),
             tree: BTreeMap::new(alloc),
+            last: u64::MAX,
+            last_at: 0,
         }
     }
 
@@ -73,15 +79,26 @@ impl Directory {
         }
     }
 
+    // Where a region stands in the list. It is mostly the one that was added last.
+    #[inline(always)]
+    fn region_at(&self, region: u64) -> Option<usize>
+        requires { region < 2 ^ 60 }
+        ensures { result ≡ tree.get nat_cmp self.now.tree region }
+    {
+        if region == self.last {
+            return Some(self.last_at);
+        }
+        self.tree.get(&region).copied()
+    }
+
     // Adds a page, or refuses it and stays as it was.
     pub(crate) fn insert(&mut self, number: u64, index: usize) -> Result<(), NoMemory>
         requires fits { index < 4294967295 }
         ensures ok { OnOk result (IsWith (found_in self.old) (found_in self.new) number index) }
         ensures err { OnErr result ((other : ℕ) → found_in self.new other ≡ found_in self.old other) }
     {
-        match self.tree.get(&(number / 16)) {
+        match self.region_at(number / 16) {
             Some(at) => {
-                let at = *at;
                 self.regions[at].set((number % 16) as u8, index);
                 Ok(())
             }
@@ -106,6 +123,8 @@ impl Directory {
         let mut region = Region::new();
         region.set((number % 16) as u8, index);
         self.regions.push_reserved(region);
+        self.last = number / 16;
+        self.last_at = at;
         Ok(())
     }
 }

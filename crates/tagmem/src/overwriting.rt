@@ -16,6 +16,8 @@ pub(crate) fn overwrite(granule: &mut [u8; 16], byte_index: u8, bytes: &[u8])
     match bytes.len() {
         8 => overwrite_with::<8>(granule, from, bytes),
         4 => overwrite_with::<4>(granule, from, bytes),
+        2 => overwrite_with::<2>(granule, from, bytes),
+        1 => overwrite_with::<1>(granule, from, bytes),
         _ => overwrite_any(granule, from, bytes),
     }
 }

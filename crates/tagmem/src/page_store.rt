@@ -121,10 +121,9 @@ impl PageStore {
         let Ok(()) = self.directory.insert(number, index) else {
             return Err(NoMemory);
         };
-        let mut page = Page::new(number);
-        page.put((granule % 16) as u8, tag, byte_index, bytes, code);
+        self.pages.push_reserved(Page::new(number));
+        self.pages[index].put((granule % 16) as u8, tag, byte_index, bytes, code);
         self.count += 1;
-        self.pages.push_reserved(page);
         self.chains.push(number);
         Ok(())
     }

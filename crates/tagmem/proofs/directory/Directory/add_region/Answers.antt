@@ -11,6 +11,7 @@ invariant_of-self-2 c =
     let items = c.push_reserved.ensures.items ∙ ap (λ items. items ++ region ∷ []) c.reserve.ensures.items in
     let last : c.len-at.result ≡ length s.regions.items = omega (arith, s.regions.ok.0, c.len-at.ensures, c.reserve.ensures.len) in
     rw items (record {
+      latest = λ small. c.in-Ok-insert.ensures.updates.1;
       apart = AreApart-push s.regions.items s.tree c.insert.new.self s.apart c.args.number c.len-at.result c.args.index region (omega arith)
           c.requires.absent last c.in-Ok-insert.ensures.updates c.set.ensures.own
           (λ place other. c.set.ensures.others place other ∙ c.new-region.ensures place);

@@ -6,5 +6,5 @@ use Rattle.tagmem.proofs.directory.Directory.insert.Goals as goal
 pub returns-in-Some-clause-ok : goal.returns-in-Some-clause-ok
 returns-in-Some-clause-ok c =
     let s = c.args.self.now in
-    IsWith-set s.regions.items s.tree s.apart c.args.number c.in-Some.at.now c.args.index c.index_mut.result.now c.set.new.self
-    (sym c.in-Some.ensures.value) c.index_mut.ensures.value c.set.ensures.own c.set.ensures.others
+    IsWith-set s.regions.items s.tree s.apart c.args.number c.in-Some.at c.args.index c.index_mut.result.now c.set.new.self
+    (sym c.in-Some.ensures) c.index_mut.ensures.value c.set.ensures.own c.set.ensures.others

@@ -1,14 +1,15 @@
-use Rattle.std.proofs.Common.{◌≡◌, ◌<◌, ◌∷◌, [], ◌++◌, ◌/◌, ◌%◌, length, All, ap, ◌∙◌, arith}
-use Rattle.std.proofs.lemmas.List.{length-append, length-map}
+use Rattle.std.proofs.Common.{◌≡◌, ◌<◌, ◌∷◌, [], ◌++◌, ◌/◌, ◌%◌, length, get_or, set, All, sym, ap, subst, ◌∙◌, arith}
+use Rattle.std.proofs.lemmas.List.{length-map, get_or_push}
 use Rattle.std.proofs.lemmas.List.Elements.{All-from_get_or}
 use Rattle.tagmem.specs.Directories.{found_in}
 use Rattle.tagmem.specs.declared.page.Page.{Page}
 use Rattle.tagmem.specs.Pages.{contents_of}
-use Rattle.tagmem.proofs.Directories.{numbers_of-push, IsDirectory-same}
+use Rattle.tagmem.proofs.Directories.{IsDirectory-same}
 use Rattle.tagmem.proofs.Pages.{get_absent}
 use Rattle.tagmem.proofs.Writes.{IsWritten}
-use Rattle.tagmem.proofs.Added.{IsAdded, IsDirectory-add, EachUsed-add, contents_of-add, AreStored-add, len-add}
+use Rattle.tagmem.proofs.Added.{IsAdded, numbers_of-add, length-add, IsDirectory-add, EachUsed-add, contents_of-add, AreStored-add, len-add}
 use Rattle.tagmem.proofs.page_store.PageStore.add_page.Goals as goal
+use Rattle.tagmem.proofs.page_store.PageStore.add_page.Goals.{After-put}
 
 -- where memory is refused the pages are what they were
 pub invariant_of-self : goal.invariant_of-self
@@ -78,65 +79,52 @@ overflow_add-self c =
     let s = c.args.self.now in
     omega (arith, s.counted, c.requires.room (get_absent s.pages.items c.args.granule c.requires.absent))
 
--- else there is a page more, with a write in it
-pub returns-clause-ok : goal.returns-clause-ok
-returns-clause-ok c =
+-- else there is a page more, of which no granule was put, and then it has a write
+added : (c : After-put) → IsAdded c.args.self.now.pages.items (found_in c.args.self.now.directory) (found_in c.insert.new.self)
+    c.len-index.result c.args.granule c.new.result c.put.new.self c.args.tag c.args.byte_index c.args.bytes.now c.args.code
+added c =
     let s = c.args.self.now in
-    let page = c.put.new.self in
-    let items = c.push_reserved.ensures.items ∙ ap (λ items. items ++ page ∷ []) c.reserve.ensures.items in
-    let number = c.new-page.ensures.number in
-    let none = c.new-page.ensures.slots in
+    let first = c.index_mut.result.now in
     let last : c.len-index.result ≡ length s.pages.items = omega (arith, s.pages.ok.0, c.len-index.ensures) in
-    let written : IsWritten c.new-page.result c.put.new.self (c.args.granule % 16)
-    c.args.tag c.args.byte_index c.args.bytes.now c.args.code =
-    record { number = c.put.ensures.number; slots = c.put.ensures.slots } in
-    let added : IsAdded s.pages.items (found_in s.directory) (found_in c.insert.new.self)
-    c.len-index.result c.args.granule c.new-page.result c.put.new.self _ _ _ _ = record {
+    let pushed = c.push_reserved.ensures.items ∙ ap (λ items. items ++ c.new.result ∷ []) c.reserve.ensures.items in
+    let read : first ≡ c.new.result =
+    c.index_mut.ensures.value ∙ ap (λ items. get_or items c.len-index.result first) pushed
+    ∙ get_or_push s.pages.items c.new.result first c.len-index.result (sym last) in
+    record {
       known = s.known;
       used = s.used;
       absent = c.requires.absent;
-      number = number;
-      none = none;
+      number = c.new.ensures.number;
+      none = c.new.ensures.slots;
       last = last;
       found = c.in-Ok-insert.ensures.ok;
-      written = written;
-    } in
-    ap contents_of items ∙ contents_of-add _ _ _ _ _ _ _ _ _ _ _ added
+      written =
+          subst (λ page. IsWritten page c.put.new.self (c.args.granule % 16) c.args.tag c.args.byte_index c.args.bytes.now c.args.code) read
+          (record { number = c.put.ensures.number; slots = c.put.ensures.slots });
+    }
+
+pub returns-clause-ok : goal.returns-clause-ok
+returns-clause-ok c =
+    let pushed = c.push_reserved.ensures.items ∙ ap (λ items. items ++ c.new.result ∷ []) c.reserve.ensures.items in
+    ap (λ items. contents_of (set items c.len-index.result c.put.new.self)) pushed ∙ contents_of-add _ _ _ _ _ _ _ _ _ _ _ (added (goal.at.returns-clause-ok c).After-put)
 
 pub invariant_of-self-2 : goal.invariant_of-self-2
 invariant_of-self-2 c =
     let s = c.args.self.now in
-    let page = c.put.new.self in
-    let items = c.push_reserved.ensures.items ∙ ap (λ items. items ++ page ∷ []) c.reserve.ensures.items in
-    let number = c.new-page.ensures.number in
-    let none = c.new-page.ensures.slots in
-    let last : c.len-index.result ≡ length s.pages.items = omega (arith, s.pages.ok.0, c.len-index.ensures) in
-    let written : IsWritten c.new-page.result c.put.new.self (c.args.granule % 16)
-    c.args.tag c.args.byte_index c.args.bytes.now c.args.code =
-    record { number = c.put.ensures.number; slots = c.put.ensures.slots } in
-    let added : IsAdded s.pages.items (found_in s.directory) (found_in c.insert.new.self)
-    c.len-index.result c.args.granule c.new-page.result c.put.new.self _ _ _ _ = record {
-      known = s.known;
-      used = s.used;
-      absent = c.requires.absent;
-      number = number;
-      none = none;
-      last = last;
-      found = c.in-Ok-insert.ensures.ok;
-      written = written;
-    } in
-    let len = len-add _ _ _ _ _ _ _ _ _ _ _ added in
+    let pushed = c.push_reserved.ensures.items ∙ ap (λ items. items ++ c.new.result ∷ []) c.reserve.ensures.items in
+    let is = added (goal.at.invariant_of-self-2 c).After-put in
+    let len = len-add _ _ _ _ _ _ _ _ _ _ _ is in
     let room = c.requires.room (get_absent s.pages.items c.args.granule c.requires.absent) in
     let bytes : All (λ byte. byte < 256) c.args.bytes.now =
     All-from_get_or (λ byte. byte < 256) c.args.bytes.now 0 (λ i lt. (c.type_inv.bytes i).fits) in
-    rw items (record {
+    rw pushed (record {
       chained = c.push.ensures ∙ ap (λ numbers. numbers ++ (c.args.granule / 16) ∷ []) (c.make_room.ensures.numbers ∙ s.chained)
-          ∙ numbers_of-push s.pages.items page (c.args.granule / 16) c.len-index.result (c.put.ensures.number ∙ number) last;
-      known = IsDirectory-add _ _ _ _ _ _ _ _ _ _ _ added;
-      used = EachUsed-add _ _ _ _ _ _ _ _ _ _ _ added;
-      stored =
-          AreStored-add _ _ _ _ _ _ _ _ _ _ _ added c.requires.in_memory c.requires.inside bytes (omega arith) c.requires.coded s.stored;
+          ∙ numbers_of-add _ _ _ _ _ _ _ _ _ _ _ is;
+      known = IsDirectory-add _ _ _ _ _ _ _ _ _ _ _ is;
+      used = EachUsed-add _ _ _ _ _ _ _ _ _ _ _ is;
+      stored = AreStored-add _ _ _ _ _ _ _ _ _ _ _ is c.requires.in_memory c.requires.inside bytes (omega arith) c.requires.coded
+          s.stored;
       counted = omega (arith, len, s.counted);
-      few = omega (arith, len, length-append s.pages.items (page ∷ []), s.few);
+      few = omega (arith, len, length-add _ _ _ _ _ _ _ _ _ _ _ is, s.few);
       fits = omega (arith, len, room);
     })
