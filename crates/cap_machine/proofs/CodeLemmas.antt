@@ -64,10 +64,6 @@ pub code_for-coded : (tag : Bool) (code : ℕ) → IsCoded tag code → code_for
 code_for-coded true code coded = refl
 code_for-coded false code coded = sym (coded.0.1 refl)
 
-pub code_for-twice : (tag : Bool) (code : ℕ) → code_for tag (code_for tag code) ≡ code_for tag code
-code_for-twice true code = refl
-code_for-twice false code = refl
-
 -- a root's own code
 pub root_coded : (place : Place) → IsPlace place → IsCoded true (key_of place)
 root_coded (Register n) range =

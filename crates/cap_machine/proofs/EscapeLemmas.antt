@@ -7,6 +7,7 @@ use Rattle.std.proofs.lemmas.Bool.{eq-eqb}
 use Rattle.std.proofs.lemmas.Option.{none-some, same_Some}
 use Rattle.cap_word.specs.declared.word.Cap.{Cap}
 use Rattle.cap_bounds.specs.Bounds.{IsSound}
+use Rattle.cap_log.specs.declared.lines.Place.TheVariants.{Register}
 use Rattle.cap_log.specs.declared.lines.Step.{Step}
 use Rattle.cap_log.specs.declared.lines.Step.TheVariants.{Move, ClearTag, SetBounds, SetBoundsExact, SetAddr, AndPerm}
 use Rattle.cap_log.specs.declared.lines.Step.TheVariants.{Seal, Unseal, LoadCap, StoreCap, Load, Store}
@@ -31,14 +32,14 @@ use Rattle.cap_ops.specs.Refusals.{refusal_of}
 use Rattle.cap_machine.specs.declared.rules.Rules.{Rules}
 use Rattle.cap_machine.specs.declared.rules.Rules.TheVariants.{One, TwoStrict, TwoClear}
 use Rattle.cap_machine.specs.States.{State, DeclaredRoot, put, start}
-use Rattle.cap_machine.specs.Steps.{Access, Leads, Row, clear_row, row_by, row_of, state_with}
+use Rattle.cap_machine.specs.Steps.{Access, Leads, Row, Written, clear_row, row_by, row_of, state_with}
 use Rattle.cap_machine.specs.Accounts.{Account, row_in, step_tests}
 use Rattle.cap_machine.specs.Helds.{Held, state_of, account_of, tests_by}
 use Rattle.cap_machine.specs.Parents.{IsSoundState, StaysWithinParents}
 use Rattle.cap_machine.specs.Runs.{AreSound, IsRun, state_at}
 use Rattle.cap_machine.specs.Escapes.{HasRoomFor, AsksBeyond, ClearsBeyond, ClearsExactly, Escapes, asked_by}
 use Rattle.cap_machine.proofs.AuthorityLemmas.{one_back, start_sound}
-use Rattle.cap_machine.proofs.MadeLemmas.{EndsIn, first_mapped-some, first_mapped-none, ending, row_by-operation}
+use Rattle.cap_machine.proofs.MadeLemmas.{EndsIn, first_mapped-some, first_mapped-none, ending, row_by-written}
 
 -- how an operation ends
 ended : (tests : List (Bool × OpFault)) (cap : Cap) → (result : Result Cap OpFault) × EndsWith result tests cap
@@ -216,10 +217,12 @@ pub escapes_first : (account : Account) (step : Step) → IsStepInRange step →
     → (first_of (step_tests account step) ≡ Some BoundsEscape) ↔ Escapes account.rules account.state step
 escapes_first account (SetBounds target source length recorded) range sound =
     narrowed account (SetBounds target source length recorded) source length false
-    (ap (λ (row : Row). row.tests) (row_by-operation account.rules target source recorded _ _)) range.2 sound
+    (ap (λ (row : Row). row.tests) (row_by-written account.rules _ (Register target) _ (Some (Register source)) (Written recorded) None))
+    range.2 sound
 escapes_first account (SetBoundsExact target source length recorded) range sound =
     narrowed account (SetBoundsExact target source length recorded) source length true
-    (ap (λ (row : Row). row.tests) (row_by-operation account.rules target source recorded _ _)) range.2 sound
+    (ap (λ (row : Row). row.tests) (row_by-written account.rules _ (Register target) _ (Some (Register source)) (Written recorded) None))
+    range.2 sound
 escapes_first account (Move target source recorded) range sound = never account (Move target source recorded) refl
 escapes_first account (ClearTag target source recorded) range sound = never account (ClearTag target source recorded) refl
 escapes_first account (SetAddr target source address recorded) range sound = never account (SetAddr target source address recorded) refl

@@ -12,7 +12,7 @@ use Rattle.std.proofs.Math.Bool.{or-false}
 use Rattle.std.proofs.lemmas.Bool.{false≢true, cases_lt, le-ltb, eq-eqb, lt-leb}
 use Rattle.std.proofs.lemmas.List.{get_or_past}
 use Rattle.std.proofs.lemmas.List.Elements.{All-get_or}
-use Rattle.std.proofs.lemmas.Option.{none-some}
+use Rattle.std.proofs.lemmas.Option.{none-some, same_Some}
 use Rattle.cap_word.specs.declared.word.Cap.{Cap}
 use Rattle.cap_word.specs.Memory.{low_bytes, memory_of, stored_word}
 use Rattle.cap_word.proofs.Bytes.{stored_word-memory_of, memory_of-stored_word}
@@ -22,8 +22,6 @@ use Rattle.cap_log.specs.declared.lines.Step.{Step}
 use Rattle.cap_log.specs.declared.lines.Step.TheVariants as steps
 use Rattle.cap_log.specs.Lines.{IsStepInRange}
 use Rattle.cap_ops.specs.declared.faults.OpFault.{OpFault}
-use Rattle.cap_ops.specs.Accesses.{loaded_result}
-use Rattle.cap_ops.specs.Authority.{StaysWithin}
 use Rattle.cap_ops.specs.Tests.{first_of}
 use Rattle.tagmem.specs.Granules.{Entry, AreStored, bytes_at, overwritten}
 use Rattle.tagmem.proofs.Granules.{len-put, length-bytes_at, bytes_at_fit}
@@ -33,23 +31,24 @@ use Rattle.cap_machine.specs.declared.ends.StepEnd.{StepEnd}
 use Rattle.cap_machine.specs.declared.ends.StepEnd.TheVariants.{Refused, NoMemory}
 use Rattle.cap_ops.specs.Refusals.{refusal_of}
 use Rattle.cap_machine.specs.States.{State, untagged_null, granule_key, key_of, put, value_at}
-use Rattle.cap_machine.specs.Steps.{Access, Row, row_of, row_by, operation, is_recorded, is_same_cap, state_with}
-use Rattle.cap_machine.specs.Steps.{address_through, granule_through, with_value}
+use Rattle.cap_machine.specs.Steps.{Access, Recorded, Row, Written, row_of, row_by, is_recorded, is_same_cap, state_with}
+use Rattle.cap_machine.specs.Steps.{address_through, with_value}
 use Rattle.cap_machine.specs.declared.rules.Rules.{Rules}
 use Rattle.cap_machine.specs.declared.rules.Rules.TheVariants.{One, TwoStrict, TwoClear}
 use Rattle.cap_machine.specs.Accounts.{Account, step_tests, named_by, row_in, naming, is_new}
 use Rattle.cap_machine.specs.Accounts.{passes_granule_limit, most_steps}
 use Rattle.std.specs.Option.{option_and_then}
 use Rattle.cap_machine.specs.Origins.{Origins, origins_after}
-use Rattle.cap_machine.specs.Places.{IsCoded, codes_of, place_at}
-use Rattle.cap_machine.specs.Helds.{Held, Makes, EndsBy, EndsStep, state_of, code_in, account_of, tests_by, value_by, granule_cap}
-use Rattle.cap_machine.specs.Changes.{Derives, EndsAccess, EndsPut, IsOperation, IsSource, code_for, last_tests}
+use Rattle.cap_machine.specs.Places.{AreCoded, IsCoded, codes_of, place_at}
+use Rattle.cap_machine.specs.Parents.{IsSoundCap, IsSoundState}
+use Rattle.cap_machine.specs.Helds.{Held, Makes, EndsStep, state_of, code_in, account_of, tests_by, value_by, granule_cap}
+use Rattle.cap_machine.specs.Changes.{Derives, EndsPut, IsParentsCode, WritesRegister, code_for, last_tests, rules_for}
 use Rattle.cap_machine.specs.Changes.{is_past_limits, result_in, with_register, with_cap_put, with_value_put}
 use Rattle.cap_machine.specs.Values.{number_at}
 use Rattle.cap_machine.proofs.GranuleLemmas.{cap_of}
 use Rattle.cap_machine.proofs.StateLemmas.{account_with, state-register, state-granule, codes-register, codes-granule}
 use Rattle.cap_machine.proofs.StateLemmas.{named-put, named_in, also_named}
-use Rattle.cap_machine.proofs.CodeLemmas.{IsFrom, code-register, code_for-coded, origins_by, origins-put, origin-written}
+use Rattle.cap_machine.proofs.CodeLemmas.{IsFrom, code-register, code_for-coded, coded_from, origins_by, origins-put, origin-written}
 use Rattle.cap_machine.proofs.StepLemmas.{WritesWithin, row_by-access, writes_within_by}
 
 -- a test of an operation, as a test of a line
@@ -146,103 +145,132 @@ made old step target value recorded code named writes same sized coded_so low fr
           ∙ sym (ap (stepped_on old step) named);
     }
 
-refused : (old new : Held) (step : Step) (recorded : Bool) (end : StepEnd) → named_by (row_in (account_of old) step) ≡ None
-    → is_recorded (row_in (account_of old) step) ≡ recorded
-    → first_of (row_in (account_of old) step).tests ≡ None → EndsAccess old (last_tests old recorded) end new → EndsStep old step end new
-refused old new step recorded (Refused refusal) named same free end =
-    (step_tests-free old step free ∙ tail_unnamed old step recorded named same ∙ end.0, end.1)
-refused old new step recorded NoMemory named same free end = absurd end
-
--- what the end of a step that writes a register answers
-abbrev pub Finishes : Held → ℕ → Cap → Cap → ℕ → Result (Unit {0}) StepEnd → Held → Type 0
-Finishes old target derived recorded code result new =
-    MatchResult result
-    (λ _. (first_of (last_tests old (is_same_cap recorded derived)) ≡ None) × (new ≡ with_register old target derived code))
-    (λ end. EndsAccess old (last_tests old (is_same_cap recorded derived)) end new)
-
 abbrev pub EndsIn : Held → Step → Result (Unit {0}) StepEnd → Held → Type 0
 EndsIn old step result new = MatchResult result (λ _. Makes old step new) (λ end. EndsStep old step end new)
 
--- a step that writes a register, from its end's answer to its own
-pub finished : (old new : Held) (step : Step) (target : ℕ) (derived recorded : Cap) (code : ℕ) (result : Result (Unit {0}) StepEnd)
-    → named_by (row_in (account_of old) step) ≡ None → (row_in (account_of old) step).writes ≡ Some (Register target, derived)
-    → is_recorded (row_in (account_of old) step) ≡ is_same_cap recorded derived → length old.registers ≡ 32 → length old.codes ≡ 32
-    → target ≤ 31
-    → first_of (row_in (account_of old) step).tests ≡ None → IsFrom old step derived code
-    → Finishes old target derived recorded code result new → EndsIn old step result new
-finished old new step target derived recorded code (Ok done) named writes same sized coded_so low free from ends =
-    subst (λ (h : Held). Makes old step h) (sym ends.1) (made old step target derived recorded code named writes same sized
-    coded_so low free from ends.0)
-finished old new step target derived recorded code (Err end) named writes same sized coded_so low free from ends =
-    refused old new step (is_same_cap recorded derived) end named same free ends
+-- a row that writes a place
+abbrev written : List (Bool × OpFault) → Place → Cap → Option Place → Recorded → Option Access → Row
+written tests_are place value parent_is recorded access_is =
+    record { tests = tests_are; writes = Some (place, value); parent = parent_is; records = recorded; access = access_is }
 
--- an operation on registers, by the rules
-pub row_by-operation : (rules : Rules) (target source : ℕ) (recorded : Cap) (tests : List (Bool × OpFault)) (result : Cap)
-    → row_by rules (operation target source recorded tests result) ≡ operation target source recorded (tests_by rules tests)
-    (value_by rules tests result)
-row_by-operation One target source recorded tests result = refl
-row_by-operation TwoStrict target source recorded tests result = refl
-row_by-operation TwoClear target source recorded tests result = refl
+-- it, by the rules
+pub row_by-written : (rules : Rules) (tests : List (Bool × OpFault)) (place : Place) (value : Cap) (parent : Option Place)
+    (recorded : Recorded) (access : Option Access)
+    → row_by rules (written tests place value parent recorded access)
+    ≡ written (tests_by (rules_for rules access) tests) place (value_by (rules_for rules access) tests value) parent recorded access
+row_by-written One tests place value parent recorded None = refl
+row_by-written One tests place value parent recorded (Some access) = refl
+row_by-written TwoStrict tests place value parent recorded None = refl
+row_by-written TwoStrict tests place value parent recorded (Some access) = refl
+row_by-written TwoClear tests place value parent recorded None = refl
+row_by-written TwoClear tests place value parent recorded (Some access) = refl
 
--- an operation that nothing refuses, by any rules
-pub untested : (rules : Rules) (value derived : Cap) → derived ≡ value → EndsBy rules [] value (Ok derived)
-untested One value derived is = (refl, is)
-untested TwoStrict value derived is = (refl, is)
-untested TwoClear value derived is = (refl, is)
-
--- the row of an operation on registers, by the rules
-abbrev row_for : Held → Step → ℕ → ℕ → Cap → Row
-row_for old step target source recorded =
+-- a row of a step that writes a register, by the rules
+abbrev row_for : Held → Step → ℕ → Cap → Row
+row_for old step target recorded =
     let row = row_of (state_of old) step in
-    operation target source recorded (tests_by old.rules row.tests) (value_by old.rules row.tests (result_in row.writes))
+    let by = rules_for old.rules row.access in
+    written (tests_by by row.tests) (Register target) (value_by by row.tests (result_in row.writes)) row.parent (Written recorded)
+    row.access
 
-operation_row : (old : Held) (step : Step) (target : ℕ) (recorded : Cap) → (is : IsOperation (state_of old) step target recorded)
-    → row_in (account_of old) step ≡ row_for old step target is.0 recorded
-operation_row old step target recorded is =
+written_row : (old : Held) (step : Step) (target : ℕ) (recorded : Cap) → WritesRegister (state_of old) step target recorded
+    → row_in (account_of old) step ≡ row_for old step target recorded
+written_row old step target recorded is =
     let row = row_of (state_of old) step in
-    ap (row_by old.rules) is.1 ∙ row_by-operation old.rules target is.0 recorded row.tests (result_in row.writes)
+    ap (λ (w : Option (Place × Cap)). row_by old.rules (record row { writes = w })) is.0
+    ∙ ap (λ (r : Recorded). row_by old.rules (written row.tests (Register target) (result_in row.writes) row.parent r row.access)) is.1
+    ∙ row_by-written old.rules row.tests (Register target) (result_in row.writes) row.parent (Written recorded) row.access
 
--- it has no access
-pub unaccessed : (state : State) (step : Step) (target : ℕ) (recorded : Cap) → IsOperation state step target recorded
-    → (row_of state step).access ≡ None
-unaccessed state step target recorded is = ap (λ (r : Row). r.access) is.1
+-- what a step that writes a register comes to, where its operation or access refuses nothing
+pub record Concluded (old : Held) (step : Step) (target : ℕ) (recorded derived : Cap) : Type 0 where
+  pub named : named_by (row_in (account_of old) step) ≡ None
+  pub writes : (row_in (account_of old) step).writes ≡ Some (Register target, derived)
+  pub same : is_recorded (row_in (account_of old) step) ≡ is_same_cap recorded derived
+  pub free : first_of (row_in (account_of old) step).tests ≡ None
 
--- its result comes from its source
-from_source : (old : Held) (step : Step) (source : ℕ) (derived : Cap) → IsSource (state_of old) step source
-    → IsFrom old step derived (get_or old.codes source 0)
-from_source old step source derived is held =
-    ap (λ (o : Option Place). option_and_then (origins_by (code_in old)) (option_map key_of o)) is.1
-    ∙ ap place_at (code-register old source is.0)
+pub concluded : (old : Held) (step : Step) (target : ℕ) (recorded derived : Cap)
+    → WritesRegister (state_of old) step target recorded → Derives old step (Ok derived) → Concluded old step target recorded derived
+concluded old step target recorded derived is derives =
+    let row = written_row old step target recorded is in
+    record {
+      named = ap named_by row;
+      writes = ap (λ (r : Row). r.writes) row ∙ ap (λ (c : Cap). Some (Register target, c)) (sym derives.1);
+      same = ap is_recorded row ∙ ap (is_same_cap recorded) (sym derives.1);
+      free = ap (λ (r : Row). first_of r.tests) row ∙ derives.0;
+    }
 
--- and stays within it
-pub source_within : (old : Held) (step : Step) (target source : ℕ) (recorded derived : Cap) → IsStepInRange step
-    → IsOperation (state_of old) step target recorded
-    → IsSource (state_of old) step source → Derives old step (Ok derived) → StaysWithin derived (state_of old source)
-source_within old step target source recorded derived range is from derives =
-    let row = operation_row old step target recorded is in
-    let within = writes_within_by old.rules (state_of old) step range (ap (λ (r : Row). first_of r.tests) row ∙ derives.0) in
-    subst (λ (w : Option (Place × Cap)). WritesWithin (state_of old) (Some (Register source)) w)
-    (ap (λ (r : Row). r.writes) row ∙ ap (λ (c : Cap). Some (Register target, c)) (sym derives.1))
-    (subst (λ (p : Option Place). WritesWithin (state_of old) p (row_in (account_of old) step).writes) from.1 within)
+-- its result is sound, and so is its code
+pub concluded_within : (old : Held) (step : Step) (target : ℕ) (recorded derived : Cap) → IsStepInRange step
+    → Concluded old step target recorded derived
+    → WritesWithin (state_of old) (row_of (state_of old) step).parent (Some (Register target, derived))
+concluded_within old step target recorded derived range is =
+    subst (WritesWithin (state_of old) (row_of (state_of old) step).parent) is.writes
+    (writes_within_by old.rules (state_of old) step range is.free)
 
--- an operation, from its end's answer to the step's
-pub operated : (old new : Held) (step : Step) (target source : ℕ) (recorded derived : Cap) (result : Result (Unit {0}) StepEnd)
-    → IsOperation (state_of old) step target recorded → length old.registers ≡ 32 → length old.codes ≡ 32 → target ≤ 31
-    → IsSource (state_of old) step source → Derives old step (Ok derived)
-    → Finishes old target derived recorded (get_or old.codes source 0) result new → EndsIn old step result new
-operated old new step target source recorded derived result is sized coded_so low from derives ends =
-    let row = operation_row old step target recorded is in
-    finished old new step target derived recorded (get_or old.codes source 0) result
-    (ap named_by row) (ap (λ (r : Row). r.writes) row ∙ ap (λ (c : Cap). Some (Register target, c)) (sym derives.1))
-    (ap is_recorded row ∙ ap (is_same_cap recorded) (sym derives.1)) sized coded_so low
-    (ap (λ (r : Row). first_of r.tests) row ∙ derives.0) (from_source old step source derived from) ends
+pub result_sound : (state : State) (parent : Option Place) (place : Place) (cap : Cap) → IsSoundState state
+    → WritesWithin state parent (Some (place, cap)) → IsSoundCap cap
+result_sound state None place cap all within held = absurd (within held)
+result_sound state (Some from) place cap all within held = within.sound held (all (key_of from) (within.from_tagged held))
 
--- an operation that refuses
-pub operation_faulted : (old : Held) (step : Step) (target : ℕ) (recorded : Cap) (fault : OpFault) (refusal : Refusal)
-    → IsOperation (state_of old) step target recorded → Derives old step (Err fault) → refusal ≡ refusal_of fault
+untagged_coded : (tag : Bool) (code : ℕ) → (tag ≡ true → ⊥) → IsCoded tag (code_for tag code)
+untagged_coded true code never = absurd (never refl)
+untagged_coded false code never = ((λ _. refl, λ _. refl), lit< tt)
+
+tagged_coded : (tag parent_tag : Bool) (code from : ℕ) → (tag ≡ true → parent_tag ≡ true) → (tag ≡ true → Some from ≡ Some code)
+    → IsCoded parent_tag from → IsCoded tag (code_for tag code)
+tagged_coded true parent_tag code from held same coded =
+    coded_from true parent_tag code held (subst (IsCoded parent_tag) (same_Some from code (same refl)) coded)
+tagged_coded false parent_tag code from held same coded = ((λ _. refl, λ _. refl), lit< tt)
+
+pub result_coded : (state : State) (codes : ℕ → ℕ) (parent : Option Place) (place : Place) (cap : Cap) (code : ℕ) → AreCoded state codes
+    → WritesWithin state parent (Some (place, cap)) → (cap.tag ≡ true → option_map (λ from. codes (key_of from)) parent ≡ Some code)
+    → IsCoded cap.tag (code_for cap.tag code)
+result_coded state codes None place cap code all within same = untagged_coded cap.tag code within
+result_coded state codes (Some from) place cap code all within same =
+    tagged_coded cap.tag (state (key_of from)).tag code (codes (key_of from)) within.from_tagged same (all (key_of from))
+
+origin_by_code : (codes : ℕ → ℕ) (parent : Option Place) (code : ℕ) → option_map (λ from. codes (key_of from)) parent ≡ Some code
+    → option_and_then (origins_by codes) (option_map key_of parent) ≡ place_at code
+origin_by_code codes None code same = absurd (none-some code same)
+origin_by_code codes (Some from) code same = ap place_at (same_Some (codes (key_of from)) code same)
+
+-- it is made
+pub concluded_made : (old : Held) (step : Step) (target : ℕ) (recorded derived : Cap) (code : ℕ)
+    → Concluded old step target recorded derived
+    → length old.registers ≡ 32 → length old.codes ≡ 32 → target ≤ 31 → IsParentsCode old step (Ok derived) code
+    → not (is_same_cap recorded derived) ≡ false → old.steps < most_steps → Makes old step (with_register old target derived code)
+concluded_made old step target recorded derived code is sized coded_so low parents like few =
+    made old step target derived recorded code is.named is.writes is.same sized coded_so low is.free
+    (λ held. origin_by_code (code_in old) (row_of (state_of old) step).parent code (parents derived refl held))
+    (ap (λ (b : Bool). first_of ((b, WrongResult) ∷ (nat_le most_steps old.steps, LimitPassed) ∷ [])) like
+    ∙ ap (λ (b : Bool). first_of (ending true b)) (lt-leb most_steps old.steps few))
+
+-- it is refused: its line records another result, or the limit on steps is passed
+concluded_refused : (old : Held) (step : Step) (target : ℕ) (recorded derived : Cap) (refusal : Refusal)
+    → Concluded old step target recorded derived
+    → first_of (last_tests old (is_same_cap recorded derived)) ≡ Some refusal → EndsStep old step (Refused refusal) old
+concluded_refused old step target recorded derived refusal is found =
+    (step_tests-free old step is.free ∙ tail_unnamed old step (is_same_cap recorded derived) is.named is.same ∙ found, refl)
+
+pub concluded_unlike : (old : Held) (step : Step) (target : ℕ) (recorded derived : Cap) → Concluded old step target recorded derived
+    → not (is_same_cap recorded derived) ≡ true → EndsStep old step (Refused WrongResult) old
+concluded_unlike old step target recorded derived is unlike =
+    concluded_refused old step target recorded derived WrongResult is
+    (ap (λ (b : Bool). first_of ((b, WrongResult) ∷ (nat_le most_steps old.steps, LimitPassed) ∷ [])) unlike)
+
+pub concluded_past : (old : Held) (step : Step) (target : ℕ) (recorded derived : Cap) → Concluded old step target recorded derived
+    → not (is_same_cap recorded derived) ≡ false → nat_le most_steps old.steps ≡ true → EndsStep old step (Refused LimitPassed) old
+concluded_past old step target recorded derived is like past =
+    concluded_refused old step target recorded derived LimitPassed is
+    (ap (λ (b : Bool). first_of ((b, WrongResult) ∷ (nat_le most_steps old.steps, LimitPassed) ∷ [])) like
+    ∙ ap (λ (b : Bool). first_of (ending true b)) past)
+
+-- its operation or access refuses it
+pub concluded_faulted : (old : Held) (step : Step) (target : ℕ) (recorded : Cap) (fault : OpFault) (refusal : Refusal)
+    → WritesRegister (state_of old) step target recorded → Derives old step (Err fault) → refusal ≡ refusal_of fault
     → EndsStep old step (Refused refusal) old
-operation_faulted old step target recorded fault refusal is derives same =
-    let row = operation_row old step target recorded is in (
+concluded_faulted old step target recorded fault refusal is derives same =
+    let row = written_row old step target recorded is in (
       first_mapped-some (row_in (account_of old) step).tests _ fault (ap (λ (r : Row). first_of r.tests) row ∙ derives)
           ∙ ap (λ (r : Refusal). Some r) (sym same),
       refl,
@@ -438,24 +466,6 @@ faulted_as old step access fault refusal accesses found is =
           ∙ ap (λ (r : Refusal). Some r) (sym is),
       refl,
     )
-
--- a loaded capability
-pub loaded_cap : (old new : Held) (target authority : ℕ) (offset : ℤ) (recorded : Cap) (result : Result (Unit {0}) StepEnd)
-    → length old.registers ≡ 32 → length old.codes ≡ 32 → target ≤ 31
-    → first_of (row_of (state_of old) (steps.LoadCap target authority offset recorded)).tests ≡ None
-    → (let key = granule_key (granule_through (state_of old) authority offset) in
-    let derived = loaded_result (state_of old authority) (state_of old key) in
-    Finishes old target derived recorded (code_for derived.tag (code_in old key)) result new)
-    → EndsIn old (steps.LoadCap target authority offset recorded) result new
-loaded_cap old new target authority offset recorded result sized coded_so low free ends =
-    let step = steps.LoadCap target authority offset recorded in
-    let row = same_row old step _ refl in
-    let key = granule_key (granule_through (state_of old) authority offset) in
-    let derived = loaded_result (state_of old authority) (state_of old key) in
-    finished old new step target derived recorded (code_for derived.tag (code_in old key)) result
-    (ap named_by row) (ap (λ (r : Row). r.writes) row) (ap is_recorded row) sized coded_so low
-    (ap (λ (r : Row). first_of r.tests) row ∙ free)
-    (λ held. ap (λ (b : Bool). place_at (code_for b (code_in old key))) (sym held)) ends
 
 -- what an offset is, passed to a call
 pub passed : (P : ℤ → Type 0) (offset : ℤ) → FitsSigned w16 offset → P (cast_signed w16 (cast_unsigned w16 offset)) → P offset

@@ -1,6 +1,6 @@
 -- What single parts of taking a root or making a step do, each for one private function (this profile's own).
-use Rattle.std.specs.Prelude.{◌≡◌, ℕ, ℤ, ◌+◌, ◌≤◌, Bool, true, false, not, ◌||◌, nat_le, if◌then◌else◌, List, [], ◌∷◌, slice_set, Option}
-use Rattle.std.specs.Prelude.{Some, None, IsTrue, Result, MatchResult}
+use Rattle.std.specs.Prelude.{◌≡◌, ℕ, ℤ, ◌+◌, Bool, true, false, not, ◌||◌, nat_le, if◌then◌else◌, List, [], ◌∷◌, slice_set, Option}
+use Rattle.std.specs.Prelude.{Some, None, IsTrue, Result, Ok, MatchResult, option_map}
 use Rattle.cap_word.specs.declared.word.Word.{Word}
 use Rattle.cap_word.specs.declared.word.Cap.{Cap}
 use Rattle.cap_word.specs.Memory.{low_bytes, memory_of}
@@ -14,12 +14,14 @@ use Rattle.cap_ops.specs.Tests.{first_of}
 use Rattle.tagmem.specs.Granules.{with_cap, with_bytes}
 use Rattle.cap_ops.specs.declared.refusal.Refusal.{Refusal}
 use Rattle.cap_ops.specs.declared.refusal.Refusal.TheVariants.{WrongResult, LimitPassed}
+use Rattle.cap_machine.specs.declared.rules.Rules.{Rules}
+use Rattle.cap_machine.specs.declared.rules.Rules.TheVariants.{TwoStrict}
 use Rattle.cap_machine.specs.declared.ends.StepEnd.{StepEnd}
 use Rattle.cap_machine.specs.declared.ends.StepEnd.TheVariants.{Refused, NoMemory}
-use Rattle.cap_machine.specs.States.{State, granule_key, tagged, untagged_null}
-use Rattle.cap_machine.specs.Steps.{address_through, operation, row_of}
+use Rattle.cap_machine.specs.States.{State, granule_key, key_of, tagged, untagged_null}
+use Rattle.cap_machine.specs.Steps.{Access, Written, address_through, row_of}
 use Rattle.cap_machine.specs.Accounts.{most_steps, is_new, passes_granule_limit}
-use Rattle.cap_machine.specs.Helds.{Held, EndsBy, state_of, account_of}
+use Rattle.cap_machine.specs.Helds.{Held, EndsBy, code_in, state_of, account_of}
 
 -- the code that a result has whose parent has this one: 0 where it has no tag
 abbrev pub code_for : Bool → ℕ → ℕ
@@ -48,19 +50,27 @@ abbrev pub result_in : Option (Place × Cap) → Cap
 result_in None = untagged_null
 result_in (Some write) = write.1
 
--- a step is an operation on registers, which writes to this one what is to be what its line records
-abbrev pub IsOperation : State → Step → ℕ → Cap → Type 0
-IsOperation state step target recorded =
+-- a step writes this register, and its line records this result
+abbrev pub WritesRegister : State → Step → ℕ → Cap → Type 0
+WritesRegister state step target recorded =
     let row = row_of state step in
-    (source : ℕ) × (row ≡ operation target source recorded row.tests (result_in row.writes))
+    (row.writes ≡ Some (Register target, result_in row.writes)) × (row.records ≡ Written recorded)
 
--- this register is the source of the operation
-abbrev pub IsSource : State → Step → ℕ → Type 0
-IsSource state step source = (source ≤ 31) × (let row = row_of state step in row.parent ≡ Some (Register source))
+-- the rules by which a row is refused: clear mode leaves those of an access strict
+abbrev pub rules_for : Rules → Option Access → Rules
+rules_for rules None = rules
+rules_for rules (Some access) = TwoStrict
 
--- the operation ends so
+-- the operation, or the access, gave this
 abbrev pub Derives : Held → Step → Result Cap OpFault → Type 0
-Derives held step outcome = let row = row_of (state_of held) step in EndsBy held.rules row.tests (result_in row.writes) outcome
+Derives held step outcome =
+    let row = row_of (state_of held) step in EndsBy (rules_for held.rules row.access) row.tests (result_in row.writes) outcome
+
+-- where it gave a tagged result, this is the code of the origin of the place that the result comes from
+abbrev pub IsParentsCode : Held → Step → Result Cap OpFault → ℕ → Type 0
+IsParentsCode held step outcome code =
+    (derived : Cap) → outcome ≡ Ok derived → IsTrue derived.tag
+    → option_map (λ place. code_in held (key_of place)) (row_of (state_of held) step).parent ≡ Some code
 
 -- whether an access through a register is allowed: where it is, its address, and otherwise the first test that holds
 abbrev pub ReachesAddress : State → ℕ → Kind → ℤ → ℕ → Result ℕ OpFault → Type 0
@@ -73,11 +83,6 @@ ReachesAddress state authority kind offset size result =
 -- the last tests of a step that names no granule: the log records another result than the machine's, or the limit on steps is passed
 abbrev pub last_tests : Held → Bool → List (Bool × Refusal)
 last_tests held recorded = (not recorded, WrongResult) ∷ (nat_le most_steps held.steps, LimitPassed) ∷ []
-
--- what a machine answers where it refuses by tests, and nothing changes
-abbrev pub EndsAccess : Held → List (Bool × Refusal) → StepEnd → Held → Type 0
-EndsAccess old tests (Refused refusal) new = (first_of tests ≡ Some refusal) × (new ≡ old)
-EndsAccess old tests NoMemory new = ⊥
 
 -- whether one step more that names a granule passes a limit
 abbrev pub is_past_limits : Held → ℕ → Bool

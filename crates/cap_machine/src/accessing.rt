@@ -105,7 +105,7 @@ impl Instruction for LoadCap {
         let granule = machine.granule(address / 16);
         let derived = loaded(machine.register(self.authority), granule);
         let code = machine.granule_code(derived.tag, address / 16);
-        machine.finish(self.target, derived, self.result, code)
+        machine.conclude(self, self.target, Ok(derived), self.result, code)
     }
 }
 

@@ -20,7 +20,8 @@ impl Instruction for Move {
     #[inline(always)]
     fn perform<M: TaggedStore>(self, machine: &mut Machine<M>) -> Result<(), StepEnd> {
         let outcome = Ok(machine.register(self.source));
-        machine.conclude(self, self.target, self.source, outcome, self.result)
+        let code = machine.codes[self.source as usize];
+        machine.conclude(self, self.target, outcome, self.result, code)
     }
 }
 
@@ -28,7 +29,8 @@ impl Instruction for ClearTag {
     #[inline(always)]
     fn perform<M: TaggedStore>(self, machine: &mut Machine<M>) -> Result<(), StepEnd> {
         let outcome = Ok(clear_tag(machine.register(self.source)));
-        machine.conclude(self, self.target, self.source, outcome, self.result)
+        let code = machine.codes[self.source as usize];
+        machine.conclude(self, self.target, outcome, self.result, code)
     }
 }
 
@@ -37,7 +39,8 @@ impl Instruction for SetBounds {
     fn perform<M: TaggedStore>(self, machine: &mut Machine<M>) -> Result<(), StepEnd> {
         let source = machine.register(self.source);
         let outcome = set_bounds_by(machine.rules, source, self.length, false);
-        machine.conclude(self, self.target, self.source, outcome, self.result)
+        let code = machine.codes[self.source as usize];
+        machine.conclude(self, self.target, outcome, self.result, code)
     }
 }
 
@@ -46,7 +49,8 @@ impl Instruction for SetBoundsExact {
     fn perform<M: TaggedStore>(self, machine: &mut Machine<M>) -> Result<(), StepEnd> {
         let source = machine.register(self.source);
         let outcome = set_bounds_by(machine.rules, source, self.length, true);
-        machine.conclude(self, self.target, self.source, outcome, self.result)
+        let code = machine.codes[self.source as usize];
+        machine.conclude(self, self.target, outcome, self.result, code)
     }
 }
 
@@ -54,7 +58,8 @@ impl Instruction for SetAddr {
     #[inline(always)]
     fn perform<M: TaggedStore>(self, machine: &mut Machine<M>) -> Result<(), StepEnd> {
         let outcome = set_addr_by(machine.rules, machine.register(self.source), self.address);
-        machine.conclude(self, self.target, self.source, outcome, self.result)
+        let code = machine.codes[self.source as usize];
+        machine.conclude(self, self.target, outcome, self.result, code)
     }
 }
 
@@ -62,7 +67,8 @@ impl Instruction for AndPerm {
     #[inline(always)]
     fn perform<M: TaggedStore>(self, machine: &mut Machine<M>) -> Result<(), StepEnd> {
         let outcome = and_perm_by(machine.rules, machine.register(self.source), self.mask);
-        machine.conclude(self, self.target, self.source, outcome, self.result)
+        let code = machine.codes[self.source as usize];
+        machine.conclude(self, self.target, outcome, self.result, code)
     }
 }
 
@@ -72,7 +78,8 @@ impl Instruction for Seal {
         let source = machine.register(self.source);
         let authority = machine.register(self.authority);
         let outcome = seal_by(machine.rules, source, authority);
-        machine.conclude(self, self.target, self.source, outcome, self.result)
+        let code = machine.codes[self.source as usize];
+        machine.conclude(self, self.target, outcome, self.result, code)
     }
 }
 
@@ -82,7 +89,8 @@ impl Instruction for Unseal {
         let source = machine.register(self.source);
         let authority = machine.register(self.authority);
         let outcome = unseal_by(machine.rules, source, authority);
-        machine.conclude(self, self.target, self.source, outcome, self.result)
+        let code = machine.codes[self.source as usize];
+        machine.conclude(self, self.target, outcome, self.result, code)
     }
 }
 

@@ -2,7 +2,6 @@
 //! more, and 0 for none.
 
 ghost use Rattle.std.specs.Prelude.{◌≡◌};
-ghost use Rattle.cap_machine.specs.Changes.{code_for};
 ghost use Rattle.cap_machine.specs.Places.{place_at};
 
 use cap_log::Place;
@@ -18,11 +17,4 @@ pub fn place_at(code: u64) -> Option<Place>
     } else {
         Some(Place::Granule(code - 32))
     }
-}
-
-/// The code of a result whose parent has this one: 0 where the result has no tag.
-pub fn code_for(tag: bool, code: u64) -> u64
-    ensures { result ≡ code_for tag code }
-{
-    if tag { code } else { 0 }
 }

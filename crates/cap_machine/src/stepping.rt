@@ -1,20 +1,15 @@
 //! Making steps.
 
 ghost use Rattle.std.specs.Prelude.{◌≡◌, ◌↔◌, ◌<◌, ◌≤◌, ◌+◌, MatchResult, OnOk, IfOk, Ok, Err, None, Some, true, false};
-ghost use Rattle.cap_ops.specs.Tests.{first_of};
 ghost use Rattle.cap_log.specs.Lines.{IsStepInRange, IsTarget};
-ghost use Rattle.cap_machine.specs.Changes.{Derives, EndsAccess, IsOperation, IsSource, code_for};
-ghost use Rattle.cap_machine.specs.Changes.{last_tests, with_register};
+ghost use Rattle.cap_machine.specs.Changes.{Derives, IsParentsCode, WritesRegister};
 ghost use Rattle.cap_machine.specs.Escapes.{ClearsBeyond, Escapes};
 ghost use Rattle.cap_machine.specs.Helds.{AnswersStep, held_of, state_of};
-ghost use Rattle.cap_machine.specs.Parents.{IsSoundCap, StaysWithinParents};
-ghost use Rattle.cap_machine.specs.Places.{IsCoded};
-ghost use Rattle.cap_machine.specs.Steps.{is_same_cap};
+ghost use Rattle.cap_machine.specs.Parents.{StaysWithinParents};
 
 use crate::ends::StepEnd;
 use crate::instructions::Instruction;
 use crate::machine::{MOST_STEPS, Machine};
-use crate::places::code_for;
 use cap_log::{
     AndPerm, ClearTag, Load, LoadCap, Move, Operands, Seal, SetAddr, SetBounds, SetBoundsExact,
     Step, Store, StoreCap, Unseal,
@@ -201,46 +196,25 @@ impl<M: TaggedStore> Machine<M> {
         }
     }
 
-    // Ends a step that is an operation on registers, from what the operation gave.
+    // Ends a step that writes a register, from what its operation or access gave: refuses it, or writes what
+    // the log records, with its parent's code where it is tagged, and counts the step.
     #[inline(always)]
     pub(crate) fn conclude<O: Operands>(
         &mut self,
         step: O,
         target: u8,
-        source: u8,
         outcome: Result<Cap, OpFault>,
-        recorded: Cap,
-    ) -> Result<(), StepEnd>
-        requires in_range { IsStepInRange (O.step step) }
-        requires target { IsTarget target }
-        requires operation { IsOperation (state_of (held_of M.contents self.old)) (O.step step) target recorded }
-        requires source { IsSource (state_of (held_of M.contents self.old)) (O.step step) source }
-        requires derives { Derives (held_of M.contents self.old) (O.step step) outcome }
-        ensures { AnswersStep (held_of M.contents self.old) (O.step step) result (held_of M.contents self.new) }
-    {
-        let derived = outcome?;
-        self.finish(target, derived, recorded, self.codes[source as usize])
-    }
-
-    // Writes a step's result to a register, with its parent's code where it is tagged, and counts the
-    // step, where the log records it, and the limit on steps is not passed.
-    #[inline(always)]
-    pub(crate) fn finish(
-        &mut self,
-        target: u8,
-        derived: Cap,
         recorded: Cap,
         code: u64,
     ) -> Result<(), StepEnd>
+        requires in_range { IsStepInRange (O.step step) }
         requires target { IsTarget target }
-        requires sound { IsSoundCap derived }
-        requires coded { IsCoded derived.tag (code_for derived.tag code) }
-        ensures { MatchResult result
-            (λ _. (first_of (last_tests (held_of M.contents self.old) (is_same_cap recorded derived)) ≡ None)
-            × (held_of M.contents self.new ≡ with_register (held_of M.contents self.old) target derived code))
-            (λ end. EndsAccess (held_of M.contents self.old) (last_tests (held_of M.contents self.old) (is_same_cap recorded derived))
-            end (held_of M.contents self.new)) }
+        requires writes { WritesRegister (state_of (held_of M.contents self.old)) (O.step step) target recorded }
+        requires derives { Derives (held_of M.contents self.old) (O.step step) outcome }
+        requires code { IsParentsCode (held_of M.contents self.old) (O.step step) outcome code }
+        ensures { AnswersStep (held_of M.contents self.old) (O.step step) result (held_of M.contents self.new) }
     {
+        let derived = outcome?;
         if recorded != derived {
             return Err(StepEnd::Refused(Refusal::WrongResult));
         }
@@ -252,7 +226,7 @@ impl<M: TaggedStore> Machine<M> {
             tag: recorded.tag,
             word: recorded.word,
         };
-        self.codes[target as usize] = code_for(derived.tag, code);
+        self.codes[target as usize] = if derived.tag { code } else { 0 };
         self.steps += 1;
         Ok(())
     }

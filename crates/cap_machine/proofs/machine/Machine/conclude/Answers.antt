@@ -1,45 +1,103 @@
-use Rattle.std.proofs.Common.{get_or, refl, rules, subst}
+use Rattle.std.proofs.Common.{◌≡◌, ◌∙◌, ◌+◌, Bool, ap, refl, rules, slice_set, subst, sym, ℕ}
 use Rattle.std.proofs.lemmas.Result.{err_from_is_err_and}
+use Rattle.cap_word.specs.declared.word.Cap.{Cap}
 use Rattle.cap_ops.specs.Refusals.{refusal_of}
-use Rattle.cap_machine.specs.Changes.{Derives}
-use Rattle.cap_machine.specs.Helds.{held_of}
+use Rattle.cap_machine.specs.Changes.{Derives, IsParentsCode, code_for}
+use Rattle.cap_machine.specs.Helds.{Makes, code_in, held_of, state_of}
+use Rattle.cap_machine.specs.Parents.{IsSoundCap}
 use Rattle.cap_machine.specs.Places.{IsCoded}
-use Rattle.cap_machine.proofs.CodeLemmas.{code-register, coded_from}
-use Rattle.cap_machine.proofs.MadeLemmas.{operated, operation_faulted, source_within}
+use Rattle.cap_machine.specs.Steps.{row_of}
+use Rattle.cap_machine.proofs.CodeLemmas.{coded_register}
+use Rattle.cap_machine.proofs.MadeLemmas.{concluded, concluded_faulted, concluded_made, concluded_past, concluded_unlike}
+use Rattle.cap_machine.proofs.MadeLemmas.{concluded_within, result_coded, result_sound}
+use Rattle.cap_machine.proofs.SoundLemmas.{equal_caps, zero_register, sound_register}
 use Rattle.cap_machine.proofs.machine.Machine.conclude.Goals as goal
-
-pub finish-requires-clause-sound : goal.finish-requires-clause-sound
-finish-requires-clause-sound g c =
-    let machine = c.args.self.now in
-    let old = held_of g.M.TaggedStore.contents machine in
-    let derives = subst (Derives old (g.O.Operands.step c.args.step)) c.in_ok-derived.was c.requires.derives in
-    let within = source_within old (g.O.Operands.step c.args.step) c.args.target c.args.source c.args.recorded c.in_ok-derived.derived
-    c.requires.in_range c.requires.operation c.requires.source derives in
-    λ held. within.sound held (machine.sound c.args.source (within.from_tagged held))
-
-pub finish-requires-clause-coded : goal.finish-requires-clause-coded
-finish-requires-clause-coded g c =
-    let machine = c.args.self.now in
-    let old = held_of g.M.TaggedStore.contents machine in
-    let derives = subst (Derives old (g.O.Operands.step c.args.step)) c.in_ok-derived.was c.requires.derives in
-    let within = source_within old (g.O.Operands.step c.args.step) c.args.target c.args.source c.args.recorded c.in_ok-derived.derived
-    c.requires.in_range c.requires.operation c.requires.source derives in
-    coded_from c.in_ok-derived.derived.tag _ (get_or machine.codes c.args.source 0) within.from_tagged
-    (subst (IsCoded _) (code-register old c.args.source c.requires.source.0) (machine.coded c.args.source))
-
-pub returns : goal.returns
-returns g c =
-    let old = held_of g.M.TaggedStore.contents c.args.self.now in
-    operated old (held_of g.M.TaggedStore.contents c.finish.new.self) (g.O.Operands.step c.args.step)
-    c.args.target c.args.source c.args.recorded c.in_ok-derived.derived c.finish.result
-    c.requires.operation (search rules) (search rules) c.requires.target.1 c.requires.source
-    (subst (Derives old (g.O.Operands.step c.args.step)) c.in_ok-derived.was c.requires.derives) c.finish.ensures
+use Rattle.cap_machine.proofs.machine.Machine.conclude.Goals.{then-derived, else-derived}
 
 pub returns-in_err-derived : goal.returns-in_err-derived
 returns-in_err-derived g c =
     let old = held_of g.M.TaggedStore.contents c.args.self.now in
     let fault = c.in_err-derived.field-0.0 in
     let is = err_from_is_err_and c.from_residual.result c.from_residual.ensures.1 in
-    rw (is.1, is.2) (operation_faulted old (g.O.Operands.step c.args.step) c.args.target c.args.recorded fault
-    (refusal_of fault) c.requires.operation
+    rw (is.1, is.2) (concluded_faulted old (g.O.Operands.step c.args.step) c.args.target c.args.recorded fault
+    (refusal_of fault) c.requires.writes
     (subst (Derives old (g.O.Operands.step c.args.step)) c.in_err-derived.was c.requires.derives) refl)
+
+pub returns-then-ne : goal.returns-then-ne
+returns-then-ne g c =
+    let old = held_of g.M.TaggedStore.contents c.args.self.now in
+    let step = g.O.Operands.step c.args.step in
+    let derived = c.in_ok-derived.derived in
+    let is = concluded old step c.args.target c.args.recorded derived c.requires.writes
+    (subst (Derives old step) c.in_ok-derived.was c.requires.derives) in
+    concluded_unlike old step c.args.target c.args.recorded derived is (sym c.ne.ensures ∙ c.if-ne.true)
+
+pub returns-then-self-ge-MOST_STEPS : goal.returns-then-self-ge-MOST_STEPS
+returns-then-self-ge-MOST_STEPS g c =
+    let old = held_of g.M.TaggedStore.contents c.args.self.now in
+    let step = g.O.Operands.step c.args.step in
+    let derived = c.in_ok-derived.derived in
+    let is = concluded old step c.args.target c.args.recorded derived c.requires.writes
+    (subst (Derives old step) c.in_ok-derived.was c.requires.derives) in
+    concluded_past old step c.args.target c.args.recorded derived is (sym c.ne.ensures ∙ c.if-ne.false) (search rules)
+
+pub invariant_of-self : goal.invariant_of-self
+invariant_of-self g c =
+    let machine = c.args.self.now in
+    let memory = g.M.TaggedStore.contents machine.memory in
+    let old = held_of g.M.TaggedStore.contents machine in
+    let step = g.O.Operands.step c.args.step in
+    let target = c.args.target in
+    let recorded = c.args.recorded in
+    let derived = c.in_ok-derived.derived in
+    let parent = (row_of (state_of old) step).parent in
+    let is = concluded old step target recorded derived c.requires.writes
+    (subst (Derives old step) c.in_ok-derived.was c.requires.derives) in
+    let within = concluded_within old step target recorded derived c.requires.in_range is in
+    let parents = subst (λ o. IsParentsCode old step o c.args.code) c.in_ok-derived.was c.requires.code in
+    let same : derived ≡ recorded = sym (equal_caps recorded derived (sym c.ne.ensures ∙ c.if-ne.false)) in
+    let code_is : c.if-derived.self ≡ code_for derived.tag c.args.code =
+    elim c.if-derived.branch [
+      | then-derived w ↦ w.self-is ∙ sym (ap (λ (b : Bool). code_for b c.args.code) w.if-derived.true)
+      | else-derived w ↦ w.self-is ∙ sym (ap (λ (b : Bool). code_for b c.args.code) w.if-derived.false)
+    ] in
+    let sound = subst IsSoundCap same (result_sound (state_of old) parent _ derived machine.sound within) in
+    let coded = subst (IsCoded derived.tag) (sym code_is)
+    (result_coded (state_of old) (code_in old) parent _ derived c.args.code machine.coded within (parents derived refl)) in
+    record {
+      zero = zero_register machine.registers target recorded c.requires.target.0 machine.zero;
+      sound = sound_register machine.registers memory target recorded (search rules) c.requires.target.1 machine.sound sound;
+      coded = coded_register machine.registers machine.codes memory target recorded c.if-derived.self
+          (search rules) (search rules)
+          c.requires.target.1 machine.coded (subst (λ (cap : Cap). IsCoded cap.tag c.if-derived.self) same coded);
+    }
+
+pub returns : goal.returns
+returns g c =
+    let old = held_of g.M.TaggedStore.contents c.args.self.now in
+    let step = g.O.Operands.step c.args.step in
+    let target = c.args.target in
+    let recorded = c.args.recorded in
+    let derived = c.in_ok-derived.derived in
+    let is = concluded old step target recorded derived c.requires.writes
+    (subst (Derives old step) c.in_ok-derived.was c.requires.derives) in
+    let parents = subst (λ o. IsParentsCode old step o c.args.code) c.in_ok-derived.was c.requires.code in
+    let like = sym c.ne.ensures ∙ c.if-ne.false in
+    let same : derived ≡ recorded = sym (equal_caps recorded derived like) in
+    let code_is : c.if-derived.self ≡ code_for derived.tag c.args.code =
+    elim c.if-derived.branch [
+      | then-derived w ↦ w.self-is ∙ sym (ap (λ (b : Bool). code_for b c.args.code) w.if-derived.true)
+      | else-derived w ↦ w.self-is ∙ sym (ap (λ (b : Bool). code_for b c.args.code) w.if-derived.false)
+    ] in
+    subst (λ (code : ℕ). Makes old step (record old {
+      registers = slice_set old.registers target recorded;
+      codes = slice_set old.codes target code;
+      steps = old.steps + 1;
+    })) (sym code_is)
+    (subst (λ (cap : Cap). Makes old step (record old {
+      registers = slice_set old.registers target cap;
+      codes = slice_set old.codes target (code_for derived.tag c.args.code);
+      steps = old.steps + 1;
+    })) same
+    (concluded_made old step target recorded derived c.args.code is (search rules) (search rules) c.requires.target.1 parents like
+    c.if-self-ge-MOST_STEPS.false))
