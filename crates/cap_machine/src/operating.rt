@@ -19,7 +19,7 @@ use tagmem::TaggedStore;
 impl Instruction for Move {
     #[inline(always)]
     fn perform<M: TaggedStore>(self, machine: &mut Machine<M>) -> Result<(), StepEnd> {
-        let outcome = Ok(machine.register(self.source));
+        let outcome = Ok(machine.registers[self.source as usize]);
         let code = machine.codes[self.source as usize];
         machine.conclude(self, self.target, outcome, self.result, code)
     }
