@@ -1,7 +1,0 @@
-//! Bounds.
-
-mod decoding;
-mod lengths;
-mod plain;
-mod range;
-mod rounding;

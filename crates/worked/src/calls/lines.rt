@@ -1,0 +1,70 @@
+//! Calls on lines and on their parts.
+
+use crate::calls::answers::{none, taken};
+use cap_log::{
+    Head, Part, Place, front, read_line, take_line, take_operands, write_line, write_place,
+};
+use cap_word::Word;
+use std::alloc::{AllocError, Global};
+
+/// The answer of a call on lines, and nothing where it is none.
+pub fn line_answer(alloc: Global, call: &[u8], text: &[u8]) -> Result<Option<String>, AllocError> {
+    Ok(Some(match call {
+        b"front" => format!(in alloc; "{:?}", front(text))?,
+        b"read_line" => match read_line(text) {
+            Some(line) => format!(in alloc; "{line:?}")?,
+            None => none(alloc)?,
+        },
+        b"write_line" => rewritten(alloc, text)?,
+        b"take_line" => taken(alloc, take_line(text))?,
+        _ => return Ok(None),
+    }))
+}
+
+/// The answer of a call on a part of a line, and nothing where it is none.
+pub fn part_answer(
+    alloc: Global,
+    call: &[u8],
+    operands: &[&[u8]],
+    text: &[u8],
+) -> Result<Option<String>, AllocError> {
+    Ok(Some(match call {
+        b"head" => taken(alloc, Head::take(text, b'\n'))?,
+        b"place" => taken(alloc, Place::take(text, b'\n'))?,
+        b"word" => taken(alloc, Word::take(text, b'\n'))?,
+        b"place and word" => taken(alloc, <(Place, Word)>::take(text, b'\n'))?,
+        b"write_place" => place_written(alloc, text)?,
+        b"take_operands" => {
+            let head = operands.first().copied().unwrap_or(b"");
+            match Head::take(head, b'\n') {
+                Some((head, _)) => taken(alloc, take_operands(head, text))?,
+                None => format!(in alloc; "no such head")?,
+            }
+        }
+        _ => return Ok(None),
+    }))
+}
+
+// A line as it is written, where what is written is taken as the same line.
+fn rewritten(alloc: Global, text: &[u8]) -> Result<String, AllocError> {
+    let Some(line) = read_line(text) else {
+        return none(alloc);
+    };
+    let mut buffer = [b'x'; 96];
+    let length = write_line(&line, &mut buffer);
+    let written = &buffer[..length];
+    if take_line(written) != Some((line, b"")) {
+        return format!(in alloc; "another line");
+    }
+    String::from_utf8_lossy(alloc, written)
+}
+
+// A place as it is written.
+fn place_written(alloc: Global, text: &[u8]) -> Result<String, AllocError> {
+    let Some((place, _)) = Place::take(text, b'\n') else {
+        return none(alloc);
+    };
+    let mut buffer = [b'x'; 17];
+    let end = write_place(&place, &mut buffer);
+    String::from_utf8_lossy(alloc, &buffer[..end])
+}

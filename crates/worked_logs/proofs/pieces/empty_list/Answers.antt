@@ -1,8 +1,0 @@
-use Rattle.std.proofs.Common.{ap, ◌∙◌}
-use Rattle.std.specs.FinMap.{len, len-empty}
-use Rattle.std.specs.Ordering.{nat_cmp}
-use Rattle.tagmem.specs.Granules.{Entry}
-use Rattle.worked_logs.proofs.pieces.empty_list.Goals as goal
-
-pub returns : goal.returns
-returns c = ap len c.new.ensures ∙ len-empty nat_cmp Entry
