@@ -1,24 +1,44 @@
-//! What a store takes of memory.
+//! What stores take of memory. `rt try --test --fail-alloc N` refuses the Nth growth of each test.
 
-use tagmem::{PageStore, TaggedStore};
+use std::process::Abort;
+use tagmem::{ListStore, PageStore, TaggedStore};
 
-// A put into a page that is there is never refused, whichever growth after those of the page is. `rt try --test
-// --fail-alloc N` refuses them in turn.
+// Puts granules of a page each. A put whose memory is refused leaves the store as it was, and is made when it is tried
+// again.
+fn puts_what_was_refused<S: TaggedStore>(rt: &impl Abort, store: &mut S) {
+    for number in 0..20u64 {
+        let granule = 4096 * number;
+        let count = store.count();
+        assert!(rt; count < u32::MAX);
+        if store.put_cap(granule, true, [7; 16], 1).is_err() {
+            assert_eq!(rt; (store.count(), store.get(granule)), (count, None));
+            assert_eq!(rt; store.put_cap(granule, true, [7; 16], 1), Ok(()));
+        }
+        assert_eq!(rt; store.count(), count + 1);
+    }
+}
+
+#[test]
+fn a_list_puts_what_was_refused(rt: HostRuntime) {
+    puts_what_was_refused(&rt, &mut ListStore::new(rt.alloc()));
+}
+
+#[test]
+fn pages_put_what_was_refused(rt: HostRuntime) {
+    puts_what_was_refused(&rt, &mut PageStore::new(rt.alloc()));
+}
+
+// A put into a page that is there is never refused, whichever growth after those of the page is.
 #[test]
 fn a_page_that_is_there_takes_no_memory(rt: HostRuntime) {
     let store = &mut PageStore::new(rt.alloc());
-    assert!(rt; store.count() < u32::MAX);
-    if store.put_cap(0, true, [7; 16], 1).is_err() {
-        assert!(rt; store.count() < u32::MAX);
-        assert_eq!(rt; store.put_cap(0, true, [7; 16], 1), Ok(()));
-    }
+    puts_what_was_refused(&rt, store);
     for granule in 1..16 {
         assert!(rt; store.count() < u32::MAX);
         assert_eq!(rt; store.put_cap(granule, true, [9; 16], granule), Ok(()));
     }
     assert!(rt; store.count() < u32::MAX);
     assert_eq!(rt; store.put_bytes(0, 15, &[8]), Ok(()));
-    assert_eq!(rt; store.code(0), 0);
-    assert_eq!(rt; store.code(15), 15);
-    assert_eq!(rt; store.count(), 16);
+    assert_eq!(rt; (store.code(0), store.code(15)), (0, 15));
+    assert_eq!(rt; store.count(), 35);
 }

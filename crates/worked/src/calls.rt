@@ -50,14 +50,14 @@ fn bare(part: &[u8]) -> &[u8] {
 // The answer of a call, whose last operand may be a text.
 fn answer(alloc: Global, call: &[u8], operands: &[&[u8]]) -> Result<String, AllocError> {
     let text = operands.last().copied().unwrap_or(b"");
-    if let Some(answer) = digits_answer(alloc, call, operands, text)? {
-        return Ok(answer);
+    if let Some(answer) = digits_answer(alloc, call, operands, text) {
+        return answer;
     }
-    if let Some(answer) = line_answer(alloc, call, text)? {
-        return Ok(answer);
+    if let Some(answer) = line_answer(alloc, call, text) {
+        return answer;
     }
-    if let Some(answer) = part_answer(alloc, call, operands, text)? {
-        return Ok(answer);
+    if let Some(answer) = part_answer(alloc, call, operands, text) {
+        return answer;
     }
     if call == b"stores".as_slice() {
         return stores_answer(alloc, operands);

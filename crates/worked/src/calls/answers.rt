@@ -1,5 +1,6 @@
 //! The texts of answers.
 
+use cap_word::{Word, word_text};
 use std::alloc::{AllocError, Global};
 use std::fmt::Debug;
 
@@ -8,10 +9,31 @@ pub fn number(alloc: Global, number: u128) -> Result<String, AllocError> {
     format!(in alloc; "{number:x}")
 }
 
+/// A number by its digits, where there is one.
+pub fn number_answer(alloc: Global, found: Option<u128>) -> Result<String, AllocError> {
+    match found {
+        Some(found) => number(alloc, found),
+        None => none(alloc),
+    }
+}
+
+/// The 32 digits of a word, where there is one.
+pub fn word_answer(alloc: Global, found: Option<Word>) -> Result<String, AllocError> {
+    match found {
+        Some(word) => String::from_utf8_lossy(alloc, &word_text(word)),
+        None => none(alloc),
+    }
+}
+
 /// A number by its digits, and what stands behind it.
-pub fn number_taken(alloc: Global, number: u128, rest: &[u8]) -> Result<String, AllocError> {
-    let rest = String::from_utf8_lossy(alloc, rest)?;
-    format!(in alloc; "{number:x} [{rest}]")
+pub fn number_taken(alloc: Global, found: Option<(u128, &[u8])>) -> Result<String, AllocError> {
+    match found {
+        Some((number, rest)) => {
+            let rest = String::from_utf8_lossy(alloc, rest)?;
+            format!(in alloc; "{number:x} [{rest}]")
+        }
+        None => none(alloc),
+    }
 }
 
 /// A value, and what stands behind it.

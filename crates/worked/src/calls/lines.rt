@@ -8,17 +8,14 @@ use cap_word::Word;
 use std::alloc::{AllocError, Global};
 
 /// The answer of a call on lines, and nothing where it is none.
-pub fn line_answer(alloc: Global, call: &[u8], text: &[u8]) -> Result<Option<String>, AllocError> {
-    Ok(Some(match call {
-        b"front" => format!(in alloc; "{:?}", front(text))?,
-        b"read_line" => match read_line(text) {
-            Some(line) => format!(in alloc; "{line:?}")?,
-            None => none(alloc)?,
-        },
-        b"write_line" => rewritten(alloc, text)?,
-        b"take_line" => taken(alloc, take_line(text))?,
-        _ => return Ok(None),
-    }))
+pub fn line_answer(alloc: Global, call: &[u8], text: &[u8]) -> Option<Result<String, AllocError>> {
+    Some(match call {
+        b"front" => front_found(alloc, text),
+        b"read_line" => line_read(alloc, text),
+        b"write_line" => rewritten(alloc, text),
+        b"take_line" => taken(alloc, take_line(text)),
+        _ => return None,
+    })
 }
 
 /// The answer of a call on a part of a line, and nothing where it is none.
@@ -27,22 +24,37 @@ pub fn part_answer(
     call: &[u8],
     operands: &[&[u8]],
     text: &[u8],
-) -> Result<Option<String>, AllocError> {
-    Ok(Some(match call {
-        b"head" => taken(alloc, Head::take(text, b'\n'))?,
-        b"place" => taken(alloc, Place::take(text, b'\n'))?,
-        b"word" => taken(alloc, Word::take(text, b'\n'))?,
-        b"place and word" => taken(alloc, <(Place, Word)>::take(text, b'\n'))?,
-        b"write_place" => place_written(alloc, text)?,
-        b"take_operands" => {
-            let head = operands.first().copied().unwrap_or(b"");
-            match Head::take(head, b'\n') {
-                Some((head, _)) => taken(alloc, take_operands(head, text))?,
-                None => format!(in alloc; "no such head")?,
-            }
-        }
-        _ => return Ok(None),
-    }))
+) -> Option<Result<String, AllocError>> {
+    Some(match call {
+        b"head" => taken(alloc, Head::take(text, b'\n')),
+        b"place" => taken(alloc, Place::take(text, b'\n')),
+        b"word" => taken(alloc, Word::take(text, b'\n')),
+        b"place and word" => taken(alloc, <(Place, Word)>::take(text, b'\n')),
+        b"write_place" => place_written(alloc, text),
+        b"take_operands" => operands_taken(alloc, operands, text),
+        _ => return None,
+    })
+}
+
+// What stands at the front of a text.
+fn front_found(alloc: Global, text: &[u8]) -> Result<String, AllocError> {
+    format!(in alloc; "{:?}", front(text))
+}
+
+// The line that a text spells.
+fn line_read(alloc: Global, text: &[u8]) -> Result<String, AllocError> {
+    match read_line(text) {
+        Some(line) => format!(in alloc; "{line:?}"),
+        None => none(alloc),
+    }
+}
+
+// What stands behind the head that the first operand spells.
+fn operands_taken(alloc: Global, operands: &[&[u8]], text: &[u8]) -> Result<String, AllocError> {
+    match Head::take(operands.first().copied().unwrap_or(b""), b'\n') {
+        Some((head, _)) => taken(alloc, take_operands(head, text)),
+        None => format!(in alloc; "no such head"),
+    }
 }
 
 // A line as it is written, where what is written is taken as the same line.
