@@ -34,7 +34,7 @@ fn main(rt: HostRuntime) -> ExitCode {
     })
 }
 
-// Collects the words, opens the input and runs the order.
+// Collects the words, and answers the order that they spell.
 fn answer(rt: &HostRuntime) -> Result<u8, AllocError> {
     let args = match env::args(rt) {
         Ok(args) => args,
@@ -42,13 +42,7 @@ fn answer(rt: &HostRuntime) -> Result<u8, AllocError> {
             if error.kind() == ErrorKind::OutOfMemory {
                 return Err(AllocError);
             }
-            return Ok(run(
-                rt.alloc(),
-                None,
-                None::<File>,
-                &mut rt.stdout(),
-                &mut rt.stderr(),
-            ));
+            return Ok(answer_order(rt, None));
         }
     };
     let mut texts = Vec::new(rt.alloc());
@@ -59,8 +53,13 @@ fn answer(rt: &HostRuntime) -> Result<u8, AllocError> {
     for text in &texts {
         words.push(text.as_str())?;
     }
-    let order = read_words(words.as_slice());
-    Ok(match order {
+    Ok(answer_order(rt, read_words(words.as_slice())))
+}
+
+// Opens the input of an order, and runs it.
+fn answer_order(rt: &HostRuntime, order: Option<Order<'_>>) -> u8 {
+    let (out, errors) = (&mut rt.stdout(), &mut rt.stderr());
+    match order {
         Some(
             Order::Judge {
                 origins: _,
@@ -69,15 +68,9 @@ fn answer(rt: &HostRuntime) -> Result<u8, AllocError> {
             | Order::Why {
                 origins: _,
                 file: Some(path),
-            },
-        ) => {
-            let input = File::open(rt, path).ok();
-            run(rt.alloc(), order, input, &mut rt.stdout(), &mut rt.stderr())
-        }
-        Some(Order::Vectors { file: path }) => {
-            let input = File::open(rt, path).ok();
-            run(rt.alloc(), order, input, &mut rt.stdout(), &mut rt.stderr())
-        }
+            }
+            | Order::Vectors { file: path },
+        ) => run(rt.alloc(), order, File::open(rt, path).ok(), out, errors),
         Some(
             Order::Judge {
                 origins: _,
@@ -87,19 +80,7 @@ fn answer(rt: &HostRuntime) -> Result<u8, AllocError> {
                 origins: _,
                 file: None,
             },
-        ) => run(
-            rt.alloc(),
-            order,
-            Some(rt.stdin()),
-            &mut rt.stdout(),
-            &mut rt.stderr(),
-        ),
-        _ => run(
-            rt.alloc(),
-            order,
-            None::<File>,
-            &mut rt.stdout(),
-            &mut rt.stderr(),
-        ),
-    })
+        ) => run(rt.alloc(), order, Some(rt.stdin()), out, errors),
+        _ => run(rt.alloc(), order, None::<File>, out, errors),
+    }
 }

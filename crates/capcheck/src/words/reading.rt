@@ -13,16 +13,12 @@ pub fn read_words<'a>(words: &[&'a str]) -> Option<Order<'a>>
     ensures none { IfNone result ((order : Order) → Asks (map (λ word. word.now) words.now) order → ⊥) }
 {
     let (command, operands) = words.split_first()?;
-    if *command == "explain" {
-        read_explain(operands)
-    } else if *command == "round" {
-        read_round(operands)
-    } else if *command == "judge" {
-        read_judge(operands)
-    } else if *command == "vectors" {
-        read_vectors(operands)
-    } else {
-        None
+    match *command {
+        "explain" => read_explain(operands),
+        "round" => read_round(operands),
+        "judge" => read_judge(operands),
+        "vectors" => read_vectors(operands),
+        _ => None,
     }
 }
 
@@ -93,37 +89,16 @@ fn read_judge<'a>(operands: &[&'a str]) -> Option<Order<'a>>
 {
     let (origins, operands) = take_option("--origins", operands);
     let (why, operands) = take_option("--why", operands);
-    match operands {
-        [] => {
-            if why {
-                Some(Order::Why {
-                    origins,
-                    file: None,
-                })
-            } else {
-                Some(Order::Judge {
-                    origins,
-                    file: None,
-                })
-            }
-        }
-        [file] => {
-            if !is_operand(file) {
-                None
-            } else if why {
-                Some(Order::Why {
-                    origins,
-                    file: Some(*file),
-                })
-            } else {
-                Some(Order::Judge {
-                    origins,
-                    file: Some(*file),
-                })
-            }
-        }
-        _ => None,
-    }
+    let file = match operands {
+        [] => None,
+        [file] if is_operand(file) => Some(*file),
+        _ => return None,
+    };
+    Some(if why {
+        Order::Why { origins, file }
+    } else {
+        Order::Judge { origins, file }
+    })
 }
 
 // Reads the words after `vectors`.
