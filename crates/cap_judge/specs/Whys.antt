@@ -2,6 +2,7 @@
 use Rattle.std.specs.Prelude.{◌≡◌, ℕ, Bool, true, false, List, [], ◌++◌, take, if◌then◌else◌, Result, Ok, Err}
 use Rattle.cap_judge.specs.declared.verdict.Verdict.{Verdict}
 use Rattle.cap_judge.specs.declared.verdict.Verdict.TheVariants.{Yes, No}
+use Rattle.cap_judge.specs.declared.verdict.JudgeFault.{JudgeFault}
 use Rattle.cap_judge.specs.declared.verdict.JudgeFault.TheVariants as judge_faults
 use Rattle.cap_judge.specs.declared.verdict.JudgeToFault.{JudgeToFault}
 use Rattle.cap_judge.specs.declared.verdict.JudgeToFault.TheVariants.{Pull, NoMemory, Push}
@@ -41,6 +42,11 @@ IsExplanationOf origins why bytes ended took (Err NoMemory) = IsAnswerOf bytes e
 IsExplanationOf origins why bytes ended took (Err Push) =
     (verdict : Verdict) × IsAnswerOf bytes ended (Ok verdict) × (text : List ℕ) × IsTold origins why bytes ended verdict text
     × (n : ℕ) × took (take n text)
+
+-- the fault of a judge that writes where the judging has one
+abbrev pub told_fault : JudgeFault → JudgeToFault
+told_fault judge_faults.Pull = Pull
+told_fault judge_faults.NoMemory = NoMemory
 
 -- an answer is that of the bytes that the source gave in the call, and of those that the sink took
 pub record Explained {S K : Type 0} (origins why : Bool) (gave : S → S → List ℕ → Type 0) (ended : S → Bool) (took : K → K → List ℕ → Type 0)

@@ -14,7 +14,7 @@ use crate::fault_lines::FaultLine;
 use crate::fault_reports::put_report;
 use crate::judging::{Judging, judge_keeping};
 use crate::reporting::{push_report, push_verdict};
-use crate::verdict::{JudgeFault, JudgeToFault, Verdict};
+use crate::verdict::{JudgeToFault, Verdict};
 use crate::verdict_lines::verdict_text;
 use cap_log::buffers::put;
 use cap_log::{PushFault, Sink, Source, push_all};
@@ -61,14 +61,9 @@ pub fn judge_why_in<S: Source, M: TaggedStore, K: Sink>(
         machine,
         fault,
     } = judge_keeping(source, memory);
-    match answer {
-        Ok(verdict) => match push_why(&verdict, origins, &machine, &fault, sink) {
-            Ok(()) => Ok(verdict),
-            Err(PushFault) => Err(JudgeToFault::Push),
-        },
-        Err(JudgeFault::Pull) => Err(JudgeToFault::Pull),
-        Err(JudgeFault::NoMemory) => Err(JudgeToFault::NoMemory),
-    }
+    let verdict = answer?;
+    push_why(&verdict, origins, &machine, &fault, sink)?;
+    Ok(verdict)
 }
 
 // Pushes the text of a verdict: after a yes with the origins where they are asked for, and after a no with

@@ -11,7 +11,7 @@ ghost use Rattle.cap_judge.specs.declared.verdict.JudgeToFault.TheVariants.{Pull
 
 use crate::judging::{Judging, judge, judge_keeping};
 use crate::origins::push_origins;
-use crate::verdict::{JudgeFault, JudgeToFault, Verdict};
+use crate::verdict::{JudgeToFault, Verdict};
 use crate::verdict_lines::verdict_text;
 use cap_log::{PushFault, Sink, Source, push_all};
 use cap_machine::Machine;
@@ -32,14 +32,9 @@ pub fn judge_to<S: Source, K: Sink>(
     ensures sink_counted { result ≢ Err Push → K.faults sink.new ≡ K.faults sink.old }
     ensures push_counted { result ≡ Err Push → K.faults sink.new ≡ next_count (K.faults sink.old) }
 {
-    match judge(alloc, source) {
-        Ok(verdict) => match push_verdict(&verdict, sink) {
-            Ok(()) => Ok(verdict),
-            Err(PushFault) => Err(JudgeToFault::Push),
-        },
-        Err(JudgeFault::Pull) => Err(JudgeToFault::Pull),
-        Err(JudgeFault::NoMemory) => Err(JudgeToFault::NoMemory),
-    }
+    let verdict = judge(alloc, source)?;
+    push_verdict(&verdict, sink)?;
+    Ok(verdict)
 }
 
 /// Judges as [`judge_to`] does, and after a yes pushes a line for each place that is tagged in the last state
@@ -79,14 +74,9 @@ pub fn judge_origins_in<S: Source, M: TaggedStore, K: Sink>(
         machine,
         fault: _,
     } = judge_keeping(source, memory);
-    match answer {
-        Ok(verdict) => match push_report(&verdict, &machine, sink) {
-            Ok(()) => Ok(verdict),
-            Err(PushFault) => Err(JudgeToFault::Push),
-        },
-        Err(JudgeFault::Pull) => Err(JudgeToFault::Pull),
-        Err(JudgeFault::NoMemory) => Err(JudgeToFault::NoMemory),
-    }
+    let verdict = answer?;
+    push_report(&verdict, &machine, sink)?;
+    Ok(verdict)
 }
 
 /// Pushes the line of a verdict, and after a yes those of the origins of what the machine holds.

@@ -1,5 +1,10 @@
 //! What a judge answers.
 
+ghost use Rattle.std.specs.Prelude.{◌≡◌};
+ghost use Rattle.cap_judge.specs.Whys.{told_fault};
+ghost use Rattle.cap_judge.specs.declared.verdict.JudgeToFault.TheVariants.{Push};
+
+use cap_log::PushFault;
 use cap_machine::Refusal;
 use cap_word::Cap;
 
@@ -40,6 +45,25 @@ pub enum JudgeToFault {
     NoMemory,
     /// The sink failed.
     Push,
+}
+
+impl From<JudgeFault> for JudgeToFault {
+    ghost from_gives = { λ fault told. told ≡ told_fault fault };
+
+    fn from(fault: JudgeFault) -> JudgeToFault {
+        match fault {
+            JudgeFault::Pull => JudgeToFault::Pull,
+            JudgeFault::NoMemory => JudgeToFault::NoMemory,
+        }
+    }
+}
+
+impl From<PushFault> for JudgeToFault {
+    ghost from_gives = { λ _ told. told ≡ Push };
+
+    fn from(_fault: PushFault) -> JudgeToFault {
+        JudgeToFault::Push
+    }
 }
 
 /// Why a judge that is given lines did not take one.

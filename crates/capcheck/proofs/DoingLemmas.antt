@@ -8,12 +8,14 @@ use Rattle.capcheck.specs.declared.faults.Fault.TheVariants as faults
 use Rattle.cap_judge.specs.declared.verdict.Verdict.{Verdict}
 use Rattle.cap_judge.specs.declared.verdict.Verdict.TheVariants.{Yes, No}
 use Rattle.capcheck.specs.Answers.{BeginsVerdict, PrintsVerdict, known_bytes, verdict_status}
-use Rattle.capcheck.specs.Doings.{IsInputDone}
+use Rattle.capcheck.specs.Doings.{IsInputDone, IsWrittenFor}
 use Rattle.cap_judge.specs.Judgings.{IsAnswerOf, IsVerdictOf}
 use Rattle.cap_judge.specs.Reports.{Tells}
 use Rattle.cap_judge.specs.FaultReports.{IsReport}
-use Rattle.cap_judge.specs.Whys.{IsTold}
-use Rattle.capcheck.specs.Statuses.{status_of}
+use Rattle.cap_judge.specs.Whys.{IsExplanationOf, IsTold}
+use Rattle.cap_judge.specs.declared.verdict.JudgeToFault.{JudgeToFault}
+use Rattle.cap_judge.specs.declared.verdict.JudgeToFault.TheVariants as judging
+use Rattle.capcheck.specs.Statuses.{judging_fault, status_of}
 use Rattle.cap_judge.specs.Verdicts.{IsVerdict}
 use Rattle.cap_judge.proofs.SourceLemmas.{of_all}
 
@@ -27,6 +29,13 @@ flushed (Some xs) (Some ys) (Some zs) bytes h k = k ∙ h
 -- all of a line is a beginning of it
 pub flushed_all : (a b c : Option (List ℕ)) (bytes : List ℕ) → Appends a b bytes → Keeps b c → Appends a c (take (length bytes) bytes)
 flushed_all a b c bytes h k = subst (Appends a c) (sym (take-length bytes)) (flushed a b c bytes h k)
+
+-- what was written with a fault of the judge is what was written with the program's
+pub written_fault : (origins why : Bool) (given : List ℕ) (ended : Bool) (wrote : List ℕ → Type 0) (fault : JudgeToFault)
+    → IsExplanationOf origins why given ended wrote (Err fault) → IsWrittenFor origins why given ended wrote (Err (judging_fault fault))
+written_fault origins why given ended wrote judging.Pull told = told
+written_fault origins why given ended wrote judging.NoMemory told = told
+written_fault origins why given ended wrote judging.Push told = told
 
 -- the verdict on the given bytes is theirs
 verdict_given : (given : List ℕ) (ended : Bool) (verdict : Verdict) → IsAnswerOf given ended (Ok verdict) → IsVerdict given verdict

@@ -1,6 +1,8 @@
 -- The statuses and the lines of what the program could not do.
 use Rattle.std.specs.Prelude.{ℕ, List, codes, Result, Ok, Err}
 use Rattle.capcheck.specs.declared.faults.Fault.{Fault}
+use Rattle.cap_judge.specs.declared.verdict.JudgeToFault.{JudgeToFault}
+use Rattle.cap_judge.specs.declared.verdict.JudgeToFault.TheVariants as judging
 use Rattle.capcheck.specs.declared.faults.Fault.TheVariants.{BadWords, BadWord, BadRequest, Read, Write, NoMemory}
 
 -- the exit status of a fault (this profile's own)
@@ -25,3 +27,9 @@ fault_text NoMemory = codes "capcheck: no memory\n"
 abbrev pub exit_status : Result ℕ Fault → ℕ
 exit_status (Ok status) = status
 exit_status (Err fault) = status_of fault
+
+-- the fault of the program where its judge has one (this profile's own)
+abbrev pub judging_fault : JudgeToFault → Fault
+judging_fault judging.Pull = Read
+judging_fault judging.NoMemory = NoMemory
+judging_fault judging.Push = Write

@@ -7,7 +7,7 @@ ghost use Rattle.capcheck.specs.Statuses.{status_of};
 
 use crate::faults::Fault;
 use crate::outputs::is_written;
-use cap_log::{PullFault, ReadSource};
+use cap_log::ReadSource;
 use cap_vectors::vectors::texts::vector_text;
 use cap_vectors::vectors::{VectorVerdict, vectors};
 use std::io::{Read, Write};
@@ -35,17 +35,13 @@ fn check_reader<R: Read + Drop, O: Write>(reader: R, out: &mut O) -> Result<u8, 
         × Appends (O.contents out.old) (O.contents out.new) text) }
 {
     let mut source = ReadSource::new(reader);
-    match vectors(&mut source) {
-        Ok(verdict) => {
-            let mut text = [0u8; 64];
-            let length = vector_text(&verdict, &mut text);
-            if is_written(&text[..length], out) {
-                Ok(vector_status(&verdict))
-            } else {
-                Err(Fault::Write)
-            }
-        }
-        Err(PullFault) => Err(Fault::Read),
+    let verdict = vectors(&mut source)?;
+    let mut text = [0u8; 64];
+    let length = vector_text(&verdict, &mut text);
+    if is_written(&text[..length], out) {
+        Ok(vector_status(&verdict))
+    } else {
+        Err(Fault::Write)
     }
 }
 

@@ -1,5 +1,12 @@
 //! Why the program did not do what it was asked to.
 
+ghost use Rattle.std.specs.Prelude.{◌≡◌};
+ghost use Rattle.capcheck.specs.Statuses.{judging_fault};
+ghost use Rattle.capcheck.specs.declared.faults.Fault.TheVariants.{Read};
+
+use cap_judge::verdict::JudgeToFault;
+use cap_log::PullFault;
+
 /// Why the program did not do what it was asked to.
 #[derive(Debug, Clone, Copy, PartialEq, Eq)]
 pub enum Fault {
@@ -42,6 +49,26 @@ impl Fault {
             Fault::Read => "capcheck: read fault\n",
             Fault::Write => "capcheck: write fault\n",
             Fault::NoMemory => "capcheck: no memory\n",
+        }
+    }
+}
+
+impl From<PullFault> for Fault {
+    ghost from_gives = { λ _ fault. fault ≡ Read };
+
+    fn from(_fault: PullFault) -> Fault {
+        Fault::Read
+    }
+}
+
+impl From<JudgeToFault> for Fault {
+    ghost from_gives = { λ judging fault. fault ≡ judging_fault judging };
+
+    fn from(fault: JudgeToFault) -> Fault {
+        match fault {
+            JudgeToFault::Pull => Fault::Read,
+            JudgeToFault::NoMemory => Fault::NoMemory,
+            JudgeToFault::Push => Fault::Write,
         }
     }
 }

@@ -14,9 +14,9 @@ use cap_log::{ReadSource, Source, WriteSink};
 use std::alloc::Global;
 use std::io::{Read, Write};
 
-/// Judges what a reader gives, writes the line of the verdict and, where they are asked for, those of
-/// origins and those of the report of a no, and answers the status that goes with the verdict. An error of the reader, want of memory and an
-/// error of the writer are faults.
+/// Judges what a reader gives, writes the line of the verdict and, where they are asked for, those of origins and those
+/// of the report of a no, and answers the status that goes with the verdict. An error of the reader, want of memory and
+/// an error of the writer are faults.
 pub fn judge_reader<R: Read + Drop, O: Write>(
     alloc: Global,
     origins: bool,
@@ -27,14 +27,10 @@ pub fn judge_reader<R: Read + Drop, O: Write>(
     ensures done { IsInputDone origins why (R.remaining reader) (O.contents out.old) (O.contents out.new) result }
 {
     let mut source = ReadSource::new(reader);
-    match report(alloc, origins, why, &mut source, out) {
-        Ok(verdict) => match out.flush() {
-            Ok(()) => Ok(verdict_status(&verdict)),
-            Err(_) => Err(Fault::Write),
-        },
-        Err(JudgeToFault::Pull) => Err(Fault::Read),
-        Err(JudgeToFault::NoMemory) => Err(Fault::NoMemory),
-        Err(JudgeToFault::Push) => Err(Fault::Write),
+    let verdict = report(alloc, origins, why, &mut source, out)?;
+    match out.flush() {
+        Ok(()) => Ok(verdict_status(&verdict)),
+        Err(_) => Err(Fault::Write),
     }
 }
 
