@@ -2,6 +2,7 @@ mod ResultLemmas
 mod LogLemmas
 mod NextLemmas
 mod ProgressLemmas
+mod FrontLemmas
 mod JudgeLemmas
 mod VersionLemmas
 mod EscapeLaws
