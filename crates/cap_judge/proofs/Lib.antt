@@ -3,6 +3,7 @@ mod LogLemmas
 mod NextLemmas
 mod ProgressLemmas
 mod FrontLemmas
+mod FaultLemmas
 mod JudgeLemmas
 mod VersionLemmas
 mod EscapeLaws

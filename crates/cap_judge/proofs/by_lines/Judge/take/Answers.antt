@@ -10,26 +10,9 @@ use Rattle.cap_judge.specs.Standings.{EndsLine, IsNoLine, Known, Standing, Taken
 use Rattle.cap_judge.specs.declared.verdict.TakeFault.{TakeFault}
 use Rattle.cap_judge.specs.declared.verdict.TakeFault.TheVariants.{NoLine, NoMemory}
 use Rattle.cap_judge.proofs.TakenLemmas.{taken_line}
+use Rattle.cap_judge.proofs.FaultLemmas.{known_at, lacks, memory_only, no_fault, no_line}
 use Rattle.cap_judge.proofs.by_lines.Judge.take.Goals.{then-is_none+in-None, else-is_none}
 use Rattle.cap_judge.proofs.by_lines.Judge.take.Goals as goal
-
--- There is no fault where none is found.
-no_fault : {T : Type 0} (fault : Option T) (none : Bool) → is_some fault ≡ not none → none ≡ true → fault ≡ None
-no_fault None none is found = refl
-no_fault (Some value) none is found = absurd (false≢true (sym (is ∙ ap not found)))
-
--- A line that is none is refused with nothing else, and a line is never refused as none.
-no_line : (result : Result (Unit {0}) TakeFault) (line text : List ℕ) → IsLine line text [] → (result ≡ Err NoLine → ⊥)
-    → (result ≡ Err NoLine) ↔ IsNoLine line
-no_line result line text whole other = (λ is. absurd (other is), λ none. absurd (none.0 text whole))
-
-memory_only : (result : Result (Unit {0}) TakeFault) (X : Type 0) → IfErr result (λ fault. (fault ≡ NoMemory) × X) → result ≡ Err NoLine → ⊥
-memory_only (Ok done) X said is = cc
-memory_only (Err fault) X said is = let only = said.0 in cc
-
-lacks : (result : Result (Unit {0}) TakeFault) (X : Type 0) → IfErr result (λ fault. (fault ≡ NoMemory) × X) → result ≡ Err NoMemory → X
-lacks (Ok done) X said is = absurd (cc)
-lacks (Err fault) X said is = said.1
 
 pub returns-in-Some-Ok-clause-taken : goal.returns-in-Some-Ok-clause-taken
 returns-in-Some-Ok-clause-taken g c =
@@ -70,6 +53,38 @@ pub returns-in-Some-Err-clause-no_line : goal.returns-in-Some-Err-clause-no_line
 returns-in-Some-Err-clause-no_line g c =
     let whole = c.in-Some-Err.ensures.whole in
     no_line c.take_end.result c.args.line.now whole.0 whole.1 (memory_only c.take_end.result _ c.take_end.ensures.no_memory)
+
+pub returns-in-Some-Err-clause-taken : goal.returns-in-Some-Err-clause-taken
+returns-in-Some-Err-clause-taken g c =
+    let contents = g.M.TaggedStore.contents in
+    let line = c.args.line.now in
+    let fault = c.args.self.now.fault in
+    let old = standing_of contents c.args.self.now.stage in
+    let mid = standing_of contents c.take_alone.new.self in
+    let same = ap (known_at fault) (subst (λ (r : Result (Unit {0}) StepEnd). IfErr r (λ _. mid ≡ old)) c.in-Some-Err.field-0-is c.in-Some-Err.ensures.same) in
+    subst (λ (k : Known). OnOk c.take_end.result ((bytes : List ℕ) → Taken k bytes
+    → Taken (known_of contents c.take_end.new.self) (bytes ++ line))) same c.take_end.ensures.taken
+
+pub returns-in-Some-Err-clause-unchanged : goal.returns-in-Some-Err-clause-unchanged
+returns-in-Some-Err-clause-unchanged g c =
+    let contents = g.M.TaggedStore.contents in
+    let line = c.args.line.now in
+    let fault = c.args.self.now.fault in
+    let old = standing_of contents c.args.self.now.stage in
+    let mid = standing_of contents c.take_alone.new.self in
+    let same = ap (known_at fault) (subst (λ (r : Result (Unit {0}) StepEnd). IfErr r (λ _. mid ≡ old)) c.in-Some-Err.field-0-is c.in-Some-Err.ensures.same) in
+    subst (λ (k : Known). IfErr c.take_end.result (λ _. known_of contents c.take_end.new.self ≡ k)) same c.take_end.ensures.unchanged
+
+pub returns-in-Some-Err-clause-no_memory : goal.returns-in-Some-Err-clause-no_memory
+returns-in-Some-Err-clause-no_memory g c =
+    let contents = g.M.TaggedStore.contents in
+    let line = c.args.line.now in
+    let fault = c.args.self.now.fault in
+    let old = standing_of contents c.args.self.now.stage in
+    let mid = standing_of contents c.take_alone.new.self in
+    let same = ap (known_at fault) (subst (λ (r : Result (Unit {0}) StepEnd). IfErr r (λ _. mid ≡ old)) c.in-Some-Err.field-0-is c.in-Some-Err.ensures.same) in
+    subst (λ (k : Known). c.take_end.result ≡ Err NoMemory → (bytes : List ℕ) → Taken k bytes → MayLackMemory (bytes ++ line)) same
+    (lacks c.take_end.result _ c.take_end.ensures.no_memory)
 
 pub returns-clause-taken : goal.returns-clause-taken
 returns-clause-taken g c =
