@@ -2,6 +2,8 @@ mod ResultLemmas
 mod LogLemmas
 mod NextLemmas
 mod ProgressLemmas
+mod FrontLemmas
+mod FaultLemmas
 mod JudgeLemmas
 mod VersionLemmas
 mod EscapeLaws

@@ -1,4 +1,4 @@
-use Rattle.std.proofs.Common.{List, ℕ, refl, ap, subst, sym, ◌∙◌, Ok}
+use Rattle.std.proofs.Common.{◌≡◌, ◌≢◌, List, Result, ℕ, refl, ap, subst, sym, ◌∙◌, Ok, Err}
 use Rattle.cap_log.specs.Lines.{Spells}
 use Rattle.cap_log.specs.declared.lines.Line.TheVariants.{Version}
 use Rattle.cap_judge.specs.Headers.{ReadsHeader}
@@ -7,7 +7,14 @@ use Rattle.cap_judge.proofs.SourceLemmas.{judged_no, pulled, too_long_met, trunc
 use Rattle.cap_judge.specs.FaultLines.{IsFrontText, bytes_of}
 use Rattle.cap_judge.proofs.StopLemmas.{last_front, long_front, lent_front, stops_met}
 use Rattle.cap_judge.proofs.HeaderLemmas.{at_version, at_mode, read_one, read_two, as_no}
+use Rattle.cap_judge.specs.declared.verdict.Verdict.{Verdict}
+use Rattle.cap_judge.specs.declared.verdict.JudgeFault.{JudgeFault}
+use Rattle.cap_judge.specs.declared.verdict.JudgeFault.TheVariants.{Pull}
 use Rattle.cap_judge.proofs.headers.read_header_keeping.Goals as goal
+
+-- A verdict is no fault of a source.
+no_pull : {X : Type 0} (answer : Result Verdict JudgeFault) (verdict : Verdict) → answer ≡ Ok verdict → answer ≡ Err Pull → X
+no_pull answer verdict is pulled = absurd (cc)
 
 pub returns-in-Ok-LineTooLong-clause-read : goal.returns-in-Ok-LineTooLong-clause-read
 returns-in-Ok-LineTooLong-clause-read g c =
@@ -169,3 +176,66 @@ returns-in-Err-next-clause-read g c =
       λ held none. judged_no g.S.Source.gave g.S.Source.ended c.args.source.now c.next-2.new.source held _ m.given _ _ refl tt
           m.gives (pulled NoMode 2 m) tt,
     )
+
+pub returns-in-None-clause-counted : goal.returns-in-None-clause-counted
+returns-in-None-clause-counted g c = λ _. c.in-Ok-Line.ensures.counted
+
+pub returns-in-None-clause-fault_counted : goal.returns-in-None-clause-fault_counted
+returns-in-None-clause-fault_counted g c = λ pulled. no_pull c.no_at.result.0 _ c.no_at.ensures.answer pulled
+
+pub returns-in-Ok-LineTooLong-clause-counted : goal.returns-in-Ok-LineTooLong-clause-counted
+returns-in-Ok-LineTooLong-clause-counted g c = λ _. c.in-Ok-LineTooLong.ensures.counted
+
+pub returns-in-Ok-LineTooLong-clause-fault_counted : goal.returns-in-Ok-LineTooLong-clause-fault_counted
+returns-in-Ok-LineTooLong-clause-fault_counted g c = λ pulled. no_pull c.no_at-in-Ok-LineTooLong.result.0 _ c.no_at-in-Ok-LineTooLong.ensures.answer pulled
+
+pub returns-in-Ok-Truncated-clause-counted : goal.returns-in-Ok-Truncated-clause-counted
+returns-in-Ok-Truncated-clause-counted g c = λ _. c.in-Ok-Truncated.ensures.counted
+
+pub returns-in-Ok-Truncated-clause-fault_counted : goal.returns-in-Ok-Truncated-clause-fault_counted
+returns-in-Ok-Truncated-clause-fault_counted g c = λ pulled. no_pull c.no_at-in-Ok-Truncated.result.0 _ c.no_at-in-Ok-Truncated.ensures.answer pulled
+
+pub returns-in-Ok-Finished-clause-counted : goal.returns-in-Ok-Finished-clause-counted
+returns-in-Ok-Finished-clause-counted g c = λ _. c.in-Ok-Finished.ensures.counted
+
+pub returns-in-Ok-Finished-clause-fault_counted : goal.returns-in-Ok-Finished-clause-fault_counted
+returns-in-Ok-Finished-clause-fault_counted g c = λ pulled. no_pull c.no_at-in-Ok-Finished.result.0 _ c.no_at-in-Ok-Finished.ensures.answer pulled
+
+pub returns-in-None-mode_of-clause-counted : goal.returns-in-None-mode_of-clause-counted
+returns-in-None-mode_of-clause-counted g c = λ _. (c.in-Ok-Line-next.ensures.counted ∙ c.in-Ok-Line.ensures.counted)
+
+pub returns-in-None-mode_of-clause-fault_counted : goal.returns-in-None-mode_of-clause-fault_counted
+returns-in-None-mode_of-clause-fault_counted g c = λ pulled. no_pull c.no_at-in-None-mode_of.result.0 _ c.no_at-in-None-mode_of.ensures.answer pulled
+
+pub returns-in-Ok-LineTooLong-next-clause-counted : goal.returns-in-Ok-LineTooLong-next-clause-counted
+returns-in-Ok-LineTooLong-next-clause-counted g c = λ _. (c.in-Ok-LineTooLong-next.ensures.counted ∙ c.in-Ok-Line.ensures.counted)
+
+pub returns-in-Ok-LineTooLong-next-clause-fault_counted : goal.returns-in-Ok-LineTooLong-next-clause-fault_counted
+returns-in-Ok-LineTooLong-next-clause-fault_counted g c = λ pulled. no_pull c.no_at-in-Ok-LineTooLong-next.result.0 _ c.no_at-in-Ok-LineTooLong-next.ensures.answer pulled
+
+pub returns-in-Ok-Truncated-next-clause-counted : goal.returns-in-Ok-Truncated-next-clause-counted
+returns-in-Ok-Truncated-next-clause-counted g c = λ _. (c.in-Ok-Truncated-next.ensures.counted ∙ c.in-Ok-Line.ensures.counted)
+
+pub returns-in-Ok-Truncated-next-clause-fault_counted : goal.returns-in-Ok-Truncated-next-clause-fault_counted
+returns-in-Ok-Truncated-next-clause-fault_counted g c = λ pulled. no_pull c.no_at-in-Ok-Truncated-next.result.0 _ c.no_at-in-Ok-Truncated-next.ensures.answer pulled
+
+pub returns-in-Ok-Finished-next-clause-counted : goal.returns-in-Ok-Finished-next-clause-counted
+returns-in-Ok-Finished-next-clause-counted g c = λ _. (c.in-Ok-Finished-next.ensures.counted ∙ c.in-Ok-Line.ensures.counted)
+
+pub returns-in-Ok-Finished-next-clause-fault_counted : goal.returns-in-Ok-Finished-next-clause-fault_counted
+returns-in-Ok-Finished-next-clause-fault_counted g c = λ pulled. no_pull c.no_at-in-Ok-Finished-next.result.0 _ c.no_at-in-Ok-Finished-next.ensures.answer pulled
+
+pub returns-then-version-eq1-clause-ok_counted : goal.returns-then-version-eq1-clause-ok_counted
+returns-then-version-eq1-clause-ok_counted g c = c.in-Ok-Line.ensures.counted
+
+pub returns-in-Some-mode_of-clause-ok_counted : goal.returns-in-Some-mode_of-clause-ok_counted
+returns-in-Some-mode_of-clause-ok_counted g c = c.in-Ok-Line-next.ensures.counted ∙ c.in-Ok-Line.ensures.counted
+
+pub returns-in-Err-clause-counted : goal.returns-in-Err-clause-counted
+returns-in-Err-clause-counted g c = λ no. absurd (no refl)
+
+pub returns-in-Err-clause-fault_counted : goal.returns-in-Err-clause-fault_counted
+returns-in-Err-clause-fault_counted g c = λ _. c.in-Err.ensures.fault_counted c.requires.begun
+
+pub returns-in-Err-next-clause-counted : goal.returns-in-Err-next-clause-counted
+returns-in-Err-next-clause-counted g c = λ no. absurd (no refl)
