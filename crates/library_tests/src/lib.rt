@@ -10,8 +10,6 @@ mod judge;
 #[cfg(test)]
 mod log;
 #[cfg(test)]
-mod machine;
-#[cfg(test)]
 mod stores;
 #[cfg(test)]
 mod texts;

@@ -1,6 +1,4 @@
-//! Lines of logs, where they come from and where they go.
+//! Lines of logs, and where they come from.
 
-mod buffers;
-mod sinks;
 mod sources;
 mod taking;

@@ -3,7 +3,7 @@
 use cap_judge::by_lines::Judge;
 use cap_judge::verdict::{Expected, TakeFault, Verdict};
 use cap_machine::Refusal;
-use cap_word::{Cap, Word};
+use cap_word::{Cap, Word, null};
 use std::alloc::Global;
 use std::process::Abort;
 use tagmem::PageStore;
@@ -23,52 +23,21 @@ fn what_is_no_line(rt: HostRuntime) {
         b"capcheck 1\ncapcheck 1\n",
         &long[..95],
     ] {
-        assert_eq!(rt; judge.take(bytes), Err(TakeFault::NoLine));
-        assert_eq!(rt; judge.answer(), None);
-        assert_eq!(rt; judge.end(), truncated);
+        let taken = judge.take(bytes);
+        assert_eq!(rt;
+            (taken, judge.answer(), judge.end()),
+            (Err(TakeFault::NoLine), None, truncated)
+        );
     }
-    assert_eq!(rt; judge.take(&long), Ok(()));
+    let taken = judge.take(&long);
     let no = Verdict::No {
         line: 1,
         refusal: Refusal::LineTooLong,
     };
-    assert_eq!(rt; judge.answer(), Some(no));
-    assert_eq!(rt; judge.end(), no);
-}
-
-// What the machine holds behind a line, and before a line at fault.
-#[test]
-fn what_the_machine_holds(rt: HostRuntime) {
-    let mut judge = Judge::over_pages(rt.alloc());
-    let root = 0xffff_1fff_fc01_8004_0000_0000_0000_0000;
-    for line in [
-        b"capcheck 1\n".as_slice(),
-        b"root c1 ffff1ffffc0180040000000000000000\n",
-        b"sc c1 c1 16\n",
-        b"cleartag c2 c1 = 0 ffff1ffffc0180040000000000000000\n",
-        b"move c2 c1 = 0 ffff1ffffc0180040000000000000000\n",
-        b"cleartag c1 c1 = 0 ffff1ffffc0180040000000000000000\n",
-    ] {
-        assert_eq!(rt; judge.take(line), Ok(()));
-    }
-    let no = Verdict::No {
-        line: 5,
-        refusal: Refusal::WrongResult,
-    };
-    assert_eq!(rt; judge.answer(), Some(no));
     assert_eq!(rt;
-        (judge.register(1).tag, judge.register(1).word.0),
-        (true, root)
+        (taken, judge.answer(), judge.end()),
+        (Ok(()), Some(no), no)
     );
-    assert_eq!(rt;
-        (judge.register(2).tag, judge.register(2).word.0),
-        (false, root)
-    );
-    assert_eq!(rt;
-        (judge.granule(1).tag, judge.granule(1).word.0),
-        (true, root)
-    );
-    assert!(rt; !judge.register(0).tag && !judge.granule(0).tag);
 }
 
 // A judge that has taken lines.
@@ -78,6 +47,40 @@ fn behind(rt: &impl Abort, alloc: Global, lines: &[&[u8]]) -> Judge<PageStore> {
         assert_eq!(rt; judge.take(line), Ok(()));
     }
     judge
+}
+
+// What the machine holds behind a line, and before a line at fault.
+#[test]
+fn what_the_machine_holds(rt: HostRuntime) {
+    let root = Word(0xffff_1fff_fc01_8004_0000_0000_0000_0000);
+    let judge = behind(
+        &rt,
+        rt.alloc(),
+        &[
+            b"capcheck 1\n",
+            b"root c1 ffff1ffffc0180040000000000000000\n",
+            b"sc c1 c1 16\n",
+            b"cleartag c2 c1 = 0 ffff1ffffc0180040000000000000000\n",
+            b"move c2 c1 = 0 ffff1ffffc0180040000000000000000\n",
+            b"cleartag c1 c1 = 0 ffff1ffffc0180040000000000000000\n",
+        ],
+    );
+    let no = Verdict::No {
+        line: 5,
+        refusal: Refusal::WrongResult,
+    };
+    let (tagged, untagged) = (cap(true, root), cap(false, root));
+    let nothing = cap(false, null());
+    assert_eq!(rt; judge.answer(), Some(no));
+    assert_eq!(rt;
+        [judge.register(0), judge.register(1), judge.register(2)],
+        [nothing, tagged, untagged]
+    );
+    assert_eq!(rt; [judge.granule(0), judge.granule(1)], [nothing, tagged]);
+}
+
+fn cap(tag: bool, word: Word) -> Cap {
+    Cap { tag, word }
 }
 
 // What the rules give for a line that records another result: nothing before it, and the same behind further lines.

@@ -266,16 +266,19 @@ fn a_line_handed_over_again(rt: HostRuntime) {
     let memory = Refusing::new(ListStore::new(rt.alloc()), 0);
     assert_eq!(rt; memory.count(), 0);
     let mut judge = Judge::new(memory);
-    assert_eq!(rt; judge.take(b"capcheck 1\n"), Ok(()));
-    let root = b"root c1 ffff1ffffc0180040000000000000000\n";
-    assert_eq!(rt; judge.take(root), Ok(()));
     let line = b"sc c1 c1 0\n";
-    assert_eq!(rt; judge.take(line), Err(TakeFault::NoMemory));
-    assert_eq!(rt; judge.answer(), None);
-    assert_eq!(rt; judge.end(), no(3, Refusal::Truncated));
-    assert!(rt; !judge.granule(0).tag);
-    assert_eq!(rt; judge.take(line), Ok(()));
-    assert!(rt; judge.granule(0).tag);
-    assert_eq!(rt; judge.take(b"end 1\n"), Ok(()));
-    assert_eq!(rt; judge.end(), Verdict::Yes { steps: 1, roots: 1 });
+    let taken = [
+        judge.take(b"capcheck 1\n"),
+        judge.take(b"root c1 ffff1ffffc0180040000000000000000\n"),
+        judge.take(line),
+    ];
+    assert_eq!(rt; taken, [Ok(()), Ok(()), Err(TakeFault::NoMemory)]);
+    assert_eq!(rt;
+        (judge.answer(), judge.end(), judge.granule(0).tag),
+        (None, no(3, Refusal::Truncated), false)
+    );
+    let taken = [judge.take(line), judge.take(b"end 1\n")];
+    assert_eq!(rt; taken, [Ok(()), Ok(())]);
+    let yes = Verdict::Yes { steps: 1, roots: 1 };
+    assert_eq!(rt; (judge.end(), judge.granule(0).tag), (yes, true));
 }
