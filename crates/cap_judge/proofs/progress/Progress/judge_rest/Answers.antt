@@ -1,4 +1,4 @@
-use Rattle.std.proofs.Common.{List, ℕ, ◌+◌, Ok, refl, ap, sym, subst, ◌∙◌, rules, arith}
+use Rattle.std.proofs.Common.{List, ℕ, ◌+◌, Ok, refl, ap, subst, ◌∙◌, rules, arith}
 use Rattle.cap_machine.specs.Helds.{held_of}
 use Rattle.cap_log.specs.Takings.{kept}
 use Rattle.cap_ops.specs.declared.refusal.Refusal.TheVariants.{Truncated, LineTooLong}
