@@ -3,14 +3,14 @@ use Rattle.std.proofs.Common.{◌≡◌, ◌≢◌, ℕ, ◌+◌, ◌≤◌, inl
 use Rattle.std.proofs.Common.{refl, sym, ap, subst, ◌∙◌, append-nil, append_assoc, arith, None, Result, Ok, Err, IfOk}
 use Rattle.std.proofs.Common.{IfErr}
 use Rattle.std.specs.Bool.{if◌then◌else◌}
-use Rattle.std.proofs.lemmas.List.{length-append, length-map, take-append-le}
+use Rattle.std.proofs.lemmas.List.{length-append, length-map}
 use Rattle.std.proofs.lemmas.List.Elements.{All-nil}
 use Rattle.cap_log.specs.declared.lines.Line.{Line}
 use Rattle.cap_log.specs.declared.lines.Line.TheVariants as lines
 use Rattle.cap_log.specs.Lines.{IsInRange, Spells, spelling}
 use Rattle.cap_log.proofs.FrontLemmas.{IsLine-more, IsTooLong-more}
 use Rattle.cap_log.proofs.SpellingLemmas.{IsLine-spelling}
-use Rattle.cap_log.specs.Front.{HasNoFeed, IsLine, IsTooLong, IsCut}
+use Rattle.cap_log.specs.Front.{IsLine, IsTooLong, IsCut}
 use Rattle.cap_log.specs.Takings.{IsNext, Answered, kept, over_of}
 use Rattle.cap_log.specs.declared.taking.Lines.{Lines}
 use Rattle.cap_log.specs.declared.nexts.Next.{Next}

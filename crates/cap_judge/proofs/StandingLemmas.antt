@@ -1,6 +1,6 @@
 -- What the lines lead to that a judge is given one by one.
 use Rattle.std.proofs.Common.{◌≡◌, ◌≢◌, ℕ, ◌+◌, inl, inr, Bool, true, false, List, [], ◌∷◌, ◌++◌, length, refl, sym, ap}
-use Rattle.std.proofs.Common.{subst, ◌∙◌, append-nil, append_assoc, arith, OnOk, IfErr, Result, Ok, Err}
+use Rattle.std.proofs.Common.{subst, ◌∙◌, append-nil, append_assoc, arith}
 use Rattle.std.specs.Bool.{if◌then◌else◌}
 use Rattle.std.proofs.lemmas.List.{length-append}
 use Rattle.std.proofs.lemmas.Bool.{false≢true}
@@ -9,9 +9,9 @@ use Rattle.cap_log.specs.declared.lines.Line.TheVariants as lines
 use Rattle.cap_log.specs.declared.lines.Mode.{Mode}
 use Rattle.cap_log.specs.declared.lines.Mode.TheVariants as modes
 use Rattle.cap_log.specs.declared.lines.Step.{Step}
-use Rattle.cap_log.specs.Lines.{IsInRange, Spells, spelling}
-use Rattle.cap_log.specs.Front.{HasNoFeed, IsTooLong, IsLine}
-use Rattle.cap_log.proofs.FrontLemmas.{IsLine-more, IsLine-same, IsTooLong-more}
+use Rattle.cap_log.specs.Lines.{Spells, spelling}
+use Rattle.cap_log.specs.Front.{IsTooLong, IsLine}
+use Rattle.cap_log.proofs.FrontLemmas.{IsLine-more, IsTooLong-more}
 use Rattle.cap_ops.specs.declared.refusal.Refusal.{Refusal}
 use Rattle.cap_ops.specs.declared.refusal.Refusal.TheVariants.{BadHeader, BadMode, LineTooLong, Misplaced, Truncated}
 use Rattle.cap_machine.specs.declared.ends.StepEnd.{StepEnd}
@@ -28,10 +28,10 @@ use Rattle.cap_judge.specs.Logs.{Beginning, Nothing, NoMode, Body, Whole, header
 use Rattle.cap_judge.specs.Logs.{IsAccepted, RefusesWhole, Refuses}
 use Rattle.cap_judge.specs.Verdicts.{IsVerdict}
 use Rattle.cap_judge.specs.Progresses.{Reading, Reaches, StandsFor, EndsNext, GoesOn, TakesFront, EndsAlone, IsAt}
-use Rattle.cap_judge.specs.Judgings.{IsBehind, finished}
+use Rattle.cap_judge.specs.Judgings.{finished}
 use Rattle.cap_judge.specs.Standings.{Standing, AtStart, AtMode, Within, Nowhere, IsAfter, TakesLine, EndsLine}
 use Rattle.cap_judge.proofs.JudgeLemmas.{IsUnended, accepted, unended, front_refused, lacks, misplaced_by, refused_behind, text_push, yes}
-use Rattle.cap_judge.proofs.SourceLemmas.{few_body, kept_line, line_some, long_some, nothing_cut, some-more}
+use Rattle.cap_judge.proofs.SourceLemmas.{few_body, kept_line, nothing_cut, some-more}
 use Rattle.cap_judge.proofs.HeaderLemmas.{version_two}
 
 -- what a judge is after is accepted

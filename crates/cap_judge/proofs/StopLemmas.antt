@@ -1,5 +1,5 @@
 -- Where a judge stops: what a no leaves.
-use Rattle.std.proofs.Common.{◌≡◌, ℕ, ◌+◌, inl, inr, Bool, true, false, List, length, sym, ap, ◌∙◌, arith, Result, Ok, Err, IfOk}
+use Rattle.std.proofs.Common.{◌≡◌, ℕ, ◌+◌, inl, inr, Bool, true, false, List, length, ap, ◌∙◌, arith, Result, IfOk}
 use Rattle.std.specs.Bool.{if◌then◌else◌}
 use Rattle.cap_log.specs.Front.{IsLine, IsCut, IsTooLong}
 use Rattle.cap_log.proofs.FrontLemmas.{IsLine-not_cut, IsTooLong-not_cut}

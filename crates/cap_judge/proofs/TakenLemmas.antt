@@ -1,25 +1,24 @@
 -- What a judge has taken that is given the lines of a log one by one, and what is known then.
 use Rattle.std.proofs.Common.{◌≡◌, ℕ, ◌+◌, inl, inr, false, List, [], ◌∷◌, ◌++◌, length, refl, sym, ap, subst, ◌∙◌}
-use Rattle.std.proofs.Common.{append-nil, append_assoc, arith, Option, None, Some, take}
+use Rattle.std.proofs.Common.{append-nil, append_assoc, Option, None, Some}
 use Rattle.std.proofs.lemmas.Bool.{false≢true}
 use Rattle.std.proofs.lemmas.List.{take-append-le}
 use Rattle.std.proofs.lemmas.Grind.{flat_map-append}
 use Rattle.cap_log.specs.Lines.{spelling}
 use Rattle.cap_log.specs.declared.lines.Line.{Line}
-use Rattle.cap_log.specs.Front.{IsLine, IsTooLong, IsCut}
+use Rattle.cap_log.specs.Front.{IsCut}
 use Rattle.cap_log.proofs.FrontLemmas.{IsLine-more, IsTooLong-more}
 use Rattle.cap_log.specs.declared.lines.Line.TheVariants as lines
 use Rattle.cap_log.specs.declared.lines.Mode.TheVariants as modes
 use Rattle.cap_machine.specs.declared.ends.StepEnd.TheVariants.{Refused, NoMemory}
 use Rattle.cap_machine.specs.declared.rules.Rules.TheVariants.{One, TwoStrict}
 use Rattle.cap_judge.specs.declared.faults.Fault.{Fault}
-use Rattle.cap_judge.specs.declared.verdict.Verdict.{Verdict}
 use Rattle.cap_judge.specs.declared.verdict.Verdict.TheVariants.{Yes, No}
 use Rattle.cap_judge.specs.FaultLines.{IsFrontText, bytes_of}
 use Rattle.cap_judge.specs.Logs.{Beginning, Nothing, NoMode, Body, Whole, IsAccepted, IsFirstFault, MayLackMemory, body_lines, lines_of}
 use Rattle.cap_judge.specs.Logs.{text_of, Refuses}
-use Rattle.cap_judge.specs.Verdicts.{IsYes, IsVerdict}
-use Rattle.cap_judge.specs.Judgings.{IsBehind, IsLastFront}
+use Rattle.cap_judge.specs.Verdicts.{IsYes}
+use Rattle.cap_judge.specs.Judgings.{IsLastFront}
 use Rattle.cap_judge.specs.Standings.{Standing, IsAfter, TakesLine, EndsLine, Known, IsRest, IsFaultAt, Taken, BeginsWhole, Stands}
 use Rattle.cap_judge.proofs.EscapeLaws.{escapes_exactly}
 use Rattle.cap_judge.proofs.JudgeLemmas.{text_push}

@@ -1,4 +1,4 @@
-use Rattle.std.proofs.Common.{ℕ, ◌≡◌, ◌+◌, ◌-◌, ◌*◌, ◌%◌, ◌^◌, ◌≤◌, min, refl, sym, ap, ◌∙◌, arith}
+use Rattle.std.proofs.Common.{◌+◌, ◌-◌, ◌≤◌, refl, ◌∙◌, arith}
 use Rattle.cap_bounds.specs.Bounds.{length_of}
 use Rattle.cap_judge.proofs.StepLemmas.{few_units}
 use Rattle.cap_judge.proofs.fault_reports.length_of.Goals as goal

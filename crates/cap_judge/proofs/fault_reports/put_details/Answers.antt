@@ -1,4 +1,4 @@
-use Rattle.std.proofs.Common.{ℕ, List, [], inl, inr, refl, sym, ap, subst, ◌∙◌, append-nil, arith, take}
+use Rattle.std.proofs.Common.{[], inl, inr, refl, sym, ap, subst, append-nil, arith}
 use Rattle.cap_log.specs.declared.lines.Line.{Line}
 use Rattle.cap_log.specs.declared.lines.Line.TheVariants as lines
 use Rattle.cap_log.specs.Lines.{Spells}

@@ -1,4 +1,4 @@
-use Rattle.std.proofs.Common.{◌≡◌, ◌≢◌, List, Result, ℕ, refl, ap, subst, sym, ◌∙◌, Ok, Err}
+use Rattle.std.proofs.Common.{◌≡◌, List, Result, ℕ, refl, ap, subst, sym, ◌∙◌, Ok, Err}
 use Rattle.cap_log.specs.Lines.{Spells}
 use Rattle.cap_log.specs.declared.lines.Line.TheVariants.{Version}
 use Rattle.cap_judge.specs.Headers.{ReadsHeader}
@@ -187,43 +187,50 @@ pub returns-in-Ok-LineTooLong-clause-counted : goal.returns-in-Ok-LineTooLong-cl
 returns-in-Ok-LineTooLong-clause-counted g c = λ _. c.in-Ok-LineTooLong.ensures.counted
 
 pub returns-in-Ok-LineTooLong-clause-fault_counted : goal.returns-in-Ok-LineTooLong-clause-fault_counted
-returns-in-Ok-LineTooLong-clause-fault_counted g c = λ pulled. no_pull c.no_at-in-Ok-LineTooLong.result.0 _ c.no_at-in-Ok-LineTooLong.ensures.answer pulled
+returns-in-Ok-LineTooLong-clause-fault_counted g c =
+    λ pulled. no_pull c.no_at-in-Ok-LineTooLong.result.0 _ c.no_at-in-Ok-LineTooLong.ensures.answer pulled
 
 pub returns-in-Ok-Truncated-clause-counted : goal.returns-in-Ok-Truncated-clause-counted
 returns-in-Ok-Truncated-clause-counted g c = λ _. c.in-Ok-Truncated.ensures.counted
 
 pub returns-in-Ok-Truncated-clause-fault_counted : goal.returns-in-Ok-Truncated-clause-fault_counted
-returns-in-Ok-Truncated-clause-fault_counted g c = λ pulled. no_pull c.no_at-in-Ok-Truncated.result.0 _ c.no_at-in-Ok-Truncated.ensures.answer pulled
+returns-in-Ok-Truncated-clause-fault_counted g c =
+    λ pulled. no_pull c.no_at-in-Ok-Truncated.result.0 _ c.no_at-in-Ok-Truncated.ensures.answer pulled
 
 pub returns-in-Ok-Finished-clause-counted : goal.returns-in-Ok-Finished-clause-counted
 returns-in-Ok-Finished-clause-counted g c = λ _. c.in-Ok-Finished.ensures.counted
 
 pub returns-in-Ok-Finished-clause-fault_counted : goal.returns-in-Ok-Finished-clause-fault_counted
-returns-in-Ok-Finished-clause-fault_counted g c = λ pulled. no_pull c.no_at-in-Ok-Finished.result.0 _ c.no_at-in-Ok-Finished.ensures.answer pulled
+returns-in-Ok-Finished-clause-fault_counted g c =
+    λ pulled. no_pull c.no_at-in-Ok-Finished.result.0 _ c.no_at-in-Ok-Finished.ensures.answer pulled
 
 pub returns-in-None-mode_of-clause-counted : goal.returns-in-None-mode_of-clause-counted
 returns-in-None-mode_of-clause-counted g c = λ _. (c.in-Ok-Line-next.ensures.counted ∙ c.in-Ok-Line.ensures.counted)
 
 pub returns-in-None-mode_of-clause-fault_counted : goal.returns-in-None-mode_of-clause-fault_counted
-returns-in-None-mode_of-clause-fault_counted g c = λ pulled. no_pull c.no_at-in-None-mode_of.result.0 _ c.no_at-in-None-mode_of.ensures.answer pulled
+returns-in-None-mode_of-clause-fault_counted g c =
+    λ pulled. no_pull c.no_at-in-None-mode_of.result.0 _ c.no_at-in-None-mode_of.ensures.answer pulled
 
 pub returns-in-Ok-LineTooLong-next-clause-counted : goal.returns-in-Ok-LineTooLong-next-clause-counted
 returns-in-Ok-LineTooLong-next-clause-counted g c = λ _. (c.in-Ok-LineTooLong-next.ensures.counted ∙ c.in-Ok-Line.ensures.counted)
 
 pub returns-in-Ok-LineTooLong-next-clause-fault_counted : goal.returns-in-Ok-LineTooLong-next-clause-fault_counted
-returns-in-Ok-LineTooLong-next-clause-fault_counted g c = λ pulled. no_pull c.no_at-in-Ok-LineTooLong-next.result.0 _ c.no_at-in-Ok-LineTooLong-next.ensures.answer pulled
+returns-in-Ok-LineTooLong-next-clause-fault_counted g c =
+    λ pulled. no_pull c.no_at-in-Ok-LineTooLong-next.result.0 _ c.no_at-in-Ok-LineTooLong-next.ensures.answer pulled
 
 pub returns-in-Ok-Truncated-next-clause-counted : goal.returns-in-Ok-Truncated-next-clause-counted
 returns-in-Ok-Truncated-next-clause-counted g c = λ _. (c.in-Ok-Truncated-next.ensures.counted ∙ c.in-Ok-Line.ensures.counted)
 
 pub returns-in-Ok-Truncated-next-clause-fault_counted : goal.returns-in-Ok-Truncated-next-clause-fault_counted
-returns-in-Ok-Truncated-next-clause-fault_counted g c = λ pulled. no_pull c.no_at-in-Ok-Truncated-next.result.0 _ c.no_at-in-Ok-Truncated-next.ensures.answer pulled
+returns-in-Ok-Truncated-next-clause-fault_counted g c =
+    λ pulled. no_pull c.no_at-in-Ok-Truncated-next.result.0 _ c.no_at-in-Ok-Truncated-next.ensures.answer pulled
 
 pub returns-in-Ok-Finished-next-clause-counted : goal.returns-in-Ok-Finished-next-clause-counted
 returns-in-Ok-Finished-next-clause-counted g c = λ _. (c.in-Ok-Finished-next.ensures.counted ∙ c.in-Ok-Line.ensures.counted)
 
 pub returns-in-Ok-Finished-next-clause-fault_counted : goal.returns-in-Ok-Finished-next-clause-fault_counted
-returns-in-Ok-Finished-next-clause-fault_counted g c = λ pulled. no_pull c.no_at-in-Ok-Finished-next.result.0 _ c.no_at-in-Ok-Finished-next.ensures.answer pulled
+returns-in-Ok-Finished-next-clause-fault_counted g c =
+    λ pulled. no_pull c.no_at-in-Ok-Finished-next.result.0 _ c.no_at-in-Ok-Finished-next.ensures.answer pulled
 
 pub returns-then-version-eq1-clause-ok_counted : goal.returns-then-version-eq1-clause-ok_counted
 returns-then-version-eq1-clause-ok_counted g c = c.in-Ok-Line.ensures.counted

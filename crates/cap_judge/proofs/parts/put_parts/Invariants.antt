@@ -1,4 +1,4 @@
-use Rattle.std.proofs.Common.{◌≡◌, ℕ, ◌+◌, ◌*◌, ◌≤◌, ◌++◌, length, take, drop}
+use Rattle.std.proofs.Common.{◌≡◌, ℕ, ◌+◌, ◌*◌, ◌≤◌, ◌++◌, take, drop}
 use Rattle.cap_judge.specs.Parts.{lines_of_parts}
 use Rattle.cap_judge.proofs.parts.put_parts.Given as goal
 

@@ -1,14 +1,10 @@
-use Rattle.std.proofs.Common.{◌≡◌, ◌++◌, ◌∙◌, ◌↔◌, [], Bool, Err, IfErr, List, None, Ok, OnOk, Option, Result, Some, ap}
-use Rattle.std.proofs.Common.{not, refl, rules, subst, sym, true, ℕ}
-use Rattle.std.specs.Prelude.{is_some}
-use Rattle.std.proofs.lemmas.Bool.{false≢true}
-use Rattle.cap_log.specs.Front.{IsLine}
+use Rattle.std.proofs.Common.{◌≡◌, ◌++◌, [], Err, IfErr, List, Ok, OnOk, Result, ap}
+use Rattle.std.proofs.Common.{rules, subst, sym, ℕ}
 use Rattle.cap_log.proofs.FrontLemmas.{IsLine-not_cut}
 use Rattle.cap_machine.specs.declared.ends.StepEnd.{StepEnd}
 use Rattle.cap_judge.specs.Logs.{MayLackMemory}
-use Rattle.cap_judge.specs.Standings.{EndsLine, IsNoLine, Known, Standing, Taken, TakesLine, known_of, standing_of}
-use Rattle.cap_judge.specs.declared.verdict.TakeFault.{TakeFault}
-use Rattle.cap_judge.specs.declared.verdict.TakeFault.TheVariants.{NoLine, NoMemory}
+use Rattle.cap_judge.specs.Standings.{EndsLine, Known, Standing, Taken, TakesLine, known_of, standing_of}
+use Rattle.cap_judge.specs.declared.verdict.TakeFault.TheVariants.{NoMemory}
 use Rattle.cap_judge.proofs.TakenLemmas.{taken_line}
 use Rattle.cap_judge.proofs.FaultLemmas.{known_at, lacks, memory_only, no_fault, no_line}
 use Rattle.cap_judge.proofs.by_lines.Judge.take.Goals.{then-is_none+in-None, else-is_none}
@@ -61,7 +57,8 @@ returns-in-Some-Err-clause-taken g c =
     let fault = c.args.self.now.fault in
     let old = standing_of contents c.args.self.now.stage in
     let mid = standing_of contents c.take_alone.new.self in
-    let same = ap (known_at fault) (subst (λ (r : Result (Unit {0}) StepEnd). IfErr r (λ _. mid ≡ old)) c.in-Some-Err.field-0-is c.in-Some-Err.ensures.same) in
+    let same = ap (known_at fault) (subst (λ (r : Result (Unit {0}) StepEnd). IfErr r (λ _. mid ≡ old)) c.in-Some-Err.field-0-is
+    c.in-Some-Err.ensures.same) in
     subst (λ (k : Known). OnOk c.take_end.result ((bytes : List ℕ) → Taken k bytes
     → Taken (known_of contents c.take_end.new.self) (bytes ++ line))) same c.take_end.ensures.taken
 
@@ -72,7 +69,8 @@ returns-in-Some-Err-clause-unchanged g c =
     let fault = c.args.self.now.fault in
     let old = standing_of contents c.args.self.now.stage in
     let mid = standing_of contents c.take_alone.new.self in
-    let same = ap (known_at fault) (subst (λ (r : Result (Unit {0}) StepEnd). IfErr r (λ _. mid ≡ old)) c.in-Some-Err.field-0-is c.in-Some-Err.ensures.same) in
+    let same = ap (known_at fault) (subst (λ (r : Result (Unit {0}) StepEnd). IfErr r (λ _. mid ≡ old)) c.in-Some-Err.field-0-is
+    c.in-Some-Err.ensures.same) in
     subst (λ (k : Known). IfErr c.take_end.result (λ _. known_of contents c.take_end.new.self ≡ k)) same c.take_end.ensures.unchanged
 
 pub returns-in-Some-Err-clause-no_memory : goal.returns-in-Some-Err-clause-no_memory
@@ -82,7 +80,8 @@ returns-in-Some-Err-clause-no_memory g c =
     let fault = c.args.self.now.fault in
     let old = standing_of contents c.args.self.now.stage in
     let mid = standing_of contents c.take_alone.new.self in
-    let same = ap (known_at fault) (subst (λ (r : Result (Unit {0}) StepEnd). IfErr r (λ _. mid ≡ old)) c.in-Some-Err.field-0-is c.in-Some-Err.ensures.same) in
+    let same = ap (known_at fault) (subst (λ (r : Result (Unit {0}) StepEnd). IfErr r (λ _. mid ≡ old)) c.in-Some-Err.field-0-is
+    c.in-Some-Err.ensures.same) in
     subst (λ (k : Known). c.take_end.result ≡ Err NoMemory → (bytes : List ℕ) → Taken k bytes → MayLackMemory (bytes ++ line)) same
     (lacks c.take_end.result _ c.take_end.ensures.no_memory)
 

@@ -1,4 +1,4 @@
-use Rattle.std.proofs.Common.{◌≡◌, ◌∙◌, ◌≤◌, ◌<◌, List, ap, arith, inl, inr, length, refl, subst, sym, take, drop, ◌+◌, ℕ}
+use Rattle.std.proofs.Common.{◌≡◌, ◌∙◌, ◌≤◌, List, ap, arith, inl, inr, length, refl, subst, sym, take, drop, ◌+◌, ℕ}
 use Rattle.std.proofs.lemmas.List.{length-take-le, take_all, take_at}
 use Rattle.cap_log.specs.Front.{IsFront}
 use Rattle.cap_log.specs.declared.fronts.Front.{Front}

@@ -1,4 +1,4 @@
-use Rattle.std.proofs.Common.{List, ℕ, ◌+◌, Ok, refl, ap, sym, subst, ◌∙◌, rules, arith}
+use Rattle.std.proofs.Common.{List, ℕ, ◌+◌, Ok, refl, ap, subst, ◌∙◌, rules, arith}
 use Rattle.cap_machine.specs.Helds.{held_of}
 use Rattle.cap_log.specs.Takings.{kept}
 use Rattle.cap_ops.specs.declared.refusal.Refusal.TheVariants.{Truncated, LineTooLong}
@@ -8,7 +8,16 @@ use Rattle.cap_judge.proofs.JudgeLemmas.{goes_on}
 use Rattle.cap_judge.proofs.SourceLemmas.{meets_at, at_met, pulled, finished_at, truncated_at, too_long_at, after_end}
 use Rattle.cap_judge.proofs.SourceLemmas.{line_ended, few_at, over_after, later_read, judged_by, judged_no, no_refused, no_answer}
 use Rattle.cap_judge.proofs.StopLemmas.{last_front, long_front, lent_front, stops, stops_refused, stops_finished, stops_answer}
+use Rattle.std.proofs.Common.{◌≡◌, Err, Result}
+use Rattle.cap_log.specs.Streams.{next_count}
+use Rattle.cap_judge.specs.declared.verdict.Verdict.{Verdict}
+use Rattle.cap_judge.specs.declared.verdict.JudgeFault.{JudgeFault}
+use Rattle.cap_judge.specs.declared.verdict.JudgeFault.TheVariants.{Pull}
 use Rattle.cap_judge.proofs.progress.Progress.judge_rest.Goals as goal
+
+-- A verdict is no fault of a source.
+no_pull : {X : Type 0} (answer : Result Verdict JudgeFault) (verdict : Verdict) → answer ≡ Ok verdict → answer ≡ Err Pull → X
+no_pull answer verdict is pulled = absurd (cc)
 
 pub lines-init : goal.lines-init
 lines-init g c =
@@ -157,3 +166,41 @@ overflow_add-line g c =
     let was = later_read g.S.Source.gave c.requires.here.0 c.lines.source _ _ _ _ _ _ c.in-Ok.ensures.ok
     (c.lines.invariant.here c.requires.here.0 c.requires.here.1) in
     let some = few_at was.0 _ _ _ was.2 in omega arith
+
+pub returns-in-Ok-Finished-clause-counted : goal.returns-in-Ok-Finished-clause-counted
+returns-in-Ok-Finished-clause-counted g c = λ _. (c.in-Ok-Finished.ensures.counted ∙ c.lines.invariant.counted)
+
+pub returns-in-Ok-Finished-clause-fault_counted : goal.returns-in-Ok-Finished-clause-fault_counted
+returns-in-Ok-Finished-clause-fault_counted g c = λ pulled. no_pull (Ok c.finished_verdict.result) c.finished_verdict.result refl pulled
+
+pub returns-in-Ok-Truncated-clause-counted : goal.returns-in-Ok-Truncated-clause-counted
+returns-in-Ok-Truncated-clause-counted g c = λ _. (c.in-Ok-Truncated.ensures.counted ∙ c.lines.invariant.counted)
+
+pub returns-in-Ok-Truncated-clause-fault_counted : goal.returns-in-Ok-Truncated-clause-fault_counted
+returns-in-Ok-Truncated-clause-fault_counted g c = λ pulled. no_pull (Ok c.refused.result) c.refused.result refl pulled
+
+pub returns-in-Ok-LineTooLong-clause-counted : goal.returns-in-Ok-LineTooLong-clause-counted
+returns-in-Ok-LineTooLong-clause-counted g c = λ _. (c.in-Ok-LineTooLong.ensures.counted ∙ c.lines.invariant.counted)
+
+pub returns-in-Ok-LineTooLong-clause-fault_counted : goal.returns-in-Ok-LineTooLong-clause-fault_counted
+returns-in-Ok-LineTooLong-clause-fault_counted g c =
+    λ pulled. no_pull (Ok c.refused-in-Ok-LineTooLong.result) c.refused-in-Ok-LineTooLong.result refl pulled
+
+pub returns-then-self-clause-counted : goal.returns-then-self-clause-counted
+returns-then-self-clause-counted g c = λ _. (c.in-Ok-Line.ensures.counted ∙ c.lines.invariant.counted)
+
+pub returns-then-self-clause-fault_counted : goal.returns-then-self-clause-fault_counted
+returns-then-self-clause-fault_counted g c = λ pulled. no_pull (Ok c.refused-then-self.result) c.refused-then-self.result refl pulled
+
+pub returns-in-Err-take_line-clause-counted : goal.returns-in-Err-take_line-clause-counted
+returns-in-Err-take_line-clause-counted g c = λ _. (c.in-Ok-Line.ensures.counted ∙ c.lines.invariant.counted)
+
+pub returns-in-Err-clause-counted : goal.returns-in-Err-clause-counted
+returns-in-Err-clause-counted g c = λ _. c.lines.invariant.counted
+
+pub returns-in-Err-next-clause-counted : goal.returns-in-Err-next-clause-counted
+returns-in-Err-next-clause-counted g c = λ no. absurd (no refl)
+
+pub returns-in-Err-next-clause-fault_counted : goal.returns-in-Err-next-clause-fault_counted
+returns-in-Err-next-clause-fault_counted g c = λ _.
+    (c.in-Err-next.ensures.fault_counted (c.take_kept.ensures.over ∙ c.lines.invariant.more) ∙ ap next_count c.lines.invariant.counted)

@@ -29,7 +29,8 @@ returns-in-Move-clause-err g c =
 pub returns-in-ClearTag-clause-some : goal.returns-in-ClearTag-clause-some
 returns-in-ClearTag-clause-some g c =
     let contents = g.M.TaggedStore.contents in
-    front_some (reading_of contents c.args.self.now) (reading_of contents c.run-in-ClearTag.new.self) c.args.bytes.now c.in-Some.operands.now
+    front_some (reading_of contents c.args.self.now) (reading_of contents c.run-in-ClearTag.new.self) c.args.bytes.now
+    c.in-Some.operands.now
     c.in-Some.head ClearTag c.run-in-ClearTag.result c.in-Some.ensures.some c.in-ClearTag.is c.run-in-ClearTag.ensures.some
 
 pub returns-in-ClearTag-clause-err : goal.returns-in-ClearTag-clause-err
@@ -40,7 +41,8 @@ returns-in-ClearTag-clause-err g c =
 pub returns-in-SetBounds-clause-some : goal.returns-in-SetBounds-clause-some
 returns-in-SetBounds-clause-some g c =
     let contents = g.M.TaggedStore.contents in
-    front_some (reading_of contents c.args.self.now) (reading_of contents c.run-in-SetBounds.new.self) c.args.bytes.now c.in-Some.operands.now
+    front_some (reading_of contents c.args.self.now) (reading_of contents c.run-in-SetBounds.new.self) c.args.bytes.now
+    c.in-Some.operands.now
     c.in-Some.head SetBounds c.run-in-SetBounds.result c.in-Some.ensures.some c.in-SetBounds.is c.run-in-SetBounds.ensures.some
 
 pub returns-in-SetBounds-clause-err : goal.returns-in-SetBounds-clause-err
@@ -84,7 +86,8 @@ returns-in-LoadCap-clause-err g c =
 pub returns-in-StoreCap-clause-some : goal.returns-in-StoreCap-clause-some
 returns-in-StoreCap-clause-some g c =
     let contents = g.M.TaggedStore.contents in
-    front_some (reading_of contents c.args.self.now) (reading_of contents c.run-in-StoreCap.new.self) c.args.bytes.now c.in-Some.operands.now
+    front_some (reading_of contents c.args.self.now) (reading_of contents c.run-in-StoreCap.new.self) c.args.bytes.now
+    c.in-Some.operands.now
     c.in-Some.head StoreCap c.run-in-StoreCap.result c.in-Some.ensures.some c.in-StoreCap.is c.run-in-StoreCap.ensures.some
 
 pub returns-in-StoreCap-clause-err : goal.returns-in-StoreCap-clause-err
@@ -117,7 +120,8 @@ returns-in-Store-clause-err g c =
 pub returns-in-Version-clause-some : goal.returns-in-Version-clause-some
 returns-in-Version-clause-some g c =
     let contents = g.M.TaggedStore.contents in
-    front_some (reading_of contents c.args.self.now) (reading_of contents c.take_any-in-Version.new.self) c.args.bytes.now c.in-Some.operands.now
+    front_some (reading_of contents c.args.self.now) (reading_of contents c.take_any-in-Version.new.self) c.args.bytes.now
+    c.in-Some.operands.now
     c.in-Some.head c.in-Some.head c.take_any-in-Version.result c.in-Some.ensures.some refl c.take_any-in-Version.ensures.some
 
 pub returns-in-Version-clause-err : goal.returns-in-Version-clause-err
