@@ -21,7 +21,7 @@ use Rattle.cap_machine.specs.Helds.{granule_cap, account_of}
 use Rattle.cap_machine.proofs.GranuleLemmas.{cap_of, granule_cap-absent}
 
 -- n copies of a value have it at each index, and past their end the default is that value
-copies : {A : Type 0} (n key : ℕ) (a d : A) → a ≡ d → get_or (replicate n a) key d ≡ d
+pub copies : {A : Type 0} (n key : ℕ) (a d : A) → a ≡ d → get_or (replicate n a) key d ≡ d
 copies n key a d e =
     elim (cases_lt key n) [
       | inl below ↦ get_or-replicate n key a d below ∙ e

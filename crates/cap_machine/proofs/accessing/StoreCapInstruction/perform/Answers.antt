@@ -46,3 +46,6 @@ returns-in_err-address g c =
     let is = err_from_is_err_and c.from_residual.result c.from_residual.ensures.1 in
     rw (is.1, is.2) (faulted_as old (steps.StoreCap c.args.self.source c.args.self.authority c.args.self.offset) _ fault
     (refusal_of fault) refl found refl)
+
+pub put_counted-requires-clause-sound : goal.put_counted-requires-clause-sound
+put_counted-requires-clause-sound g c = c.register-stored.ensures.sound

@@ -20,3 +20,13 @@ invariant_of-self-2 g c =
           subst (λ (m : Granules). AreCoded (places_of machine.registers m) (codes_of machine.codes m)) (sym c.in_ok-put_number.ensures.ok)
           (coded_granule machine.registers machine.codes old c.args.granule entry machine.coded ((λ _. refl, λ _. refl), lit< tt));
     }
+
+pub invariant_of-self : goal.invariant_of-self
+invariant_of-self g c =
+    let machine = c.args.self.now in
+    let same = c.in_err-put_number.ensures.err in
+    record {
+      zero = machine.zero;
+      sound = subst (λ (m : Granules). IsSoundState (places_of machine.registers m)) (sym same) machine.sound;
+      coded = subst (λ (m : Granules). AreCoded (places_of machine.registers m) (codes_of machine.codes m)) (sym same) machine.coded;
+    }

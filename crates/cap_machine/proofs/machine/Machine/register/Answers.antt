@@ -1,0 +1,34 @@
+use Rattle.std.proofs.Common.{◌≡◌, ℕ, ◌≤◌, List, length, get_or, sym, ap, subst, ◌∙◌, nat_lt, arith, rules}
+use Rattle.std.proofs.lemmas.Bool.{cond-true, lt-ltb}
+use Rattle.std.proofs.lemmas.List.{get_or_default}
+use Rattle.cap_word.specs.declared.word.Cap.{Cap}
+use Rattle.tagmem.specs.Granules.{Granules}
+use Rattle.cap_machine.specs.Parents.{IsSoundCap}
+use Rattle.cap_machine.specs.Places.{places_of}
+use Rattle.cap_machine.specs.States.{untagged_null}
+use Rattle.cap_machine.proofs.machine.Machine.register.Goals as goal
+
+-- A register holds what its place does.
+register_at : (registers : List Cap) (memory : Granules) (number : ℕ) (other : Cap) → length registers ≡ 32 → number ≤ 31
+    → get_or registers number other ≡ places_of registers memory number
+register_at registers memory number other sized low =
+    get_or_default registers number other untagged_null (omega arith)
+    ∙ sym (cond-true (nat_lt number 32) _ _ (lt-ltb number 32 (omega arith)))
+
+pub returns-clause-holds : goal.returns-clause-holds
+returns-clause-holds g c =
+    let machine = c.args.self.now in
+    register_at machine.registers (g.M.TaggedStore.contents machine.memory) c.args.number _ (search rules) c.requires
+
+pub returns-clause-sound : goal.returns-clause-sound
+returns-clause-sound g c =
+    let machine = c.args.self.now in
+    subst IsSoundCap (sym (register_at machine.registers (g.M.TaggedStore.contents machine.memory) c.args.number _ (search rules) c.requires))
+    (machine.sound c.args.number)
+
+pub returns-clause-zero : goal.returns-clause-zero
+returns-clause-zero g c = λ null.
+    let registers = c.args.self.now.registers in
+    let sized : length registers ≡ 32 = search rules in
+    get_or_default registers c.args.number _ untagged_null (omega arith)
+    ∙ ap (λ (n : ℕ). get_or registers n untagged_null) null ∙ c.args.self.now.zero
