@@ -1,4 +1,4 @@
-use Rattle.std.proofs.Common.{take, codes}
+use Rattle.std.proofs.Common.{take, codes, ◌∙◌, arith}
 use Rattle.cap_word.specs.Digits.{hex_digits}
 use Rattle.cap_word.specs.Fields.{address_of}
 use Rattle.cap_bounds.specs.Bounds.{base_of, top_of, is_sound}
@@ -16,3 +16,10 @@ returns-clause-written c =
     (text_line (codes "base") (hex_digits 16 (base_of w))) (text_line (codes "top") (hex_digits 17 (top_of w)))
     (text_line (codes "sound") (yes_or_no (is_sound w))) in
     let same = is_sound-from c.sound.result w c.sound.ensures in cc
+
+pub returns-clause-rest : goal.returns-clause-rest
+returns-clause-rest c = λ k past.
+    c.put_answer_line.ensures.rest k past
+    ∙ c.put_hex_line-at-3.ensures.rest k (omega arith)
+    ∙ c.put_hex_line-at-2.ensures.rest k (omega arith)
+    ∙ c.put_hex_line-at.ensures.rest k (omega arith)
