@@ -23,8 +23,8 @@ returns-clause-holds g c =
 pub returns-clause-sound : goal.returns-clause-sound
 returns-clause-sound g c =
     let machine = c.args.self.now in
-    subst IsSoundCap (sym (register_at machine.registers (g.M.TaggedStore.contents machine.memory) c.args.number _ (search rules) c.requires))
-    (machine.sound c.args.number)
+    let memory = g.M.TaggedStore.contents machine.memory in
+    subst IsSoundCap (sym (register_at machine.registers memory c.args.number _ (search rules) c.requires)) (machine.sound c.args.number)
 
 pub returns-clause-zero : goal.returns-clause-zero
 returns-clause-zero g c = λ null.
