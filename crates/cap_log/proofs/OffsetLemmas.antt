@@ -7,7 +7,6 @@ use Rattle.std.proofs.Math.ListN.{get_or-append}
 use mir.Syntax.{w16}
 use mir.Val.{SFits, of_z, to_z}
 use Rattle.cap_log.specs.Lines.{IsOffset}
-use Rattle.cap_log.specs.Parts.{Begins, IsFrom}
 use Rattle.cap_log.proofs.PartLemmas.{Lacks-decimal}
 
 -- no decimal begins with a minus sign
@@ -24,13 +23,6 @@ no_negative end digits none (pos n) rest fits e = no_minus n (end ∷ rest) digi
 no_negative end digits none (negsuc n) rest fits e =
     let small : n ≤ 2047 = omega (arith, ints, fits) in
     none (suc n) rest (omega arith) (ap (λ (bs : List ℕ). drop 1 bs) e) (omega arith, omega arith)
-
--- digits without a minus sign that spell no number, or one out of range
-pub no_positive : (end : ℕ) (bytes : List ℕ) → (get_or bytes 0 0 ≡ 45 → ⊥)
-    → ((n : ℕ) (rest : List ℕ) → Begins (IsFrom 0 2048) decimal end bytes n rest → ⊥)
-    → (z : ℤ) (rest : List ℕ) → IsOffset z → bytes ≡ signed_decimal z ++ end ∷ rest → ⊥
-no_positive end bytes other none (pos n) rest fits e = none n rest ((omega arith, omega (arith, ints, fits)), e)
-no_positive end bytes other none (negsuc n) rest fits e = other (ap (λ (bs : List ℕ). get_or bs 0 0) e)
 
 -- an offset fits sixteen bits
 offset-fits : (z : ℤ) → IsOffset z → SFits w16 z

@@ -11,9 +11,8 @@ wrapped a s m h = ap (λ (x : ℕ). x % 2 ^ 64) (let same : a + (2 ^ 64 - s) ≡
 
 pub returns-in-Some : goal.returns-in-Some
 returns-in-Some c =
-  let same = wrapped c.args.address c.in-Some.start _ c.in-Some.ensures.start in
-  let exact = c.in-Some.ensures.exact c.args.address c.ranges.address.fits in
-  (
-    λ t. exact.1 (subst (λ (x : ℕ). x < c.in-Some.size) same (ltb-true _ _ t)),
-    λ k. lt-ltb _ _ (subst (λ (x : ℕ). x < c.in-Some.size) (sym same) (exact.0 k)),
-  )
+    let same = wrapped c.args.address c.in-Some.start _ c.in-Some.ensures.start in
+    let exact = c.in-Some.ensures.exact c.args.address c.ranges.address.fits in (
+      λ t. exact.1 (subst (λ (x : ℕ). x < c.in-Some.size) same (ltb-true _ _ t)),
+      λ k. lt-ltb _ _ (subst (λ (x : ℕ). x < c.in-Some.size) (sym same) (exact.0 k)),
+    )

@@ -139,8 +139,7 @@ returns-in-LoadCap g c =
     let step = c.in-LoadCap in
     let given = c.untested-in-LoadCap in
     let range = subst IsStepInRange step.is c.requires in
-    subst (Gives state given.result.cap given.result.fault) (sym step.is)
-    (
+    subst (Gives state given.result.cap given.result.fault) (sym step.is) (
       loaded_by state step.authority step.offset c.register-in-LoadCap.result c.granule.result given.result.cap c.reached-granule.result
           range.2 c.register-in-LoadCap.ensures.holds c.reached-granule.ensures c.granule.ensures.holds
           (given.ensures.cap ∙ c.loaded.ensures.result_is),
