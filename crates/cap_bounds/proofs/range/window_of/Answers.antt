@@ -13,7 +13,7 @@ start c =
     c.window_from-start.ensures
     ∙ ap (λ (x : ℕ). x % 2 ^ 64)
     (window_start_coded c.args.word.0 c.scale_of-cut_exponent.result.cut_exponent c.scale_of-cut_exponent.result.b c.address.result
-    c.scale_of-cut_exponent.ensures.cut_exponent c.scale_of-cut_exponent.ensures.b c.address.ensures)
+    c.scale_of-cut_exponent.ensures.cut_exponent c.scale_of-cut_exponent.ensures.b c.address.ensures.value)
 
 pub returns-clause-start : goal.returns-clause-start
 returns-clause-start c = start c

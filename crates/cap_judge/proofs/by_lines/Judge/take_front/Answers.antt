@@ -28,7 +28,7 @@ returns-else-length-line-clause-no_line g c = (
 pub returns-in-Cut-clause-no_line : goal.returns-in-Cut-clause-no_line
 returns-in-Cut-clause-no_line g c =
     let line = c.args.line.now in
-    let cut = subst (IsFront line) c.in-Cut.is c.front.ensures in
+    let cut = subst (IsFront line) c.in-Cut.is c.front.ensures.found in
     (λ is. (λ text whole. IsLine-not_cut line text [] whole cut, λ long. IsTooLong-not_cut line long cut), λ is. refl)
 
 pub take_whole-requires : goal.take_whole-requires
@@ -54,5 +54,5 @@ returns-in-TooLong-clause-taken g c = c.take_long.ensures
 
 pub returns-in-TooLong-clause-no_line : goal.returns-in-TooLong-clause-no_line
 returns-in-TooLong-clause-no_line g c =
-    let long = subst (IsFront c.args.line.now) c.in-TooLong.is c.front.ensures in
+    let long = subst (IsFront c.args.line.now) c.in-TooLong.is c.front.ensures.found in
     (λ is. absurd (cc), λ none. absurd (none.1 long))
