@@ -7,4 +7,4 @@ pub returns-in-Some-clause-taken : goal.returns-in-Some-clause-taken
 returns-in-Some-clause-taken c = λ small bytes holds.
     let is : c.args.judge.now.judge ≡ Some c.deref_mut.result.now = c.in-Some.ensures.taken ∙ ap Some (sym c.deref_mut.ensures.value) in
     let taken = held_taken c.args.judge.now.judge bytes holds c.deref_mut.result.now is in
-    record { judge = c.take_line-state.new.judge; held_is = c.put.ensures.written; taken = c.take_line-state.ensures.taken small bytes taken }
+    record { judge = c.take_line-state.new.judge; held_is = c.put.ensures; taken = c.take_line-state.ensures.taken small bytes taken }
