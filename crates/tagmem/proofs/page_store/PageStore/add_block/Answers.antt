@@ -2,16 +2,16 @@ use Rattle.std.proofs.Common.{◌≡◌, ◌<◌, ◌∷◌, [], ◌++◌, ◌/�
 use Rattle.std.proofs.lemmas.List.{length-map, get_or_push}
 use Rattle.std.proofs.lemmas.List.Elements.{All-from_get_or}
 use Rattle.tagmem.specs.Directories.{found_in}
-use Rattle.tagmem.specs.declared.page.Page.{Page}
-use Rattle.tagmem.specs.Pages.{contents_of}
+use Rattle.tagmem.specs.declared.block.Block.{Block}
+use Rattle.tagmem.specs.Blocks.{contents_of}
 use Rattle.tagmem.proofs.Directories.{IsDirectory-same}
-use Rattle.tagmem.proofs.Pages.{get_absent}
+use Rattle.tagmem.proofs.Blocks.{get_absent}
 use Rattle.tagmem.proofs.Writes.{IsWritten}
 use Rattle.tagmem.proofs.Added.{IsAdded, numbers_of-add, length-add, IsDirectory-add, EachUsed-add, contents_of-add, AreStored-add, len-add}
-use Rattle.tagmem.proofs.page_store.PageStore.add_page.Goals as goal
-use Rattle.tagmem.proofs.page_store.PageStore.add_page.Goals.{After-put}
+use Rattle.tagmem.proofs.page_store.PageStore.add_block.Goals as goal
+use Rattle.tagmem.proofs.page_store.PageStore.add_block.Goals.{After-put}
 
--- where memory is refused the pages are what they were
+-- where memory is refused the blocks are what they were
 pub invariant_of-self : goal.invariant_of-self
 invariant_of-self c =
     let s = c.args.self.now in
@@ -43,7 +43,7 @@ pub invariant_of-self-in_default-insert : goal.invariant_of-self-in_default-inse
 invariant_of-self-in_default-insert c =
     let s = c.args.self.now in
     let chained = c.make_room.ensures.numbers ∙ s.chained in
-    let known = IsDirectory-same s.pages.items (found_in s.directory) (found_in c.insert.new.self)
+    let known = IsDirectory-same s.blocks.items (found_in s.directory) (found_in c.insert.new.self)
     c.in_default-insert.ensures.err s.known in
     rw c.reserve.ensures.items (record {
       chained = chained;
@@ -58,38 +58,38 @@ invariant_of-self-in_default-insert c =
 pub make_room-requires : goal.make_room-requires
 make_room-requires c =
     let s = c.args.self.now in
-    let room = c.requires.room (get_absent s.pages.items c.args.granule c.requires.absent) in
-    omega (arith, ap length s.chained, length-map s.pages.items (λ (page : Page). page.number), s.few, room)
+    let room = c.requires.room (get_absent s.blocks.items c.args.granule c.requires.absent) in
+    omega (arith, ap length s.chained, length-map s.blocks.items (λ (block : Block). block.number), s.few, room)
 
 pub push-requires-clause-fits : goal.push-requires-clause-fits
 push-requires-clause-fits c =
     let s = c.args.self.now in
-    let room = c.requires.room (get_absent s.pages.items c.args.granule c.requires.absent) in
+    let room = c.requires.room (get_absent s.blocks.items c.args.granule c.requires.absent) in
     let chained = c.make_room.ensures.numbers ∙ s.chained in
-    omega (arith, ap length chained, length-map s.pages.items (λ (page : Page). page.number), s.few, room)
+    omega (arith, ap length chained, length-map s.blocks.items (λ (block : Block). block.number), s.few, room)
 
--- there are no more pages than granules that were put
+-- there are no more blocks than granules that were put
 pub insert-requires : goal.insert-requires
 insert-requires c =
     let s = c.args.self.now in
-    omega (arith, s.pages.ok.0, c.len-index.ensures, s.few, c.requires.room (get_absent s.pages.items c.args.granule c.requires.absent))
+    omega (arith, s.blocks.ok.0, c.len-index.ensures, s.few, c.requires.room (get_absent s.blocks.items c.args.granule c.requires.absent))
 
 pub overflow_add-self : goal.overflow_add-self
 overflow_add-self c =
     let s = c.args.self.now in
-    omega (arith, s.counted, c.requires.room (get_absent s.pages.items c.args.granule c.requires.absent))
+    omega (arith, s.counted, c.requires.room (get_absent s.blocks.items c.args.granule c.requires.absent))
 
--- else there is a page more, of which no granule was put, and then it has a write
-added : (c : After-put) → IsAdded c.args.self.now.pages.items (found_in c.args.self.now.directory) (found_in c.insert.new.self)
+-- else there is a block more, of which no granule was put, and then it has a write
+added : (c : After-put) → IsAdded c.args.self.now.blocks.items (found_in c.args.self.now.directory) (found_in c.insert.new.self)
     c.len-index.result c.args.granule c.new.result c.put.new.self c.args.tag c.args.byte_index c.args.bytes.now c.args.code
 added c =
     let s = c.args.self.now in
     let first = c.index_mut.result.now in
-    let last : c.len-index.result ≡ length s.pages.items = omega (arith, s.pages.ok.0, c.len-index.ensures) in
+    let last : c.len-index.result ≡ length s.blocks.items = omega (arith, s.blocks.ok.0, c.len-index.ensures) in
     let pushed = c.push_reserved.ensures.items ∙ ap (λ items. items ++ c.new.result ∷ []) c.reserve.ensures.items in
     let read : first ≡ c.new.result =
     c.index_mut.ensures.value ∙ ap (λ items. get_or items c.len-index.result first) pushed
-    ∙ get_or_push s.pages.items c.new.result first c.len-index.result (sym last) in
+    ∙ get_or_push s.blocks.items c.new.result first c.len-index.result (sym last) in
     record {
       known = s.known;
       used = s.used;
@@ -99,7 +99,7 @@ added c =
       last = last;
       found = c.in-Ok-insert.ensures.ok;
       written =
-          subst (λ page. IsWritten page c.put.new.self (c.args.granule % 16) c.args.tag c.args.byte_index c.args.bytes.now c.args.code) read
+          subst (λ block. IsWritten block c.put.new.self (c.args.granule % 16) c.args.tag c.args.byte_index c.args.bytes.now c.args.code) read
           (record { number = c.put.ensures.number; slots = c.put.ensures.slots });
     }
 
@@ -114,7 +114,7 @@ invariant_of-self-2 c =
     let pushed = c.push_reserved.ensures.items ∙ ap (λ items. items ++ c.new.result ∷ []) c.reserve.ensures.items in
     let is = added (goal.at.invariant_of-self-2 c).After-put in
     let len = len-add _ _ _ _ _ _ _ _ _ _ _ is in
-    let room = c.requires.room (get_absent s.pages.items c.args.granule c.requires.absent) in
+    let room = c.requires.room (get_absent s.blocks.items c.args.granule c.requires.absent) in
     let bytes : All (λ byte. byte < 256) c.args.bytes.now =
     All-from_get_or (λ byte. byte < 256) c.args.bytes.now 0 (λ i lt. (c.type_inv.bytes i).fits) in
     rw pushed (record {
