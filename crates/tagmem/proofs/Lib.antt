@@ -7,5 +7,6 @@ mod Indexes
 mod Listed
 mod NextPut
 mod Pages
+mod Rooms
 mod Slots
 mod Writes

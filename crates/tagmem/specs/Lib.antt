@@ -5,3 +5,4 @@ pub mod Granules
 pub mod Listed
 pub mod ListLaws
 pub mod Pages
+pub mod Rooms

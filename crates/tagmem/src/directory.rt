@@ -1,5 +1,5 @@
 //! Where blocks are, in the order of their numbers.
-ghost use Rattle.std.specs.Prelude.{◌≡◌, ◌/◌, ◌*◌, ◌+◌, ◌^◌, ◌<◌, ◌≤◌, ℕ, None, Some, MatchOption, OnOk, OnErr};
+ghost use Rattle.std.specs.Prelude.{◌≡◌, ◌/◌, ◌*◌, ◌+◌, ◌^◌, ◌<◌, ◌≤◌, ℕ, None, Some, IfSome, MatchOption, OnOk, OnErr};
 ghost use Rattle.std.specs.BTreeMap as tree;
 ghost use Rattle.std.specs.Ordering.{nat_cmp};
 ghost use Rattle.tagmem.specs.Pages.{AreApart, EachHasBlock, StandsAt};
@@ -27,10 +27,12 @@ pub(crate) struct Directory {
 impl Directory {
     ghost use Rattle.tagmem.specs.Directories.{found_in};
     ghost use Rattle.tagmem.specs.Pages.{IsLeast, IsWith};
+    ghost use Rattle.tagmem.specs.Rooms.{blocks_of, blocks_with};
 
     // Of no block. It takes no memory.
     pub(crate) fn new(alloc: Global) -> Directory
-        ensures { (number : ℕ) → found_in result number ≡ None }
+        ensures found { (number : ℕ) → found_in result number ≡ None }
+        ensures blocks { blocks_of result ≡ 0 }
     {
         Directory {
             pages: Vec::new(alloc),
@@ -79,9 +81,17 @@ impl Directory {
         }
     }
 
+    // How many blocks the pages have with one that stands somewhere, if it stands, and else is added.
+    pub(crate) fn blocks_with(&self, page: Option<usize>) -> Option<usize>
+        ensures { IfSome result (λ many. many ≡ blocks_with self.now page) }
+    {
+        let more = usize::from(page.is_none());
+        self.pages.len().checked_add(more)?.checked_mul(16)
+    }
+
     // Where a page stands in the list. It is mostly the one that was added last.
     #[inline(always)]
-    fn page_at(&self, page: u64) -> Option<usize>
+    pub(crate) fn page_at(&self, page: u64) -> Option<usize>
         requires { page < 2 ^ 60 }
         ensures { result ≡ tree.get nat_cmp self.now.tree page }
     {
@@ -91,13 +101,22 @@ impl Directory {
         self.tree.get(&page).copied()
     }
 
-    // Adds a block, or refuses it and stays as it was.
-    pub(crate) fn insert(&mut self, number: u64, index: usize) -> Result<(), NoMemory>
+    // Adds a block, whose page stands somewhere or is added, or refuses it and stays as it was.
+    pub(crate) fn insert(
+        &mut self,
+        number: u64,
+        index: usize,
+        page: Option<usize>,
+    ) -> Result<(), NoMemory>
+        requires page { page ≡ tree.get nat_cmp self.old.tree (number / 16) }
         requires fits { index < 4294967295 }
         ensures ok { OnOk result (IsWith (found_in self.old) (found_in self.new) number index) }
+        ensures blocks { OnOk result (blocks_of self.new ≡ blocks_with self.old page) }
         ensures err { OnErr result ((other : ℕ) → found_in self.new other ≡ found_in self.old other) }
+        ensures refused { OnErr result (blocks_of self.new ≡ blocks_of self.old) }
+        ensures only_new { OnErr result (page ≡ None) }
     {
-        match self.page_at(number / 16) {
+        match page {
             Some(at) => {
                 self.pages[at].set((number % 16) as u8, index);
                 Ok(())
@@ -111,7 +130,9 @@ impl Directory {
         requires absent { tree.get nat_cmp self.old.tree (number / 16) ≡ None }
         requires fits { index < 4294967295 }
         ensures ok { OnOk result (IsWith (found_in self.old) (found_in self.new) number index) }
+        ensures blocks { OnOk result (blocks_of self.new ≡ blocks_of self.old + 16) }
         ensures err { OnErr result ((other : ℕ) → found_in self.new other ≡ found_in self.old other) }
+        ensures refused { OnErr result (blocks_of self.new ≡ blocks_of self.old) }
     {
         let Ok(()) = self.pages.reserve(1) else {
             return Err(NoMemory);

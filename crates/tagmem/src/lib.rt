@@ -9,6 +9,7 @@ mod list_store;
 mod overwriting;
 mod page;
 mod page_store;
+mod room;
 mod store;
 
 pub use crate::list_store::ListStore;

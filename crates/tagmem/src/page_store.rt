@@ -1,19 +1,25 @@
 //! A store that keeps its entries in blocks.
 ghost use Rattle.std.specs.Prelude.{◌≡◌, ◌^◌, ◌<◌, ◌+◌, ◌*◌, ◌≤◌, ◌/◌, length, None, Some, MatchOption, OnOk, OnErr};
 ghost use Rattle.std.specs.FinMap as map;
+ghost use Rattle.std.specs.Vec.{vec_capacity};
 ghost use Rattle.tagmem.specs.Directories.{found_in};
-ghost use Rattle.tagmem.specs.Granules.{with_write, AreStored, HasRoom, IsCodeFor, NonePut, IsNextPut};
+ghost use Rattle.tagmem.specs.Rooms.{HasRoomFor, blocks_of, blocks_with};
+ghost use Rattle.tagmem.specs.Granules.{with_write, with_cap, with_bytes, AreStored, HasRoom, IsCodeFor, NonePut, IsNextPut};
 ghost use Rattle.tagmem.specs.Blocks.{contents_of, numbers_of, IsDirectory, IsBlockAt, IsAbsent, IsNextBlock, EachUsed};
 
 use crate::block::Block;
 use crate::chains::Chains;
 use crate::directory::Directory;
+use crate::room::make_room;
 use crate::store::{NoMemory, TaggedStore};
 use std::alloc::Global;
 
-/// A store that keeps its entries in blocks of 16 granules, each of which has one that was put. A put
-/// into a block that is there takes no memory, and a put that needs a new block changes nothing before it
-/// has all its memory.
+/// A store that keeps its entries in pages: page `n` has the 256 granules from `256 * n` on. A put into a
+/// page that is there takes no memory, and a put that needs a new page changes nothing before it has all
+/// its memory.
+///
+/// A page is kept in 16 blocks of 16 granules, each of which has one that was put. The memory of its blocks
+/// is reserved with the page, and nothing is written to it before a block is there.
 #[derive(Drop)]
 pub struct PageStore {
     blocks: Vec<Block>,
@@ -27,6 +33,9 @@ pub struct PageStore {
     ghost used: { EachUsed blocks.items },
     ghost stored: { AreStored (contents_of blocks.items) },
     ghost counted: { count ≡ map.len (contents_of blocks.items) },
+    // There is room for all blocks of the pages that are there.
+    ghost roomy: { blocks_of directory ≤ vec_capacity blocks },
+    ghost linkable: { HasRoomFor chains (blocks_of directory) },
     ghost few: { length blocks.items ≤ map.len (contents_of blocks.items) },
     ghost fits: { map.len (contents_of blocks.items) < 2 ^ 32 },
 }
@@ -92,6 +101,26 @@ impl PageStore {
         }
     }
 
+    // Takes the memory of all blocks of a page that isn't there.
+    fn make_room(&mut self, page: Option<usize>) -> Result<(), NoMemory>
+        requires few { length self.old.blocks.items < 4294967295 }
+        ensures blocks { self.new.blocks.items ≡ self.old.blocks.items }
+        ensures directory { self.new.directory ≡ self.old.directory }
+        ensures count { self.new.count ≡ self.old.count }
+        ensures room { OnOk result (blocks_with self.old.directory page ≤ vec_capacity self.new.blocks) }
+        ensures linkable { OnOk result (HasRoomFor self.new.chains (blocks_with self.old.directory page)) }
+        ensures only_new { OnErr result (page ≡ None) }
+    {
+        if page.is_some() {
+            return Ok(());
+        }
+        let Some(many) = self.directory.blocks_with(page) else {
+            return Err(NoMemory);
+        };
+        make_room(&mut self.blocks, many)?;
+        self.chains.make_room(many)
+    }
+
     // Adds a block, of which one granule is put: bytes over zeros from a byte index on.
     fn add_block(
         &mut self,
@@ -109,16 +138,13 @@ impl PageStore {
         ensures ok { OnOk result (contents_of self.new.blocks.items
             ≡ with_write (contents_of self.old.blocks.items) granule tag byte_index bytes.now code) }
         ensures err { OnErr result (contents_of self.new.blocks.items ≡ contents_of self.old.blocks.items) }
+        ensures in_page { OnErr result (NonePut (contents_of self.old.blocks.items) (256 * (granule / 256)) (256 * (granule / 256) + 256)) }
     {
         let number = granule / 16;
         let index = self.blocks.len();
-        let Ok(()) = self.blocks.reserve(1) else {
-            return Err(NoMemory);
-        };
-        let Ok(()) = self.chains.make_room() else {
-            return Err(NoMemory);
-        };
-        let Ok(()) = self.directory.insert(number, index) else {
+        let page = self.directory.page_at(number / 16);
+        self.make_room(page)?;
+        let Ok(()) = self.directory.insert(number, index, page) else {
             return Err(NoMemory);
         };
         self.blocks.push_reserved(Block::new(number));
@@ -171,6 +197,7 @@ impl PageStore {
             ≡ with_write (contents_of self.old.blocks.items) granule tag byte_index bytes.now code) }
         ensures err { OnErr result (contents_of self.new.blocks.items ≡ contents_of self.old.blocks.items) }
         ensures only_new { OnErr result (map.get (contents_of self.old.blocks.items) granule ≡ None) }
+        ensures in_page { OnErr result (NonePut (contents_of self.old.blocks.items) (256 * (granule / 256)) (256 * (granule / 256) + 256)) }
     {
         match self.index_of(granule / 16) {
             Some(index) => {
@@ -222,12 +249,31 @@ impl TaggedStore for PageStore {
         tag: bool,
         bytes: [u8; 16],
         code: u64,
-    ) -> Result<(), NoMemory> {
+    ) -> Result<(), NoMemory>
+        requires in_memory { granule < 2 ^ 60 }
+        requires coded { IsCodeFor tag code }
+        requires room { HasRoom (contents_of self.old.blocks.items) granule }
+        ensures ok { OnOk result (contents_of self.new.blocks.items
+            ≡ with_cap (contents_of self.old.blocks.items) granule tag bytes code) }
+        ensures err { OnErr result (contents_of self.new.blocks.items ≡ contents_of self.old.blocks.items) }
+        ensures only_new { OnErr result (map.get (contents_of self.old.blocks.items) granule ≡ None) }
+        ensures in_page { OnErr result (NonePut (contents_of self.old.blocks.items) (256 * (granule / 256)) (256 * (granule / 256) + 256)) }
+    {
         self.put(granule, tag, 0, &bytes, code)
     }
 
     #[inline(always)]
-    fn put_bytes(&mut self, granule: u64, byte_index: u8, bytes: &[u8]) -> Result<(), NoMemory> {
+    fn put_bytes(&mut self, granule: u64, byte_index: u8, bytes: &[u8]) -> Result<(), NoMemory>
+        requires in_memory { granule < 2 ^ 60 }
+        requires some { 0 < length bytes.now }
+        requires inside { byte_index + length bytes.now ≤ 16 }
+        requires room { HasRoom (contents_of self.old.blocks.items) granule }
+        ensures ok { OnOk result (contents_of self.new.blocks.items
+            ≡ with_bytes (contents_of self.old.blocks.items) granule byte_index bytes.now) }
+        ensures err { OnErr result (contents_of self.new.blocks.items ≡ contents_of self.old.blocks.items) }
+        ensures only_new { OnErr result (map.get (contents_of self.old.blocks.items) granule ≡ None) }
+        ensures in_page { OnErr result (NonePut (contents_of self.old.blocks.items) (256 * (granule / 256)) (256 * (granule / 256) + 256)) }
+    {
         self.put(granule, false, byte_index, bytes, 0)
     }
 

@@ -52,6 +52,8 @@ invariant_of-self c =
       stored = AreStored-write s.blocks.items (found_in s.directory) c.args.index c.args.granule old read block _ _ _ _ written
           c.requires.in_memory c.requires.inside bytes (omega arith) c.requires.coded s.stored;
       counted = omega (arith, len, first, s.counted);
+      roomy = s.roomy;
+      linkable = s.linkable;
       few = omega (arith, len, length-set s.blocks.items c.args.index block, s.few);
       fits = omega (arith, len, fits);
     }
