@@ -1,9 +1,9 @@
 use Rattle.std.proofs.Common.{◌≡◌, ◌≤◌, get_or, None, sym, ap, ◌∙◌, arith}
 use Rattle.std.proofs.Math.ListN.{get_or-eq_default}
-use Rattle.tagmem.specs.Pages.{slots_of}
+use Rattle.tagmem.specs.Blocks.{slots_of}
 use Rattle.tagmem.proofs.Slots.{slot_with-none, slot_with-some}
-use Rattle.tagmem.proofs.Pages.{length-slots_of, get_or-slots_of}
-use Rattle.tagmem.proofs.page.Page.first_from.Goals as goal
+use Rattle.tagmem.proofs.Blocks.{length-slots_of, get_or-slots_of}
+use Rattle.tagmem.proofs.block.Block.first_from.Goals as goal
 
 pub returns-then-is_some : goal.returns-then-is_some
 returns-then-is_some c =
@@ -12,15 +12,15 @@ returns-then-is_some c =
 
 pub loop-i-preserved : goal.loop-i-preserved
 loop-i-preserved c = λ k le lt.
-    let page = c.args.self.now in
-    let here : k ≡ c.loop-i.i → get_or (slots_of page) k None ≡ None = λ same.
-    ap (λ i. get_or (slots_of page) i None) same ∙ get_or-slots_of page c.loop-i.i ∙ slot_with-none _ _ _ (sym c.if-is_some.ensures) in
+    let block = c.args.self.now in
+    let here : k ≡ c.loop-i.i → get_or (slots_of block) k None ≡ None = λ same.
+    ap (λ i. get_or (slots_of block) i None) same ∙ get_or-slots_of block c.loop-i.i ∙ slot_with-none _ _ _ (sym c.if-is_some.ensures) in
     grind (arith, c.loop-i.invariant k, here)
 
 -- past the last slot there is none
 pub returns : goal.returns
 returns c = λ slot le.
-    let page = c.args.self.now in
-    let past : 16 ≤ slot → get_or (slots_of page) slot None ≡ None = λ large.
-    get_or-eq_default (slots_of page) None (let wide = length-slots_of page in omega arith) in
+    let block = c.args.self.now in
+    let past : 16 ≤ slot → get_or (slots_of block) slot None ≡ None = λ large.
+    get_or-eq_default (slots_of block) None (let wide = length-slots_of block in omega arith) in
     grind (arith, c.loop-i.invariant slot, past, c.loop-i.auto.i-end, c.loop-i-test.false)

@@ -3,7 +3,7 @@ use Rattle.std.proofs.lemmas.Grind.{get_or_default_zero}
 use Rattle.std.proofs.lemmas.List.{length-append, length-set}
 use Rattle.std.proofs.lemmas.Nat.{and_le_r}
 use Rattle.tagmem.proofs.Chained.{AreChains-push}
-use Rattle.tagmem.proofs.chains.Chains.push.Goals as goal
+use Rattle.tagmem.proofs.chains.Chains.append.Goals as goal
 
 pub invariant_of-self-clause-linked : goal.invariant_of-self-clause-linked
 invariant_of-self-clause-linked c =

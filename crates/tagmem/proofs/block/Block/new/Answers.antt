@@ -1,7 +1,7 @@
 use Rattle.std.proofs.Common.{◌≡◌, ℕ, zero, suc, Bool, List, [], ◌∷◌, get_or, replicate, Option, None, refl}
 use Rattle.std.proofs.lemmas.List.{get_or-replicate}
-use Rattle.tagmem.specs.Pages.{slots_with}
-use Rattle.tagmem.proofs.page.Page.new.Goals as goal
+use Rattle.tagmem.specs.Blocks.{slots_with}
+use Rattle.tagmem.proofs.block.Block.new.Goals as goal
 
 -- a granule that was never put
 abbrev nothing : Option Bool
