@@ -12,6 +12,8 @@ mod judge;
 #[cfg(test)]
 mod log;
 #[cfg(test)]
+mod machine;
+#[cfg(test)]
 mod stores;
 #[cfg(test)]
 mod texts;
