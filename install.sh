@@ -9,7 +9,7 @@
 #   PREFIX/share/man/man1/capcheck.1 the program's manual page
 #
 # DESTDIR goes in front of PREFIX, and is named in no file. What isn't built yet is proved and built first, which
-# wants the Rattle kit and takes some minutes. The shared libraries and the judge want a C compiler: CC, or cc.
+# wants the Rattle kit; CONTRIBUTING.md says how long it takes. The shared libraries and the judge want a C compiler: CC, or cc.
 set -eu
 [ $# = 1 ] || { echo 'install.sh: one word, the folder to install below' >&2; exit 2; }
 case $1 in

@@ -11,9 +11,11 @@
  * What a caller owes:
  *   bytes, line   point to `length` bytes that may be read, and aren't null, not even where length is 0.
  *                 During the call nothing writes them.
- *   judge         points to a capcheck_judge whose bytes are all 0, or that is as the last call on it left it.
- *                 Of an open one and its copies only one is used. It is used by the thread that opened it, by
+ *   judge         isn't null, points to a capcheck_judge whose bytes are all 0, or that is as the last call on
+ *                 it left it (for capcheck_judge_open too), and doesn't overlap the line. Of an open one and
+ *                 its copies only one is used. It is used by the thread that opened it, by
  *                 one call at a time.
+ *   stack         some 90 KiB for capcheck_judge_bytes, and a few KiB for the other calls.
  *   malloc and realloc give blocks that are aligned to 16 bytes, or to the greatest power of two below that
  *   divides the size. No function is called from a signal handler, or in a forked child of a process with
  *   threads.

@@ -6,7 +6,7 @@ cd "$(dirname "$0")/../.."
 work=$(mktemp -d)
 trap 'rm -rf "$work"' EXIT
 sh install.sh "$work/there" > "$work/said" 2>&1 || { cat "$work/said" >&2; exit 1; }
-command -v pkg-config > /dev/null || { echo 'installed: not tried, since there is no pkg-config'; exit 0; }
+command -v pkg-config > /dev/null || { echo 'installed: the examples were not built, since there is no pkg-config' >&2; exit 0; }
 export PKG_CONFIG_PATH=$work/there/lib/pkgconfig
 ${CC:-cc} -std=c99 -Wall -Wextra -Werror -pedantic -O2 examples/emulator/emulator.c $(pkg-config --cflags --libs capcheck) -o "$work/emulator"
 LD_LIBRARY_PATH=$work/there/lib "$work/emulator" > "$work/log"

@@ -20,6 +20,40 @@ static void expect(bool holds, int line) {
 
 #define EXPECT(holds) expect((holds), __LINE__)
 
+/* How many blocks of memory are held, counted in front of the C library. Under valgrind none is counted. */
+static long held, taken_in_all;
+
+#ifdef __cplusplus
+#define NEVER_THROWS noexcept
+extern "C" {
+#else
+#define NEVER_THROWS
+#endif
+extern void *__libc_malloc(size_t size);
+extern void *__libc_realloc(void *old, size_t size);
+extern void __libc_free(void *block);
+
+void *malloc(size_t size) NEVER_THROWS {
+    void *block = __libc_malloc(size);
+    held += block != NULL;
+    taken_in_all += block != NULL;
+    return block;
+}
+
+void *realloc(void *old, size_t size) NEVER_THROWS {
+    void *block = __libc_realloc(old, size);
+    held += old == NULL && block != NULL;
+    return block;
+}
+
+void free(void *block) NEVER_THROWS {
+    held -= block != NULL;
+    __libc_free(block);
+}
+#ifdef __cplusplus
+}
+#endif
+
 /* The bytes of a file, or NULL where they can't be had. */
 static uint8_t *bytes_of(const char *name, size_t *length) {
     FILE *file = fopen(name, "rb");
@@ -76,7 +110,9 @@ static bool is_null(capcheck_cap cap) {
 /* Hands the whole lines of a log over, and compares with the verdicts on its beginnings. */
 static void by_lines(const uint8_t *bytes, size_t length) {
     capcheck_judge judge = CAPCHECK_NO_JUDGE_YET;
+    long before = held;
     EXPECT(capcheck_judge_open(&judge) == CAPCHECK_GOES_ON);
+    EXPECT(held > before || taken_in_all == 0);
     size_t taken = 0;
     bool at_fault = false;
     while (taken < length) {
@@ -105,6 +141,7 @@ static void by_lines(const uint8_t *bytes, size_t length) {
     EXPECT(is_null(capcheck_judge_register(&judge, UINT64_MAX).cap));
     EXPECT(capcheck_judge_granule(&judge, UINT64_MAX).present == 1);
     capcheck_judge_close(&judge);
+    EXPECT(held == before);
 }
 
 /* What the rules give for a line that records another result: a capability without its tag, or the number in memory. */
@@ -135,6 +172,7 @@ static void closed(void) {
     static const char move[] = "move c2 c1 = 1 ffff1ffffc0180040000000000000000\n";
     char long_line[96];
     capcheck_judge judge;
+    long before = held;
     memset(&judge, 0, sizeof judge);
     memset(long_line, 'a', sizeof long_line);
     for (int turn = 0; turn < 2; turn++) {
@@ -160,6 +198,7 @@ static void closed(void) {
         EXPECT(capcheck_judge_open(&judge) == CAPCHECK_GOES_ON);
         EXPECT(is_state(capcheck_judge_answer(&judge), CAPCHECK_GOES_ON));
         capcheck_judge_close(&judge);
+        EXPECT(held == before);
     }
 }
 

@@ -32,7 +32,7 @@ impl Interval {
     /// Whether the bounds from a base up to a top lie inside these.
     #[inline(always)]
     pub fn contains(self, base: u64, top: u128) -> bool
-        ensures { IsTrue result ↔ IsInside base top self.base self.top }
+        ensures inside { IsTrue result ↔ IsInside base top self.base self.top }
     {
         self.base <= base && top <= self.top
     }
@@ -40,7 +40,7 @@ impl Interval {
     /// Whether an address is one of these bounds: from the base up to, but not with, the top.
     #[inline(always)]
     pub fn holds(self, address: u64) -> bool
-        ensures { IsTrue result ↔ (self.base ≤ address) × (address < self.top) }
+        ensures inside { IsTrue result ↔ (self.base ≤ address) × (address < self.top) }
     {
         self.base <= address && u128::from(address) < self.top
     }
@@ -210,7 +210,7 @@ pub fn bounds(word: Word) -> Interval
 pub fn sound_word_holds(word: Word, address: u64, count: u8) -> bool
     requires sound { IsSound word.0 }
     requires some { 0 < count }
-    ensures { IsTrue result ↔ IsInside address (address + count) (base_of word.0) (top_of word.0) }
+    ensures inside { IsTrue result ↔ IsInside address (address + count) (base_of word.0) (top_of word.0) }
 {
     let Scale {
         cut_exponent,
@@ -231,7 +231,7 @@ pub fn sound_word_holds(word: Word, address: u64, count: u8) -> bool
 
 /// Whether a word is sound: its top is its base plus its length, and is at most 2^64.
 pub fn sound(word: Word) -> bool
-    ensures { IsTrue result ↔ IsSound word.0 }
+    ensures sound { IsTrue result ↔ IsSound word.0 }
 {
     let Decoded { base, top, length } = decode(word);
     u128::from(base) + length == top && top <= 1 << 64

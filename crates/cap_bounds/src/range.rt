@@ -11,6 +11,29 @@ use cap_word::Word;
 /// bounds.
 const WHOLE_EXPONENT: u32 = 50;
 
+/// The start and the size of a word's window: an address keeps the word's bounds exactly where it is less than
+/// the size above the start, modulo 2^64. `None` from the exponent on at which every address keeps them. It is all
+/// that [`keeps_bounds`] stands on; what else is known of the range is said by [`reach`] alone.
+fn window_of(word: Word) -> Option<(u64, u64)>
+    ensures none { IsNone result ↔ (50 ≤ cut_exponent_of word.0) }
+    ensures start { IfSome result (λ window. window.0 ≡ window_start word.0 % 2 ^ 64) }
+    ensures size { IfSome result (λ window. window.1 ≡ window_size word.0) }
+    ensures every { IsNone result → (address : ℕ) → address < 2 ^ 64 → KeepsBounds word.0 address }
+    ensures exact { IfSome result (λ window. (address : ℕ) → address < 2 ^ 64
+        → (KeepsBounds word.0 address ↔ ((address + 2 ^ 64 - window.0) % 2 ^ 64 < window.1))) }
+{
+    let Scale {
+        cut_exponent,
+        b,
+        ..
+    } = scale_of(word);
+    if cut_exponent >= WHOLE_EXPONENT {
+        return None;
+    }
+    let start = window_from(cut_exponent, b, word.address());
+    Some((start, 1 << (cut_exponent + 14)))
+}
+
 /// A word's representable range, as its start and its size: an address keeps the word's bounds exactly
 /// where it is less than the size above the start, modulo 2^64. `None` is the answer exactly where every
 /// address keeps them: from the cut exponent 50 on (UCAM-CL-TR-987, the representable region).
@@ -31,23 +54,14 @@ pub fn reach(word: Word) -> Option<(u64, u64)>
     ensures margins { (address : ℕ) → base_of word.0 + 2 ^ 64 ≤ address + 2 ^ 11 * unit_of word.0
         → address ≤ top_of word.0 + 2 ^ 64 + 2 ^ 12 * unit_of word.0 → KeepsBounds word.0 (address % 2 ^ 64) }
 {
-    let Scale {
-        cut_exponent,
-        b,
-        ..
-    } = scale_of(word);
-    if cut_exponent >= WHOLE_EXPONENT {
-        return None;
-    }
-    let start = window_from(cut_exponent, b, word.address());
-    Some((start, 1 << (cut_exponent + 14)))
+    window_of(word)
 }
 
 /// Whether the word with another address has the same base and top (CSetAddr's test, by the exact rule).
 pub fn keeps_bounds(word: Word, address: u64) -> bool
-    ensures { IsTrue result ↔ KeepsBounds word.0 address }
+    ensures keeps { IsTrue result ↔ KeepsBounds word.0 address }
 {
-    match reach(word) {
+    match window_of(word) {
         None => true,
         Some((start, size)) => address.wrapping_sub(start) < size,
     }

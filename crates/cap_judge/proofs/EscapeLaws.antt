@@ -1,5 +1,6 @@
 -- Which first faults are refused by BoundsEscape.
 use Rattle.std.proofs.Common.{◌≡◌, ◌↔◌, ℕ, inl, inr, Bool, true, false, List, [], ◌∷◌, refl, sym, ap, subst, ◌∙◌, Some}
+use Rattle.std.proofs.Common.{Result, Ok, Err, IfOk}
 use Rattle.std.proofs.lemmas.Option.{same_Some}
 use Rattle.cap_log.specs.declared.lines.Line.{Line}
 use Rattle.cap_log.specs.declared.lines.Line.TheVariants as lines
@@ -22,7 +23,7 @@ use Rattle.cap_judge.specs.declared.verdict.Verdict.{Verdict}
 use Rattle.cap_judge.specs.declared.verdict.Verdict.TheVariants.{Yes, No}
 use Rattle.cap_judge.specs.Logs.{Beginning, Nothing, NoMode, Body, Whole, SpellsBy, account_after, line_tests}
 use Rattle.cap_judge.specs.Logs.{IsAccepted, RunsBy, RefusesLine, RefusesWhole, Refuses}
-use Rattle.cap_judge.specs.Verdicts.{EscapesExactly, FaultEscapes}
+use Rattle.cap_judge.specs.Verdicts.{EscapesExactly, FaultEscapes, NamesEscapes}
 use Rattle.cap_judge.proofs.LogLemmas.{last_state}
 use Rattle.cap_judge.proofs.JudgeLemmas.{are_sound, behind_header, steps_in_range}
 
@@ -123,3 +124,15 @@ fault_escapes (Whole rules_are roots steps) rest refusal accepted refused = (λ 
 pub escapes_exactly : (bytes : List ℕ) (verdict : Verdict) → EscapesExactly bytes verdict
 escapes_exactly bytes (Yes steps roots) = tt
 escapes_exactly bytes (No line refusal) = λ fault. fault_escapes fault.beginning fault.rest refusal fault.accepted fault.refused
+
+-- so the verdict of each judge names it
+pub named : (verdict : Verdict) → NamesEscapes verdict
+named verdict bytes = escapes_exactly bytes verdict
+
+pub names_escapes : {E : Type 0} (result : Result Verdict E) → IfOk result NamesEscapes
+names_escapes (Ok verdict) = named verdict
+names_escapes (Err fault) = tt
+
+pub escape_of : {E : Type 0} (bytes : List ℕ) (result : Result Verdict E) → IfOk result (EscapesExactly bytes)
+escape_of bytes (Ok verdict) = escapes_exactly bytes verdict
+escape_of bytes (Err fault) = tt

@@ -112,7 +112,7 @@ refused_behind bytes rest beginning line refusal here number unended refused = r
 -- a line that wants memory
 pub lacks : (bytes text more : List ℕ) (reading : Reading) (beginning : Beginning)
     → StandsFor reading beginning → WantsMemory beginning text
-    → bytes ≡ text_of (lines_of beginning) ++ text ++ 10 ∷ more → MayLackMemory bytes
+    → bytes ≡ text_of (lines_of beginning) ++ text ++ 10 ∷ more → MayLackMemory bytes more
 lacks bytes text more reading Nothing stands wants are = absurd wants
 lacks bytes text more reading NoMode stands wants are = absurd wants
 lacks bytes text more reading (Body rules_are roots steps) stands wants are = record {
@@ -121,7 +121,6 @@ lacks bytes text more reading (Body rules_are roots steps) stands wants are = re
   steps = steps;
   line = wants.line;
   text = text;
-  more = more;
   bytes_are = are;
   runs = stands.1.runs;
   spelled = subst (λ (r : Rules). SpellsBy r text wants.line) (account_after-grows rules_are roots steps).rules_stay wants.spelled;
@@ -131,7 +130,7 @@ lacks bytes text more reading (Body rules_are roots steps) stands wants are = re
 lacks bytes text more reading (Whole rules_are roots steps) stands wants are = absurd wants
 
 pub wants_memory : (bytes rest text more : List ℕ) (reading : Reading) (line : ℕ) → IsAt bytes reading rest line
-    → IsLine rest text more → EndsNext reading text NoMemory → MayLackMemory bytes
+    → IsLine rest text more → EndsNext reading text NoMemory → MayLackMemory bytes more
 wants_memory bytes rest text more reading line here whole ends =
     lacks bytes text more reading here.beginning here.stands (ends here.beginning here.stands)
     (here.bytes_are ∙ ap (λ (r : List ℕ). text_of (lines_of here.beginning) ++ r) whole.whole
@@ -142,18 +141,18 @@ not_new : (account : Account) (granule : Option ℕ) → granule ≡ None → is
 not_new account None none new = false≢true new
 not_new account (Some granule) none new = none-some granule (sym none)
 
-pub no_lack : (bytes : List ℕ) → NamesNoGranules bytes → MayLackMemory bytes → ⊥
-no_lack bytes none lack =
+pub no_lack : (bytes more : List ℕ) → NamesNoGranules bytes → MayLackMemory bytes more → ⊥
+no_lack bytes more none lack =
     let account = account_after lack.rules lack.roots lack.steps in
     let lines = body_lines lack.rules lack.roots lack.steps in
     not_new account (named_by_line account lack.line)
-    (none lines lack.text lack.more lack.line account lack.runs.grammar lack.bytes_are lack.spelled.0) lack.first
+    (none lines lack.text more lack.line account lack.runs.grammar lack.bytes_are lack.spelled.0) lack.first
 
 -- a log without lines that name granules has a verdict
 pub answered : (bytes : List ℕ) (result : Result Verdict JudgeFault) → IfErr result (IsFault bytes) → NamesNoGranules bytes → IsOk result
 answered bytes (Ok verdict) fault none = refl
 answered bytes (Err faults.Pull) fault none = absurd fault
-answered bytes (Err faults.NoMemory) fault none = absurd (no_lack bytes none fault)
+answered bytes (Err faults.NoMemory) fault none = absurd (no_lack bytes fault.0 none fault.1)
 
 -- after the end line
 yes_by : (bytes : List ℕ) (reading : Reading) (beginning : Beginning) → StandsFor reading beginning → reading.ended ≡ true

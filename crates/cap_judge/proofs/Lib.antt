@@ -6,7 +6,7 @@ mod FrontLemmas
 mod FaultLemmas
 mod JudgeLemmas
 mod VersionLemmas
-mod EscapeLaws
+pub mod EscapeLaws
 pub mod SourceLemmas
 mod StopLemmas
 mod HeaderLemmas

@@ -33,10 +33,9 @@ use Rattle.cap_judge.specs.declared.verdict.JudgeFault.{JudgeFault}
 use Rattle.cap_judge.specs.declared.verdict.JudgeFault.TheVariants.{Pull, NoMemory}
 use Rattle.cap_judge.specs.Logs.{Beginning, Nothing, NoMode, Body, Whole, header_lines, body_lines, lines_of, text_of}
 use Rattle.cap_judge.specs.Logs.{IsAccepted, RefusesWhole, IsFirstFault, MayLackMemory}
-use Rattle.cap_judge.specs.Verdicts.{answer_at, EscapesExactly, IsVerdict, IsFault}
+use Rattle.cap_judge.specs.Verdicts.{answer_at, IsVerdict, IsFault}
 use Rattle.cap_judge.specs.Progresses.{Reading, EndsNext, GoesOn, IsAt, IsLaterAt, HasRead}
 use Rattle.cap_judge.specs.Judgings.{IsVerdictOf, IsBehind, BeginsLog, IsAnswerOf, LeadsAfter, StopsIn, JudgedBy, IsNoYes, refusal_in}
-use Rattle.cap_judge.proofs.EscapeLaws.{escapes_exactly}
 use Rattle.cap_judge.proofs.JudgeLemmas.{IsUnended, RefusesFront, goes_on, behind, unended_here, refused_behind, wants_memory}
 use Rattle.cap_judge.proofs.JudgeLemmas.{misplaced, yes, leads, guarded, guards, no_lack}
 
@@ -121,17 +120,16 @@ answer_ok given ended verdict is =
     record {
       verdict = is;
       authority = guards given (guarded one_root lie_inside given) verdict;
-      escape = λ more. escapes_exactly (given ++ more) verdict;
       fault = tt;
       answers = λ none e. cc;
     }
 
-answer_memory : (given : List ℕ) (ended : Bool) → MayLackMemory given → IsAnswerOf given ended (Err NoMemory)
-answer_memory given ended lack =
-    record { verdict = tt; authority = tt; escape = tt; fault = lack; answers = λ none e. no_lack given none lack }
+answer_memory : (given more : List ℕ) (ended : Bool) → MayLackMemory given more → IsAnswerOf given ended (Err NoMemory)
+answer_memory given more ended lack =
+    record { verdict = tt; authority = tt; fault = (more, lack); answers = λ none e. no_lack given more none lack }
 
 answer_pull : (given : List ℕ) (ended : Bool) → BeginsLog given → IsAnswerOf given ended (Err Pull)
-answer_pull given ended is = record { verdict = tt; authority = tt; escape = tt; fault = is; answers = λ none e. cc }
+answer_pull given ended is = record { verdict = tt; authority = tt; fault = is; answers = λ none e. cc }
 
 -- an answer that is no yes, whatever the machine holds
 no_leads : (bytes : List ℕ) (held : Held) (result : Result Verdict JudgeFault) → IsNoYes result → IfOk result (LeadsAfter bytes held)
@@ -262,7 +260,7 @@ module _ {S : Type 0} {gave : S → S → List ℕ → Type 0} {ended : S → Bo
       line_met here.beginning line text refusal m here.line_is (unended_here given before reading line here unended)
       (refused here.beginning here.stands)
   line_ended text ends.NoMemory here m unended wants =
-      answer_memory m.given (ended new)
+      answer_memory m.given (kept lines) (ended new)
       (wants_memory m.given m.rest text.now (kept lines) reading line (at_met given before reading line here m) m.next.0 wants)
 
 -- after a line the lines are not over
@@ -304,7 +302,7 @@ module _ (reading : Reading) (line : ℕ) (before after : List ℕ) (known : Lin
         refused (spelling known) (taken.0, refl) here.beginning here.stands,
       )))))
   kept_ended ended ends.NoMemory unended wants =
-      answer_memory given ended
+      answer_memory given after ended
       (wants_memory given before (spelling known) after reading line here (kept_line before after known taken.0 taken.1)
       (wants (spelling known) (taken.0, refl)))
 
@@ -350,14 +348,13 @@ pub few_at : (bytes : List ℕ) (reading : Reading) (rest : List ℕ) (line : �
 few_at bytes reading rest line here =
     let is = behind bytes rest reading line here in omega (arith, here.line_is, few_lines here.beginning is.accepted)
 
-lack-more : (bytes more : List ℕ) → MayLackMemory bytes → MayLackMemory (bytes ++ more)
-lack-more bytes more lack = record {
+lack-more : (bytes behind more : List ℕ) → MayLackMemory bytes behind → MayLackMemory (bytes ++ more) (behind ++ more)
+lack-more bytes behind more lack = record {
   rules = lack.rules;
   roots = lack.roots;
   steps = lack.steps;
   line = lack.line;
   text = lack.text;
-  more = lack.more ++ more;
   bytes_are = ap (λ (l : List ℕ). l ++ more) lack.bytes_are ∙ simp (append_assoc);
   runs = lack.runs;
   spelled = lack.spelled;
@@ -377,7 +374,8 @@ whole_answer : (given rest : List ℕ) (ended : Bool) (result : Result Verdict J
     → IfOk result (IsVerdict (given ++ rest)) × IfErr result (IsFault (given ++ rest))
 whole_answer given rest ended (Ok verdict) end answer no_pull = (whole_verdict given rest ended verdict end answer.verdict, tt)
 whole_answer given rest ended (Err Pull) end answer no_pull = absurd (no_pull refl)
-whole_answer given rest ended (Err NoMemory) end answer no_pull = (tt, lack-more given rest answer.fault)
+whole_answer given rest ended (Err NoMemory) end answer no_pull =
+    (tt, (answer.fault.0 ++ rest, lack-more given answer.fault.0 rest answer.fault.1))
 
 -- what an answer for bytes given out of all bytes says of all
 pub of_all : (bytes given rest : List ℕ) (ended : Bool) (result : Result Verdict JudgeFault) → bytes ≡ given ++ rest
@@ -386,7 +384,3 @@ pub of_all : (bytes given rest : List ℕ) (ended : Bool) (result : Result Verdi
 of_all bytes given rest ended result are end answer no_pull =
     subst (λ (b : List ℕ). IfOk result (IsVerdict b) × IfErr result (IsFault b)) (sym are)
     (whole_answer given rest ended result end answer no_pull)
-
-pub escape_of : (bytes : List ℕ) (result : Result Verdict JudgeFault) → IfOk result (EscapesExactly bytes)
-escape_of bytes (Ok verdict) = escapes_exactly bytes verdict
-escape_of bytes (Err fault) = tt

@@ -20,7 +20,6 @@ use Rattle.cap_judge.specs.Logs.{text_of, Refuses}
 use Rattle.cap_judge.specs.Verdicts.{IsYes}
 use Rattle.cap_judge.specs.Judgings.{IsLastFront}
 use Rattle.cap_judge.specs.Standings.{Standing, IsAfter, TakesLine, EndsLine, Known, IsRest, IsFaultAt, Taken, BeginsWhole, Stands}
-use Rattle.cap_judge.proofs.EscapeLaws.{escapes_exactly}
 use Rattle.cap_judge.proofs.JudgeLemmas.{text_push}
 use Rattle.cap_judge.proofs.OneVerdict.{one_verdict}
 use Rattle.cap_judge.proofs.NextLemmas.{no_roots}
@@ -101,9 +100,9 @@ taken_behind known bytes line some taken = record {
 
 -- a line that wants memory
 pub taken_lacks : (known : Known) (bytes line : List ℕ) → known.fault ≡ None → EndsLine known.standing line NoMemory → Taken known bytes
-    → MayLackMemory (bytes ++ line)
+    → MayLackMemory (bytes ++ line) []
 taken_lacks known bytes line none wants taken =
-    subst (λ (b : List ℕ). MayLackMemory (b ++ line)) (sym (all_taken known bytes taken none)) (wants taken.beginning taken.after)
+    subst (λ (b : List ℕ). MayLackMemory (b ++ line) []) (sym (all_taken known bytes taken none)) (wants taken.beginning taken.after)
 
 -- the text of a line with its line feed, or of one that is too long
 pub fault_front : (line text : List ℕ) → IsFrontText line text → (IsCut line → ⊥) → IsLastFront line false text
@@ -130,8 +129,7 @@ first_fault known fault bytes some taken more =
 
 pub stands_no : (known : Known) (fault : Fault) (bytes : List ℕ) → known.fault ≡ Some fault → Taken known bytes
     → Stands bytes (Some (No fault.line fault.refusal))
-stands_no known fault bytes some taken =
-    (first_fault known fault bytes some taken, λ more. escapes_exactly (bytes ++ more) (No fault.line fault.refusal))
+stands_no known fault bytes some taken = first_fault known fault bytes some taken
 
 pub fault_now : (known : Known) (fault : Fault) (bytes : List ℕ) → known.fault ≡ Some fault → Taken known bytes
     → IsFirstFault bytes fault.line fault.refusal

@@ -1,17 +1,20 @@
 -- Bytes that do not begin with the line `capcheck 2` have a verdict by the rules of version 1.
-use Rattle.std.proofs.Common.{◌≡◌, ℕ, List, [], ◌∷◌, ◌++◌, length, map, refl, sym, ap, ◌∙◌, append-nil, arith, codes}
+use Rattle.std.proofs.Common.{◌≡◌, ◌↔◌, ℕ, inl, inr, List, [], ◌∷◌, ◌++◌, length, map, refl, sym, ap, subst, ◌∙◌, append-nil, arith, codes}
 use Rattle.std.proofs.lemmas.Fmt.{decimal_digit}
 use Rattle.cap_log.specs.declared.lines.Line.{Line}
 use Rattle.cap_log.specs.declared.lines.Line.TheVariants.{Version, Mode, Root, Step, End}
 use Rattle.cap_log.specs.declared.lines.Mode.TheVariants.{Strict, Clear}
 use Rattle.cap_log.specs.declared.lines.Step as steps_module
-use Rattle.cap_log.specs.Lines.{spelling}
+use Rattle.cap_log.specs.Lines.{Spells, spelling}
+use Rattle.cap_log.specs.Front.{IsLine}
+use Rattle.cap_ops.specs.declared.refusal.Refusal.{Refusal}
 use Rattle.cap_machine.specs.declared.rules.Rules.TheVariants.{One, TwoStrict, TwoClear}
 use Rattle.cap_machine.specs.States.{DeclaredRoot}
 use Rattle.cap_judge.specs.declared.verdict.Verdict.{Verdict}
 use Rattle.cap_judge.specs.declared.verdict.Verdict.TheVariants.{Yes, No}
-use Rattle.cap_judge.specs.Logs.{Beginning, Nothing, NoMode, Body, Whole, lines_of, text_of}
-use Rattle.cap_judge.specs.Verdicts.{IsVerdict, IsOfVersionOne, BeginsOne, IsByVersionOne}
+use Rattle.cap_judge.specs.Logs.{Beginning, Nothing, NoMode, Body, Whole, Refuses, lines_of, text_of}
+use Rattle.cap_judge.specs.Verdicts.{IsVerdict, IsOfVersionOne, BeginsOne, IsByVersionOne, RefusesOne, IsVerdictOne}
+use Rattle.cap_judge.proofs.JudgeLemmas.{text_push}
 
 -- a text that begins with the line of version 2
 not_two : (bytes rest : List ℕ) (lines : List Line) → IsOfVersionOne bytes → bytes ≡ text_of (Version 2 ∷ lines) ++ rest → ⊥
@@ -42,3 +45,62 @@ pub by_version_one : (bytes : List ℕ) (verdict : Verdict) → IsOfVersionOne b
 by_version_one bytes (Yes steps roots) one is =
     begins_one bytes [] (Whole is.rules is.roots is.steps) one (is.log.bytes_are ∙ sym (append-nil _))
 by_version_one bytes (No line refusal) one is = begins_one bytes is.rest is.beginning one is.bytes_are
+
+-- what is refused by all rules at the start of these bytes, and by version 1
+to_one : (rest : List ℕ) (beginning : Beginning) (refusal : Refusal) → Refuses beginning rest refusal → RefusesOne beginning rest refusal
+to_one rest Nothing refusal (inl long) = inl long
+to_one rest Nothing refusal (inr (inl cut)) = inr (inl cut)
+to_one rest Nothing refusal (inr (inr line)) = inr (inr (line.0, line.1, line.2, (line.3.0 1, line.3.1)))
+to_one rest NoMode refusal refused = refused
+to_one rest (Body rules_are roots steps) refusal refused = refused
+to_one rest (Whole rules_are roots steps) refusal refused = refused
+
+-- no version line of these bytes is another than that of version 1
+no_other : (bytes line more : List ℕ) → IsOfVersionOne bytes → IsLine bytes line more → (Spells line (Version 1) → ⊥)
+    → (version : ℕ) → Spells line (Version version) → ⊥
+no_other bytes line more one whole none version spells = elim (spells.0) [
+  | inl first ↦ none (subst (λ (v : ℕ). Spells line (Version v)) first spells)
+  | inr second ↦
+      not_two bytes more [] one
+      (whole.whole
+      ∙ ap (λ (t : List ℕ). t ++ 10 ∷ more) (subst (λ (v : ℕ). line ≡ spelling (Version v)) second spells.1)
+      ∙ sym (text_push [] (Version 2) more))
+]
+
+from_one : (bytes rest : List ℕ) (beginning : Beginning) (refusal : Refusal) → IsOfVersionOne bytes
+    → bytes ≡ text_of (lines_of beginning) ++ rest → RefusesOne beginning rest refusal → Refuses beginning rest refusal
+from_one bytes rest Nothing refusal one are (inl long) = inl long
+from_one bytes rest Nothing refusal one are (inr (inl cut)) = inr (inl cut)
+from_one bytes rest Nothing refusal one are (inr (inr line)) =
+    let whole = subst (λ (b : List ℕ). IsLine b line.0 line.1) (sym are) line.2 in
+    inr (inr (line.0, line.1, line.2, (no_other bytes line.0 line.1 one whole line.3.0, line.3.1)))
+from_one bytes rest NoMode refusal one are refused = refused
+from_one bytes rest (Body rules_are roots steps) refusal one are refused = refused
+from_one bytes rest (Whole rules_are roots steps) refusal one are refused = refused
+
+-- they have one verdict by both
+to_version : (bytes : List ℕ) (verdict : Verdict) → IsOfVersionOne bytes → IsVerdict bytes verdict → IsVerdictOne bytes verdict
+to_version bytes (Yes steps roots) one is = (is, by_version_one bytes (Yes steps roots) one is)
+to_version bytes (No line refusal) one is = record {
+  beginning = is.beginning;
+  rest = is.rest;
+  of_one = by_version_one bytes (No line refusal) one is;
+  bytes_are = is.bytes_are;
+  accepted = is.accepted;
+  number_is = is.number_is;
+  refused = to_one is.rest is.beginning refusal is.refused;
+}
+
+from_version : (bytes : List ℕ) (verdict : Verdict) → IsOfVersionOne bytes → IsVerdictOne bytes verdict → IsVerdict bytes verdict
+from_version bytes (Yes steps roots) one is = is.0
+from_version bytes (No line refusal) one is = record {
+  beginning = is.beginning;
+  rest = is.rest;
+  bytes_are = is.bytes_are;
+  accepted = is.accepted;
+  number_is = is.number_is;
+  refused = from_one bytes is.rest is.beginning refusal one is.bytes_are is.refused;
+}
+
+pub same_by_one : (bytes : List ℕ) (verdict : Verdict) → IsOfVersionOne bytes → IsVerdict bytes verdict ↔ IsVerdictOne bytes verdict
+same_by_one bytes verdict one = (to_version bytes verdict one, from_version bytes verdict one)

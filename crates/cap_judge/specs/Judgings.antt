@@ -16,7 +16,7 @@ use Rattle.cap_judge.specs.declared.verdict.JudgeFault.TheVariants.{Pull, NoMemo
 use Rattle.cap_judge.specs.Logs.{Beginning, Nothing, NoMode, Body, Whole, lines_of, text_of, account_after, IsAccepted, IsLogOf}
 use Rattle.cap_judge.specs.Logs.{IsFirstFault, MayLackMemory, NamesNoGranules}
 use Rattle.cap_judge.specs.Progresses.{IsAt, Reading}
-use Rattle.cap_judge.specs.Verdicts.{IsVerdict, EscapesExactly, GuardsAuthority}
+use Rattle.cap_judge.specs.Verdicts.{IsVerdict, GuardsAuthority}
 
 -- the verdict on these bytes, where their source has ended; where it has not, a no that stands whatever bytes follow
 abbrev pub IsVerdictOf : List ℕ → Bool → Verdict → Type 0
@@ -62,17 +62,16 @@ pub record BeginsLog (bytes : List ℕ) : Type 0 where
   pub behind : IsBehind bytes beginning rest
   pub cut : IsCut rest
 
--- why there is no verdict: the source failed behind whole lines that begin a log, or the memory for a granule that a line names for the
--- first time was refused
+-- why there is no verdict: the source failed behind whole lines that begin a log; or behind such lines one that no test refuses names a
+-- granule for the first time
 abbrev pub IsFaultOf : List ℕ → JudgeFault → Type 0
 IsFaultOf bytes Pull = BeginsLog bytes
-IsFaultOf bytes NoMemory = MayLackMemory bytes
+IsFaultOf bytes NoMemory = (more : List ℕ) × MayLackMemory bytes more
 
 -- what an answer says of the bytes given, and of whether their source has ended
 pub record IsAnswerOf (bytes : List ℕ) (ended : Bool) (result : Result Verdict JudgeFault) : Type 0 where
   pub verdict : IfOk result (IsVerdictOf bytes ended)
   pub authority : IfOk result (GuardsAuthority bytes)
-  pub escape : IfOk result (λ verdict. (more : List ℕ) → EscapesExactly (bytes ++ more) verdict)
   pub fault : IfErr result (IsFaultOf bytes)
   pub answers : NamesNoGranules bytes → result ≢ Err NoMemory
 

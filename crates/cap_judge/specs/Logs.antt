@@ -125,14 +125,13 @@ pub record IsFirstFault (bytes : List ℕ) (number : ℕ) (refusal : Refusal) : 
   pub refused : Refuses beginning rest refusal
 
 -- the bytes are the text of a body whose steps have a run, a line that no test refuses then and that names a granule for the first
--- time, and a rest
-pub record MayLackMemory (bytes : List ℕ) : Type 0 where
+-- time, and what comes behind it
+pub record MayLackMemory (bytes more : List ℕ) : Type 0 where
   pub rules : Rules
   pub roots : List DeclaredRoot
   pub steps : List steps_module.Step
   pub line : Line
   pub text : List ℕ
-  pub more : List ℕ
   pub bytes_are : bytes ≡ text_of (body_lines rules roots steps) ++ text ++ 10 ∷ more
   pub runs : RunsBy rules roots steps
   pub spelled : SpellsBy rules text line

@@ -10,7 +10,6 @@ use Rattle.cap_judge.specs.declared.stages.Stage.{Stage}
 use Rattle.cap_judge.specs.declared.stages.Stage.TheVariants as stages
 use Rattle.cap_judge.specs.declared.verdict.Verdict.{Verdict}
 use Rattle.cap_judge.specs.Logs.{Beginning, Nothing, NoMode, lines_of, text_of, IsAccepted, Refuses, MayLackMemory}
-use Rattle.cap_judge.specs.Verdicts.{EscapesExactly}
 use Rattle.cap_judge.specs.FaultLines.{bytes_of}
 use Rattle.cap_judge.specs.Progresses.{Reading, StandsFor, reading_of}
 use Rattle.cap_judge.specs.Judgings.{IsBehind, IsLastFront, IsVerdictOf}
@@ -53,7 +52,8 @@ TakesLine old line new = (beginning : Beginning) → IsAfter old beginning
 abbrev pub EndsLine : Standing → List ℕ → StepEnd → Type 0
 EndsLine standing line (Refused refusal) =
     (beginning : Beginning) → IsAfter standing beginning → (more : List ℕ) → Refuses beginning (line ++ more) refusal
-EndsLine standing line NoMemory = (beginning : Beginning) → IsAfter standing beginning → MayLackMemory (text_of (lines_of beginning) ++ line)
+EndsLine standing line NoMemory =
+    (beginning : Beginning) → IsAfter standing beginning → MayLackMemory (text_of (lines_of beginning) ++ line) []
 
 -- all that a judge knows: of the lines that it accepted, and of the one that is at fault
 pub record Known : Type 0 where
@@ -101,4 +101,4 @@ pub record BeginsWhole (bytes : List ℕ) : Type 0 where
 -- how a log that begins with these bytes stands: none of its lines so far is a fault, or there is a no that stands whatever bytes follow
 abbrev pub Stands : List ℕ → Option Verdict → Type 0
 Stands bytes None = BeginsWhole bytes
-Stands bytes (Some verdict) = IsVerdictOf bytes false verdict × ((more : List ℕ) → EscapesExactly (bytes ++ more) verdict)
+Stands bytes (Some verdict) = IsVerdictOf bytes false verdict

@@ -1,12 +1,14 @@
 -- The verdict on some bytes.
-use Rattle.std.specs.Prelude.{◌≡◌, ◌≢◌, ◌↔◌, ℕ, List, ◌++◌, length, codes, Result, Ok, Err}
+use Rattle.std.specs.Prelude.{◌≡◌, ◌≢◌, ◌↔◌, ℕ, ◌+◌, List, ◌++◌, length, codes, Result, Ok, Err}
 use Rattle.cap_machine.specs.declared.ends.StepEnd.{StepEnd}
 use Rattle.cap_machine.specs.declared.ends.StepEnd.TheVariants.{Refused}
 use Rattle.cap_machine.specs.declared.ends.StepEnd.TheVariants as ends
-use Rattle.cap_log.specs.declared.lines.Line.TheVariants.{Step as Stepping}
+use Rattle.cap_log.specs.declared.lines.Line.TheVariants.{Version, Step as Stepping}
 use Rattle.cap_log.specs.declared.lines.Step.{Step}
-use Rattle.cap_log.specs.Front.{IsLine}
-use Rattle.cap_ops.specs.declared.refusal.Refusal.TheVariants.{BoundsEscape}
+use Rattle.cap_log.specs.Front.{FrontIs, IsLine}
+use Rattle.cap_log.specs.Lines.{Spells}
+use Rattle.cap_ops.specs.declared.refusal.Refusal.{Refusal}
+use Rattle.cap_ops.specs.declared.refusal.Refusal.TheVariants.{BadHeader, BoundsEscape, LineTooLong, Truncated}
 use Rattle.cap_machine.specs.Escapes.{Escapes}
 use Rattle.cap_machine.specs.declared.rules.Rules.{Rules}
 use Rattle.cap_machine.specs.declared.rules.Rules.TheVariants.{One}
@@ -16,7 +18,8 @@ use Rattle.cap_judge.specs.declared.verdict.Verdict.{Verdict}
 use Rattle.cap_judge.specs.declared.verdict.Verdict.TheVariants.{Yes, No}
 use Rattle.cap_judge.specs.declared.verdict.JudgeFault.{JudgeFault}
 use Rattle.cap_judge.specs.declared.verdict.JudgeFault.TheVariants.{Pull, NoMemory}
-use Rattle.cap_judge.specs.Logs.{Beginning, Nothing, NoMode, Body, Whole, SpellsBy, account_after, IsLogOf, IsFirstFault, MayLackMemory}
+use Rattle.cap_judge.specs.Logs.{Beginning, Nothing, NoMode, Body, Whole, SpellsBy, account_after, lines_of, text_of, IsAccepted, IsLogOf}
+use Rattle.cap_judge.specs.Logs.{Refuses, IsFirstFault, MayLackMemory}
 
 -- the bytes are a log of so many steps and roots, whose steps have a run
 pub record IsYes (bytes : List ℕ) (step_count root_count : ℕ) : Type 0 where
@@ -42,10 +45,10 @@ abbrev pub GuardsAuthority : List ℕ → Verdict → Type 0
 GuardsAuthority bytes (Yes steps roots) = IsGuarded bytes
 GuardsAuthority bytes (No line refusal) = Unit {0}
 
--- why there is no verdict: the memory for a granule that a line names for the first time was refused
+-- why there is no verdict: behind lines that begin a log, one that no test refuses names a granule for the first time
 abbrev pub IsFault : List ℕ → JudgeFault → Type 0
 IsFault bytes Pull = ⊥
-IsFault bytes NoMemory = MayLackMemory bytes
+IsFault bytes NoMemory = (more : List ℕ) × MayLackMemory bytes more
 
 -- what a line that the machine does not take makes the answer
 abbrev pub answer_at : ℕ → StepEnd → Result Verdict JudgeFault
@@ -68,6 +71,27 @@ abbrev pub IsByVersionOne : (bytes : List ℕ) (verdict : Verdict) → IsVerdict
 IsByVersionOne bytes (Yes steps roots) log = log.rules ≡ One
 IsByVersionOne bytes (No line refusal) fault = BeginsOne fault.beginning
 
+-- what follows a beginning is refused by version 1, whose header is its version line alone
+abbrev pub RefusesOne : Beginning → List ℕ → Refusal → Type 0
+RefusesOne Nothing rest refusal =
+    FrontIs rest (refusal ≡ LineTooLong) (refusal ≡ Truncated) (λ line. (Spells line (Version 1) → ⊥) × (refusal ≡ BadHeader))
+RefusesOne beginning rest refusal = Refuses beginning rest refusal
+
+-- the first fault by version 1
+pub record IsFirstFaultOne (bytes : List ℕ) (number : ℕ) (refusal : Refusal) : Type 0 where
+  pub beginning : Beginning
+  pub rest : List ℕ
+  pub of_one : BeginsOne beginning
+  pub bytes_are : bytes ≡ text_of (lines_of beginning) ++ rest
+  pub accepted : IsAccepted beginning
+  pub number_is : number ≡ length (lines_of beginning) + 1
+  pub refused : RefusesOne beginning rest refusal
+
+-- the verdict by version 1, which knows of no other
+abbrev pub IsVerdictOne : List ℕ → Verdict → Type 0
+IsVerdictOne bytes (Yes steps roots) = (log : IsYes bytes steps roots) × (log.rules ≡ One)
+IsVerdictOne bytes (No line refusal) = IsFirstFaultOne bytes line refusal
+
 -- the line at fault is a step that asks for bounds beyond those of its tagged, unsealed source, in what the log has led to
 abbrev pub FaultEscapes : Beginning → List ℕ → Type 0
 FaultEscapes Nothing rest = ⊥
@@ -83,3 +107,7 @@ abbrev pub EscapesExactly : List ℕ → Verdict → Type 0
 EscapesExactly bytes (Yes steps roots) = Unit {0}
 EscapesExactly bytes (No line refusal) =
     (fault : IsFirstFault bytes line refusal) → (refusal ≡ BoundsEscape) ↔ FaultEscapes fault.beginning fault.rest
+
+-- the same, whatever bytes the verdict is of
+abbrev pub NamesEscapes : Verdict → Type 0
+NamesEscapes verdict = (bytes : List ℕ) → EscapesExactly bytes verdict

@@ -1,12 +1,12 @@
 //! A judge that is given the lines of a log one by one, and knows of each at once whether it is at fault.
 
-ghost use Rattle.std.specs.Prelude.{◌≡◌, ◌↔◌, ◌<◌, ◌≤◌, ◌^◌, ℕ, List, [], ◌++◌, Err, None, OnOk, IfErr};
+ghost use Rattle.std.specs.Prelude.{◌≡◌, ◌↔◌, ◌<◌, ◌≤◌, ◌^◌, ℕ, List, [], ◌++◌, Err, None, OnOk, IfErr, IfSome};
 ghost use Rattle.std.specs.FinMap as map;
 ghost use Rattle.cap_log.specs.Front.{IsCut, IsLine, IsTooLong};
 ghost use Rattle.cap_machine.specs.States.{granule_key};
 ghost use Rattle.cap_machine.specs.declared.ends.StepEnd.TheVariants.{Refused};
 ghost use Rattle.cap_judge.specs.Logs.{MayLackMemory};
-ghost use Rattle.cap_judge.specs.Verdicts.{EscapesExactly, GuardsAuthority, IsVerdict};
+ghost use Rattle.cap_judge.specs.Verdicts.{EscapesExactly, GuardsAuthority, IsVerdict, NamesEscapes};
 ghost use Rattle.cap_judge.specs.Judgings.{account_before};
 ghost use Rattle.cap_judge.specs.Expectations.{Expects};
 ghost use Rattle.cap_judge.specs.Standings.{BeginsWhole, EndsLine, HasTaken, IsNoLine, Stands, known_of, standing_of};
@@ -62,9 +62,9 @@ impl<M: TaggedStore> Judge<M> {
         ensures unchanged { IfErr result (λ _. known_of M.contents self.new ≡ known_of M.contents self.old) }
         ensures no_line { (result ≡ Err NoLine) ↔ IsNoLine line.now }
 
-        // Memory is wanted only where a line that no test refuses names a granule for the first time.
+        // Memory is wanted only where this very line, which no test refuses, names a granule for the first time.
         ensures no_memory { result ≡ Err NoMemory → (bytes : List ℕ) → HasTaken M.contents self.old bytes
-            → MayLackMemory (bytes ++ line.now) }
+            → MayLackMemory (bytes ++ line.now) [] }
     {
         if self.fault.is_none() {
             match self.stage.take_alone(line) {
@@ -81,6 +81,7 @@ impl<M: TaggedStore> Judge<M> {
     pub fn answer(&self) -> Option<Verdict>
         ensures stands { (bytes : List ℕ) → HasTaken M.contents self.now bytes → Stands bytes result }
         ensures none { (bytes : List ℕ) → HasTaken M.contents self.now bytes → BeginsWhole bytes → result ≡ None }
+        ensures escape { IfSome result NamesEscapes }
     {
         match &self.fault {
             Some(fault) => Some(fault.verdict()),
@@ -140,7 +141,7 @@ impl<M: TaggedStore> Judge<M> {
         ensures unchanged { IfErr result (λ _. known_of M.contents self.new ≡ known_of M.contents self.old) }
         ensures no_line { (result ≡ Err NoLine) ↔ IsNoLine line.now }
         ensures no_memory { result ≡ Err NoMemory → (bytes : List ℕ) → HasTaken M.contents self.old bytes
-            → MayLackMemory (bytes ++ line.now) }
+            → MayLackMemory (bytes ++ line.now) [] }
     {
         match front(line) {
             Front::Line(length) => {
@@ -165,7 +166,7 @@ impl<M: TaggedStore> Judge<M> {
             → HasTaken M.contents self.new (bytes ++ line.now)) }
         ensures unchanged { IfErr result (λ _. known_of M.contents self.new ≡ known_of M.contents self.old) }
         ensures no_memory { IfErr result (λ fault. (fault ≡ NoMemory) × ((bytes : List ℕ) → HasTaken M.contents self.old bytes
-            → MayLackMemory (bytes ++ line.now))) }
+            → MayLackMemory (bytes ++ line.now) [])) }
     {
         if self.fault.is_some() {
             return Ok(());
@@ -186,7 +187,7 @@ impl<M: TaggedStore> Judge<M> {
             → HasTaken M.contents self.new (bytes ++ line.now)) }
         ensures unchanged { IfErr result (λ _. known_of M.contents self.new ≡ known_of M.contents self.old) }
         ensures no_memory { IfErr result (λ fault. (fault ≡ NoMemory) × ((bytes : List ℕ) → HasTaken M.contents self.old bytes
-            → MayLackMemory (bytes ++ line.now))) }
+            → MayLackMemory (bytes ++ line.now) [])) }
     {
         match end {
             StepEnd::NoMemory => Err(TakeFault::NoMemory),

@@ -1,12 +1,13 @@
 //! The judge that explains a no: what the machine held before the line that was refused.
 
-ghost use Rattle.std.specs.Prelude.{◌≡◌, ◌≢◌, ℕ, List, ◌++◌, take, true, Err, OnOk, OnErr};
+ghost use Rattle.std.specs.Prelude.{◌≡◌, ◌≢◌, ℕ, List, ◌++◌, take, true, Err, IfOk, OnOk, OnErr};
 ghost use Rattle.std.specs.FinMap as map;
 ghost use Rattle.cap_log.specs.Streams.{next_count};
 ghost use Rattle.cap_machine.specs.Helds.{account_of, held_of};
 ghost use Rattle.cap_judge.specs.FaultLines.{bytes_of};
 ghost use Rattle.cap_judge.specs.FaultReports.{IsLineReport};
 ghost use Rattle.cap_judge.specs.VerdictLines.{verdict_line};
+ghost use Rattle.cap_judge.specs.Verdicts.{NamesEscapes};
 ghost use Rattle.cap_judge.specs.Whys.{Explained, IsWhyText};
 ghost use Rattle.cap_judge.specs.declared.verdict.JudgeToFault.TheVariants.{Pull, Push};
 
@@ -33,6 +34,9 @@ pub fn judge_why<S: Source, K: Sink>(
 ) -> Result<Verdict, JudgeToFault>
     ensures explained { Explained origins true S.gave S.ended K.took source.old source.new sink.old sink.new result }
 
+    // Whatever bytes it is the verdict of, a no names `BoundsEscape` exactly as `judge_bytes` says.
+    ensures escape { IfOk result NamesEscapes }
+
     // Each fault of the source or the sink ends the call, and nothing else counts one.
     ensures counted { result ≢ Err Pull → S.faults source.new ≡ S.faults source.old }
     ensures pull_counted { result ≡ Err Pull → S.faults source.new ≡ next_count (S.faults source.old) }
@@ -51,6 +55,7 @@ pub fn judge_why_in<S: Source, M: TaggedStore, K: Sink>(
 ) -> Result<Verdict, JudgeToFault>
     requires { map.len (M.contents memory) ≡ 0 }
     ensures explained { Explained origins true S.gave S.ended K.took source.old source.new sink.old sink.new result }
+    ensures escape { IfOk result NamesEscapes }
     ensures counted { result ≢ Err Pull → S.faults source.new ≡ S.faults source.old }
     ensures pull_counted { result ≡ Err Pull → S.faults source.new ≡ next_count (S.faults source.old) }
     ensures sink_counted { result ≢ Err Push → K.faults sink.new ≡ K.faults sink.old }

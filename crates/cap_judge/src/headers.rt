@@ -1,6 +1,6 @@
 //! The header of a log: its version line, and for version 2 its mode line.
 
-ghost use Rattle.std.specs.Prelude.{◌≡◌, ◌≢◌, ◌+◌, ℕ, [], length, Ok, Err, None, MatchResult, IfSome, IfNone, IfErr, OnOk};
+ghost use Rattle.std.specs.Prelude.{◌≡◌, ◌≢◌, ◌+◌, ℕ, [], length, Ok, Err, None, MatchResult, IfSome, IfNone, IfErr, IfOk, OnOk};
 ghost use Rattle.cap_log.specs.Lines.{Spells};
 ghost use Rattle.cap_log.specs.declared.lines.Line.TheVariants as lines;
 ghost use Rattle.cap_log.specs.declared.lines.Mode.{Mode as ModeNamed};
@@ -12,6 +12,7 @@ ghost use Rattle.cap_judge.specs.FaultLines.{IsFrontText, bytes_of};
 ghost use Rattle.cap_judge.specs.Headers.{ReadsHeader, rules_of};
 ghost use Rattle.cap_judge.specs.Judgings.{IsNoYes, Judged, JudgedBy};
 ghost use Rattle.cap_judge.specs.Logs.{header_lines};
+ghost use Rattle.cap_judge.specs.Verdicts.{NamesEscapes};
 ghost use Rattle.cap_judge.specs.declared.verdict.JudgeFault.TheVariants.{Pull};
 ghost use Rattle.cap_judge.specs.declared.verdict.Verdict.TheVariants.{No};
 
@@ -31,6 +32,7 @@ pub fn read_header<S: Source>(
     ensures read { MatchResult result
         (λ rules. ReadsHeader S.gave source.old source.new lines.new rules)
         (λ answer. IsNoYes answer × Judged S.gave S.ended source.old source.new answer) }
+    ensures escape { IfErr result (λ answer. IfOk answer NamesEscapes) }
     ensures counted { result ≢ Err (Err Pull) → S.faults source.new ≡ S.faults source.old }
     ensures fault_counted { result ≡ Err (Err Pull) → S.faults source.new ≡ next_count (S.faults source.old) }
 {

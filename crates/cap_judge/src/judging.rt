@@ -6,7 +6,7 @@ ghost use Rattle.cap_machine.specs.Helds.{held_of};
 ghost use Rattle.cap_log.specs.Streams.{next_count};
 ghost use Rattle.cap_log.specs.Takings.{kept, over_of};
 ghost use Rattle.cap_judge.specs.Logs.{NamesNoGranules};
-ghost use Rattle.cap_judge.specs.Verdicts.{EscapesExactly, GuardsAuthority, IsFault, IsVerdict, answer_at};
+ghost use Rattle.cap_judge.specs.Verdicts.{EscapesExactly, GuardsAuthority, IsFault, IsVerdict, NamesEscapes, answer_at};
 ghost use Rattle.cap_judge.specs.Judgings.{AnswersAt, IsNoYes, Judged, JudgedBy, StopsAt, finished, refusal_in};
 ghost use Rattle.cap_judge.specs.FaultLines.{bytes_of};
 ghost use Rattle.cap_judge.specs.Progresses.{HasRead, IsAt, IsLaterAt, reading_of};
@@ -52,6 +52,9 @@ pub fn judge_bytes(alloc: Global, bytes: &[u8]) -> Result<Verdict, JudgeFault>
 pub fn judge<S: Source>(alloc: Global, source: &mut S) -> Result<Verdict, JudgeFault>
     ensures judged { Judged S.gave S.ended source.old source.new result }
 
+    // Whatever bytes it is the verdict of, a no names `BoundsEscape` exactly as `judge_bytes` says.
+    ensures escape { IfOk result NamesEscapes }
+
     // A fault of the source ends the call, and nothing else counts one.
     ensures counted { result ≢ Err Pull → S.faults source.new ≡ S.faults source.old }
     ensures fault_counted { result ≡ Err Pull → S.faults source.new ≡ next_count (S.faults source.old) }
@@ -63,6 +66,7 @@ pub fn judge<S: Source>(alloc: Global, source: &mut S) -> Result<Verdict, JudgeF
 pub fn judge_in<S: Source, M: TaggedStore>(source: &mut S, memory: M) -> Result<Verdict, JudgeFault>
     requires { map.len (M.contents memory) ≡ 0 }
     ensures judged { Judged S.gave S.ended source.old source.new result }
+    ensures escape { IfOk result NamesEscapes }
     ensures counted { result ≢ Err Pull → S.faults source.new ≡ S.faults source.old }
     ensures fault_counted { result ≡ Err Pull → S.faults source.new ≡ next_count (S.faults source.old) }
 {

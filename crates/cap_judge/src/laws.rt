@@ -11,7 +11,7 @@ ghost use Rattle.cap_machine.specs.Escapes.{ClearsExactly};
 ghost use Rattle.cap_judge.specs.Logs.{Beginning, IsAccepted, IsLogOf, lines_of};
 ghost use Rattle.cap_judge.specs.Turns.{Reads, Stage, Unread};
 ghost use Rattle.cap_judge.specs.declared.verdict.Verdict.{Verdict};
-ghost use Rattle.cap_judge.specs.Verdicts.{IsByVersionOne, IsGuarded, IsOfVersionOne, IsVerdict};
+ghost use Rattle.cap_judge.specs.Verdicts.{IsByVersionOne, IsGuarded, IsOfVersionOne, IsVerdict, IsVerdictOne, NamesEscapes};
 
 /// Whatever bytes are read: where they are a log whose steps have a run, then along it, at every moment,
 /// each tagged capability in a register or memory has bounds inside and permissions among those of the
@@ -28,11 +28,20 @@ pub fn logs_clear_exactly()
         → IsLogOf bytes rules roots steps → IsRun rules (start roots) steps states → ClearsExactly rules roots steps states }
 {}
 
+/// Whatever bytes a verdict is of: where it is a no, it names `BoundsEscape` exactly where its line is a step
+/// that asks, by strict rules, for bounds beyond those of its tagged, unsealed source, before any rounding.
+pub fn escapes_are_named_exactly()
+    ensures exact { (verdict : Verdict) → NamesEscapes verdict }
+{}
+
 /// Bytes that do not begin with the line `capcheck 2` have the verdict of version 1: it speaks of beginnings
-/// of logs of version 1 alone, by the rules of version 1.
+/// of logs of version 1 alone, and they have no other verdict than by the rules of version 1, which knows no
+/// other header than its own.
 pub fn other_bytes_are_of_version_one()
-    ensures { (bytes : List ℕ) (verdict : Verdict) → IsOfVersionOne bytes
+    ensures of_one { (bytes : List ℕ) (verdict : Verdict) → IsOfVersionOne bytes
         → (is : IsVerdict bytes verdict) → IsByVersionOne bytes verdict is }
+    ensures same { (bytes : List ℕ) (verdict : Verdict) → IsOfVersionOne bytes
+        → IsVerdict bytes verdict ↔ IsVerdictOne bytes verdict }
 {}
 
 /// A beginning of a log is accepted exactly where its lines are in range and each is allowed in its turn: no

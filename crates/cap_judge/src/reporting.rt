@@ -1,10 +1,11 @@
 //! The judges that write into a sink: the verdict, and the origins of a log's last state.
 
-ghost use Rattle.std.specs.Prelude.{◌≡◌, ◌≢◌, ℕ, take, Err, OnOk, OnErr, true, false};
+ghost use Rattle.std.specs.Prelude.{◌≡◌, ◌≢◌, ℕ, take, Err, IfOk, OnOk, OnErr, true, false};
 ghost use Rattle.std.specs.FinMap as map;
 ghost use Rattle.cap_log.specs.Streams.{next_count};
 ghost use Rattle.cap_machine.specs.Helds.{held_of};
 ghost use Rattle.cap_judge.specs.OriginLists.{report_text};
+ghost use Rattle.cap_judge.specs.Verdicts.{NamesEscapes};
 ghost use Rattle.cap_judge.specs.Whys.{Explained};
 ghost use Rattle.cap_judge.specs.VerdictLines.{verdict_line};
 ghost use Rattle.cap_judge.specs.declared.verdict.JudgeToFault.TheVariants.{Pull, Push};
@@ -25,6 +26,9 @@ pub fn judge_to<S: Source, K: Sink>(
     sink: &mut K,
 ) -> Result<Verdict, JudgeToFault>
     ensures reported { Explained false false S.gave S.ended K.took source.old source.new sink.old sink.new result }
+
+    // Whatever bytes it is the verdict of, a no names `BoundsEscape` exactly as `judge_bytes` says.
+    ensures escape { IfOk result NamesEscapes }
 
     // Each fault of the source or the sink ends the call, and nothing else counts one.
     ensures counted { result ≢ Err Pull → S.faults source.new ≡ S.faults source.old }
@@ -47,6 +51,9 @@ pub fn judge_origins<S: Source, K: Sink>(
 ) -> Result<Verdict, JudgeToFault>
     ensures reported { Explained true false S.gave S.ended K.took source.old source.new sink.old sink.new result }
 
+    // Whatever bytes it is the verdict of, a no names `BoundsEscape` exactly as `judge_bytes` says.
+    ensures escape { IfOk result NamesEscapes }
+
     // Each fault of the source or the sink ends the call, and nothing else counts one.
     ensures counted { result ≢ Err Pull → S.faults source.new ≡ S.faults source.old }
     ensures pull_counted { result ≡ Err Pull → S.faults source.new ≡ next_count (S.faults source.old) }
@@ -64,6 +71,7 @@ pub fn judge_origins_in<S: Source, M: TaggedStore, K: Sink>(
 ) -> Result<Verdict, JudgeToFault>
     requires { map.len (M.contents memory) ≡ 0 }
     ensures reported { Explained true false S.gave S.ended K.took source.old source.new sink.old sink.new result }
+    ensures escape { IfOk result NamesEscapes }
     ensures counted { result ≢ Err Pull → S.faults source.new ≡ S.faults source.old }
     ensures pull_counted { result ≡ Err Pull → S.faults source.new ≡ next_count (S.faults source.old) }
     ensures sink_counted { result ≢ Err Push → K.faults sink.new ≡ K.faults sink.old }

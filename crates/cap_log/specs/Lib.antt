@@ -9,4 +9,5 @@ pub mod Spaceless
 pub mod Streams
 pub mod Takings
 pub mod Windows
+pub mod Wrapped
 pub mod Written

@@ -32,7 +32,7 @@ IsNext bytes ended left over (Ok LineTooLong) = IsTooLong bytes × (over ≡ Som
 IsNext bytes ended left over (Ok Truncated) =
     IsCut bytes × (bytes ≢ []) × (ended ≡ true) × (over ≡ Some overs.Truncated) × (left ≡ bytes)
 IsNext bytes ended left over (Ok Finished) = (bytes ≡ []) × (ended ≡ true) × (over ≡ Some overs.Finished) × (left ≡ bytes)
-IsNext bytes ended left over (Err fault) = IsCut bytes × (over ≡ Some overs.Failed) × (ended ≡ false)
+IsNext bytes ended left over (Err fault) = IsCut bytes × (over ≡ Some overs.Failed) × (ended ≡ false) × (left ≡ bytes)
 
 -- the answer of a call, of the bytes that were kept followed by those given in the call
 pub record Answered {S : Type 0} (gave : S → S → List ℕ → Type 0) (ended : S → Bool) (old new : S) (before : List ℕ) (lines : Lines)

@@ -10,7 +10,7 @@ use cap_word::{Word, word_text};
 /// changes.
 pub fn put(buffer: &mut [u8], at: usize, text: &[u8]) -> usize
     requires { at + length text.now ≤ length buffer.old }
-    ensures { Writes at text.now buffer.old buffer.new result }
+    ensures written { Writes at text.now buffer.old buffer.new result }
 {
     let end = at + text.len();
     buffer[at..end].copy_from_slice(text);

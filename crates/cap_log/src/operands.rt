@@ -39,7 +39,7 @@ pub trait Operands: Copy {
 
     /// The step that has them.
     fn into_step(self) -> Step
-        ensures { result ≡ step self };
+        ensures step { result ≡ step self };
 }
 
 /// Takes what stands behind a line's head and its space, with the line feed: the line, and what comes

@@ -32,7 +32,7 @@ pub trait Part: Copy {
     fn write(&self, buffer: &mut [u8], at: usize) -> usize
         requires in_range { fits self.now }
         requires room { at + length (spelled self.now) ≤ length buffer.old }
-        ensures { Writes at (spelled self.now) buffer.old buffer.new result };
+        ensures written { Writes at (spelled self.now) buffer.old buffer.new result };
 }
 
 /// A part that is one word: no value's bytes have a space.

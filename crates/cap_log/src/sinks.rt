@@ -1,6 +1,6 @@
 //! Where bytes go.
 
-ghost use Rattle.std.specs.Prelude.{◌≡◌, ℕ, ◌≤◌, ◌<◌, List, [], ◌++◌, length, take, IfOk, OnOk, OnErr};
+ghost use Rattle.std.specs.Prelude.{◌≡◌, ℕ, ◌≤◌, ◌<◌, ◌^◌, List, [], ◌++◌, length, take, IfOk, OnOk, OnErr};
 ghost use Rattle.cap_log.specs.Streams.{next_count};
 
 pub mod failing;
@@ -31,6 +31,9 @@ pub trait Sink {
 
     /// Nothing is taken where nothing is pushed.
     ghost nothing: { (s : Self) → took s s [] };
+
+    /// The count fits 64 bits.
+    ghost faults_fit: { (s : Self) → faults s < 2 ^ 64 };
 
     /// What is taken in two calls in a row.
     ghost joined: { (a b c : Self) (xs ys : List ℕ) → took a b xs → took b c ys → took a c (xs ++ ys) };

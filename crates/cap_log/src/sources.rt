@@ -1,6 +1,6 @@
 //! Where bytes come from.
 
-ghost use Rattle.std.specs.Prelude.{◌≡◌, ℕ, ◌≤◌, Bool, false, List, [], ◌++◌, length, take, IfOk, OnOk, OnErr};
+ghost use Rattle.std.specs.Prelude.{◌≡◌, ℕ, ◌≤◌, ◌<◌, ◌^◌, Bool, false, List, [], ◌++◌, length, take, IfOk, OnOk, OnErr};
 ghost use Rattle.cap_log.specs.Streams.{next_count, is_end};
 
 pub mod failing;
@@ -35,6 +35,9 @@ pub trait Source {
 
     /// Nothing is handed out where nothing is pulled.
     ghost nothing: { (s : Self) → gave s s [] };
+
+    /// The count fits 64 bits.
+    ghost faults_fit: { (s : Self) → faults s < 2 ^ 64 };
 
     /// What is handed out in two calls in a row.
     ghost joined: { (a b c : Self) (xs ys : List ℕ) → gave a b xs → gave b c ys → gave a c (xs ++ ys) };

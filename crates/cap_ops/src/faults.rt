@@ -42,7 +42,7 @@ impl OpFault {
 
     /// The number of the refusal, 9 to 22.
     pub fn number(&self) -> u8
-        ensures { result ≡ fault_number self.now }
+        ensures value { result ≡ fault_number self.now }
     {
         Refusal::from(*self).number()
     }

@@ -14,7 +14,7 @@ use cap_word::{Cap, Word};
 /// The permissions in the architectural view: bits 0 to 11 as in the word's field, and the four for users
 /// at bits 15 to 18 (Sail CHERI-RISC-V: `getCapPerms`).
 pub fn perm_view(word: Word) -> u32
-    ensures { result ≡ perm_view_of word.0 }
+    ensures value { result ≡ perm_view_of word.0 }
 {
     let field = u32::from(word.permissions());
     (field & 0xfff) + ((field >> 12) << 15)

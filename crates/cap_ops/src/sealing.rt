@@ -23,7 +23,7 @@ const GREATEST_TYPE: u32 = 0x3_fffb;
 /// Whether a word is sealed: its object type is not `0x3ffff` (Sail CHERI-RISC-V: `isCapSealed`).
 #[tactic(auto, unfolding(crate::specs::Permissions::is_sealed))]
 pub fn sealed(word: Word) -> bool
-    ensures { result ≡ is_sealed word.0 }
+    ensures value { result ≡ is_sealed word.0 }
 {
     word.object_type() != UNSEALED_TYPE
 }

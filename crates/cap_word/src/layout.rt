@@ -11,7 +11,7 @@ impl Word {
     /// The permissions: bits 0 to 11 architectural, 12 to 15 for users.
     #[inline(always)]
     pub fn permissions(self) -> u16
-        ensures { result ≡ perms_of self.0 }
+        ensures value { result ≡ perms_of self.0 }
     {
         (self.0 >> 112) as u16
     }
@@ -19,7 +19,7 @@ impl Word {
     /// The object type, 18 bits; `0x3ffff` is unsealed.
     #[inline(always)]
     pub fn object_type(self) -> u32
-        ensures { result ≡ otype_of self.0 }
+        ensures value { result ≡ otype_of self.0 }
     {
         ((self.0 >> 91) & 0x3_ffff) as u32
     }
@@ -27,7 +27,7 @@ impl Word {
     /// The address.
     #[inline(always)]
     pub fn address(self) -> u64
-        ensures { result ≡ address_of self.0 }
+        ensures value { result ≡ address_of self.0 }
     {
         (self.0 & 0xffff_ffff_ffff_ffff) as u64
     }

@@ -42,7 +42,7 @@ pub fn take_word(bytes: &[u8]) -> Option<(Word, &[u8])>
 
 /// The text of a word: the 32 lower-case hexadecimal digits of its register layout.
 pub fn word_text(word: Word) -> [u8; 32]
-    ensures { result ≡ hex_digits 32 word.0 }
+    ensures digits { result ≡ hex_digits 32 word.0 }
 {
     let mut text = [0u8; 32];
     let _written = hex::encode_to_slice(word.0.to_be_bytes(), &mut text);

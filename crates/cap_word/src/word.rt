@@ -20,7 +20,7 @@ pub struct Cap {
 /// The word of NULL: no permissions, unsealed, the whole address space, address 0.
 /// Memory that holds it is sixteen zero bytes.
 pub fn null() -> Word
-    ensures { result.0 ≡ null_word }
+    ensures value { result.0 ≡ null_word }
 {
     Word(0x0000_1fff_fc01_8004_0000_0000_0000_0000)
 }

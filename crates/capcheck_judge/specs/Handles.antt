@@ -13,7 +13,7 @@ use Rattle.cap_judge.specs.declared.verdict.Verdict.{Verdict}
 use Rattle.cap_judge.specs.Expectations.{Expects}
 use Rattle.cap_judge.specs.Judgings.{account_before}
 use Rattle.cap_judge.specs.Standings.{BeginsWhole, HasTaken, Known, Stands, known_of}
-use Rattle.cap_judge.specs.Verdicts.{IsVerdict, GuardsAuthority, EscapesExactly}
+use Rattle.cap_judge.specs.Verdicts.{IsVerdict, GuardsAuthority}
 use Rattle.capcheck_judge.specs.Answers.{numbers_of, without_verdict}
 use Rattle.capcheck_judge.specs.declared.answers.Answer.{Answer}
 use Rattle.capcheck_judge.specs.declared.answers.Given.{Given}
@@ -55,7 +55,6 @@ pub record AnswersEnd (bytes : List ℕ) (answer : Answer) : Type 0 where
   pub numbers : answer ≡ numbers_of verdict
   pub is_verdict : IsVerdict bytes verdict
   pub authority : GuardsAuthority bytes verdict
-  pub escape : EscapesExactly bytes verdict
 
 -- what the rules give, in numbers: the kind 1 is a capability, 2 a number, and 0 none
 abbrev pub IsGivenAs : Cap → ℕ → ℕ → ℕ → Given → Type 0

@@ -1,6 +1,6 @@
 //! The judge of a log that lies in memory.
 
-ghost use Rattle.capcheck_judge.specs.Answers.{AnswersBytes};
+ghost use Rattle.capcheck_judge.specs.Answers.{AnswersBytes, NamesEscapesIn};
 
 use crate::answers::{Answer, NO_MEMORY, numbers_of, without_verdict};
 use cap_judge::judging::judge_bytes;
@@ -11,7 +11,8 @@ use std::alloc::Global;
 /// first time, and given back before the call ends.
 #[unsafe(no_mangle)]
 pub extern "C" fn capcheck_judge_bytes(alloc: Global, bytes: &[u8]) -> Answer
-    ensures { AnswersBytes bytes.now result }
+    ensures answer { AnswersBytes bytes.now result }
+    ensures escape { NamesEscapesIn result }
 {
     match judge_bytes(alloc, bytes) {
         Ok(verdict) => numbers_of(verdict),

@@ -3,7 +3,7 @@
 ghost use Rattle.std.specs.Prelude.{◌≡◌, ◌≢◌, ◌↔◌, ◌⊎◌, ◌<◌, ℕ, List, [], ◌++◌, None};
 ghost use Rattle.cap_judge.specs.Logs.{MayLackMemory};
 ghost use Rattle.cap_judge.specs.Standings.{BeginsWhole, HasTaken, IsNoLine, known_of};
-ghost use Rattle.capcheck_judge.specs.Answers.{without_verdict};
+ghost use Rattle.capcheck_judge.specs.Answers.{NamesEscapesIn, without_verdict};
 ghost use Rattle.capcheck_judge.specs.Handles.{AnswersEnd, AnswersSoFar, Holds, known_in};
 
 use crate::answers::{
@@ -49,8 +49,8 @@ pub extern "C" fn capcheck_judge_line(alloc: Global, judge: &mut Handle, line: &
     ensures unchanged { 2 < result → known_in judge.new.judge ≡ known_in judge.old.judge }
     ensures still_holds { 2 < result → (bytes : List ℕ) → Holds judge.old.judge bytes → Holds judge.new.judge bytes }
 
-    // Memory is wanted only where a line that no test refuses names a granule for the first time.
-    ensures no_memory { result ≡ 3 → (bytes : List ℕ) → Holds judge.old.judge bytes → MayLackMemory (bytes ++ line.now) }
+    // Memory is wanted only where this very line, which no test refuses, names a granule for the first time.
+    ensures no_memory { result ≡ 3 → (bytes : List ℕ) → Holds judge.old.judge bytes → MayLackMemory (bytes ++ line.now) [] }
     ensures no_judge { (result ≡ 4) ↔ (judge.old.judge ≡ None) }
     ensures no_line { (result ≡ 5) ↔ ((judge.old.judge ≢ None) × IsNoLine line.now) }
     ensures held { (judge.new.judge ≡ None) ↔ (judge.old.judge ≡ None) }
@@ -71,6 +71,7 @@ pub extern "C" fn capcheck_judge_line(alloc: Global, judge: &mut Handle, line: &
 #[unsafe(no_mangle)]
 pub extern "C" fn capcheck_judge_answer(alloc: Global, judge: &mut Handle) -> Answer
     ensures answer { (bytes : List ℕ) → Holds judge.old.judge bytes → AnswersSoFar bytes result }
+    ensures escape { NamesEscapesIn result }
     ensures no_judge { judge.old.judge ≡ None → result ≡ without_verdict 4 }
     ensures kept { judge.new.judge ≡ judge.old.judge }
 {
@@ -92,6 +93,7 @@ pub extern "C" fn capcheck_judge_answer(alloc: Global, judge: &mut Handle) -> An
 #[unsafe(no_mangle)]
 pub extern "C" fn capcheck_judge_end(alloc: Global, judge: &mut Handle) -> Answer
     ensures verdict { (bytes : List ℕ) → Holds judge.old.judge bytes → AnswersEnd bytes result }
+    ensures escape { NamesEscapesIn result }
     ensures no_judge { judge.old.judge ≡ None → result ≡ without_verdict 4 }
     ensures kept { judge.new.judge ≡ judge.old.judge }
 {
@@ -125,7 +127,7 @@ fn take_line(judge: &mut Judge<PageStore>, line: &[u8]) -> u8
     ensures unchanged { 2 < result → known_of ⟦<PageStore as TaggedStore>⟧.contents judge.new
         ≡ known_of ⟦<PageStore as TaggedStore>⟧.contents judge.old }
     ensures no_memory { result ≡ 3 → (bytes : List ℕ) → HasTaken ⟦<PageStore as TaggedStore>⟧.contents judge.old bytes
-        → MayLackMemory (bytes ++ line.now) }
+        → MayLackMemory (bytes ++ line.now) [] }
     ensures no_line { (result ≡ 5) ↔ IsNoLine line.now }
 {
     match judge.take(line) {

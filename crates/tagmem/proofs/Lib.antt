@@ -1,11 +1,12 @@
 pub mod Granules
 mod Added
+mod Blocks
 mod Chained
 mod Directories
 mod Indexes
 mod Listed
 mod NextPut
 mod Pages
-mod Regions
+mod Rooms
 mod Slots
 mod Writes

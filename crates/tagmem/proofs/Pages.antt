@@ -1,238 +1,262 @@
--- What pages have at a granule, and what a put in one of them does.
-use Rattle.std.proofs.Common.{◌≡◌, ℕ, zero, suc, ◌+◌, ◌-◌, ◌*◌, ◌/◌, ◌%◌, ◌<◌, ◌≤◌, ◌≢◌, Bool, true, false, cond, eqb, leb}
-use Rattle.std.proofs.Common.{List, [], ◌∷◌, ◌++◌, length, get_or, set, Option, Some, None, sym, refl, ap, subst, ◌∙◌, arith}
+-- What is found in pages, and what becomes of it as they change and are added.
+use Rattle.std.proofs.Common.{◌≡◌, ◌≢◌, ℕ, ◌+◌, ◌*◌, ◌/◌, ◌%◌, ◌^◌, ◌<◌, ◌≤◌, true, false, cond, eqb, List, [], ◌∷◌, ◌++◌, length, get_or}
+use Rattle.std.proofs.Common.{set, map}
+use Rattle.std.proofs.Common.{Option, Some, None, sym, refl, ap, ◌∙◌, arith}
 use Rattle.std.specs.Prelude.{MatchOption}
-use Rattle.std.specs.Ordering.{nat_cmp, eq_by_cmp}
-use Rattle.std.specs.Cmp.{nat_cmp_total, unsigned_tied}
-use Rattle.std.specs.Option.{option_or}
-use Rattle.std.specs.FinMap as map
-use Rattle.std.specs.FinMap.{find, get-from_entries, nat_cmp-IsAntisymmetric, same_map}
+use Rattle.std.specs.Ordering.{nat_cmp}
+use Rattle.std.specs.Cmp.{unsigned_tied}
+use Rattle.std.specs.Map.{lookup}
+use Rattle.std.specs.BTreeMap as tree
+use Rattle.std.specs.BTreeMap.{BTreeMap, Updates}
 use Rattle.std.proofs.lemmas.Bool.{eqb-true}
 use Rattle.std.proofs.lemmas.Bool.Decides.{nat_tests}
+use Rattle.std.proofs.lemmas.List.{get_or-map, get_or-set_same, get_or-set_other, get_or_push, get_or_append_left, length-append}
+use Rattle.std.proofs.lemmas.List.{length-map, map-append, map-set}
+use Rattle.std.proofs.lemmas.List.Elements.{All-append, All-cons, All-get_or, All-nil, All-set}
 use Rattle.std.proofs.lemmas.Option.{none-some, same_Some}
-use Rattle.std.proofs.lemmas.List.{get_or-set_same, get_or-set_other, length-map}
-use Rattle.std.proofs.Math.ListN.{get_or-eq_default}
+use Rattle.std.proofs.Math.ListN.{length-set, get_or-eq_default}
 use Rattle.tagmem.specs.declared.page.Page.{Page}
-use Rattle.tagmem.specs.Granules.{Entry}
-use Rattle.tagmem.specs.Pages.{slots_of, slot_with, with_slot, entries_from, entries_of, contents_of, page_number_at, numbers_of, IsPageAt}
-use Rattle.tagmem.specs.Pages.{IsAbsent, IsNextPage, IsDirectory}
-use Rattle.tagmem.specs.Chains.{IsMissing, IsThere}
-use Rattle.tagmem.specs.Regions.{IsLeast}
-use Rattle.tagmem.proofs.Granules.{get-put}
-use Rattle.tagmem.proofs.Slots.{length-slots_with, get_or-slots_with}
+use Rattle.tagmem.specs.Pages.{index_kept, index_in, index_at, index_of, HasBlock, EachHasBlock, AreApart, IsLeast, IsWith}
 
--- a page has 16 slots
-pub length-slots_of : (page : Page) → length (slots_of page) ≡ 16
-length-slots_of page =
-    length-slots_with page.tags page.rows page.codes (page.each_has_tag ∙ sym page.each_has_row)
-    (page.each_has_tag ∙ sym page.each_has_code)
-    ∙ page.each_has_tag
+abbrev kept_in : Page → List ℕ
+kept_in page = page.kept
 
--- a slot of a page is its tag with its bytes and its code
-pub get_or-slots_of : (page : Page) (slot : ℕ)
-    → get_or (slots_of page) slot None ≡ slot_with (get_or page.tags slot None) (get_or page.rows slot []) (get_or page.codes slot 0)
-get_or-slots_of page slot =
-    get_or-slots_with page.tags page.rows page.codes slot (page.each_has_tag ∙ sym page.each_has_row)
-    (page.each_has_tag ∙ sym page.each_has_code)
+-- what is found at the place of a page
+index_at-default : (pages : List Page) (at : ℕ) (d : Page) (place : ℕ) → at < length pages
+    → index_at pages (Some at) place ≡ index_in (get_or pages at d) place
+index_at-default pages at d place in_range =
+    ap (λ kept. index_kept (get_or kept place 0)) (get_or-map kept_in pages at d [] in_range)
 
--- what a page says of a granule
-abbrev pub in_page : Page → ℕ → Option Entry
-in_page page q = cond (eqb page.number (q / 16)) (get_or (slots_of page) (q % 16) None) None
+pub index_at-there : (pages : List Page) (at : ℕ) (page : Page) (place : ℕ) → at < length pages
+    → page ≡ get_or pages at page
+    → index_at pages (Some at) place ≡ index_in page place
+index_at-there pages at page place in_range is =
+    index_at-default pages at page place in_range ∙ ap (λ r. index_in r place) (sym is)
 
--- what the first page that has a granule says
-abbrev pub found : List Page → ℕ → Option Entry
-found [] q = None
-found (page ∷ pages) q = option_or (in_page page q) (found pages q)
+-- a page has sixteen blocks
+past : (page : Page) (place : ℕ) → 16 ≤ place → index_in page place ≡ None
+past page place large = ap index_kept (get_or-eq_default page.kept 0 (let wide = page.sixteen in omega arith))
 
-option_or-None : (slot : Option Entry) → option_or slot None ≡ slot
-option_or-None None = refl
-option_or-None (Some entry) = refl
+pub first_small : (page : Page) (place first : ℕ) → IsLeast (index_in page) place (Some first) → first < 16
+first_small page place first found = grind (arith, found.1, past page first)
 
-find-append : (xs ys : List (ℕ × Entry)) (q : ℕ) → find nat_cmp q (xs ++ ys) ≡ option_or (find nat_cmp q xs) (find nat_cmp q ys)
-find-append [] ys q = refl
-find-append (x ∷ xs) ys q =
-    elim (eq_by_cmp nat_cmp q x.0)
-    as (λ b. cond b (Some x.1) (find nat_cmp q (xs ++ ys)) ≡ option_or (cond b (Some x.1) (find nat_cmp q xs)) (find nat_cmp q ys)) [
-      | true ↦ refl
-      | false ↦ find-append xs ys q
-    ]
+-- one in which a block is found has a block
+HasBlock-with : (page : Page) (place index : ℕ) → index_in page place ≡ Some index → HasBlock page
+HasBlock-with page place index own none = none-some index (sym (none place) ∙ own)
 
-find-with_slot : (g : ℕ) (slot : Option Entry) (rest : List (ℕ × Entry)) (q : ℕ)
-    → find nat_cmp q (with_slot g slot rest) ≡ cond (eqb q g) (option_or slot (find nat_cmp q rest)) (find nat_cmp q rest)
-find-with_slot g None rest q =
-    elim (eqb q g) as (λ b. find nat_cmp q rest ≡ cond b (find nat_cmp q rest) (find nat_cmp q rest)) [ true ↦ refl | false ↦ refl ]
-find-with_slot g (Some entry) rest q = ap (λ b. cond b (Some entry) (find nat_cmp q rest)) (unsigned_tied q g)
+-- trees with the same entries
+module _ (pages : List Page) (old new : BTreeMap ℕ ℕ) (same : new.entries ≡ old.entries) where
+  alike : (q : ℕ) → tree.get nat_cmp new q ≡ tree.get nat_cmp old q
+  alike q = ap (lookup (tree.is_at (nat_cmp q))) same
 
--- what slots, the first of which is granule g's, say of a granule
-abbrev in_slots : ℕ → List (Option Entry) → ℕ → Option Entry
-in_slots g slots q = cond (leb g q) (get_or slots (q - g) None) None
+  pub index_of-same : (number : ℕ) → index_of pages new number ≡ index_of pages old number
+  index_of-same number = ap (λ o. index_at pages o (number % 16)) (alike (number / 16))
 
--- a slot before others
-module _ (g q : ℕ) (slot : Option Entry) (slots : List (Option Entry)) where
-  at_first : q ≡ g → get_or (slot ∷ slots) (q - g) None ≡ slot
-  at_first same = let none : q - g ≡ zero = omega arith in ap (λ n. get_or (slot ∷ slots) n None) none
+  pub AreApart-same : AreApart pages old → AreApart pages new
+  AreApart-same known = record {
+    in_range = λ n at gets. known.in_range n at (sym (alike n) ∙ gets);
+    apart = λ n m at gets gets'. known.apart n m at (sym (alike n) ∙ gets) (sym (alike m) ∙ gets');
+    small = λ n at gets. known.small n at (sym (alike n) ∙ gets);
+  }
 
-  at_later : g < q → get_or (slot ∷ slots) (q - g) None ≡ get_or slots (q - suc g) None
-  at_later above = let one : q - g ≡ suc (q - suc g) = omega arith in ap (λ n. get_or (slot ∷ slots) n None) one
+-- a page that stands
+module _ (pages : List Page) (by_number : BTreeMap ℕ ℕ) (n at : ℕ) (page : Page)
+    (stands : tree.get nat_cmp by_number n ≡ Some at)
+    (there : (place : ℕ) → index_at pages (Some at) place ≡ index_in page place) where
+  -- of each of its blocks the index is found there
+  index_of-own : (q : ℕ) → q / 16 ≡ n → index_of pages by_number q ≡ index_in page (q % 16)
+  index_of-own q own =
+      ap (λ m. index_at pages (tree.get nat_cmp by_number m) (q % 16)) own ∙ ap (λ o. index_at pages o (q % 16)) stands
+      ∙ there (q % 16)
 
-  in_slots-cons : cond (eqb q g) (option_or slot (in_slots (suc g) slots q)) (in_slots (suc g) slots q) ≡ in_slots g (slot ∷ slots) q
-  in_slots-cons = grind (arith, nat_tests, at_first, at_later, option_or-None slot)
+  place_in : (place : ℕ) → place < 16 → index_in page place ≡ index_of pages by_number (16 * n + place)
+  place_in place small =
+      let place_is : place ≡ (16 * n + place) % 16 = omega arith in
+      ap (index_in page) place_is ∙ sym (index_of-own (16 * n + place) (omega arith))
 
-find-entries_from : (g : ℕ) (slots : List (Option Entry)) (q : ℕ) → find nat_cmp q (entries_from g slots) ≡ in_slots g slots q
-find-entries_from g [] q = elim (leb g q) as (λ b. find nat_cmp q (entries_from g []) ≡ cond b None None) [ true ↦ refl | false ↦ refl ]
-find-entries_from g (slot ∷ slots) q =
-    find-with_slot g slot _ q ∙ ap (λ o. cond (eqb q g) (option_or slot o) o) (find-entries_from (suc g) slots q)
-    ∙ in_slots-cons g q slot slots
+  -- none of them is there from a place on
+  pub none-page : (place : ℕ) → IsLeast (index_in page) place None
+      → (q : ℕ) → 16 * n + place ≤ q → q < 16 * n + 16 → index_of pages by_number q ≡ None
+  none-page place none q le lt = index_of-own q (omega arith) ∙ none (q % 16) (omega arith)
 
--- a page has the 16 granules from 16 times its number on
-in_slots-page : (page : Page) (q : ℕ) → in_slots (16 * page.number) (slots_of page) q ≡ in_page page q
-in_slots-page page q =
-    let past : 16 * page.number + 16 ≤ q → get_or (slots_of page) (q - 16 * page.number) None ≡ None =
-    λ le. get_or-eq_default (slots_of page) None (let wide = length-slots_of page in omega arith) in
-    let own : page.number ≡ q / 16 → get_or (slots_of page) (q - 16 * page.number) None ≡ get_or (slots_of page) (q % 16) None =
-    λ is. let same : q - 16 * page.number ≡ q % 16 = omega arith in ap (λ n. get_or (slots_of page) n None) same in
-    grind (arith, nat_tests, past, own)
+  -- or one is the first
+  pub least-page : (place first : ℕ) → IsLeast (index_in page) place (Some first)
+      → IsLeast (index_of pages by_number) (16 * n + place) (Some (16 * n + first))
+  least-page place first found =
+      let small = first_small page place first found in (
+        omega (arith, found.0),
+        λ none. found.1 (place_in first small ∙ none),
+        λ q le lt. index_of-own q (omega arith) ∙ found.2 (q % 16) (omega arith) (omega arith),
+      )
 
-find-entries_of : (pages : List Page) (q : ℕ) → find nat_cmp q (entries_of pages) ≡ found pages q
-find-entries_of [] q = refl
-find-entries_of (page ∷ pages) q =
-    find-append _ (entries_of pages) q ∙ ap (λ o. option_or o (find nat_cmp q (entries_of pages)))
-    (find-entries_from (16 * page.number) (slots_of page) q ∙ in_slots-page page q)
-    ∙ ap (option_or (in_page page q)) (find-entries_of pages q)
+  -- but one is
+  pub not_empty : HasBlock page → ((q : ℕ) → 16 * n + 0 ≤ q → q < 16 * n + 16 → index_of pages by_number q ≡ None) → ⊥
+  not_empty has none =
+      let inside : (place : ℕ) → place < 16 → index_in page place ≡ None = λ place small.
+      place_in place small ∙ none (16 * n + place) (omega arith) (omega arith) in
+      has (λ place. grind (arith, inside place, past page place))
 
--- the map has what is found
-get-contents_of : (pages : List Page) (q : ℕ) → map.get (contents_of pages) q ≡ found pages q
-get-contents_of pages q = get-from_entries nat_cmp_total (entries_of pages) q ∙ find-entries_of pages q
+-- in each page that stands a block is found
+pub found_in_page : (pages : List Page) (by_number : BTreeMap ℕ ℕ) (n at : ℕ) → at < length pages → EachHasBlock pages
+    → tree.get nat_cmp by_number n ≡ Some at
+    → ((q : ℕ) → 16 * n + 0 ≤ q → q < 16 * n + 16 → index_of pages by_number q ≡ None) → ⊥
+found_in_page [] by_number n at in_range used stands none = omega arith
+found_in_page (first ∷ rest) by_number n at in_range used stands none =
+    not_empty (first ∷ rest) by_number n at (get_or (first ∷ rest) at first) stands
+    (λ place. index_at-default (first ∷ rest) at first place in_range) (All-get_or HasBlock (first ∷ rest) at first in_range used) none
 
--- no page before an index has the number
-abbrev NoneBefore : List Page → ℕ → ℕ → Type 0
-NoneBefore pages number index = (i : ℕ) → i < index → page_number_at pages i ≢ number
+-- nothing is found of a page that doesn't stand
+pub index_of-absent : (pages : List Page) (by_number : BTreeMap ℕ ℕ) (q : ℕ) → tree.get nat_cmp by_number (q / 16) ≡ None
+    → index_of pages by_number q ≡ None
+index_of-absent pages by_number q absent = ap (λ o. index_at pages o (q % 16)) absent
 
--- the same in the pages after the first
-module _ (page : Page) (pages : List Page) (number index : ℕ) where
-  none_in_tail : NoneBefore (page ∷ pages) number (suc index) → NoneBefore pages number index
-  none_in_tail none i lt = none (suc i) (omega arith)
+-- a page in which one block more is found
+module _ (pages : List Page) (by_number : BTreeMap ℕ ℕ) (known : AreApart pages by_number) (number at index : ℕ) (old new : Page)
+    (stands : tree.get nat_cmp by_number (number / 16) ≡ Some at) (is : old ≡ get_or pages at old)
+    (own : index_in new (number % 16) ≡ Some index)
+    (others : (place : ℕ) → place ≢ number % 16 → index_in new place ≡ index_in old place) where
+  in_range : at < length pages
+  in_range = known.in_range (number / 16) at stands
 
-  at_in_tail : IsPageAt (page ∷ pages) number (suc index) → IsPageAt pages number index
-  at_in_tail at = record { in_range = omega (arith, at.in_range); has_number = at.has_number }
+  index_at-set : (place : ℕ) → index_at (set pages at new) (Some at) place ≡ index_in new place
+  index_at-set place =
+      index_at-there (set pages at new) at new place (let long = length-set pages at new in let lt = in_range in omega arith)
+      (sym (get_or-set_same pages at new new in_range))
 
--- a page says nothing of another page's granules
-in_page-other : (page : Page) (q : ℕ) → page.number ≢ q / 16 → in_page page q ≡ None
-in_page-other page q differs = grind (arith, nat_tests)
+  index_at-other : (r place : ℕ) → r ≢ at → index_at (set pages at new) (Some r) place ≡ index_at pages (Some r) place
+  index_at-other r place differs =
+      ap (λ kept. index_kept (get_or kept place 0))
+      (ap (λ ks. get_or ks r []) (map-set kept_in pages at new) ∙ get_or-set_other (map kept_in pages) at r (kept_in new) [] differs)
 
-in_page-own : (page : Page) (q : ℕ) → page.number ≡ q / 16 → in_page page q ≡ get_or (slots_of page) (q % 16) None
-in_page-own page q same = grind (arith, nat_tests)
+  other_block : (q : ℕ) → q ≢ number → (o : Option ℕ) → tree.get nat_cmp by_number (q / 16) ≡ o
+      → index_at (set pages at new) o (q % 16) ≡ index_at pages o (q % 16)
+  other_block q differs None gets = refl
+  other_block q differs (Some r) gets =
+      elim (eqb r at) as (λ b. eqb r at ≡ b → index_at (set pages at new) (Some r) (q % 16) ≡ index_at pages (Some r) (q % 16)) [
+        | true ↦ λ same.
+            let here : r ≡ at = eqb-true r at same in
+            let page : q / 16 ≡ number / 16 = known.apart (q / 16) (number / 16) at (gets ∙ ap Some here) stands in
+            ap (λ r. index_at (set pages at new) (Some r) (q % 16)) here ∙ index_at-set (q % 16)
+            ∙ others (q % 16) (λ place. differs (omega (arith, page, place)))
+            ∙ sym (index_at-there pages at old (q % 16) in_range is) ∙ sym (ap (λ r. index_at pages (Some r) (q % 16)) here)
+        | false ↦ λ apart. index_at-other r (q % 16) (λ here. grind (arith, nat_tests))
+      ] refl
 
--- nothing is found of a granule whose page is absent
-found_absent : (pages : List Page) (q : ℕ) → IsAbsent pages (q / 16) → found pages q ≡ None
-found_absent [] q absent = refl
-found_absent (page ∷ pages) q absent =
-    rw (in_page-other page q (absent 0 (omega arith))) (found_absent pages q (none_in_tail page pages _ _ absent))
+  pub IsWith-set : IsWith (index_of pages by_number) (index_of (set pages at new) by_number) number index
+  IsWith-set = (
+    ap (λ o. index_at (set pages at new) o (number % 16)) stands ∙ index_at-set (number % 16) ∙ own,
+    λ q differs. other_block q differs (tree.get nat_cmp by_number (q / 16)) refl,
+  )
 
--- what is found of a granule is what its page says, where no other has its number
-found_present : (pages : List Page) (q index : ℕ) (d : Page) → IsPageAt pages (q / 16) index
-    → ((i : ℕ) → i < length pages → page_number_at pages i ≡ q / 16 → i ≡ index)
-    → found pages q ≡ get_or (slots_of (get_or pages index d)) (q % 16) None
-found_present [] q index d at only = absurd (omega (arith, at.in_range))
-found_present (page ∷ pages) q zero d at only =
-    let rest = found_absent pages q (λ i lt is. omega (arith, only (suc i) (omega arith) is)) in
-    rw (rest, in_page-own page q at.has_number) (option_or-None _)
-found_present (page ∷ pages) q (suc index) d at only =
-    let first : page.number ≢ q / 16 = λ is. omega (arith, only 0 (omega arith) is) in
-    let later = found_present pages q index d (at_in_tail page pages _ _ at) (λ i lt is. omega (arith, only (suc i) (omega arith) is)) in
-    rw (in_page-other page q first) later
+  pub AreApart-set : AreApart (set pages at new) by_number
+  AreApart-set = record {
+    in_range = λ n r gets. let long = length-set pages at new in let lt = known.in_range n r gets in omega arith;
+    apart = known.apart;
+    small = known.small;
+  }
 
--- a page that differs from another in one slot says the same of every granule but one
-in_page-set : (old new : Page) (g : ℕ) (entry : Entry) → old.number ≡ g / 16 → new.number ≡ g / 16
-    → slots_of new ≡ set (slots_of old) (g % 16) (Some entry) → (q : ℕ) → in_page new q ≡ cond (eqb q g) (Some entry) (in_page old q)
-in_page-set old new g entry old_is new_is are q =
-    let inside : g % 16 < length (slots_of old) = let wide = length-slots_of old in omega arith in
-    let changed = set (slots_of old) (g % 16) (Some entry) in
-    let here : q % 16 ≡ g % 16 → get_or changed (q % 16) None ≡ Some entry =
-    λ is. ap (λ n. get_or changed n None) is ∙ get_or-set_same (slots_of old) (g % 16) (Some entry) None inside in
-    let there : q % 16 ≢ g % 16 → get_or changed (q % 16) None ≡ get_or (slots_of old) (q % 16) None =
-    λ differs. get_or-set_other (slots_of old) (g % 16) (q % 16) (Some entry) None differs in
-    ap (λ slots. cond (eqb new.number (q / 16)) (get_or slots (q % 16) None) None) are ∙ grind (arith, nat_tests, here, there)
+  pub EachHasBlock-set : EachHasBlock pages → EachHasBlock (set pages at new)
+  EachHasBlock-set used = All-set HasBlock pages at new (HasBlock-with new (number % 16) index own) used
 
-option_or-cond : (b : Bool) (entry : Entry) (first rest : Option Entry)
-    → option_or (cond b (Some entry) first) rest ≡ cond b (Some entry) (option_or first rest)
-option_or-cond true entry first rest = refl
-option_or-cond false entry first rest = refl
+-- a page more, in which one block is found
+module _ (pages : List Page) (old new : BTreeMap ℕ ℕ) (known : AreApart pages old) (number at index : ℕ) (page : Page)
+    (in_memory : number < 2 ^ 64) (absent : tree.get nat_cmp old (number / 16) ≡ None) (last : at ≡ length pages)
+    (updates : Updates nat_cmp old new (number / 16) (Some at))
+    (own : index_in page (number % 16) ≡ Some index)
+    (others : (place : ℕ) → place ≢ number % 16 → index_in page place ≡ None) where
+  told : (q : ℕ) → tree.get nat_cmp new q ≡ cond (eqb (number / 16) q) (Some at) (tree.get nat_cmp old q)
+  told q = updates.0 q ∙ ap (λ b. cond b (Some at) (tree.get nat_cmp old q)) (unsigned_tied (number / 16) q)
 
--- the same of pages, one of which is changed
-found-set : (pages : List Page) (new d : Page) (index g : ℕ) (entry : Entry) → IsPageAt pages (g / 16) index
-    → NoneBefore pages (g / 16) index → new.number ≡ g / 16
-    → slots_of new ≡ set (slots_of (get_or pages index d)) (g % 16) (Some entry)
-    → (q : ℕ) → found (set pages index new) q ≡ cond (eqb q g) (Some entry) (found pages q)
-found-set [] new d index g entry at none number are q = absurd (omega (arith, at.in_range))
-found-set (page ∷ pages) new d zero g entry at none number are q =
-    ap (λ o. option_or o (found pages q)) (in_page-set page new g entry at.has_number number are q)
-    ∙ option_or-cond (eqb q g) entry (in_page page q) (found pages q)
-found-set (page ∷ pages) new d (suc index) g entry at none number are q =
-    let later = found-set pages new d index g entry (at_in_tail page pages _ _ at) (none_in_tail page pages _ _ none) number are q in
-    rw later (by_test (eqb q g) refl (in_page-other page g (none 0 (omega arith))))
+  told_own : (q : ℕ) → eqb (number / 16) q ≡ true → tree.get nat_cmp new q ≡ Some at
+  told_own q same = told q ∙ ap (λ b. cond b (Some at) (tree.get nat_cmp old q)) same
+
+  told_other : (q : ℕ) → eqb (number / 16) q ≡ false → tree.get nat_cmp new q ≡ tree.get nat_cmp old q
+  told_other q differs = told q ∙ ap (λ b. cond b (Some at) (tree.get nat_cmp old q)) differs
+
+  -- it is the new one or an old one
+  cases : (P : Type 0) (n r : ℕ) → tree.get nat_cmp new n ≡ Some r → (n ≡ number / 16 → r ≡ at → P)
+      → (tree.get nat_cmp old n ≡ Some r → P) → P
+  cases P n r gets if_new if_old =
+      elim (eqb (number / 16) n) as (λ b. eqb (number / 16) n ≡ b → P) [
+        | true ↦ λ same. if_new (sym (eqb-true (number / 16) n same)) (same_Some _ _ (sym gets ∙ told_own n same))
+        | false ↦ λ differs. if_old (sym (told_other n differs) ∙ gets)
+      ] refl
+
+  index_at-last : (place : ℕ) → index_at (pages ++ page ∷ []) (Some at) place ≡ index_in page place
+  index_at-last place =
+      index_at-there (pages ++ page ∷ []) at page place (let long = length-append pages (page ∷ []) in omega (arith, last))
+      (sym (get_or_push pages page page at (sym last)))
+
+  index_at-before : (r place : ℕ) → r < length pages → index_at (pages ++ page ∷ []) (Some r) place ≡ index_at pages (Some r) place
+  index_at-before r place lt =
+      let many : length (map kept_in pages) ≡ length pages = length-map pages kept_in in
+      ap (λ kept. index_kept (get_or kept place 0))
+      (ap (λ ks. get_or ks r []) (map-append kept_in pages (page ∷ []))
+      ∙ get_or_append_left (map kept_in pages) (kept_in page ∷ []) [] r (omega arith))
+
+  in_old : (q place : ℕ) (o : Option ℕ) → tree.get nat_cmp old q ≡ o → index_at (pages ++ page ∷ []) o place ≡ index_at pages o place
+  in_old q place None gets = refl
+  in_old q place (Some r) gets = index_at-before r place (known.in_range q r gets)
+
+  other_blocks : (q : ℕ) → q ≢ number → index_of (pages ++ page ∷ []) new q ≡ index_of pages old q
+  other_blocks q differs =
+      elim (eqb (number / 16) (q / 16))
+      as (λ b. eqb (number / 16) (q / 16) ≡ b → index_of (pages ++ page ∷ []) new q ≡ index_of pages old q) [
+        | true ↦ λ same.
+            let page_is : number / 16 ≡ q / 16 = eqb-true (number / 16) (q / 16) same in
+            ap (λ o. index_at (pages ++ page ∷ []) o (q % 16)) (told_own (q / 16) same) ∙ index_at-last (q % 16)
+            ∙ others (q % 16) (λ place. differs (omega (arith, page_is, place)))
+            ∙ sym (index_of-absent pages old q (ap (tree.get nat_cmp old) (sym page_is) ∙ absent))
+        | false ↦ λ apart.
+            ap (λ o. index_at (pages ++ page ∷ []) o (q % 16)) (told_other (q / 16) apart)
+            ∙ in_old (q / 16) (q % 16) (tree.get nat_cmp old (q / 16)) refl
+      ] refl
+
+  pub IsWith-push : IsWith (index_of pages old) (index_of (pages ++ page ∷ []) new) number index
+  IsWith-push = (
+    ap (λ o. index_at (pages ++ page ∷ []) o (number % 16)) updates.1 ∙ index_at-last (number % 16) ∙ own,
+    other_blocks,
+  )
+
+  pub AreApart-push : AreApart (pages ++ page ∷ []) new
+  AreApart-push =
+      let long = length-append pages (page ∷ []) in
+      record {
+        in_range = λ n r gets.
+            cases (r < length (pages ++ page ∷ [])) n r gets (λ n_is r_is. omega (arith, long, last, r_is))
+            (λ was. omega (arith, long, known.in_range n r was));
+        apart = λ n m r gets gets'.
+            cases (n ≡ m) n r gets
+            (λ n_is r_is. cases (n ≡ m) m r gets' (λ m_is _. n_is ∙ sym m_is) (λ was. absurd
+            (omega (arith, r_is, last, known.in_range m r was))))
+            (λ was. cases (n ≡ m) m r gets' (λ m_is r_is. absurd (omega (arith, r_is, last, known.in_range n r was)))
+            (λ was'. known.apart n m r was was'));
+        small = λ n r gets. cases (n < 2 ^ 60) n r gets (λ n_is r_is. omega (arith, n_is, in_memory)) (λ was. known.small n r was);
+      }
+
+  pub EachHasBlock-push : EachHasBlock pages → EachHasBlock (pages ++ page ∷ [])
+  EachHasBlock-push used =
+      All-append HasBlock pages (page ∷ []) used (All-cons HasBlock page []
+      (HasBlock-with page (number % 16) index own) (All-nil HasBlock))
+
+-- nothing is found of a page below the least that stands from another on
+pub index_of-below : (pages : List Page) (by_number : BTreeMap ℕ ℕ) (from least : ℕ)
+    → ((n at : ℕ) → from ≤ n → tree.get nat_cmp by_number n ≡ Some at → least ≤ n)
+    → (q : ℕ) → from ≤ q / 16 → q / 16 < least → index_of pages by_number q ≡ None
+index_of-below pages by_number from least is_least q le lt = by_page (tree.get nat_cmp by_number (q / 16)) refl
   where
-    by_test : (b : Bool) → eqb q g ≡ b → in_page page g ≡ None
-        → option_or (in_page page q) (cond b (Some entry) (found pages q))
-        ≡ cond b (Some entry) (option_or (in_page page q) (found pages q))
-    by_test false is other = refl
-    by_test true is other = rw (ap (in_page page) (eqb-true q g is) ∙ other) refl
+    by_page : (o : Option ℕ) → tree.get nat_cmp by_number (q / 16) ≡ o → index_of pages by_number q ≡ None
+    by_page None is = index_of-absent pages by_number q is
+    by_page (Some at) is = absurd (omega (arith, is_least (q / 16) at le is))
 
--- where a directory tells of pages
-module _ (pages : List Page) (directory : ℕ → Option ℕ) (known : IsDirectory pages directory) where
-  -- each number has one index at most
-  one_index : (number index i : ℕ) → IsPageAt pages number index → i < length pages → page_number_at pages i ≡ number → i ≡ index
-  one_index number index i at lt is =
-      same_Some i index (sym (known.has i lt) ∙ ap directory (is ∙ sym at.has_number) ∙ known.has index at.in_range)
-
-  -- a number that it doesn't have is absent
-  pub absent_from_none : (number : ℕ) → directory number ≡ None → IsAbsent pages number
-  absent_from_none number none i lt is = none-some i (sym none ∙ ap directory (sym is) ∙ known.has i lt)
-
-  -- what it finds is the page
-  pub found-directory : (number : ℕ) (found : Option ℕ) → found ≡ directory number
-      → MatchOption found (IsAbsent pages number) (IsPageAt pages number)
-  found-directory number None is = absent_from_none number (sym is)
-  found-directory number (Some index) is = known.right number index (sym is)
-
-  -- the least number that it has is that of the next page
-  pub next_page-least : (from : ℕ) (next : Option ℕ) → IsLeast directory from next → IsNextPage pages from next
-  next_page-least from None none = λ number le. absent_from_none number (none number le)
-  next_page-least from (Some next) least =
-      (least.0, λ absent. by_index absent (directory next) refl, λ number le lt. absent_from_none number (least.2 number le lt))
-    where
-      by_index : IsAbsent pages next → (o : Option ℕ) → directory next ≡ o → ⊥
-      by_index absent None is = least.1 is
-      by_index absent (Some index) is =
-          let at = known.right next index is in
-          absent index at.in_range at.has_number
-
-  -- what stands in a granule is what its page says
-  pub get_present : (q index : ℕ) (d : Page) → IsPageAt pages (q / 16) index
-      → map.get (contents_of pages) q ≡ get_or (slots_of (get_or pages index d)) (q % 16) None
-  get_present q index d at = get-contents_of pages q ∙ found_present pages q index d at (λ i lt is. one_index _ index i at lt is)
-
-  -- a put in its page changes that granule alone
-  pub contents_of-set : (new d : Page) (index g : ℕ) (entry : Entry) → IsPageAt pages (g / 16) index → new.number ≡ g / 16
-      → slots_of new ≡ set (slots_of (get_or pages index d)) (g % 16) (Some entry)
-      → contents_of (set pages index new) ≡ map.insert (contents_of pages) g entry
-  contents_of-set new d index g entry at number are = same_map nat_cmp_total nat_cmp-IsAntisymmetric _ _ (λ q.
-      get-contents_of (set pages index new) q ∙ found-set pages new d index g entry at none number are q
-      ∙ ap (cond (eqb q g) (Some entry)) (sym (get-contents_of pages q)) ∙ sym (get-put (contents_of pages) g entry q))
-    where
-      none : NoneBefore pages (g / 16) index
-      none i lt is = omega (arith, one_index _ index i at (omega (arith, at.in_range)) is)
-
--- a granule whose page is absent was never put
-pub get_absent : (pages : List Page) (q : ℕ) → IsAbsent pages (q / 16) → map.get (contents_of pages) q ≡ None
-get_absent pages q absent = get-contents_of pages q ∙ found_absent pages q absent
-
--- what a list of their numbers tells of pages
-pub found-numbers : (pages : List Page) (numbers : List ℕ) → numbers ≡ numbers_of pages → (number : ℕ) (found : Option ℕ)
-    → MatchOption found (IsMissing numbers number) (IsThere numbers number)
-    → MatchOption found (IsAbsent pages number) (IsPageAt pages number)
-found-numbers pages numbers same number None missing = λ index lt is.
-    subst (λ ns. IsMissing ns number) same missing index (omega (arith, lt, length-map pages (λ (page : Page). page.number))) is
-found-numbers pages numbers same number (Some index) there =
-    let here = subst (λ ns. IsThere ns number index) same there in
-    record { in_range = omega (arith, here.0, length-map pages (λ (page : Page). page.number)); has_number = here.1 }
+-- where none is found from a number on to the end of its page, the least is that of the least later one
+pub least-later : (find : ℕ → Option ℕ) (from page : ℕ) → ((q : ℕ) → from ≤ q → q < 16 * (from / 16) + 16 → find q ≡ None)
+    → from / 16 + 1 ≤ page → ((q : ℕ) → from / 16 + 1 ≤ q / 16 → q / 16 < page → find q ≡ None)
+    → (((q : ℕ) → 16 * page + 0 ≤ q → q < 16 * page + 16 → find q ≡ None) → ⊥)
+    → (o : Option ℕ)
+    → MatchOption o ((q : ℕ) → 16 * page + 0 ≤ q → q < 16 * page + 16 → find q ≡ None)
+    (λ first. IsLeast find (16 * page + 0) (Some first))
+    → IsLeast find from o
+least-later find from page none above between some None empty = absurd (some empty)
+least-later find from page none above between some (Some least) found =
+    (omega (arith, above, found.0), found.1, λ q le lt. grind (arith, none q, between q, found.2 q))

@@ -1,4 +1,4 @@
--- A write inside a granule whose page is there.
+-- A write inside a granule whose block is there.
 use Rattle.std.proofs.Common.{◌≡◌, ℕ, ◌+◌, ◌/◌, ◌%◌, ◌^◌, ◌<◌, ◌≤◌, Bool, true, false, cond, eqb, List, length, get_or, set, All}
 use Rattle.std.proofs.Common.{Option, Some, None, unwrap_or, is_some, is_none, sym, refl, ap, subst, ◌∙◌, arith}
 use mir.Val.{bool_byte}
@@ -7,12 +7,12 @@ use Rattle.std.proofs.lemmas.Bool.{eqb-true}
 use Rattle.std.proofs.lemmas.List.{get_or-map, get_or-set_same}
 use Rattle.std.proofs.lemmas.List.Elements.{All-set}
 use Rattle.std.proofs.lemmas.Option.{none-some, same_Some}
-use Rattle.tagmem.specs.declared.page.Page.{Page}
+use Rattle.tagmem.specs.declared.block.Block.{Block}
 use Rattle.tagmem.specs.Granules.{Entry, Granules, blank, entry_at, bytes_at, overwritten, with_write, HasRoom, IsCodeFor, IsStored}
 use Rattle.tagmem.specs.Granules.{AreStored}
-use Rattle.tagmem.specs.Pages.{slots_of, bytes_in_slot, contents_of, numbers_of, IsUsed, EachUsed, IsPageAt, IsDirectory}
+use Rattle.tagmem.specs.Blocks.{slots_of, bytes_in_slot, contents_of, numbers_of, IsUsed, EachUsed, IsBlockAt, IsDirectory}
 use Rattle.tagmem.proofs.Granules.{get-put, len-put, IsStored-overwritten, IsStored-entry_at}
-use Rattle.tagmem.proofs.Pages.{length-slots_of, get_present, contents_of-set}
+use Rattle.tagmem.proofs.Blocks.{length-slots_of, get_present, contents_of-set}
 use Rattle.tagmem.proofs.Directories.{numbers_of-set, IsDirectory-set}
 
 -- a put keeps each entry a granule's
@@ -34,78 +34,78 @@ room_for_one : (o : Option Entry) (n : ℕ) → n < 2 ^ 32 → (o ≡ None → n
 room_for_one None n small room = omega (arith, room refl)
 room_for_one (Some entry) n small room = omega arith
 
--- a first was read at the index of a granule's page
-pub record IsRead (pages : List Page) (directory : ℕ → Option ℕ) (index g : ℕ) (first : Page) : Type 0 where
-  pub known : IsDirectory pages directory
-  pub found : IsPageAt pages (g / 16) index
-  pub is : first ≡ get_or pages index first
+-- a first was read at the index of a granule's block
+pub record IsRead (blocks : List Block) (directory : ℕ → Option ℕ) (index g : ℕ) (first : Block) : Type 0 where
+  pub known : IsDirectory blocks directory
+  pub found : IsBlockAt blocks (g / 16) index
+  pub is : first ≡ get_or blocks index first
 
--- a page has a write in one slot, and is else the same
-pub record IsWritten (old new : Page) (slot : ℕ) (tag : Bool) (byte_index : ℕ) (bytes : List ℕ) (code : ℕ) : Type 0 where
+-- a block has a write in one slot, and is else the same
+pub record IsWritten (old new : Block) (slot : ℕ) (tag : Bool) (byte_index : ℕ) (bytes : List ℕ) (code : ℕ) : Type 0 where
   pub number : new.number ≡ old.number
   pub slots : slots_of new ≡ set (slots_of old) slot (Some (tag, overwritten (bytes_in_slot (slots_of old) slot) byte_index bytes, code))
 
--- a page with a write in one slot has one that was put
-pub IsUsed-written : (old new : Page) (slot : ℕ) (tag : Bool) (byte_index : ℕ) (bytes : List ℕ) (code : ℕ)
+-- a block with a write in one slot has one that was put
+pub IsUsed-written : (old new : Block) (slot : ℕ) (tag : Bool) (byte_index : ℕ) (bytes : List ℕ) (code : ℕ)
     → slot < 16 → IsWritten old new slot tag byte_index bytes code → IsUsed new
 IsUsed-written old new slot tag byte_index bytes code small written none =
     let wide = length-slots_of old in
     none-some _ (sym (none slot) ∙ ap (λ slots. get_or slots slot None) written.slots
     ∙ get_or-set_same (slots_of old) slot _ None (omega arith))
 
-module _ (pages : List Page) (directory : ℕ → Option ℕ) (index g : ℕ) (first : Page)
-    (read : IsRead pages directory index g first) where
+module _ (blocks : List Block) (directory : ℕ → Option ℕ) (index g : ℕ) (first : Block)
+    (read : IsRead blocks directory index g first) where
   -- what stood in the granule
-  get_read : map.get (contents_of pages) g ≡ get_or (slots_of first) (g % 16) None
+  get_read : map.get (contents_of blocks) g ≡ get_or (slots_of first) (g % 16) None
   get_read =
-      get_present pages directory read.known g index first read.found
-      ∙ ap (λ (b : Page). get_or (slots_of b) (g % 16) None) (sym read.is)
+      get_present blocks directory read.known g index first read.found
+      ∙ ap (λ (b : Block). get_or (slots_of b) (g % 16) None) (sym read.is)
 
   number_read : first.number ≡ g / 16
   number_read =
-      ap (λ (b : Page). b.number) read.is
-      ∙ sym (get_or-map (λ (b : Page). b.number) pages index first 0 read.found.in_range) ∙ read.found.has_number
+      ap (λ (b : Block). b.number) read.is
+      ∙ sym (get_or-map (λ (b : Block). b.number) blocks index first 0 read.found.in_range) ∙ read.found.has_number
 
   -- there is room for one more entry where none stood there
-  pub len_fits : map.len (contents_of pages) < 2 ^ 32 → HasRoom (contents_of pages) g
-      → map.len (contents_of pages) + bool_byte (is_none (get_or (slots_of first) (g % 16) None)) < 2 ^ 32
+  pub len_fits : map.len (contents_of blocks) < 2 ^ 32 → HasRoom (contents_of blocks) g
+      → map.len (contents_of blocks) + bool_byte (is_none (get_or (slots_of first) (g % 16) None)) < 2 ^ 32
   len_fits small room =
-      subst (λ o. map.len (contents_of pages) + bool_byte (is_none o) < 2 ^ 32) get_read
-      (room_for_one (map.get (contents_of pages) g) _ small room)
+      subst (λ o. map.len (contents_of blocks) + bool_byte (is_none o) < 2 ^ 32) get_read
+      (room_for_one (map.get (contents_of blocks) g) _ small room)
 
-  module _ (page : Page) (tag : Bool) (byte_index : ℕ) (bytes : List ℕ) (code : ℕ)
-      (written : IsWritten first page (g % 16) tag byte_index bytes code) where
-    pub numbers_of-write : numbers_of (set pages index page) ≡ numbers_of pages
-    numbers_of-write = numbers_of-set pages page index (subst (λ n. IsPageAt pages n index) (sym (written.number ∙ number_read)) read.found)
+  module _ (block : Block) (tag : Bool) (byte_index : ℕ) (bytes : List ℕ) (code : ℕ)
+      (written : IsWritten first block (g % 16) tag byte_index bytes code) where
+    pub numbers_of-write : numbers_of (set blocks index block) ≡ numbers_of blocks
+    numbers_of-write = numbers_of-set blocks block index (subst (λ n. IsBlockAt blocks n index) (sym (written.number ∙ number_read)) read.found)
 
-    pub IsDirectory-write : IsDirectory (set pages index page) directory
+    pub IsDirectory-write : IsDirectory (set blocks index block) directory
     IsDirectory-write =
-        IsDirectory-set pages directory page index
-        (subst (λ n. IsPageAt pages n index) (sym (written.number ∙ number_read)) read.found) read.known
+        IsDirectory-set blocks directory block index
+        (subst (λ n. IsBlockAt blocks n index) (sym (written.number ∙ number_read)) read.found) read.known
 
-    pub EachUsed-write : EachUsed pages → EachUsed (set pages index page)
+    pub EachUsed-write : EachUsed blocks → EachUsed (set blocks index block)
     EachUsed-write used =
-        let one = IsUsed-written first page (g % 16) tag byte_index bytes code (omega arith) written in
-        All-set (IsUsed) pages index page one used
+        let one = IsUsed-written first block (g % 16) tag byte_index bytes code (omega arith) written in
+        All-set (IsUsed) blocks index block one used
 
     -- the map has the write, and is else the same
-    pub contents_of-write : contents_of (set pages index page) ≡ with_write (contents_of pages) g tag byte_index bytes code
+    pub contents_of-write : contents_of (set blocks index block) ≡ with_write (contents_of blocks) g tag byte_index bytes code
     contents_of-write =
-        let was : bytes_in_slot (slots_of first) (g % 16) ≡ bytes_at (contents_of pages) g =
+        let was : bytes_in_slot (slots_of first) (g % 16) ≡ bytes_at (contents_of blocks) g =
         ap (λ o. (unwrap_or o blank).1) (sym get_read) in
-        contents_of-set pages directory read.known page first index g _ read.found (written.number ∙ number_read)
+        contents_of-set blocks directory read.known block first index g _ read.found (written.number ∙ number_read)
         (rw (← was, ← read.is) written.slots)
 
     pub AreStored-write : g < 2 ^ 60 → byte_index + length bytes ≤ 16 → All (λ byte. byte < 256) bytes → code < 2 ^ 64 → IsCodeFor tag code
-        → AreStored (contents_of pages)
-        → AreStored (contents_of (set pages index page))
+        → AreStored (contents_of blocks)
+        → AreStored (contents_of (set blocks index block))
     AreStored-write in_memory inside fits small is_for stored =
-        let stood = IsStored-entry_at (contents_of pages) stored g in_memory in
-        let stands = IsStored-overwritten g (entry_at (contents_of pages) g) tag byte_index bytes code stood inside fits small is_for in
-        rw contents_of-write (AreStored-put (contents_of pages) g _ stands stored)
+        let stood = IsStored-entry_at (contents_of blocks) stored g in_memory in
+        let stands = IsStored-overwritten g (entry_at (contents_of blocks) g) tag byte_index bytes code stood inside fits small is_for in
+        rw contents_of-write (AreStored-put (contents_of blocks) g _ stands stored)
 
-    pub len-write : map.len (contents_of (set pages index page))
-        ≡ map.len (contents_of pages) + bool_byte (is_none (get_or (slots_of first) (g % 16) None))
+    pub len-write : map.len (contents_of (set blocks index block))
+        ≡ map.len (contents_of blocks) + bool_byte (is_none (get_or (slots_of first) (g % 16) None))
     len-write =
-        ap map.len contents_of-write ∙ len-put (contents_of pages) g _ ∙ one_more (map.get (contents_of pages) g) _
-        ∙ ap (λ o. map.len (contents_of pages) + bool_byte (is_none o)) get_read
+        ap map.len contents_of-write ∙ len-put (contents_of blocks) g _ ∙ one_more (map.get (contents_of blocks) g) _
+        ∙ ap (λ o. map.len (contents_of blocks) + bool_byte (is_none o)) get_read

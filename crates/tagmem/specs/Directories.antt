@@ -1,8 +1,8 @@
--- Where a `Directory` finds pages. This profile's own.
+-- Where a `Directory` finds blocks. This profile's own.
 use Rattle.std.specs.Prelude.{ℕ, Option}
 use Rattle.tagmem.specs.declared.directory.Directory.{Directory}
-use Rattle.tagmem.specs.Regions.{index_of}
+use Rattle.tagmem.specs.Pages.{index_of}
 
--- the index of the page with a number, where one has it
+-- the index of the block with a number, where one has it
 abbrev pub found_in : Directory → ℕ → Option ℕ
-found_in directory = index_of directory.regions.items directory.tree
+found_in directory = index_of directory.pages.items directory.tree

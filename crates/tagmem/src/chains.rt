@@ -1,9 +1,10 @@
 //! Where numbers stand in a list, by their places.
-ghost use Rattle.std.specs.Prelude.{◌≡◌, ◌++◌, ◌∷◌, ◌+◌, ◌*◌, ◌<◌, ◌≤◌, [], length, MatchOption, IfSome, OnOk, slice_index};
+ghost use Rattle.std.specs.Prelude.{◌≡◌, ◌++◌, ◌∷◌, ◌+◌, ◌*◌, ◌<◌, ◌≤◌, ℕ, [], length, MatchOption, IfSome, OnOk, slice_index};
 ghost use Rattle.std.specs.Vec.{vec_len, vec_capacity};
 ghost use Rattle.tagmem.specs.Chains.{AreChains, IsMissing, IsThere, place_of};
 
 use crate::linking::{link, place};
+use crate::room::make_room;
 use crate::store::NoMemory;
 use std::alloc::Global;
 
@@ -29,6 +30,8 @@ pub(crate) struct Chains {
 }
 
 impl Chains {
+    ghost use Rattle.tagmem.specs.Rooms.{HasRoomFor};
+
     // Of no number. It takes no memory.
     pub(crate) fn new(alloc: Global) -> Chains
         ensures { result.numbers.items ≡ [] }
@@ -71,55 +74,62 @@ impl Chains {
         None
     }
 
-    // Takes the memory that one number more needs.
-    pub(crate) fn make_room(&mut self) -> Result<(), NoMemory>
+    // Takes the memory of so many numbers in all.
+    pub(crate) fn make_room(&mut self, count: usize) -> Result<(), NoMemory>
         requires fits { length self.old.numbers.items < 4294967295 }
         ensures numbers { self.new.numbers.items ≡ self.old.numbers.items }
-        ensures number { OnOk result (vec_len self.new.numbers < vec_capacity self.new.numbers) }
-        ensures next { OnOk result (vec_len self.new.nexts < vec_capacity self.new.nexts) }
-        ensures places { OnOk result (0 < length self.new.heads.items) }
+        ensures kept { (many : ℕ) → HasRoomFor self.old many → HasRoomFor self.new many }
+        ensures ok { OnOk result (HasRoomFor self.new count) }
     {
-        let Ok(()) = self.numbers.reserve(1) else {
-            return Err(NoMemory);
-        };
-        if self.numbers.len() >= self.heads.len() / 2 {
-            self.grow()?;
+        make_room(&mut self.numbers, count)?;
+        make_room(&mut self.nexts, count)?;
+        make_room(&mut self.heads, count.saturating_mul(4).max(FEWEST))?;
+        if self.heads.is_empty() {
+            self.spread(FEWEST);
         }
-        let Ok(()) = self.nexts.reserve(1) else {
-            return Err(NoMemory);
-        };
         Ok(())
     }
 
-    // Doubles the places.
-    fn grow(&mut self) -> Result<(), NoMemory>
+    // Makes the chains anew from so many places, for which there is room.
+    #[inline(never)]
+    fn spread(&mut self, places: usize)
+        requires some { 0 < places }
+        requires room { places ≤ vec_capacity self.old.heads }
         requires fits { length self.old.numbers.items < 4294967295 }
         ensures numbers { self.new.numbers ≡ self.old.numbers }
-        ensures some { OnOk result (0 < length self.new.heads.items) }
+        ensures nexts { vec_capacity self.new.nexts ≡ vec_capacity self.old.nexts }
+        ensures heads { 0 < length self.new.heads.items }
     {
-        let count = self.heads.len().saturating_mul(2).max(FEWEST);
-        let alloc = *self.numbers.allocator();
-        let (Ok(mut heads), Ok(mut nexts)) = (
-            Vec::from_elem(alloc, 0, count),
-            Vec::from_elem(alloc, 0, self.numbers.len()),
-        ) else {
-            return Err(NoMemory);
-        };
-        let mask = count as u64 - 1;
-        link(&self.numbers, mask, &mut heads, &mut nexts);
-        self.heads = heads;
-        self.nexts = nexts;
-        self.mask = mask;
-        Ok(())
+        self.heads.clear();
+        let _filled = self.heads.resize(places, 0);
+        self.mask = places as u64 - 1;
+        link(&self.numbers, self.mask, &mut self.heads, &mut self.nexts);
     }
 
-    // Puts a number behind the others.
+    // Puts a number behind the others. Where they are half as many as the places, these are doubled first.
     pub(crate) fn push(&mut self, number: u64)
+        requires room { HasRoomFor self.old (length self.old.numbers.items + 1) }
+        requires fits { length self.old.numbers.items < 4294967295 }
+        ensures numbers { self.new.numbers.items ≡ self.old.numbers.items ++ number ∷ [] }
+        ensures kept { (many : ℕ) → HasRoomFor self.old many → HasRoomFor self.new many }
+    {
+        let doubled = self.heads.len().saturating_mul(2);
+        if self.numbers.len() >= self.heads.len() / 2 && doubled <= self.heads.capacity() {
+            self.spread(doubled);
+        }
+        self.append(number);
+    }
+
+    // Puts a number behind the others, and at the front of its chain.
+    fn append(&mut self, number: u64)
         requires number { vec_len self.old.numbers < vec_capacity self.old.numbers }
         requires next { vec_len self.old.nexts < vec_capacity self.old.nexts }
         requires places { 0 < length self.old.heads.items }
         requires fits { length self.old.numbers.items < 4294967295 }
-        ensures { self.new.numbers.items ≡ self.old.numbers.items ++ number ∷ [] }
+        ensures numbers { self.new.numbers.items ≡ self.old.numbers.items ++ number ∷ [] }
+        ensures numbers_room { vec_capacity self.new.numbers ≡ vec_capacity self.old.numbers }
+        ensures nexts_room { vec_capacity self.new.nexts ≡ vec_capacity self.old.nexts }
+        ensures heads { length self.new.heads.items ≡ length self.old.heads.items }
     {
         let place = place(number, self.mask);
         self.nexts.push_reserved(self.heads[place]);

@@ -1,128 +1,149 @@
-//! Where pages are, in the order of their numbers.
-ghost use Rattle.std.specs.Prelude.{◌≡◌, ◌/◌, ◌*◌, ◌+◌, ◌^◌, ◌<◌, ◌≤◌, ℕ, None, Some, MatchOption, OnOk, OnErr};
+//! Where blocks are, in the order of their numbers.
+ghost use Rattle.std.specs.Prelude.{◌≡◌, ◌/◌, ◌*◌, ◌+◌, ◌^◌, ◌<◌, ◌≤◌, ℕ, None, Some, IfSome, MatchOption, OnOk, OnErr};
 ghost use Rattle.std.specs.BTreeMap as tree;
 ghost use Rattle.std.specs.Ordering.{nat_cmp};
-ghost use Rattle.tagmem.specs.Regions.{AreApart, EachHasPage, StandsAt};
+ghost use Rattle.tagmem.specs.Pages.{AreApart, EachHasBlock, StandsAt};
 
-use crate::region::Region;
+use crate::page::Page;
 use crate::store::NoMemory;
 use std::alloc::Global;
 use std::collections::BTreeMap;
 
-// The index of each page, by its number. Region `n` has the pages from `16 * n` on, and stands in the list just
+// The index of each block, by its number. Page `n` has the blocks from `16 * n` on, and stands in the list just
 // where one of them is there.
 #[derive(Drop)]
 pub(crate) struct Directory {
-    regions: Vec<Region>,
-    // Where each region stands in the list, by its number.
+    pages: Vec<Page>,
+    // Where each page stands in the list, by its number.
     tree: BTreeMap<u64, usize>,
-    // The number of the region that was added last, and where it stands. At first it is that of no region.
+    // The number of the page that was added last, and where it stands. At first it is that of no page.
     last: u64,
     last_at: usize,
     ghost latest: { StandsAt tree last last_at },
-    ghost apart: { AreApart regions.items tree },
-    ghost used: { EachHasPage regions.items },
+    ghost apart: { AreApart pages.items tree },
+    ghost used: { EachHasBlock pages.items },
 }
 
 impl Directory {
     ghost use Rattle.tagmem.specs.Directories.{found_in};
-    ghost use Rattle.tagmem.specs.Regions.{IsLeast, IsWith};
+    ghost use Rattle.tagmem.specs.Pages.{IsLeast, IsWith};
+    ghost use Rattle.tagmem.specs.Rooms.{blocks_of, blocks_with};
 
-    // Of no page. It takes no memory.
+    // Of no block. It takes no memory.
     pub(crate) fn new(alloc: Global) -> Directory
-        ensures { (number : ℕ) → found_in result number ≡ None }
+        ensures found { (number : ℕ) → found_in result number ≡ None }
+        ensures blocks { blocks_of result ≡ 0 }
     {
         Directory {
-            regions: Vec::new(alloc),
+            pages: Vec::new(alloc),
             tree: BTreeMap::new(alloc),
             last: u64::MAX,
             last_at: 0,
         }
     }
 
-    // The index of the page with a number.
+    // The index of the block with a number.
     pub(crate) fn get(&self, number: u64) -> Option<usize>
         ensures { result ≡ found_in self.now number }
     {
         match self.tree.get(&(number / 16)) {
-            Some(region) => self.regions[*region].index((number % 16) as u8),
+            Some(page) => self.pages[*page].index((number % 16) as u8),
             None => None,
         }
     }
 
-    // The least number from one on that a page has.
+    // The least number from one on that a block has.
     pub(crate) fn next(&self, number: u64) -> Option<u64>
         ensures { IsLeast (found_in self.now) number result }
     {
         match self.first_in(number / 16, (number % 16) as u8) {
             Some(next) => Some(next),
             None => match self.tree.range(number / 16 + 1..).next() {
-                Some((region, _)) => self.first_in(*region, 0),
+                Some((page, _)) => self.first_in(*page, 0),
                 None => None,
             },
         }
     }
 
-    // The first page of a region, from a place on, that is there.
-    fn first_in(&self, region: u64, place: u8) -> Option<u64>
+    // The first block of a page, from a place on, that is there.
+    fn first_in(&self, page: u64, place: u8) -> Option<u64>
         requires { place < 16 }
         ensures { MatchOption result
-            ((number : ℕ) → 16 * region + place ≤ number → number < 16 * region + 16 → found_in self.now number ≡ None)
-            (λ first. IsLeast (found_in self.now) (16 * region + place) (Some first)) }
+            ((number : ℕ) → 16 * page + place ≤ number → number < 16 * page + 16 → found_in self.now number ≡ None)
+            (λ first. IsLeast (found_in self.now) (16 * page + place) (Some first)) }
     {
-        match self.tree.get(&region) {
-            Some(at) => match self.regions[*at].first_from(place) {
-                Some(first) => Some(16 * region + u64::from(first)),
+        match self.tree.get(&page) {
+            Some(at) => match self.pages[*at].first_from(place) {
+                Some(first) => Some(16 * page + u64::from(first)),
                 None => None,
             },
             None => None,
         }
     }
 
-    // Where a region stands in the list. It is mostly the one that was added last.
-    #[inline(always)]
-    fn region_at(&self, region: u64) -> Option<usize>
-        requires { region < 2 ^ 60 }
-        ensures { result ≡ tree.get nat_cmp self.now.tree region }
+    // How many blocks the pages have with one that stands somewhere, if it stands, and else is added.
+    pub(crate) fn blocks_with(&self, page: Option<usize>) -> Option<usize>
+        ensures { IfSome result (λ many. many ≡ blocks_with self.now page) }
     {
-        if region == self.last {
+        let more = usize::from(page.is_none());
+        self.pages.len().checked_add(more)?.checked_mul(16)
+    }
+
+    // Where a page stands in the list. It is mostly the one that was added last.
+    #[inline(always)]
+    pub(crate) fn page_at(&self, page: u64) -> Option<usize>
+        requires { page < 2 ^ 60 }
+        ensures { result ≡ tree.get nat_cmp self.now.tree page }
+    {
+        if page == self.last {
             return Some(self.last_at);
         }
-        self.tree.get(&region).copied()
+        self.tree.get(&page).copied()
     }
 
-    // Adds a page, or refuses it and stays as it was.
-    pub(crate) fn insert(&mut self, number: u64, index: usize) -> Result<(), NoMemory>
+    // Adds a block, whose page stands somewhere or is added, or refuses it and stays as it was.
+    pub(crate) fn insert(
+        &mut self,
+        number: u64,
+        index: usize,
+        page: Option<usize>,
+    ) -> Result<(), NoMemory>
+        requires page { page ≡ tree.get nat_cmp self.old.tree (number / 16) }
         requires fits { index < 4294967295 }
         ensures ok { OnOk result (IsWith (found_in self.old) (found_in self.new) number index) }
+        ensures blocks { OnOk result (blocks_of self.new ≡ blocks_with self.old page) }
         ensures err { OnErr result ((other : ℕ) → found_in self.new other ≡ found_in self.old other) }
+        ensures refused { OnErr result (blocks_of self.new ≡ blocks_of self.old) }
+        ensures only_new { OnErr result (page ≡ None) }
     {
-        match self.region_at(number / 16) {
+        match page {
             Some(at) => {
-                self.regions[at].set((number % 16) as u8, index);
+                self.pages[at].set((number % 16) as u8, index);
                 Ok(())
             }
-            None => self.add_region(number, index),
+            None => self.add_page(number, index),
         }
     }
 
-    // Adds a region with one page.
-    fn add_region(&mut self, number: u64, index: usize) -> Result<(), NoMemory>
+    // Adds a page with one block.
+    fn add_page(&mut self, number: u64, index: usize) -> Result<(), NoMemory>
         requires absent { tree.get nat_cmp self.old.tree (number / 16) ≡ None }
         requires fits { index < 4294967295 }
         ensures ok { OnOk result (IsWith (found_in self.old) (found_in self.new) number index) }
+        ensures blocks { OnOk result (blocks_of self.new ≡ blocks_of self.old + 16) }
         ensures err { OnErr result ((other : ℕ) → found_in self.new other ≡ found_in self.old other) }
+        ensures refused { OnErr result (blocks_of self.new ≡ blocks_of self.old) }
     {
-        let Ok(()) = self.regions.reserve(1) else {
+        let Ok(()) = self.pages.reserve(1) else {
             return Err(NoMemory);
         };
-        let at = self.regions.len();
+        let at = self.pages.len();
         let Ok(_) = self.tree.insert(number / 16, at) else {
             return Err(NoMemory);
         };
-        let mut region = Region::new();
-        region.set((number % 16) as u8, index);
-        self.regions.push_reserved(region);
+        let mut page = Page::new();
+        page.set((number % 16) as u8, index);
+        self.pages.push_reserved(page);
         self.last = number / 16;
         self.last_at = at;
         Ok(())

@@ -1,6 +1,7 @@
 //! Tagged memory: stores of granules, each with a tag and sixteen bytes.
 #![tactic(auto)]
 
+mod block;
 mod chains;
 mod directory;
 mod linking;
@@ -8,7 +9,7 @@ mod list_store;
 mod overwriting;
 mod page;
 mod page_store;
-mod region;
+mod room;
 mod store;
 
 pub use crate::list_store::ListStore;

@@ -10,7 +10,7 @@ pub const LINE_LIMIT: usize = 95;
 /// The front of some bytes: the line that they begin with, or that there is none. It looks at the
 /// first 96 bytes at most.
 pub fn front(bytes: &[u8]) -> Front
-    ensures { IsFront bytes.now result }
+    ensures found { IsFront bytes.now result }
 {
     let window = bytes.len().min(LINE_LIMIT + 1);
     for index in 0..window {

@@ -43,7 +43,7 @@ impl Single for Number {
 /// Writes a number in sixteen hexadecimal digits.
 pub fn write_number(buffer: &mut [u8], at: usize, number: u64) -> usize
     requires { at + 16 ≤ length buffer.old }
-    ensures { Writes at (hex_digits 16 number) buffer.old buffer.new result }
+    ensures written { Writes at (hex_digits 16 number) buffer.old buffer.new result }
 {
     put_hex(buffer, at, 16, u128::from(number))
 }

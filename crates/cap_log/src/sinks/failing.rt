@@ -2,7 +2,9 @@
 
 ghost use Rattle.std.specs.Prelude.{◌≡◌, ◌≢◌, ◌+◌, ◌-◌, ◌%◌, ◌^◌, ◌≤◌, ◌<◌, ℕ, List, [], ◌++◌, length, take, None, Some, option_map, IfOk, IsErr, OnOk, OnErr};
 ghost use Rattle.cap_log.specs.Streams.{next_count};
-ghost use Rattle.cap_log.specs.Failings.{own_faults};
+ghost use Rattle.cap_log.specs.Failings.{inner_sink, own_faults, pushes_left};
+ghost use Rattle.std.proofs.Math.Nat.{mod-lt};
+ghost use Rattle.std.proofs.lemmas.Nat.{pow_pos};
 
 use crate::sinks::{PushFault, Sink};
 
@@ -17,8 +19,8 @@ pub struct FailingSink<K: Sink> {
 impl<K: Sink> FailingSink<K> {
     /// The inner sink, but for push number `at`, counted from 0: that one fails without asking it.
     pub fn new(inner: K, at: u64) -> FailingSink<K>
-        ensures inner { result.inner ≡ inner }
-        ensures waits { result.waits ≡ Some at }
+        ensures inner { inner_sink result ≡ inner }
+        ensures waits { pushes_left result ≡ Some at }
     {
         FailingSink {
             inner,
@@ -34,22 +36,24 @@ impl<K: Sink> Sink for FailingSink<K> {
 
     ghost nothing = { λ s. K.nothing s.inner };
 
+    ghost faults_fit = { λ s. mod-lt (K.faults s.inner + own_faults s.waits) (pow_pos 64) };
+
     ghost joined = { λ a b c xs ys h k. K.joined a.inner b.inner c.inner xs ys h k };
 
     fn push(&mut self, piece: &[u8]) -> Result<usize, PushFault>
         ensures fits { IfOk result (λ n. n ≤ length piece.now) }
         ensures some { IfOk result (λ n. 0 < length piece.now → 0 < n) }
-        ensures bytes { IfOk result (λ n. K.took self.old.inner self.new.inner (take n piece.now)) }
-        ensures counted { OnOk result ((K.faults self.new.inner + own_faults self.new.waits) % 2 ^ 64
-            ≡ (K.faults self.old.inner + own_faults self.old.waits) % 2 ^ 64) }
-        ensures nothing_taken { OnErr result (K.took self.old.inner self.new.inner []) }
-        ensures fault_counted { OnErr result ((K.faults self.new.inner + own_faults self.new.waits) % 2 ^ 64
-            ≡ next_count ((K.faults self.old.inner + own_faults self.old.waits) % 2 ^ 64)) }
+        ensures bytes { IfOk result (λ n. K.took (inner_sink self.old) (inner_sink self.new) (take n piece.now)) }
+        ensures counted { OnOk result ((K.faults (inner_sink self.new) + own_faults (pushes_left self.new)) % 2 ^ 64
+            ≡ (K.faults (inner_sink self.old) + own_faults (pushes_left self.old)) % 2 ^ 64) }
+        ensures nothing_taken { OnErr result (K.took (inner_sink self.old) (inner_sink self.new) []) }
+        ensures fault_counted { OnErr result ((K.faults (inner_sink self.new) + own_faults (pushes_left self.new)) % 2 ^ 64
+            ≡ next_count ((K.faults (inner_sink self.old) + own_faults (pushes_left self.old)) % 2 ^ 64)) }
 
         // One push fails, and leaves the inner sink as it is. All others are passed on.
-        ensures failing { self.old.waits ≡ Some 0 → IsErr result × (self.new.inner ≡ self.old.inner) × (self.new.waits ≡ None) }
-        ensures waiting { self.old.waits ≢ Some 0 → self.new.waits ≡ option_map (λ n. n - 1) self.old.waits }
-        ensures inner_fault { OnErr result (self.old.waits ≢ Some 0 → K.faults self.new.inner ≡ next_count (K.faults self.old.inner)) }
+        ensures failing { pushes_left self.old ≡ Some 0 → IsErr result × (inner_sink self.new ≡ inner_sink self.old) × (pushes_left self.new ≡ None) }
+        ensures waiting { pushes_left self.old ≢ Some 0 → pushes_left self.new ≡ option_map (λ n. n - 1) (pushes_left self.old) }
+        ensures inner_fault { OnErr result (pushes_left self.old ≢ Some 0 → K.faults (inner_sink self.new) ≡ next_count (K.faults (inner_sink self.old))) }
     {
         match self.waits {
             Some(0) => {

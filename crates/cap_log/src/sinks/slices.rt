@@ -1,6 +1,6 @@
 //! A sink over bytes in memory.
 
-ghost use Rattle.std.specs.Prelude.{◌≡◌, ◌≢◌, ℕ, ◌≤◌, List, [], ◌++◌, length, min, take, ◌<◌, ◌↔◌, IfOk, IsErr, OnOk, OnErr};
+ghost use Rattle.std.specs.Prelude.{◌≡◌, ◌≢◌, ◌^◌, ℕ, ◌≤◌, List, [], ◌++◌, length, min, take, ◌<◌, ◌↔◌, IfOk, IsErr, OnOk, OnErr};
 ghost use Rattle.std.proofs.Common.{refl, ◌∙◌};
 ghost use Rattle.cap_log.specs.Streams.{next_count};
 ghost use Rattle.cap_log.specs.Written.{WritesInside-nothing, WritesInside-joined};
@@ -14,15 +14,18 @@ pub struct SliceSink<'a> {
     taken: usize,
     faults: u64,
     ghost fits: { taken ≤ length room.now },
+    ghost few_faults: { faults < 2 ^ 64 },
 }
 
 impl<'a> SliceSink<'a> {
+    ghost use Rattle.cap_log.specs.Slices.{faults_of, name_of_room, room_of, taken_by};
+
     /// Bytes go to the front of the slice. None were taken, and there were no faults.
     pub fn new(room: &'a mut [u8]) -> SliceSink<'a>
-        ensures same_reference { result.room.ghost_name ≡ room.entry.ghost_name }
-        ensures room { result.room.now ≡ room.old }
-        ensures taken { result.taken ≡ 0 }
-        ensures faults { result.faults ≡ 0 }
+        ensures same_reference { name_of_room result ≡ room.entry.ghost_name }
+        ensures room { room_of result ≡ room.old }
+        ensures taken { taken_by result ≡ 0 }
+        ensures faults { faults_of result ≡ 0 }
     {
         SliceSink {
             room,
@@ -33,20 +36,22 @@ impl<'a> SliceSink<'a> {
 
     /// How many bytes it took.
     pub fn taken(&self) -> usize
-        ensures { result ≡ self.now.taken }
+        ensures count { result ≡ taken_by self.now }
     {
         self.taken
     }
 }
 
 impl<'a> Sink for SliceSink<'a> {
-    ghost use Rattle.cap_log.specs.Slices.{Took, room_left};
+    ghost use Rattle.cap_log.specs.Slices.{Took, faults_of, room_left};
 
     ghost took = { Took };
 
     ghost faults = { λ s. s.faults };
 
     ghost nothing = { λ s. (refl, WritesInside-nothing s.taken s.room.now s.fits) };
+
+    ghost faults_fit = { λ s. s.few_faults };
 
     ghost joined = { λ a b c xs ys h k. (
       k.0 ∙ h.0,
@@ -57,9 +62,9 @@ impl<'a> Sink for SliceSink<'a> {
         ensures fits { IfOk result (λ n. n ≤ length piece.now) }
         ensures some { IfOk result (λ n. 0 < length piece.now → 0 < n) }
         ensures bytes { IfOk result (λ n. Took self.old self.new (take n piece.now)) }
-        ensures counted { OnOk result (self.new.faults ≡ self.old.faults) }
+        ensures counted { OnOk result (faults_of self.new ≡ faults_of self.old) }
         ensures nothing_taken { OnErr result (Took self.old self.new []) }
-        ensures fault_counted { OnErr result (self.new.faults ≡ next_count (self.old.faults)) }
+        ensures fault_counted { OnErr result (faults_of self.new ≡ next_count (faults_of self.old)) }
         ensures takes_what_fits { IfOk result (λ n. n ≡ min (length piece.now) (room_left self.old)) }
         ensures fails_where_full { IsErr result ↔ ((room_left self.old ≡ 0) × (piece.now ≢ [])) }
     {

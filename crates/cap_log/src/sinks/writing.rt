@@ -1,6 +1,6 @@
 //! A sink over a writer.
 
-ghost use Rattle.std.specs.Prelude.{◌≡◌, ◌++◌, List, ℕ};
+ghost use Rattle.std.specs.Prelude.{◌≡◌, ◌<◌, ◌^◌, ◌++◌, List, ℕ};
 ghost use Rattle.std.proofs.Common.{refl, ◌∙◌};
 ghost use Rattle.std.specs.Io.KnownBytes.{Appends};
 ghost use Rattle.cap_log.specs.Known.{Appends-nothing, Appends-joined};
@@ -13,6 +13,7 @@ use std::io::Write;
 pub struct WriteSink<'a, W: Write> {
     writer: &'a mut W,
     faults: u64,
+    ghost few_faults: { faults < 2 ^ 64 },
 }
 
 impl<'a, W: Write> WriteSink<'a, W> {
@@ -32,6 +33,8 @@ impl<'a, W: Write> Sink for WriteSink<'a, W> {
     ghost faults = { λ s. s.faults };
 
     ghost nothing = { λ s. (refl, Appends-nothing (W.contents s.writer.now)) };
+
+    ghost faults_fit = { λ s. s.few_faults };
 
     ghost joined = { λ a b c xs ys h k. (
       k.0 ∙ h.0,

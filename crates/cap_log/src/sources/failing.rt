@@ -2,7 +2,9 @@
 
 ghost use Rattle.std.specs.Prelude.{◌≡◌, ◌≢◌, ◌+◌, ◌-◌, ◌%◌, ◌^◌, ◌≤◌, ℕ, List, [], ◌++◌, false, length, take, if◌then◌else◌, None, Some, option_map, IfOk, IsErr, OnOk, OnErr};
 ghost use Rattle.cap_log.specs.Streams.{is_end, next_count};
-ghost use Rattle.cap_log.specs.Failings.{own_faults};
+ghost use Rattle.cap_log.specs.Failings.{has_just_failed, inner_source, own_faults, pulls_left};
+ghost use Rattle.std.proofs.Math.Nat.{mod-lt};
+ghost use Rattle.std.proofs.lemmas.Nat.{pow_pos};
 
 use crate::sources::{PullFault, Source};
 
@@ -19,9 +21,9 @@ pub struct FailingSource<S: Source> {
 impl<S: Source> FailingSource<S> {
     /// The inner source, but for pull number `at`, counted from 0: that one fails without asking it.
     pub fn new(inner: S, at: u64) -> FailingSource<S>
-        ensures inner { result.inner ≡ inner }
-        ensures waits { result.waits ≡ Some at }
-        ensures begins { result.is_failed ≡ false }
+        ensures inner { inner_source result ≡ inner }
+        ensures waits { pulls_left result ≡ Some at }
+        ensures begins { has_just_failed result ≡ false }
     {
         FailingSource {
             inner,
@@ -40,23 +42,25 @@ impl<S: Source> Source for FailingSource<S> {
 
     ghost nothing = { λ s. S.nothing s.inner };
 
+    ghost faults_fit = { λ s. mod-lt (S.faults s.inner + own_faults s.waits) (pow_pos 64) };
+
     ghost joined = { λ a b c xs ys h k. S.joined a.inner b.inner c.inner xs ys h k };
 
     fn pull(&mut self, piece: &mut [u8]) -> Result<usize, PullFault>
         ensures fits { IfOk result (λ n. n ≤ length piece.new) }
-        ensures bytes { IfOk result (λ n. S.gave self.old.inner self.new.inner (take n piece.new)) }
-        ensures end { IfOk result (λ n. (if self.new.is_failed then false else S.ended self.new.inner) ≡ is_end (length piece.new) n) }
-        ensures counted { OnOk result ((S.faults self.new.inner + own_faults self.new.waits) % 2 ^ 64
-            ≡ (S.faults self.old.inner + own_faults self.old.waits) % 2 ^ 64) }
-        ensures nothing_given { OnErr result (S.gave self.old.inner self.new.inner []) }
-        ensures no_end { OnErr result ((if self.new.is_failed then false else S.ended self.new.inner) ≡ false) }
-        ensures fault_counted { OnErr result ((S.faults self.new.inner + own_faults self.new.waits) % 2 ^ 64
-            ≡ next_count ((S.faults self.old.inner + own_faults self.old.waits) % 2 ^ 64)) }
+        ensures bytes { IfOk result (λ n. S.gave (inner_source self.old) (inner_source self.new) (take n piece.new)) }
+        ensures end { IfOk result (λ n. (if has_just_failed self.new then false else S.ended (inner_source self.new)) ≡ is_end (length piece.new) n) }
+        ensures counted { OnOk result ((S.faults (inner_source self.new) + own_faults (pulls_left self.new)) % 2 ^ 64
+            ≡ (S.faults (inner_source self.old) + own_faults (pulls_left self.old)) % 2 ^ 64) }
+        ensures nothing_given { OnErr result (S.gave (inner_source self.old) (inner_source self.new) []) }
+        ensures no_end { OnErr result ((if has_just_failed self.new then false else S.ended (inner_source self.new)) ≡ false) }
+        ensures fault_counted { OnErr result ((S.faults (inner_source self.new) + own_faults (pulls_left self.new)) % 2 ^ 64
+            ≡ next_count ((S.faults (inner_source self.old) + own_faults (pulls_left self.old)) % 2 ^ 64)) }
 
         // One pull fails, and leaves the inner source as it is. All others are passed on.
-        ensures failing { self.old.waits ≡ Some 0 → IsErr result × (self.new.inner ≡ self.old.inner) × (self.new.waits ≡ None) }
-        ensures waiting { self.old.waits ≢ Some 0 → self.new.waits ≡ option_map (λ n. n - 1) self.old.waits }
-        ensures inner_fault { OnErr result (self.old.waits ≢ Some 0 → S.faults self.new.inner ≡ next_count (S.faults self.old.inner)) }
+        ensures failing { pulls_left self.old ≡ Some 0 → IsErr result × (inner_source self.new ≡ inner_source self.old) × (pulls_left self.new ≡ None) }
+        ensures waiting { pulls_left self.old ≢ Some 0 → pulls_left self.new ≡ option_map (λ n. n - 1) (pulls_left self.old) }
+        ensures inner_fault { OnErr result (pulls_left self.old ≢ Some 0 → S.faults (inner_source self.new) ≡ next_count (S.faults (inner_source self.old))) }
     {
         self.is_failed = self.waits == Some(0);
         if self.is_failed {

@@ -13,15 +13,18 @@ pub struct ReadSource<R: Read> {
     reader: R,
     is_ended: bool,
     faults: u64,
+    ghost few_faults: { faults < 2 ^ 64 },
     ghost all_given: { is_ended ≡ true → (xs : List ℕ) → R.remaining reader ≡ Some xs → xs ≡ [] },
 }
 
 impl<R: Read> ReadSource<R> {
+    ghost use Rattle.cap_log.specs.Wrapped.{reader_of};
+
     /// The bytes that the reader has left. It has not ended, and has no fault.
     pub fn new(reader: R) -> ReadSource<R>
-        ensures reader { result.reader ≡ reader }
-        ensures unended { result.is_ended ≡ false }
-        ensures no_fault { result.faults ≡ 0 }
+        ensures reader { reader_of result ≡ reader }
+        ensures unended { ⟦<ReadSource<R> as Source>⟧.ended result ≡ false }
+        ensures no_fault { ⟦<ReadSource<R> as Source>⟧.faults result ≡ 0 }
     {
         ReadSource {
             reader,
@@ -39,6 +42,8 @@ impl<R: Read> Source for ReadSource<R> {
     ghost faults = { λ s. s.faults };
 
     ghost nothing = { λ s. Consumes-nothing (R.remaining s.reader) };
+
+    ghost faults_fit = { λ s. s.few_faults };
 
     ghost joined = { λ a b c xs ys h k. Consumes-joined (R.remaining a.reader) (R.remaining b.reader) (R.remaining c.reader) xs ys h k };
 

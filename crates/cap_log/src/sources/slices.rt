@@ -1,7 +1,8 @@
 //! A source over bytes in memory.
 
-ghost use Rattle.std.specs.Prelude.{◌≡◌, ◌+◌, ◌≤◌, ℕ, List, [], ◌++◌, true, false, length, take, drop, min};
-ghost use Rattle.cap_log.specs.Streams.{is_end};
+ghost use Rattle.std.specs.Prelude.{◌≡◌, ◌+◌, ◌≤◌, ℕ, List, [], ◌++◌, true, false, length, take, drop, min, IfOk, IsOk, OnOk, OnErr};
+ghost use Rattle.cap_log.specs.Streams.{is_end, next_count};
+ghost use Rattle.std.proofs.lemmas.Nat.{pow_pos};
 ghost use Rattle.std.proofs.Common.{rules, append_assoc};
 
 use crate::sources::{PullFault, Source};
@@ -17,14 +18,14 @@ pub struct SliceSource<'a> {
 }
 
 impl<'a> SliceSource<'a> {
-    ghost use Rattle.cap_log.specs.Slices.{Gave, GivesPiece, bytes_left, lengths_left, piece_lengths};
+    ghost use Rattle.cap_log.specs.Slices.{Gave, GivesPiece, bytes_left, has_ended, lengths_left, piece_lengths};
 
     /// The bytes in pieces of these lengths. A length 0 is skipped, and what is left after the last is
     /// one piece.
     pub fn new(bytes: &'a [u8], lengths: &'a [usize]) -> SliceSource<'a>
         ensures bytes { bytes_left result ≡ bytes.now }
         ensures lengths { lengths_left result ≡ (0, lengths.now) }
-        ensures unended { result.is_ended ≡ false }
+        ensures unended { has_ended result ≡ false }
     {
         SliceSource {
             rest: bytes,
@@ -72,19 +73,33 @@ impl<'a> SliceSource<'a> {
 }
 
 impl<'a> Source for SliceSource<'a> {
-    ghost use Rattle.cap_log.specs.Slices.{Gave};
+    ghost use Rattle.cap_log.specs.Slices.{Gave, GivesPiece, failed_pulls, has_ended};
 
     ghost gave = { Gave };
 
     ghost ended = { λ s. s.is_ended };
 
-    ghost faults = { λ s. 0 };
+    ghost faults = { failed_pulls };
 
     ghost nothing = { λ s. Prim.search rules };
 
+    ghost faults_fit = { λ s. pow_pos 64 };
+
     ghost joined = { λ a b c xs ys h k. Prim.search (rules, append_assoc) };
 
-    fn pull(&mut self, piece: &mut [u8]) -> Result<usize, PullFault> {
+    fn pull(&mut self, piece: &mut [u8]) -> Result<usize, PullFault>
+        ensures fits { IfOk result (λ n. n ≤ length piece.new) }
+        ensures bytes { IfOk result (λ n. Gave self.old self.new (take n piece.new)) }
+        ensures end { IfOk result (λ n. has_ended self.new ≡ is_end (length piece.new) n) }
+        ensures counted { OnOk result (failed_pulls self.new ≡ failed_pulls self.old) }
+        ensures nothing_given { OnErr result (Gave self.old self.new []) }
+        ensures no_end { OnErr result (has_ended self.new ≡ false) }
+        ensures fault_counted { OnErr result (failed_pulls self.new ≡ next_count (failed_pulls self.old)) }
+
+        // It never fails, and gives as much of the piece at hand as there is room for.
+        ensures never_fails { IsOk result }
+        ensures pieces { IfOk result (λ n. GivesPiece self.old self.new (length piece.new) n) }
+    {
         Ok(self.give(piece))
     }
 }

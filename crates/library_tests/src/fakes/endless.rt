@@ -8,6 +8,7 @@ pub struct Endless(pub u8);
 
 impl Source for Endless {
     ghost use Rattle.std.specs.Prelude.{false};
+    ghost use Rattle.std.proofs.lemmas.Nat.{pow_pos};
 
     ghost gave = { λ a b xs. Unit {0} };
 
@@ -16,6 +17,8 @@ impl Source for Endless {
     ghost faults = { λ s. 0 };
 
     ghost nothing = { λ s. tt };
+
+    ghost faults_fit = { λ s. pow_pos 64 };
 
     ghost joined = { λ a b c xs ys h k. tt };
 

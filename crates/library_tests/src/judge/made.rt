@@ -78,6 +78,8 @@ impl<L: Script> Made<L> {
 }
 
 impl<L: Script> Source for Made<L> {
+    ghost use Rattle.std.proofs.lemmas.Nat.{pow_pos};
+
     ghost gave = { λ a b xs. Unit {0} };
 
     ghost ended = { λ s. s.is_ended };
@@ -85,6 +87,8 @@ impl<L: Script> Source for Made<L> {
     ghost faults = { λ s. 0 };
 
     ghost nothing = { λ s. tt };
+
+    ghost faults_fit = { λ s. pow_pos 64 };
 
     ghost joined = { λ a b c xs ys h k. tt };
 

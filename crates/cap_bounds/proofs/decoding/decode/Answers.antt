@@ -10,7 +10,7 @@ returns-then-cut_exponent-le-LAST_CORRECTED_EXPONENT-clause-base c =
     let raw = raw_base_at s.result.cut_exponent s.result.b c.address.result in
     c.base_from-base.ensures
     ∙ decoded_base c.args.word.0 s.result.cut_exponent s.result.b s.result.span c.address.result raw
-    s.ensures.cut_exponent s.ensures.b s.ensures.span c.address.ensures refl
+    s.ensures.cut_exponent s.ensures.b s.ensures.span c.address.ensures.value refl
 
 pub returns-then-cut_exponent-le-LAST_CORRECTED_EXPONENT-clause-top : goal.returns-then-cut_exponent-le-LAST_CORRECTED_EXPONENT-clause-top
 returns-then-cut_exponent-le-LAST_CORRECTED_EXPONENT-clause-top c =
@@ -21,7 +21,7 @@ returns-then-cut_exponent-le-LAST_CORRECTED_EXPONENT-clause-top c =
     omega (arith, c.from.ensures, c.from-length.ensures, c.scaled_short.ensures.value, c.base_from-base.ensures) in
     sum ∙ sym (top_at-corrected s.result.cut_exponent raw length c.if-cut_exponent-le-LAST_CORRECTED_EXPONENT.true)
     ∙ decoded_top c.args.word.0 s.result.cut_exponent s.result.b s.result.span c.address.result raw
-    s.ensures.cut_exponent s.ensures.b s.ensures.span c.address.ensures refl
+    s.ensures.cut_exponent s.ensures.b s.ensures.span c.address.ensures.value refl
 
 pub returns-then-cut_exponent-le-LAST_CORRECTED_EXPONENT-clause-length :
     goal.returns-then-cut_exponent-le-LAST_CORRECTED_EXPONENT-clause-length
@@ -30,7 +30,7 @@ returns-then-cut_exponent-le-LAST_CORRECTED_EXPONENT-clause-length c =
     let raw = raw_base_at s.result.cut_exponent s.result.b c.address.result in
     c.from-length.ensures ∙ c.scaled_short.ensures.value
     ∙ decoded_length c.args.word.0 s.result.cut_exponent s.result.b s.result.span c.address.result raw
-    s.ensures.cut_exponent s.ensures.b s.ensures.span c.address.ensures refl
+    s.ensures.cut_exponent s.ensures.b s.ensures.span c.address.ensures.value refl
 
 pub returns-else-cut_exponent-le-LAST_CORRECTED_EXPONENT-clause-base : goal.returns-else-cut_exponent-le-LAST_CORRECTED_EXPONENT-clause-base
 returns-else-cut_exponent-le-LAST_CORRECTED_EXPONENT-clause-base c =
@@ -38,7 +38,7 @@ returns-else-cut_exponent-le-LAST_CORRECTED_EXPONENT-clause-base c =
     let raw = raw_base_at s.result.cut_exponent s.result.b c.address.result in
     c.base_from-base.ensures
     ∙ decoded_base c.args.word.0 s.result.cut_exponent s.result.b s.result.span c.address.result raw
-    s.ensures.cut_exponent s.ensures.b s.ensures.span c.address.ensures refl
+    s.ensures.cut_exponent s.ensures.b s.ensures.span c.address.ensures.value refl
 
 pub returns-else-cut_exponent-le-LAST_CORRECTED_EXPONENT-clause-top : goal.returns-else-cut_exponent-le-LAST_CORRECTED_EXPONENT-clause-top
 returns-else-cut_exponent-le-LAST_CORRECTED_EXPONENT-clause-top c =
@@ -47,7 +47,7 @@ returns-else-cut_exponent-le-LAST_CORRECTED_EXPONENT-clause-top c =
     c.uncorrected_top.ensures
     ∙ top_without_address s.result.cut_exponent s.result.b c.address.result s.result.span c.if-cut_exponent-le-LAST_CORRECTED_EXPONENT.false
     ∙ decoded_top c.args.word.0 s.result.cut_exponent s.result.b s.result.span c.address.result raw
-    s.ensures.cut_exponent s.ensures.b s.ensures.span c.address.ensures refl
+    s.ensures.cut_exponent s.ensures.b s.ensures.span c.address.ensures.value refl
 
 pub returns-else-cut_exponent-le-LAST_CORRECTED_EXPONENT-clause-length :
     goal.returns-else-cut_exponent-le-LAST_CORRECTED_EXPONENT-clause-length
@@ -56,4 +56,4 @@ returns-else-cut_exponent-le-LAST_CORRECTED_EXPONENT-clause-length c =
     let raw = raw_base_at s.result.cut_exponent s.result.b c.address.result in
     c.scaled.ensures.value
     ∙ decoded_length c.args.word.0 s.result.cut_exponent s.result.b s.result.span c.address.result raw
-    s.ensures.cut_exponent s.ensures.b s.ensures.span c.address.ensures refl
+    s.ensures.cut_exponent s.ensures.b s.ensures.span c.address.ensures.value refl

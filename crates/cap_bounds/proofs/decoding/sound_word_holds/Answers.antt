@@ -18,7 +18,12 @@ returns-then-span-eq0 c =
     s.ensures.cut_exponent s.ensures.b s.ensures.span refl refl in
     let none : s.result.span * 2 ^ s.result.cut_exponent ≡ 0 * 2 ^ s.result.cut_exponent =
     ap (λ n. n * 2 ^ s.result.cut_exponent) c.if-span-eq0.true in
-    (λ is. absurd (false≢true is), λ inside. absurd (omega (arith, length, none, c.requires.sound.0, c.requires.some, inside.0, inside.1)))
+    record {
+      inside = (
+        λ is. absurd (false≢true is),
+        λ inside. absurd (omega (arith, length, none, c.requires.sound.0, c.requires.some, inside.0, inside.1)),
+      );
+    }
 
 pub returns-then-first-last : goal.returns-then-first-last
 returns-then-first-last c =
@@ -27,16 +32,18 @@ returns-then-first-last c =
     let raw = raw_base_at s.result.cut_exponent s.result.b c.address.result in
     let length : s.result.span * 2 ^ s.result.cut_exponent ≡ length_of w =
     decoded_length w s.result.cut_exponent s.result.b s.result.span c.address.result raw
-    s.ensures.cut_exponent s.ensures.b s.ensures.span c.address.ensures refl in
+    s.ensures.cut_exponent s.ensures.b s.ensures.span c.address.ensures.value refl in
     let base : c.base_from.result ≡ base_of w =
     c.base_from.ensures ∙ decoded_base w s.result.cut_exponent s.result.b s.result.span c.address.result raw
-    s.ensures.cut_exponent s.ensures.b s.ensures.span c.address.ensures refl in
+    s.ensures.cut_exponent s.ensures.b s.ensures.span c.address.ensures.value refl in
     let first = (c.args.address + (2 ^ 64 - c.base_from.result)) % 2 ^ 64 in
     let last = (s.result.span * 2 ^ s.result.cut_exponent % 2 ^ 64 + (2 ^ 64 - 1)) % 2 ^ 64 in
     let within = bounds_in (base_of w) (length_of w) (top_of w) c.args.address c.args.count first last c.requires.sound.0
     c.requires.sound.1 (omega arith)
     c.requires.some (ap (λ x. (c.args.address + (2 ^ 64 - x)) % 2 ^ 64) base) (ap (λ x. (x % 2 ^ 64 + (2 ^ 64 - 1)) % 2 ^ 64) length) in
-    (λ is. absurd (false≢true is), λ inside. absurd (omega (arith, (within inside.0 inside.1).0, c.if-first-last.true)))
+    record {
+      inside = (λ is. absurd (false≢true is), λ inside. absurd (omega (arith, (within inside.0 inside.1).0, c.if-first-last.true)));
+    }
 
 pub returns : goal.returns
 returns c =
@@ -45,10 +52,10 @@ returns c =
     let raw = raw_base_at s.result.cut_exponent s.result.b c.address.result in
     let length : s.result.span * 2 ^ s.result.cut_exponent ≡ length_of w =
     decoded_length w s.result.cut_exponent s.result.b s.result.span c.address.result raw
-    s.ensures.cut_exponent s.ensures.b s.ensures.span c.address.ensures refl in
+    s.ensures.cut_exponent s.ensures.b s.ensures.span c.address.ensures.value refl in
     let base : c.base_from.result ≡ base_of w =
     c.base_from.ensures ∙ decoded_base w s.result.cut_exponent s.result.b s.result.span c.address.result raw
-    s.ensures.cut_exponent s.ensures.b s.ensures.span c.address.ensures refl in
+    s.ensures.cut_exponent s.ensures.b s.ensures.span c.address.ensures.value refl in
     let some : s.result.span ≤ s.result.span * 2 ^ s.result.cut_exponent =
     le-mul_of_pos_right s.result.span (pow_pos s.result.cut_exponent) in
     let first = (c.args.address + (2 ^ 64 - c.base_from.result)) % 2 ^ 64 in
@@ -60,7 +67,9 @@ returns c =
     c.requires.some (omega (arith, some, length, c.if-span-eq0.false)) first_is last_is c.if-first-last.false in
     let from = bounds_in (base_of w) (length_of w) (top_of w) c.args.address c.args.count first last c.requires.sound.0
     c.requires.sound.1 (omega arith)
-    c.requires.some first_is last_is in (
-      λ is. to (omega (arith, leb-true _ _ is, c.from.ensures)),
-      λ inside. le-leb _ _ (omega (arith, (from inside.0 inside.1).1, c.from.ensures)),
-    )
+    c.requires.some first_is last_is in record {
+      inside = (
+        λ is. to (omega (arith, leb-true _ _ is, c.from.ensures)),
+        λ inside. le-leb _ _ (omega (arith, (from inside.0 inside.1).1, c.from.ensures)),
+      );
+    }

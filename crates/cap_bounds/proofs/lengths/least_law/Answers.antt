@@ -5,9 +5,9 @@ use Rattle.cap_bounds.proofs.lengths.least_law.Goals as goal
 
 requested : goal.returns-clause-requested
 requested c = (
-  λ t. let h = c.contains.ensures.0 t in
+  λ t. let h = c.contains.ensures.inside.0 t in
       (omega (arith, c.bounds.ensures.base, h.0), omega (arith, c.bounds.ensures.top, c.requested_top.ensures.value, h.1)),
-  λ h. c.contains.ensures.1
+  λ h. c.contains.ensures.inside.1
       (omega (arith, c.bounds.ensures.base, h.0), omega (arith, c.bounds.ensures.top, c.requested_top.ensures.value, h.1)),
 )
 

@@ -5,6 +5,7 @@ use Rattle.cap_judge.specs.FaultLines.{bytes_of}
 use Rattle.cap_judge.specs.Judgings.{JudgedBy}
 use Rattle.cap_judge.proofs.ReportLemmas.{IsHeld}
 use Rattle.cap_judge.proofs.WhyLemmas.{told}
+use Rattle.cap_judge.proofs.EscapeLaws.{named}
 use Rattle.cap_judge.proofs.explaining.judge_why_in.Goals as goal
 
 pub returns-clause-explained : goal.returns-clause-explained
@@ -59,3 +60,6 @@ returns-in_err-push_why-clause-explained g c =
         why.3,
       );
     })
+
+pub returns-clause-escape : goal.returns-clause-escape
+returns-clause-escape g c = named c.in_ok-verdict.verdict

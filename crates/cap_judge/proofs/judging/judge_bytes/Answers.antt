@@ -3,7 +3,8 @@ use Rattle.cap_machine.proofs.AuthorityLemmas.{one_root}
 use Rattle.cap_machine.proofs.AccessLemmas.{lie_inside}
 use Rattle.cap_judge.specs.Verdicts.{IsVerdict, IsFault}
 use Rattle.cap_judge.proofs.JudgeLemmas.{guarded, guards_all, answered}
-use Rattle.cap_judge.proofs.SourceLemmas.{escape_of, of_all}
+use Rattle.cap_judge.proofs.EscapeLaws.{escape_of}
+use Rattle.cap_judge.proofs.SourceLemmas.{of_all}
 use Rattle.cap_judge.proofs.judging.judge_bytes.Goals as goal
 
 both : (c : goal.After-judge) → IfOk c.judge.result (IsVerdict c.args.bytes.now) × IfErr c.judge.result (IsFault c.args.bytes.now)

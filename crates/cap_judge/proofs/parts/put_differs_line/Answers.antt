@@ -24,4 +24,6 @@ returns-clause-written c =
     (where_different (t_of v == t_of w) (codes " t"))
     (where_different (address_of v == address_of w) (codes " address"))
     (codes "\n") in
+    let first = c.put-at.ensures.written.written in
+    let last = c.put.ensures.written.written in
     cc

@@ -5,6 +5,7 @@ use Rattle.cap_judge.specs.FaultLines.{bytes_of}
 use Rattle.cap_judge.specs.Judgings.{JudgedBy}
 use Rattle.cap_judge.specs.OriginLists.{report_text}
 use Rattle.cap_judge.proofs.ReportLemmas.{IsHeld, tells}
+use Rattle.cap_judge.proofs.EscapeLaws.{named}
 use Rattle.cap_judge.proofs.reporting.judge_origins_in.Goals as goal
 
 pub returns-clause-reported : goal.returns-clause-reported
@@ -54,3 +55,6 @@ returns-in_err-push_report-clause-reported g c =
         part.1,
       );
     })
+
+pub returns-clause-escape : goal.returns-clause-escape
+returns-clause-escape g c = named c.in_ok-verdict.verdict

@@ -7,4 +7,4 @@ returns-clause-short c few =
     let n = c.args.number in
     let short : length (decimal n) ≤ 3 = length-decimal-le 3 n (lit< tt) few (search rules) in
     let text = ap length c.format.ensures.text in
-    omega (arith, c.put.ensures.ends, short, text)
+    omega (arith, c.put.ensures.written.ends, short, text)

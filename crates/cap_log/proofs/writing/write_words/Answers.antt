@@ -18,7 +18,7 @@ write-requires-in-End-clause-room c =
     line_room (line.End c.in-End.steps) fits _ c.requires.room
 
 pub returns-in-Root : goal.returns-in-Root
-returns-in-Root c = rw c.in-Root.is (line_written (line.Root c.in-Root.place c.in-Root.word) _ _ _ c.write.ensures)
+returns-in-Root c = rw c.in-Root.is (line_written (line.Root c.in-Root.place c.in-Root.word) _ _ _ c.write.ensures.written)
 
 pub returns-in-End : goal.returns-in-End
-returns-in-End c = rw c.in-End.is (line_written (line.End c.in-End.steps) _ _ _ c.write-in-End.ensures)
+returns-in-End c = rw c.in-End.is (line_written (line.End c.in-End.steps) _ _ _ c.write-in-End.ensures.written)

@@ -6,5 +6,5 @@ use Rattle.cap_machine.proofs.granules.capability_at.Goals as goal
 
 pub returns-in-None : goal.returns-in-None
 returns-in-None g c =
-    ap (λ (n : ℕ). let cap : Cap = record { tag = false; word = record { 0 = n } } in cap) c.null.ensures
+    ap (λ (n : ℕ). let cap : Cap = record { tag = false; word = record { 0 = n } } in cap) c.null.ensures.value
     ∙ sym (granule_cap-absent (g.M.TaggedStore.contents c.args.memory.now) c.args.granule (shown-none _ (sym c.get.ensures ∙ c.in-None.is)))

@@ -9,4 +9,4 @@ returns-clause-exact c =
     let length = c.args.length in
     let base = c.address.result in
     same_from_decides _ (is_exact base length) c.round.ensures.exact (IsExact-is_exact base length, is_exact-IsExact base length)
-    ∙ ap (λ (x : ℕ). is_exact x length) c.address.ensures
+    ∙ ap (λ (x : ℕ). is_exact x length) c.address.ensures.value

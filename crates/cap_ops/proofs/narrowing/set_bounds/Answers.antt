@@ -11,7 +11,7 @@ returns-in-Err-clause-escape c =
 pub returns-in-Ok-clause-outcome : goal.returns-in-Ok-clause-outcome
 returns-in-Ok-clause-outcome c = (
   c.in-Ok.ensures.0,
-  set_bounds_result-made c.args.source c.with_bounds.result.0 c.args.length _ _ _ _ _ c.address.ensures
+  set_bounds_result-made c.args.source c.with_bounds.result.0 c.args.length _ _ _ _ _ c.address.ensures.value
       c.in-Ok.ensures.1 c.with_bounds.ensures.word,
 )
 
@@ -19,7 +19,7 @@ pub returns-in-Ok-clause-stays_within : goal.returns-in-Ok-clause-stays_within
 returns-in-Ok-clause-stays_within c =
     let source = c.args.source in
     let fits : c.args.length < 2 ^ 64 = omega arith in
-    let result_is = set_bounds_result-made source c.with_bounds.result.0 c.args.length _ _ _ _ _ c.address.ensures c.in-Ok.ensures.1
+    let result_is = set_bounds_result-made source c.with_bounds.result.0 c.args.length _ _ _ _ _ c.address.ensures.value c.in-Ok.ensures.1
     c.with_bounds.ensures.word in
     StaysWithin-same record { tag = source.tag; word = c.with_bounds.result } _ source result_is
     (StaysWithin-set_bounds source c.args.length c.args.exact fits c.in-Ok.ensures.0)
@@ -28,7 +28,7 @@ pub returns-in-Ok-clause-escape : goal.returns-in-Ok-clause-escape
 returns-in-Ok-clause-escape c =
     let source = c.args.source in
     let fits : c.args.length < 2 ^ 64 = omega arith in
-    let result_is = set_bounds_result-made source c.with_bounds.result.0 c.args.length _ _ _ _ _ c.address.ensures c.in-Ok.ensures.1
+    let result_is = set_bounds_result-made source c.with_bounds.result.0 c.args.length _ _ _ _ _ c.address.ensures.value c.in-Ok.ensures.1
     c.with_bounds.ensures.word in
     BoundsEscape-exact source c.args.length c.args.exact (Ok record { tag = source.tag; word = c.with_bounds.result }) fits
     (c.in-Ok.ensures.0, result_is)

@@ -16,4 +16,4 @@ masked_word w v mask field kept e f g =
 pub returns : goal.returns
 unfolding and_perm_result
 returns c = ap (with_word c.args.source) (masked_word c.args.source.word.0 c.replace_permissions.result.0 c.args.mask _ _
-    c.permissions.ensures c.field_of.ensures c.replace_permissions.ensures)
+    c.permissions.ensures.value c.field_of.ensures c.replace_permissions.ensures)

@@ -5,4 +5,4 @@ use Rattle.cap_ops.proofs.permissions.perm_view.Goals as goal
 
 pub returns : goal.returns
 unfolding perm_view_of
-returns c = omega (arith, and_mask c.from-field.result 12)
+returns c = record { value = omega (arith, and_mask c.from-field.result 12) }

@@ -7,7 +7,7 @@ pub returns : goal.returns
 returns c =
     let word = c.replace_permissions-word.ensures
     ∙ ap (with_perms c.null.result.0) (c.field_of.ensures ∙ ap perms_from_view c.from.ensures)
-    ∙ ap (λ w. with_perms w (perms_from_view c.args.view)) c.null.ensures in
+    ∙ ap (λ w. with_perms w (perms_from_view c.args.view)) c.null.ensures.value in
     IsRoot-bounded c.with_bounds.result.0 c.args.base c.args.length c.args.view
     (c.with_bounds.ensures.kept ∙ ap (λ (w : ℕ). w / 2 ^ 91) word) c.requires.view_is c.with_bounds.ensures.address
     (c.with_bounds.ensures.decodes c.args.base c.args.length c.ranges.base.fits c.ranges.length.fits c.requires.ends refl

@@ -7,4 +7,4 @@ pub returns : goal.returns
 returns c =
     IsRoot-whole c.replace_permissions.result.0 c.args.view (c.replace_permissions.ensures
     ∙ ap (with_perms c.null.result.0) (c.field_of.ensures ∙ ap perms_from_view c.from.ensures)
-    ∙ ap (λ w. with_perms w (perms_from_view c.args.view)) c.null.ensures) c.requires
+    ∙ ap (λ w. with_perms w (perms_from_view c.args.view)) c.null.ensures.value) c.requires

@@ -15,7 +15,7 @@ returns-clause-written c =
     let all = four_after (take c.args.at c.args.buffer.now) (text_line (codes "address") (hex_digits 16 (address_of w)))
     (text_line (codes "base") (hex_digits 16 (base_of w))) (text_line (codes "top") (hex_digits 17 (top_of w)))
     (text_line (codes "sound") (yes_or_no (is_sound w))) in
-    let same = is_sound-from c.sound.result w c.sound.ensures in cc
+    let same = is_sound-from c.sound.result w c.sound.ensures.sound in cc
 
 pub returns-clause-rest : goal.returns-clause-rest
 returns-clause-rest c = λ k past.

@@ -6,7 +6,7 @@ use Rattle.cap_word.proofs.memory.from_memory.Goals as goal
 
 read : goal.returns-clause-word
 read c = ap (λ (x : ℕ). bit_xor x c.null.result.0) (c.from_le_bytes.ensures ∙ from_le_bytes_is c.args.bytes.now c.told-bytes)
-    ∙ ap (bit_xor _) c.null.ensures
+    ∙ ap (bit_xor _) c.null.ensures.value
 
 back : goal.returns-clause-writes_back
 back c = ap memory_of (read c) ∙ memory_of-stored_word c.args.bytes.now c.told-bytes c.fits-bytes

@@ -6,7 +6,7 @@ use Rattle.cap_word.proofs.memory.to_memory.Goals as goal
 
 written : goal.returns-clause-bytes
 written c = c.to_le_bytes.ensures ∙ to_le_bytes_is (bit_xor c.args.word.0 c.null.result.0)
-    ∙ ap (λ (x : ℕ). low_bytes 16 (bit_xor c.args.word.0 x)) c.null.ensures
+    ∙ ap (λ (x : ℕ). low_bytes 16 (bit_xor c.args.word.0 x)) c.null.ensures.value
 
 pub returns-clause-bytes : goal.returns-clause-bytes
 returns-clause-bytes c = written c

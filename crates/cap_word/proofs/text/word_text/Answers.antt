@@ -8,5 +8,7 @@ pub returns : goal.returns
 returns c =
     let call = c.encode_to_slice-written in
     let len = ap length c.to_be_bytes.ensures ∙ length-bytes 16 c.args.word.0 in
-    at_ok call.result (call.ensures.fits.1 (omega (arith, len))) call.ensures.written
-    ∙ ap encode_lower c.to_be_bytes.ensures ∙ hex_of_bytes 16 c.args.word.0
+    record {
+      digits = at_ok call.result (call.ensures.fits.1 (omega (arith, len))) call.ensures.written
+          ∙ ap encode_lower c.to_be_bytes.ensures ∙ hex_of_bytes 16 c.args.word.0;
+    }

@@ -1,6 +1,7 @@
 use Rattle.std.proofs.Common.{◌≡◌, ◌∙◌, ap, sym}
 use Rattle.std.specs.Prelude.{Some}
 use Rattle.capcheck_judge.proofs.HandleLemmas.{held_taken}
+use Rattle.cap_judge.proofs.EscapeLaws.{named}
 use Rattle.capcheck_judge.proofs.lines.capcheck_judge_answer.Goals as goal
 
 pub returns-in-Some-answer-clause-answer : goal.returns-in-Some-answer-clause-answer
@@ -13,3 +14,6 @@ returns-in-Some-answer-clause-answer c = λ bytes holds.
       stands = c.in-Some-answer.ensures.stands bytes taken;
       none = c.in-Some-answer.ensures.none bytes taken;
     }
+
+pub returns-in-Some-answer-clause-escape : goal.returns-in-Some-answer-clause-escape
+returns-in-Some-answer-clause-escape c = λ verdict is. named verdict

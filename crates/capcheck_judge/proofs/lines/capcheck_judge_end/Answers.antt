@@ -1,6 +1,7 @@
 use Rattle.std.proofs.Common.{◌≡◌, ◌∙◌, ap, sym}
 use Rattle.std.specs.Prelude.{Some}
 use Rattle.capcheck_judge.proofs.HandleLemmas.{held_taken}
+use Rattle.cap_judge.proofs.EscapeLaws.{named}
 use Rattle.capcheck_judge.proofs.lines.capcheck_judge_end.Goals as goal
 
 pub returns-in-Some-clause-verdict : goal.returns-in-Some-clause-verdict
@@ -12,5 +13,7 @@ returns-in-Some-clause-verdict c = λ bytes holds.
       numbers = c.numbers_of.ensures;
       is_verdict = c.end-verdict.ensures.verdict bytes taken;
       authority = c.end-verdict.ensures.authority bytes taken;
-      escape = c.end-verdict.ensures.escape bytes taken;
     }
+
+pub returns-in-Some-clause-escape : goal.returns-in-Some-clause-escape
+returns-in-Some-clause-escape c = λ verdict is. named verdict

@@ -82,7 +82,7 @@ returns-in-Some-Err-clause-no_memory g c =
     let mid = standing_of contents c.take_alone.new.self in
     let same = ap (known_at fault) (subst (λ (r : Result (Unit {0}) StepEnd). IfErr r (λ _. mid ≡ old)) c.in-Some-Err.field-0-is
     c.in-Some-Err.ensures.same) in
-    subst (λ (k : Known). c.take_end.result ≡ Err NoMemory → (bytes : List ℕ) → Taken k bytes → MayLackMemory (bytes ++ line)) same
+    subst (λ (k : Known). c.take_end.result ≡ Err NoMemory → (bytes : List ℕ) → Taken k bytes → MayLackMemory (bytes ++ line) []) same
     (lacks c.take_end.result _ c.take_end.ensures.no_memory)
 
 pub returns-clause-taken : goal.returns-clause-taken
@@ -102,5 +102,5 @@ returns-clause-no_memory g c =
     let line = c.args.line.now in
     let same : known_of contents c.if-is_none.self ≡ known_of contents c.args.self.now =
     elim c.if-is_none.branch [ then-is_none+in-None w ↦ search rules | else-is_none w ↦ search rules ] in
-    subst (λ (k : Known). c.take_front.result ≡ Err NoMemory → (bytes : List ℕ) → Taken k bytes → MayLackMemory (bytes ++ line)) same
+    subst (λ (k : Known). c.take_front.result ≡ Err NoMemory → (bytes : List ℕ) → Taken k bytes → MayLackMemory (bytes ++ line) []) same
     c.take_front.ensures.no_memory

@@ -57,4 +57,4 @@ returns-in-Err-clause-no_memory g c =
     let fault = c.args.self.now.fault in
     let same = ap (known_at fault) (c.in-Err.ensures.same) in
     subst (λ (k : Known). IfErr c.take_end.result (λ fault. (fault ≡ NoMemory) × ((bytes : List ℕ) → Taken k bytes
-    → MayLackMemory (bytes ++ line)))) same c.take_end.ensures.no_memory
+    → MayLackMemory (bytes ++ line) []))) same c.take_end.ensures.no_memory

@@ -36,7 +36,7 @@ slice_bounds-line-end c =
       | in-TooLong w ↦ w.length-is ∙ ap (held c.args.bytes.now) (sym w.in-TooLong.is)
       | in-Cut w ↦ w.length-is ∙ ap (held c.args.bytes.now) (sym w.in-Cut.is)
     ] in
-    subst (λ (n : ℕ). n ≤ 96) (sym is) (held_few c.args.bytes.now c.front.result c.front.ensures).0
+    subst (λ (n : ℕ). n ≤ 96) (sym is) (held_few c.args.bytes.now c.front.result c.front.ensures.found).0
 
 pub slice_bounds-copy_from_slice-end-2 : goal.slice_bounds-copy_from_slice-end-2
 slice_bounds-copy_from_slice-end-2 c =
@@ -46,7 +46,7 @@ slice_bounds-copy_from_slice-end-2 c =
       | in-TooLong w ↦ w.length-is ∙ ap (held c.args.bytes.now) (sym w.in-TooLong.is)
       | in-Cut w ↦ w.length-is ∙ ap (held c.args.bytes.now) (sym w.in-Cut.is)
     ] in
-    let counted = held_few c.args.bytes.now c.front.result c.front.ensures in
+    let counted = held_few c.args.bytes.now c.front.result c.front.ensures.found in
     let few = subst (λ (n : ℕ). n ≤ length c.args.bytes.now) (sym is) counted.1 in
     sym (length-take-le c.match-front.length c.args.bytes.now few)
 
@@ -60,9 +60,9 @@ returns c =
       | in-TooLong w ↦ w.length-is ∙ ap (held c.args.bytes.now) (sym w.in-TooLong.is)
       | in-Cut w ↦ w.length-is ∙ ap (held c.args.bytes.now) (sym w.in-Cut.is)
     ] in
-    let counted = held_few bytes c.front.result c.front.ensures in
+    let counted = held_few bytes c.front.result c.front.ensures.found in
     let few = subst (λ (m : ℕ). m ≤ length bytes) (sym is) counted.1 in
     let copied = c.copy_from_slice.ensures.after in
     let kept = ap length copied ∙ length-take-le n bytes few in
     subst (IsFrontText bytes) (sym (take_at c.copy_from_slice.new.self _ n kept ∙ copied ∙ ap (λ (m : ℕ). take m bytes) is))
-    (held_line bytes c.front.result c.front.ensures)
+    (held_line bytes c.front.result c.front.ensures.found)

@@ -26,7 +26,7 @@ returns-in-Err g c =
         refl,
         λ _. tt,
         (
-          λ _. answered _ _ _ _ _ _ _ _ _ found.ensures.err (λ is. (is, refl, found.ensures.no_end)),
+          λ _. answered _ _ _ _ _ _ _ _ _ found.ensures.err (λ is. (is, refl, found.ensures.no_end, refl)),
           not_again _ _ _ _ _ c.in_default.is,
         ),
       ),

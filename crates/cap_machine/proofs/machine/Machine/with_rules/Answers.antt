@@ -9,12 +9,12 @@ use Rattle.cap_machine.proofs.machine.Machine.with_rules.Goals as goal
 pub returns : goal.returns
 returns g c =
     blank_account c.args.rules (g.M.TaggedStore.contents c.args.memory) _ (map.empty_of_len _ c.requires)
-    (ap (λ (n : ℕ). let cap : Cap = record { tag = false; word = record { 0 = n } } in cap) c.null.ensures)
+    (ap (λ (n : ℕ). let cap : Cap = record { tag = false; word = record { 0 = n } } in cap) c.null.ensures.value)
 
 pub invariant_of-result : goal.invariant_of-result
 invariant_of-result g c =
     let memory = g.M.TaggedStore.contents c.args.memory in
-    let null = ap (λ (n : ℕ). let cap : Cap = record { tag = false; word = record { 0 = n } } in cap) c.null.ensures in
+    let null = ap (λ (n : ℕ). let cap : Cap = record { tag = false; word = record { 0 = n } } in cap) c.null.ensures.value in
     let empty = map.empty_of_len _ c.requires in
     record {
       zero = null;

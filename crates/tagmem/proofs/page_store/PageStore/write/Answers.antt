@@ -3,7 +3,7 @@ use Rattle.std.proofs.lemmas.List.Elements.{All-from_get_or}
 use Rattle.std.proofs.Math.ListN.{length-set}
 use mir.Val.{bool_byte}
 use Rattle.tagmem.specs.Directories.{found_in}
-use Rattle.tagmem.specs.Pages.{slots_of}
+use Rattle.tagmem.specs.Blocks.{slots_of}
 use Rattle.tagmem.proofs.Writes.{IsRead, IsWritten, numbers_of-write, IsDirectory-write, EachUsed-write, contents_of-write, AreStored-write}
 use Rattle.tagmem.proofs.Writes.{len-write, len_fits}
 use Rattle.tagmem.proofs.page_store.PageStore.write.Goals as goal
@@ -11,10 +11,10 @@ use Rattle.tagmem.proofs.page_store.PageStore.write.Goals as goal
 pub overflow_add-self : goal.overflow_add-self
 overflow_add-self c =
     let s = c.args.self.now in
-    let old = c.index_mut-page.result.now in
-    let read : IsRead s.pages.items (found_in s.directory) c.args.index c.args.granule old =
-    record { known = s.known; found = c.requires.found; is = c.index_mut-page.ensures.value } in
-    let fits = len_fits s.pages.items (found_in s.directory) c.args.index c.args.granule old read s.fits c.requires.room in
+    let old = c.index_mut-block.result.now in
+    let read : IsRead s.blocks.items (found_in s.directory) c.args.index c.args.granule old =
+    record { known = s.known; found = c.requires.found; is = c.index_mut-block.ensures.value } in
+    let fits = len_fits s.blocks.items (found_in s.directory) c.args.index c.args.granule old read s.fits c.requires.room in
     let first : c.from.result ≡ bool_byte (is_none (get_or (slots_of old) (c.args.granule % 16) None)) =
     c.from.ensures ∙ ap bool_byte c.put-first.ensures.first in
     omega (arith, fits, first, s.counted)
@@ -22,36 +22,38 @@ overflow_add-self c =
 pub returns : goal.returns
 returns c =
     let s = c.args.self.now in
-    let old = c.index_mut-page.result.now in
-    let read : IsRead s.pages.items (found_in s.directory) c.args.index c.args.granule old =
-    record { known = s.known; found = c.requires.found; is = c.index_mut-page.ensures.value } in
+    let old = c.index_mut-block.result.now in
+    let read : IsRead s.blocks.items (found_in s.directory) c.args.index c.args.granule old =
+    record { known = s.known; found = c.requires.found; is = c.index_mut-block.ensures.value } in
     let written : IsWritten old c.put-first.new.self (c.args.granule % 16) c.args.tag c.args.byte_index c.args.bytes.now c.args.code =
     record { number = c.put-first.ensures.number; slots = c.put-first.ensures.slots } in
-    contents_of-write s.pages.items (found_in s.directory) c.args.index c.args.granule old read c.put-first.new.self _ _ _ _ written
+    contents_of-write s.blocks.items (found_in s.directory) c.args.index c.args.granule old read c.put-first.new.self _ _ _ _ written
 
 pub invariant_of-self : goal.invariant_of-self
 invariant_of-self c =
     let s = c.args.self.now in
-    let old = c.index_mut-page.result.now in
-    let page = c.put-first.new.self in
-    let read : IsRead s.pages.items (found_in s.directory) c.args.index c.args.granule old =
-    record { known = s.known; found = c.requires.found; is = c.index_mut-page.ensures.value } in
-    let written : IsWritten old page (c.args.granule % 16) c.args.tag c.args.byte_index c.args.bytes.now c.args.code =
+    let old = c.index_mut-block.result.now in
+    let block = c.put-first.new.self in
+    let read : IsRead s.blocks.items (found_in s.directory) c.args.index c.args.granule old =
+    record { known = s.known; found = c.requires.found; is = c.index_mut-block.ensures.value } in
+    let written : IsWritten old block (c.args.granule % 16) c.args.tag c.args.byte_index c.args.bytes.now c.args.code =
     record { number = c.put-first.ensures.number; slots = c.put-first.ensures.slots } in
-    let len = len-write s.pages.items (found_in s.directory) c.args.index c.args.granule old read page _ _ _ _ written in
-    let fits = len_fits s.pages.items (found_in s.directory) c.args.index c.args.granule old read s.fits c.requires.room in
+    let len = len-write s.blocks.items (found_in s.directory) c.args.index c.args.granule old read block _ _ _ _ written in
+    let fits = len_fits s.blocks.items (found_in s.directory) c.args.index c.args.granule old read s.fits c.requires.room in
     let first : c.from.result ≡ bool_byte (is_none (get_or (slots_of old) (c.args.granule % 16) None)) =
     c.from.ensures ∙ ap bool_byte c.put-first.ensures.first in
     let bytes : All (λ byte. byte < 256) c.args.bytes.now =
     All-from_get_or (λ byte. byte < 256) c.args.bytes.now 0 (λ i lt. (c.type_inv.bytes i).fits) in
     record {
       chained =
-          s.chained ∙ sym (numbers_of-write s.pages.items (found_in s.directory) c.args.index c.args.granule old read page _ _ _ _ written);
-      known = IsDirectory-write s.pages.items (found_in s.directory) c.args.index c.args.granule old read page _ _ _ _ written;
-      used = EachUsed-write s.pages.items (found_in s.directory) c.args.index c.args.granule old read page _ _ _ _ written s.used;
-      stored = AreStored-write s.pages.items (found_in s.directory) c.args.index c.args.granule old read page _ _ _ _ written
+          s.chained ∙ sym (numbers_of-write s.blocks.items (found_in s.directory) c.args.index c.args.granule old read block _ _ _ _ written);
+      known = IsDirectory-write s.blocks.items (found_in s.directory) c.args.index c.args.granule old read block _ _ _ _ written;
+      used = EachUsed-write s.blocks.items (found_in s.directory) c.args.index c.args.granule old read block _ _ _ _ written s.used;
+      stored = AreStored-write s.blocks.items (found_in s.directory) c.args.index c.args.granule old read block _ _ _ _ written
           c.requires.in_memory c.requires.inside bytes (omega arith) c.requires.coded s.stored;
       counted = omega (arith, len, first, s.counted);
-      few = omega (arith, len, length-set s.pages.items c.args.index page, s.few);
+      roomy = s.roomy;
+      linkable = s.linkable;
+      few = omega (arith, len, length-set s.blocks.items c.args.index block, s.few);
       fits = omega (arith, len, fits);
     }

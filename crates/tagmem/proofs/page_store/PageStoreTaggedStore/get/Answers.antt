@@ -1,20 +1,20 @@
 use Rattle.std.proofs.Common.{◌%◌, get_or, None, sym, ap, ◌∙◌}
 use Rattle.tagmem.specs.Directories.{found_in}
-use Rattle.tagmem.specs.declared.page.Page.{Page}
+use Rattle.tagmem.specs.declared.block.Block.{Block}
 use Rattle.tagmem.specs.Granules.{shown}
-use Rattle.tagmem.specs.Pages.{slots_of}
-use Rattle.tagmem.proofs.Pages.{get_present, get_absent}
+use Rattle.tagmem.specs.Blocks.{slots_of}
+use Rattle.tagmem.proofs.Blocks.{get_present, get_absent}
 use Rattle.tagmem.proofs.page_store.PageStoreTaggedStore.get.Goals as goal
 
--- the granule's page is there
+-- the granule's block is there
 pub returns-in-Some : goal.returns-in-Some
 returns-in-Some c =
     let s = c.args.self.now in
-    let says = λ (page : Page). shown (get_or (slots_of page) (c.args.granule % 16) None) in
+    let says = λ (block : Block). shown (get_or (slots_of block) (c.args.granule % 16) None) in
     c.get.ensures ∙ ap says c.index.ensures
-    ∙ sym (ap shown (get_present s.pages.items (found_in s.directory) s.known c.args.granule c.in-Some.index
+    ∙ sym (ap shown (get_present s.blocks.items (found_in s.directory) s.known c.args.granule c.in-Some.index
     c.index.result.now c.in-Some.ensures))
 
 -- or it is absent
 pub returns-in-None : goal.returns-in-None
-returns-in-None c = sym (ap shown (get_absent c.args.self.now.pages.items c.args.granule c.in-None.ensures))
+returns-in-None c = sym (ap shown (get_absent c.args.self.now.blocks.items c.args.granule c.in-None.ensures))

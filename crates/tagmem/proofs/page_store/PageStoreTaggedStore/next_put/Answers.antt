@@ -1,21 +1,21 @@
 use Rattle.std.proofs.Common.{◌*◌, ◌+◌, ◌/◌, arith}
 use Rattle.tagmem.specs.Directories.{found_in}
 use Rattle.tagmem.specs.Granules.{NonePut}
-use Rattle.tagmem.specs.Pages.{contents_of}
+use Rattle.tagmem.specs.Blocks.{contents_of}
 use Rattle.tagmem.proofs.NextPut.{next_put-last, next_put-later}
 use Rattle.tagmem.proofs.page_store.PageStoreTaggedStore.next_put.Goals as goal
 
-pub returns-in-Some-next_page : goal.returns-in-Some-next_page
-returns-in-Some-next_page c =
+pub returns-in-Some-next_block : goal.returns-in-Some-next_block
+returns-in-Some-next_block c =
     let s = c.args.self.now in
-    let none : NonePut (contents_of s.pages.items) c.args.granule (16 * (c.args.granule / 16) + 16) =
+    let none : NonePut (contents_of s.blocks.items) c.args.granule (16 * (c.args.granule / 16) + 16) =
     λ q le lt. c.in-None.ensures q (omega arith) lt in
-    next_put-later s.pages.items c.args.granule none (found_in s.directory)
-    s.known s.used c.in-Some-next_page.number c.in-Some-next_page.ensures
-    c.first_in-in-Some-next_page.result c.first_in-in-Some-next_page.ensures
+    next_put-later s.blocks.items c.args.granule none (found_in s.directory)
+    s.known s.used c.in-Some-next_block.number c.in-Some-next_block.ensures
+    c.first_in-in-Some-next_block.result c.first_in-in-Some-next_block.ensures
 
-pub returns-in-None-next_page : goal.returns-in-None-next_page
-returns-in-None-next_page c =
-    let none : NonePut (contents_of c.args.self.now.pages.items) c.args.granule (16 * (c.args.granule / 16) + 16) =
+pub returns-in-None-next_block : goal.returns-in-None-next_block
+returns-in-None-next_block c =
+    let none : NonePut (contents_of c.args.self.now.blocks.items) c.args.granule (16 * (c.args.granule / 16) + 16) =
     λ q le lt. c.in-None.ensures q (omega arith) lt in
-    next_put-last c.args.self.now.pages.items c.args.granule none c.in-None-next_page.ensures
+    next_put-last c.args.self.now.blocks.items c.args.granule none c.in-None-next_block.ensures

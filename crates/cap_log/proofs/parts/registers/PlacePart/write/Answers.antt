@@ -6,11 +6,11 @@ use Rattle.cap_log.proofs.parts.registers.PlacePart.write.Goals as goal
 pub write_number-requires : goal.write_number-requires
 write_number-requires c =
     let room = rw c.in-Granule.is at c.requires.room in
-    let ends = c.put-next.ensures.ends in
+    let ends = c.put-next.ensures.written.ends in
     let long = length-hex_digits 16 (16 * c.in-Granule.number) in
-    let same = length-Writes _ _ _ _ _ c.put-next.ensures (omega arith) in
+    let same = length-Writes _ _ _ _ _ c.put-next.ensures.written (omega arith) in
     omega arith
 
 pub returns-in-Granule : goal.returns-in-Granule
 returns-in-Granule c =
-    rw c.in-Granule.is (Writes-then _ _ _ _ _ _ _ _ c.put-next.ensures c.write_number.ensures)
+    record { written = rw c.in-Granule.is (Writes-then _ _ _ _ _ _ _ _ c.put-next.ensures.written c.write_number.ensures.written) }

@@ -5,10 +5,10 @@ use Rattle.cap_log.proofs.parts.sized.LoadedPart.write.Goals as goal
 pub put_hex-requires-clause-room : goal.put_hex-requires-clause-room
 put_hex-requires-clause-room c =
     let size = rw c.from.ensures at c.put_decimal-next.ensures.text in
-    rw c.from-2.ensures (sized_room _ _ _ c.args.self.now.size c.args.self.now.value _ _ _ _ size c.put-digits.ensures c.requires.room)
+    rw c.from-2.ensures (sized_room _ _ _ c.args.self.now.size c.args.self.now.value _ _ _ _ size c.put-digits.ensures.written c.requires.room)
 
 pub returns : goal.returns
 returns c =
     let size = rw c.from.ensures at c.put_decimal-next.ensures.text in
     let digits = rw (c.from-2.ensures, c.from-3.ensures) at c.put_hex.ensures.text in
-    Writes-three _ _ _ _ _ _ _ _ _ _ _ size c.put-digits.ensures digits
+    record { written = Writes-three _ _ _ _ _ _ _ _ _ _ _ size c.put-digits.ensures.written digits }

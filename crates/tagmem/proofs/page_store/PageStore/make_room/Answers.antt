@@ -1,0 +1,36 @@
+use Rattle.std.proofs.Common.{◌∙◌, arith}
+use Rattle.tagmem.specs.Rooms.{blocks_of}
+use Rattle.tagmem.proofs.page_store.PageStore.make_room.Goals as goal
+
+-- what is kept is what it was
+pub invariant_of-self : goal.invariant_of-self
+invariant_of-self c =
+    let s = c.args.self.now in
+    let same = c.make_room.ensures.items in
+    record {
+      chained = rw same s.chained;
+      known = rw same s.known;
+      used = rw same s.used;
+      stored = rw same s.stored;
+      counted = rw same s.counted;
+      roomy = omega (arith, s.roomy, c.make_room.ensures.capacity);
+      linkable = s.linkable;
+      few = rw same s.few;
+      fits = rw same s.fits;
+    }
+
+pub invariant_of-self-2 : goal.invariant_of-self-2
+invariant_of-self-2 c =
+    let s = c.args.self.now in
+    let same = c.make_room.ensures.items in
+    record {
+      chained = rw same (c.make_room-2.ensures.numbers ∙ s.chained);
+      known = rw same s.known;
+      used = rw same s.used;
+      stored = rw same s.stored;
+      counted = rw same s.counted;
+      roomy = omega (arith, s.roomy, c.make_room.ensures.capacity);
+      linkable = c.make_room-2.ensures.kept (blocks_of s.directory) s.linkable;
+      few = rw same s.few;
+      fits = rw same s.fits;
+    }

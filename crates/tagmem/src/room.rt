@@ -1,0 +1,24 @@
+//! Room in lists.
+ghost use Rattle.std.specs.Prelude.{◌≡◌, ◌≤◌, OnOk};
+ghost use Rattle.std.specs.Vec.{vec_len, vec_capacity};
+
+use crate::store::NoMemory;
+
+// Takes the memory of so many items in all, and where that grows, of an eighth of what there was beyond them. Memory
+// that nothing was written to is address space alone.
+pub(crate) fn make_room<T>(list: &mut Vec<T>, count: usize) -> Result<(), NoMemory>
+    ensures items { list.new.items ≡ list.old.items }
+    ensures len { vec_len list.new ≡ vec_len list.old }
+    ensures capacity { vec_capacity list.old ≤ vec_capacity list.new }
+    ensures ok { OnOk result (count ≤ vec_capacity list.new) }
+{
+    let capacity = list.capacity();
+    if count <= capacity {
+        return Ok(());
+    }
+    let more = (count - list.len()).saturating_add(capacity / 8);
+    match list.reserve_exact(more) {
+        Ok(()) => Ok(()),
+        Err(_) => Err(NoMemory),
+    }
+}
