@@ -7,7 +7,7 @@ use std::io::Write;
 
 /// Writes a text, and answers whether it and what stood before it were handed on.
 pub fn is_written<O: Write>(text: &[u8], out: &mut O) -> bool
-    ensures { result ≡ true → Appends (O.contents out.old) (O.contents out.new) text.now }
+    ensures written { result ≡ true → Appends (O.contents out.old) (O.contents out.new) text.now }
 {
     out.write_all(text).is_ok() && out.flush().is_ok()
 }
