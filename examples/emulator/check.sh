@@ -83,8 +83,8 @@ done
 for one in "${tried[@]}"; do
     wait "$one"
 done
-quietly ${CC:-cc} -std=c99 $strict -Wconversion examples/emulator/judging.c $libraries -o "$work/judging"
 if command -v valgrind > "$work/found"; then
+    quietly ${CC:-cc} -std=c99 $strict -Wconversion -DNOT_COUNTED examples/emulator/judging.c $libraries -o "$work/judging"
     quietly valgrind -q --leak-check=full --error-exitcode=9 "$work/judging" $logs
 fi
 
