@@ -7,9 +7,11 @@ use Rattle.capcheck.specs.declared.faults.Fault.{Fault}
 use Rattle.capcheck.specs.declared.faults.Fault.TheVariants as faults
 use Rattle.cap_judge.specs.declared.verdict.Verdict.{Verdict}
 use Rattle.cap_judge.specs.declared.verdict.Verdict.TheVariants.{Yes, No}
-use Rattle.capcheck.specs.Answers.{BeginsVerdict, PrintsVerdict, known_bytes, verdict_status}
+use Rattle.capcheck.specs.Answers.{BeginsText, PrintsVerdict, known_bytes, verdict_status}
+use Rattle.capcheck.specs.Failures.{IsJudgingFault}
 use Rattle.capcheck.specs.Doings.{IsInputDone, IsWrittenFor}
-use Rattle.cap_judge.specs.Judgings.{IsAnswerOf, IsVerdictOf}
+use Rattle.cap_judge.specs.Judgings.{BeginsLog, IsAnswerOf, IsVerdictOf}
+use Rattle.cap_judge.specs.Logs.{Nothing}
 use Rattle.cap_judge.specs.Reports.{Tells}
 use Rattle.cap_judge.specs.FaultReports.{IsReport}
 use Rattle.cap_judge.specs.Whys.{IsExplanationOf, IsTold}
@@ -120,7 +122,7 @@ input_prints {R} origins why remaining input reader before after result is done 
 -- what was printed where there is no verdict
 done_stops : (origins why : Bool) (left before after : Option (List ℕ)) (result : Result ℕ Fault)
     → IsInputDone origins why left before after result
-    → IfErr result (λ fault. (written : List ℕ) × BeginsVerdict origins why left written × Appends before after written)
+    → IfErr result (λ fault. (written : List ℕ) × BeginsText (PrintsVerdict origins why left) written × Appends before after written)
 done_stops origins why left before after (Ok status) done = tt
 done_stops origins why left before after (Err faults.Read) done = ([], inl refl, done.written.1)
 done_stops origins why left before after (Err faults.NoMemory) done = ([], inl refl, done.written.1)
@@ -135,12 +137,42 @@ done_stops origins why left before after (Err faults.BadRequest) done = absurd d
 pub input_stops : {R : Type 0} (origins why : Bool) (remaining : R → Option (List ℕ)) (input : Option R) (reader : R)
     (before after : Option (List ℕ)) (result : Result ℕ Fault)
     → input ≡ Some reader → IsInputDone origins why (remaining reader) before after result
-    → IfErr result (λ fault. (written : List ℕ) × BeginsVerdict origins why (known_bytes remaining input) written
+    → IfErr result (λ fault. (written : List ℕ) × BeginsText (PrintsVerdict origins why (known_bytes remaining input)) written
     × Appends before after written)
 input_stops {R} origins why remaining input reader before after result is done =
-    subst (λ (o : Option R). IfErr result (λ fault. (written : List ℕ) × BeginsVerdict origins why (known_bytes remaining o) written
+    subst (λ (o : Option R). IfErr result (λ fault. (written : List ℕ) × BeginsText (PrintsVerdict origins why (known_bytes remaining o)) written
     × Appends before after written))
     (sym is) (done_stops origins why (remaining reader) before after result done)
+
+-- why there is no verdict that was printed
+done_fails : (origins why : Bool) (left before after : Option (List ℕ)) (result : Result ℕ Fault)
+    → IsInputDone origins why left before after result → IfErr result (IsJudgingFault origins why left)
+done_fails origins why left before after (Ok status) done = tt
+done_fails origins why left before after (Err faults.Read) done = (done.given, done.rest, done.gives, done.written.0.fault)
+done_fails origins why left before after (Err faults.NoMemory) done = (done.given, done.rest, done.gives, done.written.0.fault)
+done_fails origins why left before after (Err faults.Write) done =
+    let w = done.written in
+    (w.2, verdict_status w.0, printed origins why left done.rest done.given done.ended w.0 w.2 done.gives done.all_given w.1 w.3)
+done_fails origins why left before after (Err faults.BadWords) done = absurd done.written
+done_fails origins why left before after (Err faults.BadWord) done = absurd done.written
+done_fails origins why left before after (Err faults.BadRequest) done = absurd done.written
+
+pub input_fails : {R : Type 0} (origins why : Bool) (remaining : R → Option (List ℕ)) (input : Option R) (reader : R)
+    (before after : Option (List ℕ)) (result : Result ℕ Fault)
+    → input ≡ Some reader → IsInputDone origins why (remaining reader) before after result
+    → IfErr result (IsJudgingFault origins why (known_bytes remaining input))
+input_fails {R} origins why remaining input reader before after result is done =
+    subst (λ (o : Option R). IfErr result (IsJudgingFault origins why (known_bytes remaining o)))
+    (sym is) (done_fails origins why (remaining reader) before after result done)
+
+-- an input that is missing gave no bytes, and these begin a log
+pub begins_nothing : BeginsLog []
+begins_nothing = record {
+  beginning = Nothing;
+  rest = [];
+  behind = record { bytes_are = refl; accepted = tt };
+  cut = (omega arith, λ k d below. absurd (omega (arith, below)));
+}
 
 few_status : (verdict : Verdict) → verdict_status verdict ≤ 1
 few_status (Yes steps roots) = omega arith

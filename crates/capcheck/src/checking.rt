@@ -1,13 +1,15 @@
 //! Checking an input as a vector file and writing the verdict.
 
-ghost use Rattle.std.specs.Prelude.{◌≡◌, ◌≤◌, ℕ, List, IfOk, IfErr, Err, None};
+ghost use Rattle.std.specs.Prelude.{◌≡◌, ◌≤◌, ℕ, List, take, IfOk, IfErr, OnErr, Err, None};
 ghost use Rattle.std.specs.Io.KnownBytes.{Appends, Keeps};
-ghost use Rattle.capcheck.specs.Answers.{ShowsCheck, known_bytes, vector_status};
+ghost use Rattle.capcheck.specs.Answers.{BeginsText, ShowsCheck, known_bytes, vector_status};
+ghost use Rattle.cap_vectors.specs.VectorFiles.{BreaksOff};
+ghost use Rattle.capcheck.specs.Failures.{HasGiven, IsCheckingFault};
 ghost use Rattle.capcheck.specs.Statuses.{status_of};
 
 use crate::faults::Fault;
-use crate::outputs::is_written;
-use cap_log::ReadSource;
+use crate::outputs::write_text;
+use cap_log::{PullFault, ReadSource};
 use cap_vectors::vectors::texts::vector_text;
 use cap_vectors::vectors::{VectorVerdict, vectors};
 use std::io::{Read, Write};
@@ -19,6 +21,9 @@ pub fn check_input<R: Read + Drop, O: Write>(input: Option<R>, out: &mut O) -> R
     ensures err { IfErr result (λ fault. status_of fault ≡ 3) }
     ensures printed { IfOk result (λ status. (text : List ℕ) × ShowsCheck (known_bytes R.remaining input) text status
         × Appends (O.contents out.old) (O.contents out.new) text) }
+    ensures failed { IfErr result (IsCheckingFault (known_bytes R.remaining input)) }
+    ensures stopped { IfErr result (λ fault. (written : List ℕ) × BeginsText (ShowsCheck (known_bytes R.remaining input)) written
+        × Appends (O.contents out.old) (O.contents out.new) written) }
     ensures missing { input ≡ None → (result ≡ Err Fault.Read) × Keeps (O.contents out.old) (O.contents out.new) }
 {
     match input {
@@ -33,15 +38,31 @@ fn check_reader<R: Read + Drop, O: Write>(reader: R, out: &mut O) -> Result<u8, 
     ensures err { IfErr result (λ fault. status_of fault ≡ 3) }
     ensures printed { IfOk result (λ status. (text : List ℕ) × ShowsCheck (R.remaining reader) text status
         × Appends (O.contents out.old) (O.contents out.new) text) }
+    ensures failed { IfErr result (IsCheckingFault (R.remaining reader)) }
+    ensures stopped { IfErr result (λ fault. (written : List ℕ) × BeginsText (ShowsCheck (R.remaining reader)) written
+        × Appends (O.contents out.old) (O.contents out.new) written) }
+{
+    let mut text = [0u8; 64];
+    match check_text(reader, &mut text) {
+        Ok((length, status)) => match write_text(&text[..length], out) {
+            Ok(()) => Ok(status),
+            Err(fault) => Err(fault),
+        },
+        Err(PullFault) => Err(Fault::Read),
+    }
+}
+
+// Checks what a reader gives, and writes the line of the verdict into a buffer: how long it is, and the status that
+// goes with it.
+fn check_text<R: Read + Drop>(reader: R, buffer: &mut [u8; 64]) -> Result<(usize, u8), PullFault>
+    ensures ok { IfOk result (λ line. (line.0 ≤ 64) × (line.1 ≤ 1)) }
+    ensures shows { IfOk result (λ line. ShowsCheck (R.remaining reader) (take line.0 buffer.new) line.1) }
+    ensures failed { OnErr result (HasGiven (R.remaining reader) BreaksOff) }
 {
     let mut source = ReadSource::new(reader);
-    let verdict = vectors(&mut source)?;
-    let mut text = [0u8; 64];
-    let length = vector_text(&verdict, &mut text);
-    if is_written(&text[..length], out) {
-        Ok(vector_status(&verdict))
-    } else {
-        Err(Fault::Write)
+    match vectors(&mut source) {
+        Ok(verdict) => Ok((vector_text(&verdict, buffer), vector_status(&verdict))),
+        Err(PullFault) => Err(PullFault),
     }
 }
 

@@ -1,4 +1,5 @@
-use Rattle.capcheck.proofs.DoingLemmas.{done_err, done_ok, input_prints, input_stops}
+use Rattle.std.proofs.Common.{[], None}
+use Rattle.capcheck.proofs.DoingLemmas.{begins_nothing, done_err, done_ok, input_fails, input_prints, input_stops}
 use Rattle.capcheck.proofs.running.judge_input.Goals as goal
 
 pub returns-in-Some-clause-ok : goal.returns-in-Some-clause-ok
@@ -14,3 +15,10 @@ returns-in-Some-clause-printed g c =
 pub returns-in-Some-clause-stopped : goal.returns-in-Some-clause-stopped
 returns-in-Some-clause-stopped g c =
     input_stops c.args.origins c.args.why g.R.Read.remaining c.args.input _ _ _ _ c.in-Some.is c.judge_reader.ensures.done
+
+pub returns-in-Some-clause-failed : goal.returns-in-Some-clause-failed
+returns-in-Some-clause-failed g c =
+    input_fails c.args.origins c.args.why g.R.Read.remaining c.args.input _ _ _ _ c.in-Some.is c.judge_reader.ensures.done
+
+pub returns-in-None-clause-failed : goal.returns-in-None-clause-failed
+returns-in-None-clause-failed g c = rw c.in-None.is ([], None, tt, begins_nothing)
