@@ -40,8 +40,8 @@ strict='-Wall -Wextra -Werror -pedantic -O2 -Iinclude'
 quietly ${CC:-cc} -std=c99 $strict examples/emulator/emulator.c $library -o "$work/emulator"
 quietly ${CC:-cc} -std=c99 $strict examples/emulator/calls.c $library -o "$work/calls"
 quietly "$work/calls"
-quietly ${CC:-cc} -std=c99 $strict -Wconversion examples/emulator/plain.c bench/sail_way.c $library -o "$work/plain"
-quietly "$work/plain"
+quietly ${CC:-cc} -std=c99 $strict -Wconversion examples/emulator/edges.c bench/sail_way.c $library -o "$work/edges"
+quietly "$work/edges"
 
 # The same calls from C++, where there is a compiler for it.
 if command -v "${CXX:-c++}" > "$work/found"; then

@@ -1,6 +1,6 @@
 #!/usr/bin/env python3
-"""Runs the program, and compares its status, its standard output and its line on standard error with what is written
-here, worked by hand: for the rows of the file beside this one, and where its input or its output fails.
+"""Runs the program, and compares its status, its standard output and its line on standard error with what is worked by
+hand: for the rows of crates/capcheck/src/rows.rt, and where its input or its output fails.
 
     CAPCHECK=crates/capcheck/out/capcheck python3 examples/program/check.py
 
@@ -112,8 +112,8 @@ def agrees(text, wanted):
 
 def printed(room):
     """What is printed for the words and the input of each row."""
-    with open(f"{ROOT}/examples/program/rows", encoding="utf-8") as it:
-        text = it.read()
+    with open(f"{ROOT}/crates/capcheck/src/rows.rt", encoding="utf-8") as it:
+        text = re.search(r'(?s)r#"\n(.*)"#;', it.read())[1]
     for runs, given, out, err in rows(text):
         room.put("log", given)
         room.put("file", given)

@@ -34,7 +34,7 @@ pub struct Judge<M: TaggedStore> {
 impl Judge<PageStore> {
     /// No line was taken yet. It takes no memory.
     pub fn over_pages(alloc: Global) -> Judge<PageStore>
-        ensures { HasTaken ⟦<PageStore as TaggedStore>⟧.contents result [] }
+        ensures taken { HasTaken ⟦<PageStore as TaggedStore>⟧.contents result [] }
     {
         Judge::new(PageStore::new(alloc))
     }
@@ -44,7 +44,7 @@ impl<M: TaggedStore> Judge<M> {
     /// No line was taken yet. The store has to be empty.
     pub fn new(memory: M) -> Judge<M>
         requires { map.len (M.contents memory) ≡ 0 }
-        ensures { HasTaken M.contents result [] }
+        ensures taken { HasTaken M.contents result [] }
     {
         Judge {
             stage: Stage::Begun(Fresh { memory }),
@@ -103,7 +103,7 @@ impl<M: TaggedStore> Judge<M> {
 
     /// After a no for a step's result, the result that the rules give for that step; otherwise `None`.
     pub fn expected(&self) -> Option<Expected>
-        ensures { (bytes : List ℕ) → HasTaken M.contents self.now bytes → Expects bytes result }
+        ensures expects { (bytes : List ℕ) → HasTaken M.contents self.now bytes → Expects bytes result }
     {
         match &self.fault {
             Some(fault) => match fault.refusal {
@@ -117,7 +117,7 @@ impl<M: TaggedStore> Judge<M> {
     /// What a register holds behind the lines so far, or before the line at fault. Register 0 is c0.
     pub fn register(&self, number: u8) -> Cap
         requires { number ≤ 31 }
-        ensures { (bytes : List ℕ) → (taken : HasTaken M.contents self.now bytes)
+        ensures holds { (bytes : List ℕ) → (taken : HasTaken M.contents self.now bytes)
             → result ≡ (account_before taken.beginning).state number }
     {
         self.stage.register(number)
@@ -127,7 +127,7 @@ impl<M: TaggedStore> Judge<M> {
     /// address `16 * granule` on.
     pub fn granule(&self, granule: u64) -> Cap
         requires { granule < 2 ^ 60 }
-        ensures { (bytes : List ℕ) → (taken : HasTaken M.contents self.now bytes)
+        ensures holds { (bytes : List ℕ) → (taken : HasTaken M.contents self.now bytes)
             → result ≡ (account_before taken.beginning).state (granule_key granule) }
     {
         self.stage.granule(granule)

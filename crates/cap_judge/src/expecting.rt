@@ -16,7 +16,7 @@ use tagmem::TaggedStore;
 /// What the rules give for the step that a text spells, where it is refused for its result. The machine is
 /// as it was before the step.
 pub fn expected_by<M: TaggedStore>(machine: &Machine<M>, text: &[u8]) -> Option<Expected>
-    ensures { GivesForText (account_of (held_of M.contents machine.now)) text.now result }
+    ensures gives { GivesForText (account_of (held_of M.contents machine.now)) text.now result }
 {
     match read_line(text) {
         Some(line) => match line {

@@ -18,7 +18,7 @@ impl FaultLine {
 
     /// No bytes.
     pub fn new() -> FaultLine
-        ensures { bytes_of result ≡ [] }
+        ensures value { bytes_of result ≡ [] }
     {
         FaultLine {
             bytes: [0; 96],
@@ -29,7 +29,7 @@ impl FaultLine {
     /// The line that some bytes begin with. It stays out of the loop over lines, which runs no slower for it.
     #[inline(never)]
     pub fn of(bytes: &[u8]) -> FaultLine
-        ensures { IsFrontText bytes.now (bytes_of result) }
+        ensures front { IsFrontText bytes.now (bytes_of result) }
     {
         let length = match front(bytes) {
             Front::Line(length) => length,

@@ -21,7 +21,7 @@ pub struct Fault {
 impl Fault {
     /// The verdict that names it.
     pub fn verdict(&self) -> Verdict
-        ensures { result ≡ No self.now.line self.now.refusal }
+        ensures value { result ≡ No self.now.line self.now.refusal }
     {
         Verdict::No {
             line: self.line,

@@ -84,7 +84,7 @@ pub(crate) fn read_header_keeping<S: Source>(
 
 /// The number of the first line behind the header.
 pub fn first_line(rules: Rules) -> u64
-    ensures { result ≡ length (header_lines rules) + 1 }
+    ensures value { result ≡ length (header_lines rules) + 1 }
 {
     match rules {
         Rules::One => 2,

@@ -17,21 +17,21 @@ ghost use Rattle.cap_judge.specs.Verdicts.{IsByVersionOne, IsGuarded, IsOfVersio
 /// each tagged capability in a register or memory has bounds inside and permissions among those of the
 /// one root that it descends from, and each access lies inside the root of its authority.
 pub fn logs_are_guarded()
-    ensures { (bytes : List ℕ) → IsGuarded bytes }
+    ensures law { (bytes : List ℕ) → IsGuarded bytes }
 {}
 
 /// Whatever bytes are read: where they are a log whose steps have a run, then along it each `setbounds` in
 /// clear mode takes the tag of its tagged, unsealed source exactly where the bounds that it asks for, before
 /// any rounding, do not lie inside the source's.
 pub fn logs_clear_exactly()
-    ensures { (bytes : List ℕ) (rules : Rules) (roots : List DeclaredRoot) (steps : List Step) (states : List State)
+    ensures law { (bytes : List ℕ) (rules : Rules) (roots : List DeclaredRoot) (steps : List Step) (states : List State)
         → IsLogOf bytes rules roots steps → IsRun rules (start roots) steps states → ClearsExactly rules roots steps states }
 {}
 
 /// Whatever bytes a verdict is of: where it is a no, it names `BoundsEscape` exactly where its line is a step
 /// that asks, by strict rules, for bounds beyond those of its tagged, unsealed source, before any rounding.
 pub fn escapes_are_named_exactly()
-    ensures exact { (verdict : Verdict) → NamesEscapes verdict }
+    ensures law { (verdict : Verdict) → NamesEscapes verdict }
 {}
 
 /// Bytes that do not begin with the line `capcheck 2` have the verdict of version 1: it speaks of beginnings
@@ -47,17 +47,17 @@ pub fn other_bytes_are_of_version_one()
 /// A beginning of a log is accepted exactly where its lines are in range and each is allowed in its turn: no
 /// test of a line holds in what the lines before it lead to.
 pub fn accepted_in_turn()
-    ensures { (beginning : Beginning) → IsAccepted beginning
+    ensures law { (beginning : Beginning) → IsAccepted beginning
         ↔ (AllByRecursion IsInRange (lines_of beginning) × ((stage : Stage) × Reads Unread (lines_of beginning) stage)) }
 {}
 
 /// All bytes have a verdict: they are a log whose steps have a run, or there is a first fault.
 pub fn some_verdict()
-    ensures { (bytes : List ℕ) → (verdict : Verdict) × IsVerdict bytes verdict }
+    ensures law { (bytes : List ℕ) → (verdict : Verdict) × IsVerdict bytes verdict }
 {}
 
 /// No bytes have two verdicts: none are both a log whose steps have a run and at fault in a line, a log has
 /// one number of steps and one of roots, and what is none has one first fault, with one refusal.
 pub fn one_verdict()
-    ensures { (bytes : List ℕ) (a b : Verdict) → IsVerdict bytes a → IsVerdict bytes b → a ≡ b }
+    ensures law { (bytes : List ℕ) (a b : Verdict) → IsVerdict bytes a → IsVerdict bytes b → a ≡ b }
 {}

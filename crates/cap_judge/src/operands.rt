@@ -15,7 +15,7 @@ use tagmem::TaggedStore;
 /// What a register holds that a result comes from, or that is stored.
 pub fn source_in<M: TaggedStore>(machine: &Machine<M>, register: u8) -> Part
     requires { register ≤ 31 }
-    ensures { result ≡ source_part (account_of (held_of M.contents machine.now)) (places.Register register) }
+    ensures value { result ≡ source_part (account_of (held_of M.contents machine.now)) (places.Register register) }
 {
     let held = machine.register(register);
     Part::Source(Place::Register(register), held, root_in(machine, register))
@@ -25,7 +25,7 @@ pub fn source_in<M: TaggedStore>(machine: &Machine<M>, register: u8) -> Part
 pub fn granule_in<M: TaggedStore>(machine: &Machine<M>, authority: u8, offset: i16) -> Part
     requires authority { authority ≤ 31 }
     requires offset { IsOffset offset }
-    ensures { let account = account_of (held_of M.contents machine.now) in
+    ensures value { let account = account_of (held_of M.contents machine.now) in
         result ≡ source_part account (places.Granule (granule_through account.state authority offset)) }
 {
     let granule = reached(machine, authority, offset) / 16;
@@ -36,7 +36,7 @@ pub fn granule_in<M: TaggedStore>(machine: &Machine<M>, authority: u8, offset: i
 /// What a register holds that is the authority.
 pub fn authority_in<M: TaggedStore>(machine: &Machine<M>, register: u8) -> Part
     requires { register ≤ 31 }
-    ensures { result ≡ authority_part (account_of (held_of M.contents machine.now)) register }
+    ensures value { result ≡ authority_part (account_of (held_of M.contents machine.now)) register }
 {
     let authority = machine.register(register);
     Part::Authority(
@@ -63,7 +63,7 @@ fn root_in<M: TaggedStore>(machine: &Machine<M>, register: u8) -> Option<Place>
 pub fn reached<M: TaggedStore>(machine: &Machine<M>, authority: u8, offset: i16) -> u64
     requires authority { authority ≤ 31 }
     requires offset { IsOffset offset }
-    ensures { result ≡ address_through (state_of (held_of M.contents machine.now)) authority offset }
+    ensures value { result ≡ address_through (state_of (held_of M.contents machine.now)) authority offset }
 {
     let word = machine.register(authority).word;
     word.address().wrapping_add_signed(i64::from(offset))

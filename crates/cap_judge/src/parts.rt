@@ -47,7 +47,7 @@ pub enum Part {
 /// the buffer changes.
 pub fn put_parts(buffer: &mut [u8], at: usize, parts: &[Part]) -> usize
     requires { at + 256 * length parts.now ≤ length buffer.old }
-    ensures { IsWritten (256 * length parts.now) at (lines_of_parts parts.now) buffer.old buffer.new result }
+    ensures written { IsWritten (256 * length parts.now) at (lines_of_parts parts.now) buffer.old buffer.new result }
 {
     let mut end = at;
     for index in 0..parts.len() {

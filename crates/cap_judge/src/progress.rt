@@ -41,7 +41,7 @@ impl<M: TaggedStore> Progress<M> {
     /// The header was read. The store has to be empty.
     pub fn new(memory: M, rules: Rules) -> Progress<M>
         requires { map.len (M.contents memory) ≡ 0 }
-        ensures { StandsFor (reading_of M.contents result) (Body rules [] []) }
+        ensures stands { StandsFor (reading_of M.contents result) (Body rules [] []) }
     {
         Progress {
             machine: Machine::with_rules(memory, rules),

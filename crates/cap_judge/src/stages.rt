@@ -133,7 +133,7 @@ impl<M: TaggedStore> Stage<M> {
 
     /// The number of the next line.
     pub fn next_line(&self) -> u64
-        ensures { (beginning : Beginning) → IsAfter (standing_of M.contents self.now) beginning → result ≡ length (lines_of beginning) + 1 }
+        ensures number { (beginning : Beginning) → IsAfter (standing_of M.contents self.now) beginning → result ≡ length (lines_of beginning) + 1 }
     {
         match self {
             Stage::Begun(_) => 1,
@@ -146,7 +146,7 @@ impl<M: TaggedStore> Stage<M> {
     /// Why a line of more than 95 bytes is refused.
     #[inline(never)]
     pub fn refusal_of_long(&self) -> Refusal
-        ensures { (line : List ℕ) → IsTooLong line → EndsLine (standing_of M.contents self.now) line (Refused result) }
+        ensures ends { (line : List ℕ) → IsTooLong line → EndsLine (standing_of M.contents self.now) line (Refused result) }
     {
         match self {
             Stage::Behind(progress) => {
@@ -162,7 +162,7 @@ impl<M: TaggedStore> Stage<M> {
 
     /// The verdict where no line follows.
     pub fn end(&self) -> Verdict
-        ensures { (beginning : Beginning) → IsAfter (standing_of M.contents self.now) beginning
+        ensures verdict { (beginning : Beginning) → IsAfter (standing_of M.contents self.now) beginning
             → IsVerdict (text_of (lines_of beginning)) result }
     {
         match self {
@@ -177,7 +177,7 @@ impl<M: TaggedStore> Stage<M> {
     /// What a register holds.
     pub fn register(&self, number: u8) -> Cap
         requires { number ≤ 31 }
-        ensures { (beginning : Beginning) → IsAfter (standing_of M.contents self.now) beginning
+        ensures holds { (beginning : Beginning) → IsAfter (standing_of M.contents self.now) beginning
             → result ≡ (account_before beginning).state number }
     {
         match self {
@@ -189,7 +189,7 @@ impl<M: TaggedStore> Stage<M> {
     /// What a granule holds.
     pub fn granule(&self, granule: u64) -> Cap
         requires { granule < 2 ^ 60 }
-        ensures { (beginning : Beginning) → IsAfter (standing_of M.contents self.now) beginning
+        ensures holds { (beginning : Beginning) → IsAfter (standing_of M.contents self.now) beginning
             → result ≡ (account_before beginning).state (granule_key granule) }
     {
         match self {
@@ -200,7 +200,7 @@ impl<M: TaggedStore> Stage<M> {
 
     /// What the rules give for the step that a text spells, where it is refused for its result.
     pub fn expected(&self, text: &[u8]) -> Option<Expected>
-        ensures { (reading : Reading) → standing_of M.contents self.now ≡ Within reading
+        ensures gives { (reading : Reading) → standing_of M.contents self.now ≡ Within reading
             → GivesForText (account_of reading.held) text.now result }
     {
         match self {

@@ -59,7 +59,7 @@ pub fn put_step_lines<M: TaggedStore>(
 ) -> usize
     requires step { IsStepInRange step.now }
     requires room { at + 2560 ≤ length buffer.old }
-    ensures { IsWritten 2560 at (step_lines (account_of (held_of M.contents machine.now)) step.now refusal) buffer.old buffer.new result }
+    ensures written { IsWritten 2560 at (step_lines (account_of (held_of M.contents machine.now)) step.now refusal) buffer.old buffer.new result }
 {
     let at = put_asked(machine, step, buffer, at);
     match refusal {
@@ -365,7 +365,7 @@ fn put_result<M: TaggedStore>(
 /// What the rules give for a step whose line records a capability; for others NULL.
 pub fn given_by<M: TaggedStore>(machine: &Machine<M>, step: &Step) -> Given
     requires { IsStepInRange step.now }
-    ensures { let row = row_of (state_of (held_of M.contents machine.now)) step.now in
+    ensures gives { let row = row_of (state_of (held_of M.contents machine.now)) step.now in
         let cleared = clear_row row.access row in
         IfWritten row.records ((option_map (λ write. write.1) cleared.writes ≡ Some result.cap) × (lost_for row.access row ≡ result.fault)) }
 {

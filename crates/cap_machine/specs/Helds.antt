@@ -86,7 +86,7 @@ pub record Makes (old : Held) (step : Step) (new : Held) : Type 0 where
   pub leads : Leads old.rules (state_of old) step (state_of new)
   pub account : account_of new ≡ with_step (account_of old) step
 
--- the machine refused the step for its first test that holds, or memory for a granule named for the first time was refused; nothing changed
+-- the machine refused the step for its first test that holds; or no test holds and it names a granule for the first time; nothing changed
 abbrev pub EndsStep : Held → Step → StepEnd → Held → Type 0
 EndsStep old step (Refused refusal) new = (first_of (step_tests (account_of old) step) ≡ Some refusal) × (new ≡ old)
 EndsStep old step NoMemory new =
@@ -103,7 +103,7 @@ pub record TakesRoot (old : Held) (place : Place) (word : Word) (new : Held) : T
   pub tests : first_of (root_tests (account_of old) place word) ≡ None
   pub account : account_of new ≡ with_root (account_of old) place word
 
--- the machine refused the root for its first test that holds, or memory for a granule named for the first time was refused; nothing changed
+-- the machine refused the root for its first test that holds; or no test holds and it names a granule for the first time; nothing changed
 abbrev pub EndsRoot : Held → Place → Word → StepEnd → Held → Type 0
 EndsRoot old place word (Refused refusal) new = (first_of (root_tests (account_of old) place word) ≡ Some refusal) × (new ≡ old)
 EndsRoot old place word NoMemory new =

@@ -28,7 +28,7 @@ impl<M: TaggedStore> Machine<M> {
     /// nothing has changed.
     pub fn declare(&mut self, place: Place, word: Word) -> Result<(), StepEnd>
         requires { IsPlace place }
-        ensures { MatchResult result
+        ensures outcome { MatchResult result
             (λ _. TakesRoot (held_of M.contents self.old) place word (held_of M.contents self.new))
             (λ end. EndsRoot (held_of M.contents self.old) place word end (held_of M.contents self.new)) }
     {

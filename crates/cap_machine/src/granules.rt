@@ -15,7 +15,7 @@ use tagmem::{NoMemory, TaggedStore};
 #[inline(always)]
 pub fn capability_at<M: TaggedStore>(memory: &M, granule: u64) -> Cap
     requires { granule < 2 ^ 60 }
-    ensures { result ≡ granule_cap (M.contents memory.now) granule }
+    ensures value { result ≡ granule_cap (M.contents memory.now) granule }
 {
     match memory.get(granule) {
         Some(entry) => Cap {
@@ -53,7 +53,7 @@ pub fn number_in<M: TaggedStore>(memory: &M, granule: u64, byte_index: u8, size:
     requires in_memory { granule < 2 ^ 60 }
     requires inside { byte_index + size ≤ 16 }
     requires sized { IsDataSize size }
-    ensures { result ≡ number_at (bytes_at (M.contents memory.now) granule) byte_index size }
+    ensures value { result ≡ number_at (bytes_at (M.contents memory.now) granule) byte_index size }
 {
     match memory.get(granule) {
         Some(entry) => number_from(&entry.1, byte_index, size),

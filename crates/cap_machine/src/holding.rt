@@ -21,7 +21,7 @@ impl<M: TaggedStore> Machine<M> {
     /// A machine by the rules of version 1, as `with_rules` makes it.
     pub fn new(memory: M) -> Machine<M>
         requires { map.len (M.contents memory) ≡ 0 }
-        ensures { account_of (held_of M.contents result) ≡ no_account Rules.One }
+        ensures account { account_of (held_of M.contents result) ≡ no_account Rules.One }
     {
         Machine::with_rules(memory, Rules::One)
     }
@@ -30,7 +30,7 @@ impl<M: TaggedStore> Machine<M> {
     /// It takes no memory.
     pub fn with_rules(memory: M, rules: Rules) -> Machine<M>
         requires { map.len (M.contents memory) ≡ 0 }
-        ensures { account_of (held_of M.contents result) ≡ no_account rules }
+        ensures account { account_of (held_of M.contents result) ≡ no_account rules }
     {
         let nothing = Cap {
             tag: false,
@@ -48,28 +48,28 @@ impl<M: TaggedStore> Machine<M> {
 
     /// The rules that it follows.
     pub fn rules(&self) -> Rules
-        ensures { result ≡ (let held = held_of M.contents self.now in held.rules) }
+        ensures value { result ≡ (let held = held_of M.contents self.now in held.rules) }
     {
         self.rules
     }
 
     /// How many steps were made, at most 4,294,967,295.
     pub fn steps(&self) -> u32
-        ensures { result ≡ (let held = held_of M.contents self.now in held.steps) }
+        ensures value { result ≡ (let held = held_of M.contents self.now in held.steps) }
     {
         self.steps
     }
 
     /// How many roots were declared, at most 4,096.
     pub fn roots(&self) -> u32
-        ensures { result ≡ (let held = held_of M.contents self.now in held.roots) }
+        ensures value { result ≡ (let held = held_of M.contents self.now in held.roots) }
     {
         self.roots
     }
 
     /// How many distinct granules roots, `sc` and `store` have named.
     pub fn granules(&self) -> u32
-        ensures { result ≡ (let account = account_of (held_of M.contents self.now) in account.granules) }
+        ensures value { result ≡ (let account = account_of (held_of M.contents self.now) in account.granules) }
     {
         self.memory.count()
     }
@@ -77,7 +77,7 @@ impl<M: TaggedStore> Machine<M> {
     /// What a place holds.
     pub fn holds(&self, place: Place) -> Cap
         requires { IsPlace place }
-        ensures { result ≡ state_of (held_of M.contents self.now) (key_of place) }
+        ensures value { result ≡ state_of (held_of M.contents self.now) (key_of place) }
     {
         match place {
             Place::Register(number) => self.register(number),
@@ -90,7 +90,7 @@ impl<M: TaggedStore> Machine<M> {
     pub fn value(&self, address: u64, size: u8) -> u64
         requires inside { address % 16 + size ≤ 16 }
         requires sized { IsDataSize size }
-        ensures { result ≡ value_at (state_of (held_of M.contents self.now)) address size }
+        ensures value { result ≡ value_at (state_of (held_of M.contents self.now)) address size }
     {
         number_in(&self.memory, address / 16, (address % 16) as u8, size)
     }

@@ -13,5 +13,5 @@ pub trait Instruction: Operands {
     /// Makes the step and counts it, or refuses it, as [`Machine::step`] does.
     fn perform<M: TaggedStore>(self, machine: &mut Machine<M>) -> Result<(), StepEnd>
         requires { IsStepInRange (Self.step self) }
-        ensures { AnswersStep (held_of M.contents machine.old) (Self.step self) result (held_of M.contents machine.new) };
+        ensures outcome { AnswersStep (held_of M.contents machine.old) (Self.step self) result (held_of M.contents machine.new) };
 }

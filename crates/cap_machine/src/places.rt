@@ -8,7 +8,7 @@ use cap_log::Place;
 
 /// The place of the root that a code of an origin is of, or `None` for 0.
 pub fn place_at(code: u64) -> Option<Place>
-    ensures { result ≡ place_at code }
+    ensures value { result ≡ place_at code }
 {
     if code == 0 {
         None

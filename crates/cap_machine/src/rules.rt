@@ -18,7 +18,7 @@ impl Rules {
 
     /// The greatest number of distinct granules that roots, `sc` and `store` name: past it comes `LimitPassed`.
     pub fn most_granules(self) -> u32
-        ensures { result ≡ most_granules self }
+        ensures value { result ≡ most_granules self }
     {
         match self {
             Rules::One => 65_536,

@@ -42,9 +42,10 @@ impl<M: TaggedStore> Machine<M> {
         ensures stays_within { OnOk result
             (StaysWithinParents (state_of (held_of M.contents self.old)) step.now (state_of (held_of M.contents self.new))) }
         ensures escape { (result ≡ Err (StepEnd.Refused Refusal.BoundsEscape))
-            ↔ Escapes self.old.rules (state_of (held_of M.contents self.old)) step.now }
+            ↔ Escapes (let held = held_of M.contents self.old in held.rules) (state_of (held_of M.contents self.old)) step.now }
         ensures clears { OnOk result
-            (ClearsBeyond self.old.rules (state_of (held_of M.contents self.old)) step.now (state_of (held_of M.contents self.new))) }
+            (ClearsBeyond (let held = held_of M.contents self.old in held.rules) (state_of (held_of M.contents self.old)) step.now
+            (state_of (held_of M.contents self.new))) }
     {
         self.make(step)
     }

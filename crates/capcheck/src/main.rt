@@ -6,7 +6,11 @@ mod checking;
 pub mod faults;
 mod inputs;
 mod outputs;
+#[cfg(test)]
+mod rows;
 pub mod running;
+#[cfg(test)]
+mod tests;
 pub mod words;
 
 use crate::faults::Fault;
@@ -16,6 +20,7 @@ use crate::words::reading::read_words;
 pub use cap_judge::{
     explaining, headers, judging, laws, origin_lines, reporting, verdict, verdict_lines,
 };
+pub use cap_machine::Refusal;
 pub use cap_texts::{explain_lines, round_lines};
 pub use cap_vectors::vectors;
 use std::alloc::AllocError;

@@ -110,7 +110,7 @@ pub extern "C" fn capcheck_judge_end(alloc: Global, judge: &mut Handle) -> Answe
 /// Closes the judge, and gives its memory back. The handle then holds none.
 #[unsafe(no_mangle)]
 pub extern "C" fn capcheck_judge_close(alloc: Global, judge: &mut Handle)
-    ensures { judge.new.judge ≡ None }
+    ensures none { judge.new.judge ≡ None }
 {
     drop(judge.take(alloc));
 }

@@ -4,11 +4,15 @@
 #![tactic(auto)]
 
 #[cfg(test)]
+mod bounds;
+#[cfg(test)]
 mod fakes;
 #[cfg(test)]
 mod judge;
 #[cfg(test)]
 mod log;
+#[cfg(test)]
+mod machine;
 #[cfg(test)]
 mod stores;
 #[cfg(test)]

@@ -1,4 +1,5 @@
-//! Lines of logs, and where they come from.
+//! Lines of logs, where they come from, and where texts go.
 
+mod sinks;
 mod sources;
 mod taking;

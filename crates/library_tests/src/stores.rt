@@ -28,17 +28,17 @@ fn pages_put_what_was_refused(rt: HostRuntime) {
     puts_what_was_refused(&rt, &mut PageStore::new(rt.alloc()));
 }
 
-// A put into a page that is there is never refused, whichever growth after those of the page is.
+// Of a page that is there each other granule is put, whichever growth after those of the page is refused.
 #[test]
-fn a_page_that_is_there_takes_no_memory(rt: HostRuntime) {
+fn each_other_granule_of_a_page(rt: HostRuntime) {
     let store = &mut PageStore::new(rt.alloc());
     puts_what_was_refused(&rt, store);
-    for granule in 1..16 {
+    for granule in 1..256 {
         assert!(rt; store.count() < u32::MAX);
         assert_eq!(rt; store.put_cap(granule, true, [9; 16], granule), Ok(()));
     }
     assert!(rt; store.count() < u32::MAX);
     assert_eq!(rt; store.put_bytes(0, 15, &[8]), Ok(()));
-    assert_eq!(rt; (store.code(0), store.code(15)), (0, 15));
-    assert_eq!(rt; store.count(), 35);
+    assert_eq!(rt; (store.code(0), store.code(255)), (0, 255));
+    assert_eq!(rt; store.count(), 275);
 }

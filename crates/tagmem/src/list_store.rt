@@ -30,7 +30,7 @@ pub struct ListStore {
 impl ListStore {
     /// An empty store. It takes no memory.
     pub fn new(alloc: Global) -> ListStore
-        ensures { ⟦<ListStore as TaggedStore>⟧.contents result ≡ map.empty }
+        ensures empty { ⟦<ListStore as TaggedStore>⟧.contents result ≡ map.empty }
     {
         ListStore {
             entries: Vec::new(alloc),

@@ -43,7 +43,7 @@ pub struct PageStore {
 impl PageStore {
     /// An empty store. It takes no memory.
     pub fn new(alloc: Global) -> PageStore
-        ensures { ⟦<PageStore as TaggedStore>⟧.contents result ≡ map.empty }
+        ensures empty { ⟦<PageStore as TaggedStore>⟧.contents result ≡ map.empty }
     {
         PageStore {
             blocks: Vec::new(alloc),

@@ -22,17 +22,17 @@ pub trait TaggedStore: Drop {
     /// The tag and the bytes of a granule, or `None` where it was never put.
     fn get(&self, granule: u64) -> Option<(bool, [u8; 16])>
         requires { granule < 2 ^ 60 }
-        ensures { result ≡ shown (map.get (contents self.now) granule) };
+        ensures value { result ≡ shown (map.get (contents self.now) granule) };
 
     /// The code of the origin of a granule's capability: 0 where it has no tag or was never put.
     fn code(&self, granule: u64) -> u64
         requires { granule < 2 ^ 60 }
-        ensures { result ≡ code_at (contents self.now) granule };
+        ensures value { result ≡ code_at (contents self.now) granule };
 
     /// The least granule at or above a number that was put, or `None` where there is none. Any number
     /// does, also one that is no granule's.
     fn next_put(&self, granule: u64) -> Option<u64>
-        ensures { IsNextPut (contents self.now) granule result };
+        ensures least { IsNextPut (contents self.now) granule result };
 
     /// Sets a granule's tag and bytes, and the code of the origin, any but 0 for a tag and 0 for none.
     /// After an error the store is as it was, and a granule that was put before never gives one.
@@ -63,7 +63,7 @@ pub trait TaggedStore: Drop {
 
     /// How many granules were put.
     fn count(&self) -> u32
-        ensures { result ≡ map.len (contents self.now) };
+        ensures value { result ≡ map.len (contents self.now) };
 
     /// Each entry is of a granule below 2^60 and has sixteen bytes, and a code just where it has a tag.
     ghost are_stored: { (s : Self) → AreStored (contents s) };

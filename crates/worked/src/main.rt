@@ -15,6 +15,7 @@
 
 mod by_lines;
 mod calls;
+mod cuts;
 mod limits;
 mod origins;
 mod pieces;

@@ -1,6 +1,7 @@
 //! The verdict on a log, in each way that there is to judge it.
 
 use crate::by_lines::by_lines;
+use crate::cuts::each_cut;
 use crate::pieces::{cut, each_pull_failing, in_pieces, longer, over_a_list};
 use cap_judge::verdict::Verdict;
 use cap_judge::verdict_lines::verdict_text;
@@ -24,7 +25,7 @@ pub fn line_behind(text: &[u8], from: usize) -> &[u8] {
 
 /// Whether the verdict on a log has this line, and is the same in pieces of one byte, and with its granules in a
 /// list. A short log also comes in pieces of up to eight bytes, and in pieces of one byte with each pull failing in
-/// turn, and line by line, and, with a yes, cut and with a byte more.
+/// turn, and line by line, and, with a yes, in two pieces, cut off, and with a byte more, each at each place.
 pub fn verdict_holds(
     alloc: Global,
     log: &[u8],
@@ -49,7 +50,9 @@ pub fn verdict_holds(
     }
     let is_same = each_pull_failing(alloc, log, verdict)? && by_lines(alloc, log);
     Ok(match verdict {
-        Verdict::Yes { steps: _, roots: _ } => is_same && cut(alloc, log) && longer(alloc, log),
+        Verdict::Yes { steps: _, roots: _ } => {
+            is_same && cut(alloc, log) && longer(alloc, log) && each_cut(alloc, log, verdict, line)
+        }
         Verdict::No {
             line: _,
             refusal: _,

@@ -105,3 +105,19 @@ fn one_pull_fails(rt: HostRuntime) {
         gives(&rt, &mut source, 4, b"");
     }
 }
+
+// Each other pull is the inner one's, of its whole piece.
+#[test]
+fn one_pull_of_pieces_fails(rt: HostRuntime) {
+    let pieces = [b"abc".as_slice(), b"de", b"fgh", b"", b""];
+    for at in 0..5u64 {
+        let mut source = FailingSource::new(SliceSource::new(b"abcdefgh", &[3, 2]), at);
+        let mut piece = [0u8; 8];
+        for (number, expected) in pieces.iter().enumerate() {
+            if number as u64 == at {
+                assert_eq!(rt; source.pull(&mut piece), Err(PullFault));
+            }
+            gives(&rt, &mut source, 8, expected);
+        }
+    }
+}

@@ -2,9 +2,12 @@
 
 use crate::calls::answers::none;
 use cap_bounds::{
-    align_mask, bounds, least_law, mantissa, reach, round, round_length, sound, with_bounds,
+    Interval, Rounded, align_mask, bounds, keeps_bounds, least_law, mantissa, reach, round,
+    round_length, sound, with_bounds,
 };
-use cap_word::{Fields, Word, join, null, read_u64, read_word, split, word_text};
+use cap_word::{
+    Fields, Word, from_memory, join, null, read_u64, read_word, split, to_memory, word_text,
+};
 use std::alloc::{AllocError, Global};
 
 // A word, and the numbers behind it.
@@ -37,6 +40,14 @@ pub fn bounds_answer(alloc: Global, call: &[u8], operands: &[&[u8]]) -> Result<S
         b"fields" => fields_text(alloc, word),
         b"join" => String::from_utf8_lossy(alloc, &word_text(join(&split(word)))),
         b"mantissa" => format!(in alloc; "{:x}", mantissa(&split(word))),
+        b"bounds" => bounds_text(alloc, word),
+        b"keeps" => format!(in alloc; "{}", u8::from(keeps_bounds(word, first))),
+        b"round" => round_text(alloc, &round(first, second)),
+        b"memory" => memory_text(alloc, to_memory(word)),
+        b"from_memory" => {
+            let kept = from_memory(&word.0.to_be_bytes());
+            String::from_utf8_lossy(alloc, &word_text(kept))
+        }
         b"reach" => match reach(word) {
             Some((start, size)) => format!(in alloc; "{start:x} {size:x}"),
             None => none(alloc),
@@ -52,6 +63,24 @@ pub fn bounds_answer(alloc: Global, call: &[u8], operands: &[&[u8]]) -> Result<S
         }
         _ => format!(in alloc; "no such call"),
     }
+}
+
+// The base and the top of a word, and 1 where it is sound.
+fn bounds_text(alloc: Global, word: Word) -> Result<String, AllocError> {
+    let Interval { base, top } = bounds(word);
+    format!(in alloc; "{base:016x} {top:017x} {}", u8::from(sound(word)))
+}
+
+// The bounds of a rounding, IE and E, and 1 where it is exact.
+fn round_text(alloc: Global, rounded: &Rounded) -> Result<String, AllocError> {
+    let (base, top, e) = (rounded.base, rounded.top, rounded.e);
+    let (ie, exact) = (u8::from(rounded.ie), u8::from(rounded.exact));
+    format!(in alloc; "{base:016x} {top:017x} {ie} {e} {exact}")
+}
+
+// Sixteen bytes in order of address.
+fn memory_text(alloc: Global, bytes: [u8; 16]) -> Result<String, AllocError> {
+    format!(in alloc; "{:032x}", u128::from_be_bytes(bytes))
 }
 
 // The fields of a word, and what its methods say of three of them.

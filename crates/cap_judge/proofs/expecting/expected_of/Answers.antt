@@ -16,4 +16,4 @@ pub returns-in_default : goal.returns-in_default
 returns-in_default g c =
     let account = account_of (held_of g.M.TaggedStore.contents c.args.machine.now) in
     let other = no_store c.args.step.now c.in_default.not-StoreCap c.in_default.not-Load c.in_default.not-Store in
-    gives_capability account c.args.step.now c.given_by.result.cap c.given_by.result.fault other c.given_by.ensures
+    gives_capability account c.args.step.now c.given_by.result.cap c.given_by.result.fault other c.given_by.ensures.gives

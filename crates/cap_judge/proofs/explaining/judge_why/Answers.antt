@@ -5,4 +5,4 @@ use Rattle.tagmem.specs.Granules.{Entry}
 use Rattle.cap_judge.proofs.explaining.judge_why.Goals as goal
 
 pub judge_why_in-requires : goal.judge_why_in-requires
-judge_why_in-requires g c = ap len c.new.ensures ∙ len-empty nat_cmp Entry
+judge_why_in-requires g c = ap len c.new.ensures.empty ∙ len-empty nat_cmp Entry

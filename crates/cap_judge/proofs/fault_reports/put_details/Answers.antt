@@ -100,5 +100,5 @@ returns-in-Step-clause-written g c =
             (spells, step_form account.rules c.in-Step.step),
             refl,
           )),
-      c.put_step_lines.ensures.written,
+      c.put_step_lines.ensures.written.written,
     )

@@ -8,7 +8,7 @@ judge_rest-answer-requires-clause-here g c = (
   c.args.source.now,
   at_body g.S.Source.gave c.args.source.now c.read_header_keeping.new.source _ c.in-Ok.rules
       (reading_of g.M.TaggedStore.contents c.new-progress.result)
-      c.first_line.result c.in-Ok.ensures.read c.new-progress.ensures c.first_line.ensures,
+      c.first_line.result c.in-Ok.ensures.read c.new-progress.ensures.stands c.first_line.ensures.value,
 )
 
 pub returns-in-Ok-clause-judged : goal.returns-in-Ok-clause-judged
@@ -16,8 +16,8 @@ returns-in-Ok-clause-judged g c =
     c.judge_rest-answer.ensures.judged c.args.source.now
     (at_body g.S.Source.gave c.args.source.now c.read_header_keeping.new.source _ c.in-Ok.rules
     (reading_of g.M.TaggedStore.contents c.new-progress.result)
-    c.first_line.result c.in-Ok.ensures.read c.new-progress.ensures c.first_line.ensures)
+    c.first_line.result c.in-Ok.ensures.read c.new-progress.ensures.stands c.first_line.ensures.value)
 
 pub returns-in-Err-clause-judged : goal.returns-in-Err-clause-judged
 returns-in-Err-clause-judged g c =
-    c.in-Err.ensures.read.2 (held_of g.M.TaggedStore.contents c.with_rules.result) c.with_rules.ensures
+    c.in-Err.ensures.read.2 (held_of g.M.TaggedStore.contents c.with_rules.result) c.with_rules.ensures.account

@@ -4,4 +4,4 @@ use Rattle.cap_judge.proofs.JudgeLemmas.{guarded}
 use Rattle.cap_judge.proofs.laws.logs_are_guarded.Goals as goal
 
 pub returns : goal.returns
-returns c = guarded one_root lie_inside
+returns c = record { law = guarded one_root lie_inside }

@@ -2,4 +2,4 @@ use Rattle.cap_judge.proofs.SomeVerdict.{some_verdict}
 use Rattle.cap_judge.proofs.laws.some_verdict.Goals as goal
 
 pub returns : goal.returns
-returns c = some_verdict
+returns c = record { law = some_verdict }

@@ -5,4 +5,4 @@ use Rattle.tagmem.specs.Granules.{Entry}
 use Rattle.cap_judge.proofs.reporting.judge_origins.Goals as goal
 
 pub judge_origins_in-requires : goal.judge_origins_in-requires
-judge_origins_in-requires g c = ap len c.new.ensures ∙ len-empty nat_cmp Entry
+judge_origins_in-requires g c = ap len c.new.ensures.empty ∙ len-empty nat_cmp Entry

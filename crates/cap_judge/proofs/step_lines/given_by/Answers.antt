@@ -52,96 +52,105 @@ loaded_by state authority offset held stored cap reached range same at there is 
     ap Some (sym (is ∙ ap (λ a. loaded_result a stored) same ∙ ap (λ s. loaded_result (state authority) s) there_now))
 
 pub returns-in-Move : goal.returns-in-Move
-returns-in-Move g c =
-    let state = state_of (held_of g.M.TaggedStore.contents c.args.machine.now) in
-    let step = c.in-Move in
-    let given = c.untested in
-    subst (Gives state given.result.cap given.result.fault) (sym step.is)
-    (by_one (λ h. []) (λ h. h)
-    c.register.result (state step.source) given.result.cap given.result.fault
-    c.register.ensures.holds given.ensures.cap given.ensures.fault)
+returns-in-Move g c = record {
+  gives = let state = state_of (held_of g.M.TaggedStore.contents c.args.machine.now) in
+      let step = c.in-Move in
+      let given = c.untested in
+      subst (Gives state given.result.cap given.result.fault) (sym step.is)
+      (by_one (λ h. []) (λ h. h)
+      c.register.result (state step.source) given.result.cap given.result.fault
+      c.register.ensures.holds given.ensures.cap given.ensures.fault);
+}
 
 pub returns-in-ClearTag : goal.returns-in-ClearTag
-returns-in-ClearTag g c =
-    let state = state_of (held_of g.M.TaggedStore.contents c.args.machine.now) in
-    let step = c.in-ClearTag in
-    let given = c.untested-in-ClearTag in
-    subst (Gives state given.result.cap given.result.fault) (sym step.is)
-    (by_one (λ h. []) (λ h. ops.cleared h)
-    c.register-in-ClearTag.result (state step.source) given.result.cap given.result.fault
-    c.register-in-ClearTag.ensures.holds (given.ensures.cap ∙ c.clear_tag.ensures.result_is) given.ensures.fault)
+returns-in-ClearTag g c = record {
+  gives = let state = state_of (held_of g.M.TaggedStore.contents c.args.machine.now) in
+      let step = c.in-ClearTag in
+      let given = c.untested-in-ClearTag in
+      subst (Gives state given.result.cap given.result.fault) (sym step.is)
+      (by_one (λ h. []) (λ h. ops.cleared h)
+      c.register-in-ClearTag.result (state step.source) given.result.cap given.result.fault
+      c.register-in-ClearTag.ensures.holds (given.ensures.cap ∙ c.clear_tag.ensures.result_is) given.ensures.fault);
+}
 
 pub returns-in-SetBounds : goal.returns-in-SetBounds
-returns-in-SetBounds g c =
-    let state = state_of (held_of g.M.TaggedStore.contents c.args.machine.now) in
-    let step = c.in-SetBounds in
-    let given = c.bounded in
-    subst (Gives state given.result.cap given.result.fault) (sym step.is)
-    (by_one (λ h. ops.set_bounds_tests h step.length false) (λ h. ops.set_bounds_result h step.length)
-    c.register-in-SetBounds.result (state step.source) given.result.cap given.result.fault
-    c.register-in-SetBounds.ensures.holds given.ensures.cap given.ensures.fault)
+returns-in-SetBounds g c = record {
+  gives = let state = state_of (held_of g.M.TaggedStore.contents c.args.machine.now) in
+      let step = c.in-SetBounds in
+      let given = c.bounded in
+      subst (Gives state given.result.cap given.result.fault) (sym step.is)
+      (by_one (λ h. ops.set_bounds_tests h step.length false) (λ h. ops.set_bounds_result h step.length)
+      c.register-in-SetBounds.result (state step.source) given.result.cap given.result.fault
+      c.register-in-SetBounds.ensures.holds given.ensures.cap given.ensures.fault);
+}
 
 pub returns-in-SetBoundsExact : goal.returns-in-SetBoundsExact
-returns-in-SetBoundsExact g c =
-    let state = state_of (held_of g.M.TaggedStore.contents c.args.machine.now) in
-    let step = c.in-SetBoundsExact in
-    let given = c.bounded-in-SetBoundsExact in
-    subst (Gives state given.result.cap given.result.fault) (sym step.is)
-    (by_one (λ h. ops.set_bounds_tests h step.length true) (λ h. ops.set_bounds_result h step.length)
-    c.register-in-SetBoundsExact.result (state step.source) given.result.cap given.result.fault
-    c.register-in-SetBoundsExact.ensures.holds given.ensures.cap given.ensures.fault)
+returns-in-SetBoundsExact g c = record {
+  gives = let state = state_of (held_of g.M.TaggedStore.contents c.args.machine.now) in
+      let step = c.in-SetBoundsExact in
+      let given = c.bounded-in-SetBoundsExact in
+      subst (Gives state given.result.cap given.result.fault) (sym step.is)
+      (by_one (λ h. ops.set_bounds_tests h step.length true) (λ h. ops.set_bounds_result h step.length)
+      c.register-in-SetBoundsExact.result (state step.source) given.result.cap given.result.fault
+      c.register-in-SetBoundsExact.ensures.holds given.ensures.cap given.ensures.fault);
+}
 
 pub returns-in-SetAddr : goal.returns-in-SetAddr
-returns-in-SetAddr g c =
-    let state = state_of (held_of g.M.TaggedStore.contents c.args.machine.now) in
-    let step = c.in-SetAddr in
-    let given = c.moved in
-    subst (Gives state given.result.cap given.result.fault) (sym step.is)
-    (by_one (λ h. ops.set_addr_tests h step.address) (λ h. ops.set_addr_result h step.address)
-    c.register-in-SetAddr.result (state step.source) given.result.cap given.result.fault
-    c.register-in-SetAddr.ensures.holds given.ensures.cap given.ensures.fault)
+returns-in-SetAddr g c = record {
+  gives = let state = state_of (held_of g.M.TaggedStore.contents c.args.machine.now) in
+      let step = c.in-SetAddr in
+      let given = c.moved in
+      subst (Gives state given.result.cap given.result.fault) (sym step.is)
+      (by_one (λ h. ops.set_addr_tests h step.address) (λ h. ops.set_addr_result h step.address)
+      c.register-in-SetAddr.result (state step.source) given.result.cap given.result.fault
+      c.register-in-SetAddr.ensures.holds given.ensures.cap given.ensures.fault);
+}
 
 pub returns-in-AndPerm : goal.returns-in-AndPerm
-returns-in-AndPerm g c =
-    let state = state_of (held_of g.M.TaggedStore.contents c.args.machine.now) in
-    let step = c.in-AndPerm in
-    let given = c.permitted in
-    subst (Gives state given.result.cap given.result.fault) (sym step.is)
-    (by_one (λ h. ops.and_perm_tests h) (λ h. ops.and_perm_result h step.mask)
-    c.register-in-AndPerm.result (state step.source) given.result.cap given.result.fault
-    c.register-in-AndPerm.ensures.holds given.ensures.cap given.ensures.fault)
+returns-in-AndPerm g c = record {
+  gives = let state = state_of (held_of g.M.TaggedStore.contents c.args.machine.now) in
+      let step = c.in-AndPerm in
+      let given = c.permitted in
+      subst (Gives state given.result.cap given.result.fault) (sym step.is)
+      (by_one (λ h. ops.and_perm_tests h) (λ h. ops.and_perm_result h step.mask)
+      c.register-in-AndPerm.result (state step.source) given.result.cap given.result.fault
+      c.register-in-AndPerm.ensures.holds given.ensures.cap given.ensures.fault);
+}
 
 pub returns-in-Seal : goal.returns-in-Seal
-returns-in-Seal g c =
-    let state = state_of (held_of g.M.TaggedStore.contents c.args.machine.now) in
-    let step = c.in-Seal in
-    let given = c.sealed in
-    subst (Gives state given.result.cap given.result.fault) (sym step.is)
-    (by_two (λ h b. ops.seal_tests h b) (λ h b. ops.seal_result h b)
-    c.register-in-Seal.result (state step.source) c.register-in-Seal-2.result (state step.authority)
-    given.result.cap given.result.fault c.register-in-Seal.ensures.holds
-    c.register-in-Seal-2.ensures.holds given.ensures.cap given.ensures.fault)
+returns-in-Seal g c = record {
+  gives = let state = state_of (held_of g.M.TaggedStore.contents c.args.machine.now) in
+      let step = c.in-Seal in
+      let given = c.sealed in
+      subst (Gives state given.result.cap given.result.fault) (sym step.is)
+      (by_two (λ h b. ops.seal_tests h b) (λ h b. ops.seal_result h b)
+      c.register-in-Seal.result (state step.source) c.register-in-Seal-2.result (state step.authority)
+      given.result.cap given.result.fault c.register-in-Seal.ensures.holds
+      c.register-in-Seal-2.ensures.holds given.ensures.cap given.ensures.fault);
+}
 
 pub returns-in-Unseal : goal.returns-in-Unseal
-returns-in-Unseal g c =
-    let state = state_of (held_of g.M.TaggedStore.contents c.args.machine.now) in
-    let step = c.in-Unseal in
-    let given = c.unsealed in
-    subst (Gives state given.result.cap given.result.fault) (sym step.is)
-    (by_two (λ h b. ops.unseal_tests h b) (λ h b. ops.unseal_result h b)
-    c.register-in-Unseal.result (state step.source) c.register-in-Unseal-2.result (state step.authority)
-    given.result.cap given.result.fault c.register-in-Unseal.ensures.holds
-    c.register-in-Unseal-2.ensures.holds given.ensures.cap given.ensures.fault)
+returns-in-Unseal g c = record {
+  gives = let state = state_of (held_of g.M.TaggedStore.contents c.args.machine.now) in
+      let step = c.in-Unseal in
+      let given = c.unsealed in
+      subst (Gives state given.result.cap given.result.fault) (sym step.is)
+      (by_two (λ h b. ops.unseal_tests h b) (λ h b. ops.unseal_result h b)
+      c.register-in-Unseal.result (state step.source) c.register-in-Unseal-2.result (state step.authority)
+      given.result.cap given.result.fault c.register-in-Unseal.ensures.holds
+      c.register-in-Unseal-2.ensures.holds given.ensures.cap given.ensures.fault);
+}
 
 pub returns-in-LoadCap : goal.returns-in-LoadCap
-returns-in-LoadCap g c =
-    let state = state_of (held_of g.M.TaggedStore.contents c.args.machine.now) in
-    let step = c.in-LoadCap in
-    let given = c.untested-in-LoadCap in
-    let range = subst IsStepInRange step.is c.requires in
-    subst (Gives state given.result.cap given.result.fault) (sym step.is) (
-      loaded_by state step.authority step.offset c.register-in-LoadCap.result c.granule.result given.result.cap c.reached-granule.result
-          range.2 c.register-in-LoadCap.ensures.holds c.reached-granule.ensures c.granule.ensures.holds
-          (given.ensures.cap ∙ c.loaded.ensures.result_is),
-      sym given.ensures.fault,
-    )
+returns-in-LoadCap g c = record {
+  gives = let state = state_of (held_of g.M.TaggedStore.contents c.args.machine.now) in
+      let step = c.in-LoadCap in
+      let given = c.untested-in-LoadCap in
+      let range = subst IsStepInRange step.is c.requires in
+      subst (Gives state given.result.cap given.result.fault) (sym step.is) (
+        loaded_by state step.authority step.offset c.register-in-LoadCap.result c.granule.result given.result.cap c.reached-granule.result
+            range.2 c.register-in-LoadCap.ensures.holds c.reached-granule.ensures.value c.granule.ensures.holds
+            (given.ensures.cap ∙ c.loaded.ensures.result_is),
+        sym given.ensures.fault,
+      );
+}

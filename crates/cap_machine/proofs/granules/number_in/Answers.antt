@@ -18,11 +18,17 @@ number_at-zeros byte_index (suc size) =
 pub returns-in-Some : goal.returns-in-Some
 returns-in-Some g c =
     let found = map.get (g.M.TaggedStore.contents c.args.memory.now) c.args.granule in
-    c.number_from.ensures ∙ ap (λ (bytes : List ℕ). number_at bytes c.args.byte_index c.args.size)
-    (sym (shown-some found c.in-Some.entry (sym c.in-Some.ensures)).1)
+    record {
+      value =
+          c.number_from.ensures ∙ ap (λ (bytes : List ℕ). number_at bytes c.args.byte_index c.args.size)
+          (sym (shown-some found c.in-Some.entry (sym c.in-Some.ensures.value)).1);
+    }
 
 pub returns-in-None : goal.returns-in-None
 returns-in-None g c =
     let found = map.get (g.M.TaggedStore.contents c.args.memory.now) c.args.granule in
-    sym (ap (λ (o : Option Entry). number_at (unwrap_or o blank).1 c.args.byte_index c.args.size)
-    (shown-none found (sym c.in-None.ensures)) ∙ number_at-zeros c.args.byte_index c.args.size)
+    record {
+      value =
+          sym (ap (λ (o : Option Entry). number_at (unwrap_or o blank).1 c.args.byte_index c.args.size)
+          (shown-none found (sym c.in-None.ensures.value)) ∙ number_at-zeros c.args.byte_index c.args.size);
+    }

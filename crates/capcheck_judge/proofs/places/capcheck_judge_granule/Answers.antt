@@ -10,5 +10,5 @@ returns-in-Some-clause-granule c = λ bytes holds.
       c.there.ensures.present,
       c.there.ensures.cap
           ∙ held_state c.args.judge.now.judge bytes holds c.deref.result.now is c.granule-cap.result
-          (granule_key (c.args.address / 16)) c.granule-cap.ensures,
+          (granule_key (c.args.address / 16)) c.granule-cap.ensures.holds,
     )

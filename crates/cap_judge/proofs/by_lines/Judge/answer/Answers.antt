@@ -7,7 +7,7 @@ use Rattle.cap_judge.proofs.by_lines.Judge.answer.Goals as goal
 
 pub returns-in-Some-clause-stands : goal.returns-in-Some-clause-stands
 returns-in-Some-clause-stands g c = λ bytes taken.
-    subst (λ (verdict : Verdict). Stands bytes (Some verdict)) (sym c.verdict.ensures)
+    subst (λ (verdict : Verdict). Stands bytes (Some verdict)) (sym c.verdict.ensures.value)
     (stands_no (known_of g.M.TaggedStore.contents c.args.self.now) c.in-Some.fault bytes c.in-Some.is taken)
 
 pub returns-in-Some-clause-none : goal.returns-in-Some-clause-none

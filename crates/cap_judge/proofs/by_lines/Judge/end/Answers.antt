@@ -10,7 +10,7 @@ use Rattle.cap_judge.proofs.by_lines.Judge.end.Goals as goal
 
 pub returns-in-Some-clause-verdict : goal.returns-in-Some-clause-verdict
 returns-in-Some-clause-verdict g c = λ bytes taken.
-    subst (IsVerdict bytes) (sym c.verdict.ensures)
+    subst (IsVerdict bytes) (sym c.verdict.ensures.value)
     (fault_now (known_of g.M.TaggedStore.contents c.args.self.now) c.in-Some.fault bytes c.in-Some.is taken)
 
 pub returns-in-Some-clause-escape : goal.returns-in-Some-clause-escape

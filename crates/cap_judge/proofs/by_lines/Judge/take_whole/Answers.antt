@@ -58,3 +58,7 @@ returns-in-Err-clause-no_memory g c =
     let same = ap (known_at fault) (c.in-Err.ensures.same) in
     subst (λ (k : Known). IfErr c.take_end.result (λ fault. (fault ≡ NoMemory) × ((bytes : List ℕ) → Taken k bytes
     → MayLackMemory (bytes ++ line) []))) same c.take_end.ensures.no_memory
+
+-- named, so that want of memory behind a fault is refused at once
+pub returns-then-is_some-clause-no_memory : goal.returns-then-is_some-clause-no_memory
+returns-then-is_some-clause-no_memory g c = tt

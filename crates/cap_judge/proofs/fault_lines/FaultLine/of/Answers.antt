@@ -51,18 +51,19 @@ slice_bounds-copy_from_slice-end-2 c =
     sym (length-take-le c.match-front.length c.args.bytes.now few)
 
 pub returns : goal.returns
-returns c =
-    let n = c.match-front.length in
-    let bytes = c.args.bytes.now in
-    let is : c.match-front.length ≡ held c.args.bytes.now c.front.result =
-    elim c.match-front.branch [
-      | in-Line w ↦ w.length-is ∙ ap (held c.args.bytes.now) (sym w.in-Line.is)
-      | in-TooLong w ↦ w.length-is ∙ ap (held c.args.bytes.now) (sym w.in-TooLong.is)
-      | in-Cut w ↦ w.length-is ∙ ap (held c.args.bytes.now) (sym w.in-Cut.is)
-    ] in
-    let counted = held_few bytes c.front.result c.front.ensures.found in
-    let few = subst (λ (m : ℕ). m ≤ length bytes) (sym is) counted.1 in
-    let copied = c.copy_from_slice.ensures.after in
-    let kept = ap length copied ∙ length-take-le n bytes few in
-    subst (IsFrontText bytes) (sym (take_at c.copy_from_slice.new.self _ n kept ∙ copied ∙ ap (λ (m : ℕ). take m bytes) is))
-    (held_line bytes c.front.result c.front.ensures.found)
+returns c = record {
+  front = let n = c.match-front.length in
+      let bytes = c.args.bytes.now in
+      let is : c.match-front.length ≡ held c.args.bytes.now c.front.result =
+      elim c.match-front.branch [
+        | in-Line w ↦ w.length-is ∙ ap (held c.args.bytes.now) (sym w.in-Line.is)
+        | in-TooLong w ↦ w.length-is ∙ ap (held c.args.bytes.now) (sym w.in-TooLong.is)
+        | in-Cut w ↦ w.length-is ∙ ap (held c.args.bytes.now) (sym w.in-Cut.is)
+      ] in
+      let counted = held_few bytes c.front.result c.front.ensures.found in
+      let few = subst (λ (m : ℕ). m ≤ length bytes) (sym is) counted.1 in
+      let copied = c.copy_from_slice.ensures.after in
+      let kept = ap length copied ∙ length-take-le n bytes few in
+      subst (IsFrontText bytes) (sym (take_at c.copy_from_slice.new.self _ n kept ∙ copied ∙ ap (λ (m : ℕ). take m bytes) is))
+      (held_line bytes c.front.result c.front.ensures.found);
+}

@@ -47,7 +47,7 @@ returns-in-Ok-Finished-clause-judged g c = λ begun was.
     let ended = g.S.Source.ended c.next.new.source in
     let text = bytes_of c.of-self.result in
     let at = at_met here.0 _ reading c.in-Ok.next here.2 m in
-    let front = subst (λ (b : List ℕ). IsFrontText b text) (c.kept.ensures.value ∙ m.next.3) c.of-self.ensures in
+    let front = subst (λ (b : List ℕ). IsFrontText b text) (c.kept.ensures.value ∙ m.next.3) c.of-self.ensures.front in
     let known = finished_at here.0 _ reading c.in-Ok.next c.take_kept.new.self.ended refl here.2 m in
     judged_by g.S.Source.gave g.S.Source.ended begun c.next.new.source reading.held text m.given _ _
     (ap Ok c.finished_verdict.ensures) m.gives known.0 known.1
@@ -65,7 +65,7 @@ returns-in-Ok-Truncated-clause-judged g c = λ begun was.
     let text = bytes_of c.of-self-in-Ok-Truncated.result in
     let at = at_met here.0 _ reading c.in-Ok.next here.2 m in
     let front = subst (λ (b : List ℕ). IsFrontText b text) (c.kept-in-Ok-Truncated.ensures.value ∙ m.next.4)
-    c.of-self-in-Ok-Truncated.ensures in
+    c.of-self-in-Ok-Truncated.ensures.front in
     judged_no g.S.Source.gave g.S.Source.ended begun c.next.new.source reading.held text m.given _ _ (ap Ok c.refused.ensures)
     (no_refused c.in-Ok.next c.take_kept.new.self.ended Truncated)
     m.gives (truncated_at here.0 _ reading c.in-Ok.next c.take_kept.new.self.ended refl here.2 m)
@@ -83,7 +83,7 @@ returns-in-Ok-LineTooLong-clause-judged g c = λ begun was.
     let text = bytes_of c.of-self-in-Ok-LineTooLong.result in
     let at = at_met here.0 _ reading c.in-Ok.next here.2 m in
     let front = subst (λ (b : List ℕ). IsFrontText b text) (c.kept-in-Ok-LineTooLong.ensures.value ∙ m.next.2)
-    c.of-self-in-Ok-LineTooLong.ensures in
+    c.of-self-in-Ok-LineTooLong.ensures.front in
     judged_no g.S.Source.gave g.S.Source.ended begun c.next.new.source reading.held text m.given _ _
     (ap Ok c.refused-in-Ok-LineTooLong.ensures) (no_refused c.in-Ok.next c.take_kept.new.self.ended LineTooLong)
     m.gives (too_long_at here.0 _ reading c.in-Ok.next c.take_kept.new.self.ended refl here.2 m)
@@ -103,7 +103,7 @@ returns-then-self-clause-judged g c = λ begun was.
     judged_no g.S.Source.gave g.S.Source.ended begun c.next.new.source reading.held text m.given _ _ (ap Ok c.refused-then-self.ensures) tt
     m.gives (after_end here.0 _ reading c.in-Ok.next c.in-Ok-Line.text here.2 m c.if-self.true)
     (stops m.given ended reading.held c.in-Ok.next text m.rest reading at refl
-    (lent_front m.rest c.in-Ok-Line.text.now _ ended text c.of-self-then-self.ensures m.next.0))
+    (lent_front m.rest c.in-Ok-Line.text.now _ ended text c.of-self-then-self.ensures.front m.next.0))
 
 pub returns-in-Err-take_line-clause-judged : goal.returns-in-Err-take_line-clause-judged
 returns-in-Err-take_line-clause-judged g c = λ begun was.
@@ -123,7 +123,7 @@ returns-in-Err-take_line-clause-judged g c = λ begun was.
     c.in-Err-take_line.ensures.err)
     (stops_answer m.given ended held c.in-Ok.next text c.in-Err-take_line.end
     (stops m.given ended held c.in-Ok.next text m.rest reading at same
-    (lent_front m.rest c.in-Ok-Line.text.now _ ended text c.of-self-in-Err-take_line.ensures m.next.0)))
+    (lent_front m.rest c.in-Ok-Line.text.now _ ended text c.of-self-in-Err-take_line.ensures.front m.next.0)))
 
 pub lines-preserved : goal.lines-preserved
 lines-preserved g c =

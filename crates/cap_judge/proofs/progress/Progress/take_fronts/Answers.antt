@@ -46,7 +46,7 @@ returns-in-Err-clause-stops g c = λ given ended at.
     let ends = c.in-Err.ensures.err in
     let whole = kept_line c.front.rest.now ends.1 ends.0 ends.2.0 ends.2.1 in
     let same = ap (λ (r : Reading). r.held) c.in-Err.ensures.same in
-    let front = kept_front c.front.rest.now (spelling ends.0) ends.1 ended text c.of-self.ensures whole in
+    let front = kept_front c.front.rest.now (spelling ends.0) ends.1 ended text c.of-self.ensures.front whole in
     subst (λ answer. IfOk answer (StopsIn given ended held text)) (sym c.answer_at.ensures)
     (stops_answer given ended held c.front.line text c.in-Err.end (stops given ended held c.front.line text c.front.rest.now reading
     (c.front.invariant.here given at) same front))

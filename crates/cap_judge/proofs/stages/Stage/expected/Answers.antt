@@ -7,6 +7,8 @@ use Rattle.cap_judge.proofs.ExpectedLemmas.{same_reading}
 use Rattle.cap_judge.proofs.stages.Stage.expected.Goals as goal
 
 pub returns-in-Behind : goal.returns-in-Behind
-returns-in-Behind g c = λ reading is.
-    subst (λ (r : Reading). GivesForText (account_of r.held) c.args.text.now c.expected_by.result)
-    (same_reading _ reading (sym (ap (standing_of g.M.TaggedStore.contents) c.in-Behind.is) ∙ is)) c.expected_by.ensures
+returns-in-Behind g c = record {
+  gives = λ reading is.
+      subst (λ (r : Reading). GivesForText (account_of r.held) c.args.text.now c.expected_by.result)
+      (same_reading _ reading (sym (ap (standing_of g.M.TaggedStore.contents) c.in-Behind.is) ∙ is)) c.expected_by.ensures.gives;
+}

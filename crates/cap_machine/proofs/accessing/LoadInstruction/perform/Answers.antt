@@ -16,11 +16,14 @@ returns-then-number_in-self g c =
     let address = c.in_ok-address.address in
     let out = passed (λ o. ReachesAddress (state_of old) c.args.self.authority kinds.LoadData o c.args.self.size
     (Ok c.in_ok-address.address)) c.args.self.offset (search rules) c.in_ok-address.ensures.outcome in
-    let read = c.number_in.ensures ∙ sym (value_in old address c.args.self.size (g.met.M.TaggedStore.are_stored c.args.machine.now.memory)
+    let read = c.number_in.ensures.value ∙ sym (value_in old address c.args.self.size (g.met.M.TaggedStore.are_stored c.args.machine.now.memory)
     c.in_ok-address.ensures.in_one_granule)
     ∙ ap (λ (a : ℕ). value_at (state_of old) a c.args.self.size) out.1 in
-    load_refused old c.args.self.authority c.args.self.offset c.args.self.size c.args.self.value false _ out.0
-    (ne_eqb c.args.self.value _ (λ e. c.if-number_in-self.true (read ∙ sym e))) refl
+    record {
+      outcome =
+          load_refused old c.args.self.authority c.args.self.offset c.args.self.size c.args.self.value false _ out.0
+          (ne_eqb c.args.self.value _ (λ e. c.if-number_in-self.true (read ∙ sym e))) refl;
+    }
 
 pub returns-then-machine-ge-MOST_STEPS : goal.returns-then-machine-ge-MOST_STEPS
 returns-then-machine-ge-MOST_STEPS g c =
@@ -28,11 +31,14 @@ returns-then-machine-ge-MOST_STEPS g c =
     let address = c.in_ok-address.address in
     let out = passed (λ o. ReachesAddress (state_of old) c.args.self.authority kinds.LoadData o c.args.self.size
     (Ok c.in_ok-address.address)) c.args.self.offset (search rules) c.in_ok-address.ensures.outcome in
-    let read = c.number_in.ensures ∙ sym (value_in old address c.args.self.size (g.met.M.TaggedStore.are_stored c.args.machine.now.memory)
+    let read = c.number_in.ensures.value ∙ sym (value_in old address c.args.self.size (g.met.M.TaggedStore.are_stored c.args.machine.now.memory)
     c.in_ok-address.ensures.in_one_granule)
     ∙ ap (λ (a : ℕ). value_at (state_of old) a c.args.self.size) out.1 in
-    load_refused old c.args.self.authority c.args.self.offset c.args.self.size c.args.self.value true _ out.0
-    (eq-eqb c.args.self.value _ (sym c.if-number_in-self.false ∙ read)) (search rules)
+    record {
+      outcome =
+          load_refused old c.args.self.authority c.args.self.offset c.args.self.size c.args.self.value true _ out.0
+          (eq-eqb c.args.self.value _ (sym c.if-number_in-self.false ∙ read)) (search rules);
+    }
 
 pub returns : goal.returns
 returns g c =
@@ -40,19 +46,24 @@ returns g c =
     let address = c.in_ok-address.address in
     let out = passed (λ o. ReachesAddress (state_of old) c.args.self.authority kinds.LoadData o c.args.self.size
     (Ok c.in_ok-address.address)) c.args.self.offset (search rules) c.in_ok-address.ensures.outcome in
-    let read = c.number_in.ensures ∙ sym (value_in old address c.args.self.size (g.met.M.TaggedStore.are_stored c.args.machine.now.memory)
+    let read = c.number_in.ensures.value ∙ sym (value_in old address c.args.self.size (g.met.M.TaggedStore.are_stored c.args.machine.now.memory)
     c.in_ok-address.ensures.in_one_granule)
     ∙ ap (λ (a : ℕ). value_at (state_of old) a c.args.self.size) out.1 in
-    loaded_value old c.args.self.authority c.args.self.offset c.args.self.size c.args.self.value out.0
-    (sym c.if-number_in-self.false ∙ read) c.if-machine-ge-MOST_STEPS.false
+    record {
+      outcome =
+          loaded_value old c.args.self.authority c.args.self.offset c.args.self.size c.args.self.value out.0
+          (sym c.if-number_in-self.false ∙ read) c.if-machine-ge-MOST_STEPS.false;
+    }
 
 pub returns-in_err-address : goal.returns-in_err-address
 returns-in_err-address g c =
     let fault = c.in_err-address.field-0.0 in
     let old = held_of g.M.TaggedStore.contents c.args.machine.now in
     let is = err_from_is_err_and c.from_residual.result c.from_residual.ensures.1 in
-    rw (is.1, is.2) (faulted_as old (steps.Load c.args.self.authority c.args.self.offset c.args.self.size c.args.self.value)
-    _ fault (refusal_of fault) refl
-    (passed (λ o. ReachesAddress (state_of old) c.args.self.authority kinds.LoadData o c.args.self.size (Err fault)) c.args.self.offset
-    (search rules) c.in_err-address.ensures.outcome)
-    refl)
+    rw (is.1, is.2) (record {
+      outcome = faulted_as old (steps.Load c.args.self.authority c.args.self.offset c.args.self.size c.args.self.value)
+          _ fault (refusal_of fault) refl
+          (passed (λ o. ReachesAddress (state_of old) c.args.self.authority kinds.LoadData o c.args.self.size (Err fault)) c.args.self.offset
+          (search rules) c.in_err-address.ensures.outcome)
+          refl;
+    })

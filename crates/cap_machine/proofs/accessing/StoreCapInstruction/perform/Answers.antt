@@ -30,9 +30,12 @@ returns g c =
     is c.put_counted.ensures in
     let put_through = subst (λ (a : ℕ). EndsPutIn old (a / 16) (with_cap_put old (a / 16) (state c.args.self.source) code)
     c.put_counted.result new) out.1 put_there in
-    stored old new c.args.self.source c.args.self.authority c.args.self.offset c.put_counted.result
-    (subst (λ (cap : Cap). cap.word.0 < 2 ^ 128) is (search rules))
-    c.requires.0 (machine.coded c.args.self.source) out.0 put_through
+    record {
+      outcome =
+          stored old new c.args.self.source c.args.self.authority c.args.self.offset c.put_counted.result
+          (subst (λ (cap : Cap). cap.word.0 < 2 ^ 128) is (search rules))
+          c.requires.0 (machine.coded c.args.self.source) out.0 put_through;
+    }
 
 pub returns-in_err-address : goal.returns-in_err-address
 returns-in_err-address g c =
@@ -44,8 +47,10 @@ returns-in_err-address g c =
     (passed (λ o. ReachesAddress (state_of old) c.args.self.authority (kinds.StoreCap c.register-stored.result) o 16 (Err fault))
     c.args.self.offset (search rules) c.in_err-address.ensures.outcome) in
     let is = err_from_is_err_and c.from_residual.result c.from_residual.ensures.1 in
-    rw (is.1, is.2) (faulted_as old (steps.StoreCap c.args.self.source c.args.self.authority c.args.self.offset) _ fault
-    (refusal_of fault) refl found refl)
+    rw (is.1, is.2) (record {
+      outcome = faulted_as old (steps.StoreCap c.args.self.source c.args.self.authority c.args.self.offset) _ fault
+          (refusal_of fault) refl found refl;
+    })
 
 pub put_counted-requires-clause-sound : goal.put_counted-requires-clause-sound
 put_counted-requires-clause-sound g c = c.register-stored.ensures.sound

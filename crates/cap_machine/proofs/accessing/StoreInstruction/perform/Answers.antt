@@ -18,16 +18,21 @@ returns g c =
     let put_through = subst (λ (a : ℕ). EndsPutIn old (a / 16) (with_value_put old (a / 16) (a % 16) c.args.self.size c.args.self.value)
     c.put_value_counted.result new)
     out.1 c.put_value_counted.ensures in
-    stored_value old new c.args.self.authority c.args.self.offset c.args.self.size c.args.self.value c.put_value_counted.result
-    (g.met.M.TaggedStore.are_stored c.args.machine.now.memory) out.0 put_through
+    record {
+      outcome =
+          stored_value old new c.args.self.authority c.args.self.offset c.args.self.size c.args.self.value c.put_value_counted.result
+          (g.met.M.TaggedStore.are_stored c.args.machine.now.memory) out.0 put_through;
+    }
 
 pub returns-in_err-address : goal.returns-in_err-address
 returns-in_err-address g c =
     let fault = c.in_err-address.field-0.0 in
     let old = held_of g.M.TaggedStore.contents c.args.machine.now in
     let is = err_from_is_err_and c.from_residual.result c.from_residual.ensures.1 in
-    rw (is.1, is.2) (faulted_as old (steps.Store c.args.self.authority c.args.self.offset c.args.self.size c.args.self.value)
-    _ fault (refusal_of fault) refl
-    (passed (λ o. ReachesAddress (state_of old) c.args.self.authority kinds.StoreData o c.args.self.size (Err fault)) c.args.self.offset
-    (search rules) c.in_err-address.ensures.outcome)
-    refl)
+    rw (is.1, is.2) (record {
+      outcome = faulted_as old (steps.Store c.args.self.authority c.args.self.offset c.args.self.size c.args.self.value)
+          _ fault (refusal_of fault) refl
+          (passed (λ o. ReachesAddress (state_of old) c.args.self.authority kinds.StoreData o c.args.self.size (Err fault)) c.args.self.offset
+          (search rules) c.in_err-address.ensures.outcome)
+          refl;
+    })

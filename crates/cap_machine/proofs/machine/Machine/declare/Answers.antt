@@ -6,6 +6,10 @@ use Rattle.cap_machine.proofs.machine.Machine.declare.Goals as goal
 pub returns : goal.returns
 returns g c =
     let old = held_of g.M.TaggedStore.contents c.args.self.now in
-    subst (λ (held : Held). TakesRoot old c.args.place c.args.word (record held { roots = held.roots + 1 }))
-    (sym c.in_ok-place_root.ensures.ok)
-    (took old c.args.place c.args.word (search rules) (search rules) c.requires (search rules) (sym c.root_fault.ensures ∙ c.in_default.is))
+    record {
+      outcome =
+          subst (λ (held : Held). TakesRoot old c.args.place c.args.word (record held { roots = held.roots + 1 }))
+          (sym c.in_ok-place_root.ensures.ok)
+          (took old c.args.place c.args.word (search rules) (search rules) c.requires (search rules)
+          (sym c.root_fault.ensures ∙ c.in_default.is));
+    }

@@ -8,4 +8,4 @@ pub returns-clause-sound : goal.returns-clause-sound
 returns-clause-sound g c =
     let machine = c.args.self.now in
     subst IsSoundCap (granule_state machine.registers (g.M.TaggedStore.contents machine.memory) c.args.granule
-    ∙ sym c.capability_at.ensures) (machine.sound (granule_key c.args.granule))
+    ∙ sym c.capability_at.ensures.value) (machine.sound (granule_key c.args.granule))

@@ -5,4 +5,4 @@ pub returns-clause-in_memory : goal.returns-clause-in_memory
 returns-clause-in_memory g c =
     let memory = c.args.self.now.memory in
     next_in_memory (g.M.TaggedStore.contents memory) c.args.granule c.next_put.result
-    (g.met.M.TaggedStore.are_stored memory) c.next_put.ensures
+    (g.met.M.TaggedStore.are_stored memory) c.next_put.ensures.least

@@ -7,9 +7,11 @@ use Rattle.cap_machine.proofs.CodeLemmas.{coded_blank}
 use Rattle.cap_machine.proofs.machine.Machine.with_rules.Goals as goal
 
 pub returns : goal.returns
-returns g c =
-    blank_account c.args.rules (g.M.TaggedStore.contents c.args.memory) _ (map.empty_of_len _ c.requires)
-    (ap (λ (n : ℕ). let cap : Cap = record { tag = false; word = record { 0 = n } } in cap) c.null.ensures.value)
+returns g c = record {
+  account =
+      blank_account c.args.rules (g.M.TaggedStore.contents c.args.memory) _ (map.empty_of_len _ c.requires)
+      (ap (λ (n : ℕ). let cap : Cap = record { tag = false; word = record { 0 = n } } in cap) c.null.ensures.value);
+}
 
 pub invariant_of-result : goal.invariant_of-result
 invariant_of-result g c =

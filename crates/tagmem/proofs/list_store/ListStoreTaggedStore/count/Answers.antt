@@ -4,6 +4,8 @@ use Rattle.tagmem.proofs.list_store.ListStoreTaggedStore.count.Goals as goal
 
 -- each entry is of a granule of its own
 pub returns : goal.returns
-returns c =
-    let s = c.args.self.now in
-    omega (arith, len-contents_of s.entries.items s.rising, s.entries.ok.0, c.len.ensures)
+returns c = record {
+  value =
+      let s = c.args.self.now in
+      omega (arith, len-contents_of s.entries.items s.rising, s.entries.ok.0, c.len.ensures);
+}

@@ -8,13 +8,18 @@ use Rattle.tagmem.proofs.page_store.PageStoreTaggedStore.get.Goals as goal
 
 -- the granule's block is there
 pub returns-in-Some : goal.returns-in-Some
-returns-in-Some c =
-    let s = c.args.self.now in
-    let says = λ (block : Block). shown (get_or (slots_of block) (c.args.granule % 16) None) in
-    c.get.ensures ∙ ap says c.index.ensures
-    ∙ sym (ap shown (get_present s.blocks.items (found_in s.directory) s.known c.args.granule c.in-Some.index
-    c.index.result.now c.in-Some.ensures))
+returns-in-Some c = record {
+  value =
+      let s = c.args.self.now in
+      let says = λ (block : Block). shown (get_or (slots_of block) (c.args.granule % 16) None) in
+      c.get.ensures ∙ ap says c.index.ensures
+      ∙ sym (ap shown (get_present s.blocks.items (found_in s.directory) s.known c.args.granule c.in-Some.index
+      c.index.result.now c.in-Some.ensures));
+}
 
 -- or it is absent
 pub returns-in-None : goal.returns-in-None
-returns-in-None c = sym (ap shown (get_absent c.args.self.now.blocks.items c.args.granule c.in-None.ensures))
+returns-in-None c = record {
+  value =
+      sym (ap shown (get_absent c.args.self.now.blocks.items c.args.granule c.in-None.ensures));
+}

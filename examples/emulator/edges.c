@@ -1,7 +1,7 @@
 /*
- * Bounds and roundings of capcheck.h beside two plain ways of computing them, on words and requests around every
- * edge: the definitions step by step, by divisions, and the Sail model's shifts, comparisons and corrections
- * (bench/sail_way.c). It prints nothing, and ends with status 0, where all agree.
+ * Bounds and roundings of capcheck.h beside the Sail model's shifts, comparisons and corrections (bench/sail_way.c),
+ * and the calls on bounds beside one another, on words and requests around every edge. It prints nothing, and ends
+ * with status 0, where all agree.
  */
 #include "../../bench/sail_way.h"
 #include <capcheck.h>
@@ -14,7 +14,7 @@ static int failures;
 
 static void expect(bool holds, const char *what, uint64_t one, uint64_t other) {
     if (!holds && failures++ < 20) {
-        printf("plain.c: %s: %016llx %016llx\n", what, (unsigned long long)one, (unsigned long long)other);
+        printf("edges.c: %s: %016llx %016llx\n", what, (unsigned long long)one, (unsigned long long)other);
     }
 }
 
@@ -22,61 +22,11 @@ static number power(unsigned exponent) {
     return (number)1 << exponent;
 }
 
-/* n modulo m: the least natural number congruent to it. */
-static number modulo(number n, number m) {
-    return (n % m + m) % m;
-}
-
 static number of_wide(capcheck_wide wide) {
     return ((number)wide.high << 64) + wide.low;
 }
 
 /* ---- Bounds ---- */
-
-typedef struct plain {
-    number base;
-    number top;
-    bool sound;
-} plain;
-
-/* The mantissa T: of the four numbers with the word's low twelve bits, the one that is far enough above B. */
-static number plain_mantissa(capcheck_fields fields) {
-    number least = fields.ie ? 4096 : 0;
-    for (number t = fields.t;; t += 4096) {
-        number span = modulo(t - fields.b, power(14));
-        if (least <= span && span < least + 4096) {
-            return t;
-        }
-    }
-}
-
-/* The bounds of a word: its window may begin below 0, and the raw bounds are the numbers of the window congruent
- * to B and to T units. */
-static plain plain_bounds(capcheck_word word) {
-    capcheck_fields fields = capcheck_split(word);
-    unsigned exponent = fields.e < 52 ? fields.e : 52;
-    number unit = power(exponent);
-    number size = power(exponent + 14);
-    number t = plain_mantissa(fields);
-
-    number offset = modulo((fields.b >> 11) - 1, 8) * 2048 * unit;
-    number start = fields.address - modulo(fields.address - offset, size);
-    number raw_base = start + modulo(fields.b * unit - start, size);
-    number raw_top = start + modulo(t * unit - start, size);
-
-    plain bounds;
-    bounds.base = modulo(raw_base, power(64));
-    bounds.top = exponent <= 50 ? bounds.base + modulo(raw_top - bounds.base, power(64)) : modulo(raw_top, power(65));
-    bounds.sound = bounds.base + modulo(t - fields.b, power(14)) * unit == bounds.top && bounds.top <= power(64);
-    return bounds;
-}
-
-static bool plain_keeps(capcheck_word word, uint64_t address) {
-    plain old = plain_bounds(word);
-    word.low = address;
-    plain moved = plain_bounds(word);
-    return old.base == moved.base && old.top == moved.top;
-}
 
 /* A word for each IE, each six bits of E, each of B's three highest bits, each of the three address bits that are
  * compared with them, and each bit 11 of T, where the other bits of T, of B and of the address are all 0 or all
@@ -96,24 +46,20 @@ static capcheck_word hostile_word(uint32_t index) {
 
 enum { HOSTILE_WORDS = 1 << 17 };
 
-/* A word's bounds, soundness and length, and which ranges of bytes around its bounds they contain. */
+/* A word's bounds and length, and which ranges of bytes around its bounds they contain. */
 static void compare_bounds(capcheck_word word) {
-    plain bounds = plain_bounds(word);
-    capcheck_bounds decoded = capcheck_decode(word);
+    capcheck_bounds bounds = capcheck_decode(word);
+    number top = of_wide(bounds.top);
+    bool sound = capcheck_sound(word);
     struct sail_bounds corrected = sail_bounds_of(word.high, word.low);
-    expect(decoded.base == bounds.base && of_wide(decoded.top) == bounds.top, "bounds", word.high, word.low);
-    expect(decoded.base == corrected.base && of_wide(decoded.top) == (number)corrected.top, "corrected bounds",
-           word.high, word.low);
-    expect(capcheck_sound(word) == bounds.sound, "soundness", word.high, word.low);
-    expect(of_wide(capcheck_length(word)) == (bounds.sound ? bounds.top - bounds.base : 0), "length", word.high, word.low);
+    expect(bounds.base == corrected.base && top == (number)corrected.top, "bounds", word.high, word.low);
+    expect(of_wide(capcheck_length(word)) == (sound ? top - bounds.base : 0), "length", word.high, word.low);
     for (unsigned count = 1; count <= 16; count *= 2) {
-        uint64_t base = (uint64_t)bounds.base;
-        uint64_t last = (uint64_t)bounds.top - count;
-        uint64_t firsts[] = {base, base - 1, last, last + 1, ~base};
+        uint64_t last = bounds.top.low - count;
+        uint64_t firsts[] = {bounds.base, bounds.base - 1, last, last + 1, ~bounds.base};
         for (int i = 0; i < 5; i++) {
             number end = (number)firsts[i] + count;
-            expect(capcheck_least_law(word, firsts[i], count) ==
-                       (bounds.sound && bounds.base <= firsts[i] && end <= bounds.top),
+            expect(capcheck_least_law(word, firsts[i], count) == (sound && bounds.base <= firsts[i] && end <= top),
                    "bytes held", word.high, word.low);
         }
     }
@@ -124,56 +70,36 @@ static void compare_range(capcheck_word word, uint32_t index) {
     uint64_t addresses[] = {(uint64_t)index << 50, -(uint64_t)index};
     capcheck_range range = capcheck_reach(word);
     for (int i = 0; i < 2; i++) {
-        bool keeps = plain_keeps(word, addresses[i]);
-        expect(capcheck_keeps_bounds(word, addresses[i]) == keeps, "address kept", word.high, word.low);
-        expect((range.every || addresses[i] - range.start < range.size) == keeps, "address in range", word.high, word.low);
+        expect((range.every || addresses[i] - range.start < range.size) == capcheck_keeps_bounds(word, addresses[i]),
+               "address in range", word.high, word.low);
     }
     if (!range.every) {
-        expect(plain_keeps(word, range.start) && plain_keeps(word, range.start + (range.size - 1)) &&
-                   !plain_keeps(word, range.start - 1) && !plain_keeps(word, range.start + range.size),
+        expect(capcheck_keeps_bounds(word, range.start) && capcheck_keeps_bounds(word, range.start + (range.size - 1)) &&
+                   !capcheck_keeps_bounds(word, range.start - 1) &&
+                   !capcheck_keeps_bounds(word, range.start + range.size),
                "ends of the range", word.high, word.low);
     }
 }
 
 /* ---- Requests ---- */
 
-/* The least exponent at which a request covers less than 1024 units, by trying each, and the ends that it rounds to. */
-static unsigned plain_rounding(uint64_t base, uint64_t length, plain *bounds) {
-    number top = (number)base + length;
-    bounds->base = base;
-    bounds->top = top;
-    if (length < 4096) {
-        return 0;
-    }
-    for (unsigned e = 0;; e++) {
-        number unit = power(e + 3);
-        number down = base / unit;
-        number up = (top + unit - 1) / unit;
-        if (up - down < 1024) {
-            bounds->base = down * unit;
-            bounds->top = up * unit;
-            return e;
-        }
-    }
-}
-
 /* A rounded request, and the word with its bounds. */
 static void compare_rounding(uint64_t base, uint64_t length) {
-    plain bounds;
-    unsigned e = plain_rounding(base, length, &bounds);
     number top = (number)base + length;
     capcheck_rounded rounded = capcheck_round(base, length);
     struct sail_rounded counted = sail_round_with_bounds(base, length);
-    expect(rounded.base == bounds.base && of_wide(rounded.top) == bounds.top && rounded.e == e, "rounding", base, length);
-    expect((rounded.exact == 1) == (bounds.base == base && bounds.top == top), "exactness", base, length);
+    expect(rounded.base == counted.bounds.base && of_wide(rounded.top) == (number)counted.bounds.top, "rounding", base, length);
+    expect((rounded.exact == 1) == (rounded.base == base && of_wide(rounded.top) == top), "exactness", base, length);
     expect(rounded.b == counted.rounding.b && rounded.t == counted.rounding.t && rounded.e == counted.rounding.e &&
                rounded.ie == counted.rounding.ie && rounded.exact == counted.rounding.exact,
            "fields", base, length);
     if (top <= power(64)) {
         capcheck_word all = {~(uint64_t)0, ~(uint64_t)0};
         capcheck_word word = capcheck_with_bounds(all, base, length);
-        plain made = plain_bounds(word);
-        expect(made.base == bounds.base && made.top == bounds.top && made.sound && word.low == base, "word", base, length);
+        capcheck_bounds made = capcheck_decode(word);
+        expect(made.base == rounded.base && of_wide(made.top) == of_wide(rounded.top) && capcheck_sound(word) &&
+                   word.low == base,
+               "word", base, length);
     }
 }
 

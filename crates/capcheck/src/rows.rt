@@ -1,9 +1,11 @@
-# What the program prints for its words and its input, worked by hand.
-#
-# Each row has the words of one or more runs, each behind its exit status and quoted as for a shell; the lines of the
-# input behind `|`; those on standard output behind `=`, where `..` stands for any lines; and the line on standard error
-# behind `!`. The input is standard input, and the two files `log` and `file`. There is no file `gone`.
+//! What the program prints for its words and its input, worked by hand. The tests of `run` go over these rows, and
+//! `examples/program/check.py` runs the built program for them.
+//!
+//! Each row has the words of one or more runs, each behind its exit status, with `''` for an empty word; the lines of
+//! the input behind `|`; those on standard output behind `=`, where `..` stands for any lines; and the line on standard
+//! error behind `!`. The input is standard input, and the two files `log` and `file`. There is no file `gone`.
 
+pub const ROWS: &str = r#"
 # a base that is rounded down, and a top that is rounded up
 0 round 0000000000000001 0000000000001fff
 = base 0000000000000000
@@ -245,6 +247,82 @@
 | memory 00001ffffc0180040000000000000000 = 00000000000000000000000000000000
 = pass 1
 
+# no bytes
+1 judge
+1 judge log
+= no 1 5 Truncated
+
+# no vectors
+0 vectors file
+= pass 0
+
+# vectors of each form
+0 vectors file
+| bounds 00001ffffc0180040000000000000000 = 0000000000000000 10000000000000000 1
+| bounds ffff1ffffbffd0000000000000001000 = 0000000000001000 00000000000001fff 1
+| bounds ffff1ffffc0010000000000000001000 = 0000000000001000 00000000000002000 1
+| bounds ffff1ffffc0210000000000000001000 = 0000000000001000 00000000000002008 1
+| bounds ffff1ffffbffdfff0000000000001fff = 0000000000001fff 00000000000001fff 1
+| bounds ffff1ffff80810000000000000001000 = 0000000000001000 00000000000001020 1
+| bounds ffff1ffffbffc000fffffffffffff800 = 0000000000000000 00000000000000fff 1
+| bounds ffff1ffffbffc000fffffffffffff7ff = ffffffffffffc000 0ffffffffffffcfff 1
+| bounds ffff1ffff8007fffffffffffffffffff = ffffffffffffffff 10000000000000001 0
+| bounds ffff1ffffc01a0030000000000000000 = 0000000000000000 18000000000000000 0
+| bounds ffff1ffffc0180050000000000000000 = 0000000000000000 10000000000000000 1
+| bounds ffff1ffffc0380040000000000001000 = 0000000000000000 10080000000000000 0
+| keeps ffff1ffffbffc0000000000000000000 fffffffffffff800 = 1
+| keeps ffff1ffffbffc0000000000000000000 00000000000037ff = 1
+| keeps ffff1ffffbffc0000000000000000000 0000000000003800 = 0
+| keeps ffff1ffffbffc0000000000000000000 fffffffffffff7ff = 0
+| round 0000000000001000 0000000000000fff = 0000000000001000 00000000000001fff 0 0 1
+| round 0000000000001000 0000000000001001 = 0000000000001000 00000000000002008 1 0 0
+| round 0000000000000001 0000000000001fff = 0000000000000000 00000000000002000 1 1 0
+| round 0000000000000001 fffffffffffffffe = 0000000000000000 10000000000000000 1 52 0
+| memory 00001ffffc0180040000000000000000 = 00000000000000000000000000000000
+| memory ffff1ffffbffd0000000000000001000 = 00100000000000000450fe070000ffff
+= pass 22
+
+# vectors at the greatest exponents and the ends of the address space
+0 vectors file
+| bounds ffff1ffffc0180020000000000000000 = 0000000000000000 04000000000000000 1
+| bounds ffff1ffffc0180030000000000000000 = 0000000000000000 08000000000000000 1
+| bounds ffff1ffffc01c0070000000000000000 = 0000000000000000 10000000000000000 1
+| bounds ffff1ffffc01b002c000000000000000 = c000000000000000 10000000000000000 1
+| bounds ffff1ffffc0190038000000000000000 = 8000000000000000 10000000000000000 1
+| keeps ffff1ffffc0180040000000000000000 ffffffffffffffff = 1
+| keeps ffff1ffffc0180030000000000000000 ffffffffffffffff = 1
+| keeps ffff1ffffc0180020000000000000000 e000000000000000 = 1
+| keeps ffff1ffffc0180010000000000000000 6fffffffffffffff = 1
+| keeps ffff1ffffc0180010000000000000000 7000000000000000 = 0
+| round 0000000000000000 0000000000000000 = 0000000000000000 00000000000000000 0 0 1
+| round ffffffffffffffff 0000000000000001 = ffffffffffffffff 10000000000000000 0 0 1
+| round 0000000000000000 8000000000000000 = 0000000000000000 08000000000000000 1 51 1
+| round 0000000000000001 ffffffffffffffff = 0000000000000000 10000000000000000 1 52 0
+= pass 14
+
+# the same with another soundness on the third line
+1 vectors file
+| bounds ffff1ffffc0180020000000000000000 = 0000000000000000 04000000000000000 1
+| bounds ffff1ffffc0180030000000000000000 = 0000000000000000 08000000000000000 1
+| bounds ffff1ffffc01c0070000000000000000 = 0000000000000000 10000000000000000 0
+| bounds ffff1ffffc01b002c000000000000000 = c000000000000000 10000000000000000 1
+| bounds ffff1ffffc0190038000000000000000 = 8000000000000000 10000000000000000 1
+| keeps ffff1ffffc0180040000000000000000 ffffffffffffffff = 1
+| keeps ffff1ffffc0180030000000000000000 ffffffffffffffff = 1
+| keeps ffff1ffffc0180020000000000000000 e000000000000000 = 1
+| keeps ffff1ffffc0180010000000000000000 6fffffffffffffff = 1
+| keeps ffff1ffffc0180010000000000000000 7000000000000000 = 0
+| round 0000000000000000 0000000000000000 = 0000000000000000 00000000000000000 0 0 1
+| round ffffffffffffffff 0000000000000001 = ffffffffffffffff 10000000000000000 0 0 1
+| round 0000000000000000 8000000000000000 = 0000000000000000 08000000000000000 1 51 1
+| round 0000000000000001 ffffffffffffffff = 0000000000000000 10000000000000000 1 52 0
+= fail 3
+
+# a request that ends above the address space, as a vector
+1 vectors file
+| round 0000000000000002 ffffffffffffffff = 0000000000000000 10000000000000000 1 52 0
+= fail 1
+
 # a vector without a form
 1 vectors file
 | bounds
@@ -376,3 +454,4 @@
 | setbounds c4 c3 0000000000000021 = 1 ffff1ffff80850000000000000001000
 | end 3
 = no 5 11 BoundsEscape
+"#;

@@ -1,0 +1,116 @@
+#!/usr/bin/env python3
+"""Runs the program while requests for memory are refused, by a C library's `malloc` in front of it, and compares its
+status, its standard output and its line on standard error with what is written here.
+
+    CAPCHECK=crates/capcheck/out/capcheck python3 examples/program/refused.py
+
+Without CAPCHECK it runs that same program. It needs `cc`. The status is 1 where anything differs."""
+import itertools
+import os
+import subprocess
+import sys
+import tempfile
+
+HERE = os.path.dirname(os.path.abspath(__file__))
+PROGRAM = os.path.abspath(os.environ.get("CAPCHECK") or f"{HERE}/../../crates/capcheck/out/capcheck")
+
+ROOT = "ffff1ffffc0180040000000000000000"
+HEADER = f"capcheck 1\nroot c1 {ROOT}\n"
+LOG = HEADER + f"sc c1 c1 0\nstore c1 0 1 aa\nlc c3 c1 0 = 0 {ROOT[:30]}aa\nend 3\n"
+NO_MEMORY = (3, b"", b"capcheck: no memory\n")
+
+
+class Room:
+    """A folder with the refusing `malloc`, how many runs there were, and what was otherwise than it is wanted."""
+
+    def __init__(self, folder):
+        self.folder, self.count, self.wrong = folder, 0, []
+        subprocess.run(["cc", "-shared", "-fPIC", "-O2", "-o", f"{folder}/refuse.so", f"{HERE}/refuse.c"], check=True)
+
+    def put(self, name, text):
+        """Writes a file of the folder."""
+        with open(f"{self.folder}/{name}", "w", encoding="utf-8") as it:
+            it.write(text)
+
+    def run(self, words, refused=""):
+        """What a run with these words gives while requests are refused, with the file `log` for its standard input;
+        and how many requests it made."""
+        told, tell = os.pipe()
+        how = {"LD_PRELOAD": f"{self.folder}/refuse.so", "REFUSED": str(refused), "REPORT": str(tell)}
+        with open(f"{self.folder}/log", "rb") as given:
+            ran = subprocess.run([PROGRAM, *words], cwd=self.folder, stdin=given, capture_output=True,
+                                 env=how, pass_fds=[tell], timeout=60)
+        os.close(tell)
+        with os.fdopen(told, "rb") as it:
+            return (ran.returncode, ran.stdout, ran.stderr), int(it.read() or -1)
+
+    def wants(self, what, given, wanted):
+        """Notes whether something is what is wanted."""
+        self.count += 1
+        if given != wanted:
+            self.wrong.append(f"{what}\n  gives  {given}\n  wanted {wanted}")
+
+    def each(self, words, wanted):
+        """Refuses each request of a run in turn, until none is reached."""
+        for number in itertools.count(1):
+            ran, made = self.run(words, number)
+            if made < number:
+                self.wants(f"{words}, no request refused", ran, wanted)
+                return
+            self.wants(f"{words}, request {number} refused", ran, NO_MEMORY)
+
+
+def each_request(room):
+    """Each request of a judge, and of what only answers words, is refused in turn."""
+    room.put("log", LOG)
+    for words in (["judge"], ["judge", "--origins"], ["judge", "--why"], ["judge", "log"]):
+        wanted = room.run(words)[0]
+        room.wants(f"{words}, its verdict", (wanted[0], wanted[1][:8], wanted[2]), (0, b"yes 3 1\n", b""))
+        room.each(words, wanted)
+    for words in (["round", "0000000000000001", "0000000000001fff"], ["explain", ROOT], ["vectors", "log"], ["judges"], []):
+        room.each(words, room.run(words)[0])
+
+
+def each_page(room):
+    """Each request of a log that fills 65,536 granules of 256 pages is refused in turn."""
+    lines = [HEADER]
+    for page in range(256):
+        address = f"{4096 * page + 2048:016x}"
+        lines.append(f"setaddr c2 c1 {address} = 1 ffff1ffffc018004{address}\n")
+        lines += [f"store c2 {16 * granule - 2048} 1 00\n" for granule in range(256)]
+    room.put("log", "".join([*lines, "end 65792\n"]))
+    room.each(["judge"], (0, b"yes 65792 1\n", b""))
+
+
+def steps(room):
+    """A step that names no granule makes no request."""
+    room.put("log", HEADER + "end 0\n")
+    without = room.run(["judge"])
+    room.put("log", HEADER + f"move c2 c1 = 1 {ROOT}\n" * 100000 + "end 100000\n")
+    room.wants("requests of 100,000 moves", room.run(["judge"]), ((0, b"yes 100000 1\n", b""), without[1]))
+
+
+def page(room):
+    """A put into a page that is there makes no request: it is taken where each later one is refused."""
+    middle = f"setaddr c2 c1 {2048:016x} = 1 ffff1ffffc018004{2048:016x}\n"
+    first = "store c2 -2048 1 00\n"
+    room.put("log", HEADER + middle + first + "end 2\n")
+    requests = room.run(["judge"])[1]
+    puts = [form.format(16 * granule - 2048) for granule in range(1, 256) for form in ("store c2 {} 1 00\n", "sc c1 c2 {}\n")]
+    for several in [*([it] for it in puts), puts, puts[::-1]]:
+        room.put("log", HEADER + middle + first + "".join(several) + f"end {2 + len(several)}\n")
+        said = f"yes {2 + len(several)} 1\n".encode()
+        room.wants(f"a page that is there, then {several[0]}", room.run(["judge"], f"{requests + 1}+"), ((0, said, b""), requests))
+
+
+def main():
+    with tempfile.TemporaryDirectory() as folder:
+        room = Room(folder)
+        for part in (each_request, each_page, steps, page):
+            part(room)
+    print("\n".join([*room.wrong, f"{room.count} answers where memory was refused, {len(room.wrong)} otherwise than is wanted"]))
+    return 1 if room.wrong else 0
+
+
+if __name__ == "__main__":
+    sys.exit(main())
