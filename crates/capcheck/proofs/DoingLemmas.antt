@@ -1,5 +1,5 @@
 -- What was reported, and then flushed.
-use Rattle.std.proofs.Common.{◌≡◌, ◌≤◌, ℕ, Bool, true, false, List, [], ◌++◌, length, take, Option, None, Some, Result}
+use Rattle.std.proofs.Common.{◌≡◌, ◌≢◌, ◌≤◌, ℕ, Bool, true, false, List, [], ◌++◌, length, take, Option, None, Some, Result}
 use Rattle.std.proofs.Common.{Ok, Err, IfOk, IfErr, inl, inr, refl, sym, ap, subst, ◌∙◌, append-nil, arith}
 use Rattle.std.proofs.Math.Seq.{take-length}
 use Rattle.std.specs.Io.KnownBytes.{Keeps, Appends, Consumes}
@@ -164,6 +164,23 @@ pub input_fails : {R : Type 0} (origins why : Bool) (remaining : R → Option (L
 input_fails {R} origins why remaining input reader before after result is done =
     subst (λ (o : Option R). IfErr result (IsJudgingFault origins why (known_bytes remaining o)))
     (sym is) (done_fails origins why (remaining reader) before after result done)
+
+-- nothing was gained
+kept : (a b : Option (List ℕ)) → Appends a b [] → Keeps a b
+kept None b h = tt
+kept (Some xs) None h = absurd h
+kept (Some xs) (Some ys) h = h ∙ append-nil xs
+
+-- but for a fault of the output nothing was written
+pub done_keeps : (origins why : Bool) (left before after : Option (List ℕ)) (result : Result ℕ Fault)
+    → IsInputDone origins why left before after result → IfErr result (λ fault. fault ≢ faults.Write → Keeps before after)
+done_keeps origins why left before after (Ok status) done = tt
+done_keeps origins why left before after (Err faults.Read) done = λ other. kept before after done.written.1
+done_keeps origins why left before after (Err faults.NoMemory) done = λ other. kept before after done.written.1
+done_keeps origins why left before after (Err faults.Write) done = λ other. absurd (other refl)
+done_keeps origins why left before after (Err faults.BadWords) done = absurd done.written
+done_keeps origins why left before after (Err faults.BadWord) done = absurd done.written
+done_keeps origins why left before after (Err faults.BadRequest) done = absurd done.written
 
 -- an input that is missing gave no bytes, and these begin a log
 pub begins_nothing : BeginsLog []

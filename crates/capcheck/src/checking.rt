@@ -1,6 +1,6 @@
 //! Checking an input as a vector file and writing the verdict.
 
-ghost use Rattle.std.specs.Prelude.{◌≡◌, ◌≤◌, ℕ, List, take, IfOk, IfErr, OnErr, Err, None};
+ghost use Rattle.std.specs.Prelude.{◌≡◌, ◌≢◌, ◌≤◌, ℕ, List, take, IfOk, IfErr, OnErr, Err, None};
 ghost use Rattle.std.specs.Io.KnownBytes.{Appends, Keeps};
 ghost use Rattle.capcheck.specs.Answers.{BeginsText, ShowsCheck, known_bytes, vector_status};
 ghost use Rattle.cap_vectors.specs.VectorFiles.{BreaksOff};
@@ -22,6 +22,7 @@ pub fn check_input<R: Read + Drop, O: Write>(input: Option<R>, out: &mut O) -> R
     ensures printed { IfOk result (λ status. (text : List ℕ) × ShowsCheck (known_bytes R.remaining input) text status
         × Appends (O.contents out.old) (O.contents out.new) text) }
     ensures failed { IfErr result (IsCheckingFault (known_bytes R.remaining input)) }
+    ensures unwritten { IfErr result (λ fault. fault ≢ Fault.Write → Keeps (O.contents out.old) (O.contents out.new)) }
     ensures stopped { IfErr result (λ fault. (written : List ℕ) × BeginsText (ShowsCheck (known_bytes R.remaining input)) written
         × Appends (O.contents out.old) (O.contents out.new) written) }
     ensures missing { input ≡ None → (result ≡ Err Fault.Read) × Keeps (O.contents out.old) (O.contents out.new) }
@@ -39,6 +40,7 @@ fn check_reader<R: Read + Drop, O: Write>(reader: R, out: &mut O) -> Result<u8, 
     ensures printed { IfOk result (λ status. (text : List ℕ) × ShowsCheck (R.remaining reader) text status
         × Appends (O.contents out.old) (O.contents out.new) text) }
     ensures failed { IfErr result (IsCheckingFault (R.remaining reader)) }
+    ensures unwritten { IfErr result (λ fault. fault ≢ Fault.Write → Keeps (O.contents out.old) (O.contents out.new)) }
     ensures stopped { IfErr result (λ fault. (written : List ℕ) × BeginsText (ShowsCheck (R.remaining reader)) written
         × Appends (O.contents out.old) (O.contents out.new) written) }
 {

@@ -1,6 +1,6 @@
 //! What the program does with an order: its texts and its exit status.
 
-ghost use Rattle.std.specs.Prelude.{◌≡◌, ◌≤◌, ◌↔◌, ℕ, List, take, IfOk, IfErr, OnOk, Err, None, Some, true};
+ghost use Rattle.std.specs.Prelude.{◌≡◌, ◌≢◌, ◌≤◌, ◌↔◌, ℕ, List, take, IfOk, IfErr, OnOk, Err, None, Some, true};
 ghost use Rattle.std.specs.Io.KnownBytes.{Appends, Keeps};
 ghost use Rattle.capcheck.specs.Answers.{BeginsText, Prints, PrintsVerdict, ReadsInput, ShowsRounding, known_bytes};
 ghost use Rattle.capcheck.specs.Failures.{IsFaultOf, IsJudgingFault};
@@ -46,10 +46,11 @@ pub fn run<R: Read + Drop, O: Write, F: Write>(
     ensures missing { ReadsInput order.entry → input ≡ None → (result ≡ 3) × Keeps (O.contents out.old) (O.contents out.new) }
 
     // At status 0 and 1 nothing went to `faults`; at 2 and 3 a beginning of the line of the fault that belongs
-    // to the order, its input and the status.
+    // to the order, its input and the status. But for a fault of the output, that kept what it had.
     ensures silent { result ≤ 1 → Keeps (F.contents faults.old) (F.contents faults.new) }
     ensures told { 2 ≤ result → (fault : Fault) × IsFaultOf order.entry (known_bytes R.remaining input) fault × (status_of fault ≡ result)
-        × (n : ℕ) × Appends (F.contents faults.old) (F.contents faults.new) (take n (fault_text fault)) }
+        × (n : ℕ) × Appends (F.contents faults.old) (F.contents faults.new) (take n (fault_text fault))
+        × (fault ≢ Fault.Write → Keeps (O.contents out.old) (O.contents out.new)) }
 {
     match follow(alloc, order, input, out) {
         Ok(status) => status,
@@ -73,6 +74,7 @@ fn follow<R: Read + Drop, O: Write>(
         × Appends (O.contents out.old) (O.contents out.new) text) }
     ensures kept { exit_status result ≡ 2 → Keeps (O.contents out.old) (O.contents out.new) }
     ensures failed { IfErr result (IsFaultOf order.entry (known_bytes R.remaining input)) }
+    ensures unwritten { IfErr result (λ fault. fault ≢ Fault.Write → Keeps (O.contents out.old) (O.contents out.new)) }
     ensures stopped { exit_status result ≡ 3 → (written : List ℕ)
         × BeginsText (Prints order.entry (known_bytes R.remaining input)) written
         × Appends (O.contents out.old) (O.contents out.new) written }
@@ -104,6 +106,7 @@ fn judge_input<R: Read + Drop, O: Write>(
         × PrintsVerdict origins why (known_bytes R.remaining input) text status
         × Appends (O.contents out.old) (O.contents out.new) text) }
     ensures failed { IfErr result (IsJudgingFault origins why (known_bytes R.remaining input)) }
+    ensures unwritten { IfErr result (λ fault. fault ≢ Fault.Write → Keeps (O.contents out.old) (O.contents out.new)) }
     ensures stopped { IfErr result (λ fault. (written : List ℕ)
         × BeginsText (PrintsVerdict origins why (known_bytes R.remaining input)) written
         × Appends (O.contents out.old) (O.contents out.new) written) }
@@ -123,6 +126,7 @@ fn show_explanation<O: Write>(memory: bool, tag: bool, hex: &str, out: &mut O) -
         × Appends (O.contents out.old) (O.contents out.new) text) }
     ensures kept { exit_status result ≡ 2 → Keeps (O.contents out.old) (O.contents out.new) }
     ensures failed { IfErr result (IsFaultOf (Some (Explain memory tag hex.entry)) None) }
+    ensures unwritten { IfErr result (λ fault. fault ≢ Fault.Write → Keeps (O.contents out.old) (O.contents out.new)) }
     ensures stopped { exit_status result ≡ 3 → (written : List ℕ) × BeginsText (Prints (Some (Explain memory tag hex.entry)) None) written
         × Appends (O.contents out.old) (O.contents out.new) written }
 {
@@ -142,6 +146,7 @@ fn show_rounding<O: Write>(base: &str, length: &str, out: &mut O) -> Result<u8, 
         × Appends (O.contents out.old) (O.contents out.new) text) }
     ensures kept { exit_status result ≡ 2 → Keeps (O.contents out.old) (O.contents out.new) }
     ensures failed { IfErr result (IsFaultOf (Some (Round base.entry length.entry)) None) }
+    ensures unwritten { IfErr result (λ fault. fault ≢ Fault.Write → Keeps (O.contents out.old) (O.contents out.new)) }
     ensures stopped { exit_status result ≡ 3 → (written : List ℕ) × BeginsText (Prints (Some (Round base.entry length.entry)) None) written
         × Appends (O.contents out.old) (O.contents out.new) written }
 {

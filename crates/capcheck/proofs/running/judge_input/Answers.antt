@@ -1,5 +1,5 @@
 use Rattle.std.proofs.Common.{[], None}
-use Rattle.capcheck.proofs.DoingLemmas.{begins_nothing, done_err, done_ok, input_fails, input_prints, input_stops}
+use Rattle.capcheck.proofs.DoingLemmas.{begins_nothing, done_err, done_keeps, done_ok, input_fails, input_prints, input_stops}
 use Rattle.capcheck.proofs.running.judge_input.Goals as goal
 
 pub returns-in-Some-clause-ok : goal.returns-in-Some-clause-ok
@@ -22,3 +22,6 @@ returns-in-Some-clause-failed g c =
 
 pub returns-in-None-clause-failed : goal.returns-in-None-clause-failed
 returns-in-None-clause-failed g c = rw c.in-None.is ([], None, tt, begins_nothing)
+
+pub returns-in-Some-clause-unwritten : goal.returns-in-Some-clause-unwritten
+returns-in-Some-clause-unwritten g c = done_keeps _ _ _ _ _ _ c.judge_reader.ensures.done
