@@ -8,7 +8,8 @@ It wants the program and the library for C built, or builds them. A block of a p
 all that it prints; a line `..` stands for any lines. A page's commands run one after another in a folder of their
 own, in which the tree's files stand by their names. Other commands of the pages are those of ELSEWHERE, which says
 where each is run. Rows that give the verdict of an example or of a log are judged too, blocks that show a file of the
-tree are compared with it, and each link has to lead to a file and a heading. The status is 1 where anything differs."""
+tree are compared with it, each link has to lead to a file and a heading, and `judge/heap.c` has to have as many lines
+as is said. The status is 1 where anything differs."""
 import os
 import re
 import shutil
@@ -197,6 +198,14 @@ def links(page, text):
     return wrong, count
 
 
+def counted(page, text):
+    """Compares how many lines of C the judge's memory is said to be with its file."""
+    with open("judge/heap.c", encoding="utf-8") as it:
+        lines = len(it.readlines())
+    said = [int(it) for it in re.findall(r"(\d+) lines of C\b", text)]
+    return [f"{page}: judge/heap.c has {lines} lines, and not {it}" for it in said if it != lines], len(said)
+
+
 def main(pages):
     wrong, count = [], 0
     with tempfile.TemporaryDirectory() as work:
@@ -207,7 +216,7 @@ def main(pages):
             with tempfile.TemporaryDirectory(dir=work) as room:
                 folder = f"{room}/tree"
                 shutil.copytree(tree, folder, symlinks=True)
-                for bad, tried in (sessions(page, text, folder), rows(page, text, folder), shown(page, text), python(page, text, folder), links(page, text)):
+                for bad, tried in (sessions(page, text, folder), rows(page, text, folder), shown(page, text), python(page, text, folder), links(page, text), counted(page, text)):
                     wrong += bad
                     count += tried
     print("\n".join([*wrong, f"{count} commands, rows, files and links of the pages tried, {len(wrong)} otherwise than the pages say"]))

@@ -9,7 +9,7 @@ use cap_word::{Cap, Word, null};
 /// The number that two halves make.
 #[tactic(auto, unfolding(crate::specs::Passed::whole_of))]
 pub fn whole(halves: Halves) -> u128
-    ensures { result ≡ whole_of halves }
+    ensures value { result ≡ whole_of halves }
 {
     (u128::from(halves.high) << 64) + u128::from(halves.low)
 }
@@ -17,7 +17,7 @@ pub fn whole(halves: Halves) -> u128
 /// The halves of a number.
 #[tactic(auto, unfolding(crate::specs::Passed::whole_of))]
 pub fn halves_of(number: u128) -> Halves
-    ensures { whole_of result ≡ number }
+    ensures value { whole_of result ≡ number }
 {
     Halves {
         high: (number >> 64) as u64,
@@ -27,14 +27,14 @@ pub fn halves_of(number: u128) -> Halves
 
 /// The word that two halves make.
 pub fn word_of(halves: Halves) -> Word
-    ensures { result.0 ≡ whole_of halves }
+    ensures value { result.0 ≡ whole_of halves }
 {
     Word(whole(halves))
 }
 
 /// A capability that C passes.
 pub fn taken(passed: Capability) -> Cap
-    ensures { result ≡ cap_of passed }
+    ensures value { result ≡ cap_of passed }
 {
     Cap {
         tag: passed.tag != 0,

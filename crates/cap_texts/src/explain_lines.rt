@@ -122,7 +122,7 @@ pub(crate) fn type_name(otype: u32) -> &'static str
 
 // The bytes of a word in memory, in order of address: two digits for each.
 pub fn memory_text(word: Word) -> [u8; 32]
-    ensures { result ≡ bytes_text (memory_of word.0) }
+    ensures text { result ≡ bytes_text (memory_of word.0) }
 {
     let mut text = [0u8; 32];
     let _written = hex::encode_to_slice(to_memory(word), &mut text);

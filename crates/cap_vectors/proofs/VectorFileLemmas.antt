@@ -1,6 +1,6 @@
 -- Where the check of a vector file is, and what it may answer there.
 use Rattle.std.proofs.Common.{◌≡◌, ◌≢◌, ℕ, ◌+◌, ◌<◌, inl, inr, Bool, true, false, List, [], ◌∷◌, ◌++◌, refl, sym, ap}
-use Rattle.std.proofs.Common.{subst, ◌∙◌, append-nil, append_assoc, arith, lit<, Option, Some, Result, Ok, Err, IfOk}
+use Rattle.std.proofs.Common.{subst, ◌∙◌, append-nil, append_assoc, arith, lit<, Result, Ok, Err}
 use Rattle.std.proofs.lemmas.Grind.{flat_map-append}
 use Rattle.cap_log.specs.Front.{IsLine, FrontIs}
 use Rattle.cap_log.specs.Takings.{IsNext, Answered, kept, over_of}

@@ -30,7 +30,7 @@ impl Fault {
 
     /// The exit status: 2 for what was asked wrongly, 3 for what failed outside.
     pub fn status(&self) -> u8
-        ensures { result ≡ status_of self.now }
+        ensures value { result ≡ status_of self.now }
     {
         match self {
             Fault::BadWords | Fault::BadWord | Fault::BadRequest => 2,
@@ -40,7 +40,7 @@ impl Fault {
 
     /// The line on standard error.
     pub fn text(&self) -> &'static str
-        ensures { result.now ≡ fault_text self.now }
+        ensures value { result.now ≡ fault_text self.now }
     {
         match self {
             Fault::BadWords => "capcheck: bad words\n",

@@ -65,7 +65,7 @@ fn access_from(authority: Capability, kind: Kind, offset: i64, size: u64) -> Acc
 /// no such access.
 #[unsafe(no_mangle)]
 pub extern "C" fn capcheck_may_load(authority: Capability, offset: i64, size: u64) -> AccessAnswer
-    ensures { AnswersAccess (cap_of authority) kind.LoadData offset size result }
+    ensures answer { AnswersAccess (cap_of authority) kind.LoadData offset size result }
 {
     access_from(authority, Kind::LoadData, offset, size)
 }
@@ -75,7 +75,7 @@ pub extern "C" fn capcheck_may_load(authority: Capability, offset: i64, size: u6
 /// no such access.
 #[unsafe(no_mangle)]
 pub extern "C" fn capcheck_may_store(authority: Capability, offset: i64, size: u64) -> AccessAnswer
-    ensures { AnswersAccess (cap_of authority) kind.StoreData offset size result }
+    ensures answer { AnswersAccess (cap_of authority) kind.StoreData offset size result }
 {
     access_from(authority, Kind::StoreData, offset, size)
 }
@@ -84,7 +84,7 @@ pub extern "C" fn capcheck_may_store(authority: Capability, offset: i64, size: u
 /// as the first of its tests that holds, 14 to 17 and 20, and as 255 at any other offset.
 #[unsafe(no_mangle)]
 pub extern "C" fn capcheck_may_load_cap(authority: Capability, offset: i64) -> AccessAnswer
-    ensures { AnswersAccess (cap_of authority) kind.LoadCap offset 16 result }
+    ensures answer { AnswersAccess (cap_of authority) kind.LoadCap offset 16 result }
 {
     access_from(authority, Kind::LoadCap, offset, 16)
 }
@@ -97,7 +97,7 @@ pub extern "C" fn capcheck_may_store_cap(
     offset: i64,
     stored: Capability,
 ) -> AccessAnswer
-    ensures { AnswersAccess (cap_of authority) (kind.StoreCap (cap_of stored)) offset 16 result }
+    ensures answer { AnswersAccess (cap_of authority) (kind.StoreCap (cap_of stored)) offset 16 result }
 {
     access_from(authority, Kind::StoreCap(taken(stored)), offset, 16)
 }

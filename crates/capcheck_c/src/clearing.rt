@@ -113,7 +113,7 @@ pub extern "C" fn capcheck_loaded(authority: Capability, stored: Capability) -> 
 /// Whether a word is sealed: its object type is not `0x3ffff`.
 #[unsafe(no_mangle)]
 pub extern "C" fn capcheck_sealed(word: Halves) -> bool
-    ensures { result ≡ is_sealed (whole_of word) }
+    ensures value { result ≡ is_sealed (whole_of word) }
 {
     sealed(word_of(word))
 }
@@ -122,7 +122,7 @@ pub extern "C" fn capcheck_sealed(word: Halves) -> bool
 /// at bits 15 to 18.
 #[unsafe(no_mangle)]
 pub extern "C" fn capcheck_perm_view(word: Halves) -> u32
-    ensures { result ≡ perm_view_of (whole_of word) }
+    ensures value { result ≡ perm_view_of (whole_of word) }
 {
     perm_view(word_of(word))
 }

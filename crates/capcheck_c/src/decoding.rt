@@ -32,7 +32,7 @@ pub extern "C" fn capcheck_decode(word: Halves) -> Bounds
 /// Whether a word is sound: its top is its base plus its length, and is at most 2^64.
 #[unsafe(no_mangle)]
 pub extern "C" fn capcheck_sound(word: Halves) -> bool
-    ensures { IsTrue result ↔ IsSound (whole_of word) }
+    ensures sound { IsTrue result ↔ IsSound (whole_of word) }
 {
     sound(word_of(word))
 }

@@ -18,7 +18,7 @@ use cap_log::{Line, Mode, Place};
 /// Writes a version line into the buffer: 1 or 2.
 #[unsafe(no_mangle)]
 pub extern "C" fn capcheck_line_version(buffer: &mut [u8; 96], version: u64) -> usize
-    ensures { AnswersLine (line.Version version) buffer.old buffer.new result }
+    ensures line { AnswersLine (line.Version version) buffer.old buffer.new result }
 {
     let Some(version) = version_of(version) else {
         return 0;
@@ -29,7 +29,7 @@ pub extern "C" fn capcheck_line_version(buffer: &mut [u8; 96], version: u64) -> 
 /// Writes the mode line of a log of version 2 into the buffer: clear mode, or else strict mode.
 #[unsafe(no_mangle)]
 pub extern "C" fn capcheck_line_mode(buffer: &mut [u8; 96], clear: u8) -> usize
-    ensures { IsLineAt (line.Mode (mode_of (is_set clear))) buffer.old buffer.new result }
+    ensures line { IsLineAt (line.Mode (mode_of (is_set clear))) buffer.old buffer.new result }
 {
     let mode = if clear != 0 {
         Mode::Clear
@@ -42,7 +42,7 @@ pub extern "C" fn capcheck_line_mode(buffer: &mut [u8; 96], clear: u8) -> usize
 /// Writes the line of a root in a register, 1 to 31, into the buffer.
 #[unsafe(no_mangle)]
 pub extern "C" fn capcheck_line_root(buffer: &mut [u8; 96], register: u64, word: Halves) -> usize
-    ensures { AnswersLine (line.Root (place.Register register) (record { 0 = whole_of word })) buffer.old buffer.new result }
+    ensures line { AnswersLine (line.Root (place.Register register) (record { 0 = whole_of word })) buffer.old buffer.new result }
 {
     let Some(register) = target_of(register) else {
         return 0;
@@ -69,7 +69,7 @@ pub extern "C" fn capcheck_line_root_at(buffer: &mut [u8; 96], address: u64, wor
 /// Writes the end line with the number of step lines, below 2^32, into the buffer.
 #[unsafe(no_mangle)]
 pub extern "C" fn capcheck_line_end(buffer: &mut [u8; 96], steps: u64) -> usize
-    ensures { AnswersLine (line.End steps) buffer.old buffer.new result }
+    ensures line { AnswersLine (line.End steps) buffer.old buffer.new result }
 {
     let Some(steps) = step_count_of(steps) else {
         return 0;

@@ -23,7 +23,7 @@ pub extern "C" fn capcheck_line_lc(
     offset: i64,
     recorded: Capability,
 ) -> usize
-    ensures { AnswersLine (line.Step (step.LoadCap target authority offset (cap_of recorded))) buffer.old buffer.new result }
+    ensures line { AnswersLine (line.Step (step.LoadCap target authority offset (cap_of recorded))) buffer.old buffer.new result }
 {
     let Some(target) = target_of(target) else {
         return 0;
@@ -51,7 +51,7 @@ pub extern "C" fn capcheck_line_sc(
     authority: u64,
     offset: i64,
 ) -> usize
-    ensures { AnswersLine (line.Step (step.StoreCap source authority offset)) buffer.old buffer.new result }
+    ensures line { AnswersLine (line.Step (step.StoreCap source authority offset)) buffer.old buffer.new result }
 {
     let Some(source) = register_of(source) else {
         return 0;
@@ -80,7 +80,7 @@ pub extern "C" fn capcheck_line_load(
     size: u64,
     value: u64,
 ) -> usize
-    ensures { AnswersLine (line.Step (step.Load authority offset size value)) buffer.old buffer.new result }
+    ensures line { AnswersLine (line.Step (step.Load authority offset size value)) buffer.old buffer.new result }
 {
     let Some(authority) = register_of(authority) else {
         return 0;
@@ -110,7 +110,7 @@ pub extern "C" fn capcheck_line_store(
     size: u64,
     value: u64,
 ) -> usize
-    ensures { AnswersLine (line.Step (step.Store authority offset size value)) buffer.old buffer.new result }
+    ensures line { AnswersLine (line.Step (step.Store authority offset size value)) buffer.old buffer.new result }
 {
     let Some(authority) = register_of(authority) else {
         return 0;

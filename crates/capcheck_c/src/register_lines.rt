@@ -22,7 +22,7 @@ pub extern "C" fn capcheck_line_move(
     source: u64,
     recorded: Capability,
 ) -> usize
-    ensures { AnswersLine (line.Step (step.Move target source (cap_of recorded))) buffer.old buffer.new result }
+    ensures line { AnswersLine (line.Step (step.Move target source (cap_of recorded))) buffer.old buffer.new result }
 {
     let Some(target) = target_of(target) else {
         return 0;
@@ -46,7 +46,7 @@ pub extern "C" fn capcheck_line_cleartag(
     source: u64,
     recorded: Capability,
 ) -> usize
-    ensures { AnswersLine (line.Step (step.ClearTag target source (cap_of recorded))) buffer.old buffer.new result }
+    ensures line { AnswersLine (line.Step (step.ClearTag target source (cap_of recorded))) buffer.old buffer.new result }
 {
     let Some(target) = target_of(target) else {
         return 0;
@@ -71,7 +71,7 @@ pub extern "C" fn capcheck_line_setbounds(
     length: u64,
     recorded: Capability,
 ) -> usize
-    ensures { AnswersLine (line.Step (step.SetBounds target source length (cap_of recorded))) buffer.old buffer.new result }
+    ensures line { AnswersLine (line.Step (step.SetBounds target source length (cap_of recorded))) buffer.old buffer.new result }
 {
     let Some(target) = target_of(target) else {
         return 0;
@@ -97,7 +97,7 @@ pub extern "C" fn capcheck_line_setboundsexact(
     length: u64,
     recorded: Capability,
 ) -> usize
-    ensures { AnswersLine (line.Step (step.SetBoundsExact target source length (cap_of recorded))) buffer.old buffer.new result }
+    ensures line { AnswersLine (line.Step (step.SetBoundsExact target source length (cap_of recorded))) buffer.old buffer.new result }
 {
     let Some(target) = target_of(target) else {
         return 0;
@@ -123,7 +123,7 @@ pub extern "C" fn capcheck_line_setaddr(
     address: u64,
     recorded: Capability,
 ) -> usize
-    ensures { AnswersLine (line.Step (step.SetAddr target source address (cap_of recorded))) buffer.old buffer.new result }
+    ensures line { AnswersLine (line.Step (step.SetAddr target source address (cap_of recorded))) buffer.old buffer.new result }
 {
     let Some(target) = target_of(target) else {
         return 0;
@@ -149,7 +149,7 @@ pub extern "C" fn capcheck_line_andperm(
     mask: u64,
     recorded: Capability,
 ) -> usize
-    ensures { AnswersLine (line.Step (step.AndPerm target source mask (cap_of recorded))) buffer.old buffer.new result }
+    ensures line { AnswersLine (line.Step (step.AndPerm target source mask (cap_of recorded))) buffer.old buffer.new result }
 {
     let Some(target) = target_of(target) else {
         return 0;
@@ -175,7 +175,7 @@ pub extern "C" fn capcheck_line_seal(
     authority: u64,
     recorded: Capability,
 ) -> usize
-    ensures { AnswersLine (line.Step (step.Seal target source authority (cap_of recorded))) buffer.old buffer.new result }
+    ensures line { AnswersLine (line.Step (step.Seal target source authority (cap_of recorded))) buffer.old buffer.new result }
 {
     let Some(target) = target_of(target) else {
         return 0;
@@ -204,7 +204,7 @@ pub extern "C" fn capcheck_line_unseal(
     authority: u64,
     recorded: Capability,
 ) -> usize
-    ensures { AnswersLine (line.Step (step.Unseal target source authority (cap_of recorded))) buffer.old buffer.new result }
+    ensures line { AnswersLine (line.Step (step.Unseal target source authority (cap_of recorded))) buffer.old buffer.new result }
 {
     let Some(target) = target_of(target) else {
         return 0;

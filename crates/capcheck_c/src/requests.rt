@@ -144,7 +144,7 @@ pub extern "C" fn capcheck_reach(word: Halves) -> AddressRange
 /// Whether the word with another address has the same base and top.
 #[unsafe(no_mangle)]
 pub extern "C" fn capcheck_keeps_bounds(word: Halves, address: u64) -> bool
-    ensures { IsTrue result ↔ KeepsBounds (whole_of word) address }
+    ensures keeps { IsTrue result ↔ KeepsBounds (whole_of word) address }
 {
     keeps_bounds(word_of(word), address)
 }

@@ -15,7 +15,7 @@ use cap_word::{Fields, Word, from_memory, join, null, read_word, split, to_memor
 /// The word of NULL.
 #[unsafe(no_mangle)]
 pub extern "C" fn capcheck_null() -> Halves
-    ensures { whole_of result ≡ null_word }
+    ensures value { whole_of result ≡ null_word }
 {
     halves_of(null().0)
 }
@@ -118,7 +118,7 @@ pub extern "C" fn capcheck_from_memory(bytes: &[u8; 16]) -> Halves
 /// The text of a word, 32 lower-case hexadecimal digits of its register layout, as a C string.
 #[unsafe(no_mangle)]
 pub extern "C" fn capcheck_text_of(word: Halves) -> WordText
-    ensures { result.digits ≡ hex_digits 32 (whole_of word) ++ 0 ∷ [] }
+    ensures digits { result.digits ≡ hex_digits 32 (whole_of word) ++ 0 ∷ [] }
 {
     let mut digits = [0u8; 33];
     digits[..32].copy_from_slice(&word_text(word_of(word)));

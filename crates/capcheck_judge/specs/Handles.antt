@@ -16,11 +16,16 @@ use Rattle.cap_judge.specs.Standings.{BeginsWhole, HasTaken, Known, Stands, know
 use Rattle.cap_judge.specs.Verdicts.{IsVerdict, GuardsAuthority}
 use Rattle.capcheck_judge.specs.Answers.{numbers_of, without_verdict}
 use Rattle.capcheck_judge.specs.declared.answers.Answer.{Answer}
+use Rattle.capcheck_judge.specs.declared.handle.Handle.{Handle}
 use Rattle.capcheck_judge.specs.declared.answers.Given.{Given}
 
 -- what a handle holds: a judge, or none
 abbrev pub Held : Type 0
 Held = Option (RattleType.Denot (judge_row store_row ghosts))
+
+-- what this handle holds
+abbrev pub held_in : Handle → Held
+held_in handle = handle.judge
 
 -- all that the judge of a handle knows, where there is one
 abbrev pub known_in : Held → Option Known

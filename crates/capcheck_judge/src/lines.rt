@@ -4,7 +4,7 @@ ghost use Rattle.std.specs.Prelude.{◌≡◌, ◌≢◌, ◌↔◌, ◌⊎◌, 
 ghost use Rattle.cap_judge.specs.Logs.{MayLackMemory};
 ghost use Rattle.cap_judge.specs.Standings.{BeginsWhole, HasTaken, IsNoLine, known_of};
 ghost use Rattle.capcheck_judge.specs.Answers.{NamesEscapesIn, without_verdict};
-ghost use Rattle.capcheck_judge.specs.Handles.{AnswersEnd, AnswersSoFar, Holds, known_in};
+ghost use Rattle.capcheck_judge.specs.Handles.{AnswersEnd, AnswersSoFar, Holds, held_in, known_in};
 
 use crate::answers::{
     Answer, GOES_ON, NO, NO_JUDGE, NO_LINE, NO_MEMORY, numbers_of, without_verdict,
@@ -20,8 +20,8 @@ use tagmem::{PageStore, TaggedStore};
 #[unsafe(no_mangle)]
 pub extern "C" fn capcheck_judge_open(alloc: Global, judge: &mut Handle) -> u8
     ensures answers { (result ≡ 0) ⊎ (result ≡ 3) }
-    ensures opened { result ≡ 0 → Holds judge.new.judge [] }
-    ensures no_memory { result ≡ 3 → judge.new.judge ≡ None }
+    ensures opened { result ≡ 0 → Holds (held_in judge.new) [] }
+    ensures no_memory { result ≡ 3 → held_in judge.new ≡ None }
 {
     capcheck_judge_close(alloc, judge);
     match Box::new(alloc, Judge::over_pages(alloc)) {
@@ -43,17 +43,17 @@ pub extern "C" fn capcheck_judge_line(alloc: Global, judge: &mut Handle, line: &
     ensures never_yes { result ≢ 1 }
 
     // A line that is taken is taken behind all that was taken before.
-    ensures taken { result < 3 → (bytes : List ℕ) → Holds judge.old.judge bytes → Holds judge.new.judge (bytes ++ line.now) }
-    ensures goes_on { result ≡ 0 → (bytes : List ℕ) → Holds judge.old.judge bytes → BeginsWhole (bytes ++ line.now) }
-    ensures at_fault { result ≡ 2 → (bytes : List ℕ) → Holds judge.old.judge bytes → BeginsWhole (bytes ++ line.now) → ⊥ }
-    ensures unchanged { 2 < result → known_in judge.new.judge ≡ known_in judge.old.judge }
-    ensures still_holds { 2 < result → (bytes : List ℕ) → Holds judge.old.judge bytes → Holds judge.new.judge bytes }
+    ensures taken { result < 3 → (bytes : List ℕ) → Holds (held_in judge.old) bytes → Holds (held_in judge.new) (bytes ++ line.now) }
+    ensures goes_on { result ≡ 0 → (bytes : List ℕ) → Holds (held_in judge.old) bytes → BeginsWhole (bytes ++ line.now) }
+    ensures at_fault { result ≡ 2 → (bytes : List ℕ) → Holds (held_in judge.old) bytes → BeginsWhole (bytes ++ line.now) → ⊥ }
+    ensures unchanged { 2 < result → known_in (held_in judge.new) ≡ known_in (held_in judge.old) }
+    ensures still_holds { 2 < result → (bytes : List ℕ) → Holds (held_in judge.old) bytes → Holds (held_in judge.new) bytes }
 
     // Memory is wanted only where this very line, which no test refuses, names a granule for the first time.
-    ensures no_memory { result ≡ 3 → (bytes : List ℕ) → Holds judge.old.judge bytes → MayLackMemory (bytes ++ line.now) [] }
-    ensures no_judge { (result ≡ 4) ↔ (judge.old.judge ≡ None) }
-    ensures no_line { (result ≡ 5) ↔ ((judge.old.judge ≢ None) × IsNoLine line.now) }
-    ensures held { (judge.new.judge ≡ None) ↔ (judge.old.judge ≡ None) }
+    ensures no_memory { result ≡ 3 → (bytes : List ℕ) → Holds (held_in judge.old) bytes → MayLackMemory (bytes ++ line.now) [] }
+    ensures no_judge { (result ≡ 4) ↔ (held_in judge.old ≡ None) }
+    ensures no_line { (result ≡ 5) ↔ ((held_in judge.old ≢ None) × IsNoLine line.now) }
+    ensures held { (held_in judge.new ≡ None) ↔ (held_in judge.old ≡ None) }
 {
     match judge.take(alloc) {
         Some(held) => {
@@ -70,10 +70,10 @@ pub extern "C" fn capcheck_judge_line(alloc: Global, judge: &mut Handle, line: &
 /// whatever lines follow. It is 4 where the handle holds no judge.
 #[unsafe(no_mangle)]
 pub extern "C" fn capcheck_judge_answer(alloc: Global, judge: &mut Handle) -> Answer
-    ensures answer { (bytes : List ℕ) → Holds judge.old.judge bytes → AnswersSoFar bytes result }
+    ensures answer { (bytes : List ℕ) → Holds (held_in judge.old) bytes → AnswersSoFar bytes result }
     ensures escape { NamesEscapesIn result }
-    ensures no_judge { judge.old.judge ≡ None → result ≡ without_verdict 4 }
-    ensures kept { judge.new.judge ≡ judge.old.judge }
+    ensures no_judge { held_in judge.old ≡ None → result ≡ without_verdict 4 }
+    ensures kept { held_in judge.new ≡ held_in judge.old }
 {
     match judge.take(alloc) {
         Some(held) => {
@@ -92,10 +92,10 @@ pub extern "C" fn capcheck_judge_answer(alloc: Global, judge: &mut Handle) -> An
 /// holds no judge. Further lines may be handed over behind it.
 #[unsafe(no_mangle)]
 pub extern "C" fn capcheck_judge_end(alloc: Global, judge: &mut Handle) -> Answer
-    ensures verdict { (bytes : List ℕ) → Holds judge.old.judge bytes → AnswersEnd bytes result }
+    ensures verdict { (bytes : List ℕ) → Holds (held_in judge.old) bytes → AnswersEnd bytes result }
     ensures escape { NamesEscapesIn result }
-    ensures no_judge { judge.old.judge ≡ None → result ≡ without_verdict 4 }
-    ensures kept { judge.new.judge ≡ judge.old.judge }
+    ensures no_judge { held_in judge.old ≡ None → result ≡ without_verdict 4 }
+    ensures kept { held_in judge.new ≡ held_in judge.old }
 {
     match judge.take(alloc) {
         Some(held) => {
@@ -110,7 +110,7 @@ pub extern "C" fn capcheck_judge_end(alloc: Global, judge: &mut Handle) -> Answe
 /// Closes the judge, and gives its memory back. The handle then holds none.
 #[unsafe(no_mangle)]
 pub extern "C" fn capcheck_judge_close(alloc: Global, judge: &mut Handle)
-    ensures none { judge.new.judge ≡ None }
+    ensures none { held_in judge.new ≡ None }
 {
     drop(judge.take(alloc));
 }

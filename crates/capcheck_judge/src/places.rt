@@ -3,7 +3,7 @@
 ghost use Rattle.std.specs.Prelude.{◌≡◌, ◌⊎◌, ◌<◌, ◌≤◌, ◌/◌, ℕ, List, None};
 ghost use Rattle.cap_halves.specs.Passed.{cap_of, no_cap};
 ghost use Rattle.cap_machine.specs.States.{granule_key};
-ghost use Rattle.capcheck_judge.specs.Handles.{AnswersExpected, Holds, IsGiven, state_behind};
+ghost use Rattle.capcheck_judge.specs.Handles.{AnswersExpected, Holds, IsGiven, held_in, state_behind};
 
 use crate::answers::{Given, OptionalCap};
 use crate::handle::Handle;
@@ -20,10 +20,10 @@ pub extern "C" fn capcheck_judge_register(
     judge: &mut Handle,
     number: u64,
 ) -> OptionalCap
-    ensures register { number ≤ 31 → (bytes : List ℕ) → (holds : Holds judge.old.judge bytes)
+    ensures register { number ≤ 31 → (bytes : List ℕ) → (holds : Holds (held_in judge.old) bytes)
         → (result.present ≡ 1) × (cap_of result.cap ≡ state_behind holds number) }
-    ensures none { (31 < number) ⊎ (judge.old.judge ≡ None) → (result.present ≡ 0) × (cap_of result.cap ≡ no_cap) }
-    ensures kept { judge.new.judge ≡ judge.old.judge }
+    ensures none { (31 < number) ⊎ (held_in judge.old ≡ None) → (result.present ≡ 0) × (cap_of result.cap ≡ no_cap) }
+    ensures kept { held_in judge.new ≡ held_in judge.old }
 {
     if number > 31 {
         return nothing();
@@ -46,10 +46,10 @@ pub extern "C" fn capcheck_judge_granule(
     judge: &mut Handle,
     address: u64,
 ) -> OptionalCap
-    ensures granule { (bytes : List ℕ) → (holds : Holds judge.old.judge bytes)
+    ensures granule { (bytes : List ℕ) → (holds : Holds (held_in judge.old) bytes)
         → (result.present ≡ 1) × (cap_of result.cap ≡ state_behind holds (granule_key (address / 16))) }
-    ensures none { judge.old.judge ≡ None → (result.present ≡ 0) × (cap_of result.cap ≡ no_cap) }
-    ensures kept { judge.new.judge ≡ judge.old.judge }
+    ensures none { held_in judge.old ≡ None → (result.present ≡ 0) × (cap_of result.cap ≡ no_cap) }
+    ensures kept { held_in judge.new ≡ held_in judge.old }
 {
     match judge.take(alloc) {
         Some(held) => {
@@ -65,9 +65,9 @@ pub extern "C" fn capcheck_judge_granule(
 /// fault, where no line is at fault so far, and where the handle holds no judge.
 #[unsafe(no_mangle)]
 pub extern "C" fn capcheck_judge_expected(alloc: Global, judge: &mut Handle) -> Given
-    ensures expected { (bytes : List ℕ) → Holds judge.old.judge bytes → AnswersExpected bytes result }
-    ensures none { judge.old.judge ≡ None → IsGiven None result }
-    ensures kept { judge.new.judge ≡ judge.old.judge }
+    ensures expected { (bytes : List ℕ) → Holds (held_in judge.old) bytes → AnswersExpected bytes result }
+    ensures none { held_in judge.old ≡ None → IsGiven None result }
+    ensures kept { held_in judge.new ≡ held_in judge.old }
 {
     match judge.take(alloc) {
         Some(held) => {

@@ -93,7 +93,7 @@ fn plain_length(word: Word) -> u128
 
 /// Whether a word is sound: its base and its length make its top, which lies in the address space.
 pub fn plain_sound(word: Word) -> bool
-    ensures exact { IsTrue result ↔ IsSound word.0 }
+    ensures sound { IsTrue result ↔ IsSound word.0 }
 {
     let Interval { base, top } = plain_bounds(word);
     u128::from(base) + plain_length(word) == top && top <= 1 << 64
@@ -101,7 +101,7 @@ pub fn plain_sound(word: Word) -> bool
 
 /// Whether the word with another address has the same bounds.
 pub fn plain_keeps(word: Word, address: u64) -> bool
-    ensures exact { IsTrue result ↔ KeepsBounds word.0 address }
+    ensures keeps { IsTrue result ↔ KeepsBounds word.0 address }
 {
     let moved = Word(word.0 / (1 << 64) * (1 << 64) + u128::from(address));
     plain_bounds(moved) == plain_bounds(word)

@@ -12,7 +12,7 @@ use Rattle.tagmem.specs.Granules.{Entry}
 use Rattle.tagmem.specs.Pages.{IsWith}
 use Rattle.tagmem.specs.Blocks.{slots_of, with_slot, entries_from, entries_of, numbers_of, block_number_at, IsBlockAt, IsAbsent, IsDirectory}
 
--- the number of the block in a block
+-- the number that a block has
 abbrev number_of : Block → ℕ
 number_of block = block.number
 

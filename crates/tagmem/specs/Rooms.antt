@@ -10,11 +10,11 @@ pub record HasRoomFor (chains : Chains) (many : ℕ) : Type 0 where
   pub nexts : many ≤ vec_capacity chains.nexts
   pub heads : 0 < many → 0 < length chains.heads.items
 
--- how many blocks the pages that are there have, put or not
+-- how many blocks the pages that are there have places for
 abbrev pub blocks_of : Directory → ℕ
 blocks_of directory = 16 * length directory.pages.items
 
--- how many the pages have with one that stands somewhere, if it stands, and else is added
+-- how many they have with a page that stands somewhere, or else is added
 abbrev pub blocks_with : Directory → Option ℕ → ℕ
 blocks_with directory None = 16 * suc (length directory.pages.items)
 blocks_with directory (Some at) = 16 * length directory.pages.items

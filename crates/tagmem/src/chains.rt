@@ -20,7 +20,7 @@ pub(crate) struct Chains {
     numbers: Vec<u64>,
     // For each place one more than the index of its last number, and 0 where it has none.
     heads: Vec<u32>,
-    // For each number the same of those before it.
+    // For each number, one more than the index of the one before it in its chain, and 0 where it is the first.
     nexts: Vec<u32>,
     // One less than there are places.
     mask: u64,

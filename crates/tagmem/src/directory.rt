@@ -81,7 +81,7 @@ impl Directory {
         }
     }
 
-    // How many blocks the pages have with one that stands somewhere, if it stands, and else is added.
+    // How many blocks the pages have room for, a page among them that stands somewhere or else is added.
     pub(crate) fn blocks_with(&self, page: Option<usize>) -> Option<usize>
         ensures { IfSome result (λ many. many ≡ blocks_with self.now page) }
     {

@@ -1,4 +1,4 @@
-//! A store that keeps its entries in blocks.
+//! A store that keeps its entries in pages.
 ghost use Rattle.std.specs.Prelude.{◌≡◌, ◌^◌, ◌<◌, ◌+◌, ◌*◌, ◌≤◌, ◌/◌, length, None, Some, MatchOption, OnOk, OnErr};
 ghost use Rattle.std.specs.FinMap as map;
 ghost use Rattle.std.specs.Vec.{vec_capacity};
@@ -23,9 +23,9 @@ use std::alloc::Global;
 #[derive(Drop)]
 pub struct PageStore {
     blocks: Vec<Block>,
-    // The same numbers, found by their places.
+    // Finds a block by a hash of its number.
     chains: Chains,
-    // And in their order.
+    // Finds blocks in the order of their numbers.
     directory: Directory,
     count: u32,
     ghost chained: { chains.numbers.items ≡ numbers_of blocks.items },
@@ -67,7 +67,7 @@ impl PageStore {
         self.search(number)
     }
 
-    // The same where the last block of its place isn't that.
+    // The same where the block of its hash that was added last isn't that.
     #[inline(never)]
     fn search(&self, number: u64) -> Option<usize>
         ensures { MatchOption result (IsAbsent self.now.blocks.items number) (IsBlockAt self.now.blocks.items number) }

@@ -12,7 +12,7 @@ use tagmem::{ListStore, TaggedStore};
 
 /// A list without granules.
 pub fn empty_list(alloc: Global) -> ListStore
-    ensures { map.len (⟦<ListStore as TaggedStore>⟧.contents result) ≡ 0 }
+    ensures empty { map.len (⟦<ListStore as TaggedStore>⟧.contents result) ≡ 0 }
 {
     ListStore::new(alloc)
 }

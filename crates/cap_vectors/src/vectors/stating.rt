@@ -11,7 +11,7 @@ const GREATEST_TOP: u128 = 1 << 64;
 
 /// Whether a line states something true.
 pub fn is_true_line(line: &[u8]) -> bool
-    ensures { IsTrue result ↔ IsTrueLine line.now }
+    ensures exact { IsTrue result ↔ IsTrueLine line.now }
 {
     states_bounds(line) || states_keeps(line) || states_round(line) || states_memory(line)
 }

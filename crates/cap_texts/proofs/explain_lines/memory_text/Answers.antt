@@ -10,5 +10,7 @@ pub returns : goal.returns
 returns c =
     let call = c.encode_to_slice-written in
     let count = ap length c.to_memory.ensures.bytes ∙ length-memory_of c.args.word.0 in
-    at_ok call.result (call.ensures.fits.1 (omega (arith, count))) call.ensures.written
-    ∙ ap encode_lower c.to_memory.ensures.bytes ∙ bytes_text-is (memory_of c.args.word.0) (IsBytes-memory_of c.args.word.0)
+    record {
+      text = at_ok call.result (call.ensures.fits.1 (omega (arith, count))) call.ensures.written
+          ∙ ap encode_lower c.to_memory.ensures.bytes ∙ bytes_text-is (memory_of c.args.word.0) (IsBytes-memory_of c.args.word.0);
+    }

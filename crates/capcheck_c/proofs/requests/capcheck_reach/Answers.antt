@@ -16,21 +16,21 @@ Exact start size w = (address : ℕ) → address < 2 ^ 64 → (KeepsBounds w add
 
 pub returns-in-None-clause-every : goal.returns-in-None-clause-every
 returns-in-None-clause-every c = (
-  λ _. subst (λ (w : ℕ). (address : ℕ) → address < 2 ^ 64 → KeepsBounds w address) c.word_of.ensures (c.in-None.ensures.every.0 refl),
+  λ _. subst (λ (w : ℕ). (address : ℕ) → address < 2 ^ 64 → KeepsBounds w address) c.word_of.ensures.value (c.in-None.ensures.every.0 refl),
   λ _. refl,
 )
 
 pub returns-in-None-clause-unique : goal.returns-in-None-clause-unique
-returns-in-None-clause-unique c = subst Unique c.word_of.ensures c.in-None.ensures.unique
+returns-in-None-clause-unique c = subst Unique c.word_of.ensures.value c.in-None.ensures.unique
 
 pub returns-in-None-clause-margins : goal.returns-in-None-clause-margins
-returns-in-None-clause-margins c = subst Margins c.word_of.ensures c.in-None.ensures.margins
+returns-in-None-clause-margins c = subst Margins c.word_of.ensures.value c.in-None.ensures.margins
 
 pub returns-in-Some-clause-unique : goal.returns-in-Some-clause-unique
-returns-in-Some-clause-unique c = subst Unique c.word_of.ensures c.in-Some.ensures.unique
+returns-in-Some-clause-unique c = subst Unique c.word_of.ensures.value c.in-Some.ensures.unique
 
 pub returns-in-Some-clause-margins : goal.returns-in-Some-clause-margins
-returns-in-Some-clause-margins c = subst Margins c.word_of.ensures c.in-Some.ensures.margins
+returns-in-Some-clause-margins c = subst Margins c.word_of.ensures.value c.in-Some.ensures.margins
 
 pub returns-in-Some-clause-exact : goal.returns-in-Some-clause-exact
-returns-in-Some-clause-exact c = λ _. subst (Exact c.in-Some.start c.in-Some.size) c.word_of.ensures c.in-Some.ensures.exact
+returns-in-Some-clause-exact c = λ _. subst (Exact c.in-Some.start c.in-Some.size) c.word_of.ensures.value c.in-Some.ensures.exact

@@ -14,4 +14,4 @@ returns c =
     let moved = AreBounds-unique (with_address w c.args.address) new.base new.top relation in
     let old = AreBounds-unique w c.plain_bounds-2.result.base c.plain_bounds-2.result.top c.plain_bounds-2.ensures.relation in
     let eq = c.eq.ensures in
-    record { exact = grind (arith, nat_tests) }
+    record { keeps = grind (arith, nat_tests) }

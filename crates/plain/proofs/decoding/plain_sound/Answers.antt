@@ -10,7 +10,7 @@ returns-then-from-plain_length c =
     let length = c.plain_length.ensures.value in
     let base = c.from.ensures in
     let test = c.if-from-plain_length.true in
-    record { exact = grind (arith, nat_tests) }
+    record { sound = grind (arith, nat_tests) }
 
 pub returns-else-from-plain_length : goal.returns-else-from-plain_length
 returns-else-from-plain_length c =
@@ -19,4 +19,4 @@ returns-else-from-plain_length c =
     let length = c.plain_length.ensures.value in
     let base = c.from.ensures in
     let test = c.if-from-plain_length.false in
-    record { exact = grind (arith, nat_tests) }
+    record { sound = grind (arith, nat_tests) }

@@ -5,4 +5,4 @@ use Rattle.tagmem.specs.Granules.{Entry}
 use Rattle.worked.proofs.pieces.empty_list.Goals as goal
 
 pub returns : goal.returns
-returns c = ap len c.new.ensures.empty ∙ len-empty nat_cmp Entry
+returns c = record { empty = ap len c.new.ensures.empty ∙ len-empty nat_cmp Entry }
