@@ -14,12 +14,17 @@ use Rattle.cap_judge.specs.Judgings.{BeginsLog, IsAnswerOf, IsVerdictOf}
 use Rattle.cap_judge.specs.Logs.{Nothing}
 use Rattle.cap_judge.specs.Reports.{Tells}
 use Rattle.cap_judge.specs.FaultReports.{IsReport}
-use Rattle.cap_judge.specs.Whys.{IsExplanationOf, IsTold}
-use Rattle.cap_judge.specs.declared.verdict.JudgeToFault.{JudgeToFault}
-use Rattle.cap_judge.specs.declared.verdict.JudgeToFault.TheVariants as judging
-use Rattle.capcheck.specs.Statuses.{judging_fault, status_of}
+use Rattle.cap_judge.specs.Whys.{IsTold}
+use Rattle.capcheck.specs.Statuses.{status_of}
 use Rattle.cap_judge.specs.Verdicts.{IsVerdict}
 use Rattle.cap_judge.proofs.SourceLemmas.{of_all}
+
+-- what was done of an input that was opened
+pub opened : {R : Type 0} (is_done : List ℕ → Bool → (List ℕ → Type 0) → Result ℕ Fault → Type 0) (remaining : R → Option (List ℕ))
+    (input : Option R) (reader : R) (before after : Option (List ℕ)) (result : Result ℕ Fault) → input ≡ Some reader
+    → IsInputDone is_done (remaining reader) before after result → IsInputDone is_done (known_bytes remaining input) before after result
+opened {R} is_done remaining input reader before after result is done =
+    subst (λ (o : Option R). IsInputDone is_done (known_bytes remaining o) before after result) (sym is) done
 
 -- a flush keeps what was written
 pub flushed : (a b c : Option (List ℕ)) (bytes : List ℕ) → Appends a b bytes → Keeps b c → Appends a c bytes
@@ -31,13 +36,6 @@ flushed (Some xs) (Some ys) (Some zs) bytes h k = k ∙ h
 -- all of a line is a beginning of it
 pub flushed_all : (a b c : Option (List ℕ)) (bytes : List ℕ) → Appends a b bytes → Keeps b c → Appends a c (take (length bytes) bytes)
 flushed_all a b c bytes h k = subst (Appends a c) (sym (take-length bytes)) (flushed a b c bytes h k)
-
--- what was written with a fault of the judge is what was written with the program's
-pub written_fault : (origins why : Bool) (given : List ℕ) (ended : Bool) (wrote : List ℕ → Type 0) (fault : JudgeToFault)
-    → IsExplanationOf origins why given ended wrote (Err fault) → IsWrittenFor origins why given ended wrote (Err (judging_fault fault))
-written_fault origins why given ended wrote judging.Pull told = told
-written_fault origins why given ended wrote judging.NoMemory told = told
-written_fault origins why given ended wrote judging.Push told = told
 
 -- the verdict on the given bytes is theirs
 verdict_given : (given : List ℕ) (ended : Bool) (verdict : Verdict) → IsAnswerOf given ended (Ok verdict) → IsVerdict given verdict
@@ -96,8 +94,8 @@ printed origins why (Some bytes) (Some rest) given ended verdict text gives all 
       refl,
     )
 
-done_prints : (origins why : Bool) (left before after : Option (List ℕ)) (result : Result ℕ Fault)
-    → IsInputDone origins why left before after result
+pub done_prints : (origins why : Bool) (left before after : Option (List ℕ)) (result : Result ℕ Fault)
+    → IsInputDone (IsWrittenFor origins why) left before after result
     → IfOk result (λ status. (text : List ℕ) × PrintsVerdict origins why left text status × Appends before after text)
 done_prints origins why left before after (Ok status) done =
     let w = done.written in (
@@ -108,20 +106,9 @@ done_prints origins why left before after (Ok status) done =
     )
 done_prints origins why left before after (Err fault) done = tt
 
--- the same of an input that was opened
-pub input_prints : {R : Type 0} (origins why : Bool) (remaining : R → Option (List ℕ)) (input : Option R) (reader : R)
-    (before after : Option (List ℕ)) (result : Result ℕ Fault)
-    → input ≡ Some reader → IsInputDone origins why (remaining reader) before after result
-    → IfOk result (λ status. (text : List ℕ) × PrintsVerdict origins why (known_bytes remaining input)
-    text status × Appends before after text)
-input_prints {R} origins why remaining input reader before after result is done =
-    subst (λ (o : Option R). IfOk result (λ status. (text : List ℕ) × PrintsVerdict origins why (known_bytes remaining o) text status
-    × Appends before after text))
-    (sym is) (done_prints origins why (remaining reader) before after result done)
-
 -- what was printed where there is no verdict
-done_stops : (origins why : Bool) (left before after : Option (List ℕ)) (result : Result ℕ Fault)
-    → IsInputDone origins why left before after result
+pub done_stops : (origins why : Bool) (left before after : Option (List ℕ)) (result : Result ℕ Fault)
+    → IsInputDone (IsWrittenFor origins why) left before after result
     → IfErr result (λ fault. (written : List ℕ) × BeginsText (PrintsVerdict origins why left) written × Appends before after written)
 done_stops origins why left before after (Ok status) done = tt
 done_stops origins why left before after (Err faults.Read) done = ([], inl refl, done.written.1)
@@ -134,19 +121,9 @@ done_stops origins why left before after (Err faults.BadWords) done = absurd don
 done_stops origins why left before after (Err faults.BadWord) done = absurd done.written
 done_stops origins why left before after (Err faults.BadRequest) done = absurd done.written
 
-pub input_stops : {R : Type 0} (origins why : Bool) (remaining : R → Option (List ℕ)) (input : Option R) (reader : R)
-    (before after : Option (List ℕ)) (result : Result ℕ Fault)
-    → input ≡ Some reader → IsInputDone origins why (remaining reader) before after result
-    → IfErr result (λ fault. (written : List ℕ) × BeginsText (PrintsVerdict origins why (known_bytes remaining input)) written
-    × Appends before after written)
-input_stops {R} origins why remaining input reader before after result is done =
-    subst (λ (o : Option R). IfErr result (λ fault. (written : List ℕ) × BeginsText (PrintsVerdict origins why (known_bytes remaining o)) written
-    × Appends before after written))
-    (sym is) (done_stops origins why (remaining reader) before after result done)
-
 -- why there is no verdict that was printed
-done_fails : (origins why : Bool) (left before after : Option (List ℕ)) (result : Result ℕ Fault)
-    → IsInputDone origins why left before after result → IfErr result (IsJudgingFault origins why left)
+pub done_fails : (origins why : Bool) (left before after : Option (List ℕ)) (result : Result ℕ Fault)
+    → IsInputDone (IsWrittenFor origins why) left before after result → IfErr result (IsJudgingFault origins why left)
 done_fails origins why left before after (Ok status) done = tt
 done_fails origins why left before after (Err faults.Read) done = (done.given, done.rest, done.gives, done.written.0.fault)
 done_fails origins why left before after (Err faults.NoMemory) done = (done.given, done.rest, done.gives, done.written.0.fault)
@@ -157,23 +134,15 @@ done_fails origins why left before after (Err faults.BadWords) done = absurd don
 done_fails origins why left before after (Err faults.BadWord) done = absurd done.written
 done_fails origins why left before after (Err faults.BadRequest) done = absurd done.written
 
-pub input_fails : {R : Type 0} (origins why : Bool) (remaining : R → Option (List ℕ)) (input : Option R) (reader : R)
-    (before after : Option (List ℕ)) (result : Result ℕ Fault)
-    → input ≡ Some reader → IsInputDone origins why (remaining reader) before after result
-    → IfErr result (IsJudgingFault origins why (known_bytes remaining input))
-input_fails {R} origins why remaining input reader before after result is done =
-    subst (λ (o : Option R). IfErr result (IsJudgingFault origins why (known_bytes remaining o)))
-    (sym is) (done_fails origins why (remaining reader) before after result done)
-
 -- nothing was gained
-kept : (a b : Option (List ℕ)) → Appends a b [] → Keeps a b
+pub kept : (a b : Option (List ℕ)) → Appends a b [] → Keeps a b
 kept None b h = tt
 kept (Some xs) None h = absurd h
 kept (Some xs) (Some ys) h = h ∙ append-nil xs
 
 -- but for a fault of the output nothing was written
 pub done_keeps : (origins why : Bool) (left before after : Option (List ℕ)) (result : Result ℕ Fault)
-    → IsInputDone origins why left before after result → IfErr result (λ fault. fault ≢ faults.Write → Keeps before after)
+    → IsInputDone (IsWrittenFor origins why) left before after result → IfErr result (λ fault. fault ≢ faults.Write → Keeps before after)
 done_keeps origins why left before after (Ok status) done = tt
 done_keeps origins why left before after (Err faults.Read) done = λ other. kept before after done.written.1
 done_keeps origins why left before after (Err faults.NoMemory) done = λ other. kept before after done.written.1
@@ -196,13 +165,13 @@ few_status (Yes steps roots) = omega arith
 few_status (No line refusal) = omega arith
 
 pub done_ok : (origins why : Bool) (left before after : Option (List ℕ)) (result : Result ℕ Fault)
-    → IsInputDone origins why left before after result
+    → IsInputDone (IsWrittenFor origins why) left before after result
     → IfOk result (λ status. status ≤ 1)
 done_ok origins why left before after (Ok status) done = let few = few_status done.written.0 in let is = done.written.5 in omega arith
 done_ok origins why left before after (Err fault) done = tt
 
 pub done_err : (origins why : Bool) (left before after : Option (List ℕ)) (result : Result ℕ Fault)
-    → IsInputDone origins why left before after result
+    → IsInputDone (IsWrittenFor origins why) left before after result
     → IfErr result (λ fault. status_of fault ≡ 3)
 done_err origins why left before after (Ok status) done = tt
 done_err origins why left before after (Err faults.Read) done = refl

@@ -1,12 +1,11 @@
 -- What was shown.
-use Rattle.std.proofs.Common.{◌≡◌, ℕ, List, [], take, sym, ap, subst, refl, inr, arith, Option, Some, None, Result, Ok, Err, IfOk, IfErr, OnOk, OnErr, length}
+use Rattle.std.proofs.Common.{◌≡◌, ℕ, List, [], take, sym, ap, subst, refl, inr, arith, Option, None, Result, Ok, Err, IfOk, IfErr, OnOk, OnErr, length}
 use Rattle.std.proofs.Math.Seq.{take-length}
-use Rattle.std.specs.Io.KnownBytes.{Appends}
 use Rattle.capcheck.specs.declared.faults.Fault.{Fault}
 use Rattle.capcheck.specs.declared.faults.Fault.TheVariants.{Write}
 use Rattle.capcheck.specs.declared.words.Order.{Order}
-use Rattle.capcheck.specs.Answers.{BeginsText, ShowsCheck, known_bytes}
-use Rattle.capcheck.specs.Failures.{IsCheckingFault, IsFaultOf}
+use Rattle.capcheck.specs.Answers.{BeginsText}
+use Rattle.capcheck.specs.Failures.{IsFaultOf}
 use Rattle.capcheck.specs.Statuses.{exit_status, status_of}
 use Rattle.cap_vectors.specs.VectorFiles.{BreaksOff}
 
@@ -15,15 +14,6 @@ pub shown : (r : Result ℕ Fault) (P A : List ℕ → Type 0) (text : List ℕ)
     → IfOk r (λ s. (x : List ℕ) × (P x × (s ≡ 0)) × A x)
 shown (Ok s) P A text p zero a = (text, (p, zero), a)
 shown (Err e) P A text p zero a = tt
-
--- what was shown for an input that was opened
-pub shows_opened : {R : Type 0} (remaining : R → Option (List ℕ)) (input : Option R) (reader : R) (before after : Option (List ℕ))
-    (result : Result ℕ Fault) → input ≡ Some reader
-    → IfOk result (λ status. (text : List ℕ) × ShowsCheck (remaining reader) text status × Appends before after text)
-    → IfOk result (λ status. (text : List ℕ) × ShowsCheck (known_bytes remaining input) text status × Appends before after text)
-shows_opened {R} remaining input reader before after result is shown =
-    subst (λ (o : Option R). IfOk result (λ status. (text : List ℕ) × ShowsCheck (known_bytes remaining o) text status
-    × Appends before after text)) (sym is) shown
 
 -- where a text that is shown was not written, a beginning of it was
 pub stopped : (r : Result ℕ Fault) (P : List ℕ → ℕ → Type 0) (A : List ℕ → Type 0) (text : List ℕ) → P text 0 → IfOk r (λ s. s ≡ 0)
@@ -48,20 +38,6 @@ pub text_told : {E : Type 0} (r : Result Unit E) (A : List ℕ → Type 0) (text
     → OnErr r ((n : ℕ) × A (take n text)) → (n : ℕ) × A (take n text)
 text_told (Ok u) A text all some = (length text, subst A (sym (take-length text)) all)
 text_told (Err e) A text all some = some
-
--- the same of an input that was opened
-pub stops_opened : {R : Type 0} (remaining : R → Option (List ℕ)) (input : Option R) (reader : R) (before after : Option (List ℕ))
-    (result : Result ℕ Fault) → input ≡ Some reader
-    → IfErr result (λ fault. (x : List ℕ) × BeginsText (ShowsCheck (remaining reader)) x × Appends before after x)
-    → IfErr result (λ fault. (x : List ℕ) × BeginsText (ShowsCheck (known_bytes remaining input)) x × Appends before after x)
-stops_opened {R} remaining input reader before after result is stops =
-    subst (λ (o : Option R). IfErr result (λ fault. (x : List ℕ) × BeginsText (ShowsCheck (known_bytes remaining o)) x
-    × Appends before after x)) (sym is) stops
-
-pub fails_opened : {R : Type 0} (remaining : R → Option (List ℕ)) (input : Option R) (reader : R) (result : Result ℕ Fault)
-    → input ≡ Some reader → IfErr result (IsCheckingFault (remaining reader)) → IfErr result (IsCheckingFault (known_bytes remaining input))
-fails_opened {R} remaining input reader result is fails =
-    subst (λ (o : Option R). IfErr result (IsCheckingFault (known_bytes remaining o))) (sym is) fails
 
 -- no bytes are whole lines that are true, with nothing behind them
 pub breaks_off_nothing : BreaksOff []

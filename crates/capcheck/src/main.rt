@@ -2,10 +2,10 @@
 //! capabilities, and checks vector files.
 #![tactic(auto)]
 
-mod checking;
+pub mod checking;
 pub mod faults;
-mod inputs;
-mod outputs;
+pub mod inputs;
+pub mod outputs;
 #[cfg(test)]
 mod rows;
 pub mod running;
