@@ -7,4 +7,8 @@ pub returns-in-Some-clause-expected : goal.returns-in-Some-clause-expected
 returns-in-Some-clause-expected c = λ bytes holds.
     let is : c.args.judge.now.judge ≡ Some c.deref.result.now = c.in-Some.ensures.taken ∙ ap Some (sym c.deref.ensures) in
     let taken = held_taken c.args.judge.now.judge bytes holds c.deref.result.now is in
-    record { expected = c.expected-expected.result; numbers = c.given_of.ensures; expects = c.expected-expected.ensures.expects bytes taken }
+    record {
+      expected = c.expected-expected.result;
+      numbers = c.given_of.ensures;
+      expects = c.expected-expected.ensures.expects bytes taken;
+    }

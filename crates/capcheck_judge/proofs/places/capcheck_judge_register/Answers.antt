@@ -8,5 +8,6 @@ returns-in-Some-clause-register c = λ small bytes holds.
     let is : c.args.judge.now.judge ≡ Some c.deref.result.now = c.in-Some.ensures.taken ∙ ap Some (sym c.deref.ensures) in (
       c.there.ensures.present,
       c.there.ensures.cap
-          ∙ held_state c.args.judge.now.judge bytes holds c.deref.result.now is c.register-cap.result c.args.number c.register-cap.ensures.holds,
+          ∙ held_state c.args.judge.now.judge bytes holds c.deref.result.now is c.register-cap.result c.args.number
+          c.register-cap.ensures.holds,
     )

@@ -21,4 +21,6 @@ returns-in_default g c = record {
 }
 
 pub returns-in-None : goal.returns-in-None
-returns-in-None g c = record { expects = λ bytes taken. none_at_fault (known_of g.M.TaggedStore.contents c.args.self.now) bytes c.in-None.is taken }
+returns-in-None g c = record {
+  expects = λ bytes taken. none_at_fault (known_of g.M.TaggedStore.contents c.args.self.now) bytes c.in-None.is taken;
+}

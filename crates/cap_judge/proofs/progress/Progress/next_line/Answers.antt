@@ -7,9 +7,23 @@ use Rattle.cap_judge.proofs.progress.Progress.next_line.Goals as goal
 pub returns-then-self : goal.returns-then-self
 returns-then-self g c = λ beginning stands.
     let number = number_behind (reading_of g.M.TaggedStore.contents c.args.self.now) beginning stands c.if-self.true in
-    omega (arith, number, ap (λ r. length (header_lines r)) c.rules.ensures.value, c.first_line-header.ensures.value, c.roots.ensures.value, c.steps.ensures.value)
+    omega (
+      arith,
+      number,
+      ap (λ r. length (header_lines r)) c.rules.ensures.value,
+      c.first_line-header.ensures.value,
+      c.roots.ensures.value,
+      c.steps.ensures.value,
+    )
 
 pub returns-else-self : goal.returns-else-self
 returns-else-self g c = λ beginning stands.
     let number = number_before (reading_of g.M.TaggedStore.contents c.args.self.now) beginning stands c.if-self.false in
-    omega (arith, number, ap (λ r. length (header_lines r)) c.rules.ensures.value, c.first_line-header.ensures.value, c.roots.ensures.value, c.steps.ensures.value)
+    omega (
+      arith,
+      number,
+      ap (λ r. length (header_lines r)) c.rules.ensures.value,
+      c.first_line-header.ensures.value,
+      c.roots.ensures.value,
+      c.steps.ensures.value,
+    )

@@ -44,7 +44,8 @@ returns-in_err-address g c =
     rw (is.1, is.2) (record {
       outcome = faulted_as old (steps.LoadCap c.args.self.target c.args.self.authority c.args.self.offset c.args.self.result)
           _ fault (refusal_of fault) refl
-          (passed (λ o. ReachesAddress (state_of old) c.args.self.authority kinds.LoadCap o 16 (Err fault)) c.args.self.offset (search rules)
+          (passed (λ o. ReachesAddress (state_of old) c.args.self.authority kinds.LoadCap o 16 (Err fault)) c.args.self.offset
+          (search rules)
           c.in_err-address.ensures.outcome)
           refl;
     })

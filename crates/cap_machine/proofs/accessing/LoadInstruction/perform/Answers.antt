@@ -16,7 +16,8 @@ returns-then-number_in-self g c =
     let address = c.in_ok-address.address in
     let out = passed (λ o. ReachesAddress (state_of old) c.args.self.authority kinds.LoadData o c.args.self.size
     (Ok c.in_ok-address.address)) c.args.self.offset (search rules) c.in_ok-address.ensures.outcome in
-    let read = c.number_in.ensures.value ∙ sym (value_in old address c.args.self.size (g.met.M.TaggedStore.are_stored c.args.machine.now.memory)
+    let read = c.number_in.ensures.value ∙ sym (value_in old address c.args.self.size (g.met.M.TaggedStore.are_stored
+    c.args.machine.now.memory)
     c.in_ok-address.ensures.in_one_granule)
     ∙ ap (λ (a : ℕ). value_at (state_of old) a c.args.self.size) out.1 in
     record {
@@ -31,7 +32,8 @@ returns-then-machine-ge-MOST_STEPS g c =
     let address = c.in_ok-address.address in
     let out = passed (λ o. ReachesAddress (state_of old) c.args.self.authority kinds.LoadData o c.args.self.size
     (Ok c.in_ok-address.address)) c.args.self.offset (search rules) c.in_ok-address.ensures.outcome in
-    let read = c.number_in.ensures.value ∙ sym (value_in old address c.args.self.size (g.met.M.TaggedStore.are_stored c.args.machine.now.memory)
+    let read = c.number_in.ensures.value ∙ sym (value_in old address c.args.self.size (g.met.M.TaggedStore.are_stored
+    c.args.machine.now.memory)
     c.in_ok-address.ensures.in_one_granule)
     ∙ ap (λ (a : ℕ). value_at (state_of old) a c.args.self.size) out.1 in
     record {
@@ -46,7 +48,8 @@ returns g c =
     let address = c.in_ok-address.address in
     let out = passed (λ o. ReachesAddress (state_of old) c.args.self.authority kinds.LoadData o c.args.self.size
     (Ok c.in_ok-address.address)) c.args.self.offset (search rules) c.in_ok-address.ensures.outcome in
-    let read = c.number_in.ensures.value ∙ sym (value_in old address c.args.self.size (g.met.M.TaggedStore.are_stored c.args.machine.now.memory)
+    let read = c.number_in.ensures.value ∙ sym (value_in old address c.args.self.size (g.met.M.TaggedStore.are_stored
+    c.args.machine.now.memory)
     c.in_ok-address.ensures.in_one_granule)
     ∙ ap (λ (a : ℕ). value_at (state_of old) a c.args.self.size) out.1 in
     record {
@@ -63,7 +66,8 @@ returns-in_err-address g c =
     rw (is.1, is.2) (record {
       outcome = faulted_as old (steps.Load c.args.self.authority c.args.self.offset c.args.self.size c.args.self.value)
           _ fault (refusal_of fault) refl
-          (passed (λ o. ReachesAddress (state_of old) c.args.self.authority kinds.LoadData o c.args.self.size (Err fault)) c.args.self.offset
+          (passed (λ o. ReachesAddress (state_of old) c.args.self.authority kinds.LoadData o c.args.self.size (Err fault))
+          c.args.self.offset
           (search rules) c.in_err-address.ensures.outcome)
           refl;
     })

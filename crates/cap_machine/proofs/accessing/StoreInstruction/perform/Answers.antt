@@ -32,7 +32,8 @@ returns-in_err-address g c =
     rw (is.1, is.2) (record {
       outcome = faulted_as old (steps.Store c.args.self.authority c.args.self.offset c.args.self.size c.args.self.value)
           _ fault (refusal_of fault) refl
-          (passed (λ o. ReachesAddress (state_of old) c.args.self.authority kinds.StoreData o c.args.self.size (Err fault)) c.args.self.offset
+          (passed (λ o. ReachesAddress (state_of old) c.args.self.authority kinds.StoreData o c.args.self.size (Err fault))
+          c.args.self.offset
           (search rules) c.in_err-address.ensures.outcome)
           refl;
     })
