@@ -1,5 +1,5 @@
 -- What was reported, and then flushed.
-use Rattle.std.proofs.Common.{◌≡◌, ◌≤◌, ℕ, Bool, true, false, List, [], ◌++◌, length, take, Option, None, Some, Result}
+use Rattle.std.proofs.Common.{◌≡◌, ◌≢◌, ◌≤◌, ℕ, Bool, true, false, List, [], ◌++◌, length, take, Option, None, Some, Result}
 use Rattle.std.proofs.Common.{Ok, Err, IfOk, IfErr, inl, inr, refl, sym, ap, subst, ◌∙◌, append-nil, arith}
 use Rattle.std.proofs.Math.Seq.{take-length}
 use Rattle.std.specs.Io.KnownBytes.{Keeps, Appends, Consumes}
@@ -7,17 +7,24 @@ use Rattle.capcheck.specs.declared.faults.Fault.{Fault}
 use Rattle.capcheck.specs.declared.faults.Fault.TheVariants as faults
 use Rattle.cap_judge.specs.declared.verdict.Verdict.{Verdict}
 use Rattle.cap_judge.specs.declared.verdict.Verdict.TheVariants.{Yes, No}
-use Rattle.capcheck.specs.Answers.{BeginsVerdict, PrintsVerdict, known_bytes, verdict_status}
+use Rattle.capcheck.specs.Answers.{BeginsText, PrintsVerdict, known_bytes, verdict_status}
+use Rattle.capcheck.specs.Failures.{IsJudgingFault}
 use Rattle.capcheck.specs.Doings.{IsInputDone, IsWrittenFor}
-use Rattle.cap_judge.specs.Judgings.{IsAnswerOf, IsVerdictOf}
+use Rattle.cap_judge.specs.Judgings.{BeginsLog, IsAnswerOf, IsVerdictOf}
+use Rattle.cap_judge.specs.Logs.{Nothing}
 use Rattle.cap_judge.specs.Reports.{Tells}
 use Rattle.cap_judge.specs.FaultReports.{IsReport}
-use Rattle.cap_judge.specs.Whys.{IsExplanationOf, IsTold}
-use Rattle.cap_judge.specs.declared.verdict.JudgeToFault.{JudgeToFault}
-use Rattle.cap_judge.specs.declared.verdict.JudgeToFault.TheVariants as judging
-use Rattle.capcheck.specs.Statuses.{judging_fault, status_of}
+use Rattle.cap_judge.specs.Whys.{IsTold}
+use Rattle.capcheck.specs.Statuses.{status_of}
 use Rattle.cap_judge.specs.Verdicts.{IsVerdict}
 use Rattle.cap_judge.proofs.SourceLemmas.{of_all}
+
+-- what was done of an input that was opened
+pub opened : {R : Type 0} (is_done : List ℕ → Bool → (List ℕ → Type 0) → Result ℕ Fault → Type 0) (remaining : R → Option (List ℕ))
+    (input : Option R) (reader : R) (before after : Option (List ℕ)) (result : Result ℕ Fault) → input ≡ Some reader
+    → IsInputDone is_done (remaining reader) before after result → IsInputDone is_done (known_bytes remaining input) before after result
+opened {R} is_done remaining input reader before after result is done =
+    subst (λ (o : Option R). IsInputDone is_done (known_bytes remaining o) before after result) (sym is) done
 
 -- a flush keeps what was written
 pub flushed : (a b c : Option (List ℕ)) (bytes : List ℕ) → Appends a b bytes → Keeps b c → Appends a c bytes
@@ -29,13 +36,6 @@ flushed (Some xs) (Some ys) (Some zs) bytes h k = k ∙ h
 -- all of a line is a beginning of it
 pub flushed_all : (a b c : Option (List ℕ)) (bytes : List ℕ) → Appends a b bytes → Keeps b c → Appends a c (take (length bytes) bytes)
 flushed_all a b c bytes h k = subst (Appends a c) (sym (take-length bytes)) (flushed a b c bytes h k)
-
--- what was written with a fault of the judge is what was written with the program's
-pub written_fault : (origins why : Bool) (given : List ℕ) (ended : Bool) (wrote : List ℕ → Type 0) (fault : JudgeToFault)
-    → IsExplanationOf origins why given ended wrote (Err fault) → IsWrittenFor origins why given ended wrote (Err (judging_fault fault))
-written_fault origins why given ended wrote judging.Pull told = told
-written_fault origins why given ended wrote judging.NoMemory told = told
-written_fault origins why given ended wrote judging.Push told = told
 
 -- the verdict on the given bytes is theirs
 verdict_given : (given : List ℕ) (ended : Bool) (verdict : Verdict) → IsAnswerOf given ended (Ok verdict) → IsVerdict given verdict
@@ -94,8 +94,8 @@ printed origins why (Some bytes) (Some rest) given ended verdict text gives all 
       refl,
     )
 
-done_prints : (origins why : Bool) (left before after : Option (List ℕ)) (result : Result ℕ Fault)
-    → IsInputDone origins why left before after result
+pub done_prints : (origins why : Bool) (left before after : Option (List ℕ)) (result : Result ℕ Fault)
+    → IsInputDone (IsWrittenFor origins why) left before after result
     → IfOk result (λ status. (text : List ℕ) × PrintsVerdict origins why left text status × Appends before after text)
 done_prints origins why left before after (Ok status) done =
     let w = done.written in (
@@ -106,21 +106,10 @@ done_prints origins why left before after (Ok status) done =
     )
 done_prints origins why left before after (Err fault) done = tt
 
--- the same of an input that was opened
-pub input_prints : {R : Type 0} (origins why : Bool) (remaining : R → Option (List ℕ)) (input : Option R) (reader : R)
-    (before after : Option (List ℕ)) (result : Result ℕ Fault)
-    → input ≡ Some reader → IsInputDone origins why (remaining reader) before after result
-    → IfOk result (λ status. (text : List ℕ) × PrintsVerdict origins why (known_bytes remaining input)
-    text status × Appends before after text)
-input_prints {R} origins why remaining input reader before after result is done =
-    subst (λ (o : Option R). IfOk result (λ status. (text : List ℕ) × PrintsVerdict origins why (known_bytes remaining o) text status
-    × Appends before after text))
-    (sym is) (done_prints origins why (remaining reader) before after result done)
-
 -- what was printed where there is no verdict
-done_stops : (origins why : Bool) (left before after : Option (List ℕ)) (result : Result ℕ Fault)
-    → IsInputDone origins why left before after result
-    → IfErr result (λ fault. (written : List ℕ) × BeginsVerdict origins why left written × Appends before after written)
+pub done_stops : (origins why : Bool) (left before after : Option (List ℕ)) (result : Result ℕ Fault)
+    → IsInputDone (IsWrittenFor origins why) left before after result
+    → IfErr result (λ fault. (written : List ℕ) × BeginsText (PrintsVerdict origins why left) written × Appends before after written)
 done_stops origins why left before after (Ok status) done = tt
 done_stops origins why left before after (Err faults.Read) done = ([], inl refl, done.written.1)
 done_stops origins why left before after (Err faults.NoMemory) done = ([], inl refl, done.written.1)
@@ -132,28 +121,57 @@ done_stops origins why left before after (Err faults.BadWords) done = absurd don
 done_stops origins why left before after (Err faults.BadWord) done = absurd done.written
 done_stops origins why left before after (Err faults.BadRequest) done = absurd done.written
 
-pub input_stops : {R : Type 0} (origins why : Bool) (remaining : R → Option (List ℕ)) (input : Option R) (reader : R)
-    (before after : Option (List ℕ)) (result : Result ℕ Fault)
-    → input ≡ Some reader → IsInputDone origins why (remaining reader) before after result
-    → IfErr result (λ fault. (written : List ℕ) × BeginsVerdict origins why (known_bytes remaining input) written
-    × Appends before after written)
-input_stops {R} origins why remaining input reader before after result is done =
-    subst (λ (o : Option R). IfErr result (λ fault. (written : List ℕ) × BeginsVerdict origins why (known_bytes remaining o) written
-    × Appends before after written))
-    (sym is) (done_stops origins why (remaining reader) before after result done)
+-- why there is no verdict that was printed
+pub done_fails : (origins why : Bool) (left before after : Option (List ℕ)) (result : Result ℕ Fault)
+    → IsInputDone (IsWrittenFor origins why) left before after result → IfErr result (IsJudgingFault origins why left)
+done_fails origins why left before after (Ok status) done = tt
+done_fails origins why left before after (Err faults.Read) done = (done.given, done.rest, done.gives, done.written.0.fault)
+done_fails origins why left before after (Err faults.NoMemory) done = (done.given, done.rest, done.gives, done.written.0.fault)
+done_fails origins why left before after (Err faults.Write) done =
+    let w = done.written in
+    (w.2, verdict_status w.0, printed origins why left done.rest done.given done.ended w.0 w.2 done.gives done.all_given w.1 w.3)
+done_fails origins why left before after (Err faults.BadWords) done = absurd done.written
+done_fails origins why left before after (Err faults.BadWord) done = absurd done.written
+done_fails origins why left before after (Err faults.BadRequest) done = absurd done.written
+
+-- nothing was gained
+pub kept : (a b : Option (List ℕ)) → Appends a b [] → Keeps a b
+kept None b h = tt
+kept (Some xs) None h = absurd h
+kept (Some xs) (Some ys) h = h ∙ append-nil xs
+
+-- but for a fault of the output nothing was written
+pub done_keeps : (origins why : Bool) (left before after : Option (List ℕ)) (result : Result ℕ Fault)
+    → IsInputDone (IsWrittenFor origins why) left before after result → IfErr result (λ fault. fault ≢ faults.Write → Keeps before after)
+done_keeps origins why left before after (Ok status) done = tt
+done_keeps origins why left before after (Err faults.Read) done = λ other. kept before after done.written.1
+done_keeps origins why left before after (Err faults.NoMemory) done = λ other. kept before after done.written.1
+done_keeps origins why left before after (Err faults.Write) done = λ other. absurd (other refl)
+done_keeps origins why left before after (Err faults.BadWords) done = absurd done.written
+done_keeps origins why left before after (Err faults.BadWord) done = absurd done.written
+done_keeps origins why left before after (Err faults.BadRequest) done = absurd done.written
+
+-- an input that is missing gave no bytes, and these begin a log
+pub begins_nothing : BeginsLog []
+begins_nothing = record {
+  beginning = Nothing;
+  rest = [];
+  behind = record { bytes_are = refl; accepted = tt };
+  cut = (omega arith, λ k d below. absurd (omega (arith, below)));
+}
 
 few_status : (verdict : Verdict) → verdict_status verdict ≤ 1
 few_status (Yes steps roots) = omega arith
 few_status (No line refusal) = omega arith
 
 pub done_ok : (origins why : Bool) (left before after : Option (List ℕ)) (result : Result ℕ Fault)
-    → IsInputDone origins why left before after result
+    → IsInputDone (IsWrittenFor origins why) left before after result
     → IfOk result (λ status. status ≤ 1)
 done_ok origins why left before after (Ok status) done = let few = few_status done.written.0 in let is = done.written.5 in omega arith
 done_ok origins why left before after (Err fault) done = tt
 
 pub done_err : (origins why : Bool) (left before after : Option (List ℕ)) (result : Result ℕ Fault)
-    → IsInputDone origins why left before after result
+    → IsInputDone (IsWrittenFor origins why) left before after result
     → IfErr result (λ fault. status_of fault ≡ 3)
 done_err origins why left before after (Ok status) done = tt
 done_err origins why left before after (Err faults.Read) done = refl

@@ -1,3 +1,4 @@
 mod OperandLemmas
 mod DoingLemmas
 mod ShownLemmas
+mod CheckLemmas

@@ -26,6 +26,15 @@ one_number text m n m_fits n_fits is_m is_n =
     (let left = decoded 8 m in let right = decoded 8 n in let both = ap (λ (t : List ℕ). decode_sized t 8) (sym is_m ∙ is_n) in cc) in
     sym (from_be_bytes-to_be_bytes_8 m m_fits) ∙ ap (from_be_bytes w64) same ∙ from_be_bytes-to_be_bytes_8 n n_fits
 
+-- where two words are refused as a request, the status is 2
+pub refused_status : (base_word length_word : List ℕ) (fault : Fault) → RefusesRequest base_word length_word fault → status_of fault ≡ 2
+refused_status base_word length_word BadWord none = refl
+refused_status base_word length_word BadRequest above = refl
+refused_status base_word length_word BadWords impossible = absurd impossible
+refused_status base_word length_word Read impossible = absurd impossible
+refused_status base_word length_word Write impossible = absurd impossible
+refused_status base_word length_word NoMemory impossible = absurd impossible
+
 -- where two words are refused as a request, the status is that of an order that cannot be followed
 pub refused_request : (base_word length_word : List ℕ) (fault : Fault) → RefusesRequest base_word length_word fault
     → (status_of fault ≡ 2 → (base length : ℕ) → SpellsRequest base_word length_word base length → base + length ≤ 2 ^ 64 → ⊥)

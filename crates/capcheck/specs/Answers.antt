@@ -76,14 +76,7 @@ ReadsInput (Some (Why origins file)) = Unit {0}
 ReadsInput (Some (Vectors file)) = Unit {0}
 ReadsInput order = ⊥
 
--- nothing, or a beginning of the text of the verdict on an input
-abbrev pub BeginsVerdict : Bool → Bool → Option (List ℕ) → List ℕ → Type 0
-BeginsVerdict origins why input written =
-    (written ≡ [])
-    ⊎ ((text : List ℕ) × (status : ℕ) × PrintsVerdict origins why input text status × (n : ℕ) × (written ≡ take n text))
-
--- what an output gained where its order came to no verdict; of explain, round and vectors it isn't known
-abbrev pub StopsPrinting : Option Order → Option (List ℕ) → (List ℕ → Type 0) → Type 0
-StopsPrinting (Some (Judge origins file)) input gained = (written : List ℕ) × BeginsVerdict origins false input written × gained written
-StopsPrinting (Some (Why origins file)) input gained = (written : List ℕ) × BeginsVerdict origins true input written × gained written
-StopsPrinting order input gained = Unit {0}
+-- nothing, or a beginning of a text that is printed with some status
+abbrev pub BeginsText : (List ℕ → ℕ → Type 0) → List ℕ → Type 0
+BeginsText prints written =
+    (written ≡ []) ⊎ ((text : List ℕ) × (status : ℕ) × prints text status × (n : ℕ) × (written ≡ take n text))

@@ -3,3 +3,4 @@ pub mod Operands
 pub mod Statuses
 pub mod Answers
 pub mod Doings
+pub mod Failures

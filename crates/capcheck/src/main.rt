@@ -2,10 +2,10 @@
 //! capabilities, and checks vector files.
 #![tactic(auto)]
 
-mod checking;
+pub mod checking;
 pub mod faults;
-mod inputs;
-mod outputs;
+pub mod inputs;
+pub mod outputs;
 #[cfg(test)]
 mod rows;
 pub mod running;
@@ -14,6 +14,7 @@ mod tests;
 pub mod words;
 
 use crate::faults::Fault;
+use crate::outputs::push_text;
 use crate::running::run;
 use crate::words::Order;
 use crate::words::reading::read_words;
@@ -33,7 +34,7 @@ fn main(rt: HostRuntime) -> ExitCode {
     ExitCode::from(match answer(&rt) {
         Ok(status) => status,
         Err(AllocError) => {
-            let _told = rt.stderr().write_all(Fault::NoMemory.text().as_bytes());
+            let _told = push_text(Fault::NoMemory.text().as_bytes(), &mut rt.stderr());
             Fault::NoMemory.status()
         }
     })

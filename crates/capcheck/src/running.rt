@@ -1,16 +1,17 @@
 //! What the program does with an order: its texts and its exit status.
 
-ghost use Rattle.std.specs.Prelude.{◌≡◌, ◌≤◌, ◌↔◌, ℕ, List, IfOk, IfErr, OnOk, Err, None, Some, true};
+ghost use Rattle.std.specs.Prelude.{◌≡◌, ◌≢◌, ◌≤◌, ◌↔◌, ℕ, List, take, IfOk, IfErr, OnOk, Err, None, Some, true};
 ghost use Rattle.std.specs.Io.KnownBytes.{Appends, Keeps};
-ghost use Rattle.capcheck.specs.Answers.{BeginsVerdict, Prints, PrintsVerdict, ReadsInput, StopsPrinting, known_bytes};
-ghost use Rattle.capcheck.specs.Operands.{IsFaulty};
-ghost use Rattle.capcheck.specs.Statuses.{exit_status, status_of};
+ghost use Rattle.capcheck.specs.Answers.{BeginsText, Prints, PrintsVerdict, ReadsInput, ShowsRounding, known_bytes};
+ghost use Rattle.capcheck.specs.Failures.{IsFaultOf, IsJudgingFault};
+ghost use Rattle.capcheck.specs.Operands.{IsFaulty, RefusesRequest};
+ghost use Rattle.capcheck.specs.Statuses.{exit_status, fault_text, status_of};
 ghost use Rattle.capcheck.specs.declared.words.Order.TheVariants.{Explain, Round};
 
 use crate::checking::check_input;
 use crate::faults::Fault;
 use crate::inputs::judge_reader;
-use crate::outputs::is_written;
+use crate::outputs::{push_text, write_text};
 use crate::words::Order;
 use crate::words::operands::{read_capability, read_request};
 use cap_bounds::round;
@@ -22,8 +23,8 @@ use std::io::{Read, Write};
 /// Does what an order says, and answers the exit status: 0 for yes or shown, 1 for no, 2 where there is
 /// no order or it has an operand that cannot be followed, and 3 where the input, the output or the memory
 /// failed. The input is the opened file or standard input, and `None` where it cannot be opened or the
-/// order reads none. A status above 1 comes with one line on `faults`; a fault in writing that line
-/// changes nothing.
+/// order reads none. A status above 1 comes with the line of its fault on `faults`, and with nothing else
+/// there; where that writer fails a beginning of the line stands there, and nothing else changes.
 pub fn run<R: Read + Drop, O: Write, F: Write>(
     alloc: Global,
     order: Option<Order<'_>>,
@@ -34,21 +35,27 @@ pub fn run<R: Read + Drop, O: Write, F: Write>(
     ensures range { result ≤ 3 }
 
     // At status 0 and 1 the output gained just the text that belongs to the order and the known bytes of the
-    // input, and nothing went to `faults`; at status 2 the output kept what it had. At status 3 of `judge` it
-    // gained a beginning of the text. Where the input is missing the status is 3, and nothing was printed.
+    // input; at status 2 it kept what it had; at status 3 it gained nothing, or a beginning of that text. Where
+    // the input is missing the status is 3, and nothing was printed.
     ensures printed { result ≤ 1 → (text : List ℕ) × Prints order.entry (known_bytes R.remaining input) text result
         × Appends (O.contents out.old) (O.contents out.new) text }
     ensures asked { (result ≡ 2) ↔ IsFaulty order.entry }
-    ensures silent { result ≤ 1 → Keeps (F.contents faults.old) (F.contents faults.new) }
     ensures kept { result ≡ 2 → Keeps (O.contents out.old) (O.contents out.new) }
-    ensures stopped { result ≡ 3 → StopsPrinting order.entry (known_bytes R.remaining input)
-        (Appends (O.contents out.old) (O.contents out.new)) }
+    ensures stopped { result ≡ 3 → (written : List ℕ) × BeginsText (Prints order.entry (known_bytes R.remaining input)) written
+        × Appends (O.contents out.old) (O.contents out.new) written }
     ensures missing { ReadsInput order.entry → input ≡ None → (result ≡ 3) × Keeps (O.contents out.old) (O.contents out.new) }
+
+    // At status 0 and 1 nothing went to `faults`; at 2 and 3 a beginning of the line of the fault that belongs
+    // to the order, its input and the status. But for a fault of the output, that kept what it had.
+    ensures silent { result ≤ 1 → Keeps (F.contents faults.old) (F.contents faults.new) }
+    ensures told { 2 ≤ result → (fault : Fault) × IsFaultOf order.entry (known_bytes R.remaining input) fault × (status_of fault ≡ result)
+        × (n : ℕ) × Appends (F.contents faults.old) (F.contents faults.new) (take n (fault_text fault))
+        × (fault ≢ Fault.Write → Keeps (O.contents out.old) (O.contents out.new)) }
 {
     match follow(alloc, order, input, out) {
         Ok(status) => status,
         Err(fault) => {
-            let _told = faults.write_all(fault.text().as_bytes());
+            let _told = push_text(fault.text().as_bytes(), faults);
             fault.status()
         }
     }
@@ -66,8 +73,11 @@ fn follow<R: Read + Drop, O: Write>(
     ensures printed { IfOk result (λ status. (text : List ℕ) × Prints order.entry (known_bytes R.remaining input) text status
         × Appends (O.contents out.old) (O.contents out.new) text) }
     ensures kept { exit_status result ≡ 2 → Keeps (O.contents out.old) (O.contents out.new) }
-    ensures stopped { exit_status result ≡ 3 → StopsPrinting order.entry (known_bytes R.remaining input)
-        (Appends (O.contents out.old) (O.contents out.new)) }
+    ensures failed { IfErr result (IsFaultOf order.entry (known_bytes R.remaining input)) }
+    ensures unwritten { IfErr result (λ fault. fault ≢ Fault.Write → Keeps (O.contents out.old) (O.contents out.new)) }
+    ensures stopped { exit_status result ≡ 3 → (written : List ℕ)
+        × BeginsText (Prints order.entry (known_bytes R.remaining input)) written
+        × Appends (O.contents out.old) (O.contents out.new) written }
     ensures missing { ReadsInput order.entry → input ≡ None
         → (exit_status result ≡ 3) × Keeps (O.contents out.old) (O.contents out.new) }
 {
@@ -95,8 +105,10 @@ fn judge_input<R: Read + Drop, O: Write>(
     ensures printed { IfOk result (λ status. (text : List ℕ)
         × PrintsVerdict origins why (known_bytes R.remaining input) text status
         × Appends (O.contents out.old) (O.contents out.new) text) }
+    ensures failed { IfErr result (IsJudgingFault origins why (known_bytes R.remaining input)) }
+    ensures unwritten { IfErr result (λ fault. fault ≢ Fault.Write → Keeps (O.contents out.old) (O.contents out.new)) }
     ensures stopped { IfErr result (λ fault. (written : List ℕ)
-        × BeginsVerdict origins why (known_bytes R.remaining input) written
+        × BeginsText (PrintsVerdict origins why (known_bytes R.remaining input)) written
         × Appends (O.contents out.old) (O.contents out.new) written) }
     ensures missing { input ≡ None → (result ≡ Err Fault.Read) × Keeps (O.contents out.old) (O.contents out.new) }
 {
@@ -113,6 +125,10 @@ fn show_explanation<O: Write>(memory: bool, tag: bool, hex: &str, out: &mut O) -
     ensures printed { IfOk result (λ status. (text : List ℕ) × Prints (Some (Explain memory tag hex.entry)) None text status
         × Appends (O.contents out.old) (O.contents out.new) text) }
     ensures kept { exit_status result ≡ 2 → Keeps (O.contents out.old) (O.contents out.new) }
+    ensures failed { IfErr result (IsFaultOf (Some (Explain memory tag hex.entry)) None) }
+    ensures unwritten { IfErr result (λ fault. fault ≢ Fault.Write → Keeps (O.contents out.old) (O.contents out.new)) }
+    ensures stopped { exit_status result ≡ 3 → (written : List ℕ) × BeginsText (Prints (Some (Explain memory tag hex.entry)) None) written
+        × Appends (O.contents out.old) (O.contents out.new) written }
 {
     let Some(word) = read_capability(hex, memory) else {
         return Err(Fault::BadWord);
@@ -129,25 +145,41 @@ fn show_rounding<O: Write>(base: &str, length: &str, out: &mut O) -> Result<u8, 
     ensures printed { IfOk result (λ status. (text : List ℕ) × Prints (Some (Round base.entry length.entry)) None text status
         × Appends (O.contents out.old) (O.contents out.new) text) }
     ensures kept { exit_status result ≡ 2 → Keeps (O.contents out.old) (O.contents out.new) }
+    ensures failed { IfErr result (IsFaultOf (Some (Round base.entry length.entry)) None) }
+    ensures unwritten { IfErr result (λ fault. fault ≢ Fault.Write → Keeps (O.contents out.old) (O.contents out.new)) }
+    ensures stopped { exit_status result ≡ 3 → (written : List ℕ) × BeginsText (Prints (Some (Round base.entry length.entry)) None) written
+        × Appends (O.contents out.old) (O.contents out.new) written }
 {
-    let request = match read_request(base, length) {
-        Ok(request) => request,
-        Err(fault) => return Err(fault),
-    };
     let mut text = [0u8; 128];
-    let length = round_text(&round(request.base, request.length), &mut text);
-    show(&text[..length], out)
+    match rounding_of(base, length, &mut text) {
+        Ok(count) => show(&text[..count], out),
+        Err(fault) => Err(fault),
+    }
+}
+
+// Writes the rounding of a request into a buffer: how long it is.
+fn rounding_of(base: &str, length: &str, buffer: &mut [u8; 128]) -> Result<usize, Fault>
+    ensures fits { IfOk result (λ count. count ≤ 128) }
+    ensures ok { IfOk result (λ count. ShowsRounding base.now length.now (take count buffer.new)) }
+    ensures right { OnOk result (IsFaulty (Some (Round base.entry length.entry)) → ⊥) }
+    ensures wrong { IfErr result (λ fault. (status_of fault ≡ 2) × IsFaulty (Some (Round base.entry length.entry))) }
+    ensures err { IfErr result (RefusesRequest base.now length.now) }
+{
+    match read_request(base, length) {
+        Ok(request) => Ok(round_text(&round(request.base, request.length), buffer)),
+        Err(fault) => Err(fault),
+    }
 }
 
 // Writes a text that only shows something, and answers the status that goes with it.
 fn show<O: Write>(text: &[u8], out: &mut O) -> Result<u8, Fault>
     ensures ok { IfOk result (λ status. status ≡ 0) }
-    ensures err { IfErr result (λ fault. status_of fault ≡ 3) }
     ensures written { OnOk result (Appends (O.contents out.old) (O.contents out.new) text.now) }
+    ensures err { IfErr result (λ fault. (fault ≡ Fault.Write)
+        × (n : ℕ) × Appends (O.contents out.old) (O.contents out.new) (take n text.now)) }
 {
-    if is_written(text, out) {
-        Ok(0)
-    } else {
-        Err(Fault::Write)
+    match write_text(text, out) {
+        Ok(()) => Ok(0),
+        Err(fault) => Err(fault),
     }
 }
