@@ -6,3 +6,4 @@ pub mod Listed
 pub mod ListLaws
 pub mod Pages
 pub mod Rooms
+pub mod Stores

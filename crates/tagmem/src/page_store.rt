@@ -210,6 +210,8 @@ impl PageStore {
 }
 
 impl TaggedStore for PageStore {
+    ghost use Rattle.tagmem.specs.Stores.{granules_in};
+
     ghost contents = { λ s. contents_of s.blocks.items };
 
     ghost are_stored = { λ s. s.stored };
@@ -252,12 +254,12 @@ impl TaggedStore for PageStore {
     ) -> Result<(), NoMemory>
         requires in_memory { granule < 2 ^ 60 }
         requires coded { IsCodeFor tag code }
-        requires room { HasRoom (contents_of self.old.blocks.items) granule }
-        ensures ok { OnOk result (contents_of self.new.blocks.items
-            ≡ with_cap (contents_of self.old.blocks.items) granule tag bytes code) }
-        ensures err { OnErr result (contents_of self.new.blocks.items ≡ contents_of self.old.blocks.items) }
-        ensures only_new { OnErr result (map.get (contents_of self.old.blocks.items) granule ≡ None) }
-        ensures in_page { OnErr result (NonePut (contents_of self.old.blocks.items) (256 * (granule / 256)) (256 * (granule / 256) + 256)) }
+        requires room { HasRoom (granules_in self.old) granule }
+        ensures ok { OnOk result (granules_in self.new
+            ≡ with_cap (granules_in self.old) granule tag bytes code) }
+        ensures err { OnErr result (granules_in self.new ≡ granules_in self.old) }
+        ensures only_new { OnErr result (map.get (granules_in self.old) granule ≡ None) }
+        ensures in_page { OnErr result (NonePut (granules_in self.old) (256 * (granule / 256)) (256 * (granule / 256) + 256)) }
     {
         self.put(granule, tag, 0, &bytes, code)
     }
@@ -267,12 +269,12 @@ impl TaggedStore for PageStore {
         requires in_memory { granule < 2 ^ 60 }
         requires some { 0 < length bytes.now }
         requires inside { byte_index + length bytes.now ≤ 16 }
-        requires room { HasRoom (contents_of self.old.blocks.items) granule }
-        ensures ok { OnOk result (contents_of self.new.blocks.items
-            ≡ with_bytes (contents_of self.old.blocks.items) granule byte_index bytes.now) }
-        ensures err { OnErr result (contents_of self.new.blocks.items ≡ contents_of self.old.blocks.items) }
-        ensures only_new { OnErr result (map.get (contents_of self.old.blocks.items) granule ≡ None) }
-        ensures in_page { OnErr result (NonePut (contents_of self.old.blocks.items) (256 * (granule / 256)) (256 * (granule / 256) + 256)) }
+        requires room { HasRoom (granules_in self.old) granule }
+        ensures ok { OnOk result (granules_in self.new
+            ≡ with_bytes (granules_in self.old) granule byte_index bytes.now) }
+        ensures err { OnErr result (granules_in self.new ≡ granules_in self.old) }
+        ensures only_new { OnErr result (map.get (granules_in self.old) granule ≡ None) }
+        ensures in_page { OnErr result (NonePut (granules_in self.old) (256 * (granule / 256)) (256 * (granule / 256) + 256)) }
     {
         self.put(granule, false, byte_index, bytes, 0)
     }

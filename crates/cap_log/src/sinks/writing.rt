@@ -17,11 +17,13 @@ pub struct WriteSink<'a, W: Write> {
 }
 
 impl<'a, W: Write> WriteSink<'a, W> {
+    ghost use Rattle.cap_log.specs.Wrapped.{name_of_writer, writer_of};
+
     /// What is pushed goes to the writer. There were no faults.
     pub fn new(writer: &'a mut W) -> WriteSink<'a, W>
-        ensures same_reference { result.writer.ghost_name ≡ writer.entry.ghost_name }
-        ensures writer { result.writer.now ≡ writer.old }
-        ensures faults { result.faults ≡ 0 }
+        ensures same_reference { name_of_writer result ≡ writer.entry.ghost_name }
+        ensures writer { writer_of result ≡ writer.old }
+        ensures faults { ⟦<WriteSink<'a, W> as Sink>⟧.faults result ≡ 0 }
     {
         WriteSink { writer, faults: 0 }
     }

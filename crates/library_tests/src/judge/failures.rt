@@ -1,6 +1,6 @@
 //! Pulls, pushes and growths of memory that fail, each in turn.
 
-use crate::fakes::Refusing;
+use crate::fakes::{Narrow, Refusing};
 use crate::judge::made::{Blocks, Made};
 use cap_judge::by_lines::Judge;
 use cap_judge::judging::{judge, judge_in};
@@ -9,8 +9,6 @@ use cap_judge::verdict::{JudgeFault, JudgeToFault, TakeFault, Verdict};
 use cap_log::{FailingSink, FailingSource, SliceSink, SliceSource, Source, WriteSink};
 use cap_machine::Refusal;
 use std::alloc::Global;
-use std::io;
-use std::io::Write;
 use std::process::Abort;
 use tagmem::{ListStore, TaggedStore};
 
@@ -139,39 +137,12 @@ fn a_fault_behind_the_first_fault(rt: HostRuntime) {
     assert_eq!(rt; source.pull(&mut piece), Ok(6));
 }
 
-// A writer that takes one byte at a time.
-#[derive(Drop)]
-struct Narrow {
-    taken: [u8; 8],
-    count: usize,
-}
-
-impl Write for Narrow {
-    fn write(&mut self, bytes: &[u8]) -> io::Result<usize> {
-        match (self.taken.get_mut(self.count), bytes.first()) {
-            (Some(room), Some(byte)) => {
-                *room = *byte;
-                self.count = self.count.saturating_add(1);
-                Ok(1)
-            }
-            _ => Ok(0),
-        }
-    }
-
-    fn flush(&mut self) -> io::Result<()> {
-        Ok(())
-    }
-}
-
 #[test]
 fn each_push(rt: HostRuntime) {
     let roots = 1;
     let line = b"yes 2 1\n";
     for at in 0..10 {
-        let mut writer = Narrow {
-            taken: [b'.'; 8],
-            count: 0,
-        };
+        let mut writer = Narrow::new();
         let mut sink = FailingSink::new(WriteSink::new(&mut writer), at);
         let report = judge_to(rt.alloc(), &mut SliceSource::new(MOVES, &[]), &mut sink);
         if at < 8 {

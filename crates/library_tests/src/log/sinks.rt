@@ -1,5 +1,6 @@
 //! Writers that fail in between, and pushes of pieces.
 
+use crate::fakes::Narrow;
 use cap_log::{FailingSink, PushFault, Sink, SliceSink, WriteSink};
 use std::io;
 use std::io::Write;
@@ -7,8 +8,7 @@ use std::io::Write;
 // A writer that is interrupted before each byte.
 #[derive(Drop)]
 struct Interrupted {
-    taken: [u8; 4],
-    count: usize,
+    writer: Narrow,
     is_next: bool,
 }
 
@@ -16,15 +16,9 @@ impl Write for Interrupted {
     fn write(&mut self, bytes: &[u8]) -> io::Result<usize> {
         self.is_next = !self.is_next;
         if self.is_next {
-            return Err(io::Error::from(io::ErrorKind::Interrupted));
-        }
-        match (self.taken.get_mut(self.count), bytes.first()) {
-            (Some(room), Some(byte)) => {
-                *room = *byte;
-                self.count = self.count.saturating_add(1);
-                Ok(1)
-            }
-            _ => Ok(0),
+            Err(io::Error::from(io::ErrorKind::Interrupted))
+        } else {
+            self.writer.write(bytes)
         }
     }
 
@@ -36,15 +30,14 @@ impl Write for Interrupted {
 #[test]
 fn a_writer_that_is_interrupted(rt: HostRuntime) {
     let mut writer = Interrupted {
-        taken: [b'.'; 4],
-        count: 0,
+        writer: Narrow::new(),
         is_next: false,
     };
     let mut sink = WriteSink::new(&mut writer);
     for answer in [Err(PushFault), Ok(1), Err(PushFault), Ok(1)] {
         assert_eq!(rt; sink.push(b"ab"), answer);
     }
-    assert_eq!(rt; writer.taken, *b"aa..");
+    assert_eq!(rt; writer.writer.taken, *b"aa......");
 }
 
 // Each other push is the inner one's, of the whole piece.
