@@ -13,5 +13,5 @@ mod SliceLemmas
 pub mod SpellingLemmas
 mod TakeLemmas
 mod TakingLemmas
-mod WindowLemmas
+mod PulledLemmas
 mod WriteLemmas

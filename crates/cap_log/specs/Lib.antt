@@ -8,6 +8,6 @@ pub mod Slices
 pub mod Spaceless
 pub mod Streams
 pub mod Takings
-pub mod Windows
+pub mod Pulled
 pub mod Wrapped
 pub mod Written

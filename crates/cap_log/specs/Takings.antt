@@ -8,11 +8,11 @@ use Rattle.cap_log.specs.declared.nexts.Over.{Over}
 use Rattle.cap_log.specs.declared.nexts.Over.TheVariants as overs
 use Rattle.cap_log.specs.declared.sources.PullFault.{PullFault}
 use Rattle.cap_log.specs.declared.taking.Lines.{Lines}
-use Rattle.cap_log.specs.Windows.{items}
+use Rattle.cap_log.specs.Pulled.{items}
 
 -- the bytes that were pulled and not yet lent
 abbrev pub kept : Lines → List ℕ
-kept lines = items lines.window
+kept lines = items lines.pulled
 
 -- why there are no more lines
 abbrev pub over_of : Lines → Option Over

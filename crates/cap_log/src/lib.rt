@@ -11,9 +11,9 @@
 //! The parts of a line are [`Part`]s: each takes itself from the front of some bytes, with the byte
 //! that ends it, and two with a space between them are one.
 //!
-//! A [`Source`] gives bytes a piece at a time, and [`Lines`] are the lines of what it gives, however
-//! it is cut. A [`Sink`] takes bytes a piece at a time, and [`push_all`] pushes a whole text. The
-//! functions of [`buffers`] put texts and numbers into a buffer, one behind the other. Nothing here
+//! A [`Source`] gives bytes a piece at a time, [`Pulled`] holds those that were not yet taken, and [`Lines`]
+//! are the lines of what it gives, however it is cut. A [`Sink`] takes bytes a piece at a time, and
+//! [`push_all`] pushes a whole text. The functions of [`buffers`] put texts and numbers into a buffer, one behind the other. Nothing here
 //! takes memory.
 #![tactic(auto)]
 
@@ -24,12 +24,12 @@ mod lines;
 mod nexts;
 mod operands;
 mod parts;
+mod pulled;
 mod pushing;
 mod reading;
 mod sinks;
 mod sources;
 mod taking;
-mod window;
 mod writing;
 
 pub use crate::fronts::Front;
@@ -42,6 +42,7 @@ pub use crate::operands::numbers::{AndPerm, SetAddr, SetBounds, SetBoundsExact};
 pub use crate::operands::registers::{ClearTag, Move, Seal, Unseal};
 pub use crate::operands::{Operands, take_operands};
 pub use crate::parts::Part;
+pub use crate::pulled::Pulled;
 pub use crate::pushing::push_all;
 pub use crate::reading::{read_line, spellings_are_distinct, take_line};
 pub use crate::sinks::failing::FailingSink;

@@ -9,13 +9,13 @@ ghost use Rattle.cap_log.specs.declared.nexts.Over.{Over};
 use crate::fronts::Front;
 use crate::fronts::finding::front;
 use crate::nexts::{Next, Over};
+use crate::pulled::Pulled;
 use crate::sources::{PullFault, Source};
-use crate::window::Window;
 
 /// The lines of a source's bytes. It holds what was pulled and not yet lent.
 #[derive(Drop)]
 pub struct Lines {
-    window: Window,
+    pulled: Pulled,
     over: Option<Over>,
 }
 
@@ -31,7 +31,7 @@ impl Lines {
         ensures begins { over_of result ≡ None }
     {
         Lines {
-            window: Window::new(),
+            pulled: Pulled::new(),
             over: None,
         }
     }
@@ -67,7 +67,7 @@ impl Lines {
                 Ok(Next::LineTooLong)
             }
             Ok(Front::Cut) => {
-                if self.window.as_slice().is_empty() {
+                if self.pulled.as_slice().is_empty() {
                     self.over = Some(Over::Finished);
                     Ok(Next::Finished)
                 } else {
@@ -76,9 +76,9 @@ impl Lines {
                 }
             }
             Ok(Front::Line(length)) => {
-                let start = self.window.start();
-                self.window.consume(length + 1);
-                Ok(Next::Line(self.window.before(start, length)))
+                let start = self.pulled.start();
+                self.pulled.consume(length + 1);
+                Ok(Next::Line(self.pulled.before(start, length)))
             }
         }
     }
@@ -87,7 +87,7 @@ impl Lines {
     pub fn kept(&self) -> &[u8]
         ensures value { result.now ≡ kept self.now }
     {
-        self.window.as_slice()
+        self.pulled.as_slice()
     }
 
     /// Takes so many bytes off the front of what is kept, as lines that were lent.
@@ -96,7 +96,7 @@ impl Lines {
         ensures rest { kept self.new ≡ drop count (kept self.old) }
         ensures over { over_of self.new ≡ over_of self.old }
     {
-        self.window.consume(count);
+        self.pulled.consume(count);
     }
 
     // Finds the front of what is kept, pulling while that is cut.
@@ -111,11 +111,11 @@ impl Lines {
         ensures kept_first { (IsCut (kept self.old) → ⊥) → source.new ≡ source.old }
     {
         loop {
-            let found = front(self.window.as_slice());
+            let found = front(self.pulled.as_slice());
             if found != Front::Cut {
                 return Ok(found);
             }
-            match self.window.fill(source) {
+            match self.pulled.fill(source) {
                 Ok(0) => return Ok(Front::Cut),
                 Ok(_) => {}
                 Err(PullFault) => return Err(PullFault),

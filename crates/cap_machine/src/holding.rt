@@ -46,6 +46,13 @@ impl<M: TaggedStore> Machine<M> {
         }
     }
 
+    /// From now on it follows these rules. All else is as before.
+    pub fn follow(&mut self, rules: Rules)
+        ensures held { held_of M.contents self.new ≡ record (held_of M.contents self.old) { rules = rules } }
+    {
+        self.rules = rules;
+    }
+
     /// The rules that it follows.
     pub fn rules(&self) -> Rules
         ensures value { result ≡ (let held = held_of M.contents self.now in held.rules) }

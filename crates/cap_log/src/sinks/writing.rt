@@ -1,6 +1,6 @@
 //! A sink over a writer.
 
-ghost use Rattle.std.specs.Prelude.{◌≡◌, ◌<◌, ◌^◌, ◌++◌, List, ℕ};
+ghost use Rattle.std.specs.Prelude.{◌≡◌, ◌<◌, ◌^◌, ◌++◌, List, [], ℕ, OnOk, OnErr};
 ghost use Rattle.std.proofs.Common.{refl, ◌∙◌};
 ghost use Rattle.std.specs.Io.KnownBytes.{Appends};
 ghost use Rattle.cap_log.specs.Known.{Appends-nothing, Appends-joined};
@@ -18,6 +18,7 @@ pub struct WriteSink<'a, W: Write> {
 
 impl<'a, W: Write> WriteSink<'a, W> {
     ghost use Rattle.cap_log.specs.Wrapped.{name_of_writer, writer_of};
+    ghost use Rattle.cap_log.specs.Streams.{next_count};
 
     /// What is pushed goes to the writer. There were no faults.
     pub fn new(writer: &'a mut W) -> WriteSink<'a, W>
@@ -26,6 +27,22 @@ impl<'a, W: Write> WriteSink<'a, W> {
         ensures faults { ⟦<WriteSink<'a, W> as Sink>⟧.faults result ≡ 0 }
     {
         WriteSink { writer, faults: 0 }
+    }
+
+    /// Asks the writer to hand on what was pushed so far. An error of the writer is a fault. Nothing is taken.
+    pub fn flush(&mut self) -> Result<(), PushFault>
+        ensures nothing_taken { ⟦<WriteSink<'a, W> as Sink>⟧.took self.old self.new [] }
+        ensures counted { OnOk result (⟦<WriteSink<'a, W> as Sink>⟧.faults self.new ≡ ⟦<WriteSink<'a, W> as Sink>⟧.faults self.old) }
+        ensures fault_counted { OnErr result (⟦<WriteSink<'a, W> as Sink>⟧.faults self.new
+            ≡ next_count (⟦<WriteSink<'a, W> as Sink>⟧.faults self.old)) }
+    {
+        match self.writer.flush() {
+            Ok(()) => Ok(()),
+            Err(_) => {
+                self.faults = self.faults.wrapping_add(1);
+                Err(PushFault)
+            }
+        }
     }
 }
 

@@ -1,7 +1,7 @@
 use Rattle.std.proofs.Common.{◌≡◌, ◌≢◌, ℕ, ◌-◌, ◌≤◌, [], length, take, drop, true, refl, sym, ap, subst, ◌∙◌, rules, arith}
 use Rattle.cap_log.specs.Front.{IsFront}
 use Rattle.std.proofs.lemmas.List.{nil_from_length, length-take, length-drop}
-use Rattle.cap_log.specs.Windows.{items}
+use Rattle.cap_log.specs.Pulled.{items}
 use Rattle.cap_log.proofs.TakingLemmas.{answered, not_again, take_front}
 use Rattle.cap_log.proofs.taking.Lines.next.Goals as goal
 
@@ -36,7 +36,7 @@ returns-in-Err g c =
 pub returns-then-is_empty : goal.returns-then-is_empty
 returns-then-is_empty g c =
     let found = c.in-Ok-Cut in
-    let none : items c.find.new.self.window ≡ [] = nil_from_length _ (ap length (sym c.as_slice.ensures.value) ∙ search rules) in
+    let none : items c.find.new.self.pulled ≡ [] = nil_from_length _ (ap length (sym c.as_slice.ensures.value) ∙ search rules) in
     let end : g.S.Source.ended c.find.new.source ≡ true = search rules in (
       (
         refl,
@@ -52,7 +52,7 @@ returns-then-is_empty g c =
 pub returns-else-is_empty : goal.returns-else-is_empty
 returns-else-is_empty g c =
     let found = c.in-Ok-Cut in
-    let some : items c.find.new.self.window ≢ [] = search rules in
+    let some : items c.find.new.self.pulled ≢ [] = search rules in
     let end : g.S.Source.ended c.find.new.source ≡ true = search rules in (
       (
         refl,
@@ -74,7 +74,7 @@ returns-else-is_empty g c =
 pub returns-in-Ok-Line : goal.returns-in-Ok-Line
 returns-in-Ok-Line g c =
     let found = c.in-Ok-Line in
-    let w = c.find.new.self.window in
+    let w = c.find.new.self.pulled in
     let n = found.length in
     let front = subst (IsFront (items w)) found.field-0-is found.ensures.ok.front_is in
     let short : n ≤ w.end - w.start = omega (arith, front.0, length-take {A = ℕ}, length-drop {A = ℕ}) in

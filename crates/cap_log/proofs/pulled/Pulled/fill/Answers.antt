@@ -1,7 +1,7 @@
 use Rattle.std.proofs.Common.{◌≤◌, ℕ, List, ◌++◌, length, take, ap, ◌∙◌, arith}
 use Rattle.std.proofs.lemmas.List.{length-take-le}
-use Rattle.cap_log.proofs.WindowLemmas.{grown, is_end-room}
-use Rattle.cap_log.proofs.window.Window.fill.Goals as goal
+use Rattle.cap_log.proofs.PulledLemmas.{grown, is_end-room}
+use Rattle.cap_log.proofs.pulled.Pulled.fill.Goals as goal
 
 pub returns-clause-ok : goal.returns-clause-ok
 returns-clause-ok g c =

@@ -1,7 +1,7 @@
 use Rattle.std.proofs.Common.{ℕ, arith}
 use Rattle.std.proofs.lemmas.List.{length-take, length-drop}
-use Rattle.cap_log.proofs.WindowLemmas.{consumed}
-use Rattle.cap_log.proofs.window.Window.consume.Goals as goal
+use Rattle.cap_log.proofs.PulledLemmas.{consumed}
+use Rattle.cap_log.proofs.pulled.Pulled.consume.Goals as goal
 
 pub returns-clause-items : goal.returns-clause-items
 returns-clause-items c =

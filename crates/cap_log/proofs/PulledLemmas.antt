@@ -1,4 +1,4 @@
--- The bytes of a window, after a write past its end or a step of its start.
+-- The bytes that are held, after a write past its end or a step of its start.
 use Rattle.std.proofs.Common.{◌≡◌, ℕ, Bool, true, ◌&&◌, nat_lt, rules, tests, ◌==◌, ◌+◌, ◌-◌, ◌≤◌, List, ◌++◌, length, take, drop}
 use Rattle.std.proofs.Common.{slice_range, refl, sym, ap, ◌∙◌, arith}
 use Rattle.cap_log.specs.Streams.{is_end}

@@ -1,4 +1,4 @@
-//! A buffer in front of a source.
+//! The bytes of a source that were pulled and not yet taken.
 
 ghost use Rattle.std.specs.Prelude.{◌≡◌, ℕ, ◌+◌, ◌<◌, ◌≤◌, List, [], ◌++◌, ◌==◌, false, length, take, drop, IfOk, OnOk, OnErr};
 ghost use Rattle.cap_log.specs.Streams.{next_count};
@@ -7,9 +7,9 @@ use crate::sources::{PullFault, Source};
 
 pub(crate) const SIZE: usize = 32768;
 
-// The bytes from `start` to `end`, and room after them.
+/// The bytes of a source that were pulled and not yet taken, and room behind them.
 #[derive(Drop)]
-pub(crate) struct Window {
+pub struct Pulled {
     bytes: [u8; SIZE],
     start: usize,
     end: usize,
@@ -17,20 +17,22 @@ pub(crate) struct Window {
     ghost within: { end ≤ 32768 },
 }
 
-impl Window {
-    ghost use Rattle.cap_log.specs.Windows.{items, room};
+impl Pulled {
+    ghost use Rattle.cap_log.specs.Pulled.{buffer_of, items, room, start_of};
 
-    pub(crate) fn new() -> Window
-        ensures { items result ≡ [] }
+    /// Nothing was pulled yet.
+    pub fn new() -> Pulled
+        ensures empty { items result ≡ [] }
     {
-        Window {
+        Pulled {
             bytes: [0; SIZE],
             start: 0,
             end: 0,
         }
     }
 
-    pub(crate) fn as_slice(&self) -> &[u8]
+    /// The bytes that are held.
+    pub fn as_slice(&self) -> &[u8]
         ensures value { result.now ≡ items self.now }
     {
         &self.bytes[self.start..self.end]
@@ -51,11 +53,12 @@ impl Window {
         self.start
     }
 
-    pub(crate) fn consume(&mut self, count: usize)
-        requires { count ≤ length (items self.old) }
+    /// Takes so many bytes off the front.
+    pub fn consume(&mut self, count: usize)
+        requires held { count ≤ length (items self.old) }
         ensures items { items self.new ≡ drop count (items self.old) }
-        ensures bytes { self.new.bytes ≡ self.old.bytes }
-        ensures start { self.new.start ≡ self.old.start + count }
+        ensures bytes { buffer_of self.new ≡ buffer_of self.old }
+        ensures start { start_of self.new ≡ start_of self.old + count }
     {
         self.start += count;
     }
@@ -70,9 +73,9 @@ impl Window {
         self.end = end - start;
     }
 
-    // Moves what is held to the front and pulls once behind it.
-    pub(crate) fn fill<S: Source>(&mut self, source: &mut S) -> Result<usize, PullFault>
-        requires { length (items self.old) < 32768 }
+    /// Pulls once, and puts what comes behind what is held: how many bytes. None is the end of the source.
+    pub fn fill<S: Source>(&mut self, source: &mut S) -> Result<usize, PullFault>
+        requires room { length (items self.old) < 32768 }
         ensures ok { IfOk result (λ n. (more : List ℕ) × (length more ≡ n) × (items self.new ≡ items self.old ++ more)
             × S.gave source.old source.new more × (S.ended source.new ≡ (n == 0))) }
         ensures counted { OnOk result (S.faults source.new ≡ S.faults source.old) }
