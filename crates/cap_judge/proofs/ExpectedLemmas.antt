@@ -1,6 +1,6 @@
 -- What the rules give for a step that is refused for its result.
-use Rattle.std.proofs.Common.{◌≡◌, ℕ, ℤ, ◌+◌, inl, inr, Bool, true, false, not, List, [], ◌∷◌, ◌++◌, length, map, refl, sym, ap, subst, ◌∙◌}
-use Rattle.std.proofs.Common.{Option, Some, None, append-nil, append_assoc}
+use Rattle.std.proofs.Common.{◌≡◌, ◌≢◌, ℕ, ℤ, ◌+◌, inl, inr, Bool, true, false, not, List, [], ◌∷◌, ◌++◌, length, map, refl, sym, ap, subst, ◌∙◌}
+use Rattle.std.proofs.Common.{Option, Some, None, append-nil, append_assoc, arith}
 use Rattle.std.specs.Prelude.{is_some, option_map}
 use Rattle.std.specs.Bool.{if◌then◌else◌}
 use Rattle.std.proofs.lemmas.Bool.{false≢true}
@@ -11,7 +11,8 @@ use Rattle.cap_log.specs.declared.lines.Line.TheVariants as lines
 use Rattle.cap_log.specs.declared.lines.Place.{Place}
 use Rattle.cap_log.specs.declared.lines.Step.{Step}
 use Rattle.cap_log.specs.declared.lines.Step.TheVariants as steps
-use Rattle.cap_log.specs.Front.{FrontIs, IsLine}
+use Rattle.cap_log.specs.Front.{FrontIs, IsCut, IsLine}
+use Rattle.std.proofs.lemmas.List.Elements.{All-nil}
 use Rattle.cap_log.proofs.SpellingLemmas.{one_spelling}
 use Rattle.cap_log.specs.Lines.{Spells}
 use Rattle.cap_log.proofs.FrontLemmas.{IsLine-same, IsLine-not_too_long}
@@ -32,7 +33,7 @@ use Rattle.cap_machine.specs.States.{State, DeclaredRoot, value_at}
 use Rattle.cap_machine.specs.Steps.{Access, Recorded, Row, Nothing as Unrecorded, Written, address_through, agrees, clear_row, is_recorded}
 use Rattle.cap_machine.specs.Steps.{row_by, row_of}
 use Rattle.cap_machine.specs.Accounts.{Account, row_in, step_tests}
-use Rattle.cap_machine.specs.Helds.{account_of}
+use Rattle.cap_machine.specs.Helds.{Held, account_of}
 use Rattle.cap_judge.specs.declared.verdict.Expected.{Expected}
 use Rattle.cap_judge.specs.declared.verdict.Expected.TheVariants.{Capability, Number}
 use Rattle.cap_judge.specs.declared.verdict.Verdict.TheVariants.{Yes, No}
@@ -40,14 +41,17 @@ use Rattle.cap_judge.specs.declared.faults.Fault.{Fault}
 use Rattle.cap_judge.specs.FaultLines.{bytes_of}
 use Rattle.cap_judge.specs.Logs.{Beginning, Nothing, NoMode, Body, Whole, IsFirstFault, Refuses, account_after, body_lines, line_tests}
 use Rattle.cap_judge.specs.Logs.{IsAccepted, RunsBy, lines_of, text_of}
-use Rattle.cap_judge.specs.Judgings.{IsLastFront, finished}
-use Rattle.cap_judge.specs.Progresses.{Reading}
+use Rattle.cap_judge.specs.Judgings.{IsLastFront, account_before}
+use Rattle.cap_judge.specs.Verdicts.{IsYes}
 use Rattle.cap_judge.specs.Expectations.{Expects, IsExpected, GivesFor, GivesForText, given_for, given_in}
-use Rattle.cap_judge.specs.StepLines.{IfWritten, lost_for}
-use Rattle.cap_judge.specs.Standings.{Standing, AtStart, AtMode, Within, Nowhere, IsAfter, IsFaultAt, IsRest, Known, Taken}
+use Rattle.cap_judge.specs.Expectations.{IfWritten, lost_for}
+use Rattle.cap_judge.specs.declared.beginning.Stage.{Stage}
+use Rattle.cap_judge.specs.declared.beginning.Stage.TheVariants as stages
+use Rattle.cap_judge.specs.Readings.{IsAtFault, IsFaultAt, IsRest, Known, Read}
 use Rattle.cap_judge.proofs.OneVerdict.{one_verdict}
-use Rattle.cap_judge.proofs.StandingLemmas.{end_header, end_within}
-use Rattle.cap_judge.proofs.TakenLemmas.{all_taken, fault_now}
+use Rattle.cap_judge.proofs.JudgeLemmas.{IsUnended, refused_behind}
+use Rattle.cap_judge.proofs.ReadingLemmas.{account_stands, all_read}
+use Rattle.cap_judge.proofs.EndingLemmas.{fault_now}
 
 -- no test of an operation is that of the result
 no_fault : (fault : OpFault) → refusal_of fault ≡ WrongResult → ⊥
@@ -233,34 +237,42 @@ for_text account text step result spells gives other spelled =
 -- The first fault
 
 -- no line of what is accepted is refused so
-finished_otherwise : (ended : Bool) (steps roots line number : ℕ) → (if ended then Yes steps roots else No number Truncated)
-    ≡ No line WrongResult → ⊥
-finished_otherwise true steps roots line number h = cc
-finished_otherwise false steps roots line number h = cc
-
-nothing_wrong : (standing : Standing) (beginning : Beginning) → IsAfter standing beginning → (line : ℕ)
+cut_off : (beginning : Beginning) → IsAccepted beginning → IsUnended beginning → (line : ℕ)
     → IsFirstFault (text_of (lines_of beginning)) line WrongResult → ⊥
-nothing_wrong AtStart beginning is line fault =
+cut_off beginning accepted goes line fault =
     let n = length (lines_of beginning) + 1 in
-    let same = one_verdict _ (No n Truncated) (No line WrongResult) (end_header AtStart beginning n tt is refl) fault in cc
-nothing_wrong AtMode beginning is line fault =
-    let n = length (lines_of beginning) + 1 in
-    let same = one_verdict _ (No n Truncated) (No line WrongResult) (end_header AtMode beginning n tt is refl) fault in cc
-nothing_wrong (Within reading) beginning stands line fault =
-    let n = length (lines_of beginning) + 1 in
-    finished_otherwise reading.ended reading.held.steps reading.held.roots line n
-    (one_verdict _ (finished reading n) (No line WrongResult) (end_within reading beginning n stands refl) fault)
-nothing_wrong Nowhere beginning is line fault = is
+    let cut : IsCut [] = (omega arith, All-nil (λ b. b ≢ 10)) in
+    let here = refused_behind (text_of (lines_of beginning)) [] beginning n Truncated
+    (record { bytes_are = sym (append-nil (text_of (lines_of beginning))); accepted = accepted }) refl goes (inr (inl (cut, refl))) in
+    let same = one_verdict (text_of (lines_of beginning)) (No n Truncated) (No line WrongResult) here fault in
+    cc
 
-pub none_at_fault : (known : Known) (bytes : List ℕ) → known.fault ≡ None → Taken known bytes → Expects bytes None
-none_at_fault known bytes none taken = λ line fault.
-    nothing_wrong known.standing taken.beginning taken.after line
-    (subst (λ (b : List ℕ). IsFirstFault b line WrongResult) (all_taken known bytes taken none) fault)
+nothing_wrong : (beginning : Beginning) → IsAccepted beginning → (line : ℕ)
+    → IsFirstFault (text_of (lines_of beginning)) line WrongResult → ⊥
+nothing_wrong Nothing accepted line fault = cut_off Nothing accepted tt line fault
+nothing_wrong NoMode accepted line fault = cut_off NoMode accepted tt line fault
+nothing_wrong (Body rules_are roots steps_are) accepted line fault = cut_off (Body rules_are roots steps_are) accepted tt line fault
+nothing_wrong (Whole rules_are roots steps_are) accepted line fault =
+    let yes : IsYes (text_of (lines_of (Whole rules_are roots steps_are))) (length steps_are) (length roots) = record {
+      rules = rules_are;
+      roots = roots;
+      steps = steps_are;
+      log = record { bytes_are = refl; runs = accepted };
+      step_count_is = refl;
+      root_count_is = refl;
+    } in
+    let same = one_verdict _ (Yes (length steps_are) (length roots)) (No line WrongResult) yes fault in
+    cc
 
-pub other_fault : (known : Known) (fault : Fault) (bytes : List ℕ) → known.fault ≡ Some fault → (fault.refusal ≡ WrongResult → ⊥)
-    → Taken known bytes → Expects bytes None
-other_fault known fault bytes some other taken = λ line wrong.
-    let same = one_verdict bytes (No fault.line fault.refusal) (No line WrongResult) (fault_now known fault bytes some taken) wrong in
+pub none_at_fault : (known : Known) (bytes : List ℕ) → (IsAtFault known.stage → ⊥) → Read known bytes → Expects bytes None
+none_at_fault known bytes clear read = λ line fault.
+    nothing_wrong read.beginning read.behind.accepted line
+    (subst (λ (b : List ℕ). IsFirstFault b line WrongResult) (all_read known bytes read clear) fault)
+
+pub other_fault : (known : Known) (fault : Fault) (bytes : List ℕ) → known.stage ≡ stages.Refused fault → (fault.refusal ≡ WrongResult → ⊥)
+    → Read known bytes → Expects bytes None
+other_fault known fault bytes some other read = λ line wrong.
+    let same = one_verdict bytes (No fault.line fault.refusal) (No line WrongResult) (fault_now known fault bytes some read) wrong in
     other cc
 
 -- the text of a fault is that of the line
@@ -334,37 +346,28 @@ never_before rest refusal P other whole (inl long) = let bad = long.1 in cc
 never_before rest refusal P other whole (inr (inl cut)) = let bad = cut.1 in cc
 never_before rest refusal P other whole (inr (inr line)) = other (whole line.0 line.3)
 
-by_beginning : (standing : Standing) (beginning : Beginning) (rest bytes text : List ℕ)
-    (result : Option Expected) → IsAfter standing beginning
-    → bytes ≡ text_of (lines_of beginning) ++ rest → IsAccepted beginning → Refuses beginning rest WrongResult → IsLastFront rest false text
-    → ((reading : Reading) → standing ≡ Within reading → GivesForText (account_of reading.held) text result) → Expects bytes result
-by_beginning standing Nothing rest bytes text result after is accepted refused front gives =
+by_beginning : (held : Held) (beginning : Beginning) (rest bytes text : List ℕ) (result : Option Expected)
+    → account_of held ≡ account_before beginning → bytes ≡ text_of (lines_of beginning) ++ rest → IsAccepted beginning
+    → Refuses beginning rest WrongResult → IsLastFront rest false text → GivesForText (account_of held) text result → Expects bytes result
+by_beginning held Nothing rest bytes text result account is accepted refused front gives =
     absurd (never_before rest BadHeader _ (λ h. cc) (λ text whole. sym whole.1) refused)
-by_beginning standing NoMode rest bytes text result after is accepted refused front gives =
+by_beginning held NoMode rest bytes text result account is accepted refused front gives =
     absurd (never_before rest BadMode _ (λ h. cc) (λ text whole. sym whole.1) refused)
-by_beginning standing (Whole rules_are roots steps_are) rest bytes text result after is accepted refused front gives =
+by_beginning held (Whole rules_are roots steps_are) rest bytes text result account is accepted refused front gives =
     absurd (let bad = refused.1 in cc)
-by_beginning AtStart (Body rules_are roots steps_are) rest bytes text result after is accepted refused front gives = absurd cc
-by_beginning AtMode (Body rules_are roots steps_are) rest bytes text result after is accepted refused front gives = absurd cc
-by_beginning (Within reading) (Body rules_are roots steps_are) rest bytes text result after is accepted refused front gives =
+by_beginning held (Body rules_are roots steps_are) rest bytes text result account is accepted refused front gives =
     body_expects rules_are roots steps_are rest bytes text result is accepted refused front
-    (subst (λ (a : Account). GivesForText a text result) after.1.account (gives reading refl))
-by_beginning Nowhere (Body rules_are roots steps_are) rest bytes text result after is accepted refused front gives = absurd after
+    (subst (λ (a : Account). GivesForText a text result) account gives)
 
-pub wrong_result : (known : Known) (fault : Fault) (bytes : List ℕ) (result : Option Expected) → known.fault ≡ Some fault
-    → fault.refusal ≡ WrongResult
-    → ((reading : Reading) → known.standing ≡ Within reading → GivesForText (account_of reading.held) (bytes_of fault.text) result)
-    → Taken known bytes → Expects bytes result
-wrong_result known fault bytes result some wrong gives taken =
-    let is : IsFaultAt taken.beginning taken.rest fault = subst (IsRest taken.beginning taken.rest) some taken.rest_is in
-    let refused = subst (λ (r : List ℕ). Refuses taken.beginning r fault.refusal) (append-nil taken.rest) (is.refused []) in
-    by_beginning known.standing taken.beginning taken.rest bytes (bytes_of fault.text)
-    result taken.after taken.behind.bytes_are taken.behind.accepted
-    (subst (Refuses taken.beginning taken.rest) wrong refused) is.front gives
-
--- what is within one standing is one reading
-pub same_reading : (a b : Reading) → Within a ≡ Within b → a ≡ b
-same_reading a b h = cc
+pub wrong_result : (known : Known) (fault : Fault) (bytes : List ℕ) (result : Option Expected) → known.stage ≡ stages.Refused fault
+    → fault.refusal ≡ WrongResult → GivesForText (account_of known.held) (bytes_of fault.text) result → Read known bytes
+    → Expects bytes result
+wrong_result known fault bytes result some wrong gives read =
+    let is : IsFaultAt read.beginning read.rest fault = subst (λ (s : Stage). IsRest s read.beginning read.rest) some read.rest_is in
+    let refused = subst (λ (r : List ℕ). Refuses read.beginning r fault.refusal) (append-nil read.rest) (is.refused []) in
+    by_beginning known.held read.beginning read.rest bytes (bytes_of fault.text) result
+    (account_stands known.stage known.held read.beginning read.after) read.behind.bytes_are read.behind.accepted
+    (subst (Refuses read.beginning read.rest) wrong refused) is.front gives
 
 -- and no other line
 pub not_spelled : (account : Account) (text : List ℕ) (line : Line) → Spells text line → ((step : Step) → line ≡ lines.Step step → ⊥)

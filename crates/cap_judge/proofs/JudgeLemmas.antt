@@ -30,8 +30,7 @@ use Rattle.cap_judge.specs.Logs.{IsAccepted, SpellsBy, RefusesWhole, Refuses, Is
 use Rattle.cap_judge.specs.Logs.{IsLogOf, NamesNoGranules, named_by_line}
 use Rattle.cap_machine.specs.Escapes.{ClearsExactly}
 use Rattle.cap_judge.specs.Verdicts.{IsYes, IsGuarded, GuardsAuthority, IsFault}
-use Rattle.cap_judge.specs.Judgings.{IsBehind, LeadsTo}
-use Rattle.cap_judge.specs.Progresses.{Reading, StandsFor, GoesOn, WantsMemory, EndsNext, IsAt}
+use Rattle.cap_judge.specs.Judgings.{IsBehind}
 use Rattle.std.proofs.lemmas.List.{length_push}
 
 -- one line more
@@ -42,47 +41,12 @@ text_push lines line rest =
     ap (λ (text : List ℕ). text ++ rest) (flat_map-append piece lines (line ∷ []))
     ∙ simp (append_assoc)
 
-pub goes_on : (bytes rest text more : List ℕ) (old new : Reading) (line : ℕ) → IsAt bytes old rest line → IsLine rest text more
-    → GoesOn old text new → IsAt bytes new more (line + 1)
-goes_on bytes rest text more old new line here whole on =
-    let next = on.2 here.beginning here.stands in
-    record {
-      beginning = next.0;
-      stands = next.1;
-      bytes_are =
-          here.bytes_are
-          ∙ ap (λ (r : List ℕ). text_of (lines_of here.beginning) ++ r) (whole.whole ∙ ap (λ (t : List ℕ). t ++ 10 ∷ more) on.1.0.1)
-          ∙ sym (text_push (lines_of here.beginning) on.0 more)
-          ∙ sym (ap (λ (ls : List Line). text_of ls ++ more) next.2);
-      line_is = omega (arith, here.line_is, ap length next.2, length_push (lines_of here.beginning) on.0);
-    }
-
 -- a beginning that goes on: it has no end line
 abbrev pub IsUnended : Beginning → Type 0
 IsUnended Nothing = Unit {0}
 IsUnended NoMode = Unit {0}
 IsUnended (Body rules_are roots steps) = Unit {0}
 IsUnended (Whole rules_are roots steps) = ⊥
-
--- what the progress stands for is accepted
-pub accepted : (beginning : Beginning) (reading : Reading) → StandsFor reading beginning → IsAccepted beginning
-accepted Nothing reading stands = tt
-accepted NoMode reading stands = tt
-accepted (Body rules_are roots steps) reading stands = stands.1.runs
-accepted (Whole rules_are roots steps) reading stands = stands.1.runs
-
-pub unended : (beginning : Beginning) (reading : Reading) → StandsFor reading beginning → reading.ended ≡ false → IsUnended beginning
-unended Nothing reading stands is = tt
-unended NoMode reading stands is = tt
-unended (Body rules_are roots steps) reading stands is = tt
-unended (Whole rules_are roots steps) reading stands is = absurd (false≢true (sym is ∙ stands.0))
-
-pub behind : (bytes rest : List ℕ) (reading : Reading) (line : ℕ) (here : IsAt bytes reading rest line) → IsBehind bytes here.beginning rest
-behind bytes rest reading line here = record { bytes_are = here.bytes_are; accepted = accepted here.beginning reading here.stands }
-
-pub unended_here : (bytes rest : List ℕ) (reading : Reading) (line : ℕ) (here : IsAt bytes reading rest line) → reading.ended ≡ false
-    → IsUnended here.beginning
-unended_here bytes rest reading line here is = unended here.beginning reading here.stands is
 
 -- the front of what follows a beginning is refused
 abbrev pub RefusesFront : Beginning → List ℕ → Refusal → Type 0
@@ -109,33 +73,6 @@ refused_behind bytes rest beginning line refusal here number unended refused = r
   refused = front_refused beginning rest refusal unended refused;
 }
 
--- a line that wants memory
-pub lacks : (bytes text more : List ℕ) (reading : Reading) (beginning : Beginning)
-    → StandsFor reading beginning → WantsMemory beginning text
-    → bytes ≡ text_of (lines_of beginning) ++ text ++ 10 ∷ more → MayLackMemory bytes more
-lacks bytes text more reading Nothing stands wants are = absurd wants
-lacks bytes text more reading NoMode stands wants are = absurd wants
-lacks bytes text more reading (Body rules_are roots steps) stands wants are = record {
-  rules = rules_are;
-  roots = roots;
-  steps = steps;
-  line = wants.line;
-  text = text;
-  bytes_are = are;
-  runs = stands.1.runs;
-  spelled = subst (λ (r : Rules). SpellsBy r text wants.line) (account_after-grows rules_are roots steps).rules_stay wants.spelled;
-  free = wants.free;
-  first = wants.first;
-}
-lacks bytes text more reading (Whole rules_are roots steps) stands wants are = absurd wants
-
-pub wants_memory : (bytes rest text more : List ℕ) (reading : Reading) (line : ℕ) → IsAt bytes reading rest line
-    → IsLine rest text more → EndsNext reading text NoMemory → MayLackMemory bytes more
-wants_memory bytes rest text more reading line here whole ends =
-    lacks bytes text more reading here.beginning here.stands (ends here.beginning here.stands)
-    (here.bytes_are ∙ ap (λ (r : List ℕ). text_of (lines_of here.beginning) ++ r) whole.whole
-    ∙ sym (append_assoc (text_of (lines_of here.beginning)) text (10 ∷ more)))
-
 -- a line that names no granule names none for the first time
 not_new : (account : Account) (granule : Option ℕ) → granule ≡ None → is_new account granule ≡ true → ⊥
 not_new account None none new = false≢true new
@@ -153,60 +90,6 @@ pub answered : (bytes : List ℕ) (result : Result Verdict JudgeFault) → IfErr
 answered bytes (Ok verdict) fault none = refl
 answered bytes (Err faults.Pull) fault none = absurd fault
 answered bytes (Err faults.NoMemory) fault none = absurd (no_lack bytes fault.0 none fault.1)
-
--- after the end line
-yes_by : (bytes : List ℕ) (reading : Reading) (beginning : Beginning) → StandsFor reading beginning → reading.ended ≡ true
-    → bytes ≡ text_of (lines_of beginning) ++ [] → IsYes bytes reading.held.steps reading.held.roots
-yes_by bytes reading Nothing stands ended are = absurd stands
-yes_by bytes reading NoMode stands ended are = absurd stands
-yes_by bytes reading (Body rules_are roots steps) stands ended are = absurd (false≢true (sym stands.0 ∙ ended))
-yes_by bytes reading (Whole rules_are roots steps) stands ended are = record {
-  rules = rules_are;
-  roots = roots;
-  steps = steps;
-  log = record { bytes_are = are ∙ append-nil _; runs = stands.1.runs };
-  step_count_is = stands.1.steps_are;
-  root_count_is = stands.1.roots_are;
-}
-
-pub yes : (bytes : List ℕ) (reading : Reading) (line : ℕ) → IsAt bytes reading [] line → reading.ended ≡ true
-    → IsYes bytes reading.held.steps reading.held.roots
-yes bytes reading line here ended = yes_by bytes reading here.beginning here.stands ended here.bytes_are
-
-leads_by : (bytes : List ℕ) (reading : Reading) (beginning : Beginning) → StandsFor reading beginning → reading.ended ≡ true
-    → bytes ≡ text_of (lines_of beginning) ++ [] → LeadsTo bytes reading.held
-leads_by bytes reading Nothing stands ended are = absurd stands
-leads_by bytes reading NoMode stands ended are = absurd stands
-leads_by bytes reading (Body rules_are roots steps) stands ended are = absurd (false≢true (sym stands.0 ∙ ended))
-leads_by bytes reading (Whole rules_are roots steps) stands ended are = record {
-  rules = rules_are;
-  roots = roots;
-  steps = steps;
-  log = record { bytes_are = are ∙ append-nil _; runs = stands.1.runs };
-  account = stands.1.account;
-}
-
-pub leads : (bytes : List ℕ) (reading : Reading) (line : ℕ) → IsAt bytes reading [] line → reading.ended ≡ true → LeadsTo bytes reading.held
-leads bytes reading line here ended = leads_by bytes reading here.beginning here.stands ended here.bytes_are
-
-pub misplaced_by : (beginning : Beginning) (reading : Reading) (rest : List ℕ) → StandsFor reading beginning
-    → reading.ended ≡ true → rest ≢ []
-    → Refuses beginning rest Misplaced
-misplaced_by Nothing reading rest stands ended more = absurd stands
-misplaced_by NoMode reading rest stands ended more = absurd stands
-misplaced_by (Body rules_are roots steps) reading rest stands ended more = absurd (false≢true (sym stands.0 ∙ ended))
-misplaced_by (Whole rules_are roots steps) reading rest stands ended more = (more, refl)
-
-pub misplaced : (bytes rest : List ℕ) (reading : Reading) (line : ℕ) → IsAt bytes reading rest line → reading.ended ≡ true → rest ≢ []
-    → IsFirstFault bytes line Misplaced
-misplaced bytes rest reading line here ended more = record {
-  beginning = here.beginning;
-  rest = rest;
-  bytes_are = here.bytes_are;
-  accepted = accepted here.beginning reading here.stands;
-  number_is = here.line_is;
-  refused = misplaced_by here.beginning reading rest here.stands ended more;
-}
 
 -- the steps of lines in range are in range
 pub steps_in_range : (roots : List DeclaredRoot) (made : List Step)

@@ -1,25 +1,24 @@
 mod ResultLemmas
 mod LogLemmas
 mod NextLemmas
-mod ProgressLemmas
-mod FrontLemmas
-mod FaultLemmas
+mod AnswerLemmas
+mod TakingLemmas
+mod StreamLemmas
 mod JudgeLemmas
 mod VersionLemmas
 pub mod EscapeLaws
 pub mod SourceLemmas
-mod StopLemmas
-mod HeaderLemmas
+pub mod FormLemmas
 mod BeginningLemmas
 mod OneReading
 mod OneVerdict
-mod WhyLemmas
-mod DetailLemmas
-mod StepLemmas
+pub mod FaultPlaces
 mod OriginLemmas
-mod ReportLemmas
+pub mod ReportLemmas
 mod SomeVerdict
 mod InTurn
-mod StandingLemmas
-mod TakenLemmas
 mod ExpectedLemmas
+mod ReachLemmas
+mod HeadLemmas
+mod ReadingLemmas
+mod EndingLemmas

@@ -5,6 +5,7 @@ use Rattle.cap_log.specs.declared.lines.Line.TheVariants as lines
 use Rattle.cap_log.specs.declared.lines.Place.{Place}
 use Rattle.cap_log.specs.declared.lines.Step.{Step}
 use Rattle.cap_log.specs.Lines.{Spells}
+use Rattle.cap_ops.specs.declared.faults.OpFault.{OpFault}
 use Rattle.cap_ops.specs.Tests.{first_of}
 use Rattle.cap_ops.specs.declared.refusal.Refusal.TheVariants.{WrongResult}
 use Rattle.cap_machine.specs.declared.rules.Rules.{Rules}
@@ -53,3 +54,18 @@ GivesFor account step (Some expected) =
 -- what they give for the step that a text spells
 abbrev pub GivesForText : Account → List ℕ → Option Expected → Type 0
 GivesForText account text result = (step : Step) → Spells text (lines.Step step) → GivesFor account step result
+
+-- a fact where a line records what its step writes
+abbrev pub IfWritten : Recorded → Type 0 → Type 0
+IfWritten (Written cap) fact = fact
+IfWritten records fact = Unit {0}
+
+-- a fact where it records nothing of the kind
+abbrev pub UnlessWritten : Recorded → Type 0 → Type 0
+UnlessWritten (Written cap) fact = Unit {0}
+UnlessWritten records fact = fact
+
+-- the test for which the result of an operation on registers loses its tag in clear mode: an access has no such test
+abbrev pub lost_for : Option Access → Row → Option OpFault
+lost_for None row = first_of row.tests
+lost_for (Some access) row = None

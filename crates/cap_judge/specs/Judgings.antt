@@ -1,8 +1,6 @@
 -- The answer on the bytes that a source gave (this profile's own, as are all below).
-use Rattle.std.specs.Prelude.{◌≡◌, ◌≢◌, ℕ, ◌+◌, Bool, true, false, if◌then◌else◌, List, ◌++◌, length, take, Result, Ok, Err, IfOk, IfErr}
+use Rattle.std.specs.Prelude.{◌≡◌, ◌≢◌, ℕ, ◌+◌, Bool, true, false, List, ◌++◌, length, take, Result, Ok, Err, IfOk, IfErr}
 use Rattle.cap_log.specs.Front.{IsCut, FrontIs}
-use Rattle.cap_ops.specs.declared.refusal.Refusal.{Refusal}
-use Rattle.cap_ops.specs.declared.refusal.Refusal.TheVariants.{Misplaced, Truncated}
 use Rattle.cap_log.specs.declared.lines.Step.{Step}
 use Rattle.cap_machine.specs.declared.rules.Rules.{Rules}
 use Rattle.cap_machine.specs.declared.rules.Rules.TheVariants.{One}
@@ -15,7 +13,6 @@ use Rattle.cap_judge.specs.declared.verdict.JudgeFault.{JudgeFault}
 use Rattle.cap_judge.specs.declared.verdict.JudgeFault.TheVariants.{Pull, NoMemory}
 use Rattle.cap_judge.specs.Logs.{Beginning, Nothing, NoMode, Body, Whole, lines_of, text_of, account_after, IsAccepted, IsLogOf}
 use Rattle.cap_judge.specs.Logs.{IsFirstFault, MayLackMemory, NamesNoGranules}
-use Rattle.cap_judge.specs.Progresses.{IsAt, Reading}
 use Rattle.cap_judge.specs.Verdicts.{IsVerdict, GuardsAuthority}
 
 -- the verdict on these bytes, where their source has ended; where it has not, a no that stands whatever bytes follow
@@ -101,27 +98,3 @@ pub record JudgedBy {S : Type 0} (gave : S → S → List ℕ → Type 0) (ended
   pub judged : Judged gave ended old new result
   pub leads : IfOk result (LeadsAfter judged.given held)
   pub stops : IfOk result (StopsIn judged.given (ended new) held text)
-
--- an answer without a yes
-abbrev pub IsNoYes : Result Verdict JudgeFault → Type 0
-IsNoYes (Ok (Yes steps roots)) = ⊥
-IsNoYes (Ok (No line refusal)) = Unit {0}
-IsNoYes (Err fault) = Unit {0}
-
--- the verdict on a line at fault: after the end line it is misplaced, whatever it is
-abbrev pub refusal_in : ℕ → Bool → Refusal → Verdict
-refusal_in line false refusal = No line refusal
-refusal_in line true refusal = No line Misplaced
-
--- the verdict where the bytes end at a line's start: a yes after the end line
-abbrev pub finished : Reading → ℕ → Verdict
-finished reading line = if reading.ended then Yes reading.held.steps reading.held.roots else No line Truncated
-
--- wherever the judge was at the line that these bytes begin with, its answer is this one, whether their source has ended or not
-abbrev pub AnswersAt : Reading → List ℕ → ℕ → Result Verdict JudgeFault → Type 0
-AnswersAt reading kept line answer = (given : List ℕ) (ended : Bool) → IsAt given reading kept line → IsAnswerOf given ended answer
-
--- wherever the judge was at the line that these bytes begin with, it stopped before the line that its answer names
-abbrev pub StopsAt : Reading → List ℕ → ℕ → Held → List ℕ → Result Verdict JudgeFault → Type 0
-StopsAt reading kept line held text answer =
-    (given : List ℕ) (ended : Bool) → IsAt given reading kept line → IfOk answer (StopsIn given ended held text)

@@ -1,7 +1,12 @@
 -- What a judge that writes its verdict answers and writes (this profile's own).
-use Rattle.std.specs.Prelude.{◌≡◌, ℕ, Bool, true, false, List, ◌++◌}
+use Rattle.std.specs.Prelude.{◌≡◌, ℕ, Bool, true, false, List, [], ◌++◌, take, Result, Ok, Err}
 use Rattle.cap_judge.specs.declared.verdict.Verdict.{Verdict}
 use Rattle.cap_judge.specs.declared.verdict.Verdict.TheVariants.{Yes, No}
+use Rattle.cap_judge.specs.declared.verdict.JudgeFault.{JudgeFault}
+use Rattle.cap_judge.specs.declared.verdict.JudgeFault.TheVariants as judge_faults
+use Rattle.cap_judge.specs.declared.verdict.JudgeToFault.{JudgeToFault}
+use Rattle.cap_judge.specs.declared.verdict.JudgeToFault.TheVariants.{Pull, NoMemory, Push}
+use Rattle.cap_judge.specs.Judgings.{IsAnswerOf}
 use Rattle.cap_judge.specs.Origins.{Origin, AreOriginsOf, origin_lines}
 use Rattle.cap_judge.specs.VerdictLines.{verdict_line}
 
@@ -11,3 +16,23 @@ Tells false bytes verdict text = text ≡ verdict_line verdict
 Tells true bytes (No line refusal) text = text ≡ verdict_line (No line refusal)
 Tells true bytes (Yes steps roots) text =
     (origins : List Origin) × AreOriginsOf bytes origins × (text ≡ verdict_line (Yes steps roots) ++ origin_lines origins)
+
+-- with a verdict a text that belongs to it was taken, without one nothing, and where the sink failed a beginning of such a text
+abbrev pub IsPushedFor : (Verdict → List ℕ → Type 0) → List ℕ → Bool → (List ℕ → Type 0) → Result Verdict JudgeToFault → Type 0
+IsPushedFor tells bytes ended took (Ok verdict) = IsAnswerOf bytes ended (Ok verdict) × (text : List ℕ) × tells verdict text × took text
+IsPushedFor tells bytes ended took (Err Pull) = IsAnswerOf bytes ended (Err judge_faults.Pull) × took []
+IsPushedFor tells bytes ended took (Err NoMemory) = IsAnswerOf bytes ended (Err judge_faults.NoMemory) × took []
+IsPushedFor tells bytes ended took (Err Push) =
+    (verdict : Verdict) × IsAnswerOf bytes ended (Ok verdict) × (text : List ℕ) × tells verdict text × (n : ℕ) × took (take n text)
+
+-- the fault of a judge that writes where the judging has one
+abbrev pub told_fault : JudgeFault → JudgeToFault
+told_fault judge_faults.Pull = Pull
+told_fault judge_faults.NoMemory = NoMemory
+
+-- an answer is that of the bytes that the source gave in the call, and what the sink took is the verdict's text, with origins or without
+pub record Reported {S K : Type 0} (origins : Bool) (gave : S → S → List ℕ → Type 0) (ended : S → Bool) (took : K → K → List ℕ → Type 0)
+    (old new : S) (before after : K) (result : Result Verdict JudgeToFault) : Type 0 where
+  pub given : List ℕ
+  pub gives : gave old new given
+  pub report : IsPushedFor (Tells origins given) given (ended new) (took before after) result

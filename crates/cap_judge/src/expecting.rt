@@ -6,7 +6,7 @@ ghost use Rattle.cap_log.specs.declared.lines.Step.TheVariants as steps;
 ghost use Rattle.cap_machine.specs.Helds.{account_of, held_of};
 ghost use Rattle.cap_judge.specs.Expectations.{GivesFor, GivesForText};
 
-use crate::step_lines::given_by;
+use crate::results::given_by;
 use crate::verdict::Expected;
 use cap_log::{Line, Step, read_line};
 use cap_machine::Machine;

@@ -6,7 +6,7 @@ use cap_log::{Front, front};
 
 /// The bytes of a line: without its line feed, the first 96 where more come before one, and those that
 /// are there where none comes.
-#[derive(Drop)]
+#[derive(Clone, Copy)]
 pub struct FaultLine {
     bytes: [u8; 96],
     length: usize,

@@ -8,7 +8,7 @@ use crate::verdict::Verdict;
 use cap_machine::Refusal;
 
 /// The line of a log that is at fault.
-#[derive(Drop)]
+#[derive(Clone, Copy)]
 pub struct Fault {
     /// Its number, from 1 on.
     pub line: u64,

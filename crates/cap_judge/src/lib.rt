@@ -1,25 +1,35 @@
 //! The judge: the grammar of whole logs, how a log is judged line by line, the verdicts with their texts and
 //! the laws of both, and the origins of what a log's last state holds.
+//!
+//! A [`Judge`] is handed the bytes of a log, cut anywhere. [`judge`] judges what a source gives, and
+//! [`judge_bytes`] bytes in memory. [`judge_to`] and [`judge_origins`] write the verdict too. [`judge_keeping`]
+//! gives the machine with the answer, and the line that was refused.
 #![tactic(auto)]
 
-pub mod by_lines;
+mod beginning;
 mod expecting;
-pub mod explaining;
 mod fault_lines;
-mod fault_reports;
 mod faults;
-mod fresh;
-mod fronts;
-pub mod headers;
-pub mod judging;
-pub mod laws;
-mod operands;
-pub mod origin_lines;
+mod laws;
+mod lines;
+mod origin_lines;
 mod origins;
-mod parts;
-mod progress;
-pub mod reporting;
-mod stages;
-mod step_lines;
-pub mod verdict;
-pub mod verdict_lines;
+mod reporting;
+mod results;
+mod steps;
+mod streams;
+mod verdict;
+mod verdict_lines;
+
+pub use crate::beginning::{Judge, Stop, Taken};
+pub use crate::fault_lines::FaultLine;
+pub use crate::laws::{
+    accepted_in_turn, escapes_are_named_exactly, logs_are_guarded, logs_clear_exactly, one_verdict,
+    other_bytes_are_of_version_one, some_verdict,
+};
+pub use crate::origin_lines::origin_text;
+pub use crate::reporting::{judge_origins, judge_origins_in, judge_to, push_report, push_verdict};
+pub use crate::results::{Given, given_by, reached};
+pub use crate::streams::{Judging, judge, judge_bytes, judge_in, judge_keeping};
+pub use crate::verdict::{Expected, JudgeFault, JudgeToFault, TakeFault, Verdict};
+pub use crate::verdict_lines::verdict_text;

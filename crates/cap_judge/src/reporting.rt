@@ -6,12 +6,12 @@ ghost use Rattle.cap_log.specs.Streams.{next_count};
 ghost use Rattle.cap_machine.specs.Helds.{held_of};
 ghost use Rattle.cap_judge.specs.OriginLists.{report_text};
 ghost use Rattle.cap_judge.specs.Verdicts.{NamesEscapes};
-ghost use Rattle.cap_judge.specs.Whys.{Explained};
+ghost use Rattle.cap_judge.specs.Reports.{Reported};
 ghost use Rattle.cap_judge.specs.VerdictLines.{verdict_line};
 ghost use Rattle.cap_judge.specs.declared.verdict.JudgeToFault.TheVariants.{Pull, Push};
 
-use crate::judging::{Judging, judge, judge_keeping};
 use crate::origins::push_origins;
+use crate::streams::{Judging, judge, judge_keeping};
 use crate::verdict::{JudgeToFault, Verdict};
 use crate::verdict_lines::verdict_text;
 use cap_log::{PushFault, Sink, Source, push_all};
@@ -25,7 +25,7 @@ pub fn judge_to<S: Source, K: Sink>(
     source: &mut S,
     sink: &mut K,
 ) -> Result<Verdict, JudgeToFault>
-    ensures reported { Explained false false S.gave S.ended K.took source.old source.new sink.old sink.new result }
+    ensures reported { Reported false S.gave S.ended K.took source.old source.new sink.old sink.new result }
 
     // Whatever bytes it is the verdict of, a no names `BoundsEscape` exactly as `judge_bytes` says.
     ensures escape { IfOk result NamesEscapes }
@@ -49,7 +49,7 @@ pub fn judge_origins<S: Source, K: Sink>(
     source: &mut S,
     sink: &mut K,
 ) -> Result<Verdict, JudgeToFault>
-    ensures reported { Explained true false S.gave S.ended K.took source.old source.new sink.old sink.new result }
+    ensures reported { Reported true S.gave S.ended K.took source.old source.new sink.old sink.new result }
 
     // Whatever bytes it is the verdict of, a no names `BoundsEscape` exactly as `judge_bytes` says.
     ensures escape { IfOk result NamesEscapes }
@@ -70,7 +70,7 @@ pub fn judge_origins_in<S: Source, M: TaggedStore, K: Sink>(
     sink: &mut K,
 ) -> Result<Verdict, JudgeToFault>
     requires { map.len (M.contents memory) ≡ 0 }
-    ensures reported { Explained true false S.gave S.ended K.took source.old source.new sink.old sink.new result }
+    ensures reported { Reported true S.gave S.ended K.took source.old source.new sink.old sink.new result }
     ensures escape { IfOk result NamesEscapes }
     ensures counted { result ≢ Err Pull → S.faults source.new ≡ S.faults source.old }
     ensures pull_counted { result ≡ Err Pull → S.faults source.new ≡ next_count (S.faults source.old) }
@@ -88,7 +88,7 @@ pub fn judge_origins_in<S: Source, M: TaggedStore, K: Sink>(
 }
 
 /// Pushes the line of a verdict, and after a yes those of the origins of what the machine holds.
-pub(crate) fn push_report<M: TaggedStore, K: Sink>(
+pub fn push_report<M: TaggedStore, K: Sink>(
     verdict: &Verdict,
     machine: &Machine<M>,
     sink: &mut K,
@@ -111,7 +111,7 @@ pub(crate) fn push_report<M: TaggedStore, K: Sink>(
 }
 
 /// Pushes the line of a verdict.
-pub(crate) fn push_verdict<K: Sink>(verdict: &Verdict, sink: &mut K) -> Result<(), PushFault>
+pub fn push_verdict<K: Sink>(verdict: &Verdict, sink: &mut K) -> Result<(), PushFault>
     ensures ok { OnOk result (K.took sink.old sink.new (verdict_line verdict.now)) }
     ensures err { OnErr result ((n : ℕ) × K.took sink.old sink.new (take n (verdict_line verdict.now))) }
     ensures counted { OnOk result (K.faults sink.new ≡ K.faults sink.old) }

@@ -1,7 +1,7 @@
 //! What a judge answers.
 
 ghost use Rattle.std.specs.Prelude.{◌≡◌};
-ghost use Rattle.cap_judge.specs.Whys.{told_fault};
+ghost use Rattle.cap_judge.specs.Reports.{told_fault};
 ghost use Rattle.cap_judge.specs.declared.verdict.JudgeToFault.TheVariants.{Push};
 
 use cap_log::PushFault;

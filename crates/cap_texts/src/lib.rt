@@ -3,7 +3,10 @@
 #![tactic(auto)]
 
 pub mod cap_lines;
-pub mod explain_lines;
-pub mod round_lines;
+mod explain_lines;
+mod round_lines;
 pub mod shown_bytes;
 pub mod text_lines;
+
+pub use crate::explain_lines::{explain_text, memory_text};
+pub use crate::round_lines::round_text;

@@ -8,8 +8,8 @@ use Rattle.cap_log.specs.declared.taking.Lines.{Lines}
 use Rattle.cap_log.specs.declared.nexts.Next.{Next}
 use Rattle.cap_log.specs.declared.nexts.Next.TheVariants.{Line, LineTooLong, Truncated, Finished}
 use Rattle.cap_log.specs.declared.sources.PullFault.{PullFault}
-use Rattle.cap_vectors.specs.declared.vectors.VectorVerdict.{VectorVerdict}
-use Rattle.cap_vectors.specs.declared.vectors.VectorVerdict.TheVariants.{Pass, Fail}
+use Rattle.cap_vectors.specs.declared.files.VectorVerdict.{VectorVerdict}
+use Rattle.cap_vectors.specs.declared.files.VectorVerdict.TheVariants.{Pass, Fail}
 use Rattle.cap_vectors.specs.Vectors.{Vector, IsTrueVector, IsTrueLine, spelling}
 use Rattle.cap_vectors.specs.VectorFiles.{text_of, last_line, BeginsTrue, FailsWhole, FailsFirst, IsVectorVerdictOf, Checked}
 use Rattle.cap_log.proofs.FrontLemmas.{IsLine-more, IsTooLong-more}

@@ -4,8 +4,8 @@ use Rattle.std.specs.Prelude.{IfOk, IfErr, codes, decimal}
 use Rattle.std.specs.List.{AllByRecursion}
 use Rattle.cap_log.specs.Front.{IsCut, FrontIs}
 use Rattle.cap_log.specs.declared.sources.PullFault.{PullFault}
-use Rattle.cap_vectors.specs.declared.vectors.VectorVerdict.{VectorVerdict}
-use Rattle.cap_vectors.specs.declared.vectors.VectorVerdict.TheVariants.{Pass, Fail}
+use Rattle.cap_vectors.specs.declared.files.VectorVerdict.{VectorVerdict}
+use Rattle.cap_vectors.specs.declared.files.VectorVerdict.TheVariants.{Pass, Fail}
 use Rattle.cap_vectors.specs.Vectors.{Vector, IsTrueVector, IsTrueLine, spelling}
 
 -- the line that fails whatever it holds, so that no file goes on for ever

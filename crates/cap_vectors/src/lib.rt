@@ -2,4 +2,12 @@
 //! them are true.
 #![tactic(auto)]
 
-pub mod vectors;
+mod files;
+mod operands;
+mod stating;
+mod texts;
+mod writing;
+
+pub use crate::files::{VectorVerdict, vectors};
+pub use crate::stating::is_true_line;
+pub use crate::texts::vector_text;

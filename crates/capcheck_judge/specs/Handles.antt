@@ -4,7 +4,7 @@ use denote.RattleType.{RattleType}
 use Rattle.cap_machine.specs.States.{State}
 use Rattle.tagmem.specs.contracts.page_store.PageStore.{the_row as store_row}
 use Rattle.tagmem.specs.contracts.page_store.PageStoreTaggedStore.TheImpl.{ghosts}
-use Rattle.cap_judge.specs.contracts.by_lines.Judge.{the_row as judge_row}
+use Rattle.cap_judge.specs.contracts.beginning.Judge.{the_row as judge_row}
 use Rattle.cap_word.specs.declared.word.Cap.{Cap}
 use Rattle.cap_halves.specs.Passed.{cap_of, no_cap}
 use Rattle.cap_judge.specs.declared.verdict.Expected.{Expected}
@@ -12,7 +12,7 @@ use Rattle.cap_judge.specs.declared.verdict.Expected.TheVariants.{Capability, Nu
 use Rattle.cap_judge.specs.declared.verdict.Verdict.{Verdict}
 use Rattle.cap_judge.specs.Expectations.{Expects}
 use Rattle.cap_judge.specs.Judgings.{account_before}
-use Rattle.cap_judge.specs.Standings.{BeginsWhole, HasTaken, Known, Stands, known_of}
+use Rattle.cap_judge.specs.Readings.{BeginsWhole, HasRead, Known, Stands, known_of}
 use Rattle.cap_judge.specs.Verdicts.{IsVerdict, GuardsAuthority}
 use Rattle.capcheck_judge.specs.Answers.{numbers_of, without_verdict}
 use Rattle.capcheck_judge.specs.declared.answers.Answer.{Answer}
@@ -36,7 +36,7 @@ known_in (Some judge) = Some (known_of ghosts.contents judge)
 pub record Holds (held : Held) (bytes : List ℕ) : Type 0 where
   pub judge : RattleType.Denot (judge_row store_row ghosts)
   pub held_is : held ≡ Some judge
-  pub taken : HasTaken ghosts.contents judge bytes
+  pub taken : HasRead ghosts.contents judge bytes
 
 -- what the machine holds behind these bytes, or before their line at fault
 abbrev pub state_behind : {held : Held} {bytes : List ℕ} → Holds held bytes → State

@@ -4,7 +4,7 @@ ghost use Rattle.std.specs.Prelude.{◌≡◌};
 ghost use Rattle.capcheck_judge.specs.Answers.{numbers_of, without_verdict};
 
 use cap_halves::values::Capability;
-use cap_judge::verdict::Verdict;
+use cap_judge::Verdict;
 
 /// The state of lines of which none is at fault so far.
 pub(crate) const GOES_ON: u8 = 0;

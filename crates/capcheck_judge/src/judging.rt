@@ -3,7 +3,7 @@
 ghost use Rattle.capcheck_judge.specs.Answers.{AnswersBytes, NamesEscapesIn};
 
 use crate::answers::{Answer, NO_MEMORY, numbers_of, without_verdict};
-use cap_judge::judging::judge_bytes;
+use cap_judge::judge_bytes;
 use std::alloc::Global;
 
 /// Judges the bytes of a log, as `capcheck judge` does: it is a yes exactly for a log whose steps have a run from

@@ -2,7 +2,7 @@
 
 ghost use Rattle.std.specs.Prelude.{◌≡◌, ◌≢◌, ◌↔◌, ◌⊎◌, ◌<◌, ℕ, List, [], ◌++◌, None};
 ghost use Rattle.cap_judge.specs.Logs.{MayLackMemory};
-ghost use Rattle.cap_judge.specs.Standings.{BeginsWhole, HasTaken, IsNoLine, known_of};
+ghost use Rattle.cap_judge.specs.Readings.{BeginsWhole, HasRead, IsNoLine, known_of};
 ghost use Rattle.capcheck_judge.specs.Answers.{NamesEscapesIn, without_verdict};
 ghost use Rattle.capcheck_judge.specs.Handles.{AnswersEnd, AnswersSoFar, Holds, held_in, known_in};
 
@@ -10,8 +10,7 @@ use crate::answers::{
     Answer, GOES_ON, NO, NO_JUDGE, NO_LINE, NO_MEMORY, numbers_of, without_verdict,
 };
 use crate::handle::Handle;
-use cap_judge::by_lines::Judge;
-use cap_judge::verdict::TakeFault;
+use cap_judge::{Judge, TakeFault};
 use std::alloc::Global;
 use tagmem::{PageStore, TaggedStore};
 
@@ -99,7 +98,7 @@ pub extern "C" fn capcheck_judge_end(alloc: Global, judge: &mut Handle) -> Answe
 {
     match judge.take(alloc) {
         Some(held) => {
-            let verdict = held.end();
+            let verdict = held.end(&[]);
             judge.put(held);
             numbers_of(verdict)
         }
@@ -118,19 +117,19 @@ pub extern "C" fn capcheck_judge_close(alloc: Global, judge: &mut Handle)
 /// Hands a line to a judge: 0, 2, 3 or 5, as [`capcheck_judge_line`] says.
 fn take_line(judge: &mut Judge<PageStore>, line: &[u8]) -> u8
     ensures answers { (result ≡ 0) ⊎ (result ≡ 2) ⊎ (result ≡ 3) ⊎ (result ≡ 5) }
-    ensures taken { result < 3 → (bytes : List ℕ) → HasTaken ⟦<PageStore as TaggedStore>⟧.contents judge.old bytes
-        → HasTaken ⟦<PageStore as TaggedStore>⟧.contents judge.new (bytes ++ line.now) }
-    ensures goes_on { result ≡ 0 → (bytes : List ℕ) → HasTaken ⟦<PageStore as TaggedStore>⟧.contents judge.old bytes
+    ensures taken { result < 3 → (bytes : List ℕ) → HasRead ⟦<PageStore as TaggedStore>⟧.contents judge.old bytes
+        → HasRead ⟦<PageStore as TaggedStore>⟧.contents judge.new (bytes ++ line.now) }
+    ensures goes_on { result ≡ 0 → (bytes : List ℕ) → HasRead ⟦<PageStore as TaggedStore>⟧.contents judge.old bytes
         → BeginsWhole (bytes ++ line.now) }
-    ensures at_fault { result ≡ 2 → (bytes : List ℕ) → HasTaken ⟦<PageStore as TaggedStore>⟧.contents judge.old bytes
+    ensures at_fault { result ≡ 2 → (bytes : List ℕ) → HasRead ⟦<PageStore as TaggedStore>⟧.contents judge.old bytes
         → BeginsWhole (bytes ++ line.now) → ⊥ }
     ensures unchanged { 2 < result → known_of ⟦<PageStore as TaggedStore>⟧.contents judge.new
         ≡ known_of ⟦<PageStore as TaggedStore>⟧.contents judge.old }
-    ensures no_memory { result ≡ 3 → (bytes : List ℕ) → HasTaken ⟦<PageStore as TaggedStore>⟧.contents judge.old bytes
+    ensures no_memory { result ≡ 3 → (bytes : List ℕ) → HasRead ⟦<PageStore as TaggedStore>⟧.contents judge.old bytes
         → MayLackMemory (bytes ++ line.now) [] }
     ensures no_line { (result ≡ 5) ↔ IsNoLine line.now }
 {
-    match judge.take(line) {
+    match judge.take_line(line) {
         Ok(()) => match judge.answer() {
             None => GOES_ON,
             Some(_) => NO,

@@ -8,7 +8,7 @@ ghost use Rattle.capcheck_judge.specs.Handles.{AnswersExpected, Holds, IsGiven, 
 use crate::answers::{Given, OptionalCap};
 use crate::handle::Handle;
 use cap_halves::halves::{given, no_capability};
-use cap_judge::verdict::Expected;
+use cap_judge::Expected;
 use cap_word::Cap;
 use std::alloc::Global;
 

@@ -1,9 +1,7 @@
 //! A log whose lines are handed over one by one.
 
 use crate::verdicts::line_behind;
-use cap_judge::by_lines::Judge;
-use cap_judge::judging::judge_bytes;
-use cap_judge::verdict::Verdict;
+use cap_judge::{Judge, Verdict, judge_bytes};
 use cap_machine::Refusal;
 use std::alloc::Global;
 use tagmem::PageStore;
@@ -21,7 +19,7 @@ pub fn by_lines(alloc: Global, log: &[u8]) -> bool {
             taken = at + 1;
             lines = lines.saturating_add(1);
             let verdict = judge_bytes(alloc, &log[..taken]).ok();
-            if judge.take(line).is_err() || !stands(&judge, verdict, lines, &mut first) {
+            if judge.take_line(line).is_err() || !stands(&judge, verdict, lines, &mut first) {
                 return false;
             }
         }
@@ -45,5 +43,5 @@ fn stands(
     if first.is_none() && !goes_on {
         *first = verdict;
     }
-    Some(judge.end()) == verdict && judge.answer() == *first
+    Some(judge.end(&[])) == verdict && judge.answer() == *first
 }

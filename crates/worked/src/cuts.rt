@@ -1,10 +1,7 @@
 //! A log in two pieces, cut at each place in turn.
 
 use crate::verdicts::line_behind;
-use cap_judge::by_lines::Judge;
-use cap_judge::judging::judge;
-use cap_judge::reporting::judge_to;
-use cap_judge::verdict::Verdict;
+use cap_judge::{Judge, Verdict, judge, judge_to};
 use cap_log::{Lines, Next, SliceSink, SliceSource};
 use std::alloc::Global;
 
@@ -37,10 +34,10 @@ fn line_by_line(alloc: Global, log: &[u8], lengths: &[usize]) -> Option<Verdict>
         let line = line_behind(log, taken);
         match lines.next(&mut source) {
             Ok(Next::Line(bytes)) if line.starts_with(bytes) => {}
-            Ok(Next::Finished) if line.is_empty() => return Some(judge.end()),
+            Ok(Next::Finished) if line.is_empty() => return Some(judge.end(&[])),
             _ => return None,
         }
-        judge.take(line).ok()?;
+        judge.take_line(line).ok()?;
         taken = taken.saturating_add(line.len());
     }
     None

@@ -1,9 +1,9 @@
 //! Logs at the limits on roots and granules.
 
 use crate::verdicts::verdict_holds;
-use cap_judge::explaining::judge_why;
-use cap_judge::judging::judge_bytes;
+use cap_judge::judge_bytes;
 use cap_log::{SliceSink, SliceSource};
+use cap_report::judge_why;
 use std::alloc::{AllocError, Global};
 
 // The beginning of most logs: one root, of all permissions over the whole address space.

@@ -2,10 +2,7 @@
 
 use crate::pieces::empty_list;
 use crate::verdicts::line_behind;
-use cap_judge::judging::judge_bytes;
-use cap_judge::origin_lines::origin_text;
-use cap_judge::reporting::{judge_origins, judge_origins_in};
-use cap_judge::verdict::JudgeToFault;
+use cap_judge::{JudgeToFault, judge_bytes, judge_origins, judge_origins_in, origin_text};
 use cap_log::{FailingSink, FailingSource, Line, Place, SliceSink, SliceSource, read_line};
 use cap_machine::Machine;
 use std::alloc::{AllocError, Global};

@@ -3,8 +3,7 @@
 ghost use Rattle.std.specs.Prelude.{◌≡◌};
 ghost use Rattle.std.specs.FinMap as map;
 
-use cap_judge::judging::{judge, judge_bytes, judge_in};
-use cap_judge::verdict::{JudgeFault, Verdict};
+use cap_judge::{JudgeFault, Verdict, judge, judge_bytes, judge_in};
 use cap_log::{FailingSource, SliceSource};
 use cap_machine::Refusal;
 use std::alloc::{AllocError, Global};

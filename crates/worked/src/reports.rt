@@ -1,11 +1,9 @@
 //! The reports on a no.
 
 use crate::pieces::empty_list;
-use cap_judge::explaining::{judge_why, judge_why_in};
-use cap_judge::judging::judge_bytes;
-use cap_judge::reporting::judge_origins;
-use cap_judge::verdict::JudgeToFault;
+use cap_judge::{JudgeToFault, judge_bytes, judge_origins};
 use cap_log::{FailingSink, FailingSource, SliceSink, SliceSource};
+use cap_report::{judge_why, judge_why_in};
 use std::alloc::{AllocError, Global};
 
 /// Whether a judge that explains a no tells this text of a log, in one piece and in pieces of one byte, with its

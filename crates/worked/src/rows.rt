@@ -4,8 +4,7 @@ use crate::origins::origins_hold;
 use crate::reports::report_holds;
 use crate::vector_files::vectors_hold;
 use crate::verdicts::{line_behind, verdict_holds};
-use cap_judge::judging::judge_bytes;
-use cap_judge::verdict::Verdict;
+use cap_judge::{Verdict, judge_bytes};
 use std::alloc::{AllocError, Global};
 
 /// A log or a vector file, and the text that belongs to it.

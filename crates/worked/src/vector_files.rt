@@ -3,8 +3,7 @@
 use crate::origins::front_of;
 use crate::verdicts::line_behind;
 use cap_log::{FailingSource, PullFault, SliceSource};
-use cap_vectors::vectors::texts::vector_text;
-use cap_vectors::vectors::{VectorVerdict, vectors};
+use cap_vectors::{VectorVerdict, vector_text, vectors};
 use std::alloc::{AllocError, Global};
 
 // The bytes by which a line without a line feed is too long.

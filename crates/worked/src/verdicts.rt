@@ -3,8 +3,7 @@
 use crate::by_lines::by_lines;
 use crate::cuts::each_cut;
 use crate::pieces::{cut, each_pull_failing, in_pieces, longer, over_a_list};
-use cap_judge::verdict::Verdict;
-use cap_judge::verdict_lines::verdict_text;
+use cap_judge::{Verdict, verdict_text};
 use std::alloc::{AllocError, Global};
 
 // Below so many bytes a log is short.

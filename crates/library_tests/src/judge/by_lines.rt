@@ -1,7 +1,6 @@
 //! A judge that is given the lines of a log one by one.
 
-use cap_judge::by_lines::Judge;
-use cap_judge::verdict::{Expected, TakeFault, Verdict};
+use cap_judge::{Expected, Judge, TakeFault, Verdict};
 use cap_machine::Refusal;
 use cap_word::{Cap, Word, null};
 use std::alloc::Global;
@@ -23,19 +22,19 @@ fn what_is_no_line(rt: HostRuntime) {
         b"capcheck 1\ncapcheck 1\n",
         &long[..95],
     ] {
-        let taken = judge.take(bytes);
+        let taken = judge.take_line(bytes);
         assert_eq!(rt;
-            (taken, judge.answer(), judge.end()),
+            (taken, judge.answer(), judge.end(&[])),
             (Err(TakeFault::NoLine), None, truncated)
         );
     }
-    let taken = judge.take(&long);
+    let taken = judge.take_line(&long);
     let no = Verdict::No {
         line: 1,
         refusal: Refusal::LineTooLong,
     };
     assert_eq!(rt;
-        (taken, judge.answer(), judge.end()),
+        (taken, judge.answer(), judge.end(&[])),
         (Ok(()), Some(no), no)
     );
 }
@@ -44,7 +43,7 @@ fn what_is_no_line(rt: HostRuntime) {
 fn behind(rt: &impl Abort, alloc: Global, lines: &[&[u8]]) -> Judge<PageStore> {
     let mut judge = Judge::over_pages(alloc);
     for line in lines {
-        assert_eq!(rt; judge.take(line), Ok(()));
+        assert_eq!(rt; judge.take_line(line), Ok(()));
     }
     judge
 }
@@ -105,7 +104,7 @@ fn what_the_rules_give(rt: HostRuntime) {
         b"load c1 32 2 = beef\n",
         b"move c2 c1 = 0 ffff1ffffc0180040000000000000000\n",
     ] {
-        assert_eq!(rt; judge.take(line), Ok(()));
+        assert_eq!(rt; judge.take_line(line), Ok(()));
         assert_eq!(rt; judge.expected(), Some(given));
     }
 }

@@ -2,10 +2,7 @@
 
 use crate::fakes::{Narrow, Refusing};
 use crate::judge::made::{Blocks, Made};
-use cap_judge::by_lines::Judge;
-use cap_judge::judging::{judge, judge_in};
-use cap_judge::reporting::judge_to;
-use cap_judge::verdict::{JudgeFault, JudgeToFault, TakeFault, Verdict};
+use cap_judge::{Judge, JudgeFault, JudgeToFault, TakeFault, Verdict, judge, judge_in, judge_to};
 use cap_log::{FailingSink, FailingSource, SliceSink, SliceSource, Source, WriteSink};
 use cap_machine::Refusal;
 use std::alloc::Global;
@@ -239,17 +236,17 @@ fn a_line_handed_over_again(rt: HostRuntime) {
     let mut judge = Judge::new(memory);
     let line = b"sc c1 c1 0\n";
     let taken = [
-        judge.take(b"capcheck 1\n"),
-        judge.take(b"root c1 ffff1ffffc0180040000000000000000\n"),
-        judge.take(line),
+        judge.take_line(b"capcheck 1\n"),
+        judge.take_line(b"root c1 ffff1ffffc0180040000000000000000\n"),
+        judge.take_line(line),
     ];
     assert_eq!(rt; taken, [Ok(()), Ok(()), Err(TakeFault::NoMemory)]);
     assert_eq!(rt;
-        (judge.answer(), judge.end(), judge.granule(0).tag),
+        (judge.answer(), judge.end(&[]), judge.granule(0).tag),
         (None, no(3, Refusal::Truncated), false)
     );
-    let taken = [judge.take(line), judge.take(b"end 1\n")];
+    let taken = [judge.take_line(line), judge.take_line(b"end 1\n")];
     assert_eq!(rt; taken, [Ok(()), Ok(())]);
     let yes = Verdict::Yes { steps: 1, roots: 1 };
-    assert_eq!(rt; (judge.end(), judge.granule(0).tag), (yes, true));
+    assert_eq!(rt; (judge.end(&[]), judge.granule(0).tag), (yes, true));
 }

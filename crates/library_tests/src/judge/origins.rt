@@ -1,6 +1,6 @@
 //! The lines of origins.
 
-use cap_judge::origin_lines::origin_text;
+use cap_judge::origin_text;
 use cap_log::Place;
 
 #[test]

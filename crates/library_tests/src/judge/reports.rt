@@ -1,8 +1,8 @@
 //! What is told after a yes, and of any bytes.
 
-use cap_judge::explaining::judge_why;
-use cap_judge::verdict::Verdict;
+use cap_judge::Verdict;
 use cap_log::{SliceSink, SliceSource};
+use cap_report::judge_why;
 
 // After a yes nothing is explained, and the origins come where they are asked for.
 #[test]

@@ -2,9 +2,7 @@
 
 use crate::fakes::{Endless, Refusing};
 use crate::judge::made::{Made, Moves};
-use cap_judge::judging::{judge, judge_in};
-use cap_judge::reporting::judge_to;
-use cap_judge::verdict::Verdict;
+use cap_judge::{Verdict, judge, judge_in, judge_to};
 use cap_log::SliceSink;
 use cap_machine::Refusal;
 use tagmem::{ListStore, TaggedStore};

@@ -1,8 +1,7 @@
 //! The limit on granules of version 2.
 
 use crate::judge::made::{Blocks, Made};
-use cap_judge::judging::judge;
-use cap_judge::verdict::Verdict;
+use cap_judge::{Verdict, judge};
 use cap_machine::Refusal;
 
 const CLEAR: &[u8] = b"capcheck 2\nmode clear\nroot c1 ffff1ffffc0180040000000000000000\n";

@@ -22,7 +22,7 @@ returns-clause-reported g c =
     record {
       given = by.judged.given;
       gives = by.judged.gives;
-      explanation = (
+      report = (
         by.judged.answer,
         report_text held c.in_ok-verdict.verdict,
         tells by.judged.given held c.in_ok-verdict.verdict is by.leads,
@@ -46,7 +46,7 @@ returns-in_err-push_report-clause-reported g c =
     rw (failed.1, failed.2) (record {
       given = by.judged.given;
       gives = by.judged.gives;
-      explanation = (
+      report = (
         c.in_ok-verdict.verdict,
         by.judged.answer,
         report_text held c.in_ok-verdict.verdict,

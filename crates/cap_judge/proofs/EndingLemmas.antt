@@ -1,0 +1,313 @@
+-- What a judge answers where it stops.
+use Rattle.std.proofs.Common.{◌≡◌, ◌≢◌, ℕ, ◌+◌, ◌<◌, ◌≤◌, inl, inr, Bool, true, false, List, [], ◌∷◌, ◌++◌, length, refl, sym, ap}
+use Rattle.std.proofs.Common.{subst, ◌∙◌, append-nil, append_assoc, arith, Result, Ok, Err}
+use Rattle.std.specs.List.{AllByRecursion}
+use Rattle.std.proofs.lemmas.Bool.{false≢true}
+use Rattle.std.proofs.lemmas.List.{length-append}
+use Rattle.cap_log.specs.declared.lines.Line.{Line}
+use Rattle.cap_log.specs.declared.lines.Line.TheVariants as lines
+use Rattle.cap_log.specs.declared.lines.Step.{Step}
+use Rattle.cap_log.specs.Lines.{IsInRange, spelling}
+use Rattle.cap_log.specs.Front.{IsCut, IsLine}
+use Rattle.cap_ops.specs.declared.refusal.Refusal.{Refusal}
+use Rattle.cap_ops.specs.declared.refusal.Refusal.TheVariants.{Misplaced, Truncated}
+use Rattle.cap_machine.specs.Accounts.{Account}
+use Rattle.cap_machine.specs.Helds.{Held, account_of}
+use Rattle.cap_machine.specs.States.{DeclaredRoot}
+use Rattle.cap_machine.specs.declared.rules.Rules.{Rules}
+use Rattle.cap_machine.specs.declared.rules.Rules.TheVariants.{One, TwoStrict, TwoClear}
+use Rattle.cap_judge.specs.declared.beginning.Stage.{Stage}
+use Rattle.cap_judge.specs.declared.beginning.Stage.TheVariants as stages
+use Rattle.cap_judge.specs.declared.beginning.Stop.{Stop}
+use Rattle.cap_judge.specs.declared.beginning.Stop.TheVariants as stops
+use Rattle.cap_judge.specs.declared.faults.Fault.{Fault}
+use Rattle.cap_judge.specs.declared.verdict.Verdict.{Verdict}
+use Rattle.cap_judge.specs.declared.verdict.Verdict.TheVariants.{Yes, No}
+use Rattle.cap_judge.specs.FaultLines.{IsFrontText, bytes_of}
+use Rattle.cap_judge.specs.Judgings.{IsLastFront, StopsBefore}
+use Rattle.cap_judge.specs.Logs.{Beginning, Nothing, NoMode, Body, Whole, header_lines, body_lines, lines_of, text_of}
+use Rattle.cap_judge.specs.Logs.{IsFirstFault, MayLackMemory, Refuses}
+use Rattle.cap_judge.specs.Readings.{Reaches}
+use Rattle.cap_judge.specs.Readings.{EndsWith, GoesOn, IsAfter, IsAtFault, IsFaultAt, IsRest, Known, Read, StopsAt}
+use Rattle.cap_judge.specs.Verdicts.{IsVerdict}
+use Rattle.cap_judge.proofs.JudgeLemmas.{front_refused}
+use Rattle.cap_judge.proofs.OneReading.{same_front, text_cons}
+use Rattle.cap_judge.proofs.ReachLemmas.{same_rules}
+use Rattle.cap_judge.proofs.ReadingLemmas.{IsUnendedAt, account_stands, all_read, at, goes_further, read_behind, unended_after}
+use Rattle.cap_judge.proofs.SourceLemmas.{few_body}
+
+-- Where a line is at fault
+
+is_fault : (known : Known) (fault : Fault) (bytes : List ℕ) (read : Read known bytes) → known.stage ≡ stages.Refused fault
+    → IsFaultAt read.beginning read.rest fault
+is_fault known fault bytes read is = subst (λ (s : Stage). IsRest s read.beginning read.rest) is read.rest_is
+
+pub at_fault : (stage : Stage) (fault : Fault) → stage ≡ stages.Refused fault → IsAtFault stage
+at_fault stage fault is = subst IsAtFault (sym is) tt
+
+pub fault_of : (stage : Stage) → IsAtFault stage → (fault : Fault) × (stage ≡ stages.Refused fault)
+fault_of (stages.Refused fault) is = (fault, refl)
+fault_of stages.Version is = absurd is
+fault_of stages.Mode is = absurd is
+fault_of stages.Body is = absurd is
+fault_of stages.Ended is = absurd is
+
+-- a stage that is no other
+pub clear_of : (stage : Stage) → ((fault : Fault) → stage ≡ stages.Refused fault → ⊥) → IsAtFault stage → ⊥
+clear_of (stages.Refused fault) other is = other fault refl
+clear_of stages.Version other is = is
+clear_of stages.Mode other is = is
+clear_of stages.Body other is = is
+clear_of stages.Ended other is = is
+
+pub unended_of : (stage : Stage) → ((fault : Fault) → stage ≡ stages.Refused fault → ⊥) → (stage ≡ stages.Ended → ⊥) → IsUnendedAt stage
+unended_of (stages.Refused fault) other unended = other fault refl
+unended_of stages.Version other unended = tt
+unended_of stages.Mode other unended = tt
+unended_of stages.Body other unended = tt
+unended_of stages.Ended other unended = unended refl
+
+-- what is at fault at one stage is one fault
+pub same_fault : (stage : Stage) (fault other : Fault) → stage ≡ stages.Refused fault → stage ≡ stages.Refused other → fault ≡ other
+same_fault stage fault other is also = let same : stages.Refused fault ≡ stages.Refused other = sym is ∙ also in cc
+
+pub first_fault : (known : Known) (fault : Fault) (bytes : List ℕ) → known.stage ≡ stages.Refused fault → Read known bytes
+    → (more : List ℕ) → IsFirstFault (bytes ++ more) fault.line fault.refusal
+first_fault known fault bytes is read more =
+    let found = is_fault known fault bytes read is in
+    record {
+      beginning = read.beginning;
+      rest = read.rest ++ more;
+      bytes_are = ap (λ (b : List ℕ). b ++ more) read.behind.bytes_are ∙ append_assoc (text_of (lines_of read.beginning)) read.rest more;
+      accepted = read.behind.accepted;
+      number_is = found.line_is;
+      refused = found.refused more;
+    }
+
+pub fault_now : (known : Known) (fault : Fault) (bytes : List ℕ) → known.stage ≡ stages.Refused fault → Read known bytes
+    → IsFirstFault bytes fault.line fault.refusal
+fault_now known fault bytes is read =
+    subst (λ (b : List ℕ). IsFirstFault b fault.line fault.refusal) (append-nil bytes) (first_fault known fault bytes is read [])
+
+-- the text of a front, whether the source has ended or not
+ended_front : (rest : List ℕ) (ended : Bool) (text : List ℕ) → IsLastFront rest false text → IsLastFront rest ended text
+ended_front rest ended text (inl long) = inl long
+ended_front rest ended text (inr (inl cut)) = absurd (false≢true cut.1.1)
+ended_front rest ended text (inr (inr line)) = inr (inr line)
+
+pub stops_fault : (known : Known) (fault : Fault) (bytes : List ℕ) (ended : Bool) → known.stage ≡ stages.Refused fault → Read known bytes
+    → StopsBefore bytes ended known.held fault.line (bytes_of fault.text)
+stops_fault known fault bytes ended is read =
+    let found = is_fault known fault bytes read is in
+    record {
+      beginning = read.beginning;
+      rest = read.rest;
+      behind = read.behind;
+      line_is = found.line_is;
+      account = account_stands known.stage known.held read.beginning read.after;
+      front = ended_front read.rest ended (bytes_of fault.text) found.front;
+    }
+
+pub ends_fault : (known : Known) (fault : Fault) (bytes rest : List ℕ) → known.stage ≡ stages.Refused fault → Read known bytes
+    → EndsWith known.held (bytes ++ rest) (Err fault)
+ends_fault known fault bytes rest is read =
+    let all = read_behind known rest (at_fault known.stage fault is) bytes read in
+    (fault_now known fault (bytes ++ rest) is all, stops_fault known fault (bytes ++ rest) true is all)
+
+-- Where none is
+
+-- after the end line
+ends_yes_at : (held : Held) (bytes : List ℕ) (beginning : Beginning) → IsAfter stages.Ended held beginning
+    → bytes ≡ text_of (lines_of beginning) → EndsWith held bytes (Ok (Yes held.steps held.roots))
+ends_yes_at held bytes (Whole rules_are roots steps) after are = (
+  record {
+    rules = rules_are;
+    roots = roots;
+    steps = steps;
+    log = record { bytes_are = are; runs = after.runs };
+    step_count_is = after.steps_are;
+    root_count_is = after.roots_are;
+  },
+  record {
+    rules = rules_are;
+    roots = roots;
+    steps = steps;
+    log = record { bytes_are = are; runs = after.runs };
+    account = after.account;
+  },
+)
+ends_yes_at held bytes Nothing after are = absurd after
+ends_yes_at held bytes NoMode after are = absurd after
+ends_yes_at held bytes (Body rules_are roots steps) after are = absurd after
+
+pub ends_yes : (known : Known) (bytes rest : List ℕ) → known.stage ≡ stages.Ended → rest ≡ [] → Read known bytes
+    → EndsWith known.held (bytes ++ rest) (Ok (Yes known.held.steps known.held.roots))
+ends_yes known bytes rest is none read =
+    let clear : IsAtFault known.stage → ⊥ = λ fault. subst IsAtFault is fault in
+    ends_yes_at known.held (bytes ++ rest) read.beginning (subst (λ (s : Stage). IsAfter s known.held read.beginning) is read.after)
+    (ap (λ (r : List ℕ). bytes ++ r) none ∙ append-nil bytes ∙ all_read known bytes read clear)
+
+-- the text of a front where the source has ended
+last_front : (rest text : List ℕ) → IsFrontText rest text → IsLastFront rest true text
+last_front rest text (inl long) = inl long
+last_front rest text (inr (inl cut)) = inr (inl (cut.0, (cut.1, refl)))
+last_front rest text (inr (inr line)) = inr (inr line)
+
+-- a rest that is refused
+pub ends_no : (known : Known) (fault : Fault) (bytes rest : List ℕ) (refusal : Refusal) → (IsAtFault known.stage → ⊥)
+    → ((beginning : Beginning) → IsAfter known.stage known.held beginning → fault.line ≡ length (lines_of beginning) + 1)
+    → fault.refusal ≡ refusal → IsFrontText rest (bytes_of fault.text)
+    → ((beginning : Beginning) → IsAfter known.stage known.held beginning → Refuses beginning rest refusal)
+    → Read known bytes → EndsWith known.held (bytes ++ rest) (Err fault)
+ends_no known fault bytes rest refusal clear number why front refused read =
+    let are = ap (λ (b : List ℕ). b ++ rest) (all_read known bytes read clear) in (
+      record {
+        beginning = read.beginning;
+        rest = rest;
+        bytes_are = are;
+        accepted = read.behind.accepted;
+        number_is = number read.beginning read.after;
+        refused = subst (Refuses read.beginning rest) (sym why) (refused read.beginning read.after);
+      },
+      record {
+        beginning = read.beginning;
+        rest = rest;
+        behind = record { bytes_are = are; accepted = read.behind.accepted };
+        line_is = number read.beginning read.after;
+        account = account_stands known.stage known.held read.beginning read.after;
+        front = last_front rest (bytes_of fault.text) front;
+      },
+    )
+
+pub truncated : (stage : Stage) (held : Held) (rest : List ℕ) → IsUnendedAt stage → IsCut rest → (beginning : Beginning)
+    → IsAfter stage held beginning → Refuses beginning rest Truncated
+truncated stage held rest goes cut beginning after =
+    front_refused beginning rest Truncated (unended_after stage held beginning goes after) (inr (inl (cut, refl)))
+
+misplaced_at : (held : Held) (rest : List ℕ) → rest ≢ [] → (beginning : Beginning) → IsAfter stages.Ended held beginning
+    → Refuses beginning rest Misplaced
+misplaced_at held rest some (Whole rules_are roots steps) after = (some, refl)
+misplaced_at held rest some Nothing after = absurd after
+misplaced_at held rest some NoMode after = absurd after
+misplaced_at held rest some (Body rules_are roots steps) after = absurd after
+
+pub misplaced : (stage : Stage) (held : Held) (rest : List ℕ) → stage ≡ stages.Ended → rest ≢ [] → (beginning : Beginning)
+    → IsAfter stage held beginning → Refuses beginning rest Misplaced
+misplaced stage held rest is some beginning after =
+    misplaced_at held rest some beginning (subst (λ (s : Stage). IsAfter s held beginning) is after)
+
+-- the verdict
+pub verdict_yes : (held : Held) (bytes : List ℕ) (end : Result Verdict Fault) (verdict : Verdict) → end ≡ Ok verdict
+    → EndsWith held bytes end → IsVerdict bytes verdict
+verdict_yes held bytes end (Yes steps roots) is ends = (subst (EndsWith held bytes) is ends).0
+verdict_yes held bytes end (No line refusal) is ends = absurd (subst (EndsWith held bytes) is ends)
+
+pub verdict_no : (held : Held) (bytes : List ℕ) (end : Result Verdict Fault) (fault : Fault) → end ≡ Err fault
+    → EndsWith held bytes end → IsFirstFault bytes fault.line fault.refusal
+verdict_no held bytes end fault is ends = (subst (EndsWith held bytes) is ends).0
+
+-- Stops
+
+-- a stop behind more that was taken
+pub stops_later : (first old new : Known) (front middle rest : List ℕ) (stop : Stop) → GoesOn first front old
+    → StopsAt old middle rest stop new → StopsAt first (front ++ middle) rest stop new
+stops_later first old new front middle rest stops.Cut so_far (on, cut, clear) =
+    (goes_further first old new front middle so_far on, cut, clear)
+stops_later first old new front middle rest stops.Fault so_far (on, fault) = (
+  subst (λ (b : List ℕ). GoesOn first b new) (sym (append_assoc front middle rest))
+      (goes_further first old new front (middle ++ rest) so_far on),
+  fault,
+)
+stops_later first old new front middle rest stops.NoMemory so_far (on, lacks) = (
+  goes_further first old new front middle so_far on,
+  λ before read.
+      let lack = lacks (before ++ front) (so_far before read) in
+      let same : (before ++ front) ++ middle ++ rest ≡ before ++ (front ++ middle) ++ rest = simp (append_assoc) in
+      (lack.0, lack.1, lack.2, subst (λ (b : List ℕ). MayLackMemory b lack.1) same lack.3),
+)
+
+-- How many lines were read
+
+header_counts : (rules_are : Rules) → length (header_lines rules_are) ≤ 2
+header_counts One = omega arith
+header_counts TwoStrict = omega arith
+header_counts TwoClear = omega arith
+
+-- the lines of a body and of a log, by what was counted
+pub body_count : (held : Held) (rules_are : Rules) (roots : List DeclaredRoot) (steps : List Step) → Reaches held rules_are roots steps
+    → length (header_lines held.rules) + held.roots + held.steps ≡ length (body_lines rules_are roots steps)
+body_count held rules_are roots steps reaches =
+    omega (
+      arith,
+      ap (λ (r : Rules). length (header_lines r)) (same_rules held rules_are roots steps reaches),
+      reaches.roots_are,
+      reaches.steps_are,
+      few_body rules_are roots steps,
+    )
+
+pub whole_count : (held : Held) (rules_are : Rules) (roots : List DeclaredRoot) (steps : List Step) → Reaches held rules_are roots steps
+    → length (header_lines held.rules) + held.roots + held.steps + 1 ≡ length (lines_of (Whole rules_are roots steps))
+whole_count held rules_are roots steps reaches =
+    omega (
+      arith,
+      body_count held rules_are roots steps reaches,
+      length-append (body_lines rules_are roots steps) (lines.End (length steps) ∷ []),
+    )
+
+-- how many lines a judge has read, where none is at fault
+abbrev pub lines_read : Stage → Held → ℕ
+lines_read stages.Version held = 0
+lines_read stages.Mode held = 1
+lines_read stages.Body held = length (header_lines held.rules) + held.roots + held.steps
+lines_read stages.Ended held = length (header_lines held.rules) + held.roots + held.steps + 1
+lines_read (stages.Refused fault) held = 0
+
+pub count_read : (stage : Stage) (held : Held) (beginning : Beginning) → (IsAtFault stage → ⊥) → IsAfter stage held beginning
+    → lines_read stage held ≡ length (lines_of beginning)
+count_read stages.Version held Nothing clear after = refl
+count_read stages.Mode held NoMode clear after = refl
+count_read stages.Body held (Body rules_are roots steps) clear after = body_count held rules_are roots steps after
+count_read stages.Ended held (Whole rules_are roots steps) clear after = whole_count held rules_are roots steps after
+count_read (stages.Refused fault) held beginning clear after = absurd (clear tt)
+count_read stages.Version held NoMode clear after = absurd after
+count_read stages.Version held (Body rules_are roots steps) clear after = absurd after
+count_read stages.Version held (Whole rules_are roots steps) clear after = absurd after
+count_read stages.Mode held Nothing clear after = absurd after
+count_read stages.Mode held (Body rules_are roots steps) clear after = absurd after
+count_read stages.Mode held (Whole rules_are roots steps) clear after = absurd after
+count_read stages.Body held Nothing clear after = absurd after
+count_read stages.Body held NoMode clear after = absurd after
+count_read stages.Body held (Whole rules_are roots steps) clear after = absurd after
+count_read stages.Ended held Nothing clear after = absurd after
+count_read stages.Ended held NoMode clear after = absurd after
+count_read stages.Ended held (Body rules_are roots steps) clear after = absurd after
+
+pub count_at_body : (stage : Stage) (held : Held) (beginning : Beginning) → stage ≡ stages.Body → IsAfter stage held beginning
+    → length (header_lines held.rules) + held.roots + held.steps ≡ length (lines_of beginning)
+count_at_body stage held beginning is after =
+    count_read stages.Body held beginning (λ f. f) (subst (λ (s : Stage). IsAfter s held beginning) is after)
+
+pub count_at_end : (stage : Stage) (held : Held) (beginning : Beginning) → stage ≡ stages.Ended → IsAfter stage held beginning
+    → length (header_lines held.rules) + held.roots + held.steps + 1 ≡ length (lines_of beginning)
+count_at_end stage held beginning is after =
+    count_read stages.Ended held beginning (λ f. f) (subst (λ (s : Stage). IsAfter s held beginning) is after)
+
+-- a text that goes on has no fewer lines, and more where it goes on by something
+pub more_lines : (before after : List Line) (front : List ℕ) → AllByRecursion IsInRange before → AllByRecursion IsInRange after
+    → text_of before ++ front ≡ text_of after → (length before ≤ length after) × (front ≢ [] → length before < length after)
+more_lines [] [] front range range' same = (omega arith, λ some. absurd (some same))
+more_lines [] (line ∷ after) front range range' same = (omega arith, λ some. omega arith)
+more_lines (line ∷ before) [] front range range' same =
+    let text : (spelling line ++ 10 ∷ []) ++ (text_of before ++ front) ≡ [] = sym (append_assoc _ (text_of before) front) ∙ same in
+    let long = ap length text in
+    absurd (omega (
+      arith,
+      long,
+      length-append (spelling line ++ 10 ∷ []) (text_of before ++ front),
+      length-append (spelling line) (10 ∷ []),
+    ))
+more_lines (line ∷ before) (other ∷ after) front range range' same =
+    let first = same_front line other _ _ range.0 range'.0
+    (sym (text_cons line before front) ∙ same ∙ sym (append-nil _) ∙ text_cons other after []) in
+    let rest = more_lines before after front range.1 range'.1 (first.1 ∙ append-nil (text_of after)) in
+    (omega (arith, rest.0), λ some. let more = rest.1 some in omega (arith, more))

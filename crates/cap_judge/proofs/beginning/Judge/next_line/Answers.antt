@@ -1,0 +1,33 @@
+use Rattle.cap_machine.specs.Helds.{held_of}
+use Rattle.std.proofs.Common.{ap, arith, length, subst}
+use Rattle.cap_judge.specs.Logs.{header_lines}
+use Rattle.cap_judge.specs.Readings.{IsAfter}
+use Rattle.cap_judge.proofs.TakingLemmas.{ended_by}
+use Rattle.cap_judge.proofs.EndingLemmas.{count_at_body, count_at_end}
+use Rattle.cap_judge.proofs.beginning.Judge.next_line.Goals as goal
+
+pub returns-in-Body : goal.returns-in-Body
+returns-in-Body g c = λ beginning after.
+    let held = held_of g.M.TaggedStore.contents c.args.self.now.machine in
+    let number = count_at_body c.args.self.now.stage held beginning c.in-Body.is after in
+    omega (
+      arith,
+      number,
+      ap (λ r. length (header_lines r)) c.rules.ensures.value,
+      c.header_length.ensures,
+      c.roots.ensures.value,
+      c.steps.ensures.value,
+    )
+
+pub returns-in-Ended : goal.returns-in-Ended
+returns-in-Ended g c = λ beginning after.
+    let held = held_of g.M.TaggedStore.contents c.args.self.now.machine in
+    let number = count_at_end c.args.self.now.stage held beginning (ended_by c.args.self.now.stage c.requires.clear c.in-Ended.is) after in
+    omega (
+      arith,
+      number,
+      ap (λ r. length (header_lines r)) c.rules.ensures.value,
+      c.header_length.ensures,
+      c.roots.ensures.value,
+      c.steps.ensures.value,
+    )

@@ -1,0 +1,9 @@
+use Rattle.std.proofs.Common.{subst}
+use Rattle.cap_log.specs.Front.{IsFront}
+use Rattle.cap_log.proofs.FrontLemmas.{IsLine-not_cut}
+use Rattle.cap_judge.proofs.beginning.Judge.stop_formless.Goals as goal
+
+pub refuse-requires-in-Line-clause-uncut : goal.refuse-requires-in-Line-clause-uncut
+refuse-requires-in-Line-clause-uncut g c =
+    let found = subst (IsFront c.args.bytes.now) c.in-Line.is c.front.ensures.found in
+    IsLine-not_cut c.args.bytes.now _ _ found.1

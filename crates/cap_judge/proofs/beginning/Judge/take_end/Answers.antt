@@ -1,0 +1,22 @@
+use Rattle.cap_machine.specs.Helds.{held_of}
+use Rattle.std.proofs.Common.{[], ◌≡◌, refl, subst, sym}
+use Rattle.cap_judge.specs.declared.beginning.Stage.{Stage}
+use Rattle.cap_judge.specs.declared.beginning.Stop.{Stop}
+use Rattle.cap_judge.specs.Readings.{EndsAt, StopsAt, known_of}
+use Rattle.cap_judge.proofs.AnswerLemmas.{end_whole, whole_lacks}
+use Rattle.cap_judge.proofs.ReadingLemmas.{at, step_ends}
+use Rattle.cap_judge.proofs.beginning.Judge.take_end.Goals as goal
+
+pub stop-requires-clause-ends : goal.stop-requires-clause-ends
+stop-requires-clause-ends g c =
+    let held = held_of g.M.TaggedStore.contents c.args.self.now.machine in
+    subst (λ (s : Stage). EndsAt (at s held) c.args.line.now c.args.end) (sym c.requires.body)
+    (step_ends held c.args.line.now [] c.args.end c.requires.ends).0
+
+pub returns-in-NoMemory-clause-no_memory : goal.returns-in-NoMemory-clause-no_memory
+returns-in-NoMemory-clause-no_memory g c =
+    let old = known_of g.M.TaggedStore.contents c.args.self.now in
+    let new = known_of g.M.TaggedStore.contents c.stop.new.self in
+    let line = c.args.line.now in
+    let stop = subst (λ (s : Stop). StopsAt old [] line s new) c.in-NoMemory.is c.stop.ensures.stops in
+    (refl, whole_lacks old new line (end_whole old.held line c.args.end c.requires.ends) stop)

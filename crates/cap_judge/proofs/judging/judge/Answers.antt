@@ -1,8 +1,0 @@
-use Rattle.std.proofs.Common.{ap, ◌∙◌}
-use Rattle.std.specs.FinMap.{len, len-empty}
-use Rattle.std.specs.Ordering.{nat_cmp}
-use Rattle.tagmem.specs.Granules.{Entry}
-use Rattle.cap_judge.proofs.judging.judge.Goals as goal
-
-pub judge_in-requires : goal.judge_in-requires
-judge_in-requires g c = ap len c.new.ensures.empty ∙ len-empty nat_cmp Entry

@@ -1,0 +1,170 @@
+use Rattle.std.proofs.Common.{◌≡◌, ◌/◌, ℕ, ℤ, Bool, List, Option, None, Some, true, false, option_map, [], ap, sym, subst, ◌∙◌}
+use Rattle.std.proofs.Common.{rules, w16, to_z, of_z, FitsSigned}
+use Rattle.std.proofs.lemmas.Int.{to_z-of_z}
+use Rattle.cap_word.specs.declared.word.Cap.{Cap}
+use Rattle.cap_log.specs.declared.lines.Step.{Step}
+use Rattle.cap_log.specs.Lines.{IsOffset, IsStepInRange}
+use Rattle.cap_ops.specs.declared.faults.OpFault.{OpFault}
+use Rattle.cap_ops.specs.Tests.{first_of}
+use Rattle.cap_ops.specs.Operations as ops
+use Rattle.cap_ops.specs.Accesses.{loaded_result}
+use Rattle.cap_machine.specs.Helds.{held_of, state_of}
+use Rattle.cap_machine.specs.States.{State, granule_key, untagged_null}
+use Rattle.cap_machine.specs.Steps.{address_through, granule_through, clear_row, row_of}
+use Rattle.cap_judge.specs.Expectations.{IfWritten, UnlessWritten, lost_for}
+use Rattle.cap_judge.proofs.results.given_by.Goals as goal
+
+-- What `given_by` says of a step.
+abbrev Gives : State → Cap → Option OpFault → Step → Type 0
+Gives state cap fault step =
+    let row = row_of state step in
+    let cleared = clear_row row.access row in
+    IfWritten row.records ((option_map (λ write. write.1) cleared.writes ≡ Some cap) × (lost_for row.access row ≡ fault))
+
+-- What it says of one whose line records no capability.
+abbrev Others : State → Cap → Option OpFault → Step → Type 0
+Others state cap fault step =
+    let row = row_of state step in UnlessWritten row.records ((cap ≡ untagged_null) × (fault ≡ None))
+
+-- An operation on what registers hold is that on the state's capabilities.
+by_one : (tests : Cap → List (Bool × OpFault)) (result : Cap → Cap) (held of_state cap : Cap) (fault : Option OpFault) → held ≡ of_state
+    → cap ≡ ops.clear_result (tests held) (result held) → fault ≡ first_of (tests held)
+    → (Some (ops.clear_result (tests of_state) (result of_state)) ≡ Some cap) × (first_of (tests of_state) ≡ fault)
+by_one tests result held of_state cap fault same is lost = (
+  ap Some (sym (is ∙ ap (λ h. ops.clear_result (tests h) (result h)) same)),
+  sym (lost ∙ ap (λ h. first_of (tests h)) same),
+)
+
+by_two : (tests : Cap → Cap → List (Bool × OpFault)) (result : Cap → Cap → Cap) (held of_state by by_state cap : Cap)
+    (fault : Option OpFault) → held ≡ of_state → by ≡ by_state
+    → cap ≡ ops.clear_result (tests held by) (result held by) → fault ≡ first_of (tests held by)
+    → (Some (ops.clear_result (tests of_state by_state) (result of_state by_state)) ≡ Some cap)
+    × (first_of (tests of_state by_state) ≡ fault)
+by_two tests result held of_state by by_state cap fault same same_by is lost =
+    by_one (λ h. tests h by_state) (λ h. result h by_state) held of_state cap fault same
+    (is ∙ ap (λ b. ops.clear_result (tests held b) (result held b)) same_by)
+    (lost ∙ ap (λ b. first_of (tests held b)) same_by)
+
+-- What a load of a capability gives is by the state's authority and granule. An offset that fits is the same in 16 bits.
+loaded_by : (state : State) (authority : ℕ) (offset : ℤ) (held stored cap : Cap) (reached : ℕ) → IsOffset offset → held ≡ state authority
+    → reached ≡ address_through state authority (to_z w16 (of_z w16 offset)) → stored ≡ state (granule_key (reached / 16))
+    → cap ≡ loaded_result held stored
+    → Some (loaded_result (state authority) (state (granule_key (granule_through state authority offset)))) ≡ Some cap
+loaded_by state authority offset held stored cap reached range same at there is =
+    let fits : FitsSigned w16 offset = search rules in
+    let at_offset = at ∙ ap (λ (o : ℤ). address_through state authority o) (to_z-of_z w16 offset fits) in
+    let there_now = there ∙ ap (λ (a : ℕ). state (granule_key (a / 16))) at_offset in
+    ap Some (sym (is ∙ ap (λ a. loaded_result a stored) same ∙ ap (λ s. loaded_result (state authority) s) there_now))
+
+pub returns-in-Move : goal.returns-in-Move
+returns-in-Move g c = record {
+  gives = let state = state_of (held_of g.M.TaggedStore.contents c.args.machine.now) in
+      let step = c.in-Move in
+      let given = c.untested in
+      subst (Gives state given.result.cap given.result.fault) (sym step.is)
+      (by_one (λ h. []) (λ h. h)
+      c.register.result (state step.source) given.result.cap given.result.fault
+      c.register.ensures.holds given.ensures.cap given.ensures.fault);
+  others = subst (Others _ _ _) (sym c.in-Move.is) tt;
+}
+
+pub returns-in-ClearTag : goal.returns-in-ClearTag
+returns-in-ClearTag g c = record {
+  gives = let state = state_of (held_of g.M.TaggedStore.contents c.args.machine.now) in
+      let step = c.in-ClearTag in
+      let given = c.untested-in-ClearTag in
+      subst (Gives state given.result.cap given.result.fault) (sym step.is)
+      (by_one (λ h. []) (λ h. ops.cleared h)
+      c.register-in-ClearTag.result (state step.source) given.result.cap given.result.fault
+      c.register-in-ClearTag.ensures.holds (given.ensures.cap ∙ c.clear_tag.ensures.result_is) given.ensures.fault);
+  others = subst (Others _ _ _) (sym c.in-ClearTag.is) tt;
+}
+
+pub returns-in-SetBounds : goal.returns-in-SetBounds
+returns-in-SetBounds g c = record {
+  gives = let state = state_of (held_of g.M.TaggedStore.contents c.args.machine.now) in
+      let step = c.in-SetBounds in
+      let given = c.bounded in
+      subst (Gives state given.result.cap given.result.fault) (sym step.is)
+      (by_one (λ h. ops.set_bounds_tests h step.length false) (λ h. ops.set_bounds_result h step.length)
+      c.register-in-SetBounds.result (state step.source) given.result.cap given.result.fault
+      c.register-in-SetBounds.ensures.holds given.ensures.cap given.ensures.fault);
+  others = subst (Others _ _ _) (sym c.in-SetBounds.is) tt;
+}
+
+pub returns-in-SetBoundsExact : goal.returns-in-SetBoundsExact
+returns-in-SetBoundsExact g c = record {
+  gives = let state = state_of (held_of g.M.TaggedStore.contents c.args.machine.now) in
+      let step = c.in-SetBoundsExact in
+      let given = c.bounded-in-SetBoundsExact in
+      subst (Gives state given.result.cap given.result.fault) (sym step.is)
+      (by_one (λ h. ops.set_bounds_tests h step.length true) (λ h. ops.set_bounds_result h step.length)
+      c.register-in-SetBoundsExact.result (state step.source) given.result.cap given.result.fault
+      c.register-in-SetBoundsExact.ensures.holds given.ensures.cap given.ensures.fault);
+  others = subst (Others _ _ _) (sym c.in-SetBoundsExact.is) tt;
+}
+
+pub returns-in-SetAddr : goal.returns-in-SetAddr
+returns-in-SetAddr g c = record {
+  gives = let state = state_of (held_of g.M.TaggedStore.contents c.args.machine.now) in
+      let step = c.in-SetAddr in
+      let given = c.moved in
+      subst (Gives state given.result.cap given.result.fault) (sym step.is)
+      (by_one (λ h. ops.set_addr_tests h step.address) (λ h. ops.set_addr_result h step.address)
+      c.register-in-SetAddr.result (state step.source) given.result.cap given.result.fault
+      c.register-in-SetAddr.ensures.holds given.ensures.cap given.ensures.fault);
+  others = subst (Others _ _ _) (sym c.in-SetAddr.is) tt;
+}
+
+pub returns-in-AndPerm : goal.returns-in-AndPerm
+returns-in-AndPerm g c = record {
+  gives = let state = state_of (held_of g.M.TaggedStore.contents c.args.machine.now) in
+      let step = c.in-AndPerm in
+      let given = c.permitted in
+      subst (Gives state given.result.cap given.result.fault) (sym step.is)
+      (by_one (λ h. ops.and_perm_tests h) (λ h. ops.and_perm_result h step.mask)
+      c.register-in-AndPerm.result (state step.source) given.result.cap given.result.fault
+      c.register-in-AndPerm.ensures.holds given.ensures.cap given.ensures.fault);
+  others = subst (Others _ _ _) (sym c.in-AndPerm.is) tt;
+}
+
+pub returns-in-Seal : goal.returns-in-Seal
+returns-in-Seal g c = record {
+  gives = let state = state_of (held_of g.M.TaggedStore.contents c.args.machine.now) in
+      let step = c.in-Seal in
+      let given = c.sealed in
+      subst (Gives state given.result.cap given.result.fault) (sym step.is)
+      (by_two (λ h b. ops.seal_tests h b) (λ h b. ops.seal_result h b)
+      c.register-in-Seal.result (state step.source) c.register-in-Seal-2.result (state step.authority)
+      given.result.cap given.result.fault c.register-in-Seal.ensures.holds
+      c.register-in-Seal-2.ensures.holds given.ensures.cap given.ensures.fault);
+  others = subst (Others _ _ _) (sym c.in-Seal.is) tt;
+}
+
+pub returns-in-Unseal : goal.returns-in-Unseal
+returns-in-Unseal g c = record {
+  gives = let state = state_of (held_of g.M.TaggedStore.contents c.args.machine.now) in
+      let step = c.in-Unseal in
+      let given = c.unsealed in
+      subst (Gives state given.result.cap given.result.fault) (sym step.is)
+      (by_two (λ h b. ops.unseal_tests h b) (λ h b. ops.unseal_result h b)
+      c.register-in-Unseal.result (state step.source) c.register-in-Unseal-2.result (state step.authority)
+      given.result.cap given.result.fault c.register-in-Unseal.ensures.holds
+      c.register-in-Unseal-2.ensures.holds given.ensures.cap given.ensures.fault);
+  others = subst (Others _ _ _) (sym c.in-Unseal.is) tt;
+}
+
+pub returns-in-LoadCap : goal.returns-in-LoadCap
+returns-in-LoadCap g c = record {
+  gives = let state = state_of (held_of g.M.TaggedStore.contents c.args.machine.now) in
+      let step = c.in-LoadCap in
+      let given = c.untested-in-LoadCap in
+      let range = subst IsStepInRange step.is c.requires in
+      subst (Gives state given.result.cap given.result.fault) (sym step.is) (
+        loaded_by state step.authority step.offset c.register-in-LoadCap.result c.granule.result given.result.cap c.reached-granule.result
+            range.2 c.register-in-LoadCap.ensures.holds c.reached-granule.ensures.value c.granule.ensures.holds
+            (given.ensures.cap ∙ c.loaded.ensures.result_is),
+        sym given.ensures.fault,
+      );
+  others = subst (Others _ _ _) (sym c.in-LoadCap.is) tt;
+}

@@ -1,0 +1,3 @@
+mod StepLemmas
+mod DetailLemmas
+mod WhyLemmas

@@ -1,0 +1,63 @@
+-- The report of a first fault: it is that of the place where the judge stopped.
+use Rattle.std.proofs.Common.{◌≡◌, ℕ, Bool, true, false, List, [], ◌++◌, refl, sym, ap, subst, Ok, Err, Result, OnOk, OnErr}
+use Rattle.std.specs.Bool.{if◌then◌else◌}
+use Rattle.cap_ops.specs.declared.refusal.Refusal.{Refusal}
+use Rattle.cap_machine.specs.Accounts.{Account}
+use Rattle.cap_machine.specs.Helds.{Held, account_of}
+use Rattle.cap_judge.specs.declared.verdict.Verdict.{Verdict}
+use Rattle.cap_judge.specs.declared.verdict.Verdict.TheVariants.{Yes, No}
+use Rattle.cap_judge.specs.Judgings.{IsVerdictOf, IsAnswerOf, LeadsAfter, StopsBefore, StopsIn}
+use Rattle.cap_judge.specs.Reports.{Tells}
+use Rattle.cap_judge.specs.OriginLists.{report_text}
+use Rattle.cap_judge.specs.VerdictLines.{verdict_line}
+use Rattle.cap_judge.proofs.FaultPlaces.{at_fault}
+use Rattle.cap_judge.proofs.ReportLemmas.{IsHeld, tells}
+use Rattle.cap_report.specs.FaultReports.{IsLineReport, IsReport}
+use Rattle.cap_report.specs.Whys.{IsWhyText, IsTold}
+
+-- where a judge stopped, the report of that line is the report of the first fault, whatever bytes follow where the source has not ended
+pub reported : (given : List ℕ) (ended : Bool) (held : Held) (line : ℕ) (refusal : Refusal) (text report : List ℕ)
+    → IsVerdictOf given ended (No line refusal) → StopsBefore given ended held line text
+    → IsLineReport (account_of held) text refusal report
+    → (more : List ℕ) → (ended ≡ true → more ≡ []) → IsReport (given ++ more) line refusal report
+reported given ended held line refusal text report verdict stops told more end =
+    let place = at_fault given ended held line refusal text verdict stops more end in
+    record {
+      fault = place.fault;
+      text = text;
+      front = place.front;
+      told = subst (λ (a : Account). IsLineReport a text refusal report) place.account_is told;
+    }
+
+-- the text of a judge that explains, by where it stopped
+pub told : (origins : Bool) (given : List ℕ) (ended : Bool) (held : Held) (text : List ℕ) (verdict : Verdict) (said : List ℕ) → IsHeld held
+    → IsAnswerOf given ended (Ok verdict) → LeadsAfter given held verdict → StopsIn given ended held text verdict
+    → IsWhyText origins held text verdict said → IsTold origins true given ended verdict said
+told true given ended held text (Yes steps roots) said is answer to stops why =
+    subst (Tells true given (Yes steps roots)) (sym why) (tells given held (Yes steps roots) is to)
+told false given ended held text (Yes steps roots) said is answer to stops why = why
+told origins given ended held text (No line refusal) said is answer to stops why =
+    (why.0, reported given ended held line refusal text why.0 answer.verdict stops why.1, why.2)
+
+-- what follows at an `Ok`, and at an `Err`
+pub on_ok : {T E P X : Type 0} (r : Result T E) → (P → X) → OnOk r P → OnOk r X
+on_ok (Ok v) f h = f h
+on_ok (Err e) f h = tt
+
+pub on_err : {T E P X : Type 0} (r : Result T E) → (P → X) → OnErr r P → OnErr r X
+on_err (Ok v) f h = tt
+on_err (Err e) f h = f h
+
+-- the text of a yes, and of a no
+pub why_yes : (origins now : Bool) (held : Held) (text : List ℕ) (verdict : Verdict) (steps roots : ℕ)
+    → verdict ≡ Yes steps roots → origins ≡ now
+    → IsWhyText origins held text verdict (if now then report_text held verdict else verdict_line verdict)
+why_yes origins now held text verdict steps roots is asked =
+    subst (λ (v : Verdict). IsWhyText origins held text v (if now then report_text held v else verdict_line v)) (sym is)
+    (ap (λ (b : Bool). if b then report_text held (Yes steps roots) else verdict_line (Yes steps roots)) (sym asked))
+
+pub why_no : (origins : Bool) (held : Held) (text : List ℕ) (verdict : Verdict) (line : ℕ) (refusal : Refusal)
+    (report : List ℕ) → verdict ≡ No line refusal
+    → IsLineReport (account_of held) text refusal report → IsWhyText origins held text verdict (verdict_line verdict ++ report)
+why_no origins held text verdict line refusal report is by =
+    subst (λ (v : Verdict). IsWhyText origins held text v (verdict_line v ++ report)) (sym is) (report, by, refl)

@@ -1,0 +1,65 @@
+use Rattle.std.proofs.Common.{subst}
+use Rattle.std.proofs.lemmas.Result.{err_from_is_err_and}
+use Rattle.cap_machine.specs.Helds.{held_of}
+use Rattle.cap_judge.specs.FaultLines.{bytes_of}
+use Rattle.cap_judge.specs.Judgings.{JudgedBy}
+use Rattle.cap_judge.proofs.ReportLemmas.{IsHeld}
+use Rattle.cap_report.proofs.WhyLemmas.{told}
+use Rattle.cap_judge.proofs.EscapeLaws.{named}
+use Rattle.cap_report.proofs.explaining.judge_why_in.Goals as goal
+
+pub returns-clause-explained : goal.returns-clause-explained
+returns-clause-explained g c =
+    let machine = c.judge_keeping-answer.result.machine in
+    let held = held_of g.M.TaggedStore.contents machine in
+    let text = bytes_of c.judge_keeping-answer.result.fault in
+    let is : IsHeld held = record {
+      coded = machine.coded;
+      zero_is = machine.zero;
+      stored = g.met.M.TaggedStore.are_stored machine.memory;
+    } in
+    let by = subst (λ r. JudgedBy g.S.Source.gave g.S.Source.ended c.args.source.now c.judge_keeping-answer.new.source r held text)
+    c.in_ok-verdict.was c.judge_keeping-answer.ensures.judged in
+    let why = c.in_ok-push_why.ensures.ok in
+    record {
+      given = by.judged.given;
+      gives = by.judged.gives;
+      explanation = (
+        by.judged.answer,
+        why.0,
+        told c.args.origins by.judged.given _ held text c.in_ok-verdict.verdict why.0 is by.judged.answer
+            by.leads by.stops why.1,
+        why.2,
+      );
+    }
+
+pub returns-in_err-push_why-clause-explained : goal.returns-in_err-push_why-clause-explained
+returns-in_err-push_why-clause-explained g c =
+    let machine = c.judge_keeping-answer.result.machine in
+    let held = held_of g.M.TaggedStore.contents machine in
+    let text = bytes_of c.judge_keeping-answer.result.fault in
+    let is : IsHeld held = record {
+      coded = machine.coded;
+      zero_is = machine.zero;
+      stored = g.met.M.TaggedStore.are_stored machine.memory;
+    } in
+    let by = subst (λ r. JudgedBy g.S.Source.gave g.S.Source.ended c.args.source.now c.judge_keeping-answer.new.source r held text)
+    c.in_ok-verdict.was c.judge_keeping-answer.ensures.judged in
+    let why = c.in_err-push_why.ensures.err in
+    let failed = err_from_is_err_and c.from_residual-in_err-push_why.result c.from_residual-in_err-push_why.ensures.1 in
+    rw (failed.1, failed.2) (record {
+      given = by.judged.given;
+      gives = by.judged.gives;
+      explanation = (
+        c.in_ok-verdict.verdict,
+        by.judged.answer,
+        why.0,
+        told c.args.origins by.judged.given _ held text c.in_ok-verdict.verdict why.0 is
+            by.judged.answer by.leads by.stops why.1,
+        why.2,
+        why.3,
+      );
+    })
+
+pub returns-clause-escape : goal.returns-clause-escape
+returns-clause-escape g c = named c.in_ok-verdict.verdict

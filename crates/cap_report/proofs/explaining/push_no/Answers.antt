@@ -1,0 +1,21 @@
+use Rattle.std.proofs.Common.{ℕ, List, ◌++◌, take, ap, subst, ◌∙◌}
+use Rattle.cap_report.proofs.WhyLemmas.{on_ok, on_err}
+use Rattle.cap_report.proofs.explaining.push_no.Goals as goal
+
+pub returns-clause-ok : goal.returns-clause-ok
+returns-clause-ok g c =
+    let r = c.put_report-end.ensures.report in
+    let text = r.2 ∙ ap (λ (f : List ℕ). f ++ r.0) (c.put-at.ensures.written.written ∙ c.verdict_text-length.ensures.line) in
+    on_ok c.push_all.result (λ took. (r.0, r.1, subst (g.K.Sink.took c.args.sink.now c.push_all.new.sink) text took)) c.push_all.ensures.ok
+
+pub returns-clause-err : goal.returns-clause-err
+returns-clause-err g c =
+    let r = c.put_report-end.ensures.report in
+    let text = r.2 ∙ ap (λ (f : List ℕ). f ++ r.0) (c.put-at.ensures.written.written ∙ c.verdict_text-length.ensures.line) in
+    on_err c.push_all.result (λ part. (
+      r.0,
+      r.1,
+      part.0,
+      subst (λ (t : List ℕ). g.K.Sink.took c.args.sink.now c.push_all.new.sink
+          (take part.0 t)) text part.1,
+    )) c.push_all.ensures.err

@@ -1,0 +1,104 @@
+use Rattle.std.proofs.Common.{[], inl, inr, refl, sym, ap, subst, append-nil, arith}
+use Rattle.cap_log.specs.declared.lines.Line.{Line}
+use Rattle.cap_log.specs.declared.lines.Line.TheVariants as lines
+use Rattle.cap_log.specs.Lines.{Spells}
+use Rattle.cap_machine.specs.Helds.{account_of, held_of}
+use Rattle.cap_report.specs.FaultReports.{known_lines, root_lines}
+use Rattle.cap_report.specs.StepLines.{step_lines}
+use Rattle.cap_report.proofs.DetailLemmas.{details_other, nothing_told, root_form, step_form}
+use Rattle.cap_report.proofs.fault_reports.put_details.Goals as goal
+
+pub returns-in-None : goal.returns-in-None
+returns-in-None g c =
+    let account = account_of (held_of g.M.TaggedStore.contents c.args.machine.now) in
+    record {
+      fits = omega arith;
+      written = (
+        [],
+        details_other account c.args.text.now c.args.refusal [] c.in_default.not-BadHeader
+            c.in_default.not-LineTooLong c.in_default.not-BadLine c.in_default.not-BadMode
+            c.in_default.not-Misplaced c.in_default.not-Truncated
+            c.in_default.not-WrongCount c.in_default.not-LimitPassed (inr (λ line by. c.in-None.ensures.none line by.0, refl)),
+        sym (append-nil _),
+      );
+    }
+
+pub returns-in-Version : goal.returns-in-Version
+returns-in-Version g c =
+    let account = account_of (held_of g.M.TaggedStore.contents c.args.machine.now) in
+    record {
+      fits = omega arith;
+      written = (
+        [],
+        details_other account c.args.text.now c.args.refusal [] c.in_default.not-BadHeader
+            c.in_default.not-LineTooLong c.in_default.not-BadLine c.in_default.not-BadMode
+            c.in_default.not-Misplaced c.in_default.not-Truncated
+            c.in_default.not-WrongCount c.in_default.not-LimitPassed (nothing_told account c.args.text.now
+            c.in-Some.line c.args.refusal _ refl
+            c.in-Some.ensures.some (ap (λ (l : Line). known_lines account l c.args.refusal) (sym c.in-Version.is))),
+        sym (append-nil _),
+      );
+    }
+
+pub returns-in-Mode : goal.returns-in-Mode
+returns-in-Mode g c =
+    let account = account_of (held_of g.M.TaggedStore.contents c.args.machine.now) in
+    record {
+      fits = omega arith;
+      written = (
+        [],
+        details_other account c.args.text.now c.args.refusal [] c.in_default.not-BadHeader
+            c.in_default.not-LineTooLong c.in_default.not-BadLine c.in_default.not-BadMode
+            c.in_default.not-Misplaced c.in_default.not-Truncated
+            c.in_default.not-WrongCount c.in_default.not-LimitPassed (nothing_told account c.args.text.now
+            c.in-Some.line c.args.refusal _ refl
+            c.in-Some.ensures.some (ap (λ (l : Line). known_lines account l c.args.refusal) (sym c.in-Mode.is))),
+        sym (append-nil _),
+      );
+    }
+
+pub returns-in-End : goal.returns-in-End
+returns-in-End g c =
+    let account = account_of (held_of g.M.TaggedStore.contents c.args.machine.now) in
+    record {
+      fits = omega arith;
+      written = (
+        [],
+        details_other account c.args.text.now c.args.refusal [] c.in_default.not-BadHeader
+            c.in_default.not-LineTooLong c.in_default.not-BadLine c.in_default.not-BadMode
+            c.in_default.not-Misplaced c.in_default.not-Truncated
+            c.in_default.not-WrongCount c.in_default.not-LimitPassed (nothing_told account c.args.text.now
+            c.in-Some.line c.args.refusal _ refl
+            c.in-Some.ensures.some (ap (λ (l : Line). known_lines account l c.args.refusal) (sym c.in-End.is))),
+        sym (append-nil _),
+      );
+    }
+
+pub returns-in-Root-clause-written : goal.returns-in-Root-clause-written
+returns-in-Root-clause-written g c =
+    let account = account_of (held_of g.M.TaggedStore.contents c.args.machine.now) in
+    let spells = subst (Spells c.args.text.now) c.in-Root.is c.in-Some.ensures.some in (
+      root_lines account c.in-Root.place c.in-Root.word c.args.refusal,
+      details_other account c.args.text.now c.args.refusal _
+          c.in_default.not-BadHeader c.in_default.not-LineTooLong c.in_default.not-BadLine
+          c.in_default.not-BadMode c.in_default.not-Misplaced
+          c.in_default.not-Truncated c.in_default.not-WrongCount c.in_default.not-LimitPassed
+          (inl (lines.Root c.in-Root.place c.in-Root.word, (spells, root_form account.rules c.in-Root.place c.in-Root.word), refl)),
+      c.put_root_lines.ensures.written,
+    )
+
+pub returns-in-Step-clause-written : goal.returns-in-Step-clause-written
+returns-in-Step-clause-written g c =
+    let account = account_of (held_of g.M.TaggedStore.contents c.args.machine.now) in
+    let spells = subst (Spells c.args.text.now) c.in-Step.is c.in-Some.ensures.some in (
+      step_lines account c.in-Step.step c.args.refusal,
+      details_other account c.args.text.now c.args.refusal _ c.in_default.not-BadHeader
+          c.in_default.not-LineTooLong c.in_default.not-BadLine c.in_default.not-BadMode
+          c.in_default.not-Misplaced c.in_default.not-Truncated
+          c.in_default.not-WrongCount c.in_default.not-LimitPassed (inl (
+            lines.Step c.in-Step.step,
+            (spells, step_form account.rules c.in-Step.step),
+            refl,
+          )),
+      c.put_step_lines.ensures.written.written,
+    )

@@ -1,0 +1,4 @@
+pub mod Parts
+pub mod StepLines
+pub mod FaultReports
+pub mod Whys

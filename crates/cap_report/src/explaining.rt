@@ -1,0 +1,126 @@
+//! The judge that explains a no: what the machine held before the line that was refused.
+
+ghost use Rattle.std.specs.Prelude.{◌≡◌, ◌≢◌, ℕ, List, ◌++◌, take, true, Err, IfOk, OnOk, OnErr};
+ghost use Rattle.std.specs.FinMap as map;
+ghost use Rattle.cap_log.specs.Streams.{next_count};
+ghost use Rattle.cap_machine.specs.Helds.{account_of, held_of};
+ghost use Rattle.cap_judge.specs.FaultLines.{bytes_of};
+ghost use Rattle.cap_report.specs.FaultReports.{IsLineReport};
+ghost use Rattle.cap_judge.specs.VerdictLines.{verdict_line};
+ghost use Rattle.cap_judge.specs.Verdicts.{NamesEscapes};
+ghost use Rattle.cap_report.specs.Whys.{Explained, IsWhyText};
+ghost use Rattle.cap_judge.specs.declared.verdict.JudgeToFault.TheVariants.{Pull, Push};
+
+use crate::fault_reports::put_report;
+use cap_judge::{
+    FaultLine, JudgeToFault, Judging, Verdict, judge_keeping, push_report, push_verdict,
+    verdict_text,
+};
+use cap_log::buffers::put;
+use cap_log::{PushFault, Sink, Source, push_all};
+use cap_machine::{Machine, Refusal};
+use std::alloc::Global;
+use tagmem::{PageStore, TaggedStore};
+
+/// Judges the bytes that a source gives, pushes the line of the verdict, and after a no the report of the
+/// first fault: its line, and what the machine held before it and the rules would have given. After a yes
+/// the origins are pushed where they are asked for, as by `judge_origins`.
+pub fn judge_why<S: Source, K: Sink>(
+    alloc: Global,
+    origins: bool,
+    source: &mut S,
+    sink: &mut K,
+) -> Result<Verdict, JudgeToFault>
+    ensures explained { Explained origins true S.gave S.ended K.took source.old source.new sink.old sink.new result }
+
+    // Whatever bytes it is the verdict of, a no names `BoundsEscape` exactly as `judge_bytes` says.
+    ensures escape { IfOk result NamesEscapes }
+
+    // Each fault of the source or the sink ends the call, and nothing else counts one.
+    ensures counted { result ≢ Err Pull → S.faults source.new ≡ S.faults source.old }
+    ensures pull_counted { result ≡ Err Pull → S.faults source.new ≡ next_count (S.faults source.old) }
+    ensures sink_counted { result ≢ Err Push → K.faults sink.new ≡ K.faults sink.old }
+    ensures push_counted { result ≡ Err Push → K.faults sink.new ≡ next_count (K.faults sink.old) }
+{
+    judge_why_in(origins, source, PageStore::new(alloc), sink)
+}
+
+/// Judges as [`judge_why`] does, with the granules in a store that is empty.
+pub fn judge_why_in<S: Source, M: TaggedStore, K: Sink>(
+    origins: bool,
+    source: &mut S,
+    memory: M,
+    sink: &mut K,
+) -> Result<Verdict, JudgeToFault>
+    requires { map.len (M.contents memory) ≡ 0 }
+    ensures explained { Explained origins true S.gave S.ended K.took source.old source.new sink.old sink.new result }
+    ensures escape { IfOk result NamesEscapes }
+    ensures counted { result ≢ Err Pull → S.faults source.new ≡ S.faults source.old }
+    ensures pull_counted { result ≡ Err Pull → S.faults source.new ≡ next_count (S.faults source.old) }
+    ensures sink_counted { result ≢ Err Push → K.faults sink.new ≡ K.faults sink.old }
+    ensures push_counted { result ≡ Err Push → K.faults sink.new ≡ next_count (K.faults sink.old) }
+{
+    let Judging {
+        answer,
+        machine,
+        fault,
+    } = judge_keeping(source, memory);
+    let verdict = answer?;
+    push_why(&verdict, origins, &machine, &fault, sink)?;
+    Ok(verdict)
+}
+
+// Pushes the text of a verdict: after a yes with the origins where they are asked for, and after a no with
+// the report of the line that was refused.
+fn push_why<M: TaggedStore, K: Sink>(
+    verdict: &Verdict,
+    origins: bool,
+    machine: &Machine<M>,
+    fault: &FaultLine,
+    sink: &mut K,
+) -> Result<(), PushFault>
+    ensures ok { OnOk result ((told : List ℕ)
+        × IsWhyText origins (held_of M.contents machine.now) (bytes_of fault.now) verdict.now told
+        × K.took sink.old sink.new told) }
+    ensures err { OnErr result ((told : List ℕ)
+        × IsWhyText origins (held_of M.contents machine.now) (bytes_of fault.now) verdict.now told
+        × (n : ℕ) × K.took sink.old sink.new (take n told)) }
+    ensures counted { OnOk result (K.faults sink.new ≡ K.faults sink.old) }
+    ensures fault_counted { OnErr result (K.faults sink.new ≡ next_count (K.faults sink.old)) }
+{
+    match *verdict {
+        Verdict::Yes { steps: _, roots: _ } => {
+            if origins {
+                push_report(verdict, machine, sink)
+            } else {
+                push_verdict(verdict, sink)
+            }
+        }
+        Verdict::No { line: _, refusal } => push_no(verdict, machine, fault, refusal, sink),
+    }
+}
+
+// Pushes the line of a verdict and the report of the line that was refused.
+fn push_no<M: TaggedStore, K: Sink>(
+    verdict: &Verdict,
+    machine: &Machine<M>,
+    fault: &FaultLine,
+    refusal: Refusal,
+    sink: &mut K,
+) -> Result<(), PushFault>
+    ensures ok { OnOk result ((report : List ℕ)
+        × IsLineReport (account_of (held_of M.contents machine.now)) (bytes_of fault.now) refusal report
+        × K.took sink.old sink.new (verdict_line verdict.now ++ report)) }
+    ensures err { OnErr result ((report : List ℕ)
+        × IsLineReport (account_of (held_of M.contents machine.now)) (bytes_of fault.now) refusal report
+        × (n : ℕ) × K.took sink.old sink.new (take n (verdict_line verdict.now ++ report))) }
+    ensures counted { OnOk result (K.faults sink.new ≡ K.faults sink.old) }
+    ensures fault_counted { OnErr result (K.faults sink.new ≡ next_count (K.faults sink.old)) }
+{
+    let mut text = [0u8; 3136];
+    let mut line = [0u8; 64];
+    let length = verdict_text(verdict, &mut line);
+    let at = put(&mut text, 0, &line[..length]);
+    let end = put_report(machine, fault, refusal, &mut text, at);
+    push_all(sink, &text[..end])
+}

@@ -1,0 +1,128 @@
+//! The report of a first fault: the line, and what the machine held before it.
+
+ghost use Rattle.std.specs.Prelude.{◌≡◌, ℕ, List, ◌+◌, ◌≤◌, ◌++◌, length, take, drop};
+ghost use Rattle.cap_machine.specs.Helds.{account_of, held_of};
+ghost use Rattle.cap_log.specs.Lines.{IsPlace};
+ghost use Rattle.cap_bounds.specs.Bounds.{length_of};
+ghost use Rattle.cap_judge.specs.FaultLines.{bytes_of};
+ghost use Rattle.cap_report.specs.FaultReports.{AreDetails, IsLineReport, count_lines, root_lines};
+
+use crate::step_lines::put_step_lines;
+use cap_bounds::mantissa;
+use cap_judge::FaultLine;
+use cap_log::{Line, Place, read_line};
+use cap_machine::{Machine, Refusal};
+use cap_texts::cap_lines::{put_cap_lines, put_operand_lines};
+use cap_texts::shown_bytes::put_line_line;
+use cap_texts::text_lines::{put_hex_line, put_number_line};
+use cap_word::{Cap, Word, split};
+use tagmem::TaggedStore;
+
+/// Writes the report of a line that was refused at an index of the buffer, and answers the index behind it.
+/// The machine is as it was before the line.
+pub fn put_report<M: TaggedStore>(
+    machine: &Machine<M>,
+    line: &FaultLine,
+    refusal: Refusal,
+    buffer: &mut [u8],
+    at: usize,
+) -> usize
+    requires { at + 3072 ≤ length buffer.old }
+    ensures fits { result ≤ length buffer.old }
+    ensures report { (report : List ℕ)
+        × IsLineReport (account_of (held_of M.contents machine.now)) (bytes_of line.now) refusal report
+        × (take result buffer.new ≡ take at buffer.old ++ report) }
+{
+    let text = line.as_slice();
+    let at = put_line_line(buffer, at, text);
+    put_details(machine, text, refusal, buffer, at)
+}
+
+// Writes what is told of a line for its refusal.
+fn put_details<M: TaggedStore>(
+    machine: &Machine<M>,
+    text: &[u8],
+    refusal: Refusal,
+    buffer: &mut [u8],
+    at: usize,
+) -> usize
+    requires room { at + 2560 ≤ length buffer.old }
+    ensures fits { result ≤ at + 2560 }
+    ensures written { (details : List ℕ)
+        × AreDetails (account_of (held_of M.contents machine.now)) text.now refusal details
+        × (take result buffer.new ≡ take at buffer.old ++ details) }
+{
+    match refusal {
+        Refusal::BadHeader | Refusal::LineTooLong | Refusal::BadLine | Refusal::BadMode => at,
+        Refusal::Misplaced | Refusal::Truncated | Refusal::WrongCount | Refusal::LimitPassed => {
+            put_count_lines(machine, buffer, at)
+        }
+        _ => match read_line(text) {
+            Some(line) => match line {
+                Line::Root(place, word) => {
+                    put_root_lines(machine, place, word, refusal, buffer, at)
+                }
+                Line::Step(step) => put_step_lines(machine, &step, refusal, buffer, at),
+                Line::Version(_) => at,
+                Line::Mode(_) => at,
+                Line::End(_) => at,
+            },
+            None => at,
+        },
+    }
+}
+
+// Writes the counts of what was taken so far.
+fn put_count_lines<M: TaggedStore>(machine: &Machine<M>, buffer: &mut [u8], at: usize) -> usize
+    requires room { at + 256 ≤ length buffer.old }
+    ensures from { at ≤ result }
+    ensures fits { result ≤ at + 128 }
+    ensures written { take result buffer.new ≡ take at buffer.old ++ count_lines (account_of (held_of M.contents machine.now)) }
+    ensures rest { (k : ℕ) → result ≤ k → drop k buffer.new ≡ drop k buffer.old }
+{
+    let at = put_number_line(buffer, at, b"roots", u64::from(machine.roots()));
+    let at = put_number_line(buffer, at, b"steps", u64::from(machine.steps()));
+    put_number_line(buffer, at, b"granules", u64::from(machine.granules()))
+}
+
+// Writes what is told of a root: what its place holds, or what its word stands for.
+fn put_root_lines<M: TaggedStore>(
+    machine: &Machine<M>,
+    place: Place,
+    word: Word,
+    refusal: Refusal,
+    buffer: &mut [u8],
+    at: usize,
+) -> usize
+    requires place { IsPlace place }
+    requires room { at + 512 ≤ length buffer.old }
+    ensures from { at ≤ result }
+    ensures fits { result ≤ at + 256 }
+    ensures written { take result buffer.new ≡ take at buffer.old
+        ++ root_lines (account_of (held_of M.contents machine.now)) place word refusal }
+    ensures rest { (k : ℕ) → result ≤ k → drop k buffer.new ≡ drop k buffer.old }
+{
+    match refusal {
+        Refusal::PlaceTaken => put_operand_lines(
+            buffer,
+            at,
+            b"holds",
+            place,
+            machine.holds(place),
+            machine.origin(place),
+        ),
+        _ => {
+            let at = put_cap_lines(buffer, at, b"root", place, Cap { tag: true, word });
+            put_hex_line(buffer, at, b"length", 17, length_of(word))
+        }
+    }
+}
+
+// The length of a word.
+fn length_of(word: Word) -> u128
+    ensures { result ≡ length_of word.0 }
+{
+    let fields = split(word);
+    let span = (u128::from(mantissa(&fields)) + 16384 - u128::from(fields.b)) % 16384;
+    span << fields.e.min(52)
+}

@@ -1,0 +1,13 @@
+//! The report of a no: which line was refused and what the machine held before it, what its step asked for
+//! and from which root that comes, and where it records another result, what the rules give.
+//!
+//! [`judge_why`] judges what a source gives and pushes the verdict, after a no with its report.
+#![tactic(auto)]
+
+mod explaining;
+mod fault_reports;
+mod operands;
+mod parts;
+mod step_lines;
+
+pub use crate::explaining::{judge_why, judge_why_in};

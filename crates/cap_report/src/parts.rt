@@ -1,0 +1,142 @@
+//! The parts of the report on a step: each is a few lines that name a value.
+
+ghost use Rattle.std.specs.Prelude.{◌≡◌, ℕ, ◌+◌, ◌*◌, ◌≤◌, ◌++◌, length, take, drop};
+ghost use Rattle.cap_report.specs.Parts.{IsWritten, cleared_line, differs_line, lines_of_parts, part_lines};
+ghost use Rattle.cap_report.specs.Parts.{where_different};
+
+use cap_log::Place;
+use cap_log::buffers::{put, put_decimal};
+use cap_machine::Refusal;
+use cap_ops::OpFault;
+use cap_texts::cap_lines::{put_bounds_line, put_cap_lines, put_operand_lines};
+use cap_texts::text_lines::put_hex_line;
+use cap_word::{Cap, split};
+
+/// A part of the report on a step.
+#[derive(Clone, Copy)]
+pub enum Part {
+    /// What the place holds that a result comes from, or that is stored, and the place of its root.
+    Source(Place, Cap, Option<Place>),
+    /// What the register holds that is the authority, and the place of its root.
+    Authority(Place, Cap, Option<Place>),
+    /// The bounds that are asked for.
+    Request(u64, u128),
+    /// The bounds to which these are rounded.
+    Rounded(u64, u128),
+    /// The bounds at the address that is asked for.
+    Moved(u64, u128),
+    /// The representable range of the source: where it starts, and behind its last address, not reduced
+    /// modulo 2^64.
+    Representable(u64, u128),
+    /// The bytes of an access: the address of the first, and that behind the last.
+    Access(u64, u128),
+    /// The permissions that the authority needs, in the view.
+    Needs(u32),
+    /// What the rules give for a place, without a tag where a test holds.
+    Gives(Place, Cap),
+    /// The test for which it has none.
+    Cleared(OpFault),
+    /// What the line records.
+    Recorded(Place, Cap),
+    /// The fields in which what the rules give and what the line records differ.
+    Differs(Cap, Cap),
+}
+
+/// Writes the lines of parts at an index of the buffer, and answers the index behind them. Nothing else of
+/// the buffer changes.
+pub fn put_parts(buffer: &mut [u8], at: usize, parts: &[Part]) -> usize
+    requires { at + 256 * length parts.now ≤ length buffer.old }
+    ensures written { IsWritten (256 * length parts.now) at (lines_of_parts parts.now) buffer.old buffer.new result }
+{
+    let mut end = at;
+    for index in 0..parts.len() {
+        end = put_part(buffer, end, &parts[index]);
+    }
+    end
+}
+
+// Writes the lines of a part.
+fn put_part(buffer: &mut [u8], at: usize, part: &Part) -> usize
+    requires { at + 256 ≤ length buffer.old }
+    ensures { IsWritten 256 at (part_lines part.now) buffer.old buffer.new result }
+{
+    match *part {
+        Part::Source(place, cap, root) => {
+            put_operand_lines(buffer, at, b"source", place, cap, root)
+        }
+        Part::Authority(place, cap, root) => {
+            put_operand_lines(buffer, at, b"authority", place, cap, root)
+        }
+        Part::Request(base, top) => {
+            put_bounds_line(buffer, at, b"request", b" ", u128::from(base), top)
+        }
+        Part::Rounded(base, top) => {
+            put_bounds_line(buffer, at, b"rounded", b" ", u128::from(base), top)
+        }
+        Part::Moved(base, top) => {
+            put_bounds_line(buffer, at, b"moved", b" ", u128::from(base), top)
+        }
+        Part::Representable(start, end) => {
+            put_bounds_line(buffer, at, b"representable", b" ", u128::from(start), end)
+        }
+        Part::Access(start, end) => {
+            put_bounds_line(buffer, at, b"access", b" ", u128::from(start), end)
+        }
+        Part::Needs(view) => put_hex_line(buffer, at, b"needs", 8, u128::from(view)),
+        Part::Gives(place, cap) => put_cap_lines(buffer, at, b"gives", place, cap),
+        Part::Cleared(fault) => put_cleared_line(buffer, at, Refusal::from(fault)),
+        Part::Recorded(place, cap) => put_cap_lines(buffer, at, b"recorded", place, cap),
+        Part::Differs(given, recorded) => put_differs_line(buffer, at, given, recorded),
+    }
+}
+
+// Writes the number and the name of a refusal.
+#[tactic(auto, using(cap_log::proofs::ElementLemmas::short_decimal))]
+fn put_cleared_line(buffer: &mut [u8], at: usize, refusal: Refusal) -> usize
+    requires { at + 64 ≤ length buffer.old }
+    ensures from { at ≤ result }
+    ensures fits { result ≤ at + 64 }
+    ensures written { take result buffer.new ≡ take at buffer.old ++ cleared_line refusal }
+    ensures rest { (k : ℕ) → result ≤ k → drop k buffer.new ≡ drop k buffer.old }
+{
+    let at = put(buffer, at, b"cleared ");
+    let at = put_decimal(buffer, at, u64::from(refusal.number()));
+    let at = put(buffer, at, b" ");
+    let at = put(buffer, at, refusal.name().as_bytes());
+    put(buffer, at, b"\n")
+}
+
+// Writes the names of the fields in which two capabilities differ.
+fn put_differs_line(buffer: &mut [u8], at: usize, a: Cap, b: Cap) -> usize
+    requires { at + 128 ≤ length buffer.old }
+    ensures from { at ≤ result }
+    ensures fits { result ≤ at + 128 }
+    ensures written { take result buffer.new ≡ take at buffer.old ++ differs_line a b }
+    ensures rest { (k : ℕ) → result ≤ k → drop k buffer.new ≡ drop k buffer.old }
+{
+    let (x, y) = (split(a.word), split(b.word));
+    let at = put(buffer, at, b"differs");
+    let at = put_where(buffer, at, a.tag == b.tag, b" tag");
+    let at = put_where(buffer, at, x.perms == y.perms, b" perms");
+    let at = put_where(buffer, at, x.reserved == y.reserved, b" reserved");
+    let at = put_where(buffer, at, x.flag == y.flag, b" flag");
+    let at = put_where(buffer, at, x.otype == y.otype, b" otype");
+    let at = put_where(buffer, at, x.ie == y.ie, b" ie");
+    let at = put_where(buffer, at, x.e == y.e, b" e");
+    let at = put_where(buffer, at, x.b == y.b, b" b");
+    let at = put_where(buffer, at, x.t == y.t, b" t");
+    let at = put_where(buffer, at, x.address == y.address, b" address");
+    put(buffer, at, b"\n")
+}
+
+// Writes a field's name, where it differs.
+fn put_where(buffer: &mut [u8], at: usize, same: bool, name: &[u8]) -> usize
+    requires short { length name.now ≤ 9 }
+    requires room { at + 9 ≤ length buffer.old }
+    ensures from { at ≤ result }
+    ensures fits { result ≤ at + 9 }
+    ensures written { take result buffer.new ≡ take at buffer.old ++ where_different same name.now }
+    ensures rest { (k : ℕ) → result ≤ k → drop k buffer.new ≡ drop k buffer.old }
+{
+    if same { at } else { put(buffer, at, name) }
+}
