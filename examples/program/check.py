@@ -1,10 +1,10 @@
 #!/usr/bin/env python3
-"""Runs the program, and compares its status, its standard output and its line on standard error with what is worked by
-hand: for the rows of crates/capcheck/src/rows.rt, and where its input or its output fails.
+"""Runs both programs, and compares their status, their standard output and their line on standard error with what is
+worked by hand: for the rows of src/rows.rt in their crates, and where their input or their output fails.
 
-    CAPCHECK=crates/capcheck/out/capcheck python3 examples/program/check.py
+    python3 examples/program/check.py [PROGRAM..]
 
-Without CAPCHECK it runs that same program. The status is 1 where anything differs."""
+The status is 1 where anything differs."""
 import os
 import re
 import resource
@@ -15,23 +15,33 @@ import sys
 import tempfile
 
 ROOT = os.path.join(os.path.dirname(os.path.abspath(__file__)), "../..")
-PROGRAM = os.path.abspath(os.environ.get("CAPCHECK") or f"{ROOT}/crates/capcheck/out/capcheck")
 
 YES, NO = b"capcheck 1\nend 0\n", b"capcheck 1\nend 1\n"
 SAID_YES, SAID_NO = b"yes 0 0\n", b"no 2 6 WrongCount\n"
 VECTOR = b"memory 00001ffffc0180040000000000000000 = 00000000000000000000000000000000\n"
-BAD_WORDS, READ_FAULT, WRITE_FAULT = b"capcheck: bad words\n", b"capcheck: read fault\n", b"capcheck: write fault\n"
 
-JUDGE = [["judge"], ["judge", "--origins"], ["judge", "--why"]]
-ORDERS = [*JUDGE, ["judge", "log"], ["vectors", "file"]]
-ORDERS += [["round", "0000000000000001", "0000000000001fff"], ["explain", "00001ffffc0180040000000000000000"]]
+# Of each program the word that judges, what it prints after a no, the orders that read no input of their own, and the
+# words that have none of its forms.
+PROGRAMS = {
+    "capcheck": ("judge", SAID_NO, [["vectors", "file"], ["round", "0000000000000001", "0000000000001fff"],
+                                    ["explain", "00001ffffc0180040000000000000000"]], ["judges"]),
+    "capdiag": ("why", SAID_NO + b"line end 1\nroots 0\nsteps 0\ngranules 0\n", [["heap"], ["heap", "--report", "log"]], ["judge"]),
+}
 
 
 class Room:
-    """A folder in which the program runs, how many runs there were, and what was otherwise than it is wanted."""
+    """A folder in which a program runs, how many runs there were, and what was otherwise than it is wanted."""
 
-    def __init__(self, folder):
-        self.folder, self.count, self.wrong = folder, 0, []
+    def __init__(self, folder, program):
+        self.folder, self.count, self.wrong, self.program = folder, 0, [], program
+        judge, self.said_no, shown, self.bad_words = PROGRAMS[program]
+        self.judge = [[judge], [judge, "--origins"]]
+        self.orders = [*self.judge, [judge, "log"], *shown]
+        self.inputs = [*self.judge, *[it[:1] for it in shown if it[1:] == ["file"]]]
+
+    def fault(self, text):
+        """The line of a fault."""
+        return f"{self.program}: {text}\n".encode()
 
     def put(self, name, text):
         """Writes a file of the folder, and gives its path."""
@@ -53,14 +63,14 @@ class Room:
         how = {"input": given} if isinstance(given, bytes) else {"stdin": given}
         # At a limit Python's own signals stay: a write above it is then an error, and no signal that ends the program.
         how.update(preexec_fn=prepare, restore_signals=room is None, timeout=60)
-        ran = subprocess.run([PROGRAM, *words], cwd=self.folder, stdout=out, stderr=err, **how)
+        ran = subprocess.run([f"{os.path.abspath(ROOT)}/crates/{self.program}/out/{self.program}", *words], cwd=self.folder, stdout=out, stderr=err, **how)
         return ran.returncode, ran.stdout, ran.stderr
 
     def wants(self, what, ran, wanted):
         """Notes whether a run gave what is wanted."""
         self.count += 1
         if ran != wanted:
-            self.wrong.append(f"{what}\n  gives  {ran}\n  wanted {wanted}")
+            self.wrong.append(f"{self.program} {what}\n  gives  {ran}\n  wanted {wanted}")
 
 
 def packets(text, ends):
@@ -112,7 +122,7 @@ def agrees(text, wanted):
 
 def printed(room):
     """What is printed for the words and the input of each row."""
-    with open(f"{ROOT}/crates/capcheck/src/rows.rt", encoding="utf-8") as it:
+    with open(f"{ROOT}/crates/{room.program}/src/rows.rt", encoding="utf-8") as it:
         text = re.search(r'(?s)r#"\n(.*)"#;', it.read())[1]
     for runs, given, out, err in rows(text):
         room.put("log", given)
@@ -120,56 +130,58 @@ def printed(room):
         for status, words in runs:
             ran = room.run(words, given)
             room.wants(words, ran, (status, ran[1] if agrees(ran[1], out) else out, err))
-    room.wants("a word that isn't UTF-8", room.run([b"judge", b"\xff"], YES), (2, b"", BAD_WORDS))
+    room.wants("a word that isn't UTF-8", room.run([room.judge[0][0].encode(), b"\xff"], YES), (2, b"", room.fault("bad words")))
 
 
 def inputs(room):
     """An input that fails behind each of its bytes, one that ends there, and what can't be read at all."""
-    fault = (3, b"", READ_FAULT)
+    fault = (3, b"", room.fault("read fault"))
     for count in range(len(YES) + 1):
-        for words in JUDGE:
+        for words in room.judge:
             for what, (own, other) in (("failing", packets(YES[:count], False)), ("breaking off", broken(YES[:count]))):
                 with own, other:
                     room.wants(f"{words}, {what} behind {count} bytes", room.run(words, own), fault)
-        for words in JUDGE[:2]:
+        for words in room.judge:
             line = 1 if count <= YES.index(b"\n") else 2
-            cut = (1, f"no {line} 5 Truncated\n".encode(), b"")
             own, other = packets(YES[:count], True)
             with own:
-                room.wants(f"{words}, ending behind {count} bytes", room.run(words, own), (0, SAID_YES, b"") if count == len(YES) else cut)
+                status, out, err = room.run(words, own)
+            ran = (status, out[: out.index(b"\n") + 1], err)
+            cut = (1, f"no {line} 5 Truncated\n".encode(), b"")
+            room.wants(f"{words}, ending behind {count} bytes", ran, (0, SAID_YES, b"") if count == len(YES) else cut)
     folder = os.open(room.folder, os.O_RDONLY)
-    for words in JUDGE:
+    for words in room.judge:
         room.wants(f"{words}, a folder", room.run(words, folder), fault)
         room.wants(f"{words}, a closed input", room.run(words, closed=[0]), fault)
     os.close(folder)
-    for words in [*JUDGE, ["vectors"]]:
+    for words in room.inputs:
         room.wants(f"{words}, a folder by its name", room.run([*words, "."]), fault)
 
 
 def verdicts(room):
     """A no comes while the input stays open, and where it fails behind the first fault."""
-    for words in JUDGE[:2]:
+    for words in room.judge:
         given, other = os.pipe()
         os.write(other, NO)
-        room.wants(f"{words}, a pipe that stays open", room.run(words, given), (1, SAID_NO, b""))
+        room.wants(f"{words}, a pipe that stays open", room.run(words, given), (1, room.said_no, b""))
         os.close(given)
         os.close(other)
         for what, (own, other) in (("failing", packets(NO, False)), ("breaking off", broken(NO))):
             with own, other:
-                room.wants(f"{words}, {what} behind the first fault", room.run(words, own), (1, SAID_NO, b""))
+                room.wants(f"{words}, {what} behind the first fault", room.run(words, own), (1, room.said_no, b""))
 
 
 def outputs(room):
     """Standard output that is full, that fills up, that is busy, that nobody reads any more, and that is closed."""
-    fault = (3, None, WRITE_FAULT)
+    fault = (3, None, room.fault("write fault"))
     with open("/dev/full", "wb") as full:
         for given in (YES, NO, VECTOR):
             room.put("log", given)
             room.put("file", given)
-            for words in ORDERS:
+            for words in room.orders:
                 room.wants(f"{words}, a full output", room.run(words, given, full), fault)
     for left in range(len(SAID_YES) + 1):
-        for words in JUDGE:
+        for words in room.judge:
             with open(room.put("out", b""), "r+b") as out:
                 ran = room.run(words, YES, out, room=left)
                 out.seek(0)
@@ -177,10 +189,10 @@ def outputs(room):
                 room.wants(f"{words}, room for {left} bytes", (*ran, out.read()), (*wanted, SAID_YES[:left]))
     busy, gone = full_pipe(), os.pipe()
     os.close(gone[0])
-    for words in ORDERS:
+    for words in room.orders:
         room.wants(f"{words}, a pipe that takes no more", room.run(words, YES, busy[1]), fault)
         room.wants(f"{words}, a pipe without a reader", room.run(words, YES, gone[1]), fault)
-        room.wants(f"{words}, a closed output", room.run(words, YES, closed=[1]), (3, b"", WRITE_FAULT))
+        room.wants(f"{words}, a closed output", room.run(words, YES, closed=[1]), (3, b"", room.fault("write fault")))
     for it in (*busy, gone[1]):
         os.close(it)
 
@@ -188,20 +200,24 @@ def outputs(room):
 def errors(room):
     """A standard error that is full or closed changes nothing else."""
     with open("/dev/full", "wb") as full:
-        for words, given, out, status in ((["judges"], YES, b"", 2), (["judge", "gone"], YES, b"", 3), (["judge"], NO, SAID_NO, 1)):
+        judge = room.judge[0]
+        for words, given, out, status in ((room.bad_words, YES, b"", 2), ([*judge, "gone"], YES, b"", 3), (judge, NO, room.said_no, 1)):
             room.wants(f"{words}, a full standard error", room.run(words, given, err=full), (status, out, None))
             room.wants(f"{words}, a closed standard error", room.run(words, given, closed=[2]), (status, out, b""))
-        room.wants("both full", room.run(["judge"], YES, full, full), (3, None, None))
+        room.wants("both full", room.run(judge, YES, full, full), (3, None, None))
 
 
-def main():
-    with tempfile.TemporaryDirectory() as folder:
-        room = Room(folder)
-        for part in (printed, inputs, verdicts, outputs, errors):
-            part(room)
-    print("\n".join([*room.wrong, f"{room.count} runs of the program, {len(room.wrong)} otherwise than is wanted"]))
-    return 1 if room.wrong else 0
+def main(programs):
+    wrong = []
+    for program in programs or PROGRAMS:
+        with tempfile.TemporaryDirectory() as folder:
+            room = Room(folder, program)
+            for part in (printed, inputs, verdicts, outputs, errors):
+                part(room)
+        print("\n".join([*room.wrong, f"{room.count} runs of {program}, {len(room.wrong)} otherwise than is wanted"]))
+        wrong += room.wrong
+    return 1 if wrong else 0
 
 
 if __name__ == "__main__":
-    sys.exit(main())
+    sys.exit(main(sys.argv[1:]))

@@ -1,10 +1,10 @@
 #!/usr/bin/env python3
-"""Runs the program while requests for memory are refused, by a C library's `malloc` in front of it, and compares its
-status, its standard output and its line on standard error with what is written here.
+"""Runs the programs while requests for memory are refused, by a C library's `malloc` in front of it, and compares their
+status, their standard output and their line on standard error with what is written here.
 
-    CAPCHECK=crates/capcheck/out/capcheck python3 examples/program/refused.py
+    python3 examples/program/refused.py
 
-Without CAPCHECK it runs that same program. It needs `cc`. The status is 1 where anything differs."""
+It needs `cc`. The status is 1 where anything differs."""
 import itertools
 import os
 import subprocess
@@ -12,12 +12,11 @@ import sys
 import tempfile
 
 HERE = os.path.dirname(os.path.abspath(__file__))
-PROGRAM = os.path.abspath(os.environ.get("CAPCHECK") or f"{HERE}/../../crates/capcheck/out/capcheck")
+CRATES = os.path.abspath(f"{HERE}/../../crates")
 
 ROOT = "ffff1ffffc0180040000000000000000"
 HEADER = f"capcheck 1\nroot c1 {ROOT}\n"
 LOG = HEADER + f"sc c1 c1 0\nstore c1 0 1 aa\nlc c3 c1 0 = 0 {ROOT[:30]}aa\nend 3\n"
-NO_MEMORY = (3, b"", b"capcheck: no memory\n")
 
 
 class Room:
@@ -32,13 +31,13 @@ class Room:
         with open(f"{self.folder}/{name}", "w", encoding="utf-8") as it:
             it.write(text)
 
-    def run(self, words, refused=""):
+    def run(self, words, refused="", program="capcheck"):
         """What a run with these words gives while requests are refused, with the file `log` for its standard input;
         and how many requests it made."""
         told, tell = os.pipe()
         how = {"LD_PRELOAD": f"{self.folder}/refuse.so", "REFUSED": str(refused), "REPORT": str(tell)}
         with open(f"{self.folder}/log", "rb") as given:
-            ran = subprocess.run([PROGRAM, *words], cwd=self.folder, stdin=given, capture_output=True,
+            ran = subprocess.run([f"{CRATES}/{program}/out/{program}", *words], cwd=self.folder, stdin=given, capture_output=True,
                                  env=how, pass_fds=[tell], timeout=60)
         os.close(tell)
         with os.fdopen(told, "rb") as it:
@@ -50,25 +49,37 @@ class Room:
         if given != wanted:
             self.wrong.append(f"{what}\n  gives  {given}\n  wanted {wanted}")
 
-    def each(self, words, wanted):
+    def each(self, words, wanted, program="capcheck"):
         """Refuses each request of a run in turn, until none is reached."""
         for number in itertools.count(1):
-            ran, made = self.run(words, number)
+            ran, made = self.run(words, number, program)
             if made < number:
                 self.wants(f"{words}, no request refused", ran, wanted)
                 return
-            self.wants(f"{words}, request {number} refused", ran, NO_MEMORY)
+            self.wants(f"{words}, request {number} refused", ran, (3, b"", f"{program}: no memory\n".encode()))
 
 
 def each_request(room):
     """Each request of a judge, and of what only answers words, is refused in turn."""
     room.put("log", LOG)
-    for words in (["judge"], ["judge", "--origins"], ["judge", "--why"], ["judge", "log"]):
-        wanted = room.run(words)[0]
+    judges = [("capcheck", it) for it in (["judge"], ["judge", "--origins"], ["judge", "log"])]
+    for program, words in [*judges, *[("capdiag", it) for it in (["why"], ["why", "--origins"], ["why", "log"])]]:
+        wanted = room.run(words, program=program)[0]
         room.wants(f"{words}, its verdict", (wanted[0], wanted[1][:8], wanted[2]), (0, b"yes 3 1\n", b""))
-        room.each(words, wanted)
+        room.each(words, wanted, program)
     for words in (["round", "0000000000000001", "0000000000001fff"], ["explain", ROOT], ["vectors", "log"], ["judges"], []):
         room.each(words, room.run(words)[0])
+    room.each(["judge"], room.run(["judge"], program="capdiag")[0], "capdiag")
+
+
+def each_object(room):
+    """Each request of the judge of an allocator's log is refused in turn."""
+    lines = [f"malloc {64 * number:016x} {number % 3:016x}\n" for number in range(200)]
+    room.put("log", f"heap 1\nroot {0:016x} {1 << 64:017x}\n" + "".join(lines) + "end 200\n")
+    for words in (["heap"], ["heap", "--report"]):
+        wanted = room.run(words, program="capdiag")[0]
+        room.wants(f"{words}, its verdict", (wanted[0], wanted[1][:12], wanted[2]), (0, b"yes 200 200\n", b""))
+        room.each(words, wanted, "capdiag")
 
 
 def each_page(room):
@@ -106,7 +117,7 @@ def page(room):
 def main():
     with tempfile.TemporaryDirectory() as folder:
         room = Room(folder)
-        for part in (each_request, each_page, steps, page):
+        for part in (each_request, each_object, each_page, steps, page):
             part(room)
     print("\n".join([*room.wrong, f"{room.count} answers where memory was refused, {len(room.wrong)} otherwise than is wanted"]))
     return 1 if room.wrong else 0

@@ -1,4 +1,4 @@
 mod OperandLemmas
-mod DoingLemmas
-mod ShownLemmas
-mod CheckLemmas
+mod InputLemmas
+mod RunLemmas
+mod StoreLemmas

@@ -7,9 +7,9 @@ use Rattle.hex.proofs.HexLemmas.{decode_sized-encode_lower}
 use Rattle.cap_word.specs.Digits.{hex_digits}
 use Rattle.cap_word.proofs.DigitLemmas.{hex_of_bytes, IsBytes-bytes_high_first}
 use Rattle.cap_word.proofs.TextLemmas.{length-bytes}
-use Rattle.capcheck.specs.declared.faults.Fault.{Fault}
-use Rattle.capcheck.specs.declared.faults.Fault.TheVariants.{BadWords, BadWord, BadRequest, Read, Write, NoMemory}
-use Rattle.capcheck.specs.Statuses.{status_of}
+use Rattle.cap_program.specs.declared.faults.Fault.{Fault}
+use Rattle.cap_program.specs.declared.faults.Fault.TheVariants.{BadWords, BadWord, BadRequest, Read, Write, NoMemory}
+use Rattle.cap_program.specs.Faults.{status_of}
 use Rattle.capcheck.specs.Operands.{SpellsRequest, RefusesRequest, SpellsWord}
 use Rattle.cap_texts.proofs.MemoryTexts.{spelled_memory}
 

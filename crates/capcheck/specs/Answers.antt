@@ -1,34 +1,24 @@
 -- What the program prints for an order, and the status that goes with it (this profile's own).
-use Rattle.std.specs.Prelude.{◌≡◌, ◌↔◌, ℕ, Bool, true, false, ◌⊎◌, List, [], take, Option, Some, None, IfSome, IsTrue}
+use Rattle.std.specs.Prelude.{◌≡◌, ◌↔◌, ℕ, ◌+◌, ◌^◌, ◌≤◌, Bool, true, false, List, Option, Some, None, IfSome, IsTrue}
 use Rattle.cap_bounds.specs.declared.rounding.Rounded.{Rounded}
 use Rattle.cap_bounds.specs.Rounding.{rounded_base, rounded_top, rounded_ie, rounded_exponent, IsExact}
 use Rattle.capcheck.specs.declared.words.Order.{Order}
-use Rattle.capcheck.specs.declared.words.Order.TheVariants.{Explain, Round, Judge, Why, Vectors}
+use Rattle.capcheck.specs.declared.words.Order.TheVariants.{Explain, Round, Judge, Vectors}
 use Rattle.cap_judge.specs.declared.verdict.Verdict.{Verdict}
-use Rattle.cap_judge.specs.declared.verdict.Verdict.TheVariants.{Yes, No}
-use Rattle.cap_vectors.specs.declared.vectors.VectorVerdict.{VectorVerdict}
-use Rattle.cap_vectors.specs.declared.vectors.VectorVerdict.TheVariants.{Pass, Fail}
+use Rattle.cap_vectors.specs.declared.files.VectorVerdict.{VectorVerdict}
+use Rattle.cap_vectors.specs.declared.files.VectorVerdict.TheVariants.{Pass, Fail}
 use Rattle.capcheck.specs.Operands.{SpellsWord, SpellsRequest}
 use Rattle.cap_texts.specs.ExplainLines.{explain_lines}
 use Rattle.cap_texts.specs.RoundLines.{round_lines}
 use Rattle.cap_vectors.specs.VectorFiles.{IsVectorVerdict, vector_line}
-use Rattle.cap_judge.specs.Whys.{IsTold}
+use Rattle.cap_judge.specs.Reports.{Tells}
+use Rattle.cap_program.specs.Judging.{verdict_status}
 use Rattle.cap_judge.specs.Verdicts.{IsVerdict}
-
--- the exit status of a verdict
-abbrev pub verdict_status : Verdict → ℕ
-verdict_status (Yes steps roots) = 0
-verdict_status (No line refusal) = 1
 
 -- the exit status of a verdict on a vector file
 abbrev pub vector_status : VectorVerdict → ℕ
 vector_status (Pass lines) = 0
 vector_status (Fail line) = 1
-
--- the bytes of an input, where they are known
-abbrev pub known_bytes : {R : Type 0} → (R → Option (List ℕ)) → Option R → Option (List ℕ)
-known_bytes remaining None = None
-known_bytes remaining (Some reader) = remaining reader
 
 -- a rounding is that of a request
 pub record IsRounding (rounded : Rounded) (base length : ℕ) : Type 0 where
@@ -44,6 +34,7 @@ pub record ShowsRounding (base_word length_word text : List ℕ) : Type 0 where
   pub length : ℕ
   pub rounded : Rounded
   pub spelled : SpellsRequest base_word length_word base length
+  pub within : base + length ≤ 2 ^ 64
   pub rounding : IsRounding rounded base length
   pub text_is : text ≡ round_lines rounded
 
@@ -53,11 +44,11 @@ ShowsCheck input text status =
     (verdict : VectorVerdict) × IfSome input (λ bytes. IsVectorVerdict bytes verdict)
     × (text ≡ vector_line verdict) × (status ≡ vector_status verdict)
 
--- an input is judged: the text is that of the verdict on its bytes, with the origins and the report that are asked for
-abbrev pub PrintsVerdict : Bool → Bool → Option (List ℕ) → List ℕ → ℕ → Type 0
-PrintsVerdict origins why input text status =
+-- an input is judged: the text is that of the verdict on its bytes, with the origins where these are asked for
+abbrev pub PrintsVerdict : Bool → Option (List ℕ) → List ℕ → ℕ → Type 0
+PrintsVerdict origins input text status =
     (bytes : List ℕ) × IfSome input (λ known. known ≡ bytes)
-    × (verdict : Verdict) × IsVerdict bytes verdict × IsTold origins why bytes true verdict text × (status ≡ verdict_status verdict)
+    × (verdict : Verdict) × IsVerdict bytes verdict × Tells origins bytes verdict text × (status ≡ verdict_status verdict)
 
 -- the text that an order prints, and its status
 abbrev pub Prints : Option Order → Option (List ℕ) → List ℕ → ℕ → Type 0
@@ -65,18 +56,11 @@ Prints None input text status = ⊥
 Prints (Some (Explain memory tag hex)) input text status =
     (w : ℕ) × SpellsWord memory hex.now w × (text ≡ explain_lines w tag) × (status ≡ 0)
 Prints (Some (Round base_word length_word)) input text status = ShowsRounding base_word.now length_word.now text × (status ≡ 0)
-Prints (Some (Judge origins file)) input text status = PrintsVerdict origins false input text status
-Prints (Some (Why origins file)) input text status = PrintsVerdict origins true input text status
+Prints (Some (Judge origins file)) input text status = PrintsVerdict origins input text status
 Prints (Some (Vectors file)) input text status = ShowsCheck input text status
 
 -- an order that reads an input
 abbrev pub ReadsInput : Option Order → Type 0
 ReadsInput (Some (Judge origins file)) = Unit {0}
-ReadsInput (Some (Why origins file)) = Unit {0}
 ReadsInput (Some (Vectors file)) = Unit {0}
 ReadsInput order = ⊥
-
--- nothing, or a beginning of a text that is printed with some status
-abbrev pub BeginsText : (List ℕ → ℕ → Type 0) → List ℕ → Type 0
-BeginsText prints written =
-    (written ≡ []) ⊎ ((text : List ℕ) × (status : ℕ) × prints text status × (n : ℕ) × (written ≡ take n text))

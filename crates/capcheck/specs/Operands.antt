@@ -4,9 +4,9 @@ use Rattle.cap_word.specs.Digits.{hex_digits}
 use Rattle.cap_word.specs.Memory.{memory_of}
 use Rattle.cap_texts.specs.TextLines.{bytes_text}
 use Rattle.capcheck.specs.declared.words.Order.{Order}
-use Rattle.capcheck.specs.declared.words.Order.TheVariants.{Explain, Round, Judge, Why, Vectors}
-use Rattle.capcheck.specs.declared.faults.Fault.{Fault}
-use Rattle.capcheck.specs.declared.faults.Fault.TheVariants.{BadWords, BadWord, BadRequest, Read, Write, NoMemory}
+use Rattle.capcheck.specs.declared.words.Order.TheVariants.{Explain, Round, Judge, Vectors}
+use Rattle.cap_program.specs.declared.faults.Fault.{Fault}
+use Rattle.cap_program.specs.declared.faults.Fault.TheVariants.{BadWords, BadWord, BadRequest, Read, Write, NoMemory}
 
 -- a text spells a word of 128 bits: by its digits, or by those of its bytes in memory, in order of address
 -- (this profile's own)
@@ -39,5 +39,4 @@ IsFaulty (Some (Explain memory tag hex)) = (w : ℕ) → w < 2 ^ 128 → SpellsW
 IsFaulty (Some (Round base_word length_word)) =
     (base length : ℕ) → SpellsRequest base_word.now length_word.now base length → base + length ≤ 2 ^ 64 → ⊥
 IsFaulty (Some (Judge origins file)) = ⊥
-IsFaulty (Some (Why origins file)) = ⊥
 IsFaulty (Some (Vectors file)) = ⊥

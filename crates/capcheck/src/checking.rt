@@ -1,84 +1,61 @@
-//! Checking an input as a vector file and writing the verdict.
+//! Checking an input as a vector file, and pushing the line of the verdict.
 
-ghost use Rattle.std.specs.Prelude.{◌≡◌, ◌≢◌, ◌≤◌, ℕ, List, IfOk, IfErr, Err, None};
-ghost use Rattle.cap_log.specs.Streams.{next_count};
-ghost use Rattle.std.specs.Io.KnownBytes.{Appends, Keeps};
-ghost use Rattle.capcheck.specs.Answers.{BeginsText, ShowsCheck, known_bytes, vector_status};
-ghost use Rattle.capcheck.specs.Doings.{IsCheckedFor, IsInputDone, IsSourceDone};
-ghost use Rattle.capcheck.specs.Failures.{IsCheckingFault};
-ghost use Rattle.capcheck.specs.Statuses.{status_of};
+ghost use Rattle.std.specs.Prelude.{◌≡◌, ◌≢◌, ℕ, List, Err, None};
+ghost use Rattle.cap_vectors.specs.VectorFiles.{vector_line};
+ghost use Rattle.cap_program.specs.Doings.{IsCounted, IsDone, IsInputCounted, ended_by, gave_by};
+ghost use Rattle.capcheck.specs.Answers.{vector_status};
+ghost use Rattle.capcheck.specs.Doings.{ShowsCheckOf, StopsChecking};
 
-use crate::faults::Fault;
-use cap_log::{PullFault, PushFault, ReadSource, Sink, Source, WriteSink, push_all};
-use cap_vectors::vectors::texts::vector_text;
-use cap_vectors::vectors::{VectorVerdict, vectors};
-use std::io::{Read, Write};
+use cap_log::{PullFault, PushFault, Sink, Source, push_all};
+use cap_program::Fault;
+use cap_vectors::{VectorVerdict, vector_text, vectors};
 
-/// Checks an input as a vector file, writes the line of the verdict, and answers the status that goes with
-/// it. An input that is not there, an error of the reader and an error of the writer are faults.
-pub fn check_input<R: Read + Drop, O: Write>(input: Option<R>, out: &mut O) -> Result<u8, Fault>
-    ensures ok { IfOk result (λ status. status ≤ 1) }
-    ensures err { IfErr result (λ fault. status_of fault ≡ 3) }
-    ensures printed { IfOk result (λ status. (text : List ℕ) × ShowsCheck (known_bytes R.remaining input) text status
-        × Appends (O.contents out.old) (O.contents out.new) text) }
-    ensures failed { IfErr result (IsCheckingFault (known_bytes R.remaining input)) }
-    ensures unwritten { IfErr result (λ fault. fault ≢ Fault.Write → Keeps (O.contents out.old) (O.contents out.new)) }
-    ensures stopped { IfErr result (λ fault. (written : List ℕ) × BeginsText (ShowsCheck (known_bytes R.remaining input)) written
-        × Appends (O.contents out.old) (O.contents out.new) written) }
-    ensures missing { input ≡ None → (result ≡ Err Fault.Read) × Keeps (O.contents out.old) (O.contents out.new) }
+/// Checks an input as a vector file, pushes the line of the verdict, and answers the status that goes with it. A missing
+/// input is a read fault.
+pub fn check_input<S: Source, K: Sink>(input: &mut Option<S>, out: &mut K) -> Result<u8, Fault>
+    ensures done { (given : List ℕ) × gave_by S.gave input.old input.new given
+        × IsDone (ShowsCheckOf given (ended_by S.ended input.new)) (StopsChecking given) (K.took out.old out.new) result }
+    ensures read { IsInputCounted S.faults result input.old input.new }
+    ensures written { IsCounted Fault.Write result (K.faults out.old) (K.faults out.new) }
+    ensures missing { input.old ≡ None → result ≡ Err Fault.Read }
 {
     match input {
-        Some(reader) => check_reader(reader, out),
+        Some(source) => check_source(source, out),
         None => Err(Fault::Read),
     }
 }
 
-// Checks what a reader gives, and writes the line of the verdict.
-fn check_reader<R: Read + Drop, O: Write>(reader: R, out: &mut O) -> Result<u8, Fault>
-    ensures done { IsInputDone IsCheckedFor (R.remaining reader) (O.contents out.old) (O.contents out.new) result }
+// Checks what a source gives.
+fn check_source<S: Source, K: Sink>(source: &mut S, sink: &mut K) -> Result<u8, Fault>
+    ensures done { (given : List ℕ) × S.gave source.old source.new given
+        × IsDone (ShowsCheckOf given (S.ended source.new)) (StopsChecking given) (K.took sink.old sink.new) result }
+    ensures read { IsCounted Fault.Read result (S.faults source.old) (S.faults source.new) }
+    ensures written { IsCounted Fault.Write result (K.faults sink.old) (K.faults sink.new) }
 {
-    let mut source = ReadSource::new(reader);
-    let status = check_into(&mut source, out)?;
-    match out.flush() {
-        Ok(()) => Ok(status),
-        Err(_) => Err(Fault::Write),
+    match vectors(source) {
+        Ok(verdict) => push_check(&verdict, sink),
+        Err(PullFault) => Err(Fault::Read),
     }
 }
 
-// The same of a source, without handing on what was written.
-fn check_into<S: Source, O: Write>(source: &mut S, out: &mut O) -> Result<u8, Fault>
-    ensures done { IsSourceDone IsCheckedFor S.gave S.ended (λ a b xs. Appends (O.contents a) (O.contents b) xs)
-        source.old source.new out.old out.new result }
+// Pushes the line of a verdict on a vector file.
+fn push_check<K: Sink>(verdict: &VectorVerdict, sink: &mut K) -> Result<u8, Fault>
+    ensures done { IsDone (λ text status. (text ≡ vector_line verdict.now) × (status ≡ vector_status verdict.now)) (λ fault. ⊥)
+        (K.took sink.old sink.new) result }
+    ensures unread { result ≢ Err Fault.Read }
+    ensures written { IsCounted Fault.Write result (K.faults sink.old) (K.faults sink.new) }
 {
-    check_source(source, &mut WriteSink::new(out))
-}
-
-/// Checks what a source gives as a vector file, pushes the line of the verdict into a sink, and answers the status. It
-/// is a read fault exactly where the source counted a fault, and a write fault exactly where the sink did.
-pub fn check_source<S: Source, K: Sink>(source: &mut S, sink: &mut K) -> Result<u8, Fault>
-    ensures done { IsSourceDone IsCheckedFor S.gave S.ended K.took source.old source.new sink.old sink.new result }
-    ensures read { result ≡ Err Fault.Read → S.faults source.new ≡ next_count (S.faults source.old) }
-    ensures unread { result ≢ Err Fault.Read → S.faults source.new ≡ S.faults source.old }
-    ensures write { result ≡ Err Fault.Write → K.faults sink.new ≡ next_count (K.faults sink.old) }
-    ensures unwritten { result ≢ Err Fault.Write → K.faults sink.new ≡ K.faults sink.old }
-{
-    match vectors(source) {
-        Ok(verdict) => {
-            let mut text = [0u8; 64];
-            let length = vector_text(&verdict, &mut text);
-            match push_all(sink, &text[..length]) {
-                Ok(()) => Ok(vector_status(&verdict)),
-                Err(PushFault) => Err(Fault::Write),
-            }
-        }
-        Err(PullFault) => Err(Fault::Read),
+    let mut text = [0u8; 64];
+    let length = vector_text(verdict, &mut text);
+    match push_all(sink, &text[..length]) {
+        Ok(()) => Ok(vector_status(verdict)),
+        Err(PushFault) => Err(Fault::Write),
     }
 }
 
 // The status that goes with a verdict on a vector file.
 fn vector_status(verdict: &VectorVerdict) -> u8
     ensures value { result ≡ vector_status verdict.now }
-    ensures few { result ≤ 1 }
 {
     match verdict {
         VectorVerdict::Pass { lines: _ } => 0,

@@ -2,59 +2,50 @@
 //! capabilities, and checks vector files.
 #![tactic(auto)]
 
-pub mod checking;
-pub mod faults;
-pub mod inputs;
-pub mod outputs;
+mod checking;
+mod judging;
 #[cfg(test)]
 mod rows;
-pub mod running;
+mod running;
+mod showing;
+#[cfg(test)]
+mod surface;
 #[cfg(test)]
 mod tests;
-pub mod words;
+mod words;
 
-use crate::faults::Fault;
-use crate::outputs::push_text;
-use crate::running::run;
-use crate::words::Order;
-use crate::words::reading::read_words;
+pub use crate::running::{carry_out, run};
+pub use crate::words::Order;
+pub use crate::words::reading::read_words;
 pub use cap_judge::{
-    explaining, headers, judging, laws, origin_lines, reporting, verdict, verdict_lines,
+    JudgeFault, JudgeToFault, Verdict, judge, judge_bytes, judge_in, judge_origins, judge_to,
+    verdict_text,
 };
+use cap_log::WriteSink;
 pub use cap_machine::Refusal;
-pub use cap_texts::{explain_lines, round_lines};
-pub use cap_vectors::vectors;
+use cap_program::{Fault, collect_words, exit_status, tell};
+pub use cap_texts::{explain_text, round_text};
+pub use cap_vectors::{VectorVerdict, vector_text, vectors};
 use std::alloc::AllocError;
-use std::env;
 use std::fs::File;
-use std::io::ErrorKind;
 use std::process::ExitCode;
 
 fn main(rt: HostRuntime) -> ExitCode {
     ExitCode::from(match answer(&rt) {
         Ok(status) => status,
         Err(AllocError) => {
-            let _told = push_text(Fault::NoMemory.text().as_bytes(), &mut rt.stderr());
-            Fault::NoMemory.status()
+            let done = Err(Fault::NoMemory);
+            tell("capcheck", done, &mut WriteSink::new(&mut rt.stderr()));
+            exit_status(done)
         }
     })
 }
 
 // Collects the words, and answers the order that they spell.
 fn answer(rt: &HostRuntime) -> Result<u8, AllocError> {
-    let args = match env::args(rt) {
-        Ok(args) => args,
-        Err(error) => {
-            if error.kind() == ErrorKind::OutOfMemory {
-                return Err(AllocError);
-            }
-            return Ok(answer_order(rt, None));
-        }
+    let Some(texts) = collect_words(rt)? else {
+        return Ok(answer_order(rt, None));
     };
-    let mut texts = Vec::new(rt.alloc());
-    for arg in args.skip(1) {
-        texts.push(arg)?;
-    }
     let mut words = Vec::new(rt.alloc());
     for text in &texts {
         words.push(text.as_str())?;
@@ -71,18 +62,10 @@ fn answer_order(rt: &HostRuntime, order: Option<Order<'_>>) -> u8 {
                 origins: _,
                 file: Some(path),
             }
-            | Order::Why {
-                origins: _,
-                file: Some(path),
-            }
             | Order::Vectors { file: path },
         ) => run(rt.alloc(), order, File::open(rt, path).ok(), out, errors),
         Some(
             Order::Judge {
-                origins: _,
-                file: None,
-            }
-            | Order::Why {
                 origins: _,
                 file: None,
             },

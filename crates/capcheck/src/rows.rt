@@ -172,9 +172,15 @@ pub const ROWS: &str = r#"
 2 judge a b
 2 judge log --origins
 2 judge --origins --origins
-2 judge --why --origins
+2 judge --why
+2 judge --why log
 2 judge log --why
 2 judge --why -log
+2 judge --origins --why
+2 judge --origins --why log
+2 judge --why --origins
+2 why
+2 why log
 2 vectors
 2 vectors -file
 2 vectors file file
@@ -200,10 +206,6 @@ pub const ROWS: &str = r#"
 0 judge log
 0 judge --origins
 0 judge --origins log
-0 judge --why
-0 judge --why log
-0 judge --origins --why
-0 judge --origins --why log
 | capcheck 1
 | end 0
 = yes 0 0
@@ -217,24 +219,9 @@ pub const ROWS: &str = r#"
 | end 1
 = no 2 6 WrongCount
 
-# a wrong count that is explained
-1 judge --why
-1 judge --why log
-1 judge --origins --why
-1 judge --origins --why log
-| capcheck 1
-| end 1
-= no 2 6 WrongCount
-= line end 1
-= roots 0
-= steps 0
-= granules 0
-
 # files that aren't there, though standard input has a log
 3 judge gone
 3 judge --origins gone
-3 judge --why gone
-3 judge --origins --why gone
 3 judge ''
 3 vectors gone
 3 vectors ''
@@ -331,8 +318,6 @@ pub const ROWS: &str = r#"
 # a register that was cleared, and a granule
 0 judge --origins
 0 judge --origins log
-0 judge --origins --why
-0 judge --origins --why log
 | capcheck 1
 | root c1 ffff1ffffc0180040000000000000000
 | move c2 c1 = 1 ffff1ffffc0180040000000000000000
@@ -346,8 +331,6 @@ pub const ROWS: &str = r#"
 # the same without origins
 0 judge
 0 judge log
-0 judge --why
-0 judge --why log
 | capcheck 1
 | root c1 ffff1ffffc0180040000000000000000
 | move c2 c1 = 1 ffff1ffffc0180040000000000000000
@@ -359,8 +342,6 @@ pub const ROWS: &str = r#"
 # a root in a granule
 0 judge --origins
 0 judge --origins log
-0 judge --origins --why
-0 judge --origins --why log
 | capcheck 1
 | root c1 ffff1ffffc0180040000000000000000
 | root @0000000000000000 ffff1ffffbffd0000000000000001000
@@ -375,8 +356,6 @@ pub const ROWS: &str = r#"
 # a tag in memory that is lost to a store of a byte
 0 judge --origins
 0 judge --origins log
-0 judge --origins --why
-0 judge --origins --why log
 | capcheck 1
 | root c1 ffff1ffffc0180040000000000000000
 | sc c1 c1 0
@@ -402,8 +381,6 @@ pub const ROWS: &str = r#"
 # registers by number, and then granules by address
 0 judge --origins
 0 judge --origins log
-0 judge --origins --why
-0 judge --origins --why log
 | capcheck 1
 | root c3 ffff1ffffc0180040000000000000000
 | root @0000000000000040 ffff1ffffbffd0000000000000001000
@@ -422,27 +399,6 @@ pub const ROWS: &str = r#"
 = origin @0000000000000040 @0000000000000040
 
 # bounds outside their source's
-1 judge --why
-1 judge --why log
-1 judge --origins --why
-1 judge --origins --why log
-| capcheck 1
-| root c1 ffff1ffffc0180040000000000000000
-| setaddr c2 c1 0000000000001000 = 1 ffff1ffffc0180040000000000001000
-| setbounds c3 c2 0000000000000020 = 1 ffff1ffff80810000000000000001000
-| setbounds c4 c3 0000000000000021 = 1 ffff1ffff80850000000000000001000
-| end 3
-= no 5 11 BoundsEscape
-= line setbounds c4 c3 0000000000000021 = 1 ffff1ffff80850000000000000001000
-= source c3 1 ffff1ffff80810000000000000001000
-= source perms 00078fff
-= source otype 3ffff unsealed
-= source bounds 0000000000001000 00000000000001020
-= source origin c1
-= request 0000000000001000 00000000000001021
-= rounded 0000000000001000 00000000000001021
-
-# the same without an explanation
 1 judge
 1 judge log
 1 judge --origins

@@ -1,9 +1,7 @@
 //! The words of the program, and what it does for them: over readers and writers in memory, also such as fail.
 
 use crate::rows::ROWS;
-use crate::running::run;
-use crate::words::Order;
-use crate::words::reading::read_words;
+use crate::{Order, read_words, run};
 use std::alloc::{AllocError, Global};
 use std::io;
 use std::io::{ErrorKind, Read, Write};
@@ -92,12 +90,17 @@ fn words_of<'a>(alloc: Global, line: &'a str) -> Result<Vec<&'a str>, AllocError
 // What the order reads: the row's input, unless its file is not there or it reads none.
 fn input_of<'a>(order: Option<Order<'_>>, input: &'a [u8]) -> Option<&'a [u8]> {
     match order? {
-        Order::Judge { origins: _, file } | Order::Why { origins: _, file } => match file {
+        Order::Judge { origins: _, file } => match file {
             None | Some("log") => Some(input),
             Some(_) => None,
         },
-        Order::Vectors { file: "file" } => Some(input),
-        _ => None,
+        Order::Vectors { file } => { if file == "file" { Some(input) } else { None } }
+        Order::Explain {
+            memory: _,
+            tag: _,
+            hex: _,
+        }
+        | Order::Round { base: _, length: _ } => None,
     }
 }
 

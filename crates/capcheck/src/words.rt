@@ -29,13 +29,6 @@ pub enum Order<'a> {
         /// The file's name, which does not begin with `-`.
         file: Option<&'a str>,
     },
-    /// `judge [--origins] --why [FILE]`: judge, and explain a no.
-    Why {
-        /// Whether the root of each capability in the last state is asked for.
-        origins: bool,
-        /// The file's name, which does not begin with `-`.
-        file: Option<&'a str>,
-    },
     /// `vectors FILE`: check a vector file.
     Vectors {
         /// The file's name, which does not begin with `-`.

@@ -3,7 +3,7 @@
 ghost use Rattle.std.specs.Prelude.{ℕ, ◌+◌, ◌^◌, ◌<◌, ◌≤◌, IfOk, IfErr, IfSome, IfNone};
 ghost use Rattle.capcheck.specs.Operands.{RefusesRequest, SpellsRequest, SpellsWord};
 
-use crate::faults::Fault;
+use cap_program::Fault;
 use cap_word::{Word, from_memory, read_u64, read_word};
 
 /// The greatest top of a request: the end of the address space.

@@ -1,10 +1,11 @@
 //! Reading the words after the program's name.
 
-ghost use Rattle.std.specs.Prelude.{◌≡◌, ℕ, List, ◌∷◌, ◌++◌, IfSome, IfNone, codes, false, map};
-ghost use Rattle.capcheck.specs.Orders.{Asks, is_operand, option_word};
+ghost use Rattle.std.specs.Prelude.{◌≡◌, ℕ, List, ◌∷◌, IfSome, IfNone, codes, map};
+ghost use Rattle.capcheck.specs.Orders.{Asks};
 ghost use Rattle.capcheck.specs.declared.words.Order.{Order};
 
 use crate::words::Order;
+use cap_program::{is_operand, take_option};
 
 /// Reads the words after the program's name: the order that they spell, and `None` where they have
 /// none of the program's forms.
@@ -45,23 +46,6 @@ fn read_explain<'a>(operands: &[&'a str]) -> Option<Order<'a>>
     }
 }
 
-// Whether words begin with an option, and the words behind it.
-fn take_option<'w, 'a>(option: &str, words: &'w [&'a str]) -> (bool, &'w [&'a str])
-    ensures taken { map (λ word. word.now) words.now ≡ option_word result.0 option.now ++ map (λ word. word.now) result.1.now }
-    ensures absent { result.0 ≡ false → (rest : List (List ℕ)) → map (λ word. word.now) words.now ≡ option.now ∷ rest → ⊥ }
-{
-    match words.split_first() {
-        Some((first, rest)) => {
-            if *first == option {
-                (true, rest)
-            } else {
-                (false, words)
-            }
-        }
-        None => (false, words),
-    }
-}
-
 // Reads the words after `round`.
 fn read_round<'a>(operands: &[&'a str]) -> Option<Order<'a>>
     ensures some { IfSome result (λ order. Asks (codes "round" ∷ map (λ word. word.now) operands.now) order) }
@@ -88,17 +72,12 @@ fn read_judge<'a>(operands: &[&'a str]) -> Option<Order<'a>>
     ensures none { IfNone result ((order : Order) → Asks (codes "judge" ∷ map (λ word. word.now) operands.now) order → ⊥) }
 {
     let (origins, operands) = take_option("--origins", operands);
-    let (why, operands) = take_option("--why", operands);
     let file = match operands {
         [] => None,
         [file] if is_operand(file) => Some(*file),
         _ => return None,
     };
-    Some(if why {
-        Order::Why { origins, file }
-    } else {
-        Order::Judge { origins, file }
-    })
+    Some(Order::Judge { origins, file })
 }
 
 // Reads the words after `vectors`.
@@ -110,11 +89,4 @@ fn read_vectors<'a>(operands: &[&'a str]) -> Option<Order<'a>>
         [file] if is_operand(file) => Some(Order::Vectors { file: *file }),
         _ => None,
     }
-}
-
-// Whether a word is an operand and no option: it does not begin with `-`.
-fn is_operand(word: &str) -> bool
-    ensures { result ≡ is_operand word.now }
-{
-    !word.as_bytes().starts_with(b"-")
 }

@@ -1,0 +1,5 @@
+pub mod Faults
+pub mod Words
+pub mod Doings
+pub mod Runs
+pub mod Judging

@@ -1,0 +1,69 @@
+//! What a program does once an order was followed.
+
+ghost use Rattle.std.specs.Prelude.{◌≡◌, ◌+◌, ◌≤◌, ◌++◌, ℕ, [], length, take, codes, IfOk, IfErr};
+ghost use Rattle.cap_program.specs.Doings.{IsHandedOn, IsPushed};
+ghost use Rattle.cap_program.specs.Faults.{exit_status, fault_line};
+
+use crate::faults::Fault;
+use crate::outputs::Output;
+use cap_log::buffers::put;
+use cap_log::{PushFault, Sink, push_all};
+
+/// Hands on the text of an order that was followed. Where the output fails then, this is the fault.
+pub fn hand_on<K: Output>(done: Result<u8, Fault>, out: &mut K) -> Result<u8, Fault>
+    ensures nothing_taken { K.took out.old out.new [] }
+    ensures handed_on { IsHandedOn done (K.faults out.old) (K.faults out.new) result }
+{
+    match done {
+        Ok(status) => match out.hand_on() {
+            Ok(()) => Ok(status),
+            Err(PushFault) => Err(Fault::Write),
+        },
+        Err(fault) => Err(fault),
+    }
+}
+
+/// Tells why an order was not followed, where it was not: pushes the program's name, and what the fault is called, as a
+/// line. Where the sink fails it took a beginning of the line.
+pub fn tell<F: Sink>(program: &str, done: Result<u8, Fault>, faults: &mut F)
+    requires short { length program.now ≤ 16 }
+    ensures silent { IfOk done (λ status. faults.new ≡ faults.old) }
+    ensures told { IfErr done (λ fault. (n : ℕ) × F.took faults.old faults.new (take n (fault_line program.now fault))) }
+    ensures whole { IfErr done (λ fault. IsPushed F.took F.faults faults.old faults.new (fault_line program.now fault)) }
+{
+    if let Err(fault) = done {
+        push_line(program, fault, faults);
+    }
+}
+
+// Pushes the line of a fault.
+fn push_line<F: Sink>(program: &str, fault: Fault, faults: &mut F)
+    requires short { length program.now ≤ 16 }
+    ensures pushed { IsPushed F.took F.faults faults.old faults.new (fault_line program.now fault) }
+{
+    let mut line = [0u8; 32];
+    let length = put_line(program, fault, &mut line);
+    let _pushed = push_all(faults, &line[..length]);
+}
+
+/// The exit status that goes with what was done.
+pub fn exit_status(done: Result<u8, Fault>) -> u8
+    ensures value { result ≡ exit_status done }
+{
+    match done {
+        Ok(status) => status,
+        Err(fault) => fault.status(),
+    }
+}
+
+// Writes the line of a fault at the front of a buffer, and answers its length.
+fn put_line(program: &str, fault: Fault, buffer: &mut [u8; 32]) -> usize
+    requires short { length program.now ≤ 16 }
+    ensures fits { result ≤ 32 }
+    ensures line { take result buffer.new ≡ fault_line program.now fault }
+{
+    let at = put(buffer, 0, program.as_bytes());
+    let at = put(buffer, at, b": ");
+    let at = put(buffer, at, fault.text().as_bytes());
+    put(buffer, at, b"\n")
+}

@@ -1,0 +1,37 @@
+//! Where the text of an order goes.
+
+ghost use Rattle.std.specs.Prelude.{◌≡◌, ℕ, [], take, IfOk, IfErr, OnOk, OnErr, Ok, Err};
+ghost use Rattle.cap_log.specs.Streams.{next_count};
+ghost use Rattle.cap_program.specs.Doings.{IsCounted};
+
+use crate::faults::Fault;
+use cap_log::{PushFault, Sink, WriteSink, push_all};
+use std::io::Write;
+
+/// A sink that may keep bytes back, and hands them on when it is asked to.
+pub trait Output: Sink {
+    /// Hands on what was pushed so far. A fault counts one more. Nothing is taken.
+    fn hand_on(&mut self) -> Result<(), PushFault>
+        ensures nothing_taken { Self.took self.old self.new [] }
+        ensures counted { OnOk result (Self.faults self.new ≡ Self.faults self.old) }
+        ensures fault_counted { OnErr result (Self.faults self.new ≡ next_count (Self.faults self.old)) };
+}
+
+impl<'a, W: Write> Output for WriteSink<'a, W> {
+    fn hand_on(&mut self) -> Result<(), PushFault> {
+        self.flush()
+    }
+}
+
+/// Pushes a text that only shows something, and answers the status that goes with it.
+pub fn show<K: Sink>(text: &[u8], out: &mut K) -> Result<u8, Fault>
+    ensures ok { IfOk result (λ status. status ≡ 0) }
+    ensures shown { OnOk result (K.took out.old out.new text.now) }
+    ensures err { IfErr result (λ fault. (fault ≡ Fault.Write) × (n : ℕ) × K.took out.old out.new (take n text.now)) }
+    ensures counted { IsCounted Fault.Write result (K.faults out.old) (K.faults out.new) }
+{
+    match push_all(out, text) {
+        Ok(()) => Ok(0),
+        Err(PushFault) => Err(Fault::Write),
+    }
+}

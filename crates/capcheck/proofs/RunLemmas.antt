@@ -1,0 +1,111 @@
+-- What was done for an order, told of an input whose bytes are known.
+use Rattle.std.proofs.Common.{◌≡◌, ◌≤◌, ◌↔◌, ℕ, Bool, true, false, List, [], ◌++◌, Option, None, Some, Ok, refl, sym, ap, subst, ◌∙◌, append-nil, arith}
+use Rattle.std.specs.Io.KnownBytes.{Consumes}
+use Rattle.cap_judge.specs.declared.verdict.Verdict.{Verdict}
+use Rattle.cap_judge.specs.declared.verdict.Verdict.TheVariants.{Yes, No}
+use Rattle.cap_judge.specs.Judgings.{IsAnswerOf, IsVerdictOf}
+use Rattle.cap_judge.specs.Reports.{Tells}
+use Rattle.cap_judge.specs.Verdicts.{IsVerdict}
+use Rattle.cap_judge.proofs.SourceLemmas.{of_all}
+use Rattle.cap_vectors.specs.declared.files.VectorVerdict.{VectorVerdict}
+use Rattle.cap_vectors.specs.declared.files.VectorVerdict.TheVariants.{Pass, Fail}
+use Rattle.cap_vectors.specs.VectorFiles.{FailsFirst, IsVectorVerdict, IsVectorVerdictOf, vector_line}
+use Rattle.cap_program.specs.declared.faults.Fault.{Fault}
+use Rattle.cap_program.specs.declared.faults.Fault.TheVariants.{BadWords, BadWord, BadRequest, Read, Write, NoMemory}
+use Rattle.cap_program.specs.Faults.{status_of}
+use Rattle.cap_program.specs.Judging.{verdict_status}
+use Rattle.cap_program.proofs.Judgements.{tells_known, verdict_few}
+use Rattle.capcheck.specs.declared.words.Order.{Order}
+use Rattle.capcheck.specs.declared.words.Order.TheVariants.{Explain, Round, Judge, Vectors}
+use Rattle.capcheck.specs.Answers.{Prints, vector_status}
+use Rattle.capcheck.specs.Doings.{Fails, Shows}
+use Rattle.capcheck.specs.Operands.{IsFaulty}
+use Rattle.capcheck.proofs.OperandLemmas.{refused_request, refused_status}
+
+-- the verdict on the bytes given, and its text, are those of all bytes
+verdict_known : (origins : Bool) (known given rest : List ℕ) (ended : Bool) (verdict : Verdict) (text : List ℕ) → known ≡ given ++ rest
+    → (ended ≡ true → rest ≡ []) → IsAnswerOf given ended (Ok verdict) → Tells origins given verdict text
+    → IsVerdict known verdict × Tells origins known verdict text
+verdict_known origins known given rest ended verdict text are end answer tells = (
+  (of_all known given rest ended (Ok verdict) are end answer (λ e. cc)).0,
+  tells_known origins known given rest ended verdict text are end answer.verdict tells,
+)
+
+-- the same as a vector file
+check_known : (known given rest : List ℕ) (ended : Bool) (verdict : VectorVerdict) → known ≡ given ++ rest → (ended ≡ true → rest ≡ [])
+    → IsVectorVerdictOf given ended verdict → IsVectorVerdict known verdict
+check_known known given rest true verdict are end is =
+    subst (λ (bytes : List ℕ). IsVectorVerdict bytes verdict)
+    (sym (are ∙ ap (λ (r : List ℕ). given ++ r) (end refl) ∙ append-nil given)) is
+check_known known given rest false (Pass lines) are end is = absurd is
+check_known known given rest false (Fail line) are end is = subst (λ (bytes : List ℕ). FailsFirst bytes line) (sym are) (is rest)
+
+-- the text that belongs to the bytes given is printed for an input that gave them
+pub shows_known : (order : Option Order) (left rest : Option (List ℕ)) (given : List ℕ) (ended : Bool) (text : List ℕ) (status : ℕ)
+    → Consumes left rest given → (ended ≡ true → (xs : List ℕ) → rest ≡ Some xs → xs ≡ [])
+    → Shows order given ended text status → Prints order left text status
+shows_known None left rest given ended text status gives all shows = absurd shows
+shows_known (Some (Explain memory tag hex)) left rest given ended text status gives all shows = (shows.0, shows.2, shows.3, shows.4)
+shows_known (Some (Round base length)) left rest given ended text status gives all shows = shows
+shows_known (Some (Judge origins file)) None rest given ended text status gives all shows =
+    let both = verdict_known origins given given [] ended shows.0 text (sym (append-nil given)) (λ e. refl) shows.1 shows.2 in
+    (given, tt, shows.0, both.0, both.1, shows.3)
+shows_known (Some (Judge origins file)) (Some known) None given ended text status gives all shows = absurd gives
+shows_known (Some (Judge origins file)) (Some known) (Some xs) given ended text status gives all shows =
+    let both = verdict_known origins known given xs ended shows.0 text gives (λ e. all e xs refl) shows.1 shows.2 in
+    (known, refl, shows.0, both.0, both.1, shows.3)
+shows_known (Some (Vectors file)) None rest given ended text status gives all shows = (shows.0, tt, shows.2, shows.3)
+shows_known (Some (Vectors file)) (Some known) None given ended text status gives all shows = absurd gives
+shows_known (Some (Vectors file)) (Some known) (Some xs) given ended text status gives all shows =
+    (shows.0, check_known known given xs ended shows.0 gives (λ e. all e xs refl) shows.1, shows.2, shows.3)
+
+vector_few : (verdict : VectorVerdict) → vector_status verdict ≤ 1
+vector_few (Pass lines) = omega arith
+vector_few (Fail line) = omega arith
+
+-- the status of a text
+pub few : (order : Option Order) (given : List ℕ) (ended : Bool) (text : List ℕ) (status : ℕ) → Shows order given ended text status → status ≤ 1
+few None given ended text status shows = absurd shows
+few (Some (Explain memory tag hex)) given ended text status shows = let is = shows.4 in omega arith
+few (Some (Round base length)) given ended text status shows = let is = shows.1 in omega arith
+few (Some (Judge origins file)) given ended text status shows = let is = shows.3 in let at = verdict_few shows.0 in omega arith
+few (Some (Vectors file)) given ended text status shows = let is = shows.3 in let at = vector_few shows.0 in omega arith
+
+-- an order with a text can be followed
+pub unfaulty : (order : Option Order) (given : List ℕ) (ended : Bool) (text : List ℕ) (status : ℕ) → Shows order given ended text status
+    → IsFaulty order → ⊥
+unfaulty None given ended text status shows faulty = shows
+unfaulty (Some (Explain memory tag hex)) given ended text status shows faulty = faulty shows.0 shows.1 shows.2
+unfaulty (Some (Round base length)) given ended text status shows faulty =
+    faulty shows.0.base shows.0.length shows.0.spelled shows.0.within
+unfaulty (Some (Judge origins file)) given ended text status shows faulty = faulty
+unfaulty (Some (Vectors file)) given ended text status shows faulty = faulty
+
+-- a fault has status 2 just where the order cannot be followed
+pub asked_fault : (order : Option Order) (given : List ℕ) (fault : Fault) → Fails order given fault → (status_of fault ≡ 2) ↔ IsFaulty order
+asked_fault None given BadWords fails = (λ two. tt, λ faulty. refl)
+asked_fault None given BadWord fails = absurd fails
+asked_fault None given BadRequest fails = absurd fails
+asked_fault None given Read fails = absurd fails
+asked_fault None given Write fails = absurd fails
+asked_fault None given NoMemory fails = absurd fails
+asked_fault (Some (Explain memory tag hex)) given BadWord fails = (λ two. fails, λ faulty. refl)
+asked_fault (Some (Explain memory tag hex)) given BadWords fails = absurd fails
+asked_fault (Some (Explain memory tag hex)) given BadRequest fails = absurd fails
+asked_fault (Some (Explain memory tag hex)) given Read fails = absurd fails
+asked_fault (Some (Explain memory tag hex)) given Write fails = absurd fails
+asked_fault (Some (Explain memory tag hex)) given NoMemory fails = absurd fails
+asked_fault (Some (Round base length)) given fault fails =
+    (λ two. (refused_request base.now length.now fault fails).0 two, λ faulty. refused_status base.now length.now fault fails)
+asked_fault (Some (Judge origins file)) given Read fails = (λ two. absurd (cc), λ faulty. absurd faulty)
+asked_fault (Some (Judge origins file)) given NoMemory fails = (λ two. absurd (cc), λ faulty. absurd faulty)
+asked_fault (Some (Judge origins file)) given BadWords fails = absurd fails
+asked_fault (Some (Judge origins file)) given BadWord fails = absurd fails
+asked_fault (Some (Judge origins file)) given BadRequest fails = absurd fails
+asked_fault (Some (Judge origins file)) given Write fails = absurd fails
+asked_fault (Some (Vectors file)) given Read fails = (λ two. absurd (cc), λ faulty. absurd faulty)
+asked_fault (Some (Vectors file)) given BadWords fails = absurd fails
+asked_fault (Some (Vectors file)) given BadWord fails = absurd fails
+asked_fault (Some (Vectors file)) given BadRequest fails = absurd fails
+asked_fault (Some (Vectors file)) given Write fails = absurd fails
+asked_fault (Some (Vectors file)) given NoMemory fails = absurd fails

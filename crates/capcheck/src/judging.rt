@@ -1,0 +1,70 @@
+//! Judging an input, and pushing the text of the verdict.
+
+ghost use Rattle.std.specs.Prelude.{◌≡◌, ◌≢◌, ℕ, List, Err, None};
+ghost use Rattle.cap_program.specs.Doings.{IsCounted, IsDone, IsInputCounted, ended_by, gave_by};
+ghost use Rattle.cap_program.specs.Judging.{ShowsVerdict, StopsJudging};
+ghost use Rattle.cap_judge.specs.Reports.{Reported, Tells};
+ghost use Rattle.cap_judge.specs.declared.verdict.JudgeToFault.TheVariants as judging;
+ghost use Rattle.cap_log.specs.Streams.{next_count};
+
+use cap_judge::{JudgeToFault, Verdict, judge_origins, judge_to};
+use cap_log::{Sink, Source};
+use cap_program::{Fault, judged};
+use std::alloc::Global;
+
+/// Judges an input, pushes the line of the verdict and, where they are asked for, those of origins, and answers the
+/// status that goes with the verdict. A missing input is a read fault.
+pub fn judge_input<S: Source, K: Sink>(
+    alloc: Global,
+    origins: bool,
+    input: &mut Option<S>,
+    out: &mut K,
+) -> Result<u8, Fault>
+    ensures done { (given : List ℕ) × gave_by S.gave input.old input.new given
+        × IsDone (ShowsVerdict (Tells origins given) given (ended_by S.ended input.new)) (StopsJudging given)
+        (K.took out.old out.new) result }
+    ensures read { IsInputCounted S.faults result input.old input.new }
+    ensures written { IsCounted Fault.Write result (K.faults out.old) (K.faults out.new) }
+    ensures missing { input.old ≡ None → result ≡ Err Fault.Read }
+{
+    match input {
+        Some(source) => judge_source(alloc, origins, source, out),
+        None => Err(Fault::Read),
+    }
+}
+
+// Judges what a source gives.
+fn judge_source<S: Source, K: Sink>(
+    alloc: Global,
+    origins: bool,
+    source: &mut S,
+    sink: &mut K,
+) -> Result<u8, Fault>
+    ensures done { (given : List ℕ) × S.gave source.old source.new given
+        × IsDone (ShowsVerdict (Tells origins given) given (S.ended source.new)) (StopsJudging given)
+        (K.took sink.old sink.new) result }
+    ensures read { IsCounted Fault.Read result (S.faults source.old) (S.faults source.new) }
+    ensures written { IsCounted Fault.Write result (K.faults sink.old) (K.faults sink.new) }
+{
+    judged(report(alloc, origins, source, sink))
+}
+
+// Judges a source, and pushes the verdict, and the origins where these are asked for.
+fn report<S: Source, K: Sink>(
+    alloc: Global,
+    origins: bool,
+    source: &mut S,
+    sink: &mut K,
+) -> Result<Verdict, JudgeToFault>
+    ensures reported { Reported origins S.gave S.ended K.took source.old source.new sink.old sink.new result }
+    ensures counted { result ≢ Err judging.Pull → S.faults source.new ≡ S.faults source.old }
+    ensures pull_counted { result ≡ Err judging.Pull → S.faults source.new ≡ next_count (S.faults source.old) }
+    ensures sink_counted { result ≢ Err judging.Push → K.faults sink.new ≡ K.faults sink.old }
+    ensures push_counted { result ≡ Err judging.Push → K.faults sink.new ≡ next_count (K.faults sink.old) }
+{
+    if origins {
+        judge_origins(alloc, source, sink)
+    } else {
+        judge_to(alloc, source, sink)
+    }
+}

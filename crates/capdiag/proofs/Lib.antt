@@ -1,0 +1,2 @@
+mod HeapLemmas
+mod RunLemmas

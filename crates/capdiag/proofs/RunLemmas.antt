@@ -1,0 +1,98 @@
+-- What was done for an order, told of an input whose bytes are known.
+use Rattle.std.proofs.Common.{◌≡◌, ◌≤◌, ◌↔◌, ℕ, Bool, true, false, List, [], ◌++◌, Option, None, Some, Ok, refl, sym, ap, subst, ◌∙◌, append-nil, arith}
+use Rattle.std.specs.Io.KnownBytes.{Consumes}
+use Rattle.cap_judge.specs.declared.verdict.Verdict.{Verdict}
+use Rattle.cap_judge.specs.declared.verdict.Verdict.TheVariants.{Yes, No}
+use Rattle.cap_judge.specs.Judgings.{IsAnswerOf, IsVerdictOf}
+use Rattle.cap_judge.specs.Reports.{Tells}
+use Rattle.cap_judge.specs.Verdicts.{IsVerdict}
+use Rattle.cap_judge.proofs.SourceLemmas.{of_all}
+use Rattle.cap_report.specs.FaultReports.{IsReport}
+use Rattle.cap_report.specs.Whys.{Explains}
+use Rattle.cap_program.specs.declared.faults.Fault.{Fault}
+use Rattle.cap_program.specs.declared.faults.Fault.TheVariants.{BadWords, BadWord, BadRequest, Read, Write, NoMemory}
+use Rattle.cap_program.specs.Faults.{status_of}
+use Rattle.cap_program.specs.Judging.{verdict_status}
+use Rattle.cap_program.proofs.Judgements.{tells_known, verdict_few}
+use Rattle.capdiag.specs.declared.words.Order.{Order}
+use Rattle.capdiag.specs.declared.words.Order.TheVariants.{Why, Heap}
+use Rattle.capdiag.proofs.HeapLemmas.{heap_few, heap_known}
+use Rattle.capdiag.specs.Answers.{Fails, IsFaulty, Prints, Shows}
+
+-- a text for all bytes given, with the report of a no
+explains_known : (origins : Bool) (known given rest : List ℕ) (ended : Bool) (verdict : Verdict) (text : List ℕ) → known ≡ given ++ rest
+    → (ended ≡ true → rest ≡ []) → IsVerdictOf given ended verdict → Explains origins given ended verdict text
+    → Explains origins known true verdict text
+explains_known origins known given rest ended (Yes steps roots) text are end is tells =
+    tells_known origins known given rest ended (Yes steps roots) text are end is tells
+explains_known origins known given rest ended (No line refusal) text are end is tells = (
+  tells.0,
+  λ more none.
+      subst (λ (bytes : List ℕ). IsReport bytes line refusal tells.0)
+      (sym are ∙ sym (append-nil known) ∙ ap (λ (m : List ℕ). known ++ m) (sym (none refl))) (tells.1 rest end),
+  tells.2,
+)
+
+-- the verdict on the bytes given, and its text, are those of all bytes
+verdict_known : (origins : Bool) (known given rest : List ℕ) (ended : Bool) (verdict : Verdict) (text : List ℕ) → known ≡ given ++ rest
+    → (ended ≡ true → rest ≡ []) → IsAnswerOf given ended (Ok verdict) → Explains origins given ended verdict text
+    → IsVerdict known verdict × Explains origins known true verdict text
+verdict_known origins known given rest ended verdict text are end answer tells = (
+  (of_all known given rest ended (Ok verdict) are end answer (λ e. cc)).0,
+  explains_known origins known given rest ended verdict text are end answer.verdict tells,
+)
+
+-- the text that belongs to the bytes given is printed for an input that gave them
+pub shows_known : (order : Option Order) (left rest : Option (List ℕ)) (given : List ℕ) (ended : Bool) (text : List ℕ) (status : ℕ)
+    → Consumes left rest given → (ended ≡ true → (xs : List ℕ) → rest ≡ Some xs → xs ≡ [])
+    → Shows order given ended text status → Prints order left text status
+shows_known None left rest given ended text status gives all shows = absurd shows
+shows_known (Some (Why origins file)) None rest given ended text status gives all shows =
+    let both = verdict_known origins given given [] ended shows.0 text (sym (append-nil given)) (λ e. refl) shows.1 shows.2 in
+    (given, tt, shows.0, both.0, both.1, shows.3)
+shows_known (Some (Why origins file)) (Some known) None given ended text status gives all shows = absurd gives
+shows_known (Some (Why origins file)) (Some known) (Some xs) given ended text status gives all shows =
+    let both = verdict_known origins known given xs ended shows.0 text gives (λ e. all e xs refl) shows.1 shows.2 in
+    (known, refl, shows.0, both.0, both.1, shows.3)
+shows_known (Some (Heap report file)) None rest given ended text status gives all shows =
+    let three = heap_known report given given [] ended shows.0 text (sym (append-nil given)) (λ e. refl) shows.1 shows.2 in
+    (given, tt, shows.0, three.0, three.1, three.2, shows.3)
+shows_known (Some (Heap report file)) (Some known) None given ended text status gives all shows = absurd gives
+shows_known (Some (Heap report file)) (Some known) (Some xs) given ended text status gives all shows =
+    let three = heap_known report known given xs ended shows.0 text gives (λ e. all e xs refl) shows.1 shows.2 in
+    (known, refl, shows.0, three.0, three.1, three.2, shows.3)
+
+-- the status of a text
+pub few : (order : Option Order) (given : List ℕ) (ended : Bool) (text : List ℕ) (status : ℕ) → Shows order given ended text status
+    → status ≤ 1
+few None given ended text status shows = absurd shows
+few (Some (Why origins file)) given ended text status shows = let is = shows.3 in let at = verdict_few shows.0 in omega arith
+few (Some (Heap report file)) given ended text status shows = let is = shows.3 in let at = heap_few shows.0 in omega arith
+
+-- an order with a text can be followed
+pub unfaulty : (order : Option Order) (given : List ℕ) (ended : Bool) (text : List ℕ) (status : ℕ) → Shows order given ended text status
+    → IsFaulty order → ⊥
+unfaulty None given ended text status shows faulty = shows
+unfaulty (Some order) given ended text status shows faulty = faulty
+
+-- a fault has status 2 just where the order cannot be followed
+pub asked_fault : (order : Option Order) (given : List ℕ) (fault : Fault) → Fails order given fault
+    → (status_of fault ≡ 2) ↔ IsFaulty order
+asked_fault None given BadWords fails = (λ two. tt, λ faulty. refl)
+asked_fault None given BadWord fails = absurd fails
+asked_fault None given BadRequest fails = absurd fails
+asked_fault None given Read fails = absurd fails
+asked_fault None given Write fails = absurd fails
+asked_fault None given NoMemory fails = absurd fails
+asked_fault (Some (Why origins file)) given Read fails = (λ two. absurd (cc), λ faulty. absurd faulty)
+asked_fault (Some (Why origins file)) given NoMemory fails = (λ two. absurd (cc), λ faulty. absurd faulty)
+asked_fault (Some (Why origins file)) given BadWords fails = absurd fails
+asked_fault (Some (Why origins file)) given BadWord fails = absurd fails
+asked_fault (Some (Why origins file)) given BadRequest fails = absurd fails
+asked_fault (Some (Why origins file)) given Write fails = absurd fails
+asked_fault (Some (Heap report file)) given Read fails = (λ two. absurd (cc), λ faulty. absurd faulty)
+asked_fault (Some (Heap report file)) given NoMemory fails = (λ two. absurd (cc), λ faulty. absurd faulty)
+asked_fault (Some (Heap report file)) given BadWords fails = absurd fails
+asked_fault (Some (Heap report file)) given BadWord fails = absurd fails
+asked_fault (Some (Heap report file)) given BadRequest fails = absurd fails
+asked_fault (Some (Heap report file)) given Write fails = absurd fails

@@ -1,0 +1,27 @@
+use Rattle.std.proofs.Common.{◌≡◌, ℕ, Result, subst, sym}
+use Rattle.cap_report.specs.Whys.{Explains}
+use Rattle.cap_program.specs.declared.faults.Fault.{Fault}
+use Rattle.cap_program.specs.declared.faults.Fault.TheVariants.{Read, Write}
+use Rattle.cap_program.specs.Doings.{IsCounted, IsDone}
+use Rattle.cap_program.specs.Judging.{ShowsVerdict, StopsJudging}
+use Rattle.cap_program.proofs.Judgements.{judged_done, judged_read, judged_written}
+use Rattle.capdiag.proofs.explaining.explain_source.Goals as goal
+
+pub returns : goal.returns
+returns g c =
+    let e = c.judge_why.ensures in
+    let r = e.explained in
+    let ended = g.S.Source.ended c.judge_why.new.source in
+    let took = g.K.Sink.took c.args.sink.now c.judge_why.new.sink in
+    let is = sym c.judged.ensures.value in record {
+      done = (
+        r.given,
+        r.gives,
+        subst (IsDone (ShowsVerdict (Explains c.args.origins r.given ended) r.given ended) (StopsJudging r.given) took) is
+            (judged_done (Explains c.args.origins r.given ended) r.given ended took c.judge_why.result r.explanation),
+      );
+      read = subst (λ (d : Result ℕ Fault). IsCounted Read d (g.S.Source.faults c.args.source.now) (g.S.Source.faults c.judge_why.new.source)) is
+          (judged_read _ _ c.judge_why.result e.counted e.pull_counted);
+      written = subst (λ (d : Result ℕ Fault). IsCounted Write d (g.K.Sink.faults c.args.sink.now) (g.K.Sink.faults c.judge_why.new.sink)) is
+          (judged_written _ _ c.judge_why.result e.sink_counted e.push_counted);
+    }

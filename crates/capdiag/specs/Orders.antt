@@ -1,0 +1,14 @@
+-- What the words after the program's name ask for.
+use Rattle.std.specs.Prelude.{◌≡◌, ℕ, List, [], ◌∷◌, ◌++◌, codes, IsTrue, Some, None}
+use Rattle.cap_program.specs.Words.{is_operand, option_word}
+use Rattle.capdiag.specs.declared.words.Order.{Order}
+use Rattle.capdiag.specs.declared.words.Order.TheVariants.{Why, Heap}
+
+-- the words ask for this order (this profile's own)
+abbrev pub Asks : List (List ℕ) → Order → Type 0
+Asks words (Why origins None) = words ≡ codes "why" ∷ option_word origins (codes "--origins")
+Asks words (Why origins (Some file)) =
+    (words ≡ codes "why" ∷ (option_word origins (codes "--origins") ++ file.now ∷ [])) × IsTrue (is_operand file.now)
+Asks words (Heap report None) = words ≡ codes "heap" ∷ option_word report (codes "--report")
+Asks words (Heap report (Some file)) =
+    (words ≡ codes "heap" ∷ (option_word report (codes "--report") ++ file.now ∷ [])) × IsTrue (is_operand file.now)

@@ -1,0 +1,183 @@
+//! What the program prints for its words and its input, worked by hand. The tests of `run` go over these rows, and
+//! `examples/program/check.py` runs the built program for them.
+//!
+//! Each row has the words of one or more runs, each behind its exit status, with `''` for an empty word; the lines of
+//! the input behind `|`; those on standard output behind `=`, where `..` stands for any lines; and the line on standard
+//! error behind `!`. The input is standard input, and the file `log`. There is no file `gone`.
+
+pub const ROWS: &str = r#"
+# words that have none of the forms
+2
+2 ''
+2 whys
+2 why -
+2 why a b
+2 why log --origins
+2 why --origins --origins
+2 why --origins -log
+2 why --why
+2 why -log
+2 heap -
+2 heap a b
+2 heap log --report
+2 heap --report --report
+2 heap --origins
+2 judge
+2 judge log
+2 explain 00001ffffc0180040000000000000000
+| capcheck 1
+| end 0
+! capdiag: bad words
+
+# no steps
+0 why
+0 why log
+0 why --origins
+0 why --origins log
+| capcheck 1
+| end 0
+= yes 0 0
+
+# a wrong count
+1 why
+1 why log
+1 why --origins
+1 why --origins log
+| capcheck 1
+| end 1
+= no 2 6 WrongCount
+= line end 1
+= roots 0
+= steps 0
+= granules 0
+
+# files that aren't there, though standard input has a log
+3 why gone
+3 why --origins gone
+3 why ''
+| capcheck 1
+| end 0
+! capdiag: read fault
+
+# a register that was cleared, and a granule
+0 why --origins
+0 why --origins log
+| capcheck 1
+| root c1 ffff1ffffc0180040000000000000000
+| move c2 c1 = 1 ffff1ffffc0180040000000000000000
+| sc c2 c1 16
+| cleartag c1 c1 = 0 ffff1ffffc0180040000000000000000
+| end 3
+= yes 3 1
+= origin c2 c1
+= origin @0000000000000010 c1
+
+# the same without origins
+0 why
+0 why log
+| capcheck 1
+| root c1 ffff1ffffc0180040000000000000000
+| move c2 c1 = 1 ffff1ffffc0180040000000000000000
+| sc c2 c1 16
+| cleartag c1 c1 = 0 ffff1ffffc0180040000000000000000
+| end 3
+= yes 3 1
+
+# a root in a granule
+0 why --origins
+0 why --origins log
+| capcheck 1
+| root c1 ffff1ffffc0180040000000000000000
+| root @0000000000000000 ffff1ffffbffd0000000000000001000
+| lc c2 c1 0 = 1 ffff1ffffbffd0000000000000001000
+| move c1 c2 = 1 ffff1ffffbffd0000000000000001000
+| end 2
+= yes 2 2
+= origin c1 @0000000000000000
+= origin c2 @0000000000000000
+= origin @0000000000000000 @0000000000000000
+
+# a tag in memory that is lost to a store of a byte
+0 why --origins
+0 why --origins log
+| capcheck 1
+| root c1 ffff1ffffc0180040000000000000000
+| sc c1 c1 0
+| store c1 0 1 aa
+| lc c3 c1 0 = 0 ffff1ffffc01800400000000000000aa
+| end 3
+= yes 3 1
+= origin c1 c1
+
+# registers by number, and then granules by address
+0 why --origins
+0 why --origins log
+| capcheck 1
+| root c3 ffff1ffffc0180040000000000000000
+| root @0000000000000040 ffff1ffffbffd0000000000000001000
+| sc c3 c3 32
+| move c31 c3 = 1 ffff1ffffc0180040000000000000000
+| sc c0 c3 16
+| lc c2 c3 64 = 1 ffff1ffffbffd0000000000000001000
+| sc c2 c3 0
+| end 5
+= yes 5 2
+= origin c2 @0000000000000040
+= origin c3 c3
+= origin c31 c3
+= origin @0000000000000000 @0000000000000040
+= origin @0000000000000020 c3
+= origin @0000000000000040 @0000000000000040
+
+# bounds outside their source's
+1 why
+1 why log
+1 why --origins
+1 why --origins log
+| capcheck 1
+| root c1 ffff1ffffc0180040000000000000000
+| setaddr c2 c1 0000000000001000 = 1 ffff1ffffc0180040000000000001000
+| setbounds c3 c2 0000000000000020 = 1 ffff1ffff80810000000000000001000
+| setbounds c4 c3 0000000000000021 = 1 ffff1ffff80850000000000000001000
+| end 3
+= no 5 11 BoundsEscape
+= line setbounds c4 c3 0000000000000021 = 1 ffff1ffff80850000000000000001000
+= source c3 1 ffff1ffff80810000000000000001000
+= source perms 00078fff
+= source otype 3ffff unsealed
+= source bounds 0000000000001000 00000000000001020
+= source origin c1
+= request 0000000000001000 00000000000001021
+= rounded 0000000000001000 00000000000001021
+
+# objects that lie apart
+0 heap
+0 heap log
+| heap 1
+| root 0000000000000000 10000000000000000
+| malloc 0000000000001000 0000000000000010
+| malloc 0000000000001010 0000000000000010
+| free 0000000000001000
+| end 3
+= yes 3 1
+
+# an object whose rounded bounds reach into its neighbour's
+1 heap
+1 heap --report
+| heap 1
+| root 0000000000000000 10000000000000000
+| malloc 0000000000010000 0000000000001001
+| malloc 0000000000011001 0000000000000001
+| end 2
+= no 4 28 Overlaps
+
+# an allocator's log that isn't there
+3 heap gone
+3 heap --report gone
+| heap 1
+! capdiag: read fault
+
+# no bytes of an allocator's log
+1 heap
+= no 1 5 Truncated
+"#;
