@@ -1,0 +1,14 @@
+mod Guarded
+mod Guarding
+mod JudgeLemmas
+mod Keeping
+mod LineLemmas
+mod Objects
+mod OneReading
+mod Optimal
+mod ProgressLemmas
+mod ReportLemmas
+mod Rounded
+mod RunLemmas
+mod ToldLemmas
+mod Neighbouring

@@ -1,0 +1,158 @@
+-- Objects whose bounds lie apart lie in the order of their addresses, so that a neighbour tells of all.
+use Rattle.std.proofs.Common.{◌≡◌, ℕ, ◌<◌, ◌≤◌, Bool, Some, None, Option, inl, inr, sym, ap, ◌∙◌, arith}
+use Rattle.std.proofs.lemmas.Bool.{cases_lt}
+use Rattle.std.proofs.lemmas.Option.{none-some, same_Some}
+use Rattle.std.specs.Prelude.{◌≢◌, IfSome}
+use Rattle.cap_bounds.specs.declared.decoding.Interval.{Interval}
+use Rattle.cap_bounds.specs.Rounding.{rounded_base, rounded_top}
+use Rattle.cap_bounds.proofs.Roundings.{rounded_base-le, rounded_top-ge}
+use Rattle.cap_heap.specs.Objects.{IsApart, Covers, AreApart}
+use Rattle.cap_heap.specs.Events.{Shares}
+use Rattle.cap_heap.specs.Kept.{length_from}
+use Rattle.cap_heap.specs.Neighbours.{IsLastUpTo, IsFirstFrom}
+use Rattle.cap_heap.proofs.Rounded.{empty-apart, covers-own, length_from-long}
+
+module _ (heap : Interval) (lengths : ℕ → Option ℕ) (empty : ℕ → Bool) (known : IsApart heap (λ at. length_from (lengths at) (empty at)))
+    (long : (at length : ℕ) → lengths at ≡ Some length → 0 < length) (at length : ℕ) (some : 0 < length) where
+  lives : (other size : ℕ) → lengths other ≡ Some size → length_from (lengths other) (empty other) ≡ Some size
+  lives other size is = ap (λ o. length_from o (empty other)) is
+
+  same_size : (one two size size2 : ℕ) → one ≡ two → lengths one ≡ Some size → lengths two ≡ Some size2 → size ≡ size2
+  same_size one two size size2 same is is2 = same_Some size size2 (sym is ∙ ap lengths same ∙ is2)
+
+  pub none-below : IsLastUpTo lengths at None → (other size : ℕ) → other < at → length_from (lengths other) (empty other) ≡ Some size
+      → AreApart at length other size
+  none-below none other size below is = elim (cases_lt 0 size) [
+    | inl more ↦ absurd (none-some size (sym (none other (omega (arith, below))) ∙ length_from-long (lengths other) (empty other) size is more))
+    | inr zero ↦ empty-apart at length other size (omega arith)
+  ]
+
+  pub none-above : IsFirstFrom lengths at None → (other size : ℕ) → at ≤ other → length_from (lengths other) (empty other) ≡ Some size
+      → AreApart at length other size
+  none-above none other size from is = elim (cases_lt 0 size) [
+    | inl more ↦ absurd (none-some size (sym (none other from) ∙ length_from-long (lengths other) (empty other) size is more))
+    | inr zero ↦ empty-apart at length other size (omega arith)
+  ]
+
+  module _ (near near_size : ℕ) (here : lengths near ≡ Some near_size) where
+    apart-near : (other size : ℕ) → lengths other ≡ Some size → other ≢ near → Covers other size near → ⊥
+    apart-near other size is differs covers =
+        known.apart other near size near_size (lives other size is) (lives near near_size here) differs near covers
+        (covers-own near near_size (long near near_size here))
+
+    pub apart-below : IsLastUpTo lengths at (Some (near, near_size)) → rounded_top near near_size ≤ rounded_base at length
+        → (other size : ℕ) → other < at → length_from (lengths other) (empty other) ≡ Some size → AreApart at length other size
+    apart-below last clear other size below is = elim (cases_lt 0 size) [
+      | inr zero ↦ empty-apart at length other size (omega arith)
+      | inl more ↦
+          let stands = length_from-long (lengths other) (empty other) size is more in
+          λ address c d. elim (cases_lt other near) [
+            | inl less ↦ apart-near other size stands (λ same. omega arith)
+                (omega (arith, rounded_base-le other size), omega (arith, rounded_top-ge near near_size, c.0, d.1))
+            | inr more ↦
+                let same : other ≡ near = omega (arith, last.2 other size (omega (arith, below)) stands) in
+                let sizes : size ≡ near_size = same_size other near size near_size same stands here in
+                let top : rounded_top other size ≡ rounded_top near near_size = ap (λ a. rounded_top a size) same ∙ ap (rounded_top near) sizes in
+                omega (arith, c.0, d.1)
+          ]
+    ]
+
+    pub apart-above : IsFirstFrom lengths at (Some (near, near_size)) → rounded_top at length ≤ rounded_base near near_size
+        → (other size : ℕ) → at ≤ other → length_from (lengths other) (empty other) ≡ Some size → AreApart at length other size
+    apart-above first clear other size from is = elim (cases_lt 0 size) [
+      | inr zero ↦ empty-apart at length other size (omega arith)
+      | inl more ↦
+          let stands = length_from-long (lengths other) (empty other) size is more in
+          λ address c d. elim (cases_lt near other) [
+            | inl less ↦ apart-near other size stands (λ same. omega arith) (
+              omega (arith, c.1, d.0, rounded_base-le near near_size),
+              omega (arith, rounded_top-ge other size),
+            )
+            | inr more ↦
+                let same : other ≡ near = omega (arith, first.2 other size from stands) in
+                let sizes : size ≡ near_size = same_size other near size near_size same stands here in
+                let base : rounded_base other size ≡ rounded_base near near_size = ap (λ a. rounded_base a size) same ∙ ap (rounded_base near) sizes in
+                omega (arith, c.1, d.0)
+          ]
+    ]
+
+    -- a neighbour whose bounds reach those of the request shares an address with it
+    pub shares-below : near < at → rounded_base at length < rounded_top near near_size → Shares (λ a. length_from (lengths a) (empty a)) at length near
+    shares-below below reach = elim (cases_lt (rounded_base at length) (rounded_base near near_size)) [
+      | inl lower ↦ (
+        near_size,
+        near,
+        lives near near_size here,
+        (
+          omega (arith, rounded_base-le near near_size),
+          omega (arith, rounded_top-ge at length),
+        ),
+        covers-own near near_size (long near near_size here),
+      )
+      | inr higher ↦ (
+        near_size,
+        rounded_base at length,
+        lives near near_size here,
+        (
+          omega arith,
+          omega (arith, rounded_base-le at length, rounded_top-ge at length),
+        ),
+        (higher, reach),
+      )
+    ]
+
+    pub shares-above : at ≤ near → rounded_base near near_size < rounded_top at length → Shares (λ a. length_from (lengths a) (empty a)) at length near
+    shares-above above reach = elim (cases_lt (rounded_base near near_size) (rounded_base at length)) [
+      | inl lower ↦ (
+        near_size,
+        at,
+        lives near near_size here,
+        covers-own at length some,
+        (
+          omega (arith, rounded_base-le at length),
+          omega (arith, rounded_top-ge near near_size, long near near_size here),
+        ),
+      )
+      | inr higher ↦ (
+        near_size,
+        rounded_base near near_size,
+        lives near near_size here,
+        (higher, reach),
+        (
+          omega arith,
+          omega (arith, rounded_base-le near near_size, rounded_top-ge near near_size, long near near_size here),
+        ),
+      )
+    ]
+
+  -- where neither neighbour's bounds reach those of the request, no object's do
+  apart-under : (below : Option (ℕ × ℕ)) → IsLastUpTo lengths at below → IfSome below (λ entry. rounded_top entry.0 entry.1 ≤ rounded_base at length)
+      → (other size : ℕ) → other < at → length_from (lengths other) (empty other) ≡ Some size → AreApart at length other size
+  apart-under None last clear = none-below last
+  apart-under (Some entry) last clear = apart-below entry.0 entry.1 last.1 last clear
+
+  apart-over : (above : Option (ℕ × ℕ)) → IsFirstFrom lengths at above → IfSome above (λ entry. rounded_top at length ≤ rounded_base entry.0 entry.1)
+      → (other size : ℕ) → at ≤ other → length_from (lengths other) (empty other) ≡ Some size → AreApart at length other size
+  apart-over None first clear = none-above first
+  apart-over (Some entry) first clear = apart-above entry.0 entry.1 first.1 first clear
+
+  pub apart-all : (below above : Option (ℕ × ℕ)) → IsLastUpTo lengths at below → IsFirstFrom lengths at above
+      → IfSome below (λ entry. rounded_top entry.0 entry.1 ≤ rounded_base at length)
+      → IfSome above (λ entry. rounded_top at length ≤ rounded_base entry.0 entry.1)
+      → (other size : ℕ) → length_from (lengths other) (empty other) ≡ Some size → AreApart at length other size
+  apart-all below above last first clear clear2 other size is = elim (cases_lt other at) [
+    | inl under ↦ apart-under below last clear other size under is
+    | inr over ↦ apart-over above first clear2 other size over is
+  ]
+
+  -- a neighbour whose bounds reach those of the request shares an address with it
+  pub shares-under : (entry : ℕ × ℕ) → length_from (lengths at) (empty at) ≡ None → IsLastUpTo lengths at (Some entry)
+      → rounded_base at length < rounded_top entry.0 entry.1 → Shares (λ a. length_from (lengths a) (empty a)) at length entry.0
+  shares-under entry fresh last reach =
+      let differ : entry.0 ≢ at = λ same. none-some entry.1
+      (sym fresh ∙ ap (λ a. length_from (lengths a) (empty a)) (sym same) ∙ lives entry.0 entry.1 last.1) in
+      shares-below entry.0 entry.1 last.1 (omega (arith, last.0, differ)) reach
+
+  pub shares-over : (entry : ℕ × ℕ) → IsFirstFrom lengths at (Some entry) → rounded_base entry.0 entry.1 < rounded_top at length
+      → Shares (λ a. length_from (lengths a) (empty a)) at length entry.0
+  shares-over entry first reach = shares-above entry.0 entry.1 first.1 first.0 reach

@@ -1,0 +1,95 @@
+-- What a progress stands for, and how it goes on.
+use Rattle.std.proofs.Common.{◌≡◌, ℕ, inr, List, [], ◌∷◌, ◌++◌, refl, sym, ap, subst, ◌∙◌, Result, Ok, Err, OnOk, IfErr}
+use Rattle.cap_bounds.specs.declared.decoding.Interval.{Interval}
+use Rattle.cap_heap.specs.declared.events.Event.{Event}
+use Rattle.cap_heap.specs.declared.events.EventEnd.{EventEnd}
+use Rattle.cap_heap.specs.declared.events.EventEnd.TheVariants.{Refused, NoMemory}
+use Rattle.cap_heap.specs.declared.heap.Heap.{Heap}
+use Rattle.cap_heap.specs.declared.lines.HeapLine.{HeapLine}
+use Rattle.cap_heap.specs.declared.lines.HeapLine.TheVariants.{Root, Happens, End}
+use Rattle.cap_heap.specs.declared.progress.Progress.{Progress}
+use Rattle.cap_heap.specs.declared.report.HeapReport.{HeapReport}
+use Rattle.cap_heap.specs.declared.stage.Stage.TheVariants as stages
+use Rattle.cap_heap.specs.HeapLines.{IsInRange, Spells}
+use Rattle.cap_heap.specs.Objects.{no_objects}
+use Rattle.cap_heap.specs.HeapReports.{IsReportOf}
+use Rattle.cap_heap.specs.Heaps.{objects_in, live_in}
+use Rattle.cap_heap.specs.HeapLogs.{Beginning, Nothing, Headed, Body, Whole, lines_of, body_lines, RefusesWhole}
+use Rattle.cap_heap.specs.Progresses.{Reaches, StandsFor, Takes, EndsLine, EndsText, LacksMemory}
+use Rattle.cap_heap.proofs.RunLemmas.{Reaches-start, lines-push}
+
+-- after the root there is a body
+record IsBody (progress : Progress) (beginning : Beginning) : Type 0 where
+  root : Interval
+  events : List Event
+  is : Body root events ≡ beginning
+  reaches : Reaches progress.heap progress.report progress.events root events
+
+body : (progress : Progress) → progress.stage ≡ stages.Within → (beginning : Beginning) → StandsFor progress beginning → IsBody progress beginning
+body progress within Nothing h = let no : ⊥ = cc in absurd no
+body progress within Headed h = let no : ⊥ = cc in absurd no
+body progress within (Body root events) h = record { root = root; events = events; is = refl; reaches = h.1 }
+body progress within (Whole root events) h = let bad = h.0 in let no : ⊥ = cc in absurd no
+
+headed : (progress : Progress) → progress.stage ≡ stages.Headed → (beginning : Beginning) → StandsFor progress beginning → Headed ≡ beginning
+headed progress is Nothing h = let no : ⊥ = cc in absurd no
+headed progress is Headed h = refl
+headed progress is (Body root events) h = let bad = h.0 in let no : ⊥ = cc in absurd no
+headed progress is (Whole root events) h = let bad = h.0 in let no : ⊥ = cc in absurd no
+
+-- an event more
+pub takes_event : {X : Type 0} (old new : Progress) (event : Event) → old.stage ≡ stages.Within → new.stage ≡ old.stage
+    → (result : Result X EventEnd)
+    → OnOk result ((root : Interval) (events : List Event) → Reaches old.heap old.report old.events root events
+    → Reaches new.heap new.report new.events root (events ++ event ∷ []))
+    → OnOk result (Takes old (Happens event) new)
+takes_event old new event within same (Err end) told = tt
+takes_event old new event within same (Ok done) told = λ beginning stands.
+    let here = body old within beginning stands in (
+      Body here.root (here.events ++ event ∷ []),
+      (same ∙ within, told here.root here.events here.reaches),
+      lines-push here.root here.events event
+          ∙ ap (λ (b : Beginning). lines_of b ++ Happens event ∷ []) here.is,
+    )
+
+-- the end line more
+pub takes_end : (old new : Progress) (count : ℕ) → old.stage ≡ stages.Within → new.stage ≡ stages.Ended → new.heap ≡ old.heap
+    → new.report ≡ old.report → new.events ≡ old.events → count ≡ old.events → Takes old (End count) new
+takes_end old new count within ended same same_report same_events is beginning stands =
+    let here = body old within beginning stands in
+    let reaches = subst (λ (heap : Heap). Reaches heap new.report new.events here.root here.events) (sym same)
+    (subst (λ (report : HeapReport). Reaches old.heap report new.events here.root here.events) (sym same_report)
+    (subst (λ (events : ℕ). Reaches old.heap old.report events here.root here.events) (sym same_events) here.reaches)) in (
+      Whole here.root here.events,
+      (ended, reaches),
+      ap (λ (n : ℕ). body_lines here.root here.events ++ End n ∷ []) (sym (is ∙ here.reaches.count_is))
+          ∙ ap (λ (b : Beginning). lines_of b ++ End count ∷ []) here.is,
+    )
+
+-- the root more
+pub takes_root : (old new : Progress) (bounds : Interval) → old.stage ≡ stages.Headed → new.stage ≡ stages.Within → new.events ≡ 0
+    → IsInRange (Root bounds) → new.heap.bounds ≡ bounds → objects_in new.heap ≡ no_objects → live_in new.heap ≡ 0
+    → IsReportOf new.report [] → Takes old (Root bounds) new
+takes_root old new bounds is within none range same objects live reported beginning stands = (
+  Body bounds [],
+  (
+    within,
+    subst (λ (events : ℕ). Reaches new.heap new.report events bounds []) (sym none)
+        (Reaches-start new.heap new.report bounds range same objects live reported),
+  ),
+  ap (λ (b : Beginning). lines_of b ++ Root bounds ∷ []) (headed old is beginning stands),
+)
+
+-- a line after the root is not taken
+pub ends_within : {X : Type 0} (progress : Progress) (text : List ℕ) (line : HeapLine) → progress.stage ≡ stages.Within → Spells text line
+    → (result : Result X EventEnd)
+    → IfErr result (λ end. (root : Interval) (events : List Event) → Reaches progress.heap progress.report progress.events root events
+    → EndsLine root events line end)
+    → IfErr result (EndsText progress text)
+ends_within progress text line within spells (Ok done) told = tt
+ends_within progress text line within spells (Err (Refused refusal)) told = λ beginning stands.
+    let here = body progress within beginning stands in
+    subst (λ (b : Beginning). RefusesWhole b text refusal) here.is (inr (line, spells, told here.root here.events here.reaches))
+ends_within progress text line within spells (Err NoMemory) told = λ beginning stands.
+    let here = body progress within beginning stands in
+    subst (λ (b : Beginning). LacksMemory b text) here.is (line, spells, told here.root here.events here.reaches)

@@ -1,0 +1,36 @@
+use Rattle.std.proofs.Common.{◌≡◌, ℕ, ◌∙◌, Option, Some, None, sym, subst}
+use Rattle.std.specs.Prelude.{◌≢◌, MatchOption, IfSome, IfNone, List}
+use Rattle.cap_log.specs.Lines as log
+use Rattle.cap_log.specs.declared.lines.Line.{Line}
+use Rattle.cap_log.specs.declared.lines.Line.TheVariants.{End as Ending}
+use Rattle.cap_log.proofs.SpellingLemmas as logs
+use Rattle.cap_heap.specs.declared.lines.HeapLine.TheVariants.{End}
+use Rattle.cap_heap.specs.HeapLines.{Spells}
+use Rattle.cap_heap.proofs.LineLemmas.{end_spelled}
+use Rattle.cap_heap.proofs.reading.read_end.Goals as goal
+
+-- an end line of a log of operations is one
+as_log : (text : List ℕ) (count : ℕ) → Spells text (End count) → log.Spells text (Ending count)
+as_log text count spells = (spells.0, spells.1 ∙ sym (end_spelled count))
+
+some_count : (text : List ℕ) (line : Line) → log.Spells text line → (o : Option ℕ)
+    → MatchOption o ((count : ℕ) → line ≢ Ending count) (λ count. line ≡ Ending count) → IfSome o (λ count. Spells text (End count))
+some_count text line spells None told = tt
+some_count text line spells (Some count) told =
+    let at = subst (log.Spells text) told spells in
+    (at.0, at.1 ∙ end_spelled count)
+
+no_count : (text : List ℕ) (line : Line) → log.Spells text line → (o : Option ℕ)
+    → MatchOption o ((count : ℕ) → line ≢ Ending count) (λ count. line ≡ Ending count)
+    → IfNone o ((count : ℕ) → Spells text (End count) → ⊥)
+no_count text line spells None told = λ count ends. told count (logs.one_spelling text line (Ending count) spells (as_log text count ends))
+no_count text line spells (Some count) told = tt
+
+pub returns-in_err-line-clause-none : goal.returns-in_err-line-clause-none
+returns-in_err-line-clause-none c = rw c.from_residual.ensures (λ count ends. c.in_err-line.ensures.none (Ending count) (as_log _ count ends))
+
+pub returns-clause-some : goal.returns-clause-some
+returns-clause-some c = some_count c.args.text.now c.in_ok-line.line c.in_ok-line.ensures.some c.count_of.result c.count_of.ensures
+
+pub returns-clause-none : goal.returns-clause-none
+returns-clause-none c = no_count c.args.text.now c.in_ok-line.line c.in_ok-line.ensures.some c.count_of.result c.count_of.ensures

@@ -1,0 +1,97 @@
+-- The verdict on an allocator's log (this profile's own, as are all below).
+use Rattle.std.specs.Prelude.{◌≡◌, ℕ, ◌+◌, ◌<◌, Bool, true, false, List, [], ◌∷◌, ◌++◌, length, Result, IfOk, IfErr}
+use Rattle.cap_bounds.specs.declared.decoding.Interval.{Interval}
+use Rattle.cap_log.specs.Front.{IsCut}
+use Rattle.cap_heap.specs.declared.events.Event.{Event}
+use Rattle.cap_heap.specs.declared.events.Event.TheVariants.{Malloc}
+use Rattle.cap_heap.specs.declared.lines.HeapLine.TheVariants.{Happens}
+use Rattle.cap_heap.specs.declared.report.HeapReport.{HeapReport}
+use Rattle.cap_heap.specs.declared.verdict.HeapVerdict.{HeapVerdict}
+use Rattle.cap_heap.specs.declared.verdict.HeapVerdict.TheVariants.{Yes, No}
+use Rattle.cap_heap.specs.declared.verdict.HeapFault.{HeapFault}
+use Rattle.cap_heap.specs.declared.verdict.HeapFault.TheVariants.{Pull, NoMemory}
+use Rattle.cap_heap.specs.HeapLines.{IsInRange, spelling}
+use Rattle.cap_heap.specs.Objects.{no_objects, IsApart}
+use Rattle.cap_heap.specs.Events.{HasRoom, objects_after, mallocs, frees}
+use Rattle.cap_heap.specs.HeapReports.{IsReportOf}
+use Rattle.cap_heap.specs.HeapLogs.{Beginning, Runs, IsLogOf, IsFirstFault, IsAccepted, CanBeGuardedThroughout}
+use Rattle.cap_heap.specs.HeapLogs.{body_lines, lines_of, text_of, most_events}
+
+-- the bytes are a log of so many events, at each moment of which the rounded bounds of the live objects lie apart and inside the root, and
+-- so many objects live at its end: those that came to live and were not freed
+pub record IsYes (bytes : List ℕ) (count live : ℕ) : Type 0 where
+  pub root : Interval
+  pub events : List Event
+  pub log : IsLogOf IsApart bytes root events
+  pub count_is : count ≡ length events
+  pub live_is : live + frees events ≡ mallocs events
+
+-- yes for such a log, with its numbers, and otherwise no with the first fault
+abbrev pub IsVerdict : List ℕ → HeapVerdict → Type 0
+IsVerdict bytes (Yes events live) = IsYes bytes events live
+IsVerdict bytes (No line refusal) = IsFirstFault bytes line refusal
+
+-- the verdict on these bytes, where their source has ended; where it has not, a no that stands whatever bytes follow
+abbrev pub IsVerdictOf : List ℕ → Bool → HeapVerdict → Type 0
+IsVerdictOf bytes true verdict = IsVerdict bytes verdict
+IsVerdictOf bytes false (Yes events live) = ⊥
+IsVerdictOf bytes false (No line refusal) = (more : List ℕ) → IsFirstFault (bytes ++ more) line refusal
+
+-- no choice of words does better: after a yes, at every moment sound words can be given to the live objects, with bounds that hold them and
+-- lie apart and inside the root; after a no, the bytes are no log of which this could be said, nor is one that goes on from them where
+-- their source has not ended
+abbrev pub IsOptimal : List ℕ → Bool → HeapVerdict → Type 0
+IsOptimal bytes ended (Yes events live) = CanBeGuardedThroughout bytes
+IsOptimal bytes ended (No line refusal) = (more : List ℕ) → (ended ≡ true → more ≡ []) → CanBeGuardedThroughout (bytes ++ more) → ⊥
+
+-- the whole lines begin a log that is accepted, and less than a line follows them
+pub record BeginsLog (bytes : List ℕ) : Type 0 where
+  pub beginning : Beginning
+  pub rest : List ℕ
+  pub bytes_are : bytes ≡ text_of (lines_of beginning) ++ rest
+  pub accepted : IsAccepted beginning
+  pub cut : IsCut rest
+
+-- the bytes are the text of a body that is accepted, the line of an object that comes to live and that no test refuses, and what comes
+-- behind it
+pub record MayLackMemory (bytes : List ℕ) : Type 0 where
+  pub root : Interval
+  pub events : List Event
+  pub address : ℕ
+  pub size : ℕ
+  pub more : List ℕ
+  pub bytes_are : bytes ≡ text_of (body_lines root events) ++ (spelling (Happens (Malloc address size)) ++ 10 ∷ more)
+  pub runs : Runs IsApart root events
+  pub range : IsInRange (Happens (Malloc address size))
+  pub few : length events < most_events
+  pub room : HasRoom root (objects_after no_objects events) address size
+
+-- why there is no verdict: the source failed behind whole lines that begin a log, or there was no memory for such an object
+abbrev pub IsFaultIn : List ℕ → HeapFault → Type 0
+IsFaultIn bytes Pull = BeginsLog bytes
+IsFaultIn bytes NoMemory = MayLackMemory bytes
+
+-- what an answer says of the bytes given, and of whether their source has ended
+pub record IsAnswerOf (bytes : List ℕ) (ended : Bool) (result : Result HeapVerdict HeapFault) : Type 0 where
+  pub verdict : IfOk result (IsVerdictOf bytes ended)
+  pub optimal : IfOk result (IsOptimal bytes ended)
+  pub fault : IfErr result (IsFaultIn bytes)
+
+-- an answer is that of the bytes that the source gave in the call
+pub record Judged {S : Type 0} (gave : S → S → List ℕ → Type 0) (ended : S → Bool) (old new : S)
+    (result : Result HeapVerdict HeapFault) : Type 0 where
+  pub given : List ℕ
+  pub gives : gave old new given
+  pub answer : IsAnswerOf given (ended new) result
+
+-- after a yes, a report is that of the log that the bytes are
+abbrev pub ReportsAfter : List ℕ → HeapReport → HeapVerdict → Type 0
+ReportsAfter bytes report (Yes events live) =
+    (root : Interval) × (happened : List Event) × IsLogOf IsApart bytes root happened × IsReportOf report happened
+ReportsAfter bytes report (No line refusal) = Unit {0}
+
+-- an answer with a report
+pub record JudgedBy {S : Type 0} (gave : S → S → List ℕ → Type 0) (ended : S → Bool) (old new : S)
+    (result : Result HeapVerdict HeapFault) (report : HeapReport) : Type 0 where
+  pub judged : Judged gave ended old new result
+  pub reported : IfOk result (ReportsAfter judged.given report)

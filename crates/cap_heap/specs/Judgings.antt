@@ -1,0 +1,27 @@
+-- What a judge answers at the line where it stops (this profile's own).
+use Rattle.std.specs.Prelude.{ℕ, Result, Ok, Err}
+use Rattle.cap_heap.specs.declared.events.EventEnd.{EventEnd}
+use Rattle.cap_heap.specs.declared.events.EventEnd.TheVariants as ends
+use Rattle.cap_heap.specs.declared.refusal.HeapRefusal.{HeapRefusal}
+use Rattle.cap_heap.specs.declared.refusal.HeapRefusal.TheVariants.{Misplaced, Truncated}
+use Rattle.cap_heap.specs.declared.stage.Stage.{Stage}
+use Rattle.cap_heap.specs.declared.stage.Stage.TheVariants.{Ended}
+use Rattle.cap_heap.specs.declared.verdict.HeapVerdict.{HeapVerdict}
+use Rattle.cap_heap.specs.declared.verdict.HeapVerdict.TheVariants.{Yes, No}
+use Rattle.cap_heap.specs.declared.verdict.HeapFault.{HeapFault}
+use Rattle.cap_heap.specs.declared.verdict.HeapFault.TheVariants.{NoMemory}
+
+-- what a line that is not taken makes the answer
+abbrev pub answer_at : ℕ → EventEnd → Result HeapVerdict HeapFault
+answer_at line (ends.Refused refusal) = Ok (No line refusal)
+answer_at line ends.NoMemory = Err NoMemory
+
+-- the verdict on a line that is too long or cut: after the end line it is misplaced
+abbrev pub refused_in : Stage → ℕ → HeapRefusal → HeapVerdict
+refused_in Ended line refusal = No line Misplaced
+refused_in stage line refusal = No line refusal
+
+-- the verdict where the bytes end at a line's start: a yes after the end line
+abbrev pub finished_in : Stage → ℕ → ℕ → ℕ → HeapVerdict
+finished_in Ended events live line = Yes events live
+finished_in stage events live line = No line Truncated

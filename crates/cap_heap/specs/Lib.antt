@@ -1,0 +1,13 @@
+pub mod Events
+pub mod HeapLines
+pub mod HeapLogs
+pub mod HeapReports
+pub mod HeapVerdicts
+pub mod Heaps
+pub mod Judgings
+pub mod Kept
+pub mod Neighbours
+pub mod Objects
+pub mod Progresses
+pub mod Refusals
+pub mod VerdictLines

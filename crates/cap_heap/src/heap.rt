@@ -1,0 +1,204 @@
+//! A heap: the objects of an allocator that live.
+
+ghost use Rattle.std.specs.Prelude.{◌≡◌, ◌<◌, ◌≤◌, ◌+◌, ◌^◌, ℕ, false, Some, None, IfErr, OnOk, OnErr, IsSome, IsSomeAnd, IfSome, MatchBool, MatchOption, ◌≢◌, [], ◌∷◌};
+ghost use Rattle.std.specs.Ordering.{nat_cmp};
+ghost use Rattle.std.specs.BTreeMap as tree;
+ghost use Rattle.std.specs.BTreeSet as set;
+ghost use Rattle.cap_bounds.specs.Rounding.{rounded_base, rounded_top};
+ghost use Rattle.cap_heap.specs.Neighbours.{IsLastUpTo};
+ghost use Rattle.cap_heap.specs.Objects.{AreApart, IsApart, no_objects, with_object, without_object};
+ghost use Rattle.cap_heap.specs.Events.{CanHappen, HasRoom, IsEndOf, IsFaultOf, Shares, after, frees, mallocs};
+ghost use Rattle.cap_heap.specs.Kept.{kept, kept_count};
+ghost use Rattle.cap_heap.specs.declared.events.Event.TheVariants.{Malloc, Free};
+ghost use Rattle.cap_heap.specs.declared.events.EventEnd.TheVariants.{NoMemory};
+
+use crate::events::{Event, EventEnd};
+use crate::neighbours::{first_from, last_up_to, reaching_down, reaching_up};
+use crate::refusal::HeapRefusal;
+use cap_bounds::{Interval, Rounded, round};
+use std::alloc::Global;
+use std::collections::{BTreeMap, BTreeSet};
+
+/// The live objects of an allocator, whose rounded bounds lie apart from one another and inside the heap's.
+#[derive(Drop)]
+pub struct Heap {
+    bounds: Interval,
+    // The length of each object of a byte or more, by its address.
+    lengths: BTreeMap<u64, u64>,
+    // The addresses of the others, whose bounds have no address.
+    empty: BTreeSet<u64>,
+    ghost apart: { IsApart bounds (kept lengths empty) },
+    ghost long: { (address length : ℕ) → tree.get nat_cmp lengths address ≡ Some length → 0 < length },
+    ghost once: { (address length : ℕ) → tree.get nat_cmp lengths address ≡ Some length → set.contains nat_cmp empty address ≡ false },
+}
+
+impl Heap {
+    ghost use Rattle.cap_heap.specs.Heaps.{live_in, objects_in};
+
+    /// A heap of no objects, which lie inside these bounds. It takes no memory.
+    pub fn new(alloc: Global, bounds: Interval) -> Heap
+        ensures bounds { result.bounds ≡ bounds }
+        ensures objects { objects_in result ≡ no_objects }
+        ensures count { live_in result ≡ 0 }
+    {
+        Heap {
+            bounds,
+            lengths: BTreeMap::new(alloc),
+            empty: BTreeSet::new(alloc),
+        }
+    }
+
+    /// How many objects live.
+    pub fn live(&self) -> usize
+        ensures count { result ≡ live_in self.now }
+    {
+        self.lengths.len() + self.empty.len()
+    }
+
+    /// An event happens, or it can't and nothing changes.
+    pub fn happen(&mut self, event: Event) -> Result<(), EventEnd>
+        ensures can { OnOk result (CanHappen self.old.bounds (objects_in self.old) event) }
+        ensures ok { OnOk result (objects_in self.new ≡ after (objects_in self.old) event) }
+        ensures count { OnOk result (live_in self.new + frees (event ∷ []) ≡ live_in self.old + mallocs (event ∷ [])) }
+        ensures end { IfErr result (IsEndOf self.old.bounds (objects_in self.old) event) }
+        ensures err { OnErr result (objects_in self.new ≡ objects_in self.old) }
+        ensures err_count { OnErr result (live_in self.new ≡ live_in self.old) }
+        ensures bounds { self.new.bounds ≡ self.old.bounds }
+    {
+        match event {
+            Event::Malloc { address, length } => self.malloc(address, length),
+            Event::Free { address } => self.free(address),
+        }
+    }
+
+    // A live object whose rounded bounds have an address in common with those of a request, where the last object
+    // up to its address and its rounded bounds are these.
+    fn overlapped(
+        &self,
+        below: Option<(u64, u64)>,
+        address: u64,
+        length: u64,
+        rounded: Rounded,
+    ) -> Option<(u64, u64)>
+        requires fresh { objects_in self.now address ≡ None }
+        requires near { IsLastUpTo (tree.get nat_cmp self.now.lengths) address below }
+        requires base { rounded.base ≡ rounded_base address length }
+        requires top { rounded.top ≡ rounded_top address length }
+        ensures { MatchOption result
+            ((other size : ℕ) → objects_in self.now other ≡ Some size → AreApart address length other size)
+            (λ entry. Shares (objects_in self.now) address length entry.0) }
+    {
+        if length == 0 {
+            return None;
+        }
+        match reaching_up(below, rounded.base) {
+            Some(entry) => Some(entry),
+            None => match reaching_down(first_from(&self.lengths, address), rounded.top) {
+                Some(entry) => Some(entry),
+                None => None,
+            },
+        }
+    }
+
+    // The first test of a request that holds, or `None` where it can be met.
+    fn refusal(&self, address: u64, length: u64) -> Option<HeapRefusal>
+        ensures { MatchOption result (HasRoom self.now.bounds (objects_in self.now) address length)
+            (IsFaultOf self.now.bounds (objects_in self.now) (Malloc address length)) }
+    {
+        let below = last_up_to(&self.lengths, address);
+        if is_at(below, address) || self.empty.contains(&address) {
+            return Some(HeapRefusal::AddressTaken);
+        }
+        let rounded = round(address, length);
+        if !self.bounds.contains(rounded.base, rounded.top) {
+            return Some(HeapRefusal::OutsideHeap);
+        }
+        match self.overlapped(below, address, length, rounded) {
+            Some(_) => Some(HeapRefusal::Overlaps),
+            None => None,
+        }
+    }
+
+    // An object of no bytes comes to live where there is room for it.
+    fn keep_empty(&mut self, address: u64) -> Result<(), EventEnd>
+        requires { HasRoom self.old.bounds (objects_in self.old) address 0 }
+        ensures ok { OnOk result ((other : ℕ) → objects_in self.new other ≡ with_object (objects_in self.old) address 0 other) }
+        ensures count { OnOk result (live_in self.new ≡ live_in self.old + 1) }
+        ensures end { IfErr result (λ end. end ≡ NoMemory) }
+        ensures err { OnErr result ((other : ℕ) → objects_in self.new other ≡ objects_in self.old other) }
+        ensures err_count { OnErr result (live_in self.new ≡ live_in self.old) }
+        ensures bounds { self.new.bounds ≡ self.old.bounds }
+    {
+        match self.empty.insert(address) {
+            Ok(_) => Ok(()),
+            Err(_) => Err(EventEnd::NoMemory),
+        }
+    }
+
+    // A longer object comes to live where there is room for it.
+    fn keep_long(&mut self, address: u64, length: u64) -> Result<(), EventEnd>
+        requires some { 0 < length }
+        requires room { HasRoom self.old.bounds (objects_in self.old) address length }
+        ensures ok { OnOk result ((other : ℕ) → objects_in self.new other ≡ with_object (objects_in self.old) address length other) }
+        ensures count { OnOk result (live_in self.new ≡ live_in self.old + 1) }
+        ensures end { IfErr result (λ end. end ≡ NoMemory) }
+        ensures err { OnErr result ((other : ℕ) → objects_in self.new other ≡ objects_in self.old other) }
+        ensures err_count { OnErr result (live_in self.new ≡ live_in self.old) }
+        ensures bounds { self.new.bounds ≡ self.old.bounds }
+    {
+        match self.lengths.insert(address, length) {
+            Ok(_) => Ok(()),
+            Err(_) => Err(EventEnd::NoMemory),
+        }
+    }
+
+    /// An object comes to live at an address, or the first test that refuses it is the answer and nothing
+    /// changes. Memory is taken for an object that no test refuses; `NoMemory` comes only there.
+    pub fn malloc(&mut self, address: u64, length: u64) -> Result<(), EventEnd>
+        ensures room { OnOk result (HasRoom self.old.bounds (objects_in self.old) address length) }
+        ensures ok { OnOk result ((other : ℕ) → objects_in self.new other ≡ with_object (objects_in self.old) address length other) }
+        ensures count { OnOk result (live_in self.new ≡ live_in self.old + 1) }
+        ensures end { IfErr result (IsEndOf self.old.bounds (objects_in self.old) (Malloc address length)) }
+        ensures err { OnErr result ((other : ℕ) → objects_in self.new other ≡ objects_in self.old other) }
+        ensures err_count { OnErr result (live_in self.new ≡ live_in self.old) }
+        ensures bounds { self.new.bounds ≡ self.old.bounds }
+    {
+        if let Some(refusal) = self.refusal(address, length) {
+            return Err(EventEnd::Refused(refusal));
+        }
+        if length > 0 {
+            self.keep_long(address, length)
+        } else {
+            self.keep_empty(address)
+        }
+    }
+
+    /// The object at an address lives no more, or none lived there and nothing changes.
+    pub fn free(&mut self, address: u64) -> Result<(), EventEnd>
+        ensures live { OnOk result (IsSome (objects_in self.old address)) }
+        ensures ok { OnOk result ((other : ℕ) → objects_in self.new other ≡ without_object (objects_in self.old) address other) }
+        ensures count { OnOk result (live_in self.old ≡ live_in self.new + 1) }
+        ensures end { IfErr result (IsEndOf self.old.bounds (objects_in self.old) (Free address)) }
+        ensures err { OnErr result ((other : ℕ) → objects_in self.new other ≡ objects_in self.old other) }
+        ensures err_count { OnErr result (live_in self.new ≡ live_in self.old) }
+        ensures bounds { self.new.bounds ≡ self.old.bounds }
+    {
+        if self.lengths.remove(&address).is_some() {
+            return Ok(());
+        }
+        if self.empty.remove(&address) {
+            return Ok(());
+        }
+        Err(EventEnd::Refused(HeapRefusal::NotLive))
+    }
+}
+
+// Whether an entry is there and has this address.
+fn is_at(entry: Option<(u64, u64)>, address: u64) -> bool
+    ensures { MatchBool result (IsSomeAnd entry (λ e. e.0 ≡ address)) (IfSome entry (λ e. e.0 ≢ address)) }
+{
+    match entry {
+        Some((key, _)) => key == address,
+        None => false,
+    }
+}

@@ -1,0 +1,129 @@
+//! The judge of an allocator's log.
+
+ghost use Rattle.std.specs.Prelude.{◌≡◌, ◌≢◌, ℕ, List, Err, None};
+ghost use Rattle.cap_log.specs.Streams.{next_count};
+ghost use Rattle.cap_log.specs.Takings.{kept, over_of};
+ghost use Rattle.cap_heap.specs.Heaps.{live_in};
+ghost use Rattle.cap_heap.specs.HeapVerdicts.{Judged, JudgedBy};
+ghost use Rattle.cap_heap.specs.declared.stage.Stage.TheVariants.{Start};
+ghost use Rattle.cap_heap.specs.Judgings.{answer_at, finished_in, refused_in};
+ghost use Rattle.cap_heap.specs.declared.verdict.HeapFault.TheVariants.{Pull};
+
+use crate::events::EventEnd;
+use crate::progress::Progress;
+use crate::refusal::HeapRefusal;
+use crate::report::HeapReport;
+use crate::stage::Stage;
+use crate::verdict::{HeapFault, HeapVerdict};
+use cap_log::{Lines, Next, PullFault, Source};
+use std::alloc::Global;
+
+/// Judges the log of an allocator that a source gives, each line as soon as it is there. It is `Yes` exactly
+/// where the bytes are such a log, at each moment of which the rounded bounds of the live objects lie apart
+/// from one another and inside the root, and the source has ended. Otherwise it is `No` with the first fault:
+/// where the source has not ended, whatever bytes follow.
+///
+/// Rounding is least, so no choice of capabilities does better: it is `Yes` exactly where to each live object, at
+/// each moment, a sound word can be given whose bounds hold it, such that these lie apart and inside the root.
+///
+/// `Pull` comes only where the source failed; then the whole lines that it gave begin a log, and less than
+/// a line follows them. Memory is taken only for an object that comes to live and that no test refuses;
+/// `NoMemory` comes only there. It returns for a source without end too, since a log has fewer than 2^32 events.
+pub fn judge_heap<S: Source>(alloc: Global, source: &mut S) -> Result<HeapVerdict, HeapFault>
+    ensures judged { Judged S.gave S.ended source.old source.new result }
+
+    // A fault of the source ends the call, and nothing else counts one.
+    ensures counted { result ≢ Err Pull → S.faults source.new ≡ S.faults source.old }
+    ensures fault_counted { result ≡ Err Pull → S.faults source.new ≡ next_count (S.faults source.old) }
+{
+    judge_keeping(alloc, source).answer
+}
+
+/// What a judge leaves: its answer, and after a yes the report of the log.
+#[derive(Clone, Copy)]
+pub(crate) struct Judging {
+    pub answer: Result<HeapVerdict, HeapFault>,
+    pub report: HeapReport,
+}
+
+/// Judges as [`judge_heap`] does, and gives the report with the answer.
+pub(crate) fn judge_keeping<S: Source>(alloc: Global, source: &mut S) -> Judging
+    ensures judged { JudgedBy S.gave S.ended source.old source.new result.answer result.report }
+    ensures counted { result.answer ≢ Err Pull → S.faults source.new ≡ S.faults source.old }
+    ensures fault_counted { result.answer ≡ Err Pull → S.faults source.new ≡ next_count (S.faults source.old) }
+{
+    let mut progress = Progress::new(alloc);
+    let answer = judge_lines(&mut progress, source);
+    Judging {
+        answer,
+        report: progress.report,
+    }
+}
+
+// Judges the lines that a source gives, none of which was taken.
+fn judge_lines<S: Source>(progress: &mut Progress, source: &mut S) -> Result<HeapVerdict, HeapFault>
+    requires { progress.old.stage ≡ Start }
+    ensures judged { JudgedBy S.gave S.ended source.old source.new result progress.new.report }
+    ensures counted { result ≢ Err Pull → S.faults source.new ≡ S.faults source.old }
+    ensures fault_counted { result ≡ Err Pull → S.faults source.new ≡ next_count (S.faults source.old) }
+{
+    let mut lines = Lines::new();
+    let mut line = 1u64;
+    'lines: loop {
+        match lines.next(source) {
+            Err(PullFault) => return Err(HeapFault::Pull),
+            Ok(Next::Finished) => return Ok(finished(progress, line)),
+            Ok(Next::Truncated) => {
+                return Ok(refused(progress.stage, line, HeapRefusal::Truncated));
+            }
+            Ok(Next::LineTooLong) => {
+                return Ok(refused(progress.stage, line, HeapRefusal::LineTooLong));
+            }
+            Ok(Next::Line(text)) => {
+                if let Err(end) = progress.take_line(text) {
+                    return answer_at(line, end);
+                }
+                line += 1;
+            }
+        }
+    }
+}
+
+// The verdict where the bytes end at a line's start.
+fn finished(progress: &Progress, line: u64) -> HeapVerdict
+    ensures { result ≡ finished_in progress.now.stage progress.now.events (live_in progress.now.heap) line }
+{
+    match progress.stage {
+        Stage::Ended => HeapVerdict::Yes {
+            events: progress.events,
+            live: progress.heap.live() as u64,
+        },
+        _ => HeapVerdict::No {
+            line,
+            refusal: HeapRefusal::Truncated,
+        },
+    }
+}
+
+// The verdict on a line that is too long or cut.
+fn refused(stage: Stage, line: u64, refusal: HeapRefusal) -> HeapVerdict
+    ensures { result ≡ refused_in stage line refusal }
+{
+    match stage {
+        Stage::Ended => HeapVerdict::No {
+            line,
+            refusal: HeapRefusal::Misplaced,
+        },
+        _ => HeapVerdict::No { line, refusal },
+    }
+}
+
+// What a line that is not taken makes the answer.
+fn answer_at(line: u64, end: EventEnd) -> Result<HeapVerdict, HeapFault>
+    ensures { result ≡ answer_at line end }
+{
+    match end {
+        EventEnd::Refused(refusal) => Ok(HeapVerdict::No { line, refusal }),
+        EventEnd::NoMemory => Err(HeapFault::NoMemory),
+    }
+}

@@ -1,0 +1,36 @@
+//! The judge of an allocator's log: whether the capabilities that guard its live objects can have bounds apart
+//! from one another.
+//!
+//! Bounds that a capability can have are rounded: those of a long object may reach beyond it. A [`Heap`] keeps
+//! the live objects of an allocator, and refuses one whose rounded bounds have an address in common with those
+//! of another, or leave the heap's. [`judge_heap`] judges the log of an allocator that a source gives, line by
+//! line; [`judge_heap_to`] writes the verdict too, and [`judge_heap_report`] after a yes what exact bounds would
+//! cost.
+#![tactic(auto)]
+
+mod events;
+mod heap;
+mod judging;
+mod laws;
+mod lines;
+mod neighbours;
+mod progress;
+mod reading;
+mod refusal;
+mod report;
+mod reporting;
+mod stage;
+mod verdict;
+mod verdict_lines;
+
+pub use crate::events::{Event, EventEnd};
+pub use crate::heap::Heap;
+pub use crate::judging::judge_heap;
+pub use crate::laws::{apart_is_guarded, logs_have_no_fault};
+pub use crate::lines::HeapLine;
+pub use crate::reading::read_heap_line;
+pub use crate::refusal::HeapRefusal;
+pub use crate::report::{HeapReport, put_report};
+pub use crate::reporting::{judge_heap_report, judge_heap_to};
+pub use crate::verdict::{HeapFault, HeapToFault, HeapVerdict};
+pub use crate::verdict_lines::heap_text;

@@ -1,0 +1,64 @@
+//! The neighbours of an address in an ordered map.
+
+ghost use Rattle.std.specs.Prelude.{◌≡◌, ◌<◌, ◌≤◌, IfSome, MatchOption, Some};
+ghost use Rattle.std.specs.Ordering.{nat_cmp};
+ghost use Rattle.std.specs.BTreeMap as tree;
+ghost use Rattle.cap_bounds.specs.Rounding.{rounded_base, rounded_top};
+ghost use Rattle.cap_heap.specs.Neighbours.{IsFirstFrom, IsLastUpTo};
+
+use cap_bounds::round;
+use std::collections::BTreeMap;
+
+/// The last entry up to an address.
+pub(crate) fn last_up_to(map: &BTreeMap<u64, u64>, address: u64) -> Option<(u64, u64)>
+    ensures { IsLastUpTo (tree.get nat_cmp map.now) address result }
+{
+    match map.range(..=address).next_back() {
+        Some((key, value)) => Some((*key, *value)),
+        None => None,
+    }
+}
+
+/// The first entry from an address on.
+pub(crate) fn first_from(map: &BTreeMap<u64, u64>, address: u64) -> Option<(u64, u64)>
+    ensures { IsFirstFrom (tree.get nat_cmp map.now) address result }
+{
+    match map.range(address..).next() {
+        Some((key, value)) => Some((*key, *value)),
+        None => None,
+    }
+}
+
+/// An entry, where its rounded top is above a base.
+pub(crate) fn reaching_up(below: Option<(u64, u64)>, base: u64) -> Option<(u64, u64)>
+    ensures { MatchOption result (IfSome below (λ entry. rounded_top entry.0 entry.1 ≤ base))
+        (λ entry. (below ≡ Some entry) × (base < rounded_top entry.0 entry.1)) }
+{
+    match below {
+        Some((address, length)) => {
+            if u128::from(base) < round(address, length).top {
+                Some((address, length))
+            } else {
+                None
+            }
+        }
+        None => None,
+    }
+}
+
+/// An entry, where its rounded base is below a top.
+pub(crate) fn reaching_down(above: Option<(u64, u64)>, top: u128) -> Option<(u64, u64)>
+    ensures { MatchOption result (IfSome above (λ entry. top ≤ rounded_base entry.0 entry.1))
+        (λ entry. (above ≡ Some entry) × (rounded_base entry.0 entry.1 < top)) }
+{
+    match above {
+        Some((address, length)) => {
+            if u128::from(round(address, length).base) < top {
+                Some((address, length))
+            } else {
+                None
+            }
+        }
+        None => None,
+    }
+}

@@ -1,0 +1,161 @@
+//! The progress of a judge, line by line.
+
+ghost use Rattle.std.specs.Prelude.{◌≡◌, ◌++◌, ◌∷◌, [], ℕ, List, OnOk, IfErr, OnErr};
+ghost use Rattle.cap_bounds.specs.declared.decoding.Interval.{Interval};
+ghost use Rattle.cap_heap.specs.declared.events.Event.{Event};
+ghost use Rattle.cap_heap.specs.declared.lines.HeapLine.TheVariants.{Happens, End};
+ghost use Rattle.cap_heap.specs.declared.stage.Stage.TheVariants as stages;
+ghost use Rattle.cap_heap.specs.HeapLines.{IsInRange};
+
+use crate::events::{Event, EventEnd};
+use crate::heap::Heap;
+use crate::lines::HeapLine;
+use crate::reading::{is_header, read_heap_line};
+use crate::refusal::HeapRefusal;
+use crate::report::HeapReport;
+use crate::stage::Stage;
+use cap_bounds::Interval;
+use std::alloc::Global;
+
+/// The greatest number of events.
+const MOST_EVENTS: u32 = 0xffff_ffff;
+
+/// How far a log was read: its part, the live objects, how many events there were, and the report of them.
+#[derive(Drop)]
+pub(crate) struct Progress {
+    pub alloc: Global,
+    pub stage: Stage,
+    pub heap: Heap,
+    pub events: u32,
+    pub report: HeapReport,
+}
+
+impl Progress {
+    ghost use Rattle.cap_heap.specs.Progresses.{EndsLine, EndsText, Reaches, Takes, TakesText};
+
+    /// Nothing was read.
+    pub fn new(alloc: Global) -> Progress
+        ensures stage { result.stage ≡ stages.Start }
+    {
+        Progress {
+            alloc,
+            stage: Stage::Start,
+            heap: Heap::new(alloc, Interval { base: 0, top: 0 }),
+            events: 0,
+            report: HeapReport::new(),
+        }
+    }
+
+    /// Takes a line, without its line feed.
+    pub fn take_line(&mut self, text: &[u8]) -> Result<(), EventEnd>
+        ensures ok { OnOk result (TakesText self.old text.now self.new) }
+        ensures err { IfErr result (EndsText self.old text.now) }
+    {
+        match self.stage {
+            Stage::Start => self.take_header(text),
+            Stage::Headed => self.take_root(text),
+            Stage::Within => self.take_within(text),
+            Stage::Ended => Err(EventEnd::Refused(HeapRefusal::Misplaced)),
+        }
+    }
+
+    // Takes the first line.
+    fn take_header(&mut self, text: &[u8]) -> Result<(), EventEnd>
+        requires { self.old.stage ≡ stages.Start }
+        ensures ok { OnOk result (TakesText self.old text.now self.new) }
+        ensures err { IfErr result (EndsText self.old text.now) }
+    {
+        if !is_header(text) {
+            return Err(EventEnd::Refused(HeapRefusal::BadHeader));
+        }
+        self.stage = Stage::Headed;
+        Ok(())
+    }
+
+    // Takes the second line.
+    fn take_root(&mut self, text: &[u8]) -> Result<(), EventEnd>
+        requires { self.old.stage ≡ stages.Headed }
+        ensures ok { OnOk result (TakesText self.old text.now self.new) }
+        ensures err { IfErr result (EndsText self.old text.now) }
+    {
+        match read_heap_line(text) {
+            Some(HeapLine::Root(bounds)) => {
+                self.stage = Stage::Within;
+                self.heap = Heap::new(self.alloc, bounds);
+                self.events = 0;
+                self.report = HeapReport::new();
+                Ok(())
+            }
+            Some(_) => Err(EventEnd::Refused(HeapRefusal::Misplaced)),
+            None => Err(EventEnd::Refused(HeapRefusal::BadLine)),
+        }
+    }
+
+    // Takes a later line.
+    fn take_within(&mut self, text: &[u8]) -> Result<(), EventEnd>
+        requires { self.old.stage ≡ stages.Within }
+        ensures ok { OnOk result (TakesText self.old text.now self.new) }
+        ensures err { IfErr result (EndsText self.old text.now) }
+    {
+        match read_heap_line(text) {
+            Some(line) => self.take_read(line),
+            None => Err(EventEnd::Refused(HeapRefusal::BadLine)),
+        }
+    }
+
+    // Takes a line that was read after the root.
+    fn take_read(&mut self, line: HeapLine) -> Result<(), EventEnd>
+        requires stage { self.old.stage ≡ stages.Within }
+        requires range { IsInRange line }
+        ensures ok { OnOk result (Takes self.old line self.new) }
+        ensures err { IfErr result (λ end. (root : Interval) (events : List Event)
+            → Reaches self.old.heap self.old.report self.old.events root events → EndsLine root events line end) }
+    {
+        match line {
+            HeapLine::Happens(event) => self.happen(event),
+            HeapLine::End(count) => self.end(count),
+            _ => Err(EventEnd::Refused(HeapRefusal::Misplaced)),
+        }
+    }
+
+    // An event happens, or it can't.
+    fn happen(&mut self, event: Event) -> Result<(), EventEnd>
+        requires range { IsInRange (Happens event) }
+        ensures ok { OnOk result ((root : Interval) (events : List Event) → Reaches self.old.heap self.old.report self.old.events root events
+            → Reaches self.new.heap self.new.report self.new.events root (events ++ event ∷ [])) }
+        ensures err { IfErr result (λ end. (root : Interval) (events : List Event)
+            → Reaches self.old.heap self.old.report self.old.events root events → EndsLine root events (Happens event) end) }
+        ensures stage { self.new.stage ≡ self.old.stage }
+    {
+        if self.events == MOST_EVENTS {
+            return Err(EventEnd::Refused(HeapRefusal::LimitPassed));
+        }
+        match self.heap.happen(event) {
+            Ok(()) => {
+                self.events += 1;
+                match event {
+                    Event::Malloc { address, length } => {
+                        self.report.add(address, length, self.heap.live() as u64);
+                    }
+                    Event::Free { address: _ } => {}
+                }
+                Ok(())
+            }
+            Err(end) => Err(end),
+        }
+    }
+
+    // The end line comes.
+    fn end(&mut self, count: u32) -> Result<(), EventEnd>
+        requires stage { self.old.stage ≡ stages.Within }
+        ensures ok { OnOk result (Takes self.old (End count) self.new) }
+        ensures err { IfErr result (λ end. (root : Interval) (events : List Event)
+            → Reaches self.old.heap self.old.report self.old.events root events → EndsLine root events (End count) end) }
+    {
+        if count != self.events {
+            return Err(EventEnd::Refused(HeapRefusal::WrongCount));
+        }
+        self.stage = Stage::Ended;
+        Ok(())
+    }
+}

@@ -1,0 +1,26 @@
+#!/bin/sh
+# Runs the recorder: on a program of its own, over an allocator that rounds nothing and over one that rounds, and on a
+# program of the system with a child. CAPDIAG is the program that judges.
+set -eu
+cd "$(dirname "$0")"
+CAPDIAG=${CAPDIAG:?the program capdiag}
+work=$(mktemp -d)
+trap 'rm -rf "$work"' EXIT
+cc=${CC:-cc}
+$cc -O2 -Wall -Wextra -shared -fPIC -o "$work/record.so" record.c -ldl -pthread
+$cc -O2 -Wall -Wextra -shared -fPIC -o "$work/bump.so" bump.c
+$cc -O2 -Wall -Wextra -shared -fPIC -DROUNDED -o "$work/rounded.so" bump.c
+$cc -O2 -Wall -Wextra -o "$work/asks" asks.c
+judged() { # FOLDER LIBRARIES PROGRAM..: the verdicts on all its logs
+    mkdir "$work/$1"
+    logs=$work/$1 libraries=$2
+    shift 2
+    env HEAP_LOGS="$logs" LD_PRELOAD="$libraries" "$@" > /dev/null
+    for log in "$logs"/*.log; do "$CAPDIAG" heap "$log" || test $? = 1; done
+}
+told() { test "$2" = "$3" || { echo "$1: $2, and not $3"; exit 1; }; }
+told 'an allocator that rounds nothing' "$(judged one "$work/record.so $work/bump.so" "$work/asks")" 'no 4 28 Overlaps'
+told 'an allocator that rounds' "$(judged two "$work/record.so $work/rounded.so" "$work/asks")" 'yes 6 0'
+# The shell's child ends by itself, so its log, which begins with that of its parent, is whole too.
+told 'a shell and its child' "$(judged three "$work/record.so $work/rounded.so" sh -c '(exit 0); :' | cut -d ' ' -f 1 | sort | uniq -c | tr -s ' ')" ' 2 yes'
+echo 'the recorder passed'
