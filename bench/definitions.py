@@ -161,4 +161,5 @@ def count(names):
     return 0
 
 
-sys.exit(count(sys.argv[1:]) if len(sys.argv) > 1 else compare())
+if __name__ == "__main__":
+    sys.exit(count(sys.argv[1:]) if len(sys.argv) > 1 else compare())
