@@ -1,15 +1,15 @@
 #!/bin/sh
 # Installs what is built here below a folder: sh install.sh PREFIX
 #
-#   PREFIX/bin/capcheck              the program
+#   PREFIX/bin/capcheck              the program, and capdiag, which says why a log got a no
 #   PREFIX/lib/libcapcheck_c.a       the library for C, and libcapcheck_c.so made of it
 #   PREFIX/lib/libcapcheck_judge.a   the judge for C, and libcapcheck_judge.so made of it
 #   PREFIX/lib/pkgconfig/*.pc        what `pkg-config --cflags --libs capcheck` reads, or `capcheck_judge` for both libraries
 #   PREFIX/include/capcheck*.h       their headers
-#   PREFIX/share/man/man1/capcheck.1 the program's manual page
+#   PREFIX/share/man/man1/*.1        the programs' manual pages
 #
 # DESTDIR goes in front of PREFIX, and is named in no file. What isn't built yet is proved and built first, which
-# wants the Rattle kit; CONTRIBUTING.md says how long it takes. The shared libraries and the judge want a C compiler: CC, or cc.
+# wants the Rattle kit; a line says when each crate is proved, and CONTRIBUTING.md how long it takes. The shared libraries and the judge want a C compiler: CC, or cc.
 set -eu
 [ $# = 1 ] || { echo 'install.sh: one word, the folder to install below' >&2; exit 2; }
 case $1 in
@@ -19,20 +19,30 @@ esac
 cd "$(dirname "$0")"
 to=${DESTDIR:-}$prefix
 program=crates/capcheck/out/capcheck
+diagnosis=crates/capdiag/out/capdiag
 library=crates/capcheck_c/out/libcapcheck_c.a
 judge=judge/out/libcapcheck_judge.a
 version=$(sed -n 's/^#define CAPCHECK_VERSION_STRING "\(.*\)"$/\1/p' include/capcheck.h)
 
-[ -f "$program" ] || (cd crates/capcheck && rt run -- judge ../../examples/moves.log)
-[ -f "$library" ] || (cd crates/capcheck_c && rt lib)
-[ -f "$judge" ] || sh judge/build.sh
+# What another command built is taken as it is, and the rest is proved side by side, unless it was.
+missing=
+for crate in capcheck capdiag capcheck_c capcheck_judge; do
+    case $crate in
+        capcheck_*) made=crates/$crate/out/lib$crate.a ;;
+        *) made=crates/$crate/out/$crate ;;
+    esac
+    [ -f "$made" ] && [ ! -f "crates/$crate/out/prove.sum" ] || missing="$missing $crate"
+done
+[ -z "$missing" ] || python3 .ci/prove.py $missing
+RT_LIB=true sh judge/build.sh
 
 mkdir -p "$to/bin" "$to/lib/pkgconfig" "$to/include" "$to/share/man/man1"
 cp "$program" "$to/bin/capcheck"
+cp "$diagnosis" "$to/bin/capdiag"
 cp "$library" "$to/lib/libcapcheck_c.a"
 cp "$judge" "$to/lib/libcapcheck_judge.a"
 cp include/capcheck.h include/capcheck_judge.h "$to/include/"
-cp docs/capcheck.1 "$to/share/man/man1/capcheck.1"
+cp docs/capcheck.1 docs/capdiag.1 "$to/share/man/man1/"
 for name in capcheck_c capcheck_judge; do
     ${CC:-cc} -shared -Wl,-soname,lib$name.so.1 -Wl,--whole-archive "$to/lib/lib$name.a" -Wl,--no-whole-archive -o "$to/lib/lib$name.so.1"
     ln -sf "lib$name.so.1" "$to/lib/lib$name.so"
