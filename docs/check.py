@@ -3,7 +3,7 @@
 
     python3 docs/check.py [PAGE..]
 
-It wants the program and the library for C built, or builds them. A block of a page that has lines beginning with
+It wants the programs and the library for C built, or builds them. A block of a page that has lines beginning with
 `$ ` is a session: each such line is a command, lines that begin with `> ` go on with it, and the lines below it are
 all that it prints; a line `..` stands for any lines. A page's commands run one after another in a folder of their
 own, in which the tree's files stand by their names. Other commands of the pages are those of ELSEWHERE, which says
@@ -21,11 +21,11 @@ ROOT = os.path.join(os.path.dirname(os.path.abspath(__file__)), "..")
 os.chdir(ROOT)
 ROOT = os.getcwd()
 PAGES = ["README.md", "CONTRIBUTING.md", "docs/FIRST_HOUR.md", "docs/FORMAT.md", "docs/WORDS.md", "docs/MACHINE.md", "docs/RECORDING.md"]
-PAGES += ["docs/C.md", "docs/PROOFS.md", "docs/DECISIONS.md", "examples/README.md", "web/README.md", "bench/README.md"]
+PAGES += ["docs/ALLOCATORS.md", "docs/STANDARD.md", "docs/C.md", "docs/PROOFS.md", "docs/DECISIONS.md", "examples/README.md", "web/README.md", "bench/README.md"]
 
 # Commands that no session runs, and where they are run.
 ELSEWHERE = {
-    "cd crates/capcheck && rt run -- judge ../../examples/moves.log": "the gate proves this program and runs it on this log, by `rt ci`",
+    "sh install.sh ~/.local": "examples/emulator/installed.sh, into another folder",
     "bash .ci/run": "the gate",
     "cd crates/capcheck_c && rt lib": "examples/emulator/check.sh",
     "sh judge/build.sh": "examples/emulator/check.sh",
@@ -40,7 +40,7 @@ ELSEWHERE = {
     "python3 bench/speed.py": "by hand: it measures",
     "sh bench/million.sh moves 10000000 | crates/capcheck/out/capcheck judge": "by hand: it measures",
 }
-COMMAND = re.compile(r"(\$|cc|sh|bash|cd|rt|python3|capcheck|make|cat|git) ")
+COMMAND = re.compile(r"(\$|cc|sh|bash|cd|rt|python3|capcheck|capdiag|make|cat|git) ")
 
 # Files of the tree that pages show whole.
 SHOWN = {

@@ -3,7 +3,7 @@
 # forms. It prints the two verdicts, and ends with status 0, where they are as wanted, and where a C program that
 # has the judge linked in says of each log of examples/ what the program says.
 #
-# CAPCHECK names a built capcheck; without it, this builds one too. RT_LIB is what builds a library for C in its
+# CAPCHECK and CAPDIAG name built programs; without them, this builds them too. RT_LIB is what builds a library for C in its
 # crate's folder, or `rt lib`.
 set -eu
 cd "$(dirname "$0")/../.."
@@ -31,6 +31,11 @@ judge=${CAPCHECK:-}
 if [ -z "$judge" ]; then
     (cd crates/capcheck && quietly rt run -- judge ../../examples/moves.log)
     judge=crates/capcheck/out/capcheck
+fi
+diagnosis=${CAPDIAG:-}
+if [ -z "$diagnosis" ]; then
+    (cd crates/capdiag && quietly rt run -- why ../../examples/moves.log)
+    diagnosis=crates/capdiag/out/capdiag
 fi
 quietly sh judge/build.sh
 wait "$other" || { cat "$work/built" >&2; echo 'check.sh: failed: the library for C' >&2; exit 1; }
@@ -104,7 +109,7 @@ for log in examples/*.log "$work"/*.changed.log; do
             number=$(echo "$verdict" | cut -d' ' -f2)
             [ "$(head -n 1 "$work/complaints")" = "stopped behind $number lines: $(sed -n "${number}p" "$log")" ] ||
                 { echo "check.sh: stopping stops elsewhere on $log" >&2; exit 1; }
-            gives=$("$judge" judge --why "$log" | sed -nE 's/^gives (c[0-9]+ )?([01] [0-9a-f]{32}|[0-9a-f]+)$/gives \2/p')
+            gives=$("$diagnosis" why "$log" | sed -nE 's/^gives (c[0-9]+ )?([01] [0-9a-f]{32}|[0-9a-f]+)$/gives \2/p')
             [ "$(grep '^gives ' "$work/complaints")" = "$gives" ] ||
                 { echo "check.sh: stopping tells other results on $log" >&2; exit 1; }
             ;;

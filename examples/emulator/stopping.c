@@ -28,7 +28,7 @@ static void show_registers(capcheck_judge *judge) {
     }
 }
 
-/* Shows what the rules give for a step that records another result, as `capcheck judge --why` writes it. */
+/* Shows what the rules give for a step that records another result, as `capdiag why` writes it. */
 static void show_expected(capcheck_judge *judge) {
     capcheck_expected given = capcheck_judge_expected(judge);
     if (given.kind == CAPCHECK_EXPECTS_CAPABILITY)
