@@ -1,45 +1,80 @@
 #!/usr/bin/env python3
-"""The public clauses without a name: of each public function and each method of a public trait, in crates/*/src.
+"""The clauses of each public function and each method of a public trait, in crates/*/src.
 
-    python3 bench/clauses.py [CRATE..]
+    python3 bench/clauses.py [CRATE..]      prints a line for each clause without a name, and nothing where all have one
+    python3 bench/clauses.py --since REV    prints the clauses that REV has of a function and the tree hasn't, word for
+                                            word, each `requires` that the tree has and REV hasn't, and the functions of
+                                            REV that are gone
 
-It prints a line for each, and nothing where all have one. The status is 1 where one lacks a name."""
-import glob
+The status is 1 where something was printed."""
 import os
 import re
+import subprocess
 import sys
 
 os.chdir(os.path.join(os.path.dirname(os.path.abspath(__file__)), ".."))
 FUNCTION = re.compile(r"\s*(pub )?(?:const )?(?:unsafe )?(?:extern \"C\" )?fn (\w+)")
-AROUND = re.compile(r"(pub )?(?:unsafe )?(impl|trait)\b")
-CLAUSE = re.compile(r"\s*ensures\*?\s*\{")
+PRIVATE = re.compile(r"\s*(?:pub\(\w+\) )(?:const )?fn ")
+AROUND = re.compile(r"(pub )?(?:unsafe )?(impl|trait)\b(?:<[^>]*>)? ?(.*)")
+CLAUSE = re.compile(r"\s*(ensures|requires)\*? ?(\w*) ?\{")
 
 
-def unnamed(path):
-    """The lines of a file at which a public clause without a name begins, each with its function."""
-    function, in_public_trait = None, False
-    with open(path, encoding="utf-8") as it:
-        for number, line in enumerate(it, 1):
-            around, head = AROUND.match(line), FUNCTION.match(line)
-            if around:
-                in_public_trait = around[2] == "trait" and bool(around[1])
-            if line.startswith("}"):
-                in_public_trait = False
-            if head:
-                function = head[2] if head[1] or in_public_trait else None
-            elif re.match(r"\s*(?:pub\(\w+\) )(?:const )?fn ", line):
-                function = None
-            elif function and CLAUSE.match(line):
-                yield number, function
+def clauses(text):
+    """The public clauses of a file: each one's line, function, kind, name and text."""
+    function, trait, around, lines = None, False, "", text.split("\n")
+    for number, line in enumerate(lines, 1):
+        outer, head, clause = AROUND.match(line), FUNCTION.match(line), CLAUSE.match(line)
+        if outer:
+            trait, around = outer[2] == "trait" and bool(outer[1]), re.sub(r"<.*|\{.*", "", outer[3].split(" for ")[-1]).strip() + "::"
+        if line.startswith("}"):
+            trait, around = False, ""
+        if head or PRIVATE.match(line):
+            function = around + head[2] if head and (head[1] or trait) else None
+        elif function and clause:
+            whole, at = line[clause.end():], number
+            while whole.count("{") >= whole.count("}"):
+                whole, at = whole + lines[at], at + 1
+            yield number, function, clause[1], clause[2], re.sub(r"\s+", " ", whole[: whole.rindex("}")]).strip()
 
 
-def main(crates):
+def unnamed(crates):
+    for path, text in sources(None):
+        if not crates or path.split("/")[1] in crates:
+            for number, function, kind, name, _ in clauses(text):
+                if kind == "ensures" and not name:
+                    yield f"{path}:{number}: a clause of `{function}` has no name"
+
+
+def sources(revision):
+    """The source files of a revision, or of the tree, with their texts."""
+    git = lambda *words: subprocess.run(["git", *words], capture_output=True, text=True, check=True).stdout
+    listed = git("ls-tree", "-r", "--name-only", revision, "crates") if revision else git("ls-files", "-co", "--exclude-standard", "crates")
+    for path in listed.split("\n"):
+        if re.match(r"crates/\w+/src/.*\.rt$", path) and (revision or os.path.exists(path)):
+            yield path, git("show", f"{revision}:{path}") if revision else open(path, encoding="utf-8").read()
+
+
+def since(revision):
+    was, now = {}, {}
+    for found, where in ((was, revision), (now, None)):
+        for _, text in sources(where):
+            for _, function, kind, name, words in clauses(text):
+                found.setdefault(function, set()).add((kind, name, words))
+    for function in sorted(was):
+        if function not in now:
+            yield f"{function}: gone, or without clauses"
+            continue
+        for kind, name, words in sorted(was[function] - now[function]):
+            yield from [f"{function}: no more: {kind} {name} {{ {words} }}"] if kind == "ensures" else []
+        for kind, name, words in sorted(now[function] - was[function]):
+            yield from [f"{function}: new: {kind} {name} {{ {words} }}"] if kind == "requires" else []
+
+
+def main(words):
     found = 0
-    for crate in crates or sorted(os.listdir("crates")):
-        for path in sorted(glob.glob(f"crates/{crate}/src/**/*.rt", recursive=True)):
-            for number, function in unnamed(path):
-                found += 1
-                print(f"{path}:{number}: a clause of `{function}` has no name")
+    for line in since(words[1]) if words[:1] == ["--since"] else unnamed(words):
+        found += 1
+        print(line)
     return 1 if found else 0
 
 

@@ -90,6 +90,9 @@ def page():
     parts, placed, reached = [], [], set()
     every = list(sections())
     for _, _, _, roots in every:
+        lacking = [it for it in roots if not named_by([it])]
+        if lacking:
+            sys.exit(f"standard.py: no definition has the name {', '.join(lacking)}")
         reached |= closure(named_by(roots))
     left = ordered(reached)
     place = {it: at for at, it in enumerate(left)}

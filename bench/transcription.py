@@ -49,7 +49,6 @@ def IsWindow(w, start):
 
 
 def AreBounds(w, base, top):
-    """Whether there are a mantissa, a window and raw bounds as the relation says."""
     (mantissa,) = [t for t in range(t_of(w), 2**14, 2**12) if IsMantissa(b_of(w), t_of(w), ie_of(w), t)]
     size, near = window_size(w), address_of(w) + 2**66
     offset = (b_of(w) // 2**11 + 7) % 8 * 2**11 * unit_of(w)
@@ -64,7 +63,7 @@ def AreBounds(w, base, top):
 
 def raw_base_at(e, b, address): return (2**14 * (((address + 2**66) // 2 ** (e + 11) + 1 - b // 2**11) // 8) + b) * 2**e
 def top_at(e, raw_base, length): return raw_base % 2**64 + length if e <= 50 else (raw_base + length) % 2**65
-def length_of(w): return span_of(b_of(w), mantissa_of(b_of(w), t_of(w), ie_of(w))) * unit_of(w)
+def length_of(w): return (2**12 * bit_of(ie_of(w)) + (t_of(w) + 2**14 - b_of(w)) % 2**12) * 2 ** cut_exponent_of(w)
 def base_of(w): return raw_base_at(cut_exponent_of(w), b_of(w), address_of(w)) % 2**64
 def top_of(w): return top_at(cut_exponent_of(w), raw_base_at(cut_exponent_of(w), b_of(w), address_of(w)), length_of(w))
 def is_sound(w): return base_of(w) + length_of(w) == top_of(w) and top_of(w) <= 2**64
@@ -102,7 +101,9 @@ def IsExact(base, length): return rounded_base(base, length) == base and rounded
 def line_of(kind, *numbers):
     if kind == "bounds":
         (w,) = numbers
-        assert AreBounds(w, base_of(w), top_of(w)) and IsMantissa(b_of(w), t_of(w), ie_of(w), mantissa_of(b_of(w), t_of(w), ie_of(w)))
+        fields = b_of(w), t_of(w), ie_of(w)
+        assert AreBounds(w, base_of(w), top_of(w)) and IsMantissa(*fields, mantissa_of(*fields))
+        assert length_of(w) == span_of(b_of(w), mantissa_of(*fields)) * unit_of(w)
         return f"bounds {w:032x} = {base_of(w):016x} {top_of(w):017x} {bit_of(is_sound(w))}"
     if kind == "keeps":
         return f"keeps {numbers[0]:032x} {numbers[1]:016x} = {bit_of(KeepsBounds(*numbers))}"
@@ -119,9 +120,8 @@ def drawn(count):
     for n in range(count // 4):
         w = rng.getrandbits(128) if n % 4 else rng.getrandbits(64) << 64 | rng.choice([0, 2**64 - 1, 2**63])
         base, length = rng.getrandbits(64) >> rng.randrange(64), rng.getrandbits(64) >> rng.randrange(64)
-        yield line_of("bounds", w)
+        yield from (line_of("bounds", w), line_of("memory", w))
         yield line_of("keeps", w, (address_of(w) + (rng.getrandbits(64) >> rng.randrange(64))) % 2**64)
-        yield line_of("memory", w)
         yield line_of("round", base, min(length, 2**64 - base, 2**64 - 1))
 
 

@@ -4,9 +4,9 @@
  *
  * Link with libcapcheck_judge.a; libcapcheck_c.a, which has the functions of capcheck.h, may be linked
  * beside it. The judge here is the one of the program, and proved: a yes and a no mean what docs/MACHINE.md
- * says of them, and the same bytes get the same verdict. It takes memory by malloc, realloc and free: for a
- * judge that is opened, and where a line names sixteen bytes of memory for the first time. It needs memcpy,
- * memmove and memset beside them.
+ * says of them, and the same bytes get the same verdict. It takes memory by malloc, realloc and free, or by
+ * functions in their place (capcheck_judge_memory): for a judge that is opened, and where a line names sixteen
+ * bytes of memory for the first time. It needs memcpy, memmove and memset beside them.
  *
  * What a caller owes:
  *   bytes, line   point to `length` bytes that may be read, and aren't null, not even where length is 0.
@@ -16,7 +16,7 @@
  *                 its copies only one is used. It is used by the thread that opened it, by
  *                 one call at a time.
  *   stack         some 40 KB for capcheck_judge_bytes, and some 10 KB for the other calls.
- *   malloc and realloc give blocks that are aligned to 16 bytes, or to the greatest power of two below that
+ *   malloc and realloc, or what stands in their place, give blocks that are aligned to 16 bytes, or to the greatest power of two below that
  *   divides the size. No function is called from a signal handler, or in a forked child of a process with
  *   threads.
  */
@@ -64,7 +64,13 @@ enum capcheck_line_refusal {
     CAPCHECK_BAD_MODE = 25
 };
 
-/* Judges a log of `length` bytes. CAPCHECK_NO_MEMORY comes only where malloc or realloc failed, at a line
+/* Takes memory from now on by these in place of malloc, realloc and free, whose promises they keep: for a judge in
+ * an allocator, whose malloc would call itself, and for a program that counts. None is null. It is called while no
+ * judge is open and no other call is under way. */
+void capcheck_judge_memory(void *(*take)(size_t size), void *(*again)(void *block, size_t size),
+                           void (*give)(void *block));
+
+/* Judges a log of `length` bytes. CAPCHECK_NO_MEMORY comes only where memory was refused, at a line
  * that nothing refuses and that names sixteen bytes of memory for the first time. All memory is given back
  * before the call ends. */
 CAPCHECK_CHECKED
@@ -110,7 +116,7 @@ uint8_t capcheck_judge_open(capcheck_judge *judge);
 /* Hands over the next line, `length` bytes with the line feed, as the calls of capcheck.h write it.
  *   CAPCHECK_GOES_ON    it is taken, and no line so far is at fault
  *   CAPCHECK_NO         it is taken, and it or one before it is at fault
- *   CAPCHECK_NO_MEMORY  it isn't taken, since malloc or realloc failed: nothing has changed, and it may be
+ *   CAPCHECK_NO_MEMORY  it isn't taken, since memory was refused: nothing has changed, and it may be
  *                       handed over again
  *   CAPCHECK_NO_LINE    it isn't taken, since the bytes aren't one line with its line feed. Of 96 bytes and
  *                       more without one the first are a line that is too long: CAPCHECK_NO

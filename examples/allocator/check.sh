@@ -1,6 +1,7 @@
 #!/bin/sh
 # Runs the recorder: on a program of its own, over an allocator that rounds nothing and over one that rounds, and on a
-# program of the system with a child. CAPDIAG is the program that judges.
+# program of the system with a child. Runs the judge inside malloc over the same two allocators. CAPDIAG is the program that
+# judges; both libraries for C are built.
 set -eu
 cd "$(dirname "$0")"
 CAPDIAG=${CAPDIAG:?the program capdiag}
@@ -23,4 +24,12 @@ told 'an allocator that rounds nothing' "$(judged one "$work/record.so $work/bum
 told 'an allocator that rounds' "$(judged two "$work/record.so $work/rounded.so" "$work/asks")" 'yes 6 0'
 # The shell's child ends by itself, so its log, which begins with that of its parent, is whole too.
 told 'a shell and its child' "$(judged three "$work/record.so $work/rounded.so" sh -c '(exit 0); :' | cut -d ' ' -f 1 | sort | uniq -c | tr -s ' ')" ' 2 yes'
+# The judge inside malloc stops the program in its call, or lets it end.
+top=../..
+$cc -O2 -Wall -Wextra -shared -fPIC -I$top/include livejudge.c $top/judge/out/libcapcheck_judge.a $top/crates/capcheck_c/out/libcapcheck_c.a \
+    -o "$work/livejudge.so" -ldl -pthread
+said() { (env LD_PRELOAD="$work/livejudge.so $1" "$work/asks" 2>&1 > /dev/null || :) | grep -a "^livejudge:" | sed "s/ at 0x[0-9a-f]*;/;/" | grep . || echo silent; }
+told 'the judge inside malloc' "$(said "$work/bump.so")" \
+    'livejudge: NotExact: 87208 bytes; right would be 87296 at a multiple of 128'
+told 'the judge inside malloc, over an allocator that rounds' "$(said "$work/rounded.so")" silent
 echo 'the recorder passed'

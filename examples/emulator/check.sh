@@ -89,7 +89,7 @@ for one in "${tried[@]}"; do
     wait "$one"
 done
 if command -v valgrind > "$work/found"; then
-    quietly ${CC:-cc} -std=c99 $strict -Wconversion -DNOT_COUNTED examples/emulator/judging.c $libraries -o "$work/judging"
+    quietly ${CC:-cc} -std=c99 $strict -Wconversion examples/emulator/judging.c $libraries -o "$work/judging"
     quietly valgrind -q --leak-check=full --error-exitcode=9 "$work/judging" $logs
 fi
 

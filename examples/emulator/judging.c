@@ -20,40 +20,31 @@ static void expect(bool holds, int line) {
 
 #define EXPECT(holds) expect((holds), __LINE__)
 
-/* How many blocks of memory are held, counted in front of the C library. With NOT_COUNTED none is, as valgrind wants it. */
-static long held, taken_in_all;
+/* How many blocks of memory the judge holds, counted in front of the C library, and whether it gets more. */
+static long held;
+static bool has_memory = true;
 
-#ifndef NOT_COUNTED
 #ifdef __cplusplus
-#define NEVER_THROWS noexcept
 extern "C" {
-#else
-#define NEVER_THROWS
 #endif
-extern void *__libc_malloc(size_t size);
-extern void *__libc_realloc(void *old, size_t size);
-extern void __libc_free(void *block);
-
-void *malloc(size_t size) NEVER_THROWS {
-    void *block = __libc_malloc(size);
+static void *take(size_t size) {
+    void *block = has_memory ? malloc(size) : NULL;
     held += block != NULL;
-    taken_in_all += block != NULL;
     return block;
 }
 
-void *realloc(void *old, size_t size) NEVER_THROWS {
-    void *block = __libc_realloc(old, size);
+static void *again(void *old, size_t size) {
+    void *block = has_memory ? realloc(old, size) : NULL;
     held += old == NULL && block != NULL;
     return block;
 }
 
-void free(void *block) NEVER_THROWS {
+static void give(void *block) {
     held -= block != NULL;
-    __libc_free(block);
+    free(block);
 }
 #ifdef __cplusplus
 }
-#endif
 #endif
 
 /* The bytes of a file, or NULL where they can't be had. */
@@ -114,7 +105,7 @@ static void by_lines(const uint8_t *bytes, size_t length) {
     capcheck_judge judge = CAPCHECK_NO_JUDGE_YET;
     long before = held;
     EXPECT(capcheck_judge_open(&judge) == CAPCHECK_GOES_ON);
-    EXPECT(held > before || taken_in_all == 0);
+    EXPECT(held > before);
     size_t taken = 0;
     bool at_fault = false;
     while (taken < length) {
@@ -204,9 +195,38 @@ static void closed(void) {
     }
 }
 
+/* Where memory is refused, a judge isn't opened, and a line isn't taken, and may be handed over again. */
+static void refused(void) {
+    static const char header[] = "capcheck 1\n", root[] = "root c1 ffff1ffffc0180040000000000000000\n";
+    static const char store[] = "store c1 0 1 12\n", load[] = "load c1 0 1 = 12\n";
+    static const char log[] = "capcheck 1\nroot c1 ffff1ffffc0180040000000000000000\nstore c1 0 1 12\nend 1\n";
+    capcheck_judge judge = CAPCHECK_NO_JUDGE_YET;
+    long before = held;
+    has_memory = false;
+    EXPECT(is_state(capcheck_judge_bytes((const uint8_t *)log, sizeof log - 1), CAPCHECK_NO_MEMORY));
+    EXPECT(capcheck_judge_open(&judge) == CAPCHECK_NO_MEMORY);
+    EXPECT(capcheck_judge_line(&judge, header, sizeof header - 1) == CAPCHECK_NO_JUDGE);
+    has_memory = true;
+    EXPECT(capcheck_judge_open(&judge) == CAPCHECK_GOES_ON);
+    EXPECT(capcheck_judge_line(&judge, header, sizeof header - 1) == CAPCHECK_GOES_ON);
+    EXPECT(capcheck_judge_line(&judge, root, sizeof root - 1) == CAPCHECK_GOES_ON);
+    has_memory = false;
+    EXPECT(capcheck_judge_line(&judge, store, sizeof store - 1) == CAPCHECK_NO_MEMORY);
+    EXPECT(is_state(capcheck_judge_answer(&judge), CAPCHECK_GOES_ON));
+    has_memory = true;
+    EXPECT(capcheck_judge_line(&judge, store, sizeof store - 1) == CAPCHECK_GOES_ON);
+    has_memory = false;
+    EXPECT(capcheck_judge_line(&judge, load, sizeof load - 1) == CAPCHECK_GOES_ON);
+    capcheck_judge_close(&judge);
+    has_memory = true;
+    EXPECT(held == before);
+}
+
 int main(int argc, char **argv) {
+    capcheck_judge_memory(take, again, give);
     closed();
     expected();
+    refused();
     for (int i = 1; i < argc; i++) {
         size_t length;
         uint8_t *bytes = bytes_of(argv[i], &length);

@@ -5,7 +5,7 @@ use Rattle.std.proofs.lemmas.Nat.{pow_pos, shl_whole, shl_below}
 use Rattle.std.proofs.lemmas.Bool.{cases_lt}
 use Rattle.std.proofs.lemmas.Bool.Decides.{nat_tests}
 use Rattle.cap_word.specs.Fields.{ie_of, e_of, b_of, t_of, address_of}
-use Rattle.cap_bounds.specs.Bounds.{window_start_at, IsResidue, IsWindow, AreBounds, span_at}
+use Rattle.cap_bounds.specs.Bounds.{window_start_at, IsResidue, IsMantissa, IsWindow, AreBounds, span_at, span_of}
 use Rattle.cap_bounds.specs.Bounds.{mantissa_of, cut_exponent_of, unit_of, window_size, raw_base_at}
 use Rattle.cap_bounds.specs.Bounds.{top_at, length_of, base_of, top_of}
 use Rattle.cap_bounds.specs.Range.{window_start}
@@ -83,7 +83,21 @@ top_at-uncorrected e raw length h = grind (arith, nat_tests)
 -- the length of a word is its span in units
 pub length_is : (w : ℕ) → length_of w ≡ span_at (b_of w) (t_of w) (ie_of w) * unit_of w
 unfolding length_of
-length_is w = ap (λ (x : ℕ). x * unit_of w) (span_of-mantissa_of (b_of w) (t_of w) (ie_of w) (b_of-lt w))
+length_is w = refl
+
+-- and that is how far its mantissas lie apart
+pub length_of-mantissa : (w mantissa : ℕ) → IsMantissa (b_of w) (t_of w) (ie_of w) mantissa
+    → length_of w ≡ span_of (b_of w) mantissa * unit_of w
+unfolding length_of
+length_of-mantissa w mantissa is =
+    ap (λ (x : ℕ). x * unit_of w) (sym (span_of-mantissa_of (b_of w) (t_of w) (ie_of w) (b_of-lt w))
+    ∙ ap (span_of (b_of w)) (sym (IsMantissa-unique (b_of w) (t_of w) (ie_of w) mantissa (b_of-lt w) is)))
+
+-- so that of the mantissa in closed form
+pub span-length_of : (w : ℕ) → span_of (b_of w) (mantissa_of (b_of w) (t_of w) (ie_of w)) * unit_of w ≡ length_of w
+span-length_of w =
+    sym (length_of-mantissa w (mantissa_of (b_of w) (t_of w) (ie_of w))
+    (IsMantissa-mantissa_of (b_of w) (t_of w) (ie_of w) (b_of-lt w) (t_of-lt w)))
 
 pub IsWindow-window_start : (w : ℕ) → IsWindow w (window_start w)
 unfolding window_start

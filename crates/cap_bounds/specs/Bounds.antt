@@ -24,7 +24,7 @@ pub record IsMantissa (b low : ℕ) (ie : Bool) (t : ℕ) : Type 0 where
   pub span_from : 2 ^ 12 * bit_of ie ≤ span_of b t
   pub span_below : span_of b t < 2 ^ 12 * bit_of ie + 2 ^ 12
 
--- closed form of the span, from B, the low twelve bits of T and IE; `mantissa` ties it to `IsMantissa`
+-- closed form of the span, from B, the low twelve bits of T and IE; `bounds_are_unique` ties it to `IsMantissa`
 abbrev pub span_at : ℕ → ℕ → Bool → ℕ
 span_at b low ie = 2 ^ 12 * bit_of ie + (low + 2 ^ 14 - b) % 2 ^ 12
 
@@ -84,9 +84,9 @@ raw_base_at e b address = (2 ^ 14 * (((address + 2 ^ 66) / 2 ^ (e + 11) + 1 - b 
 unfoldable pub top_at : ℕ → ℕ → ℕ → ℕ
 top_at e raw_base length = if nat_le e 50 then raw_base % 2 ^ 64 + length else (raw_base + length) % 2 ^ 65
 
--- the length of a word: the span of its mantissas in units (this profile's own)
+-- the length of a word: how far T lies above B in units, 4096 or more with IE (this profile's own); `bounds_are_unique` ties it to `IsMantissa`
 unfoldable pub length_of : ℕ → ℕ
-length_of w = span_of (b_of w) (mantissa_of (b_of w) (t_of w) (ie_of w)) * unit_of w
+length_of w = (2 ^ 12 * bit_of (ie_of w) + (t_of w + 2 ^ 14 - b_of w) % 2 ^ 12) * 2 ^ cut_exponent_of w
 
 -- the base of a word, of these closed forms; `bounds` ties it to `AreBounds`
 unfoldable pub base_of : ℕ → ℕ

@@ -4,7 +4,7 @@ ghost use Rattle.std.specs.Prelude.{◌≡◌, ◌<◌, ◌≤◌, ◌+◌, ◌*
 ghost use Rattle.cap_word.specs.Fields.{b_of, ie_of, t_of};
 ghost use Rattle.cap_bounds.specs.Bounds.{AreBounds, IsInside, IsMantissa, IsSound, base_of};
 ghost use Rattle.cap_bounds.specs.Bounds.{cut_exponent_of, length_of, mantissa_of, raw_base_at, span_at};
-ghost use Rattle.cap_bounds.specs.Bounds.{top_of, window_start_at};
+ghost use Rattle.cap_bounds.specs.Bounds.{span_of, top_of, unit_of, window_start_at};
 ghost use Rattle.cap_bounds.specs.SailDecoding.{sail_base, sail_top};
 
 use cap_word::{Fields, Word, split};
@@ -237,10 +237,13 @@ pub fn sound(word: Word) -> bool
     u128::from(base) + length == top && top <= 1 << 64
 }
 
-/// A word has exactly one base and top. This does nothing: its contract is the law.
+/// A word has exactly one base and top, and its length is how far its mantissa T lies above B, in units. This
+/// does nothing: its contract is the law.
 pub fn bounds_are_unique(word: Word)
     ensures exists { AreBounds word.0 (base_of word.0) (top_of word.0) }
     ensures unique { (base top : ℕ) → AreBounds word.0 base top → (base ≡ base_of word.0) × (top ≡ top_of word.0) }
+    ensures length { (mantissa : ℕ) → IsMantissa (b_of word.0) (t_of word.0) (ie_of word.0) mantissa
+        → length_of word.0 ≡ span_of (b_of word.0) mantissa * unit_of word.0 }
 {
     let _ = word;
 }

@@ -1,9 +1,9 @@
 -- Where a judge is, and what it may answer there.
-use Rattle.std.proofs.Common.{◌≡◌, ◌≢◌, ℕ, ◌+◌, ◌≤◌, inl, inr, Bool, true, false, List, [], ◌∷◌, ◌++◌, length, refl, sym, ap}
+use Rattle.std.proofs.Common.{◌≡◌, ◌≢◌, ℕ, ◌+◌, ◌≤◌, inl, inr, Bool, true, List, [], ◌∷◌, ◌++◌, length, take, refl, sym, ap}
 use Rattle.std.proofs.Common.{subst, ◌∙◌, append-nil, append_assoc, arith, Result, Ok, Err}
 use Rattle.std.proofs.lemmas.Grind.{flat_map-append}
 use Rattle.std.proofs.lemmas.List.Elements.{All-nil}
-use Rattle.std.proofs.lemmas.List.{length_push, length-map, length-append}
+use Rattle.std.proofs.lemmas.List.{length_push, length-map, length-append, take-append-le, take_all}
 use Rattle.cap_log.specs.Front.{IsLine, IsCut, IsTooLong}
 use Rattle.cap_log.specs.Takings.{IsNext, Answered, kept, over_of}
 use Rattle.cap_log.specs.declared.taking.Lines.{Lines}
@@ -18,19 +18,20 @@ use Rattle.cap_heap.specs.declared.lines.HeapLine.TheVariants.{Happens, End}
 use Rattle.cap_heap.specs.declared.progress.Progress.{Progress}
 use Rattle.cap_heap.specs.declared.refusal.HeapRefusal.{HeapRefusal}
 use Rattle.cap_heap.specs.declared.refusal.HeapRefusal.TheVariants as refusals
-use Rattle.cap_heap.specs.declared.report.HeapReport.{HeapReport}
 use Rattle.cap_heap.specs.declared.stage.Stage.{Stage}
 use Rattle.cap_heap.specs.declared.stage.Stage.TheVariants as stages
 use Rattle.cap_heap.specs.declared.verdict.HeapVerdict.{HeapVerdict}
-use Rattle.cap_heap.specs.declared.verdict.HeapVerdict.TheVariants.{No}
+use Rattle.cap_heap.specs.declared.verdict.HeapVerdict.TheVariants.{No, Yes}
 use Rattle.cap_heap.specs.declared.verdict.HeapFault.TheVariants.{Pull}
 use Rattle.cap_heap.specs.HeapLines.{IsInRange, spelling}
 use Rattle.cap_heap.specs.Heaps.{live_in}
-use Rattle.cap_heap.specs.HeapLogs.{Beginning, Nothing, Headed, Body, Whole, lines_of, text_of, IsAccepted, Refuses, IsFirstFault, most_events}
+use Rattle.cap_heap.specs.HeapLogs.{Beginning, Nothing, Headed, Body, Whole, lines_of, text_of, IsAccepted, IsLogOf, Refuses, most_events}
 use Rattle.cap_heap.specs.HeapLogs.{body_lines, RefusesWhole}
-use Rattle.cap_heap.specs.Progresses.{StandsFor, TakesText, EndsText, IsAt, LacksMemory}
-use Rattle.cap_heap.specs.HeapVerdicts.{IsVerdict, IsVerdictOf, Judged, JudgedBy, MayLackMemory, ReportsAfter}
-use Rattle.cap_heap.specs.Judgings.{answer_at, finished_in, refused_in}
+use Rattle.cap_heap.specs.Objects.{IsApart}
+use Rattle.cap_heap.specs.Progresses.{StandsFor, Stays, TakesText, EndsText, IsAt, IsStopped, LacksMemory}
+use Rattle.cap_heap.specs.HeapVerdicts.{IsVerdictOf, Lasts, MayLackMemory, ReportsAfter}
+use Rattle.cap_heap.specs.HeapWhys.{IsFrontText}
+use Rattle.cap_heap.specs.Judgings.{JudgedBy, StopsAfter, answer_at, finished_in, refused_in}
 use Rattle.cap_heap.proofs.Optimal.{optimal}
 
 pub accepted : (progress : Progress) (beginning : Beginning) → StandsFor progress beginning → IsAccepted beginning
@@ -87,12 +88,6 @@ goes_on bytes rest text left old new line at whole takes =
       line_is = omega (arith, at.line_is, ap length next.2, length_push (lines_of at.beginning) takes.0);
     }
 
--- a no that stands whatever follows
-no_stands : (bytes : List ℕ) (ended : Bool) (line : ℕ) (refusal : HeapRefusal) → ((more : List ℕ) → IsFirstFault (bytes ++ more) line refusal)
-    → IsVerdictOf bytes ended (No line refusal)
-no_stands bytes true line refusal all = subst (λ (b : List ℕ). IsFirstFault b line refusal) (append-nil bytes) (all [])
-no_stands bytes false line refusal all = all
-
 -- before an answer of the next call, with what that says
 pub record Stands {S : Type 0} (gave : S → S → List ℕ → Type 0) (ended : S → Bool) (old new : S) (progress : Progress) (line : ℕ)
     (lines : Lines) (answer : Result Next PullFault) : Type 0 where
@@ -118,35 +113,10 @@ stands gave ended a b c progress line before lines answer shown joined so_far an
 no_bytes : IsCut []
 no_bytes = (omega arith, All-nil (λ b. b ≢ 10))
 
--- what a log is where its bytes end at a line's start
-finish_at : (progress : Progress) (line : ℕ) (given : List ℕ) (beginning : Beginning) → StandsFor progress beginning
-    → given ≡ text_of (lines_of beginning) ++ [] → line ≡ length (lines_of beginning) + 1
-    → IsVerdict given (finished_in progress.stage progress.events (live_in progress.heap) line)
-finish_at progress line given Nothing stands bytes number =
-    subst (λ (stage : Stage). IsVerdict given (finished_in stage progress.events (live_in progress.heap) line)) (sym stands)
-    (record { beginning = Nothing; rest = []; bytes_are = bytes; accepted = tt; number_is = number; refused = inr (inl (no_bytes, refl)) })
-finish_at progress line given Headed stands bytes number =
-    subst (λ (stage : Stage). IsVerdict given (finished_in stage progress.events (live_in progress.heap) line)) (sym stands)
-    (record { beginning = Headed; rest = []; bytes_are = bytes; accepted = tt; number_is = number; refused = inr (inl (no_bytes, refl)) })
-finish_at progress line given (Body root events) stands bytes number =
-    subst (λ (stage : Stage). IsVerdict given (finished_in stage progress.events (live_in progress.heap) line)) (sym stands.0)
-    (record {
-      beginning = Body root events;
-      rest = [];
-      bytes_are = bytes;
-      accepted = stands.1.runs;
-      number_is = number;
-      refused = inr (inl (no_bytes, refl));
-    })
-finish_at progress line given (Whole root events) stands bytes number =
-    subst (λ (stage : Stage). IsVerdict given (finished_in stage progress.events (live_in progress.heap) line)) (sym stands.0)
-    (record {
-      root = root;
-      events = events;
-      log = record { bytes_are = bytes ∙ append-nil (text_of (lines_of (Whole root events))); runs = stands.1.runs };
-      count_is = stands.1.count_is;
-      live_is = stands.1.live_is;
-    })
+-- what holds of bytes holds where no byte follows them
+with_none : (Fact : List ℕ → Type 0) (rest more : List ℕ) → more ≡ [] → Fact rest → Fact (rest ++ more)
+with_none Fact rest more none holds =
+    subst (λ (m : List ℕ). Fact (rest ++ m)) (sym none) (subst Fact (sym (append-nil rest)) holds)
 
 -- the refusal of a line that is too long or cut, and that what follows a beginning is refused so
 abbrev RefusedAt : Progress → ℕ → HeapRefusal → (HeapRefusal → Type 0) → Type 0
@@ -216,125 +186,153 @@ lacks progress given rest text left (Body root events) stands (line, spells, (ad
   room = room;
 }
 
--- and its report
-reports_at : (progress : Progress) (line : ℕ) (given : List ℕ) (beginning : Beginning) → StandsFor progress beginning
-    → given ≡ text_of (lines_of beginning) ++ []
-    → ReportsAfter given progress.report (finished_in progress.stage progress.events (live_in progress.heap) line)
-reports_at progress line given Nothing stands bytes =
-    subst (λ (stage : Stage). ReportsAfter given progress.report (finished_in stage progress.events (live_in progress.heap) line)) (sym stands) tt
-reports_at progress line given Headed stands bytes =
-    subst (λ (stage : Stage). ReportsAfter given progress.report (finished_in stage progress.events (live_in progress.heap) line)) (sym stands) tt
-reports_at progress line given (Body root events) stands bytes =
-    subst (λ (stage : Stage). ReportsAfter given progress.report (finished_in stage progress.events (live_in progress.heap) line)) (sym stands.0) tt
-reports_at progress line given (Whole root events) stands bytes =
-    subst (λ (stage : Stage). ReportsAfter given progress.report (finished_in stage progress.events (live_in progress.heap) line)) (sym stands.0) (
-      root,
-      events,
-      record { bytes_are = bytes ∙ append-nil (text_of (lines_of (Whole root events))); runs = stands.1.runs },
-      stands.1.report_is,
-    )
+-- the text of a line that is cut, too long or whole, whatever follows it
+cut_text : (rest more : List ℕ) → IsCut rest → more ≡ [] → IsFrontText (rest ++ more) (take 96 rest)
+cut_text rest more cut none =
+    with_none (λ (bytes : List ℕ). IsFrontText bytes (take 96 rest)) rest more none (inr (inl (cut, take_all 96 rest (omega (arith, cut.0)))))
+
+long_text : (rest more : List ℕ) → IsTooLong rest → IsFrontText (rest ++ more) (take 96 rest)
+long_text rest more long = inl (IsTooLong-more rest more long, sym (take-append-le 96 rest more long.0))
+
+whole_text : (rest text left more : List ℕ) → IsLine rest text left → IsFrontText (rest ++ more) (take 96 text)
+whole_text rest text left more whole =
+    inr (inr (text, left ++ more, IsLine-more rest text left more whole, take_all 96 text (omega (arith, whole.short))))
 
 module _ {S : Type 0} {gave : S → S → List ℕ → Type 0} {ended : S → Bool} {old new : S} {progress : Progress} {lines : Lines} (line : ℕ) where
-  judged : {shown : Result Next PullFault} (verdict : HeapVerdict) (p : Stands gave ended old new progress line lines shown)
-      → IsVerdictOf p.given (ended new) verdict → Judged gave ended old new (Ok verdict)
-  judged verdict p is = record {
-    given = p.given;
-    gives = p.gives;
-    answer = record { verdict = is; optimal = optimal p.given (ended new) verdict is; fault = tt };
+  -- a verdict, with its report and the line that was refused
+  answered : {shown : Result Next PullFault} (verdict : HeapVerdict) (p : Stands gave ended old new progress line lines shown)
+      (after : Progress) (text : List ℕ) → ReportsAfter p.given after.report verdict → StopsAfter p.given (ended new) after text verdict
+      → IsVerdictOf p.given (ended new) verdict → JudgedBy gave ended old new (Ok verdict) after text
+  answered verdict p after text reports stops is = record {
+    judged = record {
+      given = p.given;
+      gives = p.gives;
+      answer = record { verdict = is; optimal = optimal p.given (ended new) verdict is; fault = tt };
+    };
+    reported = reports;
+    stopped = stops;
   }
-
-  -- a verdict with its report
-  with_report : {shown : Result Next PullFault} (verdict : HeapVerdict) (p : Stands gave ended old new progress line lines shown)
-      → ReportsAfter p.given progress.report verdict → IsVerdictOf p.given (ended new) verdict
-      → JudgedBy gave ended old new (Ok verdict) progress.report
-  unfolding judged
-  with_report verdict p reports is = record { judged = judged verdict p is; reported = reports }
 
   -- the source failed
-  pulled_so : (failed : PullFault) → Stands gave ended old new progress line lines (Err failed) → Judged gave ended old new (Err Pull)
-  pulled_so failed p = record {
-    given = p.given;
-    gives = p.gives;
-    answer = record {
-      verdict = tt;
-      optimal = tt;
-      fault = record {
-        beginning = p.at.beginning;
-        rest = p.rest;
-        bytes_are = p.at.bytes_are;
-        accepted = accepted progress p.at.beginning p.at.stands;
-        cut = p.next.0;
+  pub pulled : (failed : PullFault) (text : List ℕ) → Stands gave ended old new progress line lines (Err failed)
+      → JudgedBy gave ended old new (Err Pull) progress text
+  pulled failed text p = record {
+    judged = record {
+      given = p.given;
+      gives = p.gives;
+      answer = record {
+        verdict = tt;
+        optimal = tt;
+        fault = record {
+          beginning = p.at.beginning;
+          rest = p.rest;
+          bytes_are = p.at.bytes_are;
+          accepted = accepted progress p.at.beginning p.at.stands;
+          cut = p.next.0;
+        };
       };
     };
+    reported = tt;
+    stopped = tt;
   }
 
-  pub pulled : (failed : PullFault) → Stands gave ended old new progress line lines (Err failed)
-      → JudgedBy gave ended old new (Err Pull) progress.report
-  pulled failed p = record { judged = pulled_so failed p; reported = tt }
-
-  -- the line is refused whatever follows
-  refused_met : {shown : Result Next PullFault} (refusal : HeapRefusal) (p : Stands gave ended old new progress line lines shown)
-      → ((more : List ℕ) → Refuses p.at.beginning (p.rest ++ more) refusal)
-      → JudgedBy gave ended old new (Ok (No line refusal)) progress.report
-  unfolding at_more
-  refused_met refusal p all =
-      with_report (No line refusal) p tt
-      (no_stands p.given (ended new) line refusal
-      (λ more. let at = at_more p.given p.rest more progress line p.at in record {
-        beginning = p.at.beginning;
-        rest = p.rest ++ more;
-        bytes_are = at.bytes_are;
-        accepted = accepted progress p.at.beginning p.at.stands;
-        number_is = p.at.line_is;
-        refused = all more;
-      }))
-
-  -- the line is refused, where the source has ended
-  refused_now : {shown : Result Next PullFault} (refusal : HeapRefusal) (p : Stands gave ended old new progress line lines shown)
-      → ended new ≡ true → Refuses p.at.beginning p.rest refusal
-      → JudgedBy gave ended old new (Ok (No line refusal)) progress.report
-  refused_now refusal p at_end refuses =
-      let is : IsFirstFault p.given line refusal = record {
-        beginning = p.at.beginning;
-        rest = p.rest;
-        bytes_are = p.at.bytes_are;
-        accepted = accepted progress p.at.beginning p.at.stands;
-        number_is = p.at.line_is;
-        refused = refuses;
+  -- what follows a beginning is refused
+  refused_met : {shown : Result Next PullFault} (p : Stands gave ended old new progress line lines shown) (after : Progress)
+      (refusal : HeapRefusal) (text rest : List ℕ) (beginning : Beginning) → StandsFor progress beginning → StandsFor after beginning
+      → p.given ≡ text_of (lines_of beginning) ++ rest → line ≡ length (lines_of beginning) + 1
+      → ((more : List ℕ) → (ended new ≡ true → more ≡ []) → Refuses beginning (rest ++ more) refusal × IsFrontText (rest ++ more) text)
+      → JudgedBy gave ended old new (Ok (No line refusal)) after text
+  refused_met p after refusal text rest beginning stands stands_after bytes number all =
+      let stops : Lasts p.given (ended new) (λ whole. IsStopped whole after text line refusal) = λ more none. record {
+        fault = record {
+          beginning = beginning;
+          rest = rest ++ more;
+          bytes_are = ap (λ (l : List ℕ). l ++ more) bytes ∙ append_assoc (text_of (lines_of beginning)) rest more;
+          accepted = accepted progress beginning stands;
+          number_is = number;
+          refused = (all more none).0;
+        };
+        stands = stands_after;
+        front = (all more none).1;
       } in
-      with_report (No line refusal) p tt (subst (λ (b : Bool). IsVerdictOf p.given b (No line refusal)) (sym at_end) is)
+      answered (No line refusal) p after text tt stops (λ more none. (stops more none).fault)
 
   -- the bytes end at a line's start
-  pub at_finish : Stands gave ended old new progress line lines (Ok Finished)
-      → JudgedBy gave ended old new (Ok (finished_in progress.stage progress.events (live_in progress.heap) line)) progress.report
-  at_finish p =
-      let bytes = subst (λ (r : List ℕ). p.given ≡ text_of (lines_of p.at.beginning) ++ r) p.next.0 p.at.bytes_are in
-      let verdict = finished_in progress.stage progress.events (live_in progress.heap) line in
-      with_report verdict p (reports_at progress line p.given p.at.beginning p.at.stands bytes)
-      (subst (λ (b : Bool). IsVerdictOf p.given b verdict) (sym p.next.1)
-      (finish_at progress line p.given p.at.beginning p.at.stands bytes p.at.line_is))
+  module _ (p : Stands gave ended old new progress line lines (Ok Finished)) where
+    ends_here : (beginning : Beginning) → StandsFor progress beginning → p.given ≡ text_of (lines_of beginning) ++ []
+        → line ≡ length (lines_of beginning) + 1 → ((rest : List ℕ) → IsCut rest → Refuses beginning rest refusals.Truncated)
+        → JudgedBy gave ended old new (Ok (No line refusals.Truncated)) progress []
+    ends_here beginning stands bytes number refuses =
+        refused_met p progress refusals.Truncated [] [] beginning stands stands bytes number
+        (λ more none. let is = none p.next.1 in (
+          with_none (λ (b : List ℕ). Refuses beginning b refusals.Truncated) [] more is (refuses [] no_bytes),
+          with_none (λ (b : List ℕ). IsFrontText b []) [] more is (inr (inl (no_bytes, refl))),
+        ))
+
+    finish : (beginning : Beginning) → StandsFor progress beginning → p.given ≡ text_of (lines_of beginning) ++ []
+        → line ≡ length (lines_of beginning) + 1
+        → JudgedBy gave ended old new (Ok (finished_in progress.stage progress.events (live_in progress.heap) line)) progress []
+    finish Nothing stands bytes number =
+        subst (λ (stage : Stage). JudgedBy gave ended old new (Ok (finished_in stage progress.events (live_in progress.heap) line)) progress [])
+        (sym stands) (ends_here Nothing stands bytes number (λ rest cut. inr (inl (cut, refl))))
+    finish Headed stands bytes number =
+        subst (λ (stage : Stage). JudgedBy gave ended old new (Ok (finished_in stage progress.events (live_in progress.heap) line)) progress [])
+        (sym stands) (ends_here Headed stands bytes number (λ rest cut. inr (inl (cut, refl))))
+    finish (Body root events) stands bytes number =
+        subst (λ (stage : Stage). JudgedBy gave ended old new (Ok (finished_in stage progress.events (live_in progress.heap) line)) progress [])
+        (sym stands.0) (ends_here (Body root events) stands bytes number (λ rest cut. inr (inl (cut, refl))))
+    finish (Whole root events) stands bytes number =
+        let log : IsLogOf IsApart p.given root events = record {
+          bytes_are = bytes ∙ append-nil (text_of (lines_of (Whole root events)));
+          runs = stands.1.runs;
+        } in
+        subst (λ (stage : Stage). JudgedBy gave ended old new (Ok (finished_in stage progress.events (live_in progress.heap) line)) progress [])
+        (sym stands.0)
+        (answered (Yes progress.events (live_in progress.heap)) p progress [] (root, events, log, stands.1.report_is) tt (
+          p.next.1,
+          record { root = root; events = events; log = log; count_is = stands.1.count_is; live_is = stands.1.live_is },
+        ))
+
+    pub at_finish : JudgedBy gave ended old new (Ok (finished_in progress.stage progress.events (live_in progress.heap) line)) progress []
+    at_finish = finish p.at.beginning p.at.stands
+        (subst (λ (r : List ℕ). p.given ≡ text_of (lines_of p.at.beginning) ++ r) p.next.0 p.at.bytes_are) p.at.line_is
 
   -- or in the middle of a line
   pub at_cut : Stands gave ended old new progress line lines (Ok Truncated)
-      → JudgedBy gave ended old new (Ok (refused_in progress.stage line refusals.Truncated)) progress.report
+      → JudgedBy gave ended old new (Ok (refused_in progress.stage line refusals.Truncated)) progress (take 96 (kept lines))
   at_cut p =
       let here = refuses_cut progress line p.rest p.at.beginning p.at.stands p.next.0 p.next.1 in
-      subst (λ (verdict : HeapVerdict). JudgedBy gave ended old new (Ok verdict) progress.report) (sym here.1) (refused_now here.0 p p.next.2 here.2)
+      let left : kept lines ≡ p.rest = p.next.4 in
+      subst (λ (verdict : HeapVerdict). JudgedBy gave ended old new (Ok verdict) progress (take 96 (kept lines))) (sym here.1)
+      (refused_met p progress here.0 (take 96 (kept lines)) p.rest p.at.beginning p.at.stands p.at.stands p.at.bytes_are p.at.line_is
+      (λ more none. let is = none p.next.2 in (
+        with_none (λ (b : List ℕ). Refuses p.at.beginning b here.0) p.rest more is here.2,
+        subst (λ (t : List ℕ). IsFrontText (p.rest ++ more) (take 96 t)) (sym left) (cut_text p.rest more p.next.0 is),
+      )))
 
   -- the line is too long
   pub at_long : Stands gave ended old new progress line lines (Ok LineTooLong)
-      → JudgedBy gave ended old new (Ok (refused_in progress.stage line refusals.LineTooLong)) progress.report
+      → JudgedBy gave ended old new (Ok (refused_in progress.stage line refusals.LineTooLong)) progress (take 96 (kept lines))
   at_long p =
       let here = refuses_long progress line p.rest p.at.beginning p.at.stands p.next.0 in
-      subst (λ (verdict : HeapVerdict). JudgedBy gave ended old new (Ok verdict) progress.report) (sym here.1) (refused_met here.0 p here.2)
+      let left : kept lines ≡ p.rest = p.next.2 in
+      subst (λ (verdict : HeapVerdict). JudgedBy gave ended old new (Ok verdict) progress (take 96 (kept lines))) (sym here.1)
+      (refused_met p progress here.0 (take 96 (kept lines)) p.rest p.at.beginning p.at.stands p.at.stands p.at.bytes_are p.at.line_is
+      (λ more none. (
+        here.2 more,
+        subst (λ (t : List ℕ). IsFrontText (p.rest ++ more) (take 96 t)) (sym left) (long_text p.rest more p.next.0),
+      )))
 
   -- the line is not taken
-  at_line_so : (text : _) → Stands gave ended old new progress line lines (Ok (Line text)) → (end : EventEnd) → EndsText progress text.now end
-      → JudgedBy gave ended old new (answer_at line end) progress.report
-  at_line_so text p (ends.Refused refusal) told =
-      refused_met refusal p
-      (refuses_line p.at.beginning p.rest text.now (kept lines) refusal p.next.0 (told p.at.beginning p.at.stands))
-  at_line_so text p ends.NoMemory told = record {
+  pub at_line : (text : _) → Stands gave ended old new progress line lines (Ok (Line text)) → (end : EventEnd) → EndsText progress text.now end
+      → (after : Progress) → Stays progress after → JudgedBy gave ended old new (answer_at line end) after (take 96 text.now)
+  at_line text p (ends.Refused refusal) told after stays =
+      refused_met p after refusal (take 96 text.now) p.rest p.at.beginning p.at.stands (stays p.at.beginning p.at.stands) p.at.bytes_are p.at.line_is
+      (λ more none. (
+        refuses_line p.at.beginning p.rest text.now (kept lines) refusal p.next.0 (told p.at.beginning p.at.stands) more,
+        whole_text p.rest text.now (kept lines) more p.next.0,
+      ))
+  at_line text p ends.NoMemory told after stays = record {
     judged = record {
       given = p.given;
       gives = p.gives;
@@ -346,13 +344,8 @@ module _ {S : Type 0} {gave : S → S → List ℕ → Type 0} {ended : S → Bo
       };
     };
     reported = tt;
+    stopped = tt;
   }
-
-  -- whatever the report is then
-  pub at_line : (text : _) → Stands gave ended old new progress line lines (Ok (Line text)) → (end : EventEnd) → EndsText progress text.now end
-      → (report : HeapReport) → JudgedBy gave ended old new (answer_at line end) report
-  at_line text p (ends.Refused refusal) told report = record { judged = (at_line_so text p (ends.Refused refusal) told).judged; reported = tt }
-  at_line text p ends.NoMemory told report = record { judged = (at_line_so text p ends.NoMemory told).judged; reported = tt }
 
   -- or it is taken
   pub line_taken : (text : _) (p : Stands gave ended old new progress line lines (Ok (Line text))) (next : Progress)

@@ -11,4 +11,5 @@ mod ReportLemmas
 mod Rounded
 mod RunLemmas
 mod ToldLemmas
+mod WhyLemmas
 mod Neighbouring

@@ -1,8 +1,8 @@
 -- Objects whose bounds lie apart lie in the order of their addresses, so that a neighbour tells of all.
-use Rattle.std.proofs.Common.{◌≡◌, ℕ, ◌<◌, ◌≤◌, Bool, Some, None, Option, inl, inr, sym, ap, ◌∙◌, arith}
+use Rattle.std.proofs.Common.{◌≡◌, ℕ, ◌<◌, ◌≤◌, Bool, Some, None, Option, inl, inr, sym, ap, subst, ◌∙◌, arith}
 use Rattle.std.proofs.lemmas.Bool.{cases_lt}
 use Rattle.std.proofs.lemmas.Option.{none-some, same_Some}
-use Rattle.std.specs.Prelude.{◌≢◌, IfSome}
+use Rattle.std.specs.Prelude.{◌≢◌, IfSome, MatchOption}
 use Rattle.cap_bounds.specs.declared.decoding.Interval.{Interval}
 use Rattle.cap_bounds.specs.Rounding.{rounded_base, rounded_top}
 use Rattle.cap_bounds.proofs.Roundings.{rounded_base-le, rounded_top-ge}
@@ -77,12 +77,12 @@ module _ (heap : Interval) (lengths : ℕ → Option ℕ) (empty : ℕ → Bool)
     ]
 
     -- a neighbour whose bounds reach those of the request shares an address with it
-    pub shares-below : near < at → rounded_base at length < rounded_top near near_size → Shares (λ a. length_from (lengths a) (empty a)) at length near
+    shares-below : near ≤ at → rounded_base at length < rounded_top near near_size
+        → Shares (λ a. length_from (lengths a) (empty a)) at length near near_size
     shares-below below reach = elim (cases_lt (rounded_base at length) (rounded_base near near_size)) [
       | inl lower ↦ (
-        near_size,
-        near,
         lives near near_size here,
+        near,
         (
           omega (arith, rounded_base-le near near_size),
           omega (arith, rounded_top-ge at length),
@@ -90,9 +90,8 @@ module _ (heap : Interval) (lengths : ℕ → Option ℕ) (empty : ℕ → Bool)
         covers-own near near_size (long near near_size here),
       )
       | inr higher ↦ (
-        near_size,
-        rounded_base at length,
         lives near near_size here,
+        rounded_base at length,
         (
           omega arith,
           omega (arith, rounded_base-le at length, rounded_top-ge at length),
@@ -101,12 +100,12 @@ module _ (heap : Interval) (lengths : ℕ → Option ℕ) (empty : ℕ → Bool)
       )
     ]
 
-    pub shares-above : at ≤ near → rounded_base near near_size < rounded_top at length → Shares (λ a. length_from (lengths a) (empty a)) at length near
+    shares-above : at ≤ near → rounded_base near near_size < rounded_top at length
+        → Shares (λ a. length_from (lengths a) (empty a)) at length near near_size
     shares-above above reach = elim (cases_lt (rounded_base near near_size) (rounded_base at length)) [
       | inl lower ↦ (
-        near_size,
-        at,
         lives near near_size here,
+        at,
         covers-own at length some,
         (
           omega (arith, rounded_base-le at length),
@@ -114,9 +113,8 @@ module _ (heap : Interval) (lengths : ℕ → Option ℕ) (empty : ℕ → Bool)
         ),
       )
       | inr higher ↦ (
-        near_size,
-        rounded_base near near_size,
         lives near near_size here,
+        rounded_base near near_size,
         (higher, reach),
         (
           omega arith,
@@ -136,7 +134,7 @@ module _ (heap : Interval) (lengths : ℕ → Option ℕ) (empty : ℕ → Bool)
   apart-over None first clear = none-above first
   apart-over (Some entry) first clear = apart-above entry.0 entry.1 first.1 first clear
 
-  pub apart-all : (below above : Option (ℕ × ℕ)) → IsLastUpTo lengths at below → IsFirstFrom lengths at above
+  apart-all : (below above : Option (ℕ × ℕ)) → IsLastUpTo lengths at below → IsFirstFrom lengths at above
       → IfSome below (λ entry. rounded_top entry.0 entry.1 ≤ rounded_base at length)
       → IfSome above (λ entry. rounded_top at length ≤ rounded_base entry.0 entry.1)
       → (other size : ℕ) → length_from (lengths other) (empty other) ≡ Some size → AreApart at length other size
@@ -146,13 +144,17 @@ module _ (heap : Interval) (lengths : ℕ → Option ℕ) (empty : ℕ → Bool)
   ]
 
   -- a neighbour whose bounds reach those of the request shares an address with it
-  pub shares-under : (entry : ℕ × ℕ) → length_from (lengths at) (empty at) ≡ None → IsLastUpTo lengths at (Some entry)
-      → rounded_base at length < rounded_top entry.0 entry.1 → Shares (λ a. length_from (lengths a) (empty a)) at length entry.0
-  shares-under entry fresh last reach =
-      let differ : entry.0 ≢ at = λ same. none-some entry.1
-      (sym fresh ∙ ap (λ a. length_from (lengths a) (empty a)) (sym same) ∙ lives entry.0 entry.1 last.1) in
-      shares-below entry.0 entry.1 last.1 (omega (arith, last.0, differ)) reach
+  pub shares-under : (entry : ℕ × ℕ) → IsLastUpTo lengths at (Some entry) → rounded_base at length < rounded_top entry.0 entry.1
+      → Shares (λ a. length_from (lengths a) (empty a)) at length entry.0 entry.1
+  shares-under entry last reach = shares-below entry.0 entry.1 last.1 last.0 reach
 
-  pub shares-over : (entry : ℕ × ℕ) → IsFirstFrom lengths at (Some entry) → rounded_base entry.0 entry.1 < rounded_top at length
-      → Shares (λ a. length_from (lengths a) (empty a)) at length entry.0
-  shares-over entry first reach = shares-above entry.0 entry.1 first.1 first.0 reach
+  -- and where the one below does not, the one above tells
+  pub from-above : (below above found : Option (ℕ × ℕ)) → IsLastUpTo lengths at below → IsFirstFrom lengths at above
+      → IfSome below (λ entry. rounded_top entry.0 entry.1 ≤ rounded_base at length)
+      → MatchOption found (IfSome above (λ entry. rounded_top at length ≤ rounded_base entry.0 entry.1))
+      (λ entry. (above ≡ Some entry) × (rounded_base entry.0 entry.1 < rounded_top at length))
+      → MatchOption found ((other size : ℕ) → length_from (lengths other) (empty other) ≡ Some size → AreApart at length other size)
+      (λ entry. Shares (λ a. length_from (lengths a) (empty a)) at length entry.0 entry.1)
+  from-above below above None last first clear told = apart-all below above last first clear told
+  from-above below above (Some entry) last first clear told =
+      let here = subst (IsFirstFrom lengths at) told.0 first in shares-above entry.0 entry.1 here.1 here.0 told.1

@@ -132,11 +132,10 @@ no_fault : (root : Interval) (objects : Objects) (event : Event) (refusal : Heap
     → IsApart root (after objects event) → IsFaultOf root objects event refusal → ⊥
 no_fault root objects (Malloc at size) refusals.AddressTaken due apart fault = none_is_some (objects at) due fault
 no_fault root objects (Malloc at size) refusals.OutsideHeap due apart fault = fault.1 (apart.inside at size (with_object-at objects at size))
-no_fault root objects (Malloc at size) refusals.Overlaps due apart (fresh, within, other, shares) =
-    let lives : objects other ≡ Some shares.0 = shares.2 in
-    let differ : at ≢ other = λ same. none-some shares.0 (sym fresh ∙ ap objects same ∙ lives) in
-    apart.apart at other size shares.0 (with_object-at objects at size) (with_object-other objects at size other differ ∙ lives) differ
-    shares.1 shares.3 shares.4
+no_fault root objects (Malloc at size) refusals.Overlaps due apart (fresh, within, other, length, shares) =
+    let differ : at ≢ other = λ same. none-some length (sym fresh ∙ ap objects same ∙ shares.0) in
+    apart.apart at other size length (with_object-at objects at size) (with_object-other objects at size other differ ∙ shares.0) differ
+    shares.1 shares.2 shares.3
 no_fault root objects (Malloc at size) refusal due apart fault = absurd fault
 no_fault root objects (Free at) refusal due apart fault = none_is_some (objects at) fault.1 due
 

@@ -1,5 +1,5 @@
 -- No choice of words does better than rounding.
-use Rattle.std.proofs.Common.{ℕ, Bool, true, false, List, ◌++◌, refl, subst, append-nil}
+use Rattle.std.proofs.Common.{ℕ, Bool, List, ◌++◌}
 use Rattle.cap_heap.specs.declared.refusal.HeapRefusal.{HeapRefusal}
 use Rattle.cap_heap.specs.declared.verdict.HeapVerdict.{HeapVerdict}
 use Rattle.cap_heap.specs.declared.verdict.HeapVerdict.TheVariants.{Yes, No}
@@ -14,10 +14,6 @@ not_guarded bytes line refusal fault (root, events, log) =
     not_both bytes line refusal fault root events (record { bytes_are = log.bytes_are; runs = guarded_runs root events log.runs })
 
 pub optimal : (bytes : List ℕ) (ended : Bool) (verdict : HeapVerdict) → IsVerdictOf bytes ended verdict → IsOptimal bytes ended verdict
-optimal bytes true (Yes events live) is =
-    (is.root, is.events, record { bytes_are = is.log.bytes_are; runs = guards_runs is.root is.events is.log.runs })
-optimal bytes false (Yes events live) is = absurd is
-optimal bytes true (No line refusal) is = λ more none can.
-    not_guarded bytes line refusal is
-    (subst CanBeGuardedThroughout (append-nil bytes) (subst (λ (m : List ℕ). CanBeGuardedThroughout (bytes ++ m)) (none refl) can))
-optimal bytes false (No line refusal) is = λ more none can. not_guarded (bytes ++ more) line refusal (is more) can
+optimal bytes ended (Yes events live) is =
+    (is.1.root, is.1.events, record { bytes_are = is.1.log.bytes_are; runs = guards_runs is.1.root is.1.events is.1.log.runs })
+optimal bytes ended (No line refusal) is = λ more none can. not_guarded (bytes ++ more) line refusal (is more none) can

@@ -1,5 +1,5 @@
 -- What a progress stands for, and how it goes on.
-use Rattle.std.proofs.Common.{◌≡◌, ℕ, inr, List, [], ◌∷◌, ◌++◌, refl, sym, ap, subst, ◌∙◌, Result, Ok, Err, OnOk, IfErr}
+use Rattle.std.proofs.Common.{◌≡◌, ℕ, inr, List, [], ◌∷◌, ◌++◌, refl, sym, ap, subst, ◌∙◌, Result, Ok, Err, OnOk, OnErr, IfErr}
 use Rattle.cap_bounds.specs.declared.decoding.Interval.{Interval}
 use Rattle.cap_heap.specs.declared.events.Event.{Event}
 use Rattle.cap_heap.specs.declared.events.EventEnd.{EventEnd}
@@ -15,7 +15,7 @@ use Rattle.cap_heap.specs.Objects.{no_objects}
 use Rattle.cap_heap.specs.HeapReports.{IsReportOf}
 use Rattle.cap_heap.specs.Heaps.{objects_in, live_in}
 use Rattle.cap_heap.specs.HeapLogs.{Beginning, Nothing, Headed, Body, Whole, lines_of, body_lines, RefusesWhole}
-use Rattle.cap_heap.specs.Progresses.{Reaches, StandsFor, Takes, EndsLine, EndsText, LacksMemory}
+use Rattle.cap_heap.specs.Progresses.{Reaches, StandsFor, Stays, Takes, EndsLine, EndsText, LacksMemory}
 use Rattle.cap_heap.proofs.RunLemmas.{Reaches-start, lines-push}
 
 -- after the root there is a body
@@ -37,6 +37,15 @@ headed progress is Headed h = refl
 headed progress is (Body root events) h = let bad = h.0 in let no : ⊥ = cc in absurd no
 headed progress is (Whole root events) h = let bad = h.0 in let no : ⊥ = cc in absurd no
 
+stays_for : (old new : Progress) → new.stage ≡ old.stage
+    → ((root : Interval) (events : List Event) → Reaches old.heap old.report old.events root events
+    → Reaches new.heap new.report new.events root events)
+    → Stays old new
+stays_for old new same told Nothing stands = same ∙ stands
+stays_for old new same told Headed stands = same ∙ stands
+stays_for old new same told (Body root events) stands = (same ∙ stands.0, told root events stands.1)
+stays_for old new same told (Whole root events) stands = (same ∙ stands.0, told root events stands.1)
+
 -- an event more
 pub takes_event : {X : Type 0} (old new : Progress) (event : Event) → old.stage ≡ stages.Within → new.stage ≡ old.stage
     → (result : Result X EventEnd)
@@ -51,6 +60,14 @@ takes_event old new event within same (Ok done) told = λ beginning stands.
       lines-push here.root here.events event
           ∙ ap (λ (b : Beginning). lines_of b ++ Happens event ∷ []) here.is,
     )
+
+-- an event that can't happen leaves what the progress stands for
+pub stays_event : {X : Type 0} (old new : Progress) → new.stage ≡ old.stage → (result : Result X EventEnd)
+    → OnErr result ((root : Interval) (events : List Event) → Reaches old.heap old.report old.events root events
+    → Reaches new.heap new.report new.events root events)
+    → OnErr result (Stays old new)
+stays_event old new same (Ok done) told = tt
+stays_event old new same (Err end) told = λ beginning stands. stays_for old new same told beginning stands
 
 -- the end line more
 pub takes_end : (old new : Progress) (count : ℕ) → old.stage ≡ stages.Within → new.stage ≡ stages.Ended → new.heap ≡ old.heap

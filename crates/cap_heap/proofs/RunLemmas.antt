@@ -110,6 +110,18 @@ Reaches-start heap report root range bounds none count told = record {
   report_is = told;
 }
 
+-- a heap of the same objects
+pub Reaches-same : (old new : Heap) (report : HeapReport) (count : ℕ) (root : Interval) (events : List Event) → new.bounds ≡ old.bounds
+    → objects_in new ≡ objects_in old → live_in new ≡ live_in old → Reaches old report count root events → Reaches new report count root events
+Reaches-same old new report count root events bounds same live reaches = record {
+  runs = reaches.runs;
+  root_is = bounds ∙ reaches.root_is;
+  objects_are = same ∙ reaches.objects_are;
+  count_is = reaches.count_is;
+  live_is = omega (arith, live, reaches.live_is);
+  report_is = reaches.report_is;
+}
+
 -- one event more
 module _ (old new : Heap) (report later : HeapReport) (count : ℕ) (root : Interval) (events : List Event) (event : Event)
     (reaches : Reaches old report count root events) (range : IsInRange (Happens event)) (few : length events < most_events)

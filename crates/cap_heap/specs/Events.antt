@@ -55,16 +55,16 @@ abbrev pub CanHappen : Interval → Objects → Event → Type 0
 CanHappen heap objects (Malloc address length) = HasRoom heap objects address length
 CanHappen heap objects (Free address) = IsSome (objects address)
 
--- an address lies in the rounded bounds of a request and of the live object at another address
-abbrev pub Shares : Objects → ℕ → ℕ → ℕ → Type 0
-Shares objects at length other = (size : ℕ) × (address : ℕ) × (objects other ≡ Some size) × Covers at length address × Covers other size address
+-- an object of this length lives at another address, and an address lies in its rounded bounds and in those of a request
+abbrev pub Shares : Objects → ℕ → ℕ → ℕ → ℕ → Type 0
+Shares objects at length other size = (objects other ≡ Some size) × (address : ℕ) × Covers at length address × Covers other size address
 
 -- why an event can't happen: the first of its tests that holds
 abbrev pub IsFaultOf : Interval → Objects → Event → HeapRefusal → Type 0
 IsFaultOf heap objects (Malloc at length) AddressTaken = IsSome (objects at)
 IsFaultOf heap objects (Malloc at length) OutsideHeap = (objects at ≡ None) × (IsInHeap heap at length → ⊥)
 IsFaultOf heap objects (Malloc at length) Overlaps =
-    (objects at ≡ None) × IsInHeap heap at length × (other : ℕ) × Shares objects at length other
+    (objects at ≡ None) × IsInHeap heap at length × (other : ℕ) × (size : ℕ) × Shares objects at length other size
 IsFaultOf heap objects (Malloc at length) refusal = ⊥
 IsFaultOf heap objects (Free at) refusal = (refusal ≡ NotLive) × (objects at ≡ None)
 

@@ -1,5 +1,5 @@
 -- The verdict on an allocator's log (this profile's own, as are all below).
-use Rattle.std.specs.Prelude.{◌≡◌, ℕ, ◌+◌, ◌<◌, Bool, true, false, List, [], ◌∷◌, ◌++◌, length, Result, IfOk, IfErr}
+use Rattle.std.specs.Prelude.{◌≡◌, ℕ, ◌+◌, ◌<◌, Bool, true, List, [], ◌∷◌, ◌++◌, length, Result, IfOk, IfErr}
 use Rattle.cap_bounds.specs.declared.decoding.Interval.{Interval}
 use Rattle.cap_log.specs.Front.{IsCut}
 use Rattle.cap_heap.specs.declared.events.Event.{Event}
@@ -26,23 +26,20 @@ pub record IsYes (bytes : List ℕ) (count live : ℕ) : Type 0 where
   pub count_is : count ≡ length events
   pub live_is : live + frees events ≡ mallocs events
 
--- yes for such a log, with its numbers, and otherwise no with the first fault
-abbrev pub IsVerdict : List ℕ → HeapVerdict → Type 0
-IsVerdict bytes (Yes events live) = IsYes bytes events live
-IsVerdict bytes (No line refusal) = IsFirstFault bytes line refusal
+-- a fact holds of the bytes, whatever follows them where their source has not ended
+abbrev pub Lasts : List ℕ → Bool → (List ℕ → Type 0) → Type 0
+Lasts bytes ended Fact = (more : List ℕ) → (ended ≡ true → more ≡ []) → Fact (bytes ++ more)
 
--- the verdict on these bytes, where their source has ended; where it has not, a no that stands whatever bytes follow
+-- the verdict on these bytes: yes for such a log, with its numbers, where their source has ended, and otherwise no with the first fault
 abbrev pub IsVerdictOf : List ℕ → Bool → HeapVerdict → Type 0
-IsVerdictOf bytes true verdict = IsVerdict bytes verdict
-IsVerdictOf bytes false (Yes events live) = ⊥
-IsVerdictOf bytes false (No line refusal) = (more : List ℕ) → IsFirstFault (bytes ++ more) line refusal
+IsVerdictOf bytes ended (Yes events live) = (ended ≡ true) × IsYes bytes events live
+IsVerdictOf bytes ended (No line refusal) = Lasts bytes ended (λ all. IsFirstFault all line refusal)
 
 -- no choice of words does better: after a yes, at every moment sound words can be given to the live objects, with bounds that hold them and
--- lie apart and inside the root; after a no, the bytes are no log of which this could be said, nor is one that goes on from them where
--- their source has not ended
+-- lie apart and inside the root; after a no, the bytes are no log of which this could be said
 abbrev pub IsOptimal : List ℕ → Bool → HeapVerdict → Type 0
 IsOptimal bytes ended (Yes events live) = CanBeGuardedThroughout bytes
-IsOptimal bytes ended (No line refusal) = (more : List ℕ) → (ended ≡ true → more ≡ []) → CanBeGuardedThroughout (bytes ++ more) → ⊥
+IsOptimal bytes ended (No line refusal) = Lasts bytes ended (λ all. CanBeGuardedThroughout all → ⊥)
 
 -- the whole lines begin a log that is accepted, and less than a line follows them
 pub record BeginsLog (bytes : List ℕ) : Type 0 where
@@ -89,9 +86,3 @@ abbrev pub ReportsAfter : List ℕ → HeapReport → HeapVerdict → Type 0
 ReportsAfter bytes report (Yes events live) =
     (root : Interval) × (happened : List Event) × IsLogOf IsApart bytes root happened × IsReportOf report happened
 ReportsAfter bytes report (No line refusal) = Unit {0}
-
--- an answer with a report
-pub record JudgedBy {S : Type 0} (gave : S → S → List ℕ → Type 0) (ended : S → Bool) (old new : S)
-    (result : Result HeapVerdict HeapFault) (report : HeapReport) : Type 0 where
-  pub judged : Judged gave ended old new result
-  pub reported : IfOk result (ReportsAfter judged.given report)

@@ -1,7 +1,8 @@
 -- What a judge answers at the line where it stops (this profile's own).
-use Rattle.std.specs.Prelude.{ℕ, Result, Ok, Err}
+use Rattle.std.specs.Prelude.{ℕ, Bool, List, Result, Ok, Err, IfOk}
 use Rattle.cap_heap.specs.declared.events.EventEnd.{EventEnd}
 use Rattle.cap_heap.specs.declared.events.EventEnd.TheVariants as ends
+use Rattle.cap_heap.specs.declared.progress.Progress.{Progress}
 use Rattle.cap_heap.specs.declared.refusal.HeapRefusal.{HeapRefusal}
 use Rattle.cap_heap.specs.declared.refusal.HeapRefusal.TheVariants.{Misplaced, Truncated}
 use Rattle.cap_heap.specs.declared.stage.Stage.{Stage}
@@ -9,7 +10,10 @@ use Rattle.cap_heap.specs.declared.stage.Stage.TheVariants.{Ended}
 use Rattle.cap_heap.specs.declared.verdict.HeapVerdict.{HeapVerdict}
 use Rattle.cap_heap.specs.declared.verdict.HeapVerdict.TheVariants.{Yes, No}
 use Rattle.cap_heap.specs.declared.verdict.HeapFault.{HeapFault}
+use Rattle.cap_heap.specs.declared.verdict.HeapFault.{HeapFault}
 use Rattle.cap_heap.specs.declared.verdict.HeapFault.TheVariants.{NoMemory}
+use Rattle.cap_heap.specs.HeapVerdicts.{Judged, Lasts, ReportsAfter}
+use Rattle.cap_heap.specs.Progresses.{IsStopped}
 
 -- what a line that is not taken makes the answer
 abbrev pub answer_at : ℕ → EventEnd → Result HeapVerdict HeapFault
@@ -25,3 +29,15 @@ refused_in stage line refusal = No line refusal
 abbrev pub finished_in : Stage → ℕ → ℕ → ℕ → HeapVerdict
 finished_in Ended events live line = Yes events live
 finished_in stage events live line = No line Truncated
+
+-- where a judge stopped that answers no
+abbrev pub StopsAfter : List ℕ → Bool → Progress → List ℕ → HeapVerdict → Type 0
+StopsAfter bytes ended progress text (Yes events live) = Unit {0}
+StopsAfter bytes ended progress text (No line refusal) = Lasts bytes ended (λ all. IsStopped all progress text line refusal)
+
+-- an answer with what was read, and after a no the line that was refused
+pub record JudgedBy {S : Type 0} (gave : S → S → List ℕ → Type 0) (ended : S → Bool) (old new : S)
+    (result : Result HeapVerdict HeapFault) (progress : Progress) (text : List ℕ) : Type 0 where
+  pub judged : Judged gave ended old new result
+  pub reported : IfOk result (ReportsAfter judged.given progress.report)
+  pub stopped : IfOk result (StopsAfter judged.given (ended new) progress text)

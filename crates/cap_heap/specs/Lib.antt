@@ -3,11 +3,14 @@ pub mod HeapLines
 pub mod HeapLogs
 pub mod HeapReports
 pub mod HeapVerdicts
+pub mod HeapWhys
 pub mod Heaps
 pub mod Judgings
 pub mod Kept
 pub mod Neighbours
 pub mod Objects
 pub mod Progresses
+pub mod RefusedLines
 pub mod Refusals
+pub mod Texts
 pub mod VerdictLines

@@ -1,5 +1,5 @@
 -- Which beginnings of a log the progress of its judge stands for, and how it goes on (this profile's own, as are all below).
-use Rattle.std.specs.Prelude.{◌≡◌, ℕ, ◌+◌, ◌<◌, List, [], ◌∷◌, ◌++◌, length}
+use Rattle.std.specs.Prelude.{◌≡◌, ◌⊎◌, ℕ, ◌+◌, ◌<◌, List, [], ◌∷◌, ◌++◌, length}
 use Rattle.cap_bounds.specs.declared.decoding.Interval.{Interval}
 use Rattle.cap_heap.specs.declared.events.Event.{Event}
 use Rattle.cap_heap.specs.declared.events.Event.TheVariants.{Malloc}
@@ -9,6 +9,7 @@ use Rattle.cap_heap.specs.declared.heap.Heap.{Heap}
 use Rattle.cap_heap.specs.declared.lines.HeapLine.{HeapLine}
 use Rattle.cap_heap.specs.declared.lines.HeapLine.TheVariants.{Happens}
 use Rattle.cap_heap.specs.declared.progress.Progress.{Progress}
+use Rattle.cap_heap.specs.declared.refusal.HeapRefusal.{HeapRefusal}
 use Rattle.cap_heap.specs.declared.report.HeapReport.{HeapReport}
 use Rattle.cap_heap.specs.declared.stage.Stage.TheVariants as stages
 use Rattle.cap_heap.specs.HeapLines.{Spells}
@@ -16,7 +17,8 @@ use Rattle.cap_heap.specs.Objects.{no_objects, IsApart}
 use Rattle.cap_heap.specs.Events.{HasRoom, objects_after, mallocs, frees}
 use Rattle.cap_heap.specs.HeapReports.{IsReportOf}
 use Rattle.cap_heap.specs.Heaps.{objects_in, live_in}
-use Rattle.cap_heap.specs.HeapLogs.{Beginning, Nothing, Headed, Body, Whole, Runs, RefusesLine, RefusesWhole, lines_of, text_of, most_events}
+use Rattle.cap_heap.specs.HeapWhys.{AreEventDetails, IsFrontText}
+use Rattle.cap_heap.specs.HeapLogs.{IsFirstFault, Beginning, Nothing, Headed, Body, Whole, Runs, RefusesLine, RefusesWhole, lines_of, text_of, most_events}
 
 -- a root and events that are accepted lead to a heap, a report and a number of events
 pub record Reaches (heap : Heap) (report : HeapReport) (count : ℕ) (root : Interval) (events : List Event) : Type 0 where
@@ -33,6 +35,10 @@ StandsFor progress Nothing = progress.stage ≡ stages.Start
 StandsFor progress Headed = progress.stage ≡ stages.Headed
 StandsFor progress (Body root events) = (progress.stage ≡ stages.Within) × Reaches progress.heap progress.report progress.events root events
 StandsFor progress (Whole root events) = (progress.stage ≡ stages.Ended) × Reaches progress.heap progress.report progress.events root events
+
+-- whatever beginning the progress stood for, it still stands for
+abbrev pub Stays : Progress → Progress → Type 0
+Stays old new = (beginning : Beginning) → StandsFor old beginning → StandsFor new beginning
 
 -- whatever beginning the progress stood for, it now stands for one with this line more
 abbrev pub Takes : Progress → HeapLine → Progress → Type 0
@@ -70,3 +76,16 @@ pub record IsAt (bytes : List ℕ) (progress : Progress) (rest : List ℕ) (line
   pub stands : StandsFor progress beginning
   pub bytes_are : bytes ≡ text_of (lines_of beginning) ++ rest
   pub line_is : line ≡ length (lines_of beginning) + 1
+
+-- what is told of the event that a text spells, by the objects of a heap
+abbrev pub AreEventDetailsIn : Heap → List ℕ → HeapRefusal → List ℕ → Type 0
+AreEventDetailsIn heap text refusal details =
+    ((event : Event) × Spells text (Happens event) × AreEventDetails heap.bounds (objects_in heap) event refusal details)
+    ⊎ (((event : Event) → Spells text (Happens event) → ⊥) × (details ≡ []))
+
+-- after a no, the progress stands for the beginning behind which a line was refused, whatever bytes follow where the source has not ended,
+-- and the text is that line
+pub record IsStopped (bytes : List ℕ) (progress : Progress) (text : List ℕ) (number : ℕ) (refusal : HeapRefusal) : Type 0 where
+  pub fault : IsFirstFault bytes number refusal
+  pub stands : StandsFor progress fault.beginning
+  pub front : IsFrontText fault.rest text

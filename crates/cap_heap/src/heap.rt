@@ -48,6 +48,13 @@ impl Heap {
         }
     }
 
+    /// The bounds inside which objects lie.
+    pub fn bounds(&self) -> Interval
+        ensures value { result ≡ self.now.bounds }
+    {
+        self.bounds
+    }
+
     /// How many objects live.
     pub fn live(&self) -> usize
         ensures count { result ≡ live_in self.now }
@@ -71,32 +78,38 @@ impl Heap {
         }
     }
 
-    // A live object whose rounded bounds have an address in common with those of a request, where the last object
-    // up to its address and its rounded bounds are these.
-    fn overlapped(
+    /// A live object and its length, whose rounded bounds have an address in common with those of a request, or `None`
+    /// where no object's have.
+    pub fn overlapped(&self, address: u64, length: u64) -> Option<(u64, u64)>
+        ensures shared { MatchOption result
+            ((other size : ℕ) → objects_in self.now other ≡ Some size → AreApart address length other size)
+            (λ entry. Shares (objects_in self.now) address length entry.0 entry.1) }
+    {
+        let below = last_up_to(&self.lengths, address);
+        self.reaching(below, address, length, round(address, length))
+    }
+
+    // The same, where the last object up to the address and the rounded bounds of the request are these.
+    fn reaching(
         &self,
         below: Option<(u64, u64)>,
         address: u64,
         length: u64,
         rounded: Rounded,
     ) -> Option<(u64, u64)>
-        requires fresh { objects_in self.now address ≡ None }
         requires near { IsLastUpTo (tree.get nat_cmp self.now.lengths) address below }
         requires base { rounded.base ≡ rounded_base address length }
         requires top { rounded.top ≡ rounded_top address length }
         ensures { MatchOption result
             ((other size : ℕ) → objects_in self.now other ≡ Some size → AreApart address length other size)
-            (λ entry. Shares (objects_in self.now) address length entry.0) }
+            (λ entry. Shares (objects_in self.now) address length entry.0 entry.1) }
     {
         if length == 0 {
             return None;
         }
         match reaching_up(below, rounded.base) {
             Some(entry) => Some(entry),
-            None => match reaching_down(first_from(&self.lengths, address), rounded.top) {
-                Some(entry) => Some(entry),
-                None => None,
-            },
+            None => reaching_down(first_from(&self.lengths, address), rounded.top),
         }
     }
 
@@ -113,7 +126,7 @@ impl Heap {
         if !self.bounds.contains(rounded.base, rounded.top) {
             return Some(HeapRefusal::OutsideHeap);
         }
-        match self.overlapped(below, address, length, rounded) {
+        match self.reaching(below, address, length, rounded) {
             Some(_) => Some(HeapRefusal::Overlaps),
             None => None,
         }

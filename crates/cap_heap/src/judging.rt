@@ -4,15 +4,16 @@ ghost use Rattle.std.specs.Prelude.{◌≡◌, ◌≢◌, ℕ, List, Err, None};
 ghost use Rattle.cap_log.specs.Streams.{next_count};
 ghost use Rattle.cap_log.specs.Takings.{kept, over_of};
 ghost use Rattle.cap_heap.specs.Heaps.{live_in};
-ghost use Rattle.cap_heap.specs.HeapVerdicts.{Judged, JudgedBy};
+ghost use Rattle.cap_heap.specs.HeapVerdicts.{Judged};
 ghost use Rattle.cap_heap.specs.declared.stage.Stage.TheVariants.{Start};
-ghost use Rattle.cap_heap.specs.Judgings.{answer_at, finished_in, refused_in};
+ghost use Rattle.cap_heap.specs.Judgings.{JudgedBy, answer_at, finished_in, refused_in};
+ghost use Rattle.cap_heap.specs.RefusedLines.{bytes_of};
 ghost use Rattle.cap_heap.specs.declared.verdict.HeapFault.TheVariants.{Pull};
 
 use crate::events::EventEnd;
 use crate::progress::Progress;
 use crate::refusal::HeapRefusal;
-use crate::report::HeapReport;
+use crate::refused_lines::RefusedLine;
 use crate::stage::Stage;
 use crate::verdict::{HeapFault, HeapVerdict};
 use cap_log::{Lines, Next, PullFault, Source};
@@ -39,49 +40,56 @@ pub fn judge_heap<S: Source>(alloc: Global, source: &mut S) -> Result<HeapVerdic
     judge_keeping(alloc, source).answer
 }
 
-/// What a judge leaves: its answer, and after a yes the report of the log.
-#[derive(Clone, Copy)]
+/// What a judge leaves: its answer, how far it read, and after a no the line that was refused.
+#[derive(Drop)]
 pub(crate) struct Judging {
     pub answer: Result<HeapVerdict, HeapFault>,
-    pub report: HeapReport,
+    pub progress: Progress,
+    pub line: RefusedLine,
 }
 
-/// Judges as [`judge_heap`] does, and gives the report with the answer.
+/// Judges as [`judge_heap`] does, and gives what was read with the answer, and after a no the line that was refused.
 pub(crate) fn judge_keeping<S: Source>(alloc: Global, source: &mut S) -> Judging
-    ensures judged { JudgedBy S.gave S.ended source.old source.new result.answer result.report }
+    ensures judged { JudgedBy S.gave S.ended source.old source.new result.answer result.progress (bytes_of result.line) }
     ensures counted { result.answer ≢ Err Pull → S.faults source.new ≡ S.faults source.old }
     ensures fault_counted { result.answer ≡ Err Pull → S.faults source.new ≡ next_count (S.faults source.old) }
 {
     let mut progress = Progress::new(alloc);
-    let answer = judge_lines(&mut progress, source);
+    let (answer, line) = judge_lines(&mut progress, source);
     Judging {
         answer,
-        report: progress.report,
+        progress,
+        line,
     }
 }
 
-// Judges the lines that a source gives, none of which was taken.
-fn judge_lines<S: Source>(progress: &mut Progress, source: &mut S) -> Result<HeapVerdict, HeapFault>
+// Judges the lines that a source gives, none of which was taken: the answer, and after a no the line that was refused.
+fn judge_lines<S: Source>(
+    progress: &mut Progress,
+    source: &mut S,
+) -> (Result<HeapVerdict, HeapFault>, RefusedLine)
     requires { progress.old.stage ≡ Start }
-    ensures judged { JudgedBy S.gave S.ended source.old source.new result progress.new.report }
-    ensures counted { result ≢ Err Pull → S.faults source.new ≡ S.faults source.old }
-    ensures fault_counted { result ≡ Err Pull → S.faults source.new ≡ next_count (S.faults source.old) }
+    ensures judged { JudgedBy S.gave S.ended source.old source.new result.0 progress.new (bytes_of result.1) }
+    ensures counted { result.0 ≢ Err Pull → S.faults source.new ≡ S.faults source.old }
+    ensures fault_counted { result.0 ≡ Err Pull → S.faults source.new ≡ next_count (S.faults source.old) }
 {
     let mut lines = Lines::new();
     let mut line = 1u64;
     'lines: loop {
         match lines.next(source) {
-            Err(PullFault) => return Err(HeapFault::Pull),
-            Ok(Next::Finished) => return Ok(finished(progress, line)),
+            Err(PullFault) => return (Err(HeapFault::Pull), RefusedLine::new()),
+            Ok(Next::Finished) => return (Ok(finished(progress, line)), RefusedLine::new()),
             Ok(Next::Truncated) => {
-                return Ok(refused(progress.stage, line, HeapRefusal::Truncated));
+                let verdict = refused(progress.stage, line, HeapRefusal::Truncated);
+                return (Ok(verdict), RefusedLine::of(lines.kept()));
             }
             Ok(Next::LineTooLong) => {
-                return Ok(refused(progress.stage, line, HeapRefusal::LineTooLong));
+                let verdict = refused(progress.stage, line, HeapRefusal::LineTooLong);
+                return (Ok(verdict), RefusedLine::of(lines.kept()));
             }
             Ok(Next::Line(text)) => {
                 if let Err(end) = progress.take_line(text) {
-                    return answer_at(line, end);
+                    return (answer_at(line, end), RefusedLine::of(text));
                 }
                 line += 1;
             }

@@ -4,8 +4,8 @@
 //! Bounds that a capability can have are rounded: those of a long object may reach beyond it. A [`Heap`] keeps
 //! the live objects of an allocator, and refuses one whose rounded bounds have an address in common with those
 //! of another, or leave the heap's. [`judge_heap`] judges the log of an allocator that a source gives, line by
-//! line; [`judge_heap_to`] writes the verdict too, and [`judge_heap_report`] after a yes what exact bounds would
-//! cost.
+//! line; [`judge_heap_to`] writes the verdict too, [`judge_heap_report`] after a yes what exact bounds would cost, and
+//! [`judge_heap_why`] after a no what the tests of the refused line saw.
 #![tactic(auto)]
 
 mod events;
@@ -17,11 +17,13 @@ mod neighbours;
 mod progress;
 mod reading;
 mod refusal;
+mod refused_lines;
 mod report;
 mod reporting;
 mod stage;
 mod verdict;
 mod verdict_lines;
+mod whys;
 
 pub use crate::events::{Event, EventEnd};
 pub use crate::heap::Heap;
@@ -31,6 +33,6 @@ pub use crate::lines::HeapLine;
 pub use crate::reading::read_heap_line;
 pub use crate::refusal::HeapRefusal;
 pub use crate::report::{HeapReport, put_report};
-pub use crate::reporting::{judge_heap_report, judge_heap_to};
+pub use crate::reporting::{judge_heap_report, judge_heap_to, judge_heap_why};
 pub use crate::verdict::{HeapFault, HeapToFault, HeapVerdict};
 pub use crate::verdict_lines::heap_text;

@@ -6,6 +6,7 @@ ghost use Rattle.cap_heap.specs.declared.events.Event.{Event};
 ghost use Rattle.cap_heap.specs.declared.lines.HeapLine.TheVariants.{Happens, End};
 ghost use Rattle.cap_heap.specs.declared.stage.Stage.TheVariants as stages;
 ghost use Rattle.cap_heap.specs.HeapLines.{IsInRange};
+ghost use Rattle.cap_heap.specs.HeapLogs.{Beginning};
 
 use crate::events::{Event, EventEnd};
 use crate::heap::Heap;
@@ -31,7 +32,8 @@ pub(crate) struct Progress {
 }
 
 impl Progress {
-    ghost use Rattle.cap_heap.specs.Progresses.{EndsLine, EndsText, Reaches, Takes, TakesText};
+    ghost use Rattle.cap_heap.specs.Progresses.{EndsLine, EndsText, Reaches, StandsFor, Stays, Takes, TakesText};
+    ghost use Rattle.cap_heap.specs.HeapWhys.{count_in};
 
     /// Nothing was read.
     pub fn new(alloc: Global) -> Progress
@@ -46,10 +48,21 @@ impl Progress {
         }
     }
 
+    /// How many events there were.
+    pub fn count(&self) -> u32
+        ensures value { (beginning : Beginning) → StandsFor self.now beginning → result ≡ count_in beginning }
+    {
+        match self.stage {
+            Stage::Start | Stage::Headed => 0,
+            Stage::Within | Stage::Ended => self.events,
+        }
+    }
+
     /// Takes a line, without its line feed.
     pub fn take_line(&mut self, text: &[u8]) -> Result<(), EventEnd>
         ensures ok { OnOk result (TakesText self.old text.now self.new) }
         ensures err { IfErr result (EndsText self.old text.now) }
+        ensures stays { OnErr result (Stays self.old self.new) }
     {
         match self.stage {
             Stage::Start => self.take_header(text),
@@ -64,6 +77,7 @@ impl Progress {
         requires { self.old.stage ≡ stages.Start }
         ensures ok { OnOk result (TakesText self.old text.now self.new) }
         ensures err { IfErr result (EndsText self.old text.now) }
+        ensures stays { OnErr result (Stays self.old self.new) }
     {
         if !is_header(text) {
             return Err(EventEnd::Refused(HeapRefusal::BadHeader));
@@ -77,6 +91,7 @@ impl Progress {
         requires { self.old.stage ≡ stages.Headed }
         ensures ok { OnOk result (TakesText self.old text.now self.new) }
         ensures err { IfErr result (EndsText self.old text.now) }
+        ensures stays { OnErr result (Stays self.old self.new) }
     {
         match read_heap_line(text) {
             Some(HeapLine::Root(bounds)) => {
@@ -96,6 +111,7 @@ impl Progress {
         requires { self.old.stage ≡ stages.Within }
         ensures ok { OnOk result (TakesText self.old text.now self.new) }
         ensures err { IfErr result (EndsText self.old text.now) }
+        ensures stays { OnErr result (Stays self.old self.new) }
     {
         match read_heap_line(text) {
             Some(line) => self.take_read(line),
@@ -110,6 +126,7 @@ impl Progress {
         ensures ok { OnOk result (Takes self.old line self.new) }
         ensures err { IfErr result (λ end. (root : Interval) (events : List Event)
             → Reaches self.old.heap self.old.report self.old.events root events → EndsLine root events line end) }
+        ensures stays { OnErr result (Stays self.old self.new) }
     {
         match line {
             HeapLine::Happens(event) => self.happen(event),
@@ -125,6 +142,8 @@ impl Progress {
             → Reaches self.new.heap self.new.report self.new.events root (events ++ event ∷ [])) }
         ensures err { IfErr result (λ end. (root : Interval) (events : List Event)
             → Reaches self.old.heap self.old.report self.old.events root events → EndsLine root events (Happens event) end) }
+        ensures stays { OnErr result ((root : Interval) (events : List Event) → Reaches self.old.heap self.old.report self.old.events root events
+            → Reaches self.new.heap self.new.report self.new.events root events) }
         ensures stage { self.new.stage ≡ self.old.stage }
     {
         if self.events == MOST_EVENTS {
@@ -151,6 +170,7 @@ impl Progress {
         ensures ok { OnOk result (Takes self.old (End count) self.new) }
         ensures err { IfErr result (λ end. (root : Interval) (events : List Event)
             → Reaches self.old.heap self.old.report self.old.events root events → EndsLine root events (End count) end) }
+        ensures stays { OnErr result (Stays self.old self.new) }
     {
         if count != self.events {
             return Err(EventEnd::Refused(HeapRefusal::WrongCount));

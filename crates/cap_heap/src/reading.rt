@@ -5,6 +5,7 @@ ghost use Rattle.cap_word.specs.Digits.{hex_digits};
 ghost use Rattle.cap_bounds.specs.declared.decoding.Interval.{Interval};
 ghost use Rattle.cap_log.specs.declared.lines.Line.TheVariants.{End as Ending};
 ghost use Rattle.cap_heap.specs.HeapLines.{Spells};
+ghost use Rattle.cap_heap.specs.declared.events.Event.{Event};
 ghost use Rattle.cap_heap.specs.declared.events.Event.TheVariants.{Malloc, Free};
 ghost use Rattle.cap_heap.specs.declared.lines.HeapLine.{HeapLine};
 ghost use Rattle.cap_heap.specs.declared.lines.HeapLine.TheVariants.{Header, Root, Happens, End};
@@ -55,6 +56,17 @@ fn behind<'a, const N: usize>(bytes: &'a [u8], front: &[u8; N]) -> Option<&'a [u
 {
     let (first, rest) = bytes.split_first_chunk::<N>()?;
     if first == front { Some(rest) } else { None }
+}
+
+/// Reads the line of an event.
+pub(crate) fn read_event(text: &[u8]) -> Option<Event>
+    ensures some { IfSome result (λ event. Spells text.now (Happens event)) }
+    ensures none { IfNone result ((event : Event) → Spells text.now (Happens event) → ⊥) }
+{
+    if let Some(event) = read_malloc(text) {
+        return Some(event);
+    }
+    read_free(text)
 }
 
 // Reads the line of an object that comes to live.

@@ -1,6 +1,7 @@
 //! What the objects of a log reach, and what exact bounds would cost.
 
-ghost use Rattle.std.specs.Prelude.{◌≡◌, ◌+◌, ◌-◌, ◌^◌, ◌≤◌, min, length, take, drop, ◌++◌};
+ghost use Rattle.std.specs.Prelude.{◌≡◌, ◌+◌, ◌-◌, ◌^◌, ◌<◌, ◌≤◌, min, length, take, drop, ◌++◌};
+ghost use Rattle.cap_bounds.specs.Rounding.{alignment_of};
 ghost use Rattle.cap_heap.specs.HeapReports.{capped, excess_of, gap_of, padding_of, report_lines};
 ghost use Rattle.cap_heap.specs.declared.events.Event.TheVariants.{Malloc};
 
@@ -104,12 +105,21 @@ fn padding(length: u64) -> u128
     round_length(length) - u128::from(length)
 }
 
+/// The unit of which the addresses at which a length is exact are multiples.
+pub(crate) fn alignment(length: u64) -> u128
+    ensures value { result ≡ alignment_of length }
+    ensures some { 0 < result }
+    ensures fits { result ≤ 2 ^ 64 }
+{
+    (1 << 64) - u128::from(align_mask(length))
+}
+
 // How many bytes an object would have to be moved up, to where such a length is exact.
 fn gap(address: u64, length: u64) -> u128
     ensures value { result ≡ gap_of (Malloc address length) }
     ensures fits { result ≤ 2 ^ 66 }
 {
-    let unit = (1 << 64) - u128::from(align_mask(length));
+    let unit = alignment(length);
     let over = u128::from(address) % unit;
     if over == 0 { 0 } else { unit - over }
 }

@@ -1,17 +1,24 @@
 //! The judge that writes its verdict into a sink.
 
-ghost use Rattle.std.specs.Prelude.{◌≡◌, ◌≢◌, ℕ, take, ◌++◌, Err, OnOk, OnErr, true, false};
+ghost use Rattle.std.specs.Prelude.{◌≡◌, ◌≢◌, ℕ, List, take, ◌++◌, Err, OnOk, OnErr, true, false};
 ghost use Rattle.cap_log.specs.Streams.{next_count};
-ghost use Rattle.cap_heap.specs.VerdictLines.{Told, heap_line, reported_text};
+ghost use Rattle.cap_heap.specs.RefusedLines.{bytes_of};
+ghost use Rattle.cap_heap.specs.Texts.{IsLineReport, IsText};
+ghost use Rattle.cap_heap.specs.VerdictLines.{Told, heap_line};
 ghost use Rattle.cap_heap.specs.HeapReports.{report_lines};
 ghost use Rattle.cap_heap.specs.declared.verdict.HeapToFault.TheVariants.{Pull, Push};
 
 use crate::judging::{Judging, judge_heap, judge_keeping};
+use crate::progress::Progress;
+use crate::refusal::HeapRefusal;
+use crate::refused_lines::RefusedLine;
 use crate::report::{HeapReport, put_report};
 use crate::verdict::{HeapToFault, HeapVerdict};
 use crate::verdict_lines::heap_text;
+use crate::whys::put_details;
 use cap_log::buffers::put;
 use cap_log::{PushFault, Sink, Source, push_all};
+use cap_texts::shown_bytes::put_line_line;
 use std::alloc::Global;
 
 /// Judges the log of an allocator that a source gives as [`judge_heap`] does, and pushes the line of the verdict.
@@ -20,7 +27,7 @@ pub fn judge_heap_to<S: Source, K: Sink>(
     source: &mut S,
     sink: &mut K,
 ) -> Result<HeapVerdict, HeapToFault>
-    ensures told { Told false S.gave S.ended K.took source.old source.new sink.old sink.new result }
+    ensures told { Told false false S.gave S.ended K.took source.old source.new sink.old sink.new result }
 
     // Each fault of the source or the sink ends the call, and nothing else counts one.
     ensures counted { result ≢ Err Pull → S.faults source.new ≡ S.faults source.old }
@@ -40,7 +47,7 @@ pub fn judge_heap_report<S: Source, K: Sink>(
     source: &mut S,
     sink: &mut K,
 ) -> Result<HeapVerdict, HeapToFault>
-    ensures told { Told true S.gave S.ended K.took source.old source.new sink.old sink.new result }
+    ensures told { Told true false S.gave S.ended K.took source.old source.new sink.old sink.new result }
 
     // Each fault of the source or the sink ends the call, and nothing else counts one.
     ensures counted { result ≢ Err Pull → S.faults source.new ≡ S.faults source.old }
@@ -48,30 +55,109 @@ pub fn judge_heap_report<S: Source, K: Sink>(
     ensures sink_counted { result ≢ Err Push → K.faults sink.new ≡ K.faults sink.old }
     ensures push_counted { result ≡ Err Push → K.faults sink.new ≡ next_count (K.faults sink.old) }
 {
-    let Judging { answer, report } = judge_keeping(alloc, source);
+    judge_telling(alloc, true, false, source, sink)
+}
+
+/// Judges as [`judge_heap_to`] does, and after a no pushes the report of the line that was refused: of a request its
+/// bounds, those of a live object that overlaps it, and what length and alignment would be right. After a yes the report
+/// of [`judge_heap_report`] is pushed where it is asked for.
+pub fn judge_heap_why<S: Source, K: Sink>(
+    alloc: Global,
+    report: bool,
+    source: &mut S,
+    sink: &mut K,
+) -> Result<HeapVerdict, HeapToFault>
+    ensures told { Told report true S.gave S.ended K.took source.old source.new sink.old sink.new result }
+
+    // Each fault of the source or the sink ends the call, and nothing else counts one.
+    ensures counted { result ≢ Err Pull → S.faults source.new ≡ S.faults source.old }
+    ensures pull_counted { result ≡ Err Pull → S.faults source.new ≡ next_count (S.faults source.old) }
+    ensures sink_counted { result ≢ Err Push → K.faults sink.new ≡ K.faults sink.old }
+    ensures push_counted { result ≡ Err Push → K.faults sink.new ≡ next_count (K.faults sink.old) }
+{
+    judge_telling(alloc, report, true, source, sink)
+}
+
+// Judges, and pushes the text of the verdict with the reports that are asked for.
+fn judge_telling<S: Source, K: Sink>(
+    alloc: Global,
+    report: bool,
+    why: bool,
+    source: &mut S,
+    sink: &mut K,
+) -> Result<HeapVerdict, HeapToFault>
+    ensures told { Told report why S.gave S.ended K.took source.old source.new sink.old sink.new result }
+    ensures counted { result ≢ Err Pull → S.faults source.new ≡ S.faults source.old }
+    ensures pull_counted { result ≡ Err Pull → S.faults source.new ≡ next_count (S.faults source.old) }
+    ensures sink_counted { result ≢ Err Push → K.faults sink.new ≡ K.faults sink.old }
+    ensures push_counted { result ≡ Err Push → K.faults sink.new ≡ next_count (K.faults sink.old) }
+{
+    let Judging {
+        answer,
+        progress,
+        line,
+    } = judge_keeping(alloc, source);
     let verdict = answer?;
-    push_reported(&verdict, &report, sink)?;
+    push_text(report, why, &verdict, &progress, &line, sink)?;
     Ok(verdict)
 }
 
-// Pushes the text of a verdict, after a yes with the report.
-fn push_reported<K: Sink>(
+// Pushes the text of a verdict.
+fn push_text<K: Sink>(
+    report: bool,
+    why: bool,
     verdict: &HeapVerdict,
-    report: &HeapReport,
+    progress: &Progress,
+    line: &RefusedLine,
     sink: &mut K,
 ) -> Result<(), PushFault>
-    ensures ok { OnOk result (K.took sink.old sink.new (reported_text report.now verdict.now)) }
-    ensures err { OnErr result ((n : ℕ) × K.took sink.old sink.new (take n (reported_text report.now verdict.now))) }
+    ensures ok { OnOk result ((text : List ℕ) × IsText report why progress.now (bytes_of line.now) verdict.now text
+        × K.took sink.old sink.new text) }
+    ensures err { OnErr result ((text : List ℕ) × IsText report why progress.now (bytes_of line.now) verdict.now text
+        × (n : ℕ) × K.took sink.old sink.new (take n text)) }
     ensures counted { OnOk result (K.faults sink.new ≡ K.faults sink.old) }
     ensures fault_counted { OnErr result (K.faults sink.new ≡ next_count (K.faults sink.old)) }
 {
     match *verdict {
-        HeapVerdict::Yes { events: _, live: _ } => push_yes(verdict, report, sink),
-        HeapVerdict::No {
-            line: _,
-            refusal: _,
-        } => push_line(verdict, sink),
+        HeapVerdict::Yes { events: _, live: _ } => {
+            if report {
+                push_yes(verdict, &progress.report, sink)
+            } else {
+                push_line(verdict, sink)
+            }
+        }
+        HeapVerdict::No { line: _, refusal } => {
+            if why {
+                push_no(verdict, progress, line, refusal, sink)
+            } else {
+                push_line(verdict, sink)
+            }
+        }
     }
+}
+
+// Pushes the line of a verdict and the report of the line that was refused.
+fn push_no<K: Sink>(
+    verdict: &HeapVerdict,
+    progress: &Progress,
+    line: &RefusedLine,
+    refusal: HeapRefusal,
+    sink: &mut K,
+) -> Result<(), PushFault>
+    ensures ok { OnOk result ((report : List ℕ) × IsLineReport progress.now (bytes_of line.now) refusal report
+        × K.took sink.old sink.new (heap_line verdict.now ++ report)) }
+    ensures err { OnErr result ((report : List ℕ) × IsLineReport progress.now (bytes_of line.now) refusal report
+        × (n : ℕ) × K.took sink.old sink.new (take n (heap_line verdict.now ++ report))) }
+    ensures counted { OnOk result (K.faults sink.new ≡ K.faults sink.old) }
+    ensures fault_counted { OnErr result (K.faults sink.new ≡ next_count (K.faults sink.old)) }
+{
+    let mut text = [0u8; 1024];
+    let mut front = [0u8; 64];
+    let length = heap_text(verdict, &mut front);
+    let at = put(&mut text, 0, &front[..length]);
+    let at = put_line_line(&mut text, at, line.as_slice());
+    let end = put_details(progress, line.as_slice(), refusal, &mut text, at);
+    push_all(sink, &text[..end])
 }
 
 // Pushes the line of a verdict and a report.

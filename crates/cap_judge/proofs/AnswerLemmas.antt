@@ -1,8 +1,8 @@
 -- What a judge tells of the lines so far.
-use Rattle.std.proofs.Common.{◌≡◌, ℕ, List, [], ◌∷◌, ◌++◌, length, refl, sym, ap, subst, ◌∙◌, append-nil, Err, IfErr, Ok, Result}
-use Rattle.std.proofs.Common.{Some, ◌↔◌, ◌⊎◌, inl, inr, ◌<◌, ◌+◌, arith, drop, take}
+use Rattle.std.proofs.Common.{◌≡◌, ℕ, List, [], ◌∷◌, ◌++◌, length, refl, sym, ap, subst, ◌∙◌, append-nil, Err, IfErr, Ok, Result, Some, ◌↔◌}
+use Rattle.std.proofs.Common.{◌⊎◌, inl, inr, ◌<◌, ◌+◌, arith, drop, take}
 use Rattle.std.proofs.lemmas.List.{length-drop}
-use Rattle.cap_log.specs.Lines.{IsInRange}
+use Rattle.cap_log.specs.Lines.{IsInRange, spelling}
 use Rattle.cap_log.specs.Parts.{Begins}
 use Rattle.cap_log.specs.declared.lines.Step.{Step}
 use Rattle.cap_machine.specs.declared.ends.StepEnd.{StepEnd}
@@ -13,7 +13,6 @@ use Rattle.std.proofs.lemmas.Grind.{flat_map-append}
 use Rattle.cap_log.specs.Front.{IsCut, IsLine, IsTooLong}
 use Rattle.cap_log.proofs.FrontLemmas.{IsLine-not_cut, IsLine-not_too_long, IsLine-same, IsTooLong-not_cut}
 use Rattle.cap_judge.specs.declared.beginning.Stop.TheVariants as stops
-use Rattle.cap_log.specs.Lines.{spelling}
 use Rattle.cap_log.specs.declared.lines.Line.{Line}
 use Rattle.cap_log.specs.declared.lines.Line.TheVariants as lines
 use Rattle.cap_log.specs.declared.lines.Mode.TheVariants as modes
@@ -26,7 +25,7 @@ use Rattle.cap_judge.specs.declared.verdict.Verdict.TheVariants.{Yes, No}
 use Rattle.cap_judge.specs.Logs.{Beginning, Nothing, NoMode, Body, Whole, IsAccepted, MayLackMemory, body_lines, lines_of, text_of}
 use Rattle.cap_judge.specs.Verdicts.{IsYes}
 use Rattle.cap_judge.specs.Readings.{BeginsWhole, EndsStepAt, GoesOn, IsAtFault, IsNoLine, Known, Read, Stands, StopsAt, TakesStep}
-use Rattle.cap_judge.proofs.JudgeLemmas.{text_push}
+use Rattle.cap_judge.proofs.JudgeLemmas.{text_push, yes_of}
 use Rattle.cap_judge.proofs.OneVerdict.{one_verdict}
 use Rattle.cap_judge.proofs.NextLemmas.{no_roots}
 use Rattle.cap_judge.proofs.EndingLemmas.{first_fault}
@@ -50,68 +49,27 @@ pub record GoesToYes (bytes : List ℕ) : Type 0 where
   pub log : IsYes (bytes ++ more) steps roots
 
 goes_to_yes : (beginning : Beginning) → IsAccepted beginning → GoesToYes (text_of (lines_of beginning))
-goes_to_yes Nothing accepted = record {
-  more = text_of (lines_of (Whole One [] []));
-  steps = 0;
-  roots = 0;
-  log = record {
-    rules = One;
-    roots = [];
-    steps = [];
-    log = record { bytes_are = refl; runs = no_roots One };
-    step_count_is = refl;
-    root_count_is = refl;
-  };
-}
-goes_to_yes NoMode accepted = record {
-  more = text_of (lines.Mode modes.Strict ∷ lines.End 0 ∷ []);
-  steps = 0;
-  roots = 0;
-  log = record {
-    rules = TwoStrict;
-    roots = [];
-    steps = [];
-    log = record {
-      bytes_are =
-          sym (flat_map-append (λ (l : Line). spelling l ++ 10 ∷ []) (lines.Version 2 ∷ []) (lines.Mode modes.Strict ∷ lines.End 0 ∷ []));
-      runs = no_roots TwoStrict;
-    };
-    step_count_is = refl;
-    root_count_is = refl;
-  };
-}
-goes_to_yes (Body rules_are roots steps) accepted = record {
-  more = text_of (lines.End (length steps) ∷ []);
-  steps = length steps;
-  roots = length roots;
-  log = record {
-    rules = rules_are;
-    roots = roots;
-    steps = steps;
-    log = record {
-      bytes_are =
-          ap (λ (t : List ℕ). text_of (body_lines rules_are roots steps) ++ t) (append-nil _)
-          ∙ sym (text_push (body_lines rules_are roots steps) (lines.End (length steps)) [])
-          ∙ append-nil _;
-      runs = accepted;
-    };
-    step_count_is = refl;
-    root_count_is = refl;
-  };
-}
-goes_to_yes (Whole rules_are roots steps) accepted = record {
-  more = [];
-  steps = length steps;
-  roots = length roots;
-  log = record {
-    rules = rules_are;
-    roots = roots;
-    steps = steps;
-    log = record { bytes_are = append-nil _; runs = accepted };
-    step_count_is = refl;
-    root_count_is = refl;
-  };
-}
+goes_to_yes Nothing accepted =
+    record { more = text_of (lines_of (Whole One [] [])); steps = 0; roots = 0; log = yes_of _ One [] [] refl (no_roots One) }
+goes_to_yes NoMode accepted =
+    let more = lines.Mode modes.Strict ∷ lines.End 0 ∷ [] in record {
+      more = text_of more;
+      steps = 0;
+      roots = 0;
+      log = yes_of _ TwoStrict [] [] (sym (flat_map-append (λ (l : Line). spelling l ++ 10 ∷ []) (lines.Version 2 ∷ []) more))
+          (no_roots TwoStrict);
+    }
+goes_to_yes (Body rules_are roots steps) accepted =
+    let whole = ap (λ (t : List ℕ). text_of (body_lines rules_are roots steps) ++ t) (append-nil _)
+    ∙ sym (text_push (body_lines rules_are roots steps) (lines.End (length steps)) [])
+    ∙ append-nil _ in record {
+      more = text_of (lines.End (length steps) ∷ []);
+      steps = length steps;
+      roots = length roots;
+      log = yes_of _ rules_are roots steps whole accepted;
+    }
+goes_to_yes (Whole rules_are roots steps) accepted =
+    record { more = []; steps = length steps; roots = length roots; log = yes_of _ rules_are roots steps (append-nil _) accepted }
 
 -- so no line of it is at fault
 pub not_at_fault : (known : Known) (fault : Fault) (bytes : List ℕ) → known.stage ≡ stages.Refused fault → Read known bytes

@@ -1,6 +1,6 @@
 -- What a judge answers where it stops.
-use Rattle.std.proofs.Common.{◌≡◌, ◌≢◌, ℕ, ◌+◌, ◌<◌, ◌≤◌, inl, inr, Bool, true, false, List, [], ◌∷◌, ◌++◌, length, refl, sym, ap}
-use Rattle.std.proofs.Common.{subst, ◌∙◌, append-nil, append_assoc, arith, Result, Ok, Err}
+use Rattle.std.proofs.Common.{◌≡◌, ◌≢◌, ℕ, ◌+◌, ◌<◌, ◌≤◌, inl, inr, Bool, true, false, List, [], ◌∷◌, ◌++◌, length, refl, sym, ap, subst}
+use Rattle.std.proofs.Common.{◌∙◌, append-nil, append_assoc, arith, Result, Ok, Err}
 use Rattle.std.specs.List.{AllByRecursion}
 use Rattle.std.proofs.lemmas.Bool.{false≢true}
 use Rattle.std.proofs.lemmas.List.{length-append}
@@ -25,15 +25,14 @@ use Rattle.cap_judge.specs.declared.verdict.Verdict.{Verdict}
 use Rattle.cap_judge.specs.declared.verdict.Verdict.TheVariants.{Yes, No}
 use Rattle.cap_judge.specs.FaultLines.{IsFrontText, bytes_of}
 use Rattle.cap_judge.specs.Judgings.{IsLastFront, StopsBefore}
-use Rattle.cap_judge.specs.Logs.{Beginning, Nothing, NoMode, Body, Whole, header_lines, body_lines, lines_of, text_of}
-use Rattle.cap_judge.specs.Logs.{IsFirstFault, MayLackMemory, Refuses}
-use Rattle.cap_judge.specs.Readings.{Reaches}
-use Rattle.cap_judge.specs.Readings.{EndsWith, GoesOn, IsAfter, IsAtFault, IsFaultAt, IsRest, Known, Read, StopsAt}
+use Rattle.cap_judge.specs.Logs.{Beginning, Nothing, NoMode, Body, Whole, header_lines, body_lines, lines_of, text_of, IsFirstFault}
+use Rattle.cap_judge.specs.Logs.{MayLackMemory, Refuses}
+use Rattle.cap_judge.specs.Readings.{Reaches, EndsWith, GoesOn, IsAfter, IsAtFault, IsFaultAt, IsRest, Known, Read, StopsAt}
 use Rattle.cap_judge.specs.Verdicts.{IsVerdict}
 use Rattle.cap_judge.proofs.JudgeLemmas.{front_refused}
 use Rattle.cap_judge.proofs.OneReading.{same_front, text_cons}
 use Rattle.cap_judge.proofs.ReachLemmas.{same_rules}
-use Rattle.cap_judge.proofs.ReadingLemmas.{IsUnendedAt, account_stands, all_read, at, goes_further, read_behind, unended_after}
+use Rattle.cap_judge.proofs.ReadingLemmas.{IsUnendedAt, account_stands, all_read, at, goes_further, moved, read_behind, unended_after}
 use Rattle.cap_judge.proofs.SourceLemmas.{few_body}
 
 -- Where a line is at fault
@@ -47,25 +46,17 @@ at_fault stage fault is = subst IsAtFault (sym is) tt
 
 pub fault_of : (stage : Stage) → IsAtFault stage → (fault : Fault) × (stage ≡ stages.Refused fault)
 fault_of (stages.Refused fault) is = (fault, refl)
-fault_of stages.Version is = absurd is
-fault_of stages.Mode is = absurd is
-fault_of stages.Body is = absurd is
-fault_of stages.Ended is = absurd is
+fault_of stage is = absurd is
 
 -- a stage that is no other
 pub clear_of : (stage : Stage) → ((fault : Fault) → stage ≡ stages.Refused fault → ⊥) → IsAtFault stage → ⊥
 clear_of (stages.Refused fault) other is = other fault refl
-clear_of stages.Version other is = is
-clear_of stages.Mode other is = is
-clear_of stages.Body other is = is
-clear_of stages.Ended other is = is
+clear_of stage other is = is
 
 pub unended_of : (stage : Stage) → ((fault : Fault) → stage ≡ stages.Refused fault → ⊥) → (stage ≡ stages.Ended → ⊥) → IsUnendedAt stage
 unended_of (stages.Refused fault) other unended = other fault refl
-unended_of stages.Version other unended = tt
-unended_of stages.Mode other unended = tt
-unended_of stages.Body other unended = tt
 unended_of stages.Ended other unended = unended refl
+unended_of stage other unended = tt
 
 -- what is at fault at one stage is one fault
 pub same_fault : (stage : Stage) (fault other : Fault) → stage ≡ stages.Refused fault → stage ≡ stages.Refused other → fault ≡ other
@@ -111,7 +102,7 @@ stops_fault known fault bytes ended is read =
 pub ends_fault : (known : Known) (fault : Fault) (bytes rest : List ℕ) → known.stage ≡ stages.Refused fault → Read known bytes
     → EndsWith known.held (bytes ++ rest) (Err fault)
 ends_fault known fault bytes rest is read =
-    let all = read_behind known rest (at_fault known.stage fault is) bytes read in
+    let all = (read_behind known rest (at_fault known.stage fault is) bytes read).0 in
     (fault_now known fault (bytes ++ rest) is all, stops_fault known fault (bytes ++ rest) true is all)
 
 -- Where none is
@@ -136,9 +127,7 @@ ends_yes_at held bytes (Whole rules_are roots steps) after are = (
     account = after.account;
   },
 )
-ends_yes_at held bytes Nothing after are = absurd after
-ends_yes_at held bytes NoMode after are = absurd after
-ends_yes_at held bytes (Body rules_are roots steps) after are = absurd after
+ends_yes_at held bytes beginning after are = absurd after
 
 pub ends_yes : (known : Known) (bytes rest : List ℕ) → known.stage ≡ stages.Ended → rest ≡ [] → Read known bytes
     → EndsWith known.held (bytes ++ rest) (Ok (Yes known.held.steps known.held.roots))
@@ -187,9 +176,7 @@ truncated stage held rest goes cut beginning after =
 misplaced_at : (held : Held) (rest : List ℕ) → rest ≢ [] → (beginning : Beginning) → IsAfter stages.Ended held beginning
     → Refuses beginning rest Misplaced
 misplaced_at held rest some (Whole rules_are roots steps) after = (some, refl)
-misplaced_at held rest some Nothing after = absurd after
-misplaced_at held rest some NoMode after = absurd after
-misplaced_at held rest some (Body rules_are roots steps) after = absurd after
+misplaced_at held rest some beginning after = absurd after
 
 pub misplaced : (stage : Stage) (held : Held) (rest : List ℕ) → stage ≡ stages.Ended → rest ≢ [] → (beginning : Beginning)
     → IsAfter stage held beginning → Refuses beginning rest Misplaced
@@ -213,25 +200,23 @@ pub stops_later : (first old new : Known) (front middle rest : List ℕ) (stop :
     → StopsAt old middle rest stop new → StopsAt first (front ++ middle) rest stop new
 stops_later first old new front middle rest stops.Cut so_far (on, cut, clear) =
     (goes_further first old new front middle so_far on, cut, clear)
-stops_later first old new front middle rest stops.Fault so_far (on, fault) = (
-  subst (λ (b : List ℕ). GoesOn first b new) (sym (append_assoc front middle rest))
-      (goes_further first old new front (middle ++ rest) so_far on),
+stops_later first old new front middle rest stops.Fault so_far (faults, fault) = (
+  λ before read.
+      let so = so_far before read in
+      let then = faults (before ++ front) so.0 in
+      let same : (before ++ front) ++ (middle ++ rest) ≡ before ++ ((front ++ middle) ++ rest) = simp (append_assoc) in
+      moved new (read.rest ++ rest) same (then.0, then.1 ∙ ap (λ (r : List ℕ). r ++ rest) so.1),
   fault,
 )
 stops_later first old new front middle rest stops.NoMemory so_far (on, lacks) = (
   goes_further first old new front middle so_far on,
   λ before read.
-      let lack = lacks (before ++ front) (so_far before read) in
+      let lack = lacks (before ++ front) (so_far before read).0 in
       let same : (before ++ front) ++ middle ++ rest ≡ before ++ (front ++ middle) ++ rest = simp (append_assoc) in
       (lack.0, lack.1, lack.2, subst (λ (b : List ℕ). MayLackMemory b lack.1) same lack.3),
 )
 
 -- How many lines were read
-
-header_counts : (rules_are : Rules) → length (header_lines rules_are) ≤ 2
-header_counts One = omega arith
-header_counts TwoStrict = omega arith
-header_counts TwoClear = omega arith
 
 -- the lines of a body and of a log, by what was counted
 pub body_count : (held : Held) (rules_are : Rules) (roots : List DeclaredRoot) (steps : List Step) → Reaches held rules_are roots steps
@@ -269,18 +254,7 @@ count_read stages.Mode held NoMode clear after = refl
 count_read stages.Body held (Body rules_are roots steps) clear after = body_count held rules_are roots steps after
 count_read stages.Ended held (Whole rules_are roots steps) clear after = whole_count held rules_are roots steps after
 count_read (stages.Refused fault) held beginning clear after = absurd (clear tt)
-count_read stages.Version held NoMode clear after = absurd after
-count_read stages.Version held (Body rules_are roots steps) clear after = absurd after
-count_read stages.Version held (Whole rules_are roots steps) clear after = absurd after
-count_read stages.Mode held Nothing clear after = absurd after
-count_read stages.Mode held (Body rules_are roots steps) clear after = absurd after
-count_read stages.Mode held (Whole rules_are roots steps) clear after = absurd after
-count_read stages.Body held Nothing clear after = absurd after
-count_read stages.Body held NoMode clear after = absurd after
-count_read stages.Body held (Whole rules_are roots steps) clear after = absurd after
-count_read stages.Ended held Nothing clear after = absurd after
-count_read stages.Ended held NoMode clear after = absurd after
-count_read stages.Ended held (Body rules_are roots steps) clear after = absurd after
+count_read stage held beginning clear after = absurd after
 
 pub count_at_body : (stage : Stage) (held : Held) (beginning : Beginning) → stage ≡ stages.Body → IsAfter stage held beginning
     → length (header_lines held.rules) + held.roots + held.steps ≡ length (lines_of beginning)

@@ -1,28 +1,29 @@
 -- Which first faults are refused by BoundsEscape.
-use Rattle.std.proofs.Common.{◌≡◌, ◌↔◌, ℕ, inl, inr, Bool, true, false, List, [], ◌∷◌, refl, sym, ap, subst, ◌∙◌, Some}
-use Rattle.std.proofs.Common.{Result, Ok, Err, IfOk}
+use Rattle.std.proofs.Common.{◌≡◌, ◌↔◌, ℕ, inl, inr, Bool, true, false, List, [], ◌∷◌, refl, sym, ap, subst, ◌∙◌, Some, Result, Ok, Err}
+use Rattle.std.proofs.Common.{IfOk}
+use Rattle.std.proofs.lemmas.Bool.{false≢true}
 use Rattle.std.proofs.lemmas.Option.{same_Some}
 use Rattle.cap_log.specs.declared.lines.Line.{Line}
 use Rattle.cap_log.specs.declared.lines.Line.TheVariants as lines
 use Rattle.cap_log.specs.declared.lines.Step.{Step}
-use Rattle.cap_log.specs.Front.{IsLine}
+use Rattle.cap_log.specs.Front.{FrontIs, IsLine}
 use Rattle.cap_log.proofs.FrontLemmas.{IsLine-same, IsLine-not_too_long, IsLine-not_cut}
 use Rattle.cap_log.proofs.SpellingLemmas.{one_spelling}
 use Rattle.cap_ops.specs.Tests.{first_of}
 use Rattle.cap_ops.specs.declared.refusal.Refusal.{Refusal}
-use Rattle.cap_ops.specs.declared.refusal.Refusal.TheVariants.{BoundsEscape, Misplaced, PlaceTaken, UnsoundRoot}
-use Rattle.cap_ops.specs.declared.refusal.Refusal.TheVariants.{LimitPassed, WrongCount}
+use Rattle.cap_ops.specs.declared.refusal.Refusal.TheVariants.{BoundsEscape, LimitPassed, LineTooLong, Misplaced, PlaceTaken, Truncated}
+use Rattle.cap_ops.specs.declared.refusal.Refusal.TheVariants.{UnsoundRoot, WrongCount, WrongResult}
 use Rattle.cap_machine.specs.declared.rules.Rules.{Rules}
 use Rattle.cap_machine.specs.States.{DeclaredRoot, start}
-use Rattle.cap_machine.specs.Accounts.{Account}
+use Rattle.cap_machine.specs.Accounts.{Account, step_tests}
 use Rattle.cap_machine.specs.Parents.{IsSoundState}
 use Rattle.cap_machine.specs.Escapes.{Escapes}
 use Rattle.cap_machine.proofs.AuthorityLemmas.{sound_along, start_sound}
 use Rattle.cap_machine.proofs.EscapeLemmas.{escapes_first}
 use Rattle.cap_judge.specs.declared.verdict.Verdict.{Verdict}
 use Rattle.cap_judge.specs.declared.verdict.Verdict.TheVariants.{Yes, No}
-use Rattle.cap_judge.specs.Logs.{Beginning, Nothing, NoMode, Body, Whole, SpellsBy, account_after, line_tests}
-use Rattle.cap_judge.specs.Logs.{IsAccepted, RunsBy, RefusesLine, RefusesWhole, Refuses}
+use Rattle.cap_judge.specs.Logs.{Beginning, Nothing, NoMode, Body, Whole, SpellsBy, account_after, line_tests, IsAccepted, RunsBy}
+use Rattle.cap_judge.specs.Logs.{RefusesLine, RefusesWhole, Refuses}
 use Rattle.cap_judge.specs.Verdicts.{EscapesExactly, FaultEscapes, NamesEscapes}
 use Rattle.cap_judge.proofs.LogLemmas.{last_state}
 use Rattle.cap_judge.proofs.JudgeLemmas.{are_sound, behind_header, steps_in_range}
@@ -36,28 +37,39 @@ account_sound rules_are roots steps runs =
     (sound_along rules_are (start roots) steps run.0 (steps_in_range roots steps (behind_header rules_are _ runs.grammar))
     (start_sound roots (are_sound roots runs.sound)) run.1)
 
+-- the refusals of a step for what it asks for, and for its result
+abbrev pub is_of_step : Refusal → Bool
+is_of_step BoundsEscape = true
+is_of_step WrongResult = true
+is_of_step refusal = false
+
 -- no other line is refused so
-no_root_test : (a b c d : Bool) → first_of ((a, Misplaced) ∷ (b, PlaceTaken) ∷ (c, UnsoundRoot) ∷ (d, LimitPassed) ∷ []) ≡ Some BoundsEscape
-    → ⊥
-no_root_test true b c d h = cc
-no_root_test false true c d h = cc
-no_root_test false false true d h = cc
-no_root_test false false false true h = cc
-no_root_test false false false false h = cc
+root_test : (a b c d : Bool) (refusal : Refusal)
+    → first_of ((a, Misplaced) ∷ (b, PlaceTaken) ∷ (c, UnsoundRoot) ∷ (d, LimitPassed) ∷ []) ≡ Some refusal → is_of_step refusal ≡ false
+root_test true b c d refusal h = ap is_of_step (sym (same_Some Misplaced refusal h))
+root_test false true c d refusal h = ap is_of_step (sym (same_Some PlaceTaken refusal h))
+root_test false false true d refusal h = ap is_of_step (sym (same_Some UnsoundRoot refusal h))
+root_test false false false true refusal h = ap is_of_step (sym (same_Some LimitPassed refusal h))
+root_test false false false false refusal h = cc
 
-no_end_test : (a : Bool) → first_of ((a, WrongCount) ∷ []) ≡ Some BoundsEscape → ⊥
-no_end_test true h = cc
-no_end_test false h = cc
+end_test : (a : Bool) (refusal : Refusal) → first_of ((a, WrongCount) ∷ []) ≡ Some refusal → is_of_step refusal ≡ false
+end_test true refusal h = ap is_of_step (sym (same_Some WrongCount refusal h))
+end_test false refusal h = cc
 
--- a line whose first test that holds is that of bounds is such a step
-line_escapes : (account : Account) (line : Line) → IsSoundState account.state → (bytes : List ℕ) → SpellsBy account.rules bytes line
-    → first_of (line_tests account line) ≡ Some BoundsEscape
-    → (step : Step) × (line ≡ lines.Step step) × Escapes account.rules account.state step
-line_escapes account (lines.Version version) sound bytes spelled h = absurd cc
-line_escapes account (lines.Mode mode) sound bytes spelled h = absurd cc
-line_escapes account (lines.Root place word) sound bytes spelled h = absurd (no_root_test _ _ _ _ h)
-line_escapes account (lines.Step step) sound bytes spelled h = (step, refl, (escapes_first account step spelled.0.0 sound).0 h)
-line_escapes account (lines.End count) sound bytes spelled h = absurd (no_end_test _ h)
+pub is_step : (account : Account) (line : Line) (refusal : Refusal) → is_of_step refusal ≡ true
+    → first_of (line_tests account line) ≡ Some refusal
+    → (step : Step) × (line ≡ lines.Step step) × (first_of (step_tests account step) ≡ Some refusal)
+is_step account (lines.Step step) refusal own h = (step, refl, h)
+is_step account (lines.Root place word) refusal own h = absurd (false≢true (sym (root_test _ _ _ _ refusal h) ∙ own))
+is_step account (lines.End count) refusal own h = absurd (false≢true (sym (end_test _ refusal h) ∙ own))
+is_step account line refusal own h = absurd (false≢true (ap is_of_step (same_Some Misplaced refusal h) ∙ own))
+
+-- and before the body nothing is
+pub never_front : (rest : List ℕ) (refusal : Refusal) (P : List ℕ → Type 0) → is_of_step refusal ≡ true
+    → ((text : List ℕ) → P text → is_of_step refusal ≡ false) → FrontIs rest (refusal ≡ LineTooLong) (refusal ≡ Truncated) P → ⊥
+never_front rest refusal P own whole (inl long) = false≢true (sym (ap is_of_step long.1) ∙ own)
+never_front rest refusal P own whole (inr (inl cut)) = false≢true (sym (ap is_of_step cut.1) ∙ own)
+never_front rest refusal P own whole (inr (inr line)) = false≢true (sym (whole line.0 line.3) ∙ own)
 
 -- what a whole line is refused for
 refused_escapes : (account : Account) (rest text more : List ℕ) (refusal : Refusal) → IsSoundState account.state → IsLine rest text more
@@ -66,8 +78,9 @@ refused_escapes : (account : Account) (rest text more : List ℕ) (refusal : Ref
     × Escapes account.rules account.state step
 refused_escapes account rest text more refusal sound whole (inl none) h = absurd (let bad = none.1 in cc)
 refused_escapes account rest text more refusal sound whole (inr found) h =
-    let is = line_escapes account found.0 sound text found.1 (found.2 ∙ ap (λ (r : Refusal). Some r) h) in
-    (text, more, is.0, whole, subst (SpellsBy account.rules text) is.1 found.1, is.2)
+    let is = is_step account found.0 BoundsEscape refl (found.2 ∙ ap (λ (r : Refusal). Some r) h) in
+    let spelled = subst (SpellsBy account.rules text) is.1 found.1 in
+    (text, more, is.0, whole, spelled, (escapes_first account is.0 spelled.0.0 sound).0 is.2)
 
 -- and what a step that asks for too much is refused for
 escape_refused : (account : Account) (text : List ℕ) (step : Step) (refusal : Refusal) → IsSoundState account.state
@@ -96,27 +109,12 @@ body_escapes rules_are roots steps rest refusal runs (inr (inr line)) =
           same.0 escapes.4) escapes.5 line.3,
     )
 
--- before the body, and after the end line, nothing is refused so
-front_never : (beginning : Beginning) (rest : List ℕ) (refusal : Refusal)
-    → ((text : List ℕ) → RefusesWhole beginning text refusal → refusal ≡ BoundsEscape → ⊥)
-    → Refuses beginning rest refusal → refusal ≡ BoundsEscape → ⊥
-front_never Nothing rest refusal whole (inl long) h = let is = long.1 in cc
-front_never Nothing rest refusal whole (inr (inl cut)) h = let is = cut.1 in cc
-front_never Nothing rest refusal whole (inr (inr line)) h = whole line.0 line.3 h
-front_never NoMode rest refusal whole (inl long) h = let is = long.1 in cc
-front_never NoMode rest refusal whole (inr (inl cut)) h = let is = cut.1 in cc
-front_never NoMode rest refusal whole (inr (inr line)) h = whole line.0 line.3 h
-front_never (Body rules_are roots steps) rest refusal whole (inl long) h = let is = long.1 in cc
-front_never (Body rules_are roots steps) rest refusal whole (inr (inl cut)) h = let is = cut.1 in cc
-front_never (Body rules_are roots steps) rest refusal whole (inr (inr line)) h = whole line.0 line.3 h
-front_never (Whole rules_are roots steps) rest refusal whole refused h = let is = refused.1 in cc
-
 fault_escapes : (beginning : Beginning) (rest : List ℕ) (refusal : Refusal) → IsAccepted beginning → Refuses beginning rest refusal
     → (refusal ≡ BoundsEscape) ↔ FaultEscapes beginning rest
 fault_escapes Nothing rest refusal accepted refused =
-    (front_never Nothing rest refusal (λ text whole h. let is = whole.1 in cc) refused, λ none. absurd none)
+    (λ h. never_front rest refusal _ (ap is_of_step h) (λ text whole. ap is_of_step whole.1) refused, λ none. absurd none)
 fault_escapes NoMode rest refusal accepted refused =
-    (front_never NoMode rest refusal (λ text whole h. let is = whole.1 in cc) refused, λ none. absurd none)
+    (λ h. never_front rest refusal _ (ap is_of_step h) (λ text whole. ap is_of_step whole.1) refused, λ none. absurd none)
 fault_escapes (Body rules_are roots steps) rest refusal accepted refused = body_escapes rules_are roots steps rest refusal accepted refused
 fault_escapes (Whole rules_are roots steps) rest refusal accepted refused = (λ h. let is = refused.1 in cc, λ none. absurd none)
 
@@ -132,7 +130,3 @@ named verdict bytes = escapes_exactly bytes verdict
 pub names_escapes : {E : Type 0} (result : Result Verdict E) → IfOk result NamesEscapes
 names_escapes (Ok verdict) = named verdict
 names_escapes (Err fault) = tt
-
-pub escape_of : {E : Type 0} (bytes : List ℕ) (result : Result Verdict E) → IfOk result (EscapesExactly bytes)
-escape_of bytes (Ok verdict) = escapes_exactly bytes verdict
-escape_of bytes (Err fault) = tt

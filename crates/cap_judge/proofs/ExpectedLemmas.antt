@@ -1,6 +1,6 @@
 -- What the rules give for a step that is refused for its result.
-use Rattle.std.proofs.Common.{◌≡◌, ◌≢◌, ℕ, ℤ, ◌+◌, inl, inr, Bool, true, false, not, List, [], ◌∷◌, ◌++◌, length, map, refl, sym, ap, subst, ◌∙◌}
-use Rattle.std.proofs.Common.{Option, Some, None, append-nil, append_assoc, arith}
+use Rattle.std.proofs.Common.{◌≡◌, ◌≢◌, ℕ, ℤ, ◌+◌, inl, inr, Bool, true, false, not, List, [], ◌∷◌, ◌++◌, length, map, refl, sym, ap, subst}
+use Rattle.std.proofs.Common.{◌∙◌, Option, Some, None, append-nil, append_assoc, arith}
 use Rattle.std.specs.Prelude.{is_some, option_map}
 use Rattle.std.specs.Bool.{if◌then◌else◌}
 use Rattle.std.proofs.lemmas.Bool.{false≢true}
@@ -16,22 +16,21 @@ use Rattle.std.proofs.lemmas.List.Elements.{All-nil}
 use Rattle.cap_log.proofs.SpellingLemmas.{one_spelling}
 use Rattle.cap_log.specs.Lines.{Spells}
 use Rattle.cap_log.proofs.FrontLemmas.{IsLine-same, IsLine-not_too_long}
-use Rattle.cap_ops.specs.declared.faults.OpFault.{OpFault}
-use Rattle.cap_ops.specs.declared.faults.OpFault.TheVariants as faults
 use Rattle.cap_ops.specs.Operations.{cleared, clear_result}
 use Rattle.cap_ops.specs.Accesses.{access_tests}
 use Rattle.cap_ops.specs.declared.kinds.Kind.TheVariants.{LoadData}
-use Rattle.cap_ops.specs.Refusals.{refusal_of}
 use Rattle.cap_ops.specs.Tests.{first_of}
+use Rattle.cap_ops.proofs.TestLemmas.{first_of-append}
+use Rattle.cap_machine.proofs.EscapeLemmas.{never_wrong}
 use Rattle.cap_ops.specs.declared.refusal.Refusal.{Refusal}
 use Rattle.cap_ops.specs.declared.refusal.Refusal.TheVariants.{Misplaced, PlaceTaken, UnsoundRoot, WrongResult, LimitPassed, WrongCount}
-use Rattle.cap_ops.specs.declared.refusal.Refusal.TheVariants.{Truncated, LineTooLong}
-use Rattle.cap_ops.specs.declared.refusal.Refusal.TheVariants.{BadHeader, BadMode}
+use Rattle.cap_ops.specs.declared.refusal.Refusal.TheVariants.{Truncated, LineTooLong, BadHeader, BadMode}
 use Rattle.cap_machine.specs.declared.rules.Rules.{Rules}
 use Rattle.cap_machine.specs.declared.rules.Rules.TheVariants.{One, TwoStrict, TwoClear}
 use Rattle.cap_machine.specs.States.{State, DeclaredRoot, value_at}
-use Rattle.cap_machine.specs.Steps.{Access, Recorded, Row, Nothing as Unrecorded, Written, address_through, agrees, clear_row, is_recorded}
-use Rattle.cap_machine.specs.Steps.{row_by, row_of}
+use Rattle.cap_machine.specs.Steps.{Access, Recorded, Row, Nothing as Unrecorded, Written, address_through, agrees, clear_row, row_by}
+use Rattle.cap_machine.specs.Steps.{row_of}
+use Rattle.cap_machine.proofs.StepLemmas.{is_recorded}
 use Rattle.cap_machine.specs.Accounts.{Account, row_in, step_tests}
 use Rattle.cap_machine.specs.Helds.{Held, account_of}
 use Rattle.cap_judge.specs.declared.verdict.Expected.{Expected}
@@ -43,39 +42,15 @@ use Rattle.cap_judge.specs.Logs.{Beginning, Nothing, NoMode, Body, Whole, IsFirs
 use Rattle.cap_judge.specs.Logs.{IsAccepted, RunsBy, lines_of, text_of}
 use Rattle.cap_judge.specs.Judgings.{IsLastFront, account_before}
 use Rattle.cap_judge.specs.Verdicts.{IsYes}
-use Rattle.cap_judge.specs.Expectations.{Expects, IsExpected, GivesFor, GivesForText, given_for, given_in}
-use Rattle.cap_judge.specs.Expectations.{IfWritten, lost_for}
+use Rattle.cap_judge.specs.Expectations.{Expects, IsExpected, GivesFor, GivesForText, given_for, given_in, IfWritten, lost_for}
 use Rattle.cap_judge.specs.declared.beginning.Stage.{Stage}
 use Rattle.cap_judge.specs.declared.beginning.Stage.TheVariants as stages
 use Rattle.cap_judge.specs.Readings.{IsAtFault, IsFaultAt, IsRest, Known, Read}
+use Rattle.cap_judge.proofs.EscapeLaws.{is_of_step, is_step, never_front}
 use Rattle.cap_judge.proofs.OneVerdict.{one_verdict}
-use Rattle.cap_judge.proofs.JudgeLemmas.{IsUnended, refused_behind}
+use Rattle.cap_judge.proofs.JudgeLemmas.{IsUnended, fault_behind, front_refused, yes_of}
 use Rattle.cap_judge.proofs.ReadingLemmas.{account_stands, all_read}
 use Rattle.cap_judge.proofs.EndingLemmas.{fault_now}
-
--- no test of an operation is that of the result
-no_fault : (fault : OpFault) → refusal_of fault ≡ WrongResult → ⊥
-no_fault faults.SourceUntagged h = cc
-no_fault faults.SourceSealed h = cc
-no_fault faults.BoundsEscape h = cc
-no_fault faults.NotExact h = cc
-no_fault faults.NotRepresentable h = cc
-no_fault faults.AuthorityUntagged h = cc
-no_fault faults.AuthoritySealed h = cc
-no_fault faults.AuthorityPermission h = cc
-no_fault faults.AuthorityBounds h = cc
-no_fault faults.TypeOutOfRange h = cc
-no_fault faults.TypeMismatch h = cc
-no_fault faults.Misaligned h = cc
-no_fault faults.StoreCapPermission h = cc
-no_fault faults.StoreLocalPermission h = cc
-
-none_before : (tests : List (Bool × OpFault)) (rest : List (Bool × Refusal))
-    → first_of (map (λ test. (test.0, refusal_of test.1)) tests ++ rest) ≡ Some WrongResult
-    → (first_of tests ≡ None) × (first_of rest ≡ Some WrongResult)
-none_before [] rest h = (refl, h)
-none_before ((true, fault) ∷ tests) rest h = absurd (no_fault fault (same_Some _ _ h))
-none_before ((false, fault) ∷ tests) rest h = none_before tests rest h
 
 other_recorded : (recorded limit : Bool) → first_of ((not recorded, WrongResult) ∷ (limit, LimitPassed) ∷ [])
     ≡ Some WrongResult → recorded ≡ false
@@ -84,19 +59,19 @@ other_recorded true false h = cc
 other_recorded false limit h = refl
 
 -- no test of a step that is refused for its result holds, and its line records another
-pub free_of_tests : (account : Account) (step : Step) → first_of (step_tests account step) ≡ Some WrongResult
-    → first_of (row_in account step).tests ≡ None
-free_of_tests account step h = (none_before (row_in account step).tests _ h).0
-
-pub records_other : (account : Account) (step : Step) → first_of (step_tests account step) ≡ Some WrongResult
-    → is_recorded (row_in account step) ≡ false
-records_other account step h = other_recorded _ _ (none_before (row_in account step).tests _ h).1
+wrong : (account : Account) (step : Step) → first_of (step_tests account step) ≡ Some WrongResult
+    → (first_of (row_in account step).tests ≡ None) × (is_recorded (row_in account step) ≡ false)
+wrong account step h =
+    elim (first_of-append (row_in account step).tests _ WrongResult h) [
+      | inl found ↦ absurd (never_wrong account step found)
+      | inr last ↦ (last.0, other_recorded _ _ last.1)
+    ]
 
 -- where no test holds, the result of clear mode is that of strict rules
-kept_result : (tests : List (Bool × OpFault)) (writes : Option (Place × Cap)) → first_of tests ≡ None
+kept_result : (tests : List (Bool × Refusal)) (writes : Option (Place × Cap)) → first_of tests ≡ None
     → option_map (λ write. (write.0, clear_result tests write.1)) writes ≡ writes
 kept_result tests None none = refl
-kept_result tests (Some (place, cap)) none = ap (λ (o : Option OpFault). Some (place, if is_some o then cleared cap else cap)) none
+kept_result tests (Some (place, cap)) none = ap (λ (o : Option Refusal). Some (place, if is_some o then cleared cap else cap)) none
 
 kept_writes : (access : Option Access) (row : Row) → first_of row.tests ≡ None → (clear_row access row).writes ≡ row.writes
 kept_writes None row none = kept_result row.tests row.writes none
@@ -130,7 +105,7 @@ operated : (account : Account) (step : Step) (recorded given : Cap) → (row_of 
     → (let row = row_of account.state step in option_map (λ (write : Place × Cap). write.1) (clear_row row.access row).writes ≡ Some given)
     → GivesFor account step (Some (Capability given))
 operated account step recorded given is h =
-    λ wrong. by_rules account.rules (row_of account.state step) recorded given is (free_of_tests account step wrong) h
+    λ bad. by_rules account.rules (row_of account.state step) recorded given is (wrong account step bad).0 h
 
 -- what the rules give for a step that writes a register
 abbrev pub IsNoStore : Step → Type 0
@@ -147,7 +122,7 @@ no_store (steps.Load authority offset size value) a b c = b authority offset siz
 no_store (steps.Store authority offset size value) a b c = c authority offset size value refl
 no_store step a b c = tt
 
-pub gives_capability : (account : Account) (step : Step) (given : Cap) (fault : Option OpFault) → IsNoStore step
+pub gives_capability : (account : Account) (step : Step) (given : Cap) (fault : Option Refusal) → IsNoStore step
     → (let row = row_of account.state step in
     let cleared_row = clear_row row.access row in
     IfWritten row.records ((option_map (λ (write : Place × Cap). write.1) cleared_row.writes ≡ Some given)
@@ -171,9 +146,7 @@ gives_capability account (steps.Unseal target source authority recorded) given f
     operated account (steps.Unseal target source authority recorded) recorded given refl is.0
 gives_capability account (steps.LoadCap target authority offset recorded) given fault kind is =
     operated account (steps.LoadCap target authority offset recorded) recorded given refl is.0
-gives_capability account (steps.StoreCap source authority offset) given fault kind is = absurd kind
-gives_capability account (steps.Store authority offset size value) given fault kind is = absurd kind
-gives_capability account (steps.Load authority offset size value) given fault kind is = absurd kind
+gives_capability account step given fault kind is = absurd kind
 
 -- a store records nothing
 stores : (rules_are : Rules) (row : Row) → row.records ≡ Unrecorded → is_recorded (row_by rules_are row) ≡ true
@@ -184,7 +157,7 @@ stores TwoClear row none =
 
 pub nothing_recorded : (account : Account) (step : Step) → (row_of account.state step).records ≡ Unrecorded → GivesFor account step None
 nothing_recorded account step none =
-    λ h. false≢true (sym (records_other account step h) ∙ stores account.rules (row_of account.state step) none)
+    λ h. false≢true (sym (wrong account step h).1 ∙ stores account.rules (row_of account.state step) none)
 
 -- a load
 load_tests : (rules_are : Rules) (state : State) (authority : ℕ) (offset : ℤ) (size value : ℕ)
@@ -198,19 +171,7 @@ pub load_allowed : (account : Account) (authority : ℕ) (offset : ℤ) (size va
     → first_of (access_tests (account.state authority) LoadData offset size) ≡ None
 load_allowed account authority offset size value h =
     ap first_of (sym (load_tests account.rules account.state authority offset size value))
-    ∙ free_of_tests account (steps.Load authority offset size value) h
-
-load_by : (rules_are : Rules) (state : State) (authority : ℕ) (offset : ℤ) (size value : ℕ)
-    → given_in (row_by rules_are (row_of state (steps.Load authority offset size value)))
-    ≡ Some (Number (value_at state (address_through state authority offset) size) size)
-load_by One state authority offset size value = refl
-load_by TwoStrict state authority offset size value = refl
-load_by TwoClear state authority offset size value = refl
-
-pub load_gives : (account : Account) (authority : ℕ) (offset : ℤ) (size value : ℕ)
-    → given_in (row_in account (steps.Load authority offset size value))
-    ≡ Some (Number (value_at account.state (address_through account.state authority offset) size) size)
-load_gives account authority offset size value = load_by account.rules account.state authority offset size value
+    ∙ (wrong account (steps.Load authority offset size value) h).0
 
 pub stored_cap : (account : Account) (step : Step) (source authority : ℕ) (offset : ℤ) → step ≡ steps.StoreCap source authority offset
     → GivesFor account step None
@@ -240,11 +201,11 @@ for_text account text step result spells gives other spelled =
 cut_off : (beginning : Beginning) → IsAccepted beginning → IsUnended beginning → (line : ℕ)
     → IsFirstFault (text_of (lines_of beginning)) line WrongResult → ⊥
 cut_off beginning accepted goes line fault =
-    let n = length (lines_of beginning) + 1 in
+    let text = text_of (lines_of beginning) in
     let cut : IsCut [] = (omega arith, All-nil (λ b. b ≢ 10)) in
-    let here = refused_behind (text_of (lines_of beginning)) [] beginning n Truncated
-    (record { bytes_are = sym (append-nil (text_of (lines_of beginning))); accepted = accepted }) refl goes (inr (inl (cut, refl))) in
-    let same = one_verdict (text_of (lines_of beginning)) (No n Truncated) (No line WrongResult) here fault in
+    let here = fault_behind text [] beginning Truncated (record { bytes_are = sym (append-nil text); accepted = accepted })
+    (front_refused beginning [] Truncated goes (inr (inl (cut, refl)))) in
+    let same = one_verdict text (No (length (lines_of beginning) + 1) Truncated) (No line WrongResult) here fault in
     cc
 
 nothing_wrong : (beginning : Beginning) → IsAccepted beginning → (line : ℕ)
@@ -253,14 +214,7 @@ nothing_wrong Nothing accepted line fault = cut_off Nothing accepted tt line fau
 nothing_wrong NoMode accepted line fault = cut_off NoMode accepted tt line fault
 nothing_wrong (Body rules_are roots steps_are) accepted line fault = cut_off (Body rules_are roots steps_are) accepted tt line fault
 nothing_wrong (Whole rules_are roots steps_are) accepted line fault =
-    let yes : IsYes (text_of (lines_of (Whole rules_are roots steps_are))) (length steps_are) (length roots) = record {
-      rules = rules_are;
-      roots = roots;
-      steps = steps_are;
-      log = record { bytes_are = refl; runs = accepted };
-      step_count_is = refl;
-      root_count_is = refl;
-    } in
+    let yes = yes_of (text_of (lines_of (Whole rules_are roots steps_are))) rules_are roots steps_are refl accepted in
     let same = one_verdict _ (Yes (length steps_are) (length roots)) (No line WrongResult) yes fault in
     cc
 
@@ -281,27 +235,6 @@ text_is rest text line more (inl long) whole = absurd (IsLine-not_too_long rest 
 text_is rest text line more (inr (inl cut)) whole = absurd (false≢true cut.1.1)
 text_is rest text line more (inr (inr front)) whole = front.3 ∙ (IsLine-same rest front.0 front.1 line more front.2 whole).0
 
--- no line but a step is refused so
-no_root_test : (a b c d : Bool) → first_of ((a, Misplaced) ∷ (b, PlaceTaken) ∷ (c, UnsoundRoot) ∷ (d, LimitPassed) ∷ []) ≡ Some WrongResult
-    → ⊥
-no_root_test true b c d h = cc
-no_root_test false true c d h = cc
-no_root_test false false true d h = cc
-no_root_test false false false true h = cc
-no_root_test false false false false h = cc
-
-no_end_test : (a : Bool) → first_of ((a, WrongCount) ∷ []) ≡ Some WrongResult → ⊥
-no_end_test true h = cc
-no_end_test false h = cc
-
-is_step : (account : Account) (line : Line) → first_of (line_tests account line) ≡ Some WrongResult
-    → (step : Step) × (line ≡ lines.Step step) × (first_of (step_tests account step) ≡ Some WrongResult)
-is_step account (lines.Version version) h = absurd cc
-is_step account (lines.Mode mode) h = absurd cc
-is_step account (lines.Root place word) h = absurd (no_root_test _ _ _ _ h)
-is_step account (lines.Step step) h = (step, refl, h)
-is_step account (lines.End count) h = absurd (no_end_test _ h)
-
 -- what is given for it
 given_at : (account : Account) (step : Step) (bytes : List ℕ) (result : Option Expected)
     → ((expected : Expected) → given_in (row_in account step) ≡ Some expected → IsExpected bytes expected)
@@ -319,7 +252,7 @@ body_expects rules_are roots steps_are rest bytes text result is runs (inr (inr 
     absurd (let bad = none.1 in cc)
 body_expects rules_are roots steps_are rest bytes text result is runs (inr (inr (line, more, whole, inr found))) front gives =
     let account = account_after rules_are roots steps_are in
-    let one = is_step account found.0 found.2 in
+    let one = is_step account found.0 WrongResult refl found.2 in
     let spells = subst (Spells line) one.1 found.1.0 in
     given_at account one.0 bytes result
     (λ expected given. record {
@@ -340,19 +273,13 @@ body_expects rules_are roots steps_are rest bytes text result is runs (inr (inr 
     one.2 (gives one.0 (subst (λ (t : List ℕ). Spells t (lines.Step one.0)) (sym (text_is rest text line more front whole)) spells))
 
 -- before the body, and after the end line, nothing is refused so
-never_before : (rest : List ℕ) (refusal : Refusal) (P : List ℕ → Type 0) → (refusal ≡ WrongResult → ⊥)
-    → ((text : List ℕ) → P text → refusal ≡ WrongResult) → FrontIs rest (WrongResult ≡ LineTooLong) (WrongResult ≡ Truncated) P → ⊥
-never_before rest refusal P other whole (inl long) = let bad = long.1 in cc
-never_before rest refusal P other whole (inr (inl cut)) = let bad = cut.1 in cc
-never_before rest refusal P other whole (inr (inr line)) = other (whole line.0 line.3)
-
 by_beginning : (held : Held) (beginning : Beginning) (rest bytes text : List ℕ) (result : Option Expected)
     → account_of held ≡ account_before beginning → bytes ≡ text_of (lines_of beginning) ++ rest → IsAccepted beginning
     → Refuses beginning rest WrongResult → IsLastFront rest false text → GivesForText (account_of held) text result → Expects bytes result
 by_beginning held Nothing rest bytes text result account is accepted refused front gives =
-    absurd (never_before rest BadHeader _ (λ h. cc) (λ text whole. sym whole.1) refused)
+    absurd (never_front rest WrongResult _ refl (λ text whole. ap is_of_step whole.1) refused)
 by_beginning held NoMode rest bytes text result account is accepted refused front gives =
-    absurd (never_before rest BadMode _ (λ h. cc) (λ text whole. sym whole.1) refused)
+    absurd (never_front rest WrongResult _ refl (λ text whole. ap is_of_step whole.1) refused)
 by_beginning held (Whole rules_are roots steps_are) rest bytes text result account is accepted refused front gives =
     absurd (let bad = refused.1 in cc)
 by_beginning held (Body rules_are roots steps_are) rest bytes text result account is accepted refused front gives =

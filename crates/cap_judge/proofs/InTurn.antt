@@ -11,9 +11,9 @@ use Rattle.cap_machine.specs.declared.rules.Rules.TheVariants.{One, TwoStrict, T
 use Rattle.cap_machine.specs.States.{DeclaredRoot}
 use Rattle.cap_machine.specs.Steps.{Leads}
 use Rattle.cap_machine.specs.Accounts.{Account, no_account, with_step, root_tests}
-use Rattle.cap_machine.proofs.AccountLemmas.{account_after-grows, first_of-none}
-use Rattle.cap_judge.specs.Logs.{Beginning, Nothing, NoMode, Body, Whole, header_lines, body_lines, lines_of}
-use Rattle.cap_judge.specs.Logs.{after_roots, account_after, RunsBy, IsAccepted, line_tests}
+use Rattle.cap_machine.proofs.AccountLemmas.{account_after-grows, first_of-none, after_roots}
+use Rattle.cap_judge.specs.Logs.{Beginning, Nothing, NoMode, Body, Whole, header_lines, body_lines, lines_of, account_after, RunsBy}
+use Rattle.cap_judge.specs.Logs.{IsAccepted, line_tests}
 use Rattle.cap_judge.specs.Turns.{Stage, Unread, Within, Reads, behind}
 use Rattle.cap_judge.proofs.BeginningLemmas.{accepted_in_range}
 use Rattle.cap_judge.proofs.LogLemmas.{after_roots-push, after_steps-push}

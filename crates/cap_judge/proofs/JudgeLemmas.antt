@@ -19,17 +19,19 @@ use Rattle.cap_machine.specs.States.{State, DeclaredRoot, start}
 use Rattle.cap_machine.specs.declared.rules.Rules.{Rules}
 use Rattle.cap_machine.specs.declared.rules.Rules.TheVariants.{One, TwoStrict, TwoClear}
 use Rattle.cap_machine.specs.Accounts.{Account, is_new}
-use Rattle.cap_machine.specs.Runs.{AreSound, IsRun, AuthorityNeverGrows, AccessesLieInside}
-use Rattle.cap_machine.proofs.AccountLemmas.{account_after-grows}
+use Rattle.cap_machine.specs.Runs.{AreSound, IsRun}
+use Rattle.cap_machine.proofs.AccessLemmas.{lie_inside}
+use Rattle.cap_machine.proofs.AuthorityLemmas.{one_root}
+use Rattle.cap_machine.proofs.EscapeLemmas.{clears_along}
 use Rattle.cap_judge.specs.declared.verdict.Verdict.{Verdict}
 use Rattle.cap_judge.specs.declared.verdict.Verdict.TheVariants.{Yes, No}
 use Rattle.cap_judge.specs.declared.verdict.JudgeFault.{JudgeFault}
 use Rattle.cap_judge.specs.declared.verdict.JudgeFault.TheVariants as faults
 use Rattle.cap_judge.specs.Logs.{Beginning, Nothing, NoMode, Body, Whole, header_lines, body_lines, lines_of, text_of, account_after}
-use Rattle.cap_judge.specs.Logs.{IsAccepted, SpellsBy, RefusesWhole, Refuses, IsFirstFault, MayLackMemory}
+use Rattle.cap_judge.specs.Logs.{IsAccepted, RunsBy, RefusesWhole, Refuses, IsFirstFault, MayLackMemory}
 use Rattle.cap_judge.specs.Logs.{IsLogOf, NamesNoGranules, named_by_line}
 use Rattle.cap_machine.specs.Escapes.{ClearsExactly}
-use Rattle.cap_judge.specs.Verdicts.{IsYes, IsGuarded, GuardsAuthority, IsFault}
+use Rattle.cap_judge.specs.Verdicts.{IsYes, IsGuarded, IsFault}
 use Rattle.cap_judge.specs.Judgings.{IsBehind}
 use Rattle.std.proofs.lemmas.List.{length_push}
 
@@ -61,16 +63,28 @@ front_refused NoMode rest refusal unended refused = refused
 front_refused (Body rules_are roots steps) rest refusal unended refused = refused
 front_refused (Whole rules_are roots steps) rest refusal unended refused = absurd unended
 
-pub refused_behind : (bytes rest : List ℕ) (beginning : Beginning) (line : ℕ) (refusal : Refusal) → IsBehind bytes beginning rest
-    → line ≡ length (lines_of beginning) + 1
-    → IsUnended beginning → RefusesFront beginning rest refusal → IsFirstFault bytes line refusal
-refused_behind bytes rest beginning line refusal here number unended refused = record {
+-- behind an accepted beginning the first line that is refused is the first fault
+pub fault_behind : (bytes rest : List ℕ) (beginning : Beginning) (refusal : Refusal) → IsBehind bytes beginning rest
+    → Refuses beginning rest refusal → IsFirstFault bytes (length (lines_of beginning) + 1) refusal
+fault_behind bytes rest beginning refusal here refused = record {
   beginning = beginning;
   rest = rest;
   bytes_are = here.bytes_are;
   accepted = here.accepted;
-  number_is = number;
-  refused = front_refused beginning rest refusal unended refused;
+  number_is = refl;
+  refused = refused;
+}
+
+-- a log whose steps have a run is a yes
+pub yes_of : (bytes : List ℕ) (rules_are : Rules) (roots : List DeclaredRoot) (steps : List Step)
+    → bytes ≡ text_of (lines_of (Whole rules_are roots steps)) → RunsBy rules_are roots steps → IsYes bytes (length steps) (length roots)
+yes_of bytes rules_are roots steps are runs = record {
+  rules = rules_are;
+  roots = roots;
+  steps = steps;
+  log = record { bytes_are = are; runs = runs };
+  step_count_is = refl;
+  root_count_is = refl;
 }
 
 -- a line that names no granule names none for the first time
@@ -113,33 +127,15 @@ behind_header One lines all = all.1
 behind_header TwoStrict lines all = all.1.1
 behind_header TwoClear lines all = all.1.1
 
--- every log is guarded, by the machine's laws of runs
-pub guarded : ((rules_are : Rules) (roots : List DeclaredRoot) (made : List Step) (states : List State) → AreSound roots
-    → AllByRecursion IsStepInRange made → IsRun rules_are (start roots) made states
-    → AuthorityNeverGrows roots made states)
-    → ((rules_are : Rules) (roots : List DeclaredRoot) (made : List Step) (states : List State) → AreSound roots
-    → AllByRecursion IsStepInRange made → IsRun rules_are (start roots) made states
-    → AccessesLieInside roots made states)
-    → (bytes : List ℕ) → IsGuarded bytes
-guarded grows inside bytes rules_are roots made states log run =
+-- every log is guarded, and clears tags, as its runs do
+pub guarded : (bytes : List ℕ) → IsGuarded bytes
+guarded bytes rules_are roots made states log run =
     let sound = are_sound roots log.runs.sound in
     let in_range = steps_in_range roots made (behind_header rules_are _ log.runs.grammar) in
-    (grows rules_are roots made states sound in_range run, inside rules_are roots made states sound in_range run)
+    (one_root rules_are roots made states sound in_range run, lie_inside rules_are roots made states sound in_range run)
 
--- and clears tags as runs do
-pub cleared_along : ((rules_are : Rules) (roots : List DeclaredRoot) (made : List Step) (states : List State) → AreSound roots
-    → AllByRecursion IsStepInRange made → IsRun rules_are (start roots) made states → ClearsExactly rules_are roots made states)
-    → (bytes : List ℕ) (rules_are : Rules) (roots : List DeclaredRoot) (made : List Step) (states : List State)
-    → IsLogOf bytes rules_are roots made
-    → IsRun rules_are (start roots) made states → ClearsExactly rules_are roots made states
-cleared_along clears bytes rules_are roots made states log run =
-    clears rules_are roots made states (are_sound roots log.runs.sound) (steps_in_range roots made
+pub cleared_along : (bytes : List ℕ) (rules_are : Rules) (roots : List DeclaredRoot) (made : List Step) (states : List State)
+    → IsLogOf bytes rules_are roots made → IsRun rules_are (start roots) made states → ClearsExactly rules_are roots made states
+cleared_along bytes rules_are roots made states log run =
+    clears_along rules_are roots made states (are_sound roots log.runs.sound) (steps_in_range roots made
     (behind_header rules_are _ log.runs.grammar)) run
-
-pub guards : (bytes : List ℕ) → IsGuarded bytes → (verdict : Verdict) → GuardsAuthority bytes verdict
-guards bytes all (Yes steps roots) = all
-guards bytes all (No line refusal) = tt
-
-pub guards_all : (bytes : List ℕ) → IsGuarded bytes → (result : Result Verdict JudgeFault) → IfOk result (GuardsAuthority bytes)
-guards_all bytes all (Ok verdict) = guards bytes all verdict
-guards_all bytes all (Err fault) = tt

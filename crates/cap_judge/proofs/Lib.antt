@@ -4,7 +4,7 @@ mod NextLemmas
 mod AnswerLemmas
 mod TakingLemmas
 mod StreamLemmas
-mod JudgeLemmas
+pub mod JudgeLemmas
 mod VersionLemmas
 pub mod EscapeLaws
 pub mod SourceLemmas

@@ -16,7 +16,8 @@ use Rattle.cap_machine.specs.declared.rules.Rules.{Rules}
 use Rattle.cap_machine.specs.Accounts.{Account, with_root, with_step}
 use Rattle.cap_machine.specs.Runs.{IsRun, last_of}
 use Rattle.cap_machine.proofs.OriginLemmas.{last_after}
-use Rattle.cap_judge.specs.Logs.{RunsBy, header_lines, body_lines, account_after, after_roots, after_steps}
+use Rattle.cap_judge.specs.Logs.{RunsBy, header_lines, body_lines, account_after}
+use Rattle.cap_machine.proofs.AccountLemmas.{after_roots, after_steps}
 
 tag_of_choice : (b : Bool) (x y : Cap) (any : Bool) → x.tag ≡ true → y.tag ≡ any → (if b then x else y).tag ≡ (b || any)
 tag_of_choice true x y any h k = h
@@ -45,8 +46,7 @@ pub IsRun-push : (rules : Rules) (state : State) (steps : List steps_module.Step
 IsRun-push rules state [] [] step next run leads = (leads, tt)
 IsRun-push rules state (first ∷ steps) (middle ∷ states) step next run leads =
     (run.0, IsRun-push rules middle steps states step next run.1 leads)
-IsRun-push rules state [] (middle ∷ states) step next run leads = absurd run
-IsRun-push rules state (first ∷ steps) [] step next run leads = absurd run
+IsRun-push rules state steps states step next run leads = absurd run
 
 -- a run of accepted roots and steps ends in the state of their account
 pub last_state : (rules : Rules) (roots : List DeclaredRoot) (steps : List steps_module.Step) (runs : RunsBy rules roots steps)

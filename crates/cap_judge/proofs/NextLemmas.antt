@@ -1,7 +1,6 @@
 -- A log with one root or one step more, of which no test holds, runs too.
-use Rattle.std.proofs.Common.{◌≡◌, ℕ, ◌+◌, ◌^◌, ◌<◌, ◌≤◌, Bool, true, false, not, ◌&&◌, ◌||◌}
-use Rattle.std.proofs.Common.{nat_eq, nat_le, List, [], ◌∷◌, ◌++◌, map, refl, sym, ap, subst, ◌∙◌, arith}
-use Rattle.std.proofs.Common.{lit≤, inl, inr, Some, None, Option, IsTrue}
+use Rattle.std.proofs.Common.{◌≡◌, ℕ, ◌+◌, ◌^◌, ◌<◌, ◌≤◌, Bool, true, false, not, ◌&&◌, ◌||◌, nat_eq, nat_le, List, [], ◌∷◌, ◌++◌, map}
+use Rattle.std.proofs.Common.{refl, sym, ap, subst, ◌∙◌, arith, lit≤, inl, inr, Some, None, Option, IsTrue}
 use Rattle.std.specs.Bool.{if◌then◌else◌}
 use Rattle.std.specs.List.{AllByRecursion, IsDistinct}
 use Rattle.std.proofs.lemmas.Bool.{leb-false, not-false, or_parts}
@@ -13,32 +12,23 @@ use Rattle.cap_log.specs.declared.lines.Line.TheVariants.{Root, Step}
 use Rattle.cap_log.specs.declared.lines.Step as steps_module
 use Rattle.cap_log.specs.Lines.{IsInRange, IsStepInRange, IsPlace}
 use Rattle.cap_ops.specs.Tests.{first_of}
-use Rattle.cap_ops.proofs.TestLemmas.{none_hold}
-use Rattle.cap_ops.specs.declared.faults.OpFault.{OpFault}
-use Rattle.cap_ops.specs.Refusals.{refusal_of}
+use Rattle.cap_ops.proofs.TestLemmas.{first_of-append_free, none_hold}
 use Rattle.cap_ops.specs.declared.refusal.Refusal.TheVariants.{WrongResult, LimitPassed}
 use Rattle.cap_machine.specs.declared.rules.Rules.{Rules}
 use Rattle.cap_machine.specs.declared.rules.Rules.TheVariants.{One, TwoStrict, TwoClear}
 use Rattle.cap_machine.specs.States.{State, DeclaredRoot, key_of, start}
-use Rattle.cap_machine.specs.Steps.{Leads, Row, is_recorded}
-use Rattle.cap_machine.specs.Accounts.{Account, no_account, most_roots, most_granules, most_steps, granule_of, named_by}
-use Rattle.cap_machine.specs.Accounts.{row_in, passes_granule_limit, naming, with_root, with_step, root_tests}
-use Rattle.cap_machine.specs.Accounts.{row_tests, step_tests}
+use Rattle.cap_machine.specs.Steps.{Leads, Row}
+use Rattle.cap_machine.proofs.StepLemmas.{is_recorded}
+use Rattle.cap_machine.specs.Accounts.{Account, no_account, most_roots, most_granules, most_steps, granule_of, named_by, row_in}
+use Rattle.cap_machine.specs.Accounts.{passes_granule_limit, naming, with_root, with_step, root_tests, step_tests}
+use Rattle.cap_machine.proofs.MadeLemmas.{ending}
 use Rattle.cap_machine.proofs.OriginLemmas.{roots_start}
-use Rattle.cap_machine.proofs.AccountLemmas.{account_after-grows}
-use Rattle.cap_judge.specs.Logs.{account_after, after_roots, body_lines}
-use Rattle.cap_judge.specs.Logs.{RunsBy}
-use Rattle.cap_judge.proofs.LogLemmas.{IsDistinct-push, tag-start, IsRun-push}
-use Rattle.cap_judge.proofs.LogLemmas.{last_state, map-push, steps_push, roots_push, list_any-map}
+use Rattle.cap_machine.proofs.AccountLemmas.{account_after-grows, after_roots}
+use Rattle.cap_judge.specs.Logs.{account_after, body_lines, RunsBy}
+use Rattle.cap_judge.proofs.LogLemmas.{IsDistinct-push, tag-start, IsRun-push, last_state, map-push, steps_push, roots_push, list_any-map}
 use Rattle.cap_judge.proofs.LogLemmas.{after_roots-push, after_steps-push}
 use Rattle.std.proofs.lemmas.List.{length_push}
 use Rattle.cap_log.proofs.ElementLemmas.{AllByRecursion-append}
-
--- where no test of two lists holds, none of the second does
-none_after : {F : Type 0} (xs ys : List (Bool × F)) → first_of (xs ++ ys) ≡ None → first_of ys ≡ None
-none_after [] ys h = h
-none_after ((true, fault) ∷ xs) ys h = absurd (none-some fault (sym h))
-none_after ((false, fault) ∷ xs) ys h = none_after xs ys h
 
 -- naming a granule within the limit keeps to it
 few_named : (named : Bool) (granules most : ℕ) → (not named && nat_le most granules) ≡ false → granules ≤ most
@@ -53,41 +43,22 @@ naming_few account None within few = few
 naming_few account (Some granule) within few =
     few_named (account.is_named granule) account.granules (most_granules account.rules) within few
 
--- and none of the first
-none_before : {F : Type 0} (xs ys : List (Bool × F)) → first_of (xs ++ ys) ≡ None → first_of xs ≡ None
-none_before [] ys h = refl
-none_before ((true, fault) ∷ xs) ys h = absurd (none-some fault (sym h))
-none_before ((false, fault) ∷ xs) ys h = none_before xs ys h
-
--- tests by other names
-none_named : {F G : Type 0} (name : F → G) (tests : List (Bool × F))
-    → first_of (map (λ (test : Bool × F). (test.0, name test.1)) tests) ≡ None → first_of tests ≡ None
-none_named name [] h = refl
-none_named name ((true, fault) ∷ tests) h = absurd (none-some (name fault) (sym h))
-none_named name ((false, fault) ∷ tests) h = none_named name tests h
-
--- what the last test of a step says where it doesn't hold
-step_within : (account : Account) (row : Row) → first_of (row_tests account row) ≡ None
-    → (nat_le most_steps account.steps ≡ false) × (passes_granule_limit account (named_by row) ≡ false)
-step_within account row free =
+-- no test of a step's row holds where none of its tests does, and neither does one of the last two
+rest_free : (account : Account) (step : steps_module.Step) → first_of (step_tests account step) ≡ None
+    → (let row = row_in account step in (first_of row.tests ≡ None) × (is_recorded row ≡ true)
+    × (nat_le most_steps account.steps ≡ false) × (passes_granule_limit account (named_by row) ≡ false))
+rest_free account step free =
+    let row = row_in account step in
+    let both = first_of-append_free row.tests _ free in
     let limit = nat_le most_steps account.steps || passes_granule_limit account (named_by row) in
-    let last = (not (is_recorded row), WrongResult) ∷ (limit, LimitPassed) ∷ [] in
-    let free_last = none_hold last (none_after (map (λ (test : Bool × OpFault). (test.0, refusal_of test.1)) row.tests) last free) in
-    or_parts _ _ free_last.1.0
+    let last = none_hold (ending (is_recorded row) limit) both.1 in
+    let limits = or_parts _ _ last.1.0 in (both.0, not-false _ last.0, limits.0, limits.1)
 
--- a step of which no test holds leads to the state of its account
+-- it leads to the state of its account
 pub leads_on : (account : Account) (step : steps_module.Step) → first_of (step_tests account step) ≡ None
     → Leads account.rules account.state step (with_step account step).state
 leads_on account step free =
-    let row = row_in account step in
-    let limit = nat_le most_steps account.steps || passes_granule_limit account (named_by row) in
-    let last = (not (is_recorded row), WrongResult) ∷ (limit, LimitPassed) ∷ [] in
-    let before = map (λ (test : Bool × OpFault). (test.0, refusal_of test.1)) row.tests in
-    record {
-      allowed = none_named refusal_of row.tests (none_before before last free);
-      recorded = not-false _ (none_hold last (none_after before last free)).0;
-      after = refl;
-    }
+    let rest = rest_free account step free in record { allowed = rest.0; recorded = rest.1; after = refl }
 
 -- a run goes on by a step of which no test holds
 pub step_runs : (rules_are : Rules) (roots : List DeclaredRoot) (steps : List steps_module.Step) (step : steps_module.Step) (next : State)
@@ -96,12 +67,12 @@ pub step_runs : (rules_are : Rules) (roots : List DeclaredRoot) (steps : List st
 step_runs rules_are roots steps step next runs range free leads =
     let account = account_after rules_are roots steps in
     let grown = account_after-grows rules_are roots steps in
-    let within = step_within account (row_in account step) free in
-    let few : account.steps < most_steps = leb-false most_steps account.steps within.0 in
+    let rest = rest_free account step free in
+    let few : account.steps < most_steps = leb-false most_steps account.steps rest.2 in
     let counted = grown.steps_are in
     let few_old = subst (λ (r : Rules). account.granules ≤ most_granules r) (sym grown.rules_stay) runs.few_granules in
     let few_new = subst (λ (r : Rules). (with_step account step).granules ≤ most_granules r) grown.rules_stay
-    (naming_few account (named_by (row_in account step)) within.1 few_old) in
+    (naming_few account (named_by (row_in account step)) rest.3 few_old) in
     let after = after_steps-push (after_roots (no_account rules_are) roots) steps step in
     let led = subst (λ (s : State). Leads rules_are s step next) (sym (last_state rules_are roots steps runs)) leads in
     record {
@@ -160,11 +131,6 @@ header_in_range One = (inl refl, tt)
 header_in_range TwoStrict = (inr refl, (tt, tt))
 header_in_range TwoClear = (inr refl, (tt, tt))
 
-no_granules : (rules_are : Rules) → 0 ≤ most_granules rules_are
-no_granules One = lit≤ tt
-no_granules TwoStrict = lit≤ tt
-no_granules TwoClear = lit≤ tt
-
 pub no_roots : (rules_are : Rules) → RunsBy rules_are [] []
 unfolding IsDistinct
 no_roots rules_are = record {
@@ -172,7 +138,7 @@ no_roots rules_are = record {
   distinct = tt;
   sound = tt;
   few_roots = lit≤ tt;
-  few_granules = no_granules rules_are;
+  few_granules = omega arith;
   few_steps = lit≤ tt;
   run = ([], tt);
 }

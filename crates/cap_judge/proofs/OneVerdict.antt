@@ -1,6 +1,6 @@
 -- No bytes have two verdicts: each verdict comes from a reading of the bytes that stops.
-use Rattle.std.proofs.Common.{◌≡◌, ℕ, ◌+◌, ◌≤◌, inl, inr, true, not, nat_eq, List, [], ◌∷◌, ◌++◌, length, map, refl}
-use Rattle.std.proofs.Common.{sym, ap, subst, ◌∙◌, append-nil, arith, eq-eqb, IsTrue}
+use Rattle.std.proofs.Common.{◌≡◌, ℕ, ◌+◌, ◌≤◌, inl, inr, true, not, nat_eq, List, [], ◌∷◌, ◌++◌, length, map, refl, sym, ap, subst, ◌∙◌}
+use Rattle.std.proofs.Common.{append-nil, arith, eq-eqb, IsTrue}
 use Rattle.std.specs.List.{AllByRecursion, IsDistinct}
 use Rattle.std.proofs.lemmas.Bool.{false≢true, cond-false, eqb-false, false_from_ne_true, le-ltb}
 use Rattle.std.proofs.lemmas.Bool.Decides.{eqb_tells}
@@ -12,22 +12,21 @@ use Rattle.cap_log.specs.declared.lines.Step as steps_module
 use Rattle.cap_ops.specs.declared.refusal.Refusal.{Refusal}
 use Rattle.cap_machine.specs.declared.rules.Rules.{Rules}
 use Rattle.cap_machine.specs.declared.rules.Rules.TheVariants.{One, TwoStrict, TwoClear}
-use Rattle.cap_machine.specs.States.{State, DeclaredRoot, null_state, key_of, tagged}
+use Rattle.cap_machine.specs.States.{State, DeclaredRoot, start, key_of, tagged}
 use Rattle.cap_machine.specs.Steps.{Leads}
 use Rattle.cap_machine.specs.Accounts.{Account, no_account, most_roots, most_granules, most_steps, with_root, with_step}
 use Rattle.cap_machine.specs.Runs.{IsRun}
 use Rattle.cap_machine.proofs.AccountLemmas.{with_root-grows, with_step-grows, after_roots-grows, after_steps-grows, account_after-grows}
-use Rattle.cap_machine.proofs.AccountLemmas.{first_of-none, root_free, step_free}
+use Rattle.cap_machine.proofs.AccountLemmas.{first_of-none, root_free, step_free, after_roots, after_steps}
 use Rattle.cap_machine.proofs.OriginLemmas.{keys, IsFree, roots_start}
 use Rattle.cap_judge.specs.declared.verdict.Verdict.{Verdict}
 use Rattle.cap_judge.specs.declared.verdict.Verdict.TheVariants.{Yes, No}
-use Rattle.cap_judge.specs.Logs.{Beginning, Nothing, NoMode, Body, Whole, header_lines, body_lines, lines_of, text_of}
-use Rattle.cap_judge.specs.Logs.{after_roots, after_steps, account_after, RunsBy, IsAccepted, has_form, line_tests}
-use Rattle.cap_judge.specs.Logs.{Refuses}
+use Rattle.cap_judge.specs.Logs.{Beginning, Nothing, NoMode, Body, Whole, header_lines, body_lines, lines_of, text_of, account_after}
+use Rattle.cap_judge.specs.Logs.{RunsBy, IsAccepted, has_form, line_tests, Refuses}
 use Rattle.cap_judge.specs.Verdicts.{IsVerdict}
 use Rattle.cap_judge.proofs.BeginningLemmas.{accepted_in_range}
-use Rattle.cap_judge.proofs.OneReading.{Stage, Unread, Versioned, Within, Ended, Reads, Answers, Reads-append}
-use Rattle.cap_judge.proofs.OneReading.{one_reading, answer_stops, one_answer}
+use Rattle.cap_judge.proofs.OneReading.{Stage, Unread, Versioned, Within, Ended, Reads, Answers, Reads-append, one_reading, answer_stops}
+use Rattle.cap_judge.proofs.OneReading.{one_answer}
 
 -- Distinct roots
 
@@ -111,7 +110,7 @@ body_read rules_are roots steps runs =
     let few_roots = runs.few_roots in
     let few_steps = runs.few_steps in
     let few_granules = runs.few_granules in
-    let free = λ (key : ℕ) (held : IsTrue (null_state key).tag). absurd (false≢true held) in
+    let free = λ (key : ℕ) (held : IsTrue (start [] key).tag). absurd (false≢true held) in
     let roots_are = roots_read rules_are first roots refl refl runs.distinct free runs.sound (omega arith) (omega arith) in
     let steps_are = steps_read rules_are rooted steps runs.run.0 by_roots.rules_stay run (omega arith) few_granules in
     Reads-append Unread (Within first) (Within last) (header_lines rules_are) _ (header_read rules_are)

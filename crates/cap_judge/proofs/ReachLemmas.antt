@@ -1,6 +1,6 @@
 -- What lines lead a machine to, step by step and root by root.
-use Rattle.std.proofs.Common.{◌≡◌, ℕ, ◌+◌, ◌^◌, ◌<◌, Bool, true, nat_lt, List, [], ◌∷◌, ◌++◌, map, refl, sym, ap, subst, ◌∙◌, arith}
-use Rattle.std.proofs.Common.{Some, None, append_assoc, append-nil}
+use Rattle.std.proofs.Common.{◌≡◌, ℕ, ◌+◌, ◌^◌, ◌<◌, Bool, true, nat_lt, List, [], ◌∷◌, ◌++◌, map, refl, sym, ap, subst, ◌∙◌, arith, Some}
+use Rattle.std.proofs.Common.{None, append_assoc, append-nil}
 use Rattle.std.proofs.lemmas.Bool.{lt-ltb}
 use Rattle.std.proofs.lemmas.List.{length_push}
 use Rattle.cap_word.specs.declared.word.Word.{Word}
@@ -20,10 +20,9 @@ use Rattle.cap_machine.specs.States.{State, DeclaredRoot}
 use Rattle.cap_machine.specs.Steps.{Leads}
 use Rattle.cap_machine.specs.Accounts.{Account, no_account, with_root, with_step, root_tests, step_tests}
 use Rattle.cap_machine.specs.Helds.{Held, Makes, EndsStep, TakesRoot, EndsRoot, state_of, account_of}
-use Rattle.cap_machine.proofs.AccountLemmas.{with_root-grows, with_step-grows, account_after-grows}
-use Rattle.cap_judge.specs.Logs.{has_form, after_roots, text_of}
-use Rattle.cap_judge.specs.Readings.{Reaches, EndsFor}
-use Rattle.cap_judge.specs.Readings.{EndsStepAt, TakesStep, TakesSteps}
+use Rattle.cap_machine.proofs.AccountLemmas.{with_root-grows, with_step-grows, account_after-grows, after_roots}
+use Rattle.cap_judge.specs.Logs.{has_form, text_of}
+use Rattle.cap_judge.specs.Readings.{Reaches, EndsFor, EndsStepAt, TakesStep, TakesSteps}
 use Rattle.cap_judge.proofs.JudgeLemmas.{text_push}
 use Rattle.cap_judge.proofs.NextLemmas.{step_runs, root_runs, no_roots}
 use Rattle.cap_judge.proofs.LogLemmas.{map-push, after_roots-push, after_steps-push}
@@ -88,23 +87,10 @@ root_on rules_are roots root old new reaches place_range word_range declares =
       steps_are = naming_steps old new root declares ∙ reaches.steps_are;
     }
 
--- a root that is not taken
-pub root_ended : (old new : Held) (place : Place) (word : Word) (end : StepEnd) → old.steps ≡ 0 → EndsRoot old place word end new
-    → EndsFor old (Root place word) end
-root_ended old new place word (Refused refusal) few ends =
-    ap (λ (n : ℕ). first_of ((nat_lt 0 n, Misplaced) ∷ root_tests (account_of old) place word)) few ∙ ends.0
-root_ended old new place word NoMemory few ends =
-    (ap (λ (n : ℕ). first_of ((nat_lt 0 n, Misplaced) ∷ root_tests (account_of old) place word)) few ∙ ends.0, ends.1)
-
-pub root_misplaced : (old : Held) (place : Place) (word : Word) → 0 < old.steps → EndsFor old (Root place word) (Refused Misplaced)
-root_misplaced old place word some =
-    ap (λ (b : Bool). first_of ((b, Misplaced) ∷ root_tests (account_of old) place word)) (lt-ltb 0 old.steps some)
-
 -- a step has a form by all rules
 pub step_formed : (rules_are : Rules) (step : steps_module.Step) → has_form rules_are (Step step) ≡ true
 step_formed One step = refl
-step_formed TwoStrict step = refl
-step_formed TwoClear step = refl
+step_formed rules_are step = refl
 
 -- a machine to which nothing was declared has reached a header's end
 pub header_reached : (held : Held) (rules_are : Rules) → account_of held ≡ no_account rules_are → Reaches held rules_are [] []

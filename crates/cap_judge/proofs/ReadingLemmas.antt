@@ -35,7 +35,7 @@ use Rattle.cap_judge.specs.Judgings.{IsBehind, IsLastFront, account_before}
 use Rattle.cap_judge.specs.Logs.{Beginning, Nothing, NoMode, Body, Whole, header_lines, body_lines, lines_of, text_of, has_form}
 use Rattle.cap_judge.specs.Logs.{SpellsBy, IsAccepted, Refuses, RefusesWhole, line_tests, named_by_line}
 use Rattle.cap_judge.specs.Readings.{EndsFor, Reaches}
-use Rattle.cap_judge.specs.Readings.{EndsAt, EndsBehind, EndsFrom, EndsStepAt, GoesOn, IsAfter, IsAtFault, IsFaultAt, IsRest, Known, Read}
+use Rattle.cap_judge.specs.Readings.{EndsAt, EndsBehind, EndsFrom, EndsStepAt, Faults, GoesOn, IsAfter, IsAtFault, IsFaultAt, IsRest, Known, Read}
 use Rattle.cap_judge.specs.Readings.{StopsAt, TakesSteps}
 use Rattle.cap_judge.proofs.JudgeLemmas.{IsUnended, front_refused, text_push}
 use Rattle.cap_judge.proofs.LogLemmas.{steps_push, roots_push}
@@ -52,18 +52,7 @@ accepted_after stages.Mode held NoMode after = tt
 accepted_after stages.Body held (Body rules_are roots steps) after = after.runs
 accepted_after stages.Ended held (Whole rules_are roots steps) after = after.runs
 accepted_after (stages.Refused fault) held beginning after = after.0
-accepted_after stages.Version held NoMode after = absurd after
-accepted_after stages.Version held (Body rules_are roots steps) after = absurd after
-accepted_after stages.Version held (Whole rules_are roots steps) after = absurd after
-accepted_after stages.Mode held Nothing after = absurd after
-accepted_after stages.Mode held (Body rules_are roots steps) after = absurd after
-accepted_after stages.Mode held (Whole rules_are roots steps) after = absurd after
-accepted_after stages.Body held Nothing after = absurd after
-accepted_after stages.Body held NoMode after = absurd after
-accepted_after stages.Body held (Whole rules_are roots steps) after = absurd after
-accepted_after stages.Ended held Nothing after = absurd after
-accepted_after stages.Ended held NoMode after = absurd after
-accepted_after stages.Ended held (Body rules_are roots steps) after = absurd after
+accepted_after stage held beginning after = absurd after
 
 pub account_stands : (stage : Stage) (held : Held) (beginning : Beginning) → IsAfter stage held beginning
     → account_of held ≡ account_before beginning
@@ -72,33 +61,16 @@ account_stands stages.Mode held NoMode after = after
 account_stands stages.Body held (Body rules_are roots steps) after = after.account
 account_stands stages.Ended held (Whole rules_are roots steps) after = after.account
 account_stands (stages.Refused fault) held beginning after = after.1
-account_stands stages.Version held NoMode after = absurd after
-account_stands stages.Version held (Body rules_are roots steps) after = absurd after
-account_stands stages.Version held (Whole rules_are roots steps) after = absurd after
-account_stands stages.Mode held Nothing after = absurd after
-account_stands stages.Mode held (Body rules_are roots steps) after = absurd after
-account_stands stages.Mode held (Whole rules_are roots steps) after = absurd after
-account_stands stages.Body held Nothing after = absurd after
-account_stands stages.Body held NoMode after = absurd after
-account_stands stages.Body held (Whole rules_are roots steps) after = absurd after
-account_stands stages.Ended held Nothing after = absurd after
-account_stands stages.Ended held NoMode after = absurd after
-account_stands stages.Ended held (Body rules_are roots steps) after = absurd after
+account_stands stage held beginning after = absurd after
 
 -- where no line is at fault, all that was read is the text of a beginning
 no_rest : (stage : Stage) (beginning : Beginning) (rest : List ℕ) → (IsAtFault stage → ⊥) → IsRest stage beginning rest → rest ≡ []
-no_rest stages.Version beginning rest clear is = is
-no_rest stages.Mode beginning rest clear is = is
-no_rest stages.Body beginning rest clear is = is
-no_rest stages.Ended beginning rest clear is = is
 no_rest (stages.Refused fault) beginning rest clear is = absurd (clear tt)
+no_rest stage beginning rest clear is = is
 
 nothing_behind : (stage : Stage) (beginning : Beginning) → (IsAtFault stage → ⊥) → IsRest stage beginning []
-nothing_behind stages.Version beginning clear = refl
-nothing_behind stages.Mode beginning clear = refl
-nothing_behind stages.Body beginning clear = refl
-nothing_behind stages.Ended beginning clear = refl
 nothing_behind (stages.Refused fault) beginning clear = absurd (clear tt)
+nothing_behind stage beginning clear = refl
 
 pub all_read : (known : Known) (bytes : List ℕ) (read : Read known bytes) → (IsAtFault known.stage → ⊥)
     → bytes ≡ text_of (lines_of read.beginning)
@@ -109,21 +81,24 @@ all_read known bytes read clear =
 
 -- a text of a beginning was read
 pub text_read : (known : Known) (beginning : Beginning) → (IsAtFault known.stage → ⊥) → IsAfter known.stage known.held beginning
-    → Read known (text_of (lines_of beginning))
-text_read known beginning clear after = record {
-  beginning = beginning;
-  rest = [];
-  behind = record {
-    bytes_are = sym (append-nil (text_of (lines_of beginning)));
-    accepted = accepted_after known.stage known.held beginning after;
-  };
-  after = after;
-  rest_is = nothing_behind known.stage beginning clear;
-}
+    → (read : Read known (text_of (lines_of beginning))) × (read.rest ≡ [])
+text_read known beginning clear after = (
+  record {
+    beginning = beginning;
+    rest = [];
+    behind = record {
+      bytes_are = sym (append-nil (text_of (lines_of beginning)));
+      accepted = accepted_after known.stage known.held beginning after;
+    };
+    after = after;
+    rest_is = nothing_behind known.stage beginning clear;
+  },
+  refl,
+)
 
 -- nothing was read
 pub nothing_read : (held : Held) → account_of held ≡ no_account One → Read (at stages.Version held) []
-nothing_read held account = text_read (at stages.Version held) Nothing (λ fault. fault) account
+nothing_read held account = (text_read (at stages.Version held) Nothing (λ fault. fault) account).0
 
 -- whatever beginning a judge was after, it is now after one with this text more
 abbrev pub Leads : Known → List ℕ → Known → Type 0
@@ -131,20 +106,29 @@ Leads old bytes new =
     (beginning : Beginning) → IsAfter old.stage old.held beginning
     → (next : Beginning) × IsAfter new.stage new.held next × (text_of (lines_of next) ≡ text_of (lines_of beginning) ++ bytes)
 
+-- what was read of the same bytes, with what stands behind the lines
+pub moved : (known : Known) (rest : List ℕ) {bytes same : List ℕ} → bytes ≡ same → (now : Read known bytes) × (now.rest ≡ rest)
+    → (now : Read known same) × (now.rest ≡ rest)
+moved known rest is read = subst (λ (b : List ℕ). (now : Read known b) × (now.rest ≡ rest)) is read
+
 pub led : (old new : Known) (bytes : List ℕ) → (IsAtFault old.stage → ⊥) → (IsAtFault new.stage → ⊥) → Leads old bytes new
     → GoesOn old bytes new
 led old new bytes clear still leads = λ before read.
     let next = leads read.beginning read.after in
-    subst (Read new) (next.2 ∙ ap (λ (b : List ℕ). b ++ bytes) (sym (all_read old before read clear))) (text_read new next.0 still next.1)
+    let now = text_read new next.0 still next.1 in
+    moved new read.rest (next.2 ∙ ap (λ (b : List ℕ). b ++ bytes) (sym (all_read old before read clear)))
+    (now.0, now.1 ∙ sym (no_rest old.stage read.beginning read.rest clear read.rest_is))
 
 -- nothing more, and more after more
 pub stays : (known : Known) → GoesOn known [] known
-stays known = λ before read. subst (Read known) (sym (append-nil before)) read
+stays known = λ before read. moved known read.rest (sym (append-nil before)) (read, refl)
 
 pub goes_further : (first old new : Known) (front bytes : List ℕ) → GoesOn first front old → GoesOn old bytes new
     → GoesOn first (front ++ bytes) new
 goes_further first old new front bytes so_far on = λ before read.
-    subst (Read new) (append_assoc before front bytes) (on (before ++ front) (so_far before read))
+    let so = so_far before read in
+    let then = on (before ++ front) so.0 in
+    moved new read.rest (append_assoc before front bytes) (then.0, then.1 ∙ so.1)
 
 -- one line more behind lines
 pushed : (before : List Line) (line : Line) → text_of (before ++ line ∷ []) ≡ text_of before ++ (spelling line ++ 10 ∷ [])
@@ -153,15 +137,11 @@ pushed before line = sym (append-nil (text_of (before ++ line ∷ []))) ∙ text
 -- the version line
 pub leads_one : (held : Held) → Leads (at stages.Version held) (spelling (lines.Version 1) ++ 10 ∷ []) (at stages.Body held)
 leads_one held Nothing after = (Body One [] [], header_reached held One after, pushed [] (lines.Version 1))
-leads_one held NoMode after = absurd after
-leads_one held (Body rules_are roots steps) after = absurd after
-leads_one held (Whole rules_are roots steps) after = absurd after
+leads_one held beginning after = absurd after
 
 pub leads_two : (held : Held) → Leads (at stages.Version held) (spelling (lines.Version 2) ++ 10 ∷ []) (at stages.Mode held)
 leads_two held Nothing after = (NoMode, after, pushed [] (lines.Version 2))
-leads_two held NoMode after = absurd after
-leads_two held (Body rules_are roots steps) after = absurd after
-leads_two held (Whole rules_are roots steps) after = absurd after
+leads_two held beginning after = absurd after
 
 -- the mode line
 mode_lines : (mode : Mode) → body_lines (rules_of mode) [] [] ≡ lines_of NoMode ++ lines.Mode mode ∷ []
@@ -180,9 +160,7 @@ leads_mode old new mode is NoMode after = (
   header_reached new (rules_of mode) (ruled old new (rules_of mode) after is),
   ap text_of (mode_lines mode) ∙ pushed (lines_of NoMode) (lines.Mode mode),
 )
-leads_mode old new mode is Nothing after = absurd after
-leads_mode old new mode is (Body rules_are roots steps) after = absurd after
-leads_mode old new mode is (Whole rules_are roots steps) after = absurd after
+leads_mode old new mode is beginning after = absurd after
 
 -- a line by which a body goes on
 pub leads_body : (old new : Held) (line : Line)
@@ -193,9 +171,7 @@ pub leads_body : (old new : Held) (line : Line)
 leads_body old new line on (Body rules_are roots steps) after =
     let next = on rules_are roots steps after in
     (Body rules_are next.0 next.1, next.2, ap text_of next.3 ∙ pushed (body_lines rules_are roots steps) line)
-leads_body old new line on Nothing after = absurd after
-leads_body old new line on NoMode after = absurd after
-leads_body old new line on (Whole rules_are roots steps) after = absurd after
+leads_body old new line on beginning after = absurd after
 
 -- the end line
 pub leads_end : (held : Held) (count : ℕ) → count ≡ held.steps
@@ -206,9 +182,7 @@ leads_end held count counted (Body rules_are roots steps) after = (
   ap (λ (n : ℕ). text_of (body_lines rules_are roots steps ++ lines.End n ∷ [])) (sym (counted ∙ after.steps_are))
       ∙ pushed (body_lines rules_are roots steps) (lines.End count),
 )
-leads_end held count counted Nothing after = absurd after
-leads_end held count counted NoMode after = absurd after
-leads_end held count counted (Whole rules_are roots steps) after = absurd after
+leads_end held count counted beginning after = absurd after
 
 -- lines of steps
 map-append : {X Y : Type 0} (f : X → Y) (xs ys : List X) → map f (xs ++ ys) ≡ map f xs ++ map f ys
@@ -234,9 +208,7 @@ leads_steps old new front taken (Body rules_are roots steps) after = (
   more_steps rules_are roots steps taken.made
       ∙ ap (λ (t : List ℕ). text_of (body_lines rules_are roots steps) ++ t) (sym taken.bytes_are),
 )
-leads_steps old new front taken Nothing after = absurd after
-leads_steps old new front taken NoMode after = absurd after
-leads_steps old new front taken (Whole rules_are roots steps) after = absurd after
+leads_steps old new front taken beginning after = absurd after
 
 -- The line at fault
 
@@ -244,18 +216,21 @@ leads_steps old new front taken (Whole rules_are roots steps) after = absurd aft
 pub fault_read : (old : Known) (fault : Fault) (bytes : List ℕ) → (IsAtFault old.stage → ⊥)
     → ((beginning : Beginning) → IsAfter old.stage old.held beginning → fault.line ≡ length (lines_of beginning) + 1)
     → IsLastFront bytes false (bytes_of fault.text) → EndsAt old bytes (ends.Refused fault.refusal)
-    → GoesOn old bytes (at (stages.Refused fault) old.held)
-fault_read old fault bytes clear number front refused = λ before read. record {
-  beginning = read.beginning;
-  rest = bytes;
-  behind = record { bytes_are = ap (λ (b : List ℕ). b ++ bytes) (all_read old before read clear); accepted = read.behind.accepted };
-  after = (read.behind.accepted, account_stands old.stage old.held read.beginning read.after);
-  rest_is = record {
-    line_is = number read.beginning read.after;
-    front = front;
-    refused = refused read.beginning read.after;
-  };
-}
+    → Faults old [] bytes (at (stages.Refused fault) old.held)
+fault_read old fault bytes clear number front refused = λ before read. (
+  record {
+    beginning = read.beginning;
+    rest = bytes;
+    behind = record { bytes_are = ap (λ (b : List ℕ). b ++ bytes) (all_read old before read clear); accepted = read.behind.accepted };
+    after = (read.behind.accepted, account_stands old.stage old.held read.beginning read.after);
+    rest_is = record {
+      line_is = number read.beginning read.after;
+      front = front;
+      refused = refused read.beginning read.after;
+    };
+  },
+  ap (λ (r : List ℕ). r ++ bytes) (sym (no_rest old.stage read.beginning read.rest clear read.rest_is)),
+)
 
 -- the front of bytes that no end cuts stays where more follow
 pub front_more : (rest more text : List ℕ) → IsLastFront rest false text → IsLastFront (rest ++ more) false text
@@ -272,22 +247,22 @@ rest_more (stages.Refused fault) beginning rest more at_fault is = record {
   refused =
       λ after. subst (λ (r : List ℕ). Refuses beginning r fault.refusal) (sym (append_assoc rest more after)) (is.refused (more ++ after));
 }
-rest_more stages.Version beginning rest more at_fault is = absurd at_fault
-rest_more stages.Mode beginning rest more at_fault is = absurd at_fault
-rest_more stages.Body beginning rest more at_fault is = absurd at_fault
-rest_more stages.Ended beginning rest more at_fault is = absurd at_fault
+rest_more stage beginning rest more at_fault is = absurd at_fault
 
-pub read_behind : (known : Known) (more : List ℕ) → IsAtFault known.stage → GoesOn known more known
-read_behind known more at_fault = λ before read. record {
-  beginning = read.beginning;
-  rest = read.rest ++ more;
-  behind = record {
-    bytes_are = ap (λ (b : List ℕ). b ++ more) read.behind.bytes_are ∙ append_assoc (text_of (lines_of read.beginning)) read.rest more;
-    accepted = read.behind.accepted;
-  };
-  after = read.after;
-  rest_is = rest_more known.stage read.beginning read.rest more at_fault read.rest_is;
-}
+pub read_behind : (known : Known) (more : List ℕ) → IsAtFault known.stage → Faults known [] more known
+read_behind known more at_fault = λ before read. (
+  record {
+    beginning = read.beginning;
+    rest = read.rest ++ more;
+    behind = record {
+      bytes_are = ap (λ (b : List ℕ). b ++ more) read.behind.bytes_are ∙ append_assoc (text_of (lines_of read.beginning)) read.rest more;
+      accepted = read.behind.accepted;
+    };
+    after = read.after;
+    rest_is = rest_more known.stage read.beginning read.rest more at_fault read.rest_is;
+  },
+  refl,
+)
 
 -- Lines that are not taken
 
@@ -300,16 +275,12 @@ refused_at bytes text rest beginning refusal goes whole refused more =
 pub version_ends : (held : Held) (bytes text rest : List ℕ) → IsLine bytes text rest
     → ((version : ℕ) → Spells text (lines.Version version) → ⊥) → EndsAt (at stages.Version held) bytes (ends.Refused BadHeader)
 version_ends held bytes text rest whole none Nothing after = refused_at bytes text rest Nothing BadHeader tt whole (none, refl)
-version_ends held bytes text rest whole none NoMode after = absurd after
-version_ends held bytes text rest whole none (Body rules_are roots steps) after = absurd after
-version_ends held bytes text rest whole none (Whole rules_are roots steps) after = absurd after
+version_ends held bytes text rest whole none beginning after = absurd after
 
 pub mode_ends : (held : Held) (bytes text rest : List ℕ) → IsLine bytes text rest
     → ((mode : Mode) → Spells text (lines.Mode mode) → ⊥) → EndsAt (at stages.Mode held) bytes (ends.Refused BadMode)
 mode_ends held bytes text rest whole none NoMode after = refused_at bytes text rest NoMode BadMode tt whole (none, refl)
-mode_ends held bytes text rest whole none Nothing after = absurd after
-mode_ends held bytes text rest whole none (Body rules_are roots steps) after = absurd after
-mode_ends held bytes text rest whole none (Whole rules_are roots steps) after = absurd after
+mode_ends held bytes text rest whole none beginning after = absurd after
 
 -- after the end line
 some-more : (bytes more : List ℕ) → bytes ≢ [] → bytes ++ more ≢ []
@@ -318,9 +289,7 @@ some-more (b ∷ bytes) more some = λ e. cc
 
 pub ended_ends : (held : Held) (bytes : List ℕ) → bytes ≢ [] → EndsAt (at stages.Ended held) bytes (ends.Refused Misplaced)
 ended_ends held bytes some (Whole rules_are roots steps) after = λ more. (some-more bytes more some, refl)
-ended_ends held bytes some Nothing after = absurd after
-ended_ends held bytes some NoMode after = absurd after
-ended_ends held bytes some (Body rules_are roots steps) after = absurd after
+ended_ends held bytes some beginning after = absurd after
 
 -- a line that has no form
 pub formless_ends : (held : Held) (bytes text rest : List ℕ) → IsLine bytes text rest
@@ -328,9 +297,7 @@ pub formless_ends : (held : Held) (bytes text rest : List ℕ) → IsLine bytes 
 formless_ends held bytes text rest whole none (Body rules_are roots steps) after =
     refused_at bytes text rest (Body rules_are roots steps) BadLine tt whole
     (inl (subst (λ (a : Account). (line : Line) → SpellsBy a.rules text line → ⊥) after.account none, refl))
-formless_ends held bytes text rest whole none Nothing after = absurd after
-formless_ends held bytes text rest whole none NoMode after = absurd after
-formless_ends held bytes text rest whole none (Whole rules_are roots steps) after = absurd after
+formless_ends held bytes text rest whole none beginning after = absurd after
 
 -- a line that a test refuses, or that wants memory
 line_ends : (held : Held) (bytes rest : List ℕ) (line : Line) (end : StepEnd) (rules_are : Rules) (roots : List DeclaredRoot)
@@ -367,9 +334,7 @@ pub body_ends : (held : Held) (line : Line) (end : StepEnd) → IsInRange line �
     → EndsFrom (at stages.Body held) line end
 body_ends held line end range formed found bytes rest whole (Body rules_are roots steps) after =
     line_ends held bytes rest line end rules_are roots steps after whole ((range, refl), formed) found
-body_ends held line end range formed found bytes rest whole Nothing after = absurd after
-body_ends held line end range formed found bytes rest whole NoMode after = absurd after
-body_ends held line end range formed found bytes rest whole (Whole rules_are roots steps) after = absurd after
+body_ends held line end range formed found bytes rest whole beginning after = absurd after
 
 -- a line at the front of some bytes
 pub known_line : (bytes rest : List ℕ) (line : Line) → IsInRange line → bytes ≡ spelling line ++ 10 ∷ rest → IsLine bytes (spelling line) rest
@@ -390,11 +355,9 @@ long_at bytes beginning long goes more = front_refused beginning (bytes ++ more)
 
 -- a stage before the end line
 abbrev pub IsUnendedAt : Stage → Type 0
-IsUnendedAt stages.Version = Unit {0}
-IsUnendedAt stages.Mode = Unit {0}
-IsUnendedAt stages.Body = Unit {0}
 IsUnendedAt stages.Ended = ⊥
 IsUnendedAt (stages.Refused fault) = ⊥
+IsUnendedAt stage = Unit {0}
 
 pub unended_after : (stage : Stage) (held : Held) (beginning : Beginning) → IsUnendedAt stage → IsAfter stage held beginning
     → IsUnended beginning

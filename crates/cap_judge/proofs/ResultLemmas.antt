@@ -11,12 +11,3 @@ pub err_part : {T E : Type 0} (P : Type 0) (r : Result T E) (Q X : E → Type 0)
     → IfErr r X
 err_part P (Ok v) Q X f h = tt
 err_part P (Err e) Q X f h = f e h
-
--- what follows from a clause on one variant
-pub ok_follows : {T E : Type 0} (r : Result T E) (P X : T → Type 0) → ((v : T) → P v → X v) → IfOk r P → IfOk r X
-ok_follows (Ok v) P X f h = f v h
-ok_follows (Err e) P X f h = tt
-
-pub err_follows : {T E : Type 0} (r : Result T E) (P X : E → Type 0) → ((e : E) → P e → X e) → IfErr r P → IfErr r X
-err_follows (Ok v) P X f h = tt
-err_follows (Err e) P X f h = f e h

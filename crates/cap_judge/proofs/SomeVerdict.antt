@@ -1,6 +1,6 @@
 -- All bytes have a verdict: read a line at a time, they come to an end, or to a line that is refused.
-use Rattle.std.proofs.Common.{◌≡◌, ℕ, zero, suc, ◌+◌, ◌<◌, Bool, true, false, inl, inr, ◌⊎◌, List, [], ◌∷◌, ◌++◌, length}
-use Rattle.std.proofs.Common.{Option, Some, None, refl, sym, ap, subst, ◌∙◌, append-nil, arith}
+use Rattle.std.proofs.Common.{◌≡◌, ℕ, zero, suc, ◌+◌, ◌<◌, Bool, true, false, inl, inr, ◌⊎◌, List, [], ◌∷◌, ◌++◌, length, Option, Some}
+use Rattle.std.proofs.Common.{None, refl, sym, ap, subst, ◌∙◌, append-nil, arith}
 use Rattle.std.proofs.lemmas.Bool.{false≢true, lt-ltb, not-false, eqb-true}
 use Rattle.std.proofs.lemmas.List.{length-append}
 use Rattle.std.proofs.lemmas.Option.{none-some}
@@ -19,17 +19,17 @@ use Rattle.cap_log.proofs.SpellingLemmas.{one_spelling}
 use Rattle.cap_machine.specs.declared.rules.Rules.{Rules}
 use Rattle.cap_machine.specs.declared.rules.Rules.TheVariants.{One, TwoStrict, TwoClear}
 use Rattle.cap_machine.specs.States.{DeclaredRoot}
-use Rattle.cap_machine.specs.Accounts.{Account, root_tests}
+use Rattle.cap_machine.specs.Accounts.{Account, root_tests, with_step}
 use Rattle.cap_log.specs.declared.lines.Step as steps_module
 use Rattle.cap_machine.specs.Steps.{Leads}
-use Rattle.cap_machine.specs.Accounts.{with_step}
 use Rattle.cap_machine.proofs.AccountLemmas.{account_after-grows, first_of-none}
 use Rattle.cap_judge.specs.declared.verdict.Verdict.{Verdict}
 use Rattle.cap_judge.specs.declared.verdict.Verdict.TheVariants.{Yes, No}
 use Rattle.cap_judge.specs.Logs.{Beginning, Nothing, NoMode, Body, Whole, lines_of, text_of, body_lines, account_after, RunsBy, IsAccepted}
 use Rattle.cap_judge.specs.Logs.{has_form, line_tests, RefusesLine, RefusesWhole, Refuses}
+use Rattle.cap_judge.specs.Judgings.{IsBehind}
 use Rattle.cap_judge.specs.Verdicts.{IsVerdict}
-use Rattle.cap_judge.proofs.JudgeLemmas.{IsUnended, front_refused, text_push}
+use Rattle.cap_judge.proofs.JudgeLemmas.{IsUnended, fault_behind, front_refused, text_push, yes_of}
 use Rattle.cap_judge.proofs.LogLemmas.{steps_push, roots_push}
 use Rattle.cap_judge.proofs.NextLemmas.{leads_on, step_runs, root_runs, no_roots}
 use Rattle.cap_judge.proofs.OneReading.{Allows}
@@ -213,59 +213,28 @@ follows beginning unended rest accepted =
           ]
     ]
 
--- the bytes are an accepted beginning and a rest
-record Here (bytes : List ℕ) (beginning : Beginning) (rest : List ℕ) : Type 0 where
-  bytes_are : bytes ≡ text_of (lines_of beginning) ++ rest
-  accepted : IsAccepted beginning
-
 abbrev HasVerdict : List ℕ → Type 0
 HasVerdict bytes = (verdict : Verdict) × IsVerdict bytes verdict
 
 -- the verdict by what follows, where each shorter rest leads to one
 from_here : (fuel : ℕ) (bytes : List ℕ)
-    → ((beginning : Beginning) (rest : List ℕ) → length rest < fuel → Here bytes beginning rest → HasVerdict bytes)
-    → (beginning : Beginning) (rest : List ℕ) → length rest < suc fuel → Here bytes beginning rest → Follows beginning rest
+    → ((beginning : Beginning) (rest : List ℕ) → length rest < fuel → IsBehind bytes beginning rest → HasVerdict bytes)
+    → (beginning : Beginning) (rest : List ℕ) → length rest < suc fuel → IsBehind bytes beginning rest → Follows beginning rest
     → HasVerdict bytes
-from_here fuel bytes shorter beginning rest few here (inl refused) = (
-  No (length (lines_of beginning) + 1) refused.0,
-  record {
-    beginning =
-        beginning;
-    rest = rest;
-    bytes_are = here.bytes_are;
-    accepted = here.accepted;
-    number_is = refl;
-    refused = refused.1;
-  },
-)
+from_here fuel bytes shorter beginning rest few here (inl refused) =
+    (No (length (lines_of beginning) + 1) refused.0, fault_behind bytes rest beginning refused.0 here refused.1)
 from_here fuel bytes shorter beginning rest few here (inr on) =
     let fewer = on.2.2 in
     shorter on.0 on.2.0 (omega arith) (record { bytes_are = here.bytes_are ∙ on.2.1; accepted = on.1 })
 
-verdict_from : (fuel : ℕ) (bytes : List ℕ) (beginning : Beginning) (rest : List ℕ) → length rest < fuel → Here bytes beginning rest
+verdict_from : (fuel : ℕ) (bytes : List ℕ) (beginning : Beginning) (rest : List ℕ) → length rest < fuel → IsBehind bytes beginning rest
     → HasVerdict bytes
 verdict_from zero bytes beginning rest few here = absurd (omega arith)
-verdict_from (suc fuel) bytes (Whole rules_are roots steps) [] few here = (
-  Yes (length steps) (length roots),
-  record {
-    rules = rules_are;
-    roots = roots;
-    steps = steps;
-    log = record { bytes_are = here.bytes_are ∙ append-nil _; runs = here.accepted };
-    step_count_is = refl;
-    root_count_is = refl;
-  },
-)
+verdict_from (suc fuel) bytes (Whole rules_are roots steps) [] few here =
+    (Yes (length steps) (length roots), yes_of bytes rules_are roots steps (here.bytes_are ∙ append-nil _) here.accepted)
 verdict_from (suc fuel) bytes (Whole rules_are roots steps) (byte ∷ rest) few here = (
   No (length (lines_of (Whole rules_are roots steps)) + 1) Misplaced,
-  record {
-    beginning = Whole rules_are roots steps;
-    rest = byte ∷ rest;
-    bytes_are = here.bytes_are;
-    accepted = here.accepted;
-    number_is = refl;
-    refused = (λ is. let none = ap length is in omega arith, refl);
-  },
+  fault_behind bytes (byte ∷ rest) (Whole rules_are roots steps) Misplaced here (λ is. let none = ap length is in omega arith, refl),
 )
 verdict_from (suc fuel) bytes Nothing rest few here =
     from_here fuel bytes (verdict_from fuel bytes) Nothing rest few here (follows Nothing tt rest here.accepted)

@@ -7,34 +7,31 @@ use Rattle.cap_log.specs.declared.lines.Line.TheVariants as lines
 use Rattle.cap_machine.specs.declared.rules.Rules.{Rules}
 use Rattle.cap_machine.specs.declared.rules.Rules.TheVariants.{One, TwoStrict, TwoClear}
 use Rattle.cap_machine.specs.States.{DeclaredRoot}
-use Rattle.cap_machine.proofs.AuthorityLemmas.{one_root}
-use Rattle.cap_machine.proofs.AccessLemmas.{lie_inside}
 use Rattle.cap_judge.specs.declared.verdict.Verdict.{Verdict}
 use Rattle.cap_judge.specs.declared.verdict.Verdict.TheVariants.{Yes, No}
 use Rattle.cap_judge.specs.declared.verdict.JudgeFault.{JudgeFault}
 use Rattle.cap_judge.specs.declared.verdict.JudgeFault.TheVariants.{Pull, NoMemory}
-use Rattle.cap_judge.specs.Logs.{Beginning, Nothing, NoMode, Body, Whole, header_lines, body_lines, lines_of}
-use Rattle.cap_judge.specs.Logs.{IsAccepted, MayLackMemory}
+use Rattle.cap_judge.specs.Logs.{Beginning, Nothing, NoMode, Body, Whole, header_lines, body_lines, lines_of, IsAccepted, MayLackMemory}
 use Rattle.cap_judge.specs.Verdicts.{IsVerdict, IsFault}
 use Rattle.cap_judge.specs.Judgings.{IsVerdictOf, BeginsLog, IsAnswerOf}
-use Rattle.cap_judge.proofs.JudgeLemmas.{guarded, guards, no_lack}
+use Rattle.cap_judge.proofs.JudgeLemmas.{guarded, no_lack}
 
 -- a verdict, want of memory, and a fault of the source
 pub answer_ok : (given : List ℕ) (ended : Bool) (verdict : Verdict) → IsVerdictOf given ended verdict → IsAnswerOf given ended (Ok verdict)
 answer_ok given ended verdict is =
     record {
       verdict = is;
-      authority = guards given (guarded one_root lie_inside given) verdict;
+      authority = guarded given;
       fault = tt;
       answers = λ none e. cc;
     }
 
 pub answer_memory : (given more : List ℕ) (ended : Bool) → MayLackMemory given more → IsAnswerOf given ended (Err NoMemory)
 answer_memory given more ended lack =
-    record { verdict = tt; authority = tt; fault = (more, lack); answers = λ none e. no_lack given more none lack }
+    record { verdict = tt; authority = guarded given; fault = (more, lack); answers = λ none e. no_lack given more none lack }
 
 pub answer_pull : (given : List ℕ) (ended : Bool) → BeginsLog given → IsAnswerOf given ended (Err Pull)
-answer_pull given ended is = record { verdict = tt; authority = tt; fault = is; answers = λ none e. cc }
+answer_pull given ended is = record { verdict = tt; authority = guarded given; fault = is; answers = λ none e. cc }
 
 -- there are no more lines than the limits allow
 few_header : (rules_are : Rules) → length (header_lines rules_are) ≤ 2

@@ -175,14 +175,14 @@ pub bytes_cut : (old new : Known) (bytes front rest shown : List ℕ) (verdict :
     → IsVerdict bytes verdict
 bytes_cut old new bytes front rest shown verdict begun stop all same ends =
     subst (λ (b : List ℕ). IsVerdict b verdict) (ap (λ (r : List ℕ). front ++ r) same ∙ all)
-    (ends front (stop.0 [] begun) (subst IsCut (sym same) stop.1))
+    (ends front (stop.0 [] begun).0 (subst IsCut (sym same) stop.1))
 
 pub bytes_fault : (old new : Known) (bytes front rest : List ℕ) (verdict : Verdict) → Read old [] → StopsAt old front rest stops.Fault new
     → front ++ rest ≡ bytes → ((before : List ℕ) → Read new before → IsCut [] → IsVerdict (before ++ []) verdict)
     → IsVerdict bytes verdict
 bytes_fault old new bytes front rest verdict begun stop all ends =
     subst (λ (b : List ℕ). IsVerdict b verdict) (append-nil (front ++ rest) ∙ all)
-    (ends (front ++ rest) (stop.0 [] begun) (omega arith, All-nil (λ b. b ≢ 10)))
+    (ends (front ++ rest) (stop.0 [] begun).0 (omega arith, All-nil (λ b. b ≢ 10)))
 
 pub bytes_lack : (old new : Known) (bytes front rest : List ℕ) → Read old [] → StopsAt old front rest stops.NoMemory new
     → front ++ rest ≡ bytes → IsFault bytes judge_faults.NoMemory

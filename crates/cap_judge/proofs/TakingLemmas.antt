@@ -58,10 +58,8 @@ header_tests account line (inr mode) = ap (λ (l : Line). first_of (line_tests a
 pub goes_one : (stage : Stage) (held : Held) (line : Line) (version : ℕ) → stage ≡ stages.Version → line ≡ lines.Version version
     → version ≡ 1 → GoesOn (at stage held) (spelling line ++ 10 ∷ []) (at stages.Body held)
 goes_one stage held line version is line_is one =
-    subst (λ (s : Stage). GoesOn (at s held) (spelling line ++ 10 ∷ []) (at stages.Body held)) (sym is)
-    (subst (λ (l : Line). GoesOn (at stages.Version held) (spelling l ++ 10 ∷ []) (at stages.Body held))
-    (sym (line_is ∙ ap lines.Version one))
-    (led (at stages.Version held) (at stages.Body held) _ (λ f. f) (λ f. f) (leads_one held)))
+    rw (is, line_is ∙ ap lines.Version one)
+    (led (at stages.Version held) (at stages.Body held) _ (λ f. f) (λ f. f) (leads_one held))
 
 version_two : (version : ℕ) → IsInRange (lines.Version version) → version ≢ 1 → version ≡ 2
 version_two version (inl one) other = absurd (other one)
@@ -70,30 +68,24 @@ version_two version (inr two) other = two
 pub goes_two : (stage : Stage) (held : Held) (line : Line) (version : ℕ) → stage ≡ stages.Version → line ≡ lines.Version version
     → IsInRange line → version ≢ 1 → GoesOn (at stage held) (spelling line ++ 10 ∷ []) (at stages.Mode held)
 goes_two stage held line version is line_is range other =
-    subst (λ (s : Stage). GoesOn (at s held) (spelling line ++ 10 ∷ []) (at stages.Mode held)) (sym is)
-    (subst (λ (l : Line). GoesOn (at stages.Version held) (spelling l ++ 10 ∷ []) (at stages.Mode held))
-    (sym (line_is ∙ ap lines.Version (version_two version (subst IsInRange line_is range) other)))
-    (led (at stages.Version held) (at stages.Mode held) _ (λ f. f) (λ f. f) (leads_two held)))
+    rw (is, line_is ∙ ap lines.Version (version_two version (subst IsInRange line_is range) other))
+    (led (at stages.Version held) (at stages.Mode held) _ (λ f. f) (λ f. f) (leads_two held))
 
 pub version_other : (stage : Stage) (held : Held) (line : Line) → stage ≡ stages.Version → IsInRange line
     → ((version : ℕ) → line ≡ lines.Version version → ⊥) → EndsFrom (at stage held) line (ends.Refused BadHeader)
 version_other stage held line is range other bytes rest whole =
-    subst (λ (s : Stage). EndsAt (at s held) bytes (ends.Refused BadHeader)) (sym is)
-    (version_ends held bytes (spelling line) rest whole
+    rw is (version_ends held bytes (spelling line) rest whole
     (λ version spells. other version (one_spelling (spelling line) line (lines.Version version) (range, refl) spells)))
 
 pub goes_mode : (stage : Stage) (old new : Held) (line : Line) (mode : Mode) → stage ≡ stages.Mode → line ≡ lines.Mode mode
     → new ≡ record old { rules = rules_of mode } → GoesOn (at stage old) (spelling line ++ 10 ∷ []) (at stages.Body new)
 goes_mode stage old new line mode is line_is ruled =
-    subst (λ (s : Stage). GoesOn (at s old) (spelling line ++ 10 ∷ []) (at stages.Body new)) (sym is)
-    (subst (λ (l : Line). GoesOn (at stages.Mode old) (spelling l ++ 10 ∷ []) (at stages.Body new)) (sym line_is)
-    (led (at stages.Mode old) (at stages.Body new) _ (λ f. f) (λ f. f) (leads_mode old new mode ruled)))
+    rw (is, line_is) (led (at stages.Mode old) (at stages.Body new) _ (λ f. f) (λ f. f) (leads_mode old new mode ruled))
 
 pub mode_other : (stage : Stage) (held : Held) (line : Line) → stage ≡ stages.Mode → IsInRange line
     → ((mode : Mode) → line ≡ lines.Mode mode → ⊥) → EndsFrom (at stage held) line (ends.Refused BadMode)
 mode_other stage held line is range other bytes rest whole =
-    subst (λ (s : Stage). EndsAt (at s held) bytes (ends.Refused BadMode)) (sym is)
-    (mode_ends held bytes (spelling line) rest whole
+    rw is (mode_ends held bytes (spelling line) rest whole
     (λ mode spells. other mode (one_spelling (spelling line) line (lines.Mode mode) (range, refl) spells)))
 
 -- The body
@@ -146,8 +138,7 @@ root_goes stage old new place word is none place_range word_range takes =
 pub end_goes : (stage : Stage) (held : Held) (count : ℕ) → stage ≡ stages.Body → count ≡ held.steps
     → GoesOn (at stage held) (spelling (lines.End count) ++ 10 ∷ []) (at stages.Ended held)
 end_goes stage held count is counted =
-    subst (λ (s : Stage). GoesOn (at s held) (spelling (lines.End count) ++ 10 ∷ []) (at stages.Ended held)) (sym is)
-    (led (at stages.Body held) (at stages.Ended held) _ (λ f. f) (λ f. f) (leads_end held count counted))
+    rw is (led (at stages.Body held) (at stages.Ended held) _ (λ f. f) (λ f. f) (leads_end held count counted))
 
 pub from_body : (stage : Stage) (held : Held) (line : Line) (end : StepEnd) → stage ≡ stages.Body → IsInRange line
     → has_form held.rules line ≡ true → EndsFor held line end → EndsFrom (at stage held) line end
@@ -157,13 +148,11 @@ from_body stage held line end is range formed found bytes rest whole =
 -- lines that have a form by all rules
 pub root_formed : (place : Place) (word : Word) (rules_are : Rules) → has_form rules_are (lines.Root place word) ≡ true
 root_formed place word One = refl
-root_formed place word TwoStrict = refl
-root_formed place word TwoClear = refl
+root_formed place word rules_are = refl
 
 pub end_formed : (count : ℕ) (rules_are : Rules) → has_form rules_are (lines.End count) ≡ true
 end_formed count One = refl
-end_formed count TwoStrict = refl
-end_formed count TwoClear = refl
+end_formed count rules_are = refl
 
 pub step_forms : (step : Step) (rules_are : Rules) → has_form rules_are (lines.Step step) ≡ true
 step_forms step rules_are = step_formed rules_are step
@@ -202,14 +191,9 @@ line_some : (bytes text rest : List ℕ) → IsLine bytes text rest → bytes �
 line_some bytes [] rest whole = λ none. let e = sym whole.whole ∙ none in cc
 line_some bytes (b ∷ text) rest whole = λ none. let e = sym whole.whole ∙ none in cc
 
-long_some : (bytes : List ℕ) → IsTooLong bytes → bytes ≢ []
-long_some [] long = λ e. omega (arith, long.0)
-long_some (b ∷ bytes) long = λ e. cc
-
 pub ended_from : (stage : Stage) (held : Held) (line : Line) → stage ≡ stages.Ended → EndsFrom (at stage held) line (ends.Refused Misplaced)
 ended_from stage held line is bytes rest whole =
-    subst (λ (s : Stage). EndsAt (at s held) bytes (ends.Refused Misplaced)) (sym is)
-    (ended_ends held bytes (line_some bytes (spelling line) rest whole))
+    rw is (ended_ends held bytes (line_some bytes (spelling line) rest whole))
 
 -- Lines that have no form
 
@@ -235,34 +219,10 @@ long_arm stage held bytes (inr (inl is)) long =
 long_arm stage held bytes (inr (inr is)) long =
     subst (λ (s : Stage). EndsAt (at s held) bytes (ends.Refused LineTooLong)) (sym is) (long_ends stages.Body held bytes tt long)
 
-pub long_by : (stage : Stage) (held : Held) (bytes : List ℕ) → stage ≡ stages.Ended → IsTooLong bytes
-    → EndsAt (at stage held) bytes (ends.Refused Misplaced)
-long_by stage held bytes is long =
-    subst (λ (s : Stage). EndsAt (at s held) bytes (ends.Refused Misplaced)) (sym is) (ended_ends held bytes (long_some bytes long))
-
 pub formless_by : (stage : Stage) (held : Held) (bytes text more : List ℕ) → stage ≡ stages.Ended → IsLine bytes text more
     → EndsAt (at stage held) bytes (ends.Refused Misplaced)
 formless_by stage held bytes text more is whole =
-    subst (λ (s : Stage). EndsAt (at s held) bytes (ends.Refused Misplaced)) (sym is)
-    (ended_ends held bytes (line_some bytes text more whole))
-
-pub at_version : (stage : Stage) (held : Held) (bytes text more : List ℕ) → stage ≡ stages.Version → IsLine bytes text more
-    → ((line : Line) → Spells text line → ⊥) → EndsAt (at stage held) bytes (ends.Refused BadHeader)
-at_version stage held bytes text more is whole none =
-    subst (λ (s : Stage). EndsAt (at s held) bytes (ends.Refused BadHeader)) (sym is)
-    (version_ends held bytes text more whole (λ version spells. none (lines.Version version) spells))
-
-pub at_mode : (stage : Stage) (held : Held) (bytes text more : List ℕ) → stage ≡ stages.Mode → IsLine bytes text more
-    → ((line : Line) → Spells text line → ⊥) → EndsAt (at stage held) bytes (ends.Refused BadMode)
-at_mode stage held bytes text more is whole none =
-    subst (λ (s : Stage). EndsAt (at s held) bytes (ends.Refused BadMode)) (sym is)
-    (mode_ends held bytes text more whole (λ mode spells. none (lines.Mode mode) spells))
-
-pub at_body : (stage : Stage) (held : Held) (bytes text more : List ℕ) → stage ≡ stages.Body → IsLine bytes text more
-    → ((line : Line) → Spells text line → ⊥) → EndsAt (at stage held) bytes (ends.Refused BadLine)
-at_body stage held bytes text more is whole none =
-    subst (λ (s : Stage). EndsAt (at s held) bytes (ends.Refused BadLine)) (sym is)
-    (formless_ends held bytes text more whole (λ line spells. none line spells.0))
+    rw is (ended_ends held bytes (line_some bytes text more whole))
 
 pub no_text : (bytes text more : List ℕ) → IsLine bytes text more → BeginsWithNone IsInRange spelling 10 bytes
     → (line : Line) → Spells text line → ⊥
@@ -301,15 +261,6 @@ pub stops_after : (first old new : Known) (front rest : List ℕ) (stop : Stop) 
     → StopsAt first front rest stop new
 stops_after first old new front rest stop so_far stops =
     subst (λ (f : List ℕ). StopsAt first f rest stop new) (append-nil front) (stops_later first old new front [] rest stop so_far stops)
-
-pub goes_or_stops : (first old new : Known) (front middle rest : List ℕ) (stop : Option Stop) → GoesOn first front old
-    → GoesOrStops old middle rest stop new → GoesOrStops first (front ++ middle) rest stop new
-goes_or_stops first old new front [] rest None so_far (some, on) = absurd (some refl)
-goes_or_stops first old new [] (b ∷ middle) rest None so_far (some, on) =
-    (some, goes_further first old new [] (b ∷ middle) so_far on)
-goes_or_stops first old new (a ∷ front) (b ∷ middle) rest None so_far (some, on) =
-    (λ none. cc, goes_further first old new (a ∷ front) (b ∷ middle) so_far on)
-goes_or_stops first old new front middle rest (Some stop) so_far stops = stops_later first old new front middle rest stop so_far stops
 
 -- how much of some bytes a front is
 pub front_count : (bytes front rest : List ℕ) → bytes ≡ front ++ rest

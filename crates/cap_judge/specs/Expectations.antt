@@ -5,7 +5,7 @@ use Rattle.cap_log.specs.declared.lines.Line.TheVariants as lines
 use Rattle.cap_log.specs.declared.lines.Place.{Place}
 use Rattle.cap_log.specs.declared.lines.Step.{Step}
 use Rattle.cap_log.specs.Lines.{Spells}
-use Rattle.cap_ops.specs.declared.faults.OpFault.{OpFault}
+use Rattle.cap_ops.specs.declared.refusal.Refusal.{Refusal}
 use Rattle.cap_ops.specs.Tests.{first_of}
 use Rattle.cap_ops.specs.declared.refusal.Refusal.TheVariants.{WrongResult}
 use Rattle.cap_machine.specs.declared.rules.Rules.{Rules}
@@ -66,6 +66,6 @@ UnlessWritten (Written cap) fact = Unit {0}
 UnlessWritten records fact = fact
 
 -- the test for which the result of an operation on registers loses its tag in clear mode: an access has no such test
-abbrev pub lost_for : Option Access → Row → Option OpFault
+abbrev pub lost_for : Option Access → Row → Option Refusal
 lost_for None row = first_of row.tests
 lost_for (Some access) row = None

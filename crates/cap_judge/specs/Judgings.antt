@@ -13,7 +13,7 @@ use Rattle.cap_judge.specs.declared.verdict.JudgeFault.{JudgeFault}
 use Rattle.cap_judge.specs.declared.verdict.JudgeFault.TheVariants.{Pull, NoMemory}
 use Rattle.cap_judge.specs.Logs.{Beginning, Nothing, NoMode, Body, Whole, lines_of, text_of, account_after, IsAccepted, IsLogOf}
 use Rattle.cap_judge.specs.Logs.{IsFirstFault, MayLackMemory, NamesNoGranules}
-use Rattle.cap_judge.specs.Verdicts.{IsVerdict, GuardsAuthority}
+use Rattle.cap_judge.specs.Verdicts.{IsVerdict, IsGuarded}
 
 -- the verdict on these bytes, where their source has ended; where it has not, a no that stands whatever bytes follow
 abbrev pub IsVerdictOf : List ℕ → Bool → Verdict → Type 0
@@ -68,7 +68,7 @@ IsFaultOf bytes NoMemory = (more : List ℕ) × MayLackMemory bytes more
 -- what an answer says of the bytes given, and of whether their source has ended
 pub record IsAnswerOf (bytes : List ℕ) (ended : Bool) (result : Result Verdict JudgeFault) : Type 0 where
   pub verdict : IfOk result (IsVerdictOf bytes ended)
-  pub authority : IfOk result (GuardsAuthority bytes)
+  pub authority : IsGuarded bytes
   pub fault : IfErr result (IsFaultOf bytes)
   pub answers : NamesNoGranules bytes → result ≢ Err NoMemory
 

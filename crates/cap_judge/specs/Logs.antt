@@ -17,9 +17,10 @@ use Rattle.cap_ops.specs.declared.refusal.Refusal.TheVariants.{WrongCount, BadMo
 use Rattle.cap_machine.specs.declared.rules.Rules.{Rules}
 use Rattle.cap_machine.specs.declared.rules.Rules.TheVariants.{One, TwoStrict, TwoClear}
 use Rattle.cap_machine.specs.States.{State, DeclaredRoot, key_of, start}
-use Rattle.cap_machine.specs.Accounts.{Account, most_roots, most_granules, most_steps, granule_of, named_by, row_in, is_new}
+use Rattle.cap_machine.specs.Accounts.{Account, most_roots, most_granules, most_steps, granule_of, named_by, is_new}
+use Rattle.cap_machine.specs.Steps.{row_by, row_of}
 use Rattle.cap_machine.specs.Accounts.{root_tests, step_tests}
-pub use Rattle.cap_machine.specs.RunAccounts.{after_roots, after_steps, account_after}
+pub use Rattle.cap_machine.specs.RunAccounts.{account_after}
 use Rattle.cap_machine.specs.Runs.{IsRun}
 
 -- how a log begins: not at all; with the version line of version 2 and no mode line; with its header, roots and steps; or with all of
@@ -70,7 +71,7 @@ IsAccepted beginning = Unit {0}
 
 -- the bytes are a log whose steps have a run
 pub record IsLogOf (bytes : List ℕ) (rules : Rules) (roots : List DeclaredRoot) (steps : List steps_module.Step) : Type 0 where
-  pub bytes_are : bytes ≡ text_of (lines_of (Whole rules roots steps))
+  pub bytes_are : bytes ≡ text_of (body_lines rules roots steps ++ End (length steps) ∷ [])
   pub runs : RunsBy rules roots steps
 
 -- whether a line has a form by the rules: version 1 has no mode line, and no version line but its own
@@ -93,7 +94,7 @@ line_tests account line = (true, Misplaced) ∷ []
 -- the granule that a line names: a root's, an sc's or a store's
 abbrev pub named_by_line : Account → Line → Option ℕ
 named_by_line account (Root place word) = granule_of place
-named_by_line account (Step step) = named_by (row_in account step)
+named_by_line account (Step step) = named_by (row_by account.rules (row_of account.state step))
 named_by_line account line = None
 
 -- the bytes have no form, or a form of which a test holds: the refusal is the first

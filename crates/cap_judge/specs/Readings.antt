@@ -99,9 +99,14 @@ pub record Read (known : Known) (bytes : List ℕ) : Type 0 where
 abbrev pub HasRead : {M : Type 0} {g : _} → (M → Granules) → Judge M g → List ℕ → Type 0
 HasRead contents judge bytes = Read (known_of contents judge) bytes
 
--- whatever bytes were read before, these were read behind them
+-- whatever bytes were read before, these were read behind them, and what stood behind the lines still does
 abbrev pub GoesOn : Known → List ℕ → Known → Type 0
-GoesOn old bytes new = (before : List ℕ) → Read old before → Read new (before ++ bytes)
+GoesOn old bytes new = (before : List ℕ) → (read : Read old before) → (now : Read new (before ++ bytes)) × (now.rest ≡ read.rest)
+
+-- these were read, a front and a rest, and the line at fault begins the rest; where one was at fault before, it still stands there
+abbrev pub Faults : Known → List ℕ → List ℕ → Known → Type 0
+Faults old front rest new =
+    (before : List ℕ) → (read : Read old before) → (now : Read new (before ++ (front ++ rest))) × (now.rest ≡ read.rest ++ rest)
 
 -- why what stands behind a beginning is not taken: it is refused, whatever follows it; or a whole line, which no test refuses, names a
 -- granule for the first time
@@ -122,7 +127,7 @@ EndsFrom known line end = (bytes rest : List ℕ) → IsLine bytes (spelling lin
 -- and was taken too; or with a line that no test refuses and that names a granule for the first time
 abbrev pub StopsAt : Known → List ℕ → List ℕ → Stop → Known → Type 0
 StopsAt old front rest Cut new = GoesOn old front new × IsCut rest × (IsAtFault new.stage → ⊥)
-StopsAt old front rest Fault new = GoesOn old (front ++ rest) new × IsAtFault new.stage
+StopsAt old front rest Fault new = Faults old front rest new × IsAtFault new.stage
 StopsAt old front rest NoMemory new =
     GoesOn old front new
     × ((before : List ℕ) → Read old before

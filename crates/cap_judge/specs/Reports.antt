@@ -30,9 +30,10 @@ abbrev pub told_fault : JudgeFault → JudgeToFault
 told_fault judge_faults.Pull = Pull
 told_fault judge_faults.NoMemory = NoMemory
 
--- an answer is that of the bytes that the source gave in the call, and what the sink took is the verdict's text, with origins or without
-pub record Reported {S K : Type 0} (origins : Bool) (gave : S → S → List ℕ → Type 0) (ended : S → Bool) (took : K → K → List ℕ → Type 0)
-    (old new : S) (before after : K) (result : Result Verdict JudgeToFault) : Type 0 where
+-- an answer is that of the bytes that the source gave in the call, and what the sink took is a text that belongs to it, as is told of
+-- these bytes and of whether their source has ended
+pub record Reported {S K : Type 0} (tells : List ℕ → Bool → Verdict → List ℕ → Type 0) (gave : S → S → List ℕ → Type 0) (ended : S → Bool)
+    (took : K → K → List ℕ → Type 0) (old new : S) (before after : K) (result : Result Verdict JudgeToFault) : Type 0 where
   pub given : List ℕ
   pub gives : gave old new given
-  pub report : IsPushedFor (Tells origins given) given (ended new) (took before after) result
+  pub report : IsPushedFor (tells given (ended new)) given (ended new) (took before after) result

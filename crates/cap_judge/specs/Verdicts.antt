@@ -9,9 +9,9 @@ use Rattle.cap_log.specs.Front.{FrontIs, IsLine}
 use Rattle.cap_log.specs.Lines.{Spells}
 use Rattle.cap_ops.specs.declared.refusal.Refusal.{Refusal}
 use Rattle.cap_ops.specs.declared.refusal.Refusal.TheVariants.{BadHeader, BoundsEscape, LineTooLong, Truncated}
-use Rattle.cap_machine.specs.Escapes.{Escapes}
+use Rattle.cap_machine.specs.Escapes.{AsksBeyond, asked_by}
 use Rattle.cap_machine.specs.declared.rules.Rules.{Rules}
-use Rattle.cap_machine.specs.declared.rules.Rules.TheVariants.{One}
+use Rattle.cap_machine.specs.declared.rules.Rules.TheVariants.{One, TwoClear}
 use Rattle.cap_machine.specs.States.{State, DeclaredRoot, start}
 use Rattle.cap_machine.specs.Runs.{IsRun, AuthorityNeverGrows, AccessesLieInside}
 use Rattle.cap_judge.specs.declared.verdict.Verdict.{Verdict}
@@ -39,11 +39,6 @@ IsVerdict bytes (No line refusal) = IsFirstFault bytes line refusal
 abbrev pub IsGuarded : List ℕ → Type 0
 IsGuarded bytes = (rules : Rules) (roots : List DeclaredRoot) (steps : List Step) (states : List State) → IsLogOf bytes rules roots steps
     → IsRun rules (start roots) steps states → AuthorityNeverGrows roots steps states × AccessesLieInside roots steps states
-
--- after a yes: what the bytes are a log of is guarded
-abbrev pub GuardsAuthority : List ℕ → Verdict → Type 0
-GuardsAuthority bytes (Yes steps roots) = IsGuarded bytes
-GuardsAuthority bytes (No line refusal) = Unit {0}
 
 -- why there is no verdict: behind lines that begin a log, one that no test refuses names a granule for the first time
 abbrev pub IsFault : List ℕ → JudgeFault → Type 0
@@ -94,13 +89,11 @@ IsVerdictOne bytes (No line refusal) = IsFirstFaultOne bytes line refusal
 
 -- the line at fault is a step that asks for bounds beyond those of its tagged, unsealed source, in what the log has led to
 abbrev pub FaultEscapes : Beginning → List ℕ → Type 0
-FaultEscapes Nothing rest = ⊥
-FaultEscapes NoMode rest = ⊥
 FaultEscapes (Body rules roots steps) rest =
     let account = account_after rules roots steps in
     (text : List ℕ) × (more : List ℕ) × (step : Step) × IsLine rest text more
-    × SpellsBy account.rules text (Stepping step) × Escapes account.rules account.state step
-FaultEscapes (Whole rules roots steps) rest = ⊥
+    × SpellsBy account.rules text (Stepping step) × ((account.rules ≢ TwoClear) × AsksBeyond account.state (asked_by step))
+FaultEscapes beginning rest = ⊥
 
 -- a no names BoundsEscape exactly for such a line: the test of CSetBounds (UCAM-CL-TR-987)
 abbrev pub EscapesExactly : List ℕ → Verdict → Type 0

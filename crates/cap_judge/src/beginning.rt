@@ -8,7 +8,7 @@ ghost use Rattle.cap_machine.specs.Helds.{held_of};
 ghost use Rattle.cap_judge.specs.Expectations.{Expects};
 ghost use Rattle.cap_judge.specs.Judgings.{account_before};
 ghost use Rattle.cap_judge.specs.Logs.{MayLackMemory};
-ghost use Rattle.cap_judge.specs.Verdicts.{EscapesExactly, GuardsAuthority, IsVerdict, NamesEscapes};
+ghost use Rattle.cap_judge.specs.Verdicts.{EscapesExactly, IsGuarded, IsVerdict, NamesEscapes};
 ghost use Rattle.cap_judge.specs.Readings.{BeginsWhole, EndsStepAt, EndsWith, HasRead, IsNoLine, Stands, StopsAt, known_of};
 ghost use Rattle.cap_judge.specs.declared.beginning.Stage.TheVariants.{Body, Refused as RefusedIn};
 ghost use Rattle.cap_judge.specs.declared.faults.Fault.{Fault as FaultIn};
@@ -44,7 +44,7 @@ pub enum Stage {
 pub enum Stop {
     /// The bytes behind those that it took are less than a line, if any.
     Cut,
-    /// The line behind them is at fault.
+    /// The line behind them is at fault, or one before them was.
     Fault,
     /// There was no memory for a granule that the line behind them names for the first time.
     NoMemory,
@@ -90,7 +90,8 @@ impl<M: TaggedStore> Judge<M> {
 
     /// Takes the whole lines at the front of some bytes, which follow those that it took before: up to what is
     /// less than a line, to the first fault, or to want of memory. What it did not take may be handed over again,
-    /// with more behind it. Behind a fault all is taken, and the no stands whatever follows.
+    /// with more behind it. The line at fault is not counted, nor is what follows it: it is read, and the no
+    /// stands whatever follows. From then on nothing is counted.
     pub fn take(&mut self, bytes: &[u8]) -> Taken
         ensures count { result.count ≤ length bytes.now }
         ensures stops { StopsAt (known_of M.contents self.old) (take result.count bytes.now) (drop result.count bytes.now)
@@ -122,7 +123,7 @@ impl<M: TaggedStore> Judge<M> {
             → MayLackMemory (bytes ++ line.now) [] }
     {
         if let Stage::Body = self.stage {
-            return self.take_step(line);
+            return self.take_body(line);
         }
         self.take_whole(line)
     }
@@ -143,7 +144,7 @@ impl<M: TaggedStore> Judge<M> {
     /// The verdict if no other bytes follow than these, which are less than a line.
     pub fn end(&self, rest: &[u8]) -> Verdict
         ensures verdict { (bytes : List ℕ) → HasRead M.contents self.now bytes → IsCut rest.now → IsVerdict (bytes ++ rest.now) result }
-        ensures authority { (bytes : List ℕ) → HasRead M.contents self.now bytes → GuardsAuthority (bytes ++ rest.now) result }
+        ensures authority { (bytes : List ℕ) → HasRead M.contents self.now bytes → IsGuarded (bytes ++ rest.now) }
         ensures escape { (bytes : List ℕ) → HasRead M.contents self.now bytes → EscapesExactly (bytes ++ rest.now) result }
     {
         match self.ending(rest) {
@@ -186,7 +187,7 @@ impl<M: TaggedStore> Judge<M> {
 
     // Takes the line of a step behind the header, or bytes of any kind.
     #[inline(always)]
-    fn take_step(&mut self, line: &[u8]) -> Result<(), TakeFault>
+    fn take_body(&mut self, line: &[u8]) -> Result<(), TakeFault>
         requires body { self.old.stage ≡ Body }
         ensures taken { OnOk result ((bytes : List ℕ) → HasRead M.contents self.old bytes
             → HasRead M.contents self.new (bytes ++ line.now)) }

@@ -12,6 +12,7 @@ mod fault_lines;
 mod faults;
 mod laws;
 mod lines;
+mod numbers;
 mod origin_lines;
 mod origins;
 mod reporting;

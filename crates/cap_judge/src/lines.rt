@@ -11,7 +11,7 @@ ghost use Rattle.cap_machine.specs.declared.ends.StepEnd.TheVariants.{Refused};
 ghost use Rattle.cap_ops.specs.declared.refusal.Refusal.TheVariants.{BadLine, Misplaced};
 ghost use Rattle.cap_judge.specs.FaultLines.{IsFrontText, bytes_of};
 ghost use Rattle.cap_judge.specs.Logs.{Beginning, has_form, header_lines, lines_of};
-ghost use Rattle.cap_judge.specs.Readings.{EndsAt, EndsFor, EndsFrom, GoesOn, GoesOrStops, IsAfter, IsAtFault, StopsAt, known_of, rules_of};
+ghost use Rattle.cap_judge.specs.Readings.{EndsAt, EndsFor, EndsFrom, Faults, GoesOn, GoesOrStops, IsAfter, IsAtFault, StopsAt, known_of, rules_of};
 ghost use Rattle.cap_judge.specs.declared.beginning.Stage.TheVariants.{Body, Mode as ModeStage, Version};
 ghost use Rattle.cap_judge.specs.declared.beginning.Stop.TheVariants as stops;
 
@@ -130,7 +130,7 @@ impl<M: TaggedStore> Judge<M> {
         requires clear { IsAtFault self.old.stage → ⊥ }
         requires uncut { IsCut bytes.now → ⊥ }
         requires refused { EndsAt (known_of M.contents self.old) bytes.now (Refused refusal) }
-        ensures taken { GoesOn (known_of M.contents self.old) bytes.now (known_of M.contents self.new) }
+        ensures taken { Faults (known_of M.contents self.old) [] bytes.now (known_of M.contents self.new) }
         ensures fault { IsAtFault self.new.stage }
     {
         self.stage = Stage::Refused(self.fault(refusal, bytes));

@@ -6,7 +6,7 @@ ghost use Rattle.cap_log.specs.Streams.{next_count};
 ghost use Rattle.cap_machine.specs.Helds.{held_of};
 ghost use Rattle.cap_judge.specs.OriginLists.{report_text};
 ghost use Rattle.cap_judge.specs.Verdicts.{NamesEscapes};
-ghost use Rattle.cap_judge.specs.Reports.{Reported};
+ghost use Rattle.cap_judge.specs.Reports.{Reported, Tells};
 ghost use Rattle.cap_judge.specs.VerdictLines.{verdict_line};
 ghost use Rattle.cap_judge.specs.declared.verdict.JudgeToFault.TheVariants.{Pull, Push};
 
@@ -25,7 +25,7 @@ pub fn judge_to<S: Source, K: Sink>(
     source: &mut S,
     sink: &mut K,
 ) -> Result<Verdict, JudgeToFault>
-    ensures reported { Reported false S.gave S.ended K.took source.old source.new sink.old sink.new result }
+    ensures reported { Reported (λ bytes _. Tells false bytes) S.gave S.ended K.took source.old source.new sink.old sink.new result }
 
     // Whatever bytes it is the verdict of, a no names `BoundsEscape` exactly as `judge_bytes` says.
     ensures escape { IfOk result NamesEscapes }
@@ -49,7 +49,7 @@ pub fn judge_origins<S: Source, K: Sink>(
     source: &mut S,
     sink: &mut K,
 ) -> Result<Verdict, JudgeToFault>
-    ensures reported { Reported true S.gave S.ended K.took source.old source.new sink.old sink.new result }
+    ensures reported { Reported (λ bytes _. Tells true bytes) S.gave S.ended K.took source.old source.new sink.old sink.new result }
 
     // Whatever bytes it is the verdict of, a no names `BoundsEscape` exactly as `judge_bytes` says.
     ensures escape { IfOk result NamesEscapes }
@@ -70,7 +70,7 @@ pub fn judge_origins_in<S: Source, M: TaggedStore, K: Sink>(
     sink: &mut K,
 ) -> Result<Verdict, JudgeToFault>
     requires { map.len (M.contents memory) ≡ 0 }
-    ensures reported { Reported true S.gave S.ended K.took source.old source.new sink.old sink.new result }
+    ensures reported { Reported (λ bytes _. Tells true bytes) S.gave S.ended K.took source.old source.new sink.old sink.new result }
     ensures escape { IfOk result NamesEscapes }
     ensures counted { result ≢ Err Pull → S.faults source.new ≡ S.faults source.old }
     ensures pull_counted { result ≡ Err Pull → S.faults source.new ≡ next_count (S.faults source.old) }

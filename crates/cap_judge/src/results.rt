@@ -3,6 +3,7 @@
 ghost use Rattle.std.specs.Prelude.{◌≡◌, ◌≤◌, Some, None, MatchResult, option_map};
 ghost use Rattle.cap_log.specs.Lines.{IsOffset, IsStepInRange};
 ghost use Rattle.cap_ops.specs.Operations as ops;
+ghost use Rattle.cap_ops.specs.Refusals.{refusal_of};
 ghost use Rattle.cap_ops.specs.Tests.{first_of};
 ghost use Rattle.cap_machine.specs.Helds.{held_of, state_of};
 ghost use Rattle.cap_machine.specs.States.{untagged_null};
@@ -12,7 +13,7 @@ ghost use Rattle.cap_judge.specs.Expectations.{IfWritten, UnlessWritten, lost_fo
 use cap_log::Step;
 use cap_machine::Machine;
 use cap_ops::{
-    OpFault, and_perm, and_perm_clear, clear_tag, loaded, seal, seal_clear, set_addr,
+    OpFault, Refusal, and_perm, and_perm_clear, clear_tag, loaded, seal, seal_clear, set_addr,
     set_addr_clear, set_bounds, set_bounds_clear, unseal, unseal_clear,
 };
 use cap_word::{Cap, null};
@@ -24,7 +25,7 @@ pub struct Given {
     /// The capability.
     pub cap: Cap,
     /// The first test that refuses it by strict rules, which takes its tag.
-    pub fault: Option<OpFault>,
+    pub fault: Option<Refusal>,
 }
 
 /// What the rules give for a step whose line records a capability; for others NULL without a tag.
@@ -85,12 +86,12 @@ fn untested(cap: Cap) -> Given
 }
 
 // The test that refused an operation.
-fn fault_in(outcome: Result<Cap, OpFault>) -> Option<OpFault>
-    ensures { MatchResult outcome (λ _. result ≡ None) (λ fault. result ≡ Some fault) }
+fn fault_in(outcome: Result<Cap, OpFault>) -> Option<Refusal>
+    ensures { MatchResult outcome (λ _. result ≡ None) (λ fault. result ≡ Some (refusal_of fault)) }
 {
     match outcome {
         Ok(_) => None,
-        Err(fault) => Some(fault),
+        Err(fault) => Some(Refusal::from(fault)),
     }
 }
 

@@ -9,7 +9,7 @@ ghost use Rattle.cap_judge.specs.FaultLines.{bytes_of};
 ghost use Rattle.cap_judge.specs.Judgings.{Judged, JudgedBy};
 ghost use Rattle.cap_judge.specs.Logs.{NamesNoGranules};
 ghost use Rattle.cap_judge.specs.Readings.{HasRead, IsAnswered, StopsAt, known_of};
-ghost use Rattle.cap_judge.specs.Verdicts.{EscapesExactly, GuardsAuthority, IsFault, IsVerdict, NamesEscapes};
+ghost use Rattle.cap_judge.specs.Verdicts.{EscapesExactly, IsFault, IsGuarded, IsVerdict, NamesEscapes};
 ghost use Rattle.cap_judge.specs.declared.verdict.JudgeFault.TheVariants.{Pull};
 
 use crate::beginning::{Judge, Stop};
@@ -29,7 +29,7 @@ pub fn judge_bytes(alloc: Global, bytes: &[u8]) -> Result<Verdict, JudgeFault>
 
     // After a yes, at every moment each tagged capability in a register or memory has bounds inside and
     // permissions among those of the one root that it descends from, and each access lies inside them.
-    ensures authority { IfOk result (GuardsAuthority bytes.now) }
+    ensures authority { IsGuarded bytes.now }
 
     // A no names `BoundsEscape` exactly where its line is a step that asks, by strict rules, for bounds beyond
     // those of its tagged, unsealed source, before any rounding.

@@ -2,6 +2,7 @@ mod Cuts
 mod Decimals
 pub mod DecidedLines
 pub mod ElementLemmas
+mod FewLemmas
 pub mod FrontLemmas
 mod OffsetLemmas
 mod OperandLemmas

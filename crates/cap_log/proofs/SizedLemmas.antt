@@ -72,15 +72,15 @@ drop-hex_digits (suc j) k n =
     let more : suc j + k ≡ suc (j + k) = omega arith in
     rw more (drop-hex_digits j k n)
 
--- the last digits of a number's 32
-pub last_digits : (count n : ℕ) (text : List ℕ) → count ≤ 32 → text ≡ hex_digits 32 n
-    → take (32 - (32 - count)) (drop (32 - count) text) ≡ hex_digits count n
-last_digits count n text few e =
-    let all : (32 - count) + count ≡ 32 = omega arith in
-    let digits : drop (32 - count) text ≡ hex_digits count n =
-    ap (λ (bs : List ℕ). drop (32 - count) bs) (e ∙ ap (λ (i : ℕ). hex_digits i n) (sym all)) ∙ drop-hex_digits (32 - count) count n in
-    let long : length (drop (32 - count) text) ≤ 32 - (32 - count) = omega (arith, ap length digits, length-hex_digits count n) in
-    take_all (32 - (32 - count)) (drop (32 - count) text) long ∙ digits
+-- the last digits of so many of a number's
+pub last_digits : (all count n : ℕ) (text : List ℕ) → count ≤ all → text ≡ hex_digits all n
+    → take (all - (all - count)) (drop (all - count) text) ≡ hex_digits count n
+last_digits all count n text few e =
+    let whole : (all - count) + count ≡ all = omega arith in
+    let digits : drop (all - count) text ≡ hex_digits count n =
+    ap (λ (bs : List ℕ). drop (all - count) bs) (e ∙ ap (λ (i : ℕ). hex_digits i n) (sym whole)) ∙ drop-hex_digits (all - count) count n in
+    let long : length (drop (all - count) text) ≤ all - (all - count) = omega (arith, ap length digits, length-hex_digits count n) in
+    take_all (all - (all - count)) (drop (all - count) text) long ∙ digits
 
 -- room for the digits behind a size
 pub sized_room : (at i j size value : ℕ) (gap old first second : List ℕ) → Writes at (decimal size) old first i

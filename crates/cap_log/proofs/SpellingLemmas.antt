@@ -4,7 +4,7 @@ use Rattle.std.proofs.lemmas.Fmt.{decimal_digit}
 use Rattle.std.proofs.lemmas.List.{append_cancel_right, length-append}
 use Rattle.std.proofs.lemmas.List.Elements.{All-append, All-cons}
 use Rattle.cap_log.specs.Front.{HasNoFeed, IsLine}
-use Rattle.cap_log.specs.Lines.{IsInRange, Spells, spelling}
+use Rattle.cap_log.specs.Lines.{IsInRange, IsLineAt, Spells, spelling}
 use Rattle.cap_log.specs.Heads.{IsHead, head_spelling}
 use Rattle.cap_log.specs.Parts.{Begins, BeginsWithNone, FitsBoth, Writes}
 use Rattle.cap_log.specs.declared.heads.Head.{Head}
@@ -12,6 +12,7 @@ use Rattle.cap_log.specs.declared.lines.Line.{Line}
 use Rattle.cap_log.specs.declared.lines.Line.TheVariants.{Version}
 use Rattle.cap_log.specs.Spaceless.{head-spaceless}
 use Rattle.cap_log.proofs.Cuts.{same_cut}
+use Rattle.cap_log.proofs.WriteLemmas.{front_and_byte, length-Writes}
 use Rattle.cap_log.proofs.Shapes.{Fits, Operands, fits-of, head-operand, head_of, made, made-of, operands_of, shape, spelled, spelling-of}
 
 -- lines with one spelling are one
@@ -80,3 +81,29 @@ pub fed_more : (bytes rest : List ℕ) (l : Line) → Begins IsInRange spelling 
 fed_more bytes rest l begins more k spells =
     let e = ap (λ (b : List ℕ). b ++ 10 ∷ []) (sym spells.1) ∙ begins.1 in
     more (sym (same_cut 10 (spelling k) (spelling l) [] rest (spelling-plain k spells.0) (spelling-plain l begins.0) e).1)
+
+-- a spelling at the front of a buffer, and a line feed behind it
+pub line_at : (l : Line) → IsInRange l → (end count : ℕ) (old mid new : List ℕ) → 96 ≤ length old → Writes 0 (spelling l) old mid end
+    → Writes end (10 ∷ []) mid new count → IsLineAt l old new count
+line_at l fits end count old mid new room words feed =
+    let short = spelling-short l fits in
+    let ends = words.ends in
+    let ends' = feed.ends in
+    let both = front_and_byte end count 10 (spelling l) old mid new words feed (omega arith) in
+    record {
+      ends = omega arith;
+      fits = omega arith;
+      written = both.0;
+      rest = both.1;
+      spells = (fits, both.2);
+      reads_back = λ other spells. one_spelling _ other l spells (fits, both.2);
+    }
+
+-- the room for that line feed
+pub feed_room : (l : Line) → IsInRange l → (end : ℕ) (old mid : List ℕ) → 96 ≤ length old → Writes 0 (spelling l) old mid end
+    → end + 1 ≤ length mid
+feed_room l fits end old mid room words =
+    let short = spelling-short l fits in
+    let ends = words.ends in
+    let same = length-Writes 0 end (spelling l) old mid words (omega arith) in
+    omega arith

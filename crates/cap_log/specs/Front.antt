@@ -21,11 +21,12 @@ IsTooLong bytes = (96 ≤ length bytes) × HasNoFeed (take 96 bytes)
 abbrev pub IsCut : List ℕ → Type 0
 IsCut bytes = (length bytes ≤ 95) × HasNoFeed bytes
 
--- the front is too long, or cut, or a whole line of which a fact holds; each with what is said there (this profile's own)
+-- the first 96 bytes hold no line feed, or the bytes end before a line does, or they begin with a whole line of which a fact holds; each with
+-- what is said there (this profile's own)
 abbrev pub FrontIs : List ℕ → Type 0 → Type 0 → (List ℕ → Type 0) → Type 0
 FrontIs bytes AtTooLong AtCut AtLine =
-    (IsTooLong bytes × AtTooLong)
-    ⊎ (IsCut bytes × AtCut)
+    (((96 ≤ length bytes) × HasNoFeed (take 96 bytes)) × AtTooLong)
+    ⊎ (((length bytes ≤ 95) × HasNoFeed bytes) × AtCut)
     ⊎ ((line : List ℕ) × (rest : List ℕ) × IsLine bytes line rest × AtLine line)
 
 -- which of the three a front is; a line is named by its length (this profile's own)

@@ -4,10 +4,10 @@ pub mod Heads
 pub mod Known
 pub mod Lines
 pub mod Parts
+pub mod Pulled
 pub mod Slices
 pub mod Spaceless
 pub mod Streams
 pub mod Takings
-pub mod Pulled
 pub mod Wrapped
 pub mod Written

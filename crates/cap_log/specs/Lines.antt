@@ -1,6 +1,6 @@
 -- The grammar of a log's lines: what each line is spelled as, and which lines have a spelling. All of it is this profile's own.
-use Rattle.std.specs.Prelude.{◌≡◌, ℕ, ◌*◌, ◌^◌, ◌<◌, ◌≤◌, ℤ, pos, negsuc, ◌≤ℤ◌, Bool, true, false, ◌⊎◌, List, [], ◌∷◌, ◌++◌}
-use Rattle.std.specs.Prelude.{codes, decimal}
+use Rattle.std.specs.Prelude.{◌≡◌, ℕ, ◌+◌, ◌-◌, ◌*◌, ◌^◌, ◌<◌, ◌≤◌, ℤ, pos, negsuc, ◌≤ℤ◌, Bool, true, false, if◌then◌else◌, ◌⊎◌}
+use Rattle.std.specs.Prelude.{List, [], ◌∷◌, ◌++◌, codes, decimal, length, take, drop}
 use Rattle.std.specs.Fmt.{signed_decimal}
 use Rattle.std.specs.List.{join_with_byte}
 use Rattle.cap_word.specs.Digits.{hex_digits}
@@ -68,8 +68,7 @@ mode_spelling Clear = codes "clear"
 
 -- a tag: one digit
 abbrev pub tag_spelling : Bool → List ℕ
-tag_spelling true = codes "1"
-tag_spelling false = codes "0"
+tag_spelling tag = if tag then codes "1" else codes "0"
 
 -- the result that a step records: an equals sign, its tag and its word
 abbrev pub result_words : Cap → List (List ℕ)
@@ -110,29 +109,39 @@ line_words (End steps) = codes "end" ∷ decimal steps ∷ []
 unfoldable pub spelling : Line → List ℕ
 spelling line = join_with_byte 32 (line_words line)
 
--- the numbers of a step are such as a step has
+-- the numbers of a step are such as a step has: what is written is a register but c0, what is read any
 abbrev pub IsStepInRange : Step → Type 0
-IsStepInRange (Move target source result) = IsTarget target × IsRegister source × IsWord result.word.0
-IsStepInRange (ClearTag target source result) = IsTarget target × IsRegister source × IsWord result.word.0
-IsStepInRange (SetBounds target source length result) = IsTarget target × IsRegister source × IsNumber length × IsWord result.word.0
-IsStepInRange (SetBoundsExact target source length result) = IsTarget target × IsRegister source × IsNumber length × IsWord result.word.0
-IsStepInRange (SetAddr target source address result) = IsTarget target × IsRegister source × IsNumber address × IsWord result.word.0
-IsStepInRange (AndPerm target source mask result) = IsTarget target × IsRegister source × IsNumber mask × IsWord result.word.0
-IsStepInRange (Seal target source authority result) = IsTarget target × IsRegister source × IsRegister authority × IsWord result.word.0
-IsStepInRange (Unseal target source authority result) = IsTarget target × IsRegister source × IsRegister authority × IsWord result.word.0
-IsStepInRange (LoadCap target authority offset result) = IsTarget target × IsRegister authority × IsOffset offset × IsWord result.word.0
-IsStepInRange (StoreCap source authority offset) = IsRegister source × IsRegister authority × IsOffset offset
-IsStepInRange (Load authority offset size value) = IsRegister authority × IsOffset offset × IsDataSize size × IsDataValue size value
-IsStepInRange (Store authority offset size value) = IsRegister authority × IsOffset offset × IsDataSize size × IsDataValue size value
+IsStepInRange (Move target source result) = IsTarget target × (source ≤ 31) × (result.word.0 < 2 ^ 128)
+IsStepInRange (ClearTag target source result) = IsTarget target × (source ≤ 31) × (result.word.0 < 2 ^ 128)
+IsStepInRange (SetBounds target source length result) = IsTarget target × (source ≤ 31) × (length < 2 ^ 64) × (result.word.0 < 2 ^ 128)
+IsStepInRange (SetBoundsExact target source length result) = IsTarget target × (source ≤ 31) × (length < 2 ^ 64) × (result.word.0 < 2 ^ 128)
+IsStepInRange (SetAddr target source address result) = IsTarget target × (source ≤ 31) × (address < 2 ^ 64) × (result.word.0 < 2 ^ 128)
+IsStepInRange (AndPerm target source mask result) = IsTarget target × (source ≤ 31) × (mask < 2 ^ 64) × (result.word.0 < 2 ^ 128)
+IsStepInRange (Seal target source authority result) = IsTarget target × (source ≤ 31) × (authority ≤ 31) × (result.word.0 < 2 ^ 128)
+IsStepInRange (Unseal target source authority result) = IsTarget target × (source ≤ 31) × (authority ≤ 31) × (result.word.0 < 2 ^ 128)
+IsStepInRange (LoadCap target authority offset result) = IsTarget target × (authority ≤ 31) × IsOffset offset × (result.word.0 < 2 ^ 128)
+IsStepInRange (StoreCap source authority offset) = (source ≤ 31) × (authority ≤ 31) × IsOffset offset
+IsStepInRange (Load authority offset size value) = (authority ≤ 31) × IsOffset offset × IsDataSize size × (value < 256 ^ size)
+IsStepInRange (Store authority offset size value) = (authority ≤ 31) × IsOffset offset × IsDataSize size × (value < 256 ^ size)
 
 -- the numbers of a line are such as a line has
 abbrev pub IsInRange : Line → Type 0
-IsInRange (Version version) = IsVersion version
+IsInRange (Version version) = (version ≡ 1) ⊎ (version ≡ 2)
 IsInRange (Moding mode) = Unit {0}
-IsInRange (Root place word) = IsPlace place × IsWord word.0
+IsInRange (Root place word) = IsPlace place × (word.0 < 2 ^ 128)
 IsInRange (Stepping step) = IsStepInRange step
 IsInRange (End steps) = steps < 2 ^ 32
 
 -- the bytes are the one spelling of this line
 abbrev pub Spells : List ℕ → Line → Type 0
 Spells bytes line = IsInRange line × (bytes ≡ spelling line)
+
+-- the line and its line feed stand at the front of a buffer, count bytes; the rest is as it was; and the bytes before the
+-- line feed spell this line and no other
+pub record IsLineAt (line : Line) (old new : List ℕ) (count : ℕ) : Type 0 where
+  pub ends : count ≡ length (spelling line) + 1
+  pub fits : count ≤ 96
+  pub written : take count new ≡ spelling line ++ 10 ∷ []
+  pub rest : drop count new ≡ drop count old
+  pub spells : Spells (take (count - 1) new) line
+  pub reads_back : (other : Line) → Spells (take (count - 1) new) other → other ≡ line

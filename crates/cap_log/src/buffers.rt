@@ -8,6 +8,7 @@ use cap_word::{Word, word_text};
 
 /// Writes a text at an index of the buffer, and answers the index behind it. Nothing else of the buffer
 /// changes.
+#[inline(always)]
 pub fn put(buffer: &mut [u8], at: usize, text: &[u8]) -> usize
     requires { at + length text.now ≤ length buffer.old }
     ensures written { Writes at text.now buffer.old buffer.new result }
@@ -27,6 +28,44 @@ pub fn put_decimal(buffer: &mut [u8], at: usize, number: u64) -> usize
 {
     let mut digits = itoa::Buffer::new();
     put(buffer, at, digits.format(number).as_bytes())
+}
+
+/// Writes a number below 10000 in decimal at an index of the buffer, as [`put_decimal`] does.
+#[inline(always)]
+pub(crate) fn put_few(buffer: &mut [u8], at: usize, number: u16) -> usize
+    requires small { number < 10000 }
+    requires room { at + length (decimal number) ≤ length buffer.old }
+    ensures { Writes at (decimal number) buffer.old buffer.new result }
+{
+    if number < 10 {
+        put(buffer, at, &[digit(number)])
+    } else if number < 100 {
+        put(buffer, at, &[digit(number / 10), digit(number % 10)])
+    } else if number < 1000 {
+        let digits = [
+            digit(number / 100),
+            digit(number / 10 % 10),
+            digit(number % 10),
+        ];
+        put(buffer, at, &digits)
+    } else {
+        let digits = [
+            digit(number / 1000),
+            digit(number / 100 % 10),
+            digit(number / 10 % 10),
+            digit(number % 10),
+        ];
+        put(buffer, at, &digits)
+    }
+}
+
+// A decimal digit.
+#[inline(always)]
+fn digit(value: u16) -> u8
+    requires { value < 10 }
+    ensures { result ≡ 48 + value }
+{
+    b'0' + value as u8
 }
 
 /// Writes the last lower-case hexadecimal digits of a number, as many as `digits`, at an index of the

@@ -13,8 +13,8 @@
 //!
 //! A [`Source`] gives bytes a piece at a time, [`Pulled`] holds those that were not yet taken, and [`Lines`]
 //! are the lines of what it gives, however it is cut. A [`Sink`] takes bytes a piece at a time, and
-//! [`push_all`] pushes a whole text. The functions of [`buffers`] put texts and numbers into a buffer, one behind the other. Nothing here
-//! takes memory.
+//! [`push_all`] pushes a whole text. The functions of [`buffers`] put texts and numbers into a buffer, one
+//! behind the other. Nothing here takes memory.
 #![tactic(auto)]
 
 pub mod buffers;
@@ -54,4 +54,4 @@ pub use crate::sources::reading::ReadSource;
 pub use crate::sources::slices::SliceSource;
 pub use crate::sources::{PullFault, Source};
 pub use crate::taking::Lines;
-pub use crate::writing::{write_line, write_place};
+pub use crate::writing::{write_line, write_place, write_step};

@@ -4,10 +4,10 @@ pub mod accesses;
 pub mod numbers;
 pub mod registers;
 
-ghost use Rattle.std.specs.Prelude.{◌≡◌, ◌∷◌, ◌++◌, decimal, IfSome, IfNone};
+ghost use Rattle.std.specs.Prelude.{◌≡◌, ◌≤◌, ◌∷◌, ◌++◌, length, decimal, IfSome, IfNone};
 ghost use Rattle.cap_log.specs.Heads.{head_spelling};
-ghost use Rattle.cap_log.specs.Lines.{IsInRange, IsVersion, mode_spelling, spelling};
-ghost use Rattle.cap_log.specs.Parts.{Begins, BeginsWithNone, IsMode, Reads};
+ghost use Rattle.cap_log.specs.Lines.{IsInRange, IsStepInRange, IsVersion, mode_spelling, spelling};
+ghost use Rattle.cap_log.specs.Parts.{Begins, BeginsWithNone, IsMode, Reads, Writes};
 ghost use Rattle.cap_log.specs.declared.heads.Head.{Head};
 ghost use Rattle.cap_log.specs.declared.lines.Line.TheVariants as lines;
 ghost use Rattle.cap_log.specs.declared.lines.Step.{Step};
@@ -36,6 +36,12 @@ pub trait Operands: Copy {
         ensures some { IfSome result (λ p. Begins IsInRange spelling 10 (head_spelling head ++ 32 ∷ bytes.now)
             (lines.Step (step p.0)) p.1.now) }
         ensures none { IfNone result (BeginsWithNone IsInRange spelling 10 (head_spelling head ++ 32 ∷ bytes.now)) };
+
+    /// Writes the step's line, without its line feed, at the front of the buffer, and answers where it ends.
+    fn write(self, buffer: &mut [u8]) -> usize
+        requires in_range { IsStepInRange (step self) }
+        requires room { 95 ≤ length buffer.old }
+        ensures written { Writes 0 (spelling (lines.Step (step self))) buffer.old buffer.new result };
 
     /// The step that has them.
     fn into_step(self) -> Step

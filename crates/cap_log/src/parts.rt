@@ -53,6 +53,7 @@ impl<A: Single, B: Part> Part for (A, B) {
         Some(((first, second), rest))
     }
 
+    #[inline(always)]
     fn write(&self, buffer: &mut [u8], at: usize) -> usize {
         let space = self.0.write(buffer, at);
         let next = put(buffer, space, b" ");

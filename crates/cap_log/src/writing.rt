@@ -1,7 +1,7 @@
 //! Writing lines and places.
 
-ghost use Rattle.std.specs.Prelude.{◌≡◌, ◌+◌, ◌-◌, ◌≤◌, [], ◌∷◌, ◌++◌, length, take, drop};
-ghost use Rattle.cap_log.specs.Lines.{IsInRange, IsPlace, IsStepInRange, IsVersion, Spells, place_spelling, spelling};
+ghost use Rattle.std.specs.Prelude.{◌≡◌, ◌≤◌, length, take, drop};
+ghost use Rattle.cap_log.specs.Lines.{IsInRange, IsLineAt, IsPlace, IsStepInRange, IsVersion, place_spelling, spelling};
 ghost use Rattle.cap_log.specs.Parts.{Writes};
 ghost use Rattle.cap_log.specs.declared.lines.Line.{Line};
 ghost use Rattle.cap_log.specs.declared.lines.Line.TheVariants as line;
@@ -9,28 +9,32 @@ ghost use Rattle.cap_log.specs.declared.lines.Line.TheVariants as line;
 use crate::buffers::put;
 use crate::heads::Head;
 use crate::lines::{Line, Mode, Place, Step};
+use crate::operands::Operands;
+use crate::operands::accesses::{Load, LoadCap, Store, StoreCap};
+use crate::operands::numbers::{AndPerm, SetAddr, SetBounds, SetBoundsExact};
+use crate::operands::registers::{ClearTag, Move, Seal, Unseal};
 use crate::parts::Part;
 use crate::parts::decimals::Count;
-use crate::parts::hexadecimals::Number;
-use crate::parts::offsets::Offset;
-use crate::parts::registers::{Register, Target};
-use crate::parts::results::Recorded;
-use crate::parts::sized::{Loaded, Stored};
 
 /// Writes a line and its line feed at the front of the buffer, and answers how many bytes they are.
 /// The line's numbers have to be in their ranges. The rest of the buffer stays as it was, and
 /// [`read_line`](crate::read_line) of the bytes before the line feed gives the line back.
 pub fn write_line(line: &Line, buffer: &mut [u8; 96]) -> usize
     requires { IsInRange line.now }
-    ensures ends { result ≡ length (spelling line.now) + 1 }
-    ensures fits { result ≤ 96 }
-    ensures written { take result buffer.new ≡ spelling line.now ++ 10 ∷ [] }
-    ensures rest { drop result buffer.new ≡ drop result buffer.old }
-    ensures spells { Spells (take (result - 1) buffer.new) line.now }
-    ensures reads_back { (other : Line) → Spells (take (result - 1) buffer.new) other → other ≡ line.now }
+    ensures line { IsLineAt line.now buffer.old buffer.new result }
 {
     let end = write_words(line, buffer);
     put(buffer, end, b"\n")
+}
+
+/// Writes the line of a step of one kind, as [`write_line`] does, and asks for no other kind.
+#[inline(always)]
+pub fn write_step<O: Operands>(step: O, buffer: &mut [u8; 96]) -> usize
+    requires { IsStepInRange (O.step step) }
+    ensures line { IsLineAt (line.Step (O.step step)) buffer.old buffer.new result }
+{
+    let words = step.write(buffer);
+    put(buffer, words, b"\n")
 }
 
 /// Writes a place as a root names it at the front of the buffer, and answers how many bytes it is.
@@ -55,7 +59,7 @@ fn write_words(line: &Line, buffer: &mut [u8]) -> usize
         Line::Version(version) => write_version(version, buffer),
         Line::Mode(mode) => write_mode(mode, buffer),
         Line::Root(place, word) => (Head::Root, (place, word)).write(buffer, 0),
-        Line::Step(step) => write_step(step, buffer),
+        Line::Step(step) => write_any(step, buffer),
         Line::End(steps) => (Head::End, Count(steps)).write(buffer, 0),
     }
 }
@@ -84,8 +88,8 @@ fn write_mode(mode: Mode, buffer: &mut [u8]) -> usize
     }
 }
 
-// Writes a step.
-fn write_step(step: Step, buffer: &mut [u8]) -> usize
+// Writes a step without its line feed.
+fn write_any(step: Step, buffer: &mut [u8]) -> usize
     requires in_range { IsStepInRange step }
     requires room { 95 ≤ length buffer.old }
     ensures { Writes 0 (spelling (line.Step step)) buffer.old buffer.new result }
@@ -96,16 +100,24 @@ fn write_step(step: Step, buffer: &mut [u8]) -> usize
             source,
             result,
         } => {
-            let operands = (Target(target), (Register(source), Recorded(result)));
-            (Head::Move, operands).write(buffer, 0)
+            let step = Move {
+                target,
+                source,
+                result,
+            };
+            step.write(buffer)
         }
         Step::ClearTag {
             target,
             source,
             result,
         } => {
-            let operands = (Target(target), (Register(source), Recorded(result)));
-            (Head::ClearTag, operands).write(buffer, 0)
+            let step = ClearTag {
+                target,
+                source,
+                result,
+            };
+            step.write(buffer)
         }
         Step::SetBounds {
             target,
@@ -113,11 +125,13 @@ fn write_step(step: Step, buffer: &mut [u8]) -> usize
             length,
             result,
         } => {
-            let operands = (
-                Target(target),
-                (Register(source), (Number(length), Recorded(result))),
-            );
-            (Head::SetBounds, operands).write(buffer, 0)
+            let step = SetBounds {
+                target,
+                source,
+                length,
+                result,
+            };
+            step.write(buffer)
         }
         Step::SetBoundsExact {
             target,
@@ -125,11 +139,13 @@ fn write_step(step: Step, buffer: &mut [u8]) -> usize
             length,
             result,
         } => {
-            let operands = (
-                Target(target),
-                (Register(source), (Number(length), Recorded(result))),
-            );
-            (Head::SetBoundsExact, operands).write(buffer, 0)
+            let step = SetBoundsExact {
+                target,
+                source,
+                length,
+                result,
+            };
+            step.write(buffer)
         }
         Step::SetAddr {
             target,
@@ -137,11 +153,13 @@ fn write_step(step: Step, buffer: &mut [u8]) -> usize
             address,
             result,
         } => {
-            let operands = (
-                Target(target),
-                (Register(source), (Number(address), Recorded(result))),
-            );
-            (Head::SetAddr, operands).write(buffer, 0)
+            let step = SetAddr {
+                target,
+                source,
+                address,
+                result,
+            };
+            step.write(buffer)
         }
         Step::AndPerm {
             target,
@@ -149,11 +167,13 @@ fn write_step(step: Step, buffer: &mut [u8]) -> usize
             mask,
             result,
         } => {
-            let operands = (
-                Target(target),
-                (Register(source), (Number(mask), Recorded(result))),
-            );
-            (Head::AndPerm, operands).write(buffer, 0)
+            let step = AndPerm {
+                target,
+                source,
+                mask,
+                result,
+            };
+            step.write(buffer)
         }
         Step::Seal {
             target,
@@ -161,11 +181,13 @@ fn write_step(step: Step, buffer: &mut [u8]) -> usize
             authority,
             result,
         } => {
-            let operands = (
-                Target(target),
-                (Register(source), (Register(authority), Recorded(result))),
-            );
-            (Head::Seal, operands).write(buffer, 0)
+            let step = Seal {
+                target,
+                source,
+                authority,
+                result,
+            };
+            step.write(buffer)
         }
         Step::Unseal {
             target,
@@ -173,11 +195,13 @@ fn write_step(step: Step, buffer: &mut [u8]) -> usize
             authority,
             result,
         } => {
-            let operands = (
-                Target(target),
-                (Register(source), (Register(authority), Recorded(result))),
-            );
-            (Head::Unseal, operands).write(buffer, 0)
+            let step = Unseal {
+                target,
+                source,
+                authority,
+                result,
+            };
+            step.write(buffer)
         }
         Step::LoadCap {
             target,
@@ -185,19 +209,25 @@ fn write_step(step: Step, buffer: &mut [u8]) -> usize
             offset,
             result,
         } => {
-            let operands = (
-                Target(target),
-                (Register(authority), (Offset(offset), Recorded(result))),
-            );
-            (Head::LoadCap, operands).write(buffer, 0)
+            let step = LoadCap {
+                target,
+                authority,
+                offset,
+                result,
+            };
+            step.write(buffer)
         }
         Step::StoreCap {
             source,
             authority,
             offset,
         } => {
-            let operands = (Register(source), (Register(authority), Offset(offset)));
-            (Head::StoreCap, operands).write(buffer, 0)
+            let step = StoreCap {
+                source,
+                authority,
+                offset,
+            };
+            step.write(buffer)
         }
         Step::Load {
             authority,
@@ -205,11 +235,13 @@ fn write_step(step: Step, buffer: &mut [u8]) -> usize
             size,
             value,
         } => {
-            let operands = (
-                Register(authority),
-                (Offset(offset), Loaded { size, value }),
-            );
-            (Head::Load, operands).write(buffer, 0)
+            let step = Load {
+                authority,
+                offset,
+                size,
+                value,
+            };
+            step.write(buffer)
         }
         Step::Store {
             authority,
@@ -217,11 +249,13 @@ fn write_step(step: Step, buffer: &mut [u8]) -> usize
             size,
             value,
         } => {
-            let operands = (
-                Register(authority),
-                (Offset(offset), Stored { size, value }),
-            );
-            (Head::Store, operands).write(buffer, 0)
+            let step = Store {
+                authority,
+                offset,
+                size,
+                value,
+            };
+            step.write(buffer)
         }
     }
 }

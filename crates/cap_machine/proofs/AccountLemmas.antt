@@ -2,6 +2,7 @@
 use Rattle.std.proofs.Common.{◌≡◌, ℕ, ◌+◌, ◌<◌, ◌≤◌, Bool, true, false, not, ◌&&◌, ◌||◌, nat_le, List, [], ◌∷◌, length}
 use Rattle.std.proofs.Common.{Option, Some, None, refl, sym, ap, ◌∙◌, arith}
 use Rattle.std.specs.Bool.{if◌then◌else◌}
+use Rattle.std.specs.List.{fold}
 use Rattle.std.proofs.lemmas.Bool.{false≢true, or_from, lt-leb}
 use Rattle.cap_word.specs.declared.word.Word.{Word}
 use Rattle.cap_bounds.specs.Bounds.{is_sound}
@@ -10,13 +11,22 @@ use Rattle.cap_log.specs.declared.lines.Step.{Step}
 use Rattle.cap_ops.specs.Tests.{first_of}
 use Rattle.cap_ops.proofs.TestLemmas.{NoneHold}
 use Rattle.cap_machine.specs.States.{State, DeclaredRoot, key_of}
-use Rattle.cap_machine.specs.Steps.{Leads, is_recorded}
+use Rattle.cap_machine.specs.Steps.{Leads}
+use Rattle.cap_machine.proofs.StepLemmas.{is_recorded}
 use Rattle.cap_machine.specs.Accounts.{Account, no_account, most_roots, most_granules, most_steps, granule_of, named_by}
 use Rattle.cap_machine.specs.Accounts.{row_in, passes_granule_limit, naming, with_root, with_step, root_tests}
 use Rattle.cap_machine.specs.Accounts.{step_tests}
 use Rattle.cap_machine.specs.declared.rules.Rules.{Rules}
-use Rattle.cap_machine.specs.RunAccounts.{after_roots, after_steps, account_after}
-use Rattle.cap_machine.proofs.MadeLemmas.{first_mapped-none, ending}
+use Rattle.cap_machine.specs.RunAccounts.{account_after}
+use Rattle.cap_ops.proofs.TestLemmas.{first_of-append_none}
+use Rattle.cap_machine.proofs.MadeLemmas.{ending}
+
+-- the account after roots, and after steps
+abbrev pub after_roots : Account → List DeclaredRoot → Account
+after_roots account roots = fold (λ (before : Account) (root : DeclaredRoot). with_root before root.place root.word) account roots
+
+abbrev pub after_steps : Account → List Step → Account
+after_steps account steps = fold with_step account steps
 
 -- an account grows into another by so many roots and steps: its rules stay, and no granule that was named is taken away
 pub record Grows (old new : Account) (roots steps : ℕ) : Type 0 where
@@ -101,6 +111,6 @@ pub step_free : (account : Account) (step : Step) (next : State) → Leads accou
 step_free account step next leads few_steps few_granules =
     let row = row_in account step in
     let limit = or_from _ _ (lt-leb most_steps account.steps few_steps) (within account (named_by row) few_granules) in
-    first_mapped-none row.tests _ leads.allowed
+    first_of-append_none row.tests _ leads.allowed
     ∙ first_of-none (ending (is_recorded row) (nat_le most_steps account.steps || passes_granule_limit account (named_by row)))
     (ap not leads.recorded, (limit, tt))

@@ -16,9 +16,9 @@ use Rattle.cap_ops.proofs.ReachLemmas.{ReachesNoMore-refl, ReachesNoMore-trans}
 use Rattle.cap_machine.specs.declared.rules.Rules.{Rules}
 use Rattle.cap_machine.specs.States.{State, DeclaredRoot, key_of, tagged, start}
 use Rattle.cap_machine.specs.Steps.{Leads, row_of, row_by, state_with}
-use Rattle.cap_machine.specs.Runs.{IsRun, state_at, last_of, hits, parent_of, Descends, AuthorityNeverGrows, AreSound}
+use Rattle.cap_machine.specs.Runs.{IsRun, state_at, last_of, parent_of, Descends, AuthorityNeverGrows, AreSound}
 use Rattle.cap_machine.specs.Parents.{IsSoundState, ComesFrom}
-use Rattle.cap_machine.proofs.StepLemmas.{WritesWithin, writes_within_by, hits-row_by, parent_in}
+use Rattle.cap_machine.proofs.StepLemmas.{WritesWithin, hits, writes_within_by, hits-row_by, parent_in}
 
 -- what a tagged place holds after a write reaches no more than what the place before the write held that it comes from
 record Came (old new : State) (hit : Bool) (parent : Option Place) (key from : ℕ) : Type 0 where

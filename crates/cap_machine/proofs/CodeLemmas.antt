@@ -18,13 +18,12 @@ use Rattle.cap_machine.specs.Places.{IsCoded, AreCoded, places_of, codes_of, pla
 use Rattle.std.specs.Option.{option_and_then}
 use Rattle.cap_machine.specs.Origins.{Origins, origins_after}
 use Rattle.cap_machine.specs.Steps.{row_of, state_with}
-use Rattle.cap_machine.specs.Runs.{hits}
 use Rattle.cap_machine.specs.Accounts.{row_in}
 use Rattle.cap_machine.specs.Helds.{Held, state_of, code_in, account_of}
 use Rattle.cap_machine.specs.Changes.{code_for}
 use Rattle.cap_machine.proofs.GranuleLemmas.{cap_of}
 use Rattle.cap_machine.proofs.StateLemmas.{state-register, state-granule, codes-register, codes-granule}
-use Rattle.cap_machine.proofs.StepLemmas.{hits-row_by, parent_in}
+use Rattle.cap_machine.proofs.StepLemmas.{hits, hits-row_by, parent_in}
 
 -- the places that codes are of
 pub place_at-key : (place : Place) → IsPlace place → place_at (key_of place) ≡ Some place

@@ -1,9 +1,9 @@
 -- A step that sets bounds is refused for them exactly where the requested ones do not lie inside its source's.
 use Rattle.std.proofs.Common.{◌≡◌, ◌≢◌, ◌↔◌, ℕ, zero, suc, ℤ, ◌^◌, ◌<◌, Bool, true, false, List, [], ◌∷◌, Option, if◌then◌else◌}
-use Rattle.std.proofs.Common.{refl, sym, ap, subst, ◌∙◌, Some, None, Result, Ok, Err, OnOk}
+use Rattle.std.proofs.Common.{◌&&◌, inl, inr, is_some, refl, sym, ap, subst, ◌∙◌, Some, None, Result, Ok, Err, OnOk}
 use Rattle.std.specs.Prelude.{slice_get}
 use Rattle.std.specs.List.{AllByRecursion}
-use Rattle.std.proofs.lemmas.Bool.{eq-eqb}
+use Rattle.std.proofs.lemmas.Bool.{and_parts, eq-eqb, false≢true}
 use Rattle.std.proofs.lemmas.Option.{none-some, same_Some}
 use Rattle.cap_word.specs.declared.word.Cap.{Cap}
 use Rattle.cap_bounds.specs.Bounds.{IsSound}
@@ -12,8 +12,7 @@ use Rattle.cap_log.specs.declared.lines.Step.{Step}
 use Rattle.cap_log.specs.declared.lines.Step.TheVariants.{Move, ClearTag, SetBounds, SetBoundsExact, SetAddr, AndPerm}
 use Rattle.cap_log.specs.declared.lines.Step.TheVariants.{Seal, Unseal, LoadCap, StoreCap, Load, Store}
 use Rattle.cap_log.specs.Lines.{IsStepInRange}
-use Rattle.cap_ops.specs.declared.faults.OpFault.{OpFault}
-use Rattle.cap_ops.specs.declared.faults.OpFault.TheVariants as faults
+use Rattle.cap_ops.specs.declared.refusal.Refusal.{Refusal}
 use Rattle.cap_ops.specs.Tests.{first_of}
 use Rattle.cap_ops.specs.declared.kinds.Kind.{Kind}
 use Rattle.cap_ops.specs.declared.kinds.Kind.TheVariants.{LoadData, StoreData}
@@ -23,12 +22,11 @@ use Rattle.cap_ops.specs.Operations.{clear_result, set_bounds_tests, set_bounds_
 use Rattle.cap_ops.specs.Operations.{seal_tests, unseal_tests}
 use Rattle.cap_ops.proofs.ClearLemmas.{untagged_where_beyond}
 use Rattle.cap_ops.specs.Permissions.{is_sealed}
-use Rattle.cap_ops.proofs.TestLemmas.{EndsWith}
-use Rattle.cap_ops.proofs.NarrowingLemmas.{BoundsEscape-exact, BoundsEscape-source}
-use Rattle.cap_ops.specs.declared.refusal.Refusal.TheVariants.{BoundsEscape}
+use Rattle.cap_ops.proofs.TestLemmas.{first_of-append, first_of-append_some}
+use Rattle.cap_ops.proofs.NarrowingLemmas.{BoundsEscape-source, first_escapes, escapes_first as first_escapes_beyond}
+use Rattle.cap_ops.specs.declared.refusal.Refusal.TheVariants.{BoundsEscape, WrongResult}
 use Rattle.cap_machine.specs.declared.ends.StepEnd.{StepEnd}
 use Rattle.cap_machine.specs.declared.ends.StepEnd.TheVariants.{Refused, NoMemory}
-use Rattle.cap_ops.specs.Refusals.{refusal_of}
 use Rattle.cap_machine.specs.declared.rules.Rules.{Rules}
 use Rattle.cap_machine.specs.declared.rules.Rules.TheVariants.{One, TwoStrict, TwoClear}
 use Rattle.cap_machine.specs.States.{State, DeclaredRoot, put, start}
@@ -39,56 +37,14 @@ use Rattle.cap_machine.specs.Parents.{IsSoundState, StaysWithinParents}
 use Rattle.cap_machine.specs.Runs.{AreSound, IsRun, state_at}
 use Rattle.cap_machine.specs.Escapes.{HasRoomFor, AsksBeyond, ClearsBeyond, ClearsExactly, Escapes, asked_by}
 use Rattle.cap_machine.proofs.AuthorityLemmas.{one_back, start_sound}
-use Rattle.cap_machine.proofs.MadeLemmas.{EndsIn, first_mapped-some, first_mapped-none, ending, row_by-written}
-
--- how an operation ends
-ended : (tests : List (Bool × OpFault)) (cap : Cap) → (result : Result Cap OpFault) × EndsWith result tests cap
-ended tests cap =
-    elim (first_of tests) as (λ o. first_of tests ≡ o → (result : Result Cap OpFault) × EndsWith result tests cap) [
-      | None ↦ λ is. (Ok cap, (is, refl))
-      | Some fault ↦ λ is. (Err fault, is)
-    ] refl
-
-at_fault : (result : Result Cap OpFault) (tests : List (Bool × OpFault)) (cap : Cap) (fault : OpFault) → EndsWith result tests cap
-    → first_of tests ≡ Some fault → result ≡ Err fault
-at_fault (Ok made) tests cap fault ends h = let none = ends.0 in cc
-at_fault (Err found) tests cap fault ends h =
-    ap (λ (f : OpFault). let r : Result Cap OpFault = Err f in r) (same_Some found fault (sym ends ∙ h))
-
-fault_at : (result : Result Cap OpFault) (tests : List (Bool × OpFault)) (cap : Cap) (fault : OpFault) → EndsWith result tests cap
-    → result ≡ Err fault → first_of tests ≡ Some fault
-fault_at (Ok made) tests cap fault ends h = cc
-fault_at (Err found) tests cap fault ends h = cc
+use Rattle.cap_machine.proofs.MadeLemmas.{EndsIn, ending, row_by-written}
 
 -- the first test of new bounds that holds
 escapes : (source : Cap) (length : ℕ) (exact : Bool) → length < 2 ^ 64 → source.tag ≡ true → is_sealed source.word.0 ≡ false
     → IsSound source.word.0
-    → (first_of (set_bounds_tests source length exact) ≡ Some faults.BoundsEscape) ↔ (HasRoomFor source length → ⊥)
+    → (first_of (set_bounds_tests source length exact) ≡ Some BoundsEscape) ↔ (HasRoomFor source length → ⊥)
 escapes source length exact fits tagged unsealed sound =
-    let tests = set_bounds_tests source length exact in
-    let cap = set_bounds_result source length in
-    let end = ended tests cap in
-    let both = BoundsEscape-exact source length exact end.0 fits end.1 tagged unsealed sound in (
-      λ h. both.0 (at_fault end.0 tests cap faults.BoundsEscape end.1 h),
-      λ outside. fault_at end.0 tests cap faults.BoundsEscape end.1 (both.1 outside),
-    )
-
--- one fault alone is this refusal
-only_escape : (fault : OpFault) → refusal_of fault ≡ BoundsEscape → fault ≡ faults.BoundsEscape
-only_escape faults.SourceUntagged h = cc
-only_escape faults.SourceSealed h = cc
-only_escape faults.BoundsEscape h = refl
-only_escape faults.NotExact h = cc
-only_escape faults.NotRepresentable h = cc
-only_escape faults.AuthorityUntagged h = cc
-only_escape faults.AuthoritySealed h = cc
-only_escape faults.AuthorityPermission h = cc
-only_escape faults.AuthorityBounds h = cc
-only_escape faults.TypeOutOfRange h = cc
-only_escape faults.TypeMismatch h = cc
-only_escape faults.Misaligned h = cc
-only_escape faults.StoreCapPermission h = cc
-only_escape faults.StoreLocalPermission h = cc
+    (first_escapes_beyond source length exact fits tagged unsealed sound, first_escapes source length exact fits tagged unsealed sound)
 
 no_last_test : (recorded limit : Bool) → first_of (ending recorded limit) ≡ Some BoundsEscape → ⊥
 no_last_test true true h = cc
@@ -96,15 +52,13 @@ no_last_test true false h = cc
 no_last_test false limit h = cc
 
 -- the tests of a step begin with those of its operation
-first_escapes : (account : Account) (step : Step) → first_of (step_tests account step) ≡ Some BoundsEscape
-    → first_of ((row_in account step).tests) ≡ Some faults.BoundsEscape
-first_escapes account step h =
-    let tests = (row_in account step).tests in
-    elim (first_of tests) as (λ o. first_of tests ≡ o → first_of tests ≡ Some faults.BoundsEscape) [
-      | None ↦ λ is. absurd (no_last_test _ _ (sym (first_mapped-none tests _ is) ∙ h))
-      | Some fault ↦ λ is. is ∙ ap (λ (f : OpFault). Some f) (only_escape fault
-          (same_Some _ _ (sym (first_mapped-some tests _ fault is) ∙ h)))
-    ] refl
+of_operation : (account : Account) (step : Step) → first_of (step_tests account step) ≡ Some BoundsEscape
+    → first_of ((row_in account step).tests) ≡ Some BoundsEscape
+of_operation account step h =
+    elim (first_of-append (row_in account step).tests _ BoundsEscape h) [
+      | inl found ↦ found
+      | inr last ↦ absurd (no_last_test _ _ last.1)
+    ]
 
 answers : (old new : Held) (step : Step) (result : Result (Unit {0}) StepEnd) → EndsIn old step result new
     → result ≡ Err (Refused BoundsEscape)
@@ -122,7 +76,7 @@ answered old new step (Err NoMemory) ends h = let free = ends.0 in cc
 -- the same by any rules
 escapes_by : (rules : Rules) (source : Cap) (length : ℕ) (exact : Bool) → length < 2 ^ 64 → source.tag ≡ true
     → is_sealed source.word.0 ≡ false → IsSound source.word.0
-    → (first_of (tests_by rules (set_bounds_tests source length exact)) ≡ Some faults.BoundsEscape)
+    → (first_of (tests_by rules (set_bounds_tests source length exact)) ≡ Some BoundsEscape)
     ↔ ((rules ≢ TwoClear) × (HasRoomFor source length → ⊥))
 escapes_by One source length exact fits held unsealed sound =
     let both = escapes source length exact fits held unsealed sound in (λ h. (λ e. cc, both.0 h), λ p. both.1 p.1)
@@ -132,7 +86,7 @@ escapes_by TwoClear source length exact fits held unsealed sound = (λ h. cc, λ
 
 -- what a step that sets bounds asks for
 asks : (rules : Rules) (state : State) (source length : ℕ) (exact : Bool) → length < 2 ^ 64 → IsSoundState state
-    → first_of (tests_by rules (set_bounds_tests (state source) length exact)) ≡ Some faults.BoundsEscape
+    → first_of (tests_by rules (set_bounds_tests (state source) length exact)) ≡ Some BoundsEscape
     → (rules ≢ TwoClear) × AsksBeyond state (Some (source, length))
 asks TwoClear state source length exact fits sound h = cc
 asks One state source length exact fits sound h =
@@ -148,67 +102,79 @@ narrowed : (account : Account) (step : Step) (source length : ℕ) (exact : Bool
     → (first_of (step_tests account step) ≡ Some BoundsEscape) ↔ ((account.rules ≢ TwoClear)
     × AsksBeyond account.state (Some (source, length)))
 narrowed account step source length exact same fits sound = (
-  λ h. asks account.rules account.state source length exact fits sound (sym (ap first_of same) ∙ first_escapes account step h),
+  λ h. asks account.rules account.state source length exact fits sound (sym (ap first_of same) ∙ of_operation account step h),
   λ beyond.
       let by = escapes_by account.rules (account.state source) length exact fits beyond.1.0 beyond.1.1 (sound source beyond.1.0) in
-      first_mapped-some ((row_in account step).tests) _ faults.BoundsEscape (ap first_of same ∙ by.1 (beyond.0, beyond.1.2)),
+      first_of-append_some ((row_in account step).tests) _ BoundsEscape (ap first_of same ∙ by.1 (beyond.0, beyond.1.2)),
 )
 
--- none of the tests is that of bounds
-abbrev FreeOfEscapes : List (Bool × OpFault) → Type 0
-FreeOfEscapes [] = Unit {0}
-FreeOfEscapes (test ∷ tests) = (test.1 ≢ faults.BoundsEscape) × FreeOfEscapes tests
+-- whether a refusal is that of a test of an operation or of an access: its result is none, and its bounds only where it asks for some
+abbrev is_own : Bool → Refusal → Bool
+is_own asks BoundsEscape = asks
+is_own asks WrongResult = false
+is_own asks refusal = true
 
-not_first : (tests : List (Bool × OpFault)) → FreeOfEscapes tests → first_of tests ≡ Some faults.BoundsEscape → ⊥
-not_first [] free h = none-some faults.BoundsEscape h
-not_first ((true, fault) ∷ tests) free h = free.0 (same_Some _ _ h)
-not_first ((false, fault) ∷ tests) free h = not_first tests free.1 h
+abbrev all_own : Bool → List (Bool × Refusal) → Bool
+all_own asks [] = true
+all_own asks (test ∷ tests) = is_own asks test.1 && all_own asks tests
 
-where_tagged : (tag : Bool) (tests : List (Bool × OpFault)) → FreeOfEscapes tests → FreeOfEscapes (if tag then tests else [])
-where_tagged true tests free = free
-where_tagged false tests free = tt
+first_own : (asks : Bool) (tests : List (Bool × Refusal)) (refusal : Refusal) → all_own asks tests ≡ true → first_of tests ≡ Some refusal
+    → is_own asks refusal ≡ true
+first_own asks [] refusal own h = absurd (none-some refusal h)
+first_own asks ((true, other) ∷ tests) refusal own h =
+    ap (is_own asks) (sym (same_Some _ _ h)) ∙ (and_parts (is_own asks other) (all_own asks tests) own).0
+first_own asks ((false, other) ∷ tests) refusal own h =
+    first_own asks tests refusal (and_parts (is_own asks other) (all_own asks tests) own).1 h
 
--- nor is one of an access
-access_free : (authority : Cap) (kind : Kind) (offset : ℤ) (size : ℕ) → FreeOfEscapes (access_tests authority kind offset size)
+own_where : (asks tag : Bool) (tests : List (Bool × Refusal)) → all_own asks tests ≡ true → all_own asks (if tag then tests else []) ≡ true
+own_where asks true tests own = own
+own_where asks false tests own = refl
+
+access_own : (authority : Cap) (kind : Kind) (offset : ℤ) (size : ℕ) → all_own false (access_tests authority kind offset size) ≡ true
 unfolding access_tests
-access_free authority LoadData offset size = ((λ e. cc), ((λ e. cc), ((λ e. cc), ((λ e. cc), ((λ e. cc), tt)))))
-access_free authority StoreData offset size = ((λ e. cc), ((λ e. cc), ((λ e. cc), ((λ e. cc), ((λ e. cc), tt)))))
-access_free authority LoadCapability offset size = ((λ e. cc), ((λ e. cc), ((λ e. cc), ((λ e. cc), ((λ e. cc), tt)))))
-access_free authority (StoreCapability stored) offset size =
-    ((λ e. cc), ((λ e. cc), ((λ e. cc), ((λ e. cc), ((λ e. cc), ((λ e. cc), ((λ e. cc), tt)))))))
+access_own authority LoadData offset size = refl
+access_own authority StoreData offset size = refl
+access_own authority LoadCapability offset size = refl
+access_own authority (StoreCapability stored) offset size = refl
 
--- nor one of any step that asks for no bounds
-row_free : (state : State) (step : Step) → asked_by step ≡ None → FreeOfEscapes (row_of state step).tests
-unfolding set_addr_tests and_perm_tests seal_tests unseal_tests
-row_free state (Move target source recorded) none = tt
-row_free state (ClearTag target source recorded) none = tt
-row_free state (SetBounds target source length recorded) none = absurd cc
-row_free state (SetBoundsExact target source length recorded) none = absurd cc
-row_free state (SetAddr target source address recorded) none = where_tagged (state source).tag _ ((λ e. cc), ((λ e. cc), tt))
-row_free state (AndPerm target source mask recorded) none = where_tagged (state source).tag _ ((λ e. cc), tt)
-row_free state (Seal target source authority recorded) none =
-    ((λ e. cc), ((λ e. cc), ((λ e. cc), ((λ e. cc), ((λ e. cc), ((λ e. cc), ((λ e. cc), tt)))))))
-row_free state (Unseal target source authority recorded) none =
-    ((λ e. cc), ((λ e. cc), ((λ e. cc), ((λ e. cc), ((λ e. cc), ((λ e. cc), tt))))))
-row_free state (LoadCap target authority offset recorded) none = access_free (state authority) LoadCapability offset 16
-row_free state (StoreCap source authority offset) none = access_free (state authority) (StoreCapability (state source)) offset 16
-row_free state (Load authority offset size value) none = access_free (state authority) LoadData offset size
-row_free state (Store authority offset size value) none = access_free (state authority) StoreData offset size
+-- so it is in each row
+row_own : (state : State) (step : Step) → all_own (is_some (asked_by step)) (row_of state step).tests ≡ true
+unfolding set_bounds_tests set_addr_tests and_perm_tests seal_tests unseal_tests
+row_own state (Move target source recorded) = refl
+row_own state (ClearTag target source recorded) = refl
+row_own state (SetBounds target source length recorded) = own_where true (state source).tag _ refl
+row_own state (SetBoundsExact target source length recorded) = own_where true (state source).tag _ refl
+row_own state (SetAddr target source address recorded) = own_where false (state source).tag _ refl
+row_own state (AndPerm target source mask recorded) = own_where false (state source).tag _ refl
+row_own state (Seal target source authority recorded) = refl
+row_own state (Unseal target source authority recorded) = refl
+row_own state (LoadCap target authority offset recorded) = access_own (state authority) LoadCapability offset 16
+row_own state (StoreCap source authority offset) = access_own (state authority) (StoreCapability (state source)) offset 16
+row_own state (Load authority offset size value) = access_own (state authority) LoadData offset size
+row_own state (Store authority offset size value) = access_own (state authority) StoreData offset size
 
-cleared_free : (access : Option Access) (row : Row) → FreeOfEscapes row.tests → FreeOfEscapes (clear_row access row).tests
-cleared_free None row free = tt
-cleared_free (Some access) row free = free
+own_by : (rules : Rules) (row : Row) (asks : Bool) → all_own asks row.tests ≡ true → all_own asks (row_by rules row).tests ≡ true
+own_by One row asks own = own
+own_by TwoStrict row asks own = own
+own_by TwoClear row asks own = cleared_own row.access row own where
+  cleared_own : (access : Option Access) (row : Row) → all_own asks row.tests ≡ true → all_own asks (clear_row access row).tests ≡ true
+  cleared_own None row own = refl
+  cleared_own (Some access) row own = own
 
-free_by : (rules : Rules) (row : Row) → FreeOfEscapes row.tests → FreeOfEscapes (row_by rules row).tests
-free_by One row free = free
-free_by TwoStrict row free = free
-free_by TwoClear row free = cleared_free row.access row free
+refused_own : (account : Account) (step : Step) (refusal : Refusal) → first_of (row_in account step).tests ≡ Some refusal
+    → is_own (is_some (asked_by step)) refusal ≡ true
+refused_own account step refusal h =
+    let row = row_of account.state step in
+    first_own _ (row_in account step).tests refusal (own_by account.rules row (is_some (asked_by step)) (row_own account.state step)) h
+
+-- no test of an operation or of an access is that of the result
+pub never_wrong : (account : Account) (step : Step) → first_of (row_in account step).tests ≡ Some WrongResult → ⊥
+never_wrong account step h = false≢true (refused_own account step WrongResult h)
 
 never : (account : Account) (step : Step) → asked_by step ≡ None
     → (first_of (step_tests account step) ≡ Some BoundsEscape) ↔ ((account.rules ≢ TwoClear) × ⊥)
 never account step none = (
-  λ h. absurd (not_first _ (free_by account.rules (row_of account.state step) (row_free account.state step none))
-      (first_escapes account step h)),
+  λ h. absurd (false≢true (sym (ap is_some none) ∙ refused_own account step BoundsEscape (of_operation account step h))),
   λ beyond. absurd beyond.1,
 )
 

@@ -1,7 +1,9 @@
 -- Granules as capabilities and as numbers.
-use Rattle.std.proofs.Common.{◌≡◌, ℕ, zero, suc, ◌+◌, ◌*◌, ◌/◌, ◌%◌, ◌^◌, ◌<◌, ◌≤◌, false, List, [], ◌∷◌, length, drop, take, get_or, refl}
-use Rattle.std.proofs.Common.{sym, ap, ◌∙◌, arith, Option, Some, None, IfSome}
-use Rattle.std.proofs.Math.Nat.{div-div-eq-div-mul, pow-suc, pow-zero, div-one, zero-div}
+use Rattle.std.proofs.Common.{◌≡◌, ℕ, zero, suc, ◌+◌, ◌*◌, ◌/◌, ◌%◌, ◌^◌, ◌<◌, ◌≤◌, false, List, [], ◌∷◌, drop, take, get_or, refl}
+use Rattle.std.proofs.Common.{sym, ap, subst, ◌∙◌, arith, lit<, Option, Some, None, IfSome}
+use Rattle.std.proofs.lemmas.List.{get_or-drop}
+use Rattle.std.proofs.Math.Arith.{mod-mul}
+use Rattle.std.proofs.Math.Nat.{div-div-eq-div-mul, mod-one, pow-suc, pow-zero, div-one, zero-div, zero-mod}
 use Rattle.std.proofs.lemmas.Nat.{pow-add}
 use Rattle.std.specs.Prelude.{unwrap_or, replicate}
 use Rattle.std.specs.FinMap as map
@@ -9,7 +11,7 @@ use Rattle.std.specs.Int.{bytes_low_first, to_le_bytes, w64}
 use Rattle.cap_word.specs.Word.{null_word}
 use Rattle.cap_word.specs.Memory.{number_of, stored_word, low_bytes}
 use Rattle.cap_word.specs.declared.word.Cap.{Cap}
-use Rattle.cap_word.proofs.Bytes.{byte_at_is, number_of_drop}
+use Rattle.cap_word.proofs.Bytes.{byte_at_is}
 use Rattle.tagmem.specs.Granules.{Granules, AreStored, Entry, IsNextPut, blank}
 use Rattle.cap_machine.specs.States.{untagged_null}
 use Rattle.cap_machine.specs.Helds.{granule_cap}
@@ -30,7 +32,7 @@ granule_cap-absent memory granule absent =
     Cap = record { tag = false; word = record { 0 = n } } in cap) zero_word
 
 -- the number of the bytes from an index on
-pub number_of-drop : (bytes : List ℕ) (byte_index : ℕ) → ((i : ℕ) → get_or bytes i 0 < 256)
+number_of-drop : (bytes : List ℕ) (byte_index : ℕ) → ((i : ℕ) → get_or bytes i 0 < 256)
     → number_of bytes / 2 ^ (8 * byte_index) ≡ number_of (drop byte_index bytes)
 unfolding number_of
 number_of-drop bytes zero small = div-one (number_of bytes)
@@ -45,55 +47,31 @@ number_of-drop (x ∷ xs) (suc byte_index) small =
     ∙ ap (λ (n : ℕ). n / 2 ^ (8 * byte_index)) rest
     ∙ number_of-drop xs byte_index (λ i. small (suc i))
 
-pub number_at-low_1 : (bytes : List ℕ) (byte_index : ℕ) → length bytes ≡ 16 → ((i : ℕ) → get_or bytes i 0 < 256) → byte_index + 1 ≤ 16
-    → number_of (drop byte_index bytes) % 256 ≡ number_at bytes byte_index 1
-number_at-low_1 bytes byte_index sixteen small inside = omega (arith, number_of_drop bytes (byte_index) (omega arith), small (byte_index))
+power_pos : (n : ℕ) → 0 < 256 ^ n
+power_pos zero = omega (arith, pow-zero 256)
+power_pos (suc n) = omega (arith, pow-suc 256 n, power_pos n)
 
-pub number_at-low_2 : (bytes : List ℕ) (byte_index : ℕ) → length bytes ≡ 16 → ((i : ℕ) → get_or bytes i 0 < 256) → byte_index + 2 ≤ 16
-    → number_of (drop byte_index bytes) % 65536 ≡ number_at bytes byte_index 2
-number_at-low_2 bytes byte_index sixteen small inside = omega (
-  arith,
-  number_of_drop bytes (byte_index) (omega arith),
-  small (byte_index),
-  number_of_drop bytes (byte_index + 1) (omega arith),
-  small (byte_index + 1),
-)
+-- the number of the first bytes
+number_of-take : (n : ℕ) (bytes : List ℕ) → ((i : ℕ) → get_or bytes i 0 < 256) → number_of (take n bytes) ≡ number_of bytes % 256 ^ n
+unfolding number_of
+number_of-take zero bytes small = sym (ap (λ (k : ℕ). number_of bytes % k) (pow-zero 256) ∙ mod-one (number_of bytes))
+number_of-take (suc n) [] small = sym (zero-mod (256 ^ suc n))
+number_of-take (suc n) (x ∷ xs) small =
+    let first : x < 256 = small 0 in
+    let low : (x + 256 * number_of xs) % 256 ≡ x = omega arith in
+    let high : (x + 256 * number_of xs) / 256 ≡ number_of xs = omega arith in
+    let split = ap (λ (k : ℕ). (x + 256 * number_of xs) % k) (pow-suc 256 n)
+    ∙ mod-mul (x + 256 * number_of xs) (power_pos n) (lit< tt) in
+    omega (arith, split, ap (λ (k : ℕ). k % 256 ^ n) high, number_of-take n xs (λ i. small (suc i)))
 
-pub number_at-low_4 : (bytes : List ℕ) (byte_index : ℕ) → length bytes ≡ 16 → ((i : ℕ) → get_or bytes i 0 < 256) → byte_index + 4 ≤ 16
-    → number_of (drop byte_index bytes) % 4294967296 ≡ number_at bytes byte_index 4
-number_at-low_4 bytes byte_index sixteen small inside = omega (
-  arith,
-  number_of_drop bytes (byte_index) (omega arith),
-  small (byte_index),
-  number_of_drop bytes (byte_index + 1) (omega arith),
-  small (byte_index + 1),
-  number_of_drop bytes (byte_index + 1 + 1) (omega arith),
-  small (byte_index + 1 + 1),
-  number_of_drop bytes (byte_index + 1 + 1 + 1) (omega arith),
-  small (byte_index + 1 + 1 + 1),
-)
-
-pub number_at-low_8 : (bytes : List ℕ) (byte_index : ℕ) → length bytes ≡ 16 → ((i : ℕ) → get_or bytes i 0 < 256) → byte_index + 8 ≤ 16
-    → number_of (drop byte_index bytes) % 18446744073709551616 ≡ number_at bytes byte_index 8
-number_at-low_8 bytes byte_index sixteen small inside = omega (
-  arith,
-  number_of_drop bytes (byte_index) (omega arith),
-  small (byte_index),
-  number_of_drop bytes (byte_index + 1) (omega arith),
-  small (byte_index + 1),
-  number_of_drop bytes (byte_index + 1 + 1) (omega arith),
-  small (byte_index + 1 + 1),
-  number_of_drop bytes (byte_index + 1 + 1 + 1) (omega arith),
-  small (byte_index + 1 + 1 + 1),
-  number_of_drop bytes (byte_index + 1 + 1 + 1 + 1) (omega arith),
-  small (byte_index + 1 + 1 + 1 + 1),
-  number_of_drop bytes (byte_index + 1 + 1 + 1 + 1 + 1) (omega arith),
-  small (byte_index + 1 + 1 + 1 + 1 + 1),
-  number_of_drop bytes (byte_index + 1 + 1 + 1 + 1 + 1 + 1) (omega arith),
-  small (byte_index + 1 + 1 + 1 + 1 + 1 + 1),
-  number_of_drop bytes (byte_index + 1 + 1 + 1 + 1 + 1 + 1 + 1) (omega arith),
-  small (byte_index + 1 + 1 + 1 + 1 + 1 + 1 + 1),
-)
+-- the number of so many bytes, shifted and cut out of the number of all
+pub number_at-cut : (bytes : List ℕ) (byte_index size whole shift : ℕ) → ((i : ℕ) → get_or bytes i 0 < 256) → whole ≡ number_of bytes
+    → shift ≡ byte_index → whole / 2 ^ (8 * shift) % 256 ^ size ≡ number_at bytes byte_index size
+number_at-cut bytes byte_index size whole shift small whole_is shift_is =
+    ap (λ (n : ℕ). whole / 2 ^ (8 * n) % 256 ^ size) shift_is
+    ∙ ap (λ (n : ℕ). n / 2 ^ (8 * byte_index) % 256 ^ size) whole_is
+    ∙ ap (λ (n : ℕ). n % 256 ^ size) (number_of-drop bytes byte_index small)
+    ∙ sym (number_of-take size (drop byte_index bytes) (λ i. subst (λ (b : ℕ). b < 256) (sym (get_or-drop byte_index bytes i 0)) (small _)))
 
 -- the bytes that std's conversion gives, as many as are taken
 pub taken_bytes : (k n i v : ℕ) → k ≤ n → take k (bytes_low_first i n v) ≡ low_bytes k (v / 256 ^ i)

@@ -1,6 +1,6 @@
 -- A machine after a step was made, or refused.
-use Rattle.std.proofs.Common.{◌≡◌, ℕ, ℤ, zero, suc, ◌+◌, ◌*◌, ◌/◌, ◌%◌, ◌^◌, ◌<◌, ◌≤◌, Bool, true, false, not, ◌||◌}
-use Rattle.std.proofs.Common.{nat_le, List, [], ◌∷◌, ◌++◌, map, length, get_or, refl, sym, ap, subst, ◌∙◌, arith, lit<}
+use Rattle.std.proofs.Common.{◌≡◌, ℕ, ℤ, ◌+◌, ◌/◌, ◌%◌, ◌^◌, ◌<◌, ◌≤◌, Bool, true, false, not, ◌||◌}
+use Rattle.std.proofs.Common.{nat_le, List, [], ◌∷◌, length, take, drop, get_or, refl, sym, ap, subst, ◌∙◌, arith, lit<}
 use Rattle.std.proofs.Common.{inl, inr, nat_lt, ◌-◌, Some, None, Option, option_map, Result, Ok, Err, MatchResult, All}
 use Rattle.std.specs.Bool.{if◌then◌else◌}
 use Rattle.std.specs.FinMap as fin
@@ -14,7 +14,7 @@ use Rattle.std.proofs.lemmas.List.{get_or_past}
 use Rattle.std.proofs.lemmas.List.Elements.{All-get_or}
 use Rattle.std.proofs.lemmas.Option.{none-some, same_Some}
 use Rattle.cap_word.specs.declared.word.Cap.{Cap}
-use Rattle.cap_word.specs.Memory.{low_bytes, memory_of, stored_word}
+use Rattle.cap_word.specs.Memory.{low_bytes, memory_of, number_of, stored_word}
 use Rattle.cap_word.proofs.Bytes.{stored_word-memory_of, memory_of-stored_word}
 use Rattle.cap_log.specs.declared.lines.Place.{Place}
 use Rattle.cap_log.specs.declared.lines.Place.TheVariants.{Register, Granule}
@@ -23,6 +23,7 @@ use Rattle.cap_log.specs.declared.lines.Step.TheVariants as steps
 use Rattle.cap_log.specs.Lines.{IsStepInRange}
 use Rattle.cap_ops.specs.declared.faults.OpFault.{OpFault}
 use Rattle.cap_ops.specs.Tests.{first_of}
+use Rattle.cap_ops.proofs.TestLemmas.{first_of-append_none, first_of-append_some}
 use Rattle.tagmem.specs.Granules.{Entry, AreStored, bytes_at, overwritten}
 use Rattle.tagmem.proofs.Granules.{len-put, length-bytes_at, bytes_at_fit}
 use Rattle.cap_ops.specs.declared.refusal.Refusal.{Refusal}
@@ -31,7 +32,8 @@ use Rattle.cap_machine.specs.declared.ends.StepEnd.{StepEnd}
 use Rattle.cap_machine.specs.declared.ends.StepEnd.TheVariants.{Refused, NoMemory}
 use Rattle.cap_ops.specs.Refusals.{refusal_of}
 use Rattle.cap_machine.specs.States.{State, untagged_null, granule_key, key_of, put, value_at}
-use Rattle.cap_machine.specs.Steps.{Access, Recorded, Row, Written, row_of, row_by, is_recorded, is_same_cap, state_with}
+use Rattle.cap_machine.specs.Steps.{Access, Recorded, Row, Written, row_of, row_by, state_with}
+use Rattle.cap_machine.proofs.StepLemmas.{is_recorded}
 use Rattle.cap_machine.specs.Steps.{address_through, with_value}
 use Rattle.cap_machine.specs.declared.rules.Rules.{Rules}
 use Rattle.cap_machine.specs.declared.rules.Rules.TheVariants.{One, TwoStrict, TwoClear}
@@ -42,7 +44,7 @@ use Rattle.cap_machine.specs.Origins.{Origins, origins_after}
 use Rattle.cap_machine.specs.Places.{AreCoded, IsCoded, codes_of, place_at}
 use Rattle.cap_machine.specs.Parents.{IsSoundCap, IsSoundState}
 use Rattle.cap_machine.specs.Helds.{Held, Makes, EndsStep, state_of, code_in, account_of, tests_by, value_by, granule_cap}
-use Rattle.cap_machine.specs.Changes.{Derives, EndsPut, IsParentsCode, WritesRegister, code_for, last_tests, rules_for}
+use Rattle.cap_machine.specs.Changes.{Derives, EndsPut, IsParentsCode, WritesRegister, code_for, is_same_cap, last_tests, rules_for}
 use Rattle.cap_machine.specs.Changes.{is_past_limits, result_in, with_register, with_cap_put, with_value_put}
 use Rattle.cap_machine.specs.Values.{number_at}
 use Rattle.cap_machine.proofs.GranuleLemmas.{cap_of}
@@ -50,24 +52,6 @@ use Rattle.cap_machine.proofs.StateLemmas.{account_with, state-register, state-g
 use Rattle.cap_machine.proofs.StateLemmas.{named-put, named_in, also_named}
 use Rattle.cap_machine.proofs.CodeLemmas.{IsFrom, code-register, code_for-coded, coded_from, origins_by, origins-put, origin-written}
 use Rattle.cap_machine.proofs.StepLemmas.{WritesWithin, row_by-access, writes_within_by}
-
--- a test of an operation, as a test of a line
-abbrev as_line_test : Bool × OpFault → Bool × Refusal
-as_line_test test = (test.0, refusal_of test.1)
-
--- the first of tests of an operation, as tests of a line, before others
-pub first_mapped-some : (tests : List (Bool × OpFault)) (rest : List (Bool × Refusal)) (fault : OpFault) → first_of tests ≡ Some fault
-    → first_of (map as_line_test tests ++ rest) ≡ Some (refusal_of fault)
-first_mapped-some [] rest fault h = absurd (none-some fault h)
-first_mapped-some ((true, found) ∷ tests) rest fault h =
-    ap (λ (o : Option OpFault). elim o as (λ _. Option Refusal) [ None ↦ None | Some f ↦ Some (refusal_of f) ]) h
-first_mapped-some ((false, found) ∷ tests) rest fault h = first_mapped-some tests rest fault h
-
-pub first_mapped-none : (tests : List (Bool × OpFault)) (rest : List (Bool × Refusal)) → first_of tests ≡ None
-    → first_of (map as_line_test tests ++ rest) ≡ first_of rest
-first_mapped-none [] rest h = refl
-first_mapped-none ((true, found) ∷ tests) rest h = absurd (none-some found (sym h))
-first_mapped-none ((false, found) ∷ tests) rest h = first_mapped-none tests rest h
 
 -- the row of an access
 same_row : (old : Held) (step : Step) (access : Access) → (row_of (state_of old) step).access ≡ Some access
@@ -88,7 +72,7 @@ step_tests-free : (old : Held) (step : Step) → first_of (row_in (account_of ol
     → first_of (step_tests (account_of old) step)
     ≡ first_of (ending (is_recorded (row_in (account_of old) step)) (nat_le most_steps old.steps || passes_granule_limit (account_of old)
     (named_by (row_in (account_of old) step))))
-step_tests-free old step free = first_mapped-none ((row_in (account_of old) step).tests) _ free
+step_tests-free old step free = first_of-append_none ((row_in (account_of old) step).tests) _ free
 
 -- a step that names no granule
 tail_unnamed : (old : Held) (step : Step) (recorded : Bool) → named_by (row_in (account_of old) step) ≡ None
@@ -149,12 +133,12 @@ abbrev pub EndsIn : Held → Step → Result (Unit {0}) StepEnd → Held → Typ
 EndsIn old step result new = MatchResult result (λ _. Makes old step new) (λ end. EndsStep old step end new)
 
 -- a row that writes a place
-abbrev written : List (Bool × OpFault) → Place → Cap → Option Place → Recorded → Option Access → Row
+abbrev written : List (Bool × Refusal) → Place → Cap → Option Place → Recorded → Option Access → Row
 written tests_are place value parent_is recorded access_is =
     record { tests = tests_are; writes = Some (place, value); parent = parent_is; records = recorded; access = access_is }
 
 -- it, by the rules
-pub row_by-written : (rules : Rules) (tests : List (Bool × OpFault)) (place : Place) (value : Cap) (parent : Option Place)
+pub row_by-written : (rules : Rules) (tests : List (Bool × Refusal)) (place : Place) (value : Cap) (parent : Option Place)
     (recorded : Recorded) (access : Option Access)
     → row_by rules (written tests place value parent recorded access)
     ≡ written (tests_by (rules_for rules access) tests) place (value_by (rules_for rules access) tests value) parent recorded access
@@ -271,7 +255,7 @@ pub concluded_faulted : (old : Held) (step : Step) (target : ℕ) (recorded : Ca
     → EndsStep old step (Refused refusal) old
 concluded_faulted old step target recorded fault refusal is derives same =
     let row = written_row old step target recorded is in (
-      first_mapped-some (row_in (account_of old) step).tests _ fault (ap (λ (r : Row). first_of r.tests) row ∙ derives)
+      first_of-append_some (row_in (account_of old) step).tests _ (refusal_of fault) (ap (λ (r : Row). first_of r.tests) row ∙ derives)
           ∙ ap (λ (r : Refusal). Some r) (sym same),
       refl,
     )
@@ -404,20 +388,10 @@ stored_value old new authority offset size value result stored_all free put_is =
     (ap (λ (r : Row). first_of r.tests) row ∙ free) put_is
 
 -- the value that a load reads is the number of the granule's bytes
-pub value_in : (held : Held) (address size : ℕ) → AreStored held.memory → address % 16 + size ≤ 16
+pub value_in : (held : Held) (address size : ℕ) → AreStored held.memory
     → value_at (state_of held) address size ≡ number_at (bytes_at held.memory (address / 16)) (address % 16) size
-value_in held address zero stored_all inside = refl
-value_in held address (suc zero) stored_all inside =
-    ap (λ (bytes : List ℕ). get_or bytes (address % 16) 0 + 256 * 0) (granule_bytes held (address / 16) stored_all)
-value_in held address (suc (suc size)) stored_all inside =
-    let next_place : (address + 1) % 16 ≡ address % 16 + 1 = omega arith in
-    let same_granule : (address + 1) / 16 ≡ address / 16 = omega arith in
-    let rest = value_in held (address + 1) (suc size) stored_all (omega arith)
-    ∙ ap (λ (g : ℕ). number_at (bytes_at held.memory g) ((address + 1) % 16) (suc size)) same_granule
-    ∙ ap (λ (p : ℕ). number_at (bytes_at held.memory (address / 16)) p (suc size)) next_place in
-    ap (λ (bytes : List ℕ). get_or bytes (address % 16) 0 + 256 * value_at (state_of held) (address + 1) (suc size))
-    (granule_bytes held (address / 16) stored_all)
-    ∙ ap (λ (v : ℕ). get_or (bytes_at held.memory (address / 16)) (address % 16) 0 + 256 * v) rest
+value_in held address size stored_all =
+    ap (λ (bytes : List ℕ). number_of (take size (drop (address % 16) bytes))) (granule_bytes held (address / 16) stored_all)
 
 -- a load is made
 pub loaded_value : (old : Held) (authority : ℕ) (offset : ℤ) (size value : ℕ)
@@ -459,10 +433,10 @@ load_refused old authority offset size value recorded refusal free same found =
 -- an access that is refused
 pub faulted_as : (old : Held) (step : Step) (access : Access) (fault : OpFault) (refusal : Refusal)
     → (row_of (state_of old) step).access ≡ Some access
-    → first_of (row_of (state_of old) step).tests ≡ Some fault → refusal ≡ refusal_of fault → EndsStep old step (Refused refusal) old
+    → first_of (row_of (state_of old) step).tests ≡ Some (refusal_of fault) → refusal ≡ refusal_of fault → EndsStep old step (Refused refusal) old
 faulted_as old step access fault refusal accesses found is =
     let row = same_row old step access accesses in (
-      first_mapped-some (row_in (account_of old) step).tests _ fault (ap (λ (r : Row). first_of r.tests) row ∙ found)
+      first_of-append_some (row_in (account_of old) step).tests _ (refusal_of fault) (ap (λ (r : Row). first_of r.tests) row ∙ found)
           ∙ ap (λ (r : Refusal). Some r) (sym is),
       refl,
     )

@@ -16,8 +16,8 @@ use Rattle.std.specs.Option.{option_and_then}
 use Rattle.cap_machine.specs.Origins.{Origins, origins_after, origins_along}
 use Rattle.cap_machine.specs.Accounts.{Account, no_account, with_root, with_step}
 use Rattle.cap_machine.specs.Helds.{Held, state_of}
-use Rattle.cap_machine.specs.RunAccounts.{OriginsAreRoots, after_roots, after_steps, account_after}
-use Rattle.cap_machine.proofs.AccountLemmas.{with_step-grows, after_roots-grows}
+use Rattle.cap_machine.specs.RunAccounts.{OriginsAreRoots, account_after}
+use Rattle.cap_machine.proofs.AccountLemmas.{after_roots, after_steps, with_step-grows, after_roots-grows}
 use Rattle.cap_machine.proofs.AuthorityLemmas.{one_root}
 use Rattle.cap_machine.proofs.GranuleLemmas.{granule_cap-absent}
 use Rattle.cap_machine.proofs.SoundLemmas.{granule_state}

@@ -1,5 +1,5 @@
 -- A state whose tagged capabilities are sound stays such a state.
-use Rattle.std.proofs.Common.{◌≡◌, ℕ, ◌<◌, ◌≤◌, ◌^◌, ◌==◌, ◌-◌, Bool, true, false, not, ◌&&◌, eqb, refl, nat_lt, get_or, arith, List}
+use Rattle.std.proofs.Common.{[], ◌≡◌, ℕ, ◌<◌, ◌≤◌, ◌^◌, ◌==◌, ◌-◌, Bool, true, false, not, ◌&&◌, eqb, refl, nat_lt, get_or, arith, List}
 use Rattle.std.proofs.Common.{length, sym, ap, subst, ◌∙◌}
 use Rattle.std.specs.Bool.{if◌then◌else◌}
 use Rattle.std.proofs.Math.ListN.{set}
@@ -13,7 +13,7 @@ use Rattle.cap_word.specs.Memory.{memory_of}
 use Rattle.cap_word.proofs.Bytes.{stored_word-memory_of}
 use Rattle.cap_bounds.specs.Bounds.{IsSound}
 use Rattle.tagmem.specs.Granules.{Granules, Entry}
-use Rattle.cap_machine.specs.States.{State, null_state, put, granule_key, untagged_null}
+use Rattle.cap_machine.specs.States.{State, put, start, granule_key, untagged_null}
 use Rattle.cap_machine.specs.Places.{places_of, granule_cap}
 use Rattle.cap_machine.specs.Parents.{IsSoundCap, IsSoundState}
 use Rattle.cap_machine.proofs.GranuleLemmas.{cap_of}
@@ -28,8 +28,8 @@ pub IsSoundState-put : (state : State) (key : ℕ) (cap : Cap) → IsSoundState 
 IsSoundState-put state key cap all one other = either (key == other) cap (state other) one (all other)
 
 -- NULL without a tag everywhere
-pub IsSoundState-null_state : (state : State) → ((key : ℕ) → state key ≡ null_state key) → IsSoundState state
-IsSoundState-null_state state empty key held = absurd (false≢true (sym (ap (λ (cap : Cap). cap.tag) (empty key)) ∙ held))
+pub IsSoundState-start : (state : State) → ((key : ℕ) → state key ≡ start [] key) → IsSoundState state
+IsSoundState-start state empty key held = absurd (false≢true (sym (ap (λ (cap : Cap). cap.tag) (empty key)) ∙ held))
 
 -- a register that holds another sound capability
 pub sound_register : (registers : List Cap) (memory : Granules) (target : ℕ) (cap : Cap) → length registers ≡ 32 → target ≤ 31

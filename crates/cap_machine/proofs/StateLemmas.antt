@@ -1,5 +1,5 @@
 -- The state of what a machine holds, after each kind of change.
-use Rattle.std.proofs.Common.{◌≡◌, ◌≢◌, ℕ, List, ◌+◌, ◌-◌, ◌<◌, ◌≤◌, inl, inr, Bool, true, false, ◌==◌, ◌||◌, nat_lt}
+use Rattle.std.proofs.Common.{[], ◌≡◌, ◌≢◌, ℕ, List, ◌+◌, ◌-◌, ◌<◌, ◌≤◌, inl, inr, Bool, true, false, ◌==◌, ◌||◌, nat_lt}
 use Rattle.std.proofs.Common.{length, get_or, refl, sym, ap, ◌∙◌, arith, Option, Some, None, is_some}
 use Rattle.std.specs.Bool.{if◌then◌else◌}
 use Rattle.std.proofs.Math.ListN.{replicate, set}
@@ -12,7 +12,7 @@ use Rattle.std.specs.Ordering.{nat_cmp}
 use Rattle.cap_word.specs.declared.word.Cap.{Cap}
 use Rattle.tagmem.specs.Granules.{Granules, Entry, entry_at, code_at}
 use Rattle.tagmem.proofs.Granules.{get-put, entry_at-empty, entry_at-put_same, entry_at-put_other}
-use Rattle.cap_machine.specs.States.{State, null_state, untagged_null, put, granule_key}
+use Rattle.cap_machine.specs.States.{State, start, untagged_null, put, granule_key}
 use Rattle.cap_machine.specs.Places.{at_places, places_of, codes_of, place_at}
 use Rattle.cap_machine.specs.Origins.{Origins}
 use Rattle.cap_machine.specs.declared.rules.Rules.{Rules}
@@ -175,9 +175,9 @@ blank_account rules_are memory value empty null =
     let unrooted : Origins = λ k. None in
     ap (λ (state : State). account_with rules_are state origins 0 0 (named_in memory) (map.len memory))
     (fun_ext (λ key. blank_state memory value key empty null))
-    ∙ ap (λ (o : Origins). account_with rules_are null_state o 0 0 (named_in memory) (map.len memory))
+    ∙ ap (λ (o : Origins). account_with rules_are (start []) o 0 0 (named_in memory) (map.len memory))
     (fun_ext (λ (key : ℕ). ap place_at (blank_code memory key empty)))
-    ∙ ap (λ (m : Granules). account_with rules_are null_state unrooted 0 0 (named_in m) (map.len m)) empty
-    ∙ ap (λ (named : ℕ → Bool). let m : Granules = map.empty in account_with rules_are null_state unrooted 0 0 named (map.len m))
+    ∙ ap (λ (m : Granules). account_with rules_are (start []) unrooted 0 0 (named_in m) (map.len m)) empty
+    ∙ ap (λ (named : ℕ → Bool). let m : Granules = map.empty in account_with rules_are (start []) unrooted 0 0 named (map.len m))
     (fun_ext (λ (g : ℕ). ap is_some (map.get-empty nat_cmp g)))
-    ∙ ap (account_with rules_are null_state unrooted 0 0 (λ (g : ℕ). false)) (map.len-empty nat_cmp Entry)
+    ∙ ap (account_with rules_are (start []) unrooted 0 0 (λ (g : ℕ). false)) (map.len-empty nat_cmp Entry)

@@ -1,12 +1,12 @@
 -- What a step writes stays within what its parent place held.
-use Rattle.std.proofs.Common.{◌≡◌, ℕ, Bool, true, false, if◌then◌else◌, List, Option, Some, None, option_map, refl, sym, ap, ◌∙◌}
+use Rattle.std.proofs.Common.{◌≡◌, ◌==◌, ℕ, Bool, true, false, if◌then◌else◌, List, Option, Some, None, option_map, refl, sym, ap, ◌∙◌}
 use Rattle.cap_word.specs.declared.word.Cap.{Cap}
 use Rattle.cap_log.specs.declared.lines.Place.{Place}
 use Rattle.cap_log.specs.declared.lines.Step.{Step}
 use Rattle.cap_log.specs.declared.lines.Step.TheVariants.{Move, ClearTag, SetBounds, SetBoundsExact, SetAddr, AndPerm}
 use Rattle.cap_log.specs.declared.lines.Step.TheVariants.{Seal, Unseal, LoadCap, StoreCap, Load, Store}
 use Rattle.cap_log.specs.Lines.{IsStepInRange}
-use Rattle.cap_ops.specs.declared.faults.OpFault.{OpFault}
+use Rattle.cap_ops.specs.declared.refusal.Refusal.{Refusal}
 use Rattle.cap_ops.specs.Operations.{clear_result}
 use Rattle.cap_ops.specs.Tests.{first_of}
 use Rattle.cap_ops.proofs.ClearLemmas.{StaysWithin-clear, clear_result-none, clear_result-some}
@@ -17,10 +17,18 @@ use Rattle.cap_ops.proofs.NarrowingLemmas.{StaysWithin-set_bounds}
 use Rattle.cap_ops.proofs.AddressLemmas.{StaysWithin-set_addr}
 use Rattle.std.proofs.lemmas.Bool.{false≢true}
 use Rattle.cap_machine.specs.States.{State, key_of, granule_key}
-use Rattle.cap_machine.specs.Steps.{Access, Row, row_of, row_by, clear_row, granule_through}
-use Rattle.cap_machine.specs.Runs.{hits}
+use Rattle.cap_machine.specs.Steps.{Access, Row, agrees, row_of, row_by, clear_row, granule_through}
 use Rattle.cap_machine.specs.declared.rules.Rules.{Rules}
 use Rattle.cap_machine.specs.declared.rules.Rules.TheVariants.{One, TwoStrict, TwoClear}
+use Rattle.std.specs.Option.{option_map_or}
+
+-- whether the line of a row records what the machine has
+abbrev pub is_recorded : Row → Bool
+is_recorded row = agrees row.writes row.records
+
+-- whether a write is to the place of a key
+abbrev pub hits : Option (Place × Cap) → ℕ → Bool
+hits write key = option_map_or (λ to. key_of to.0 == key) write false
 
 -- what a step writes, if anything, where it is tagged, comes from the step's parent place and stays within it
 abbrev pub WritesWithin : State → Option Place → Option (Place × Cap) → Type 0
@@ -47,10 +55,10 @@ writes_within state (Load authority offset size value) range free = tt
 writes_within state (Store authority offset size value) range free = λ held. false≢true held
 
 -- what is written in clear mode
-abbrev clear_write : List (Bool × OpFault) → Option (Place × Cap) → Option (Place × Cap)
+abbrev clear_write : List (Bool × Refusal) → Option (Place × Cap) → Option (Place × Cap)
 clear_write tests write = option_map (λ (w : Place × Cap). (w.0, clear_result tests w.1)) write
 
-clear_write_within : (state : State) (tests : List (Bool × OpFault)) (parent : Option Place) (write : Option (Place × Cap))
+clear_write_within : (state : State) (tests : List (Bool × Refusal)) (parent : Option Place) (write : Option (Place × Cap))
     → (first_of tests ≡ None → WritesWithin state parent write) → WritesWithin state parent (clear_write tests write)
 clear_write_within state tests parent None within = tt
 clear_write_within state tests (Some from) (Some write) within = StaysWithin-clear tests write.1 (state (key_of from)) within
@@ -80,7 +88,7 @@ abbrev pub parent_in : Bool → Bool → Option Place → ℕ → Option ℕ
 parent_in hit held parent key = if hit then (if held then option_map key_of parent else None) else Some key
 
 -- rules change no place
-hits-clear_write : (tests : List (Bool × OpFault)) (write : Option (Place × Cap)) (key : ℕ)
+hits-clear_write : (tests : List (Bool × Refusal)) (write : Option (Place × Cap)) (key : ℕ)
     → hits (clear_write tests write) key ≡ hits write key
 hits-clear_write tests None key = refl
 hits-clear_write tests (Some write) key = refl

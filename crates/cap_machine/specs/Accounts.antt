@@ -1,6 +1,6 @@
 -- What a machine's tests see: its rules, its state, and what the limits are measured by; and the tests of roots and steps in their order
 -- (this profile's own).
-use Rattle.std.specs.Prelude.{ℕ, ◌+◌, Bool, false, ◌==◌, ◌&&◌, ◌||◌, not, nat_le, if◌then◌else◌, List, [], ◌∷◌, ◌++◌, map, Option}
+use Rattle.std.specs.Prelude.{ℕ, ◌+◌, Bool, false, ◌==◌, ◌&&◌, ◌||◌, not, nat_le, if◌then◌else◌, List, [], ◌∷◌, ◌++◌, Option}
 use Rattle.std.specs.Prelude.{Some, None}
 use Rattle.std.specs.Option.{option_map_or}
 use Rattle.cap_word.specs.declared.word.Word.{Word}
@@ -11,18 +11,17 @@ use Rattle.cap_ops.specs.declared.refusal.Refusal.{Refusal}
 use Rattle.cap_ops.specs.declared.refusal.Refusal.TheVariants.{PlaceTaken, UnsoundRoot, WrongResult, LimitPassed}
 use Rattle.cap_machine.specs.declared.rules.Rules.{Rules}
 use Rattle.cap_machine.specs.declared.rules.Rules.TheVariants.{One}
-use Rattle.cap_ops.specs.Refusals.{refusal_of}
-use Rattle.cap_machine.specs.States.{State, key_of, null_state, put, tagged}
+use Rattle.cap_machine.specs.States.{State, key_of, put, start, tagged}
 pub use Rattle.cap_machine.specs.Steps.{granule_of, named_by}
-use Rattle.cap_machine.specs.Steps.{Row, row_of, row_by, is_recorded, state_with}
-use Rattle.cap_machine.specs.Origins.{Origins, origins_after}
+use Rattle.cap_machine.specs.Steps.{Row, row_of, row_by, agrees, state_with}
+use Rattle.cap_machine.specs.Origins.{origins_after}
 
 -- an account of a machine: its rules and its state, the place of the root that each capability comes from, how many roots were
 -- declared and steps made, which granules a root, an sc or a store has named, and how many these are
 pub record Account : Type 0 where
   pub rules : Rules
   pub state : State
-  pub origin : Origins
+  pub origin : ℕ → Option Place
   pub roots : ℕ
   pub steps : ℕ
   pub is_named : ℕ → Bool
@@ -31,7 +30,7 @@ pub record Account : Type 0 where
 -- before anything was declared
 abbrev pub no_account : Rules → Account
 no_account rules_are =
-    record { rules = rules_are; state = null_state; origin = λ key. None; roots = 0; steps = 0; is_named = λ granule. false; granules = 0 }
+    record { rules = rules_are; state = start []; origin = λ key. None; roots = 0; steps = 0; is_named = λ granule. false; granules = 0 }
 
 -- the greatest number of roots
 abbrev pub most_roots : ℕ
@@ -77,7 +76,7 @@ with_root account place word = record (naming account (granule_of place)) {
 -- the account after one step more: each place has the origin that its parent had
 abbrev pub with_step : Account → Step → Account
 with_step account step =
-    let row = row_in account step in
+    let row = row_by account.rules (row_of account.state step) in
     let named = naming account (named_by row) in
     let next = state_with account.state row.writes in
     record named { state = next; origin = origins_after account.origin account.state step next; steps = account.steps + 1 }
@@ -89,13 +88,9 @@ root_tests account place word =
     ∷ (not (is_sound word.0), UnsoundRoot)
     ∷ (nat_le most_roots account.roots || passes_granule_limit account (granule_of place), LimitPassed) ∷ []
 
--- the tests of a row, in order: its own, then whether its line records another result than the machine's, and whether a limit is passed
-abbrev pub row_tests : Account → Row → List (Bool × Refusal)
-row_tests account row =
-    map (λ test. (test.0, refusal_of test.1)) row.tests
-    ++ (not (is_recorded row), WrongResult)
-    ∷ (nat_le most_steps account.steps || passes_granule_limit account (named_by row), LimitPassed) ∷ []
-
--- the tests of a step, in order
+-- the tests of a step, in order: its row's, then whether its line records another result than the machine's, and whether a limit is passed
 abbrev pub step_tests : Account → Step → List (Bool × Refusal)
-step_tests account step = row_tests account (row_in account step)
+step_tests account step =
+    let row = row_by account.rules (row_of account.state step) in
+    row.tests ++ (not (agrees row.writes row.records), WrongResult)
+    ∷ (nat_le most_steps account.steps || passes_granule_limit account (named_by row), LimitPassed) ∷ []

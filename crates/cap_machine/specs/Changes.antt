@@ -1,5 +1,6 @@
 -- What single parts of taking a root or making a step do, each for one private function (this profile's own).
-use Rattle.std.specs.Prelude.{◌≡◌, ℕ, ℤ, ◌+◌, Bool, true, false, not, ◌||◌, nat_le, if◌then◌else◌, List, [], ◌∷◌, slice_set, Option}
+use Rattle.std.specs.Bool.{beq}
+use Rattle.std.specs.Prelude.{◌&&◌, ◌==◌, ◌≡◌, ℕ, ℤ, ◌+◌, Bool, true, false, not, ◌||◌, nat_le, if◌then◌else◌, List, [], ◌∷◌, slice_set, Option}
 use Rattle.std.specs.Prelude.{Some, None, IsTrue, Result, Ok, MatchResult, option_map}
 use Rattle.cap_word.specs.declared.word.Word.{Word}
 use Rattle.cap_word.specs.declared.word.Cap.{Cap}
@@ -10,6 +11,7 @@ use Rattle.cap_log.specs.declared.lines.Step.{Step}
 use Rattle.cap_ops.specs.declared.faults.OpFault.{OpFault}
 use Rattle.cap_ops.specs.declared.kinds.Kind.{Kind}
 use Rattle.cap_ops.specs.Accesses.{access_tests}
+use Rattle.cap_ops.specs.Refusals.{refusal_of}
 use Rattle.cap_ops.specs.Tests.{first_of}
 use Rattle.tagmem.specs.Granules.{with_cap, with_bytes}
 use Rattle.cap_ops.specs.declared.refusal.Refusal.{Refusal}
@@ -22,6 +24,10 @@ use Rattle.cap_machine.specs.States.{State, granule_key, key_of, tagged, untagge
 use Rattle.cap_machine.specs.Steps.{Access, Written, address_through, row_of}
 use Rattle.cap_machine.specs.Accounts.{most_steps, is_new, passes_granule_limit}
 use Rattle.cap_machine.specs.Helds.{Held, EndsBy, code_in, state_of, account_of}
+
+-- whether two capabilities are the same: tag and word
+abbrev pub is_same_cap : Cap → Cap → Bool
+is_same_cap a b = beq a.tag b.tag && (a.word.0 == b.word.0)
 
 -- the code that a result has whose parent has this one: 0 where it has no tag
 abbrev pub code_for : Bool → ℕ → ℕ
@@ -78,7 +84,7 @@ ReachesAddress state authority kind offset size result =
     let tests = access_tests (state authority) kind offset size in
     MatchResult result
     (λ address. (first_of tests ≡ None) × (address ≡ address_through state authority offset))
-    (λ fault. first_of tests ≡ Some fault)
+    (λ fault. first_of tests ≡ Some (refusal_of fault))
 
 -- the last tests of a step that names no granule: the log records another result than the machine's, or the limit on steps is passed
 abbrev pub last_tests : Held → Bool → List (Bool × Refusal)

@@ -7,7 +7,9 @@ use Rattle.cap_log.specs.declared.lines.Place.{Place}
 use Rattle.cap_log.specs.declared.lines.Step.{Step}
 use Rattle.cap_ops.specs.declared.faults.OpFault.{OpFault}
 use Rattle.cap_ops.specs.Operations.{clear_result}
+use Rattle.cap_ops.specs.Refusals.{refusal_of}
 use Rattle.cap_ops.specs.Tests.{first_of}
+use Rattle.cap_ops.specs.declared.refusal.Refusal.{Refusal}
 use Rattle.tagmem.specs.Granules.{Granules}
 use Rattle.cap_machine.specs.declared.ends.StepEnd.{StepEnd}
 use Rattle.cap_machine.specs.declared.ends.StepEnd.TheVariants.{Refused, NoMemory}
@@ -62,23 +64,23 @@ account_of held = record {
 }
 
 -- the tests of an operation on registers that refuse it, by the rules
-abbrev pub tests_by : Rules → List (Bool × OpFault) → List (Bool × OpFault)
+abbrev pub tests_by : Rules → List (Bool × Refusal) → List (Bool × Refusal)
 tests_by One tests = tests
 tests_by TwoStrict tests = tests
 tests_by TwoClear tests = []
 
 -- its result, by the rules
-abbrev pub value_by : Rules → List (Bool × OpFault) → Cap → Cap
+abbrev pub value_by : Rules → List (Bool × Refusal) → Cap → Cap
 value_by One tests result = result
 value_by TwoStrict tests result = result
 value_by TwoClear tests result = clear_result tests result
 
 -- how an operation on registers ends, by the rules
-abbrev pub EndsBy : Rules → List (Bool × OpFault) → Cap → Result Cap OpFault → Type 0
+abbrev pub EndsBy : Rules → List (Bool × Refusal) → Cap → Result Cap OpFault → Type 0
 EndsBy rules_are tests result outcome =
     MatchResult outcome
     (λ cap. (first_of (tests_by rules_are tests) ≡ None) × (cap ≡ value_by rules_are tests result))
-    (λ fault. first_of (tests_by rules_are tests) ≡ Some fault)
+    (λ fault. first_of (tests_by rules_are tests) ≡ Some (refusal_of fault))
 
 -- the machine made the step: no test of it holds, it leads to the new state, and the account is that after it
 pub record Makes (old : Held) (step : Step) (new : Held) : Type 0 where

@@ -6,13 +6,13 @@ use Rattle.cap_log.specs.declared.lines.Step.{Step}
 use Rattle.cap_machine.specs.States.{State}
 use Rattle.cap_machine.specs.Runs.{parent_of}
 
--- the origin of each place, by the place's key (this profile's own, as are all below)
+-- after a step a place has the origin that its parent had (this profile's own, as are all below)
+abbrev pub origins_after : (ℕ → Option Place) → State → Step → State → ℕ → Option Place
+origins_after origins state step next key = option_and_then origins (parent_of state step next key)
+
+-- the origin of each place, by the place's key
 abbrev pub Origins : Type 0
 Origins = ℕ → Option Place
-
--- after a step a place has the origin that its parent had
-abbrev pub origins_after : Origins → State → Step → State → Origins
-origins_after origins state step next key = option_and_then origins (parent_of state step next key)
 
 -- the origins after a run
 abbrev pub origins_along : Origins → State → List Step → List State → Origins

@@ -1,22 +1,16 @@
 -- The account that roots and steps lead to, and its origins. All of it is this profile's own.
-use Rattle.std.specs.Prelude.{◌≡◌, ℕ, List, [], ◌∷◌, length, Some, IsTrue}
+use Rattle.std.specs.Prelude.{◌≡◌, ℕ, List, length, Some, IsTrue}
+use Rattle.std.specs.List.{fold}
 use Rattle.cap_log.specs.declared.lines.Step.{Step}
 use Rattle.cap_machine.specs.declared.rules.Rules.{Rules}
 use Rattle.cap_machine.specs.States.{State, DeclaredRoot}
 use Rattle.cap_machine.specs.Accounts.{Account, no_account, with_root, with_step}
 use Rattle.cap_machine.specs.Runs.{DescendsFrom}
 
--- the account after roots, and after steps
-abbrev pub after_roots : Account → List DeclaredRoot → Account
-after_roots account [] = account
-after_roots account (root ∷ roots) = after_roots (with_root account root.place root.word) roots
-
-abbrev pub after_steps : Account → List Step → Account
-after_steps account [] = account
-after_steps account (step ∷ steps) = after_steps (with_step account step) steps
-
+-- the account after roots and steps, one after another
 abbrev pub account_after : Rules → List DeclaredRoot → List Step → Account
-account_after rules roots steps = after_steps (after_roots (no_account rules) roots) steps
+account_after rules roots steps =
+    fold with_step (fold (λ account root. with_root account root.place root.word) (no_account rules) roots) steps
 
 -- after a run the account has at each tagged place the place of the one root that it descends from
 abbrev pub OriginsAreRoots : Account → List DeclaredRoot → List Step → List State → Type 0

@@ -1,10 +1,8 @@
 -- Runs of the machine, and which root each capability descends from.
-use Rattle.std.specs.Prelude.{◌≡◌, Bool, false, ℕ, zero, suc, ◌+◌, ◌≤◌, ◌==◌, if◌then◌else◌, IsTrue, List, [], ◌∷◌, length, take, Option}
+use Rattle.std.specs.Prelude.{◌≡◌, false, ℕ, zero, suc, ◌+◌, ◌≤◌, ◌==◌, if◌then◌else◌, IsTrue, List, [], ◌∷◌, length, take, Option}
 use Rattle.std.specs.Prelude.{Some, None, option_map, Contains, slice_get}
 use Rattle.std.specs.Option.{option_map_or}
 use Rattle.cap_log.specs.declared.lines.Step.{Step}
-use Rattle.cap_log.specs.declared.lines.Place.{Place}
-use Rattle.cap_word.specs.declared.word.Cap.{Cap}
 use Rattle.cap_bounds.specs.Bounds.{base_of, top_of, IsInside, IsSound}
 use Rattle.cap_ops.specs.Authority.{ReachesNoMore}
 use Rattle.cap_ops.specs.Permissions.{has_permission}
@@ -30,17 +28,13 @@ abbrev pub last_of : State → List State → State
 last_of state [] = state
 last_of state (next ∷ states) = last_of next states
 
--- whether a write is to the place of a key
-abbrev pub hits : Option (Place × Cap) → ℕ → Bool
-hits write key = option_map_or (λ to. key_of to.0 == key) write false
-
 -- the place, by its key, that a place's capability comes from in a step from a state to the next: the step's parent place where the
 -- step wrote to it and it is tagged then, none where the step wrote to it and it is not, and the place itself where the step did not
 -- write to it
 abbrev pub parent_of : State → Step → State → ℕ → Option ℕ
 parent_of state step next key =
     let row = row_of state step in
-    if hits row.writes key then (if (next key).tag then option_map key_of row.parent else None) else Some key
+    if option_map_or (λ to. key_of to.0 == key) row.writes false then (if (next key).tag then option_map key_of row.parent else None) else Some key
 
 -- the chain of parents from a place after a run of steps leads back to a place before it, both by their keys
 abbrev pub Descends : State → List Step → List State → ℕ → ℕ → Type 0

@@ -1,10 +1,10 @@
 -- States of the machine: what each place holds.
-use Rattle.std.specs.Prelude.{ℕ, ◌+◌, ◌*◌, ◌/◌, ◌%◌, zero, suc, Bool, true, false, ◌==◌, if◌then◌else◌, List, [], ◌∷◌, slice_index}
+use Rattle.std.specs.Prelude.{ℕ, ◌+◌, ◌/◌, ◌%◌, Bool, true, false, ◌==◌, if◌then◌else◌, List, [], ◌∷◌, take, drop}
 use Rattle.std.specs.List.{list_any}
 use Rattle.cap_word.specs.declared.word.Word.{Word}
 use Rattle.cap_word.specs.declared.word.Cap.{Cap}
 use Rattle.cap_word.specs.Word.{null_word}
-use Rattle.cap_word.specs.Memory.{memory_of}
+use Rattle.cap_word.specs.Memory.{memory_of, number_of}
 use Rattle.cap_log.specs.declared.lines.Place.{Place}
 use Rattle.cap_log.specs.declared.lines.Place.TheVariants.{Register, Granule}
 
@@ -23,15 +23,11 @@ granule_key granule = granule + 32
 -- the key of a place, which is its number among all places: a register's own, and for memory its granule's (this profile's own)
 abbrev pub key_of : Place → ℕ
 key_of (Register n) = n
-key_of (Granule g) = granule_key g
+key_of (Granule g) = g + 32
 
 -- what each place holds, by the place's key. Key 0 is that of c0, which is no place: it reads as NULL, and nothing writes it
 abbrev pub State : Type 0
 State = ℕ → Cap
-
--- NULL without a tag everywhere: memory is zero then
-abbrev pub null_state : State
-null_state key = untagged_null
 
 -- what is told of each key, with something else told of one: a state with another capability there, say
 abbrev pub put : {A : Type 0} → (ℕ → A) → ℕ → A → ℕ → A
@@ -48,14 +44,9 @@ is_taken roots place = list_any (λ root. key_of root.place == key_of place) roo
 
 -- the state after the roots were declared: each root's word, tagged, at its place, and NULL without a tag elsewhere
 abbrev pub start : List DeclaredRoot → State
-start [] = null_state
+start [] = λ key. untagged_null
 start (root ∷ roots) = put (start roots) (key_of root.place) (tagged root.word)
 
--- the byte of memory at an address
-abbrev pub byte_at : State → ℕ → ℕ
-byte_at state address = slice_index (memory_of (state (granule_key (address / 16))).word.0) (address % 16)
-
--- the number that so many bytes of memory from an address on spell, the least significant first
+-- the number that so many bytes of a granule of memory spell, from an address on, the least significant first
 abbrev pub value_at : State → ℕ → ℕ → ℕ
-value_at state address zero = 0
-value_at state address (suc size) = byte_at state address + 256 * value_at state (address + 1) size
+value_at state address size = number_of (take size (drop (address % 16) (memory_of (state (key_of (Granule (address / 16)))).word.0)))

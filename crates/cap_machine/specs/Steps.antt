@@ -9,7 +9,7 @@ use Rattle.cap_log.specs.declared.lines.Place.TheVariants.{Register, Granule}
 use Rattle.cap_log.specs.declared.lines.Step.{Step}
 use Rattle.cap_log.specs.declared.lines.Step.TheVariants.{Move, ClearTag, SetBounds, SetBoundsExact, SetAddr, AndPerm, Seal, Unseal}
 use Rattle.cap_log.specs.declared.lines.Step.TheVariants.{LoadCap, StoreCap, Load, Store}
-use Rattle.cap_ops.specs.declared.faults.OpFault.{OpFault}
+use Rattle.cap_ops.specs.declared.refusal.Refusal.{Refusal}
 use Rattle.cap_ops.specs.declared.kinds.Kind.{Kind}
 use Rattle.cap_ops.specs.declared.kinds.Kind.TheVariants as kinds
 use Rattle.cap_ops.specs.Tests.{first_of}
@@ -19,7 +19,7 @@ use Rattle.cap_ops.specs.Accesses.{access_address, access_tests, loaded_result, 
 use Rattle.tagmem.specs.Granules.{overwritten}
 use Rattle.cap_machine.specs.declared.rules.Rules.{Rules}
 use Rattle.cap_machine.specs.declared.rules.Rules.TheVariants.{TwoClear}
-use Rattle.cap_machine.specs.States.{State, granule_key, key_of, put, value_at}
+use Rattle.cap_machine.specs.States.{State, key_of, put, value_at}
 
 -- an access to memory: the register that is its authority, its address and size, and the permission that it needs
 pub record Access : Type 0 where
@@ -37,14 +37,14 @@ pub data Recorded : Type 0 where
 -- a row of the machine's table: the tests of a step, in order; the place that it writes, and what that holds then; the place that
 -- a tagged result comes from; what its line records; and its access
 pub record Row : Type 0 where
-  pub tests : List (Bool × OpFault)
+  pub tests : List (Bool × Refusal)
   pub writes : Option (Place × Cap)
   pub parent : Option Place
   pub records : Recorded
   pub access : Option Access
 
 -- the row of an operation from a register to a register
-abbrev pub operation : ℕ → ℕ → Cap → List (Bool × OpFault) → Cap → Row
+abbrev pub operation : ℕ → ℕ → Cap → List (Bool × Refusal) → Cap → Row
 operation target source recorded tests_are result = record {
   tests = tests_are;
   writes = Some (Register target, result);
@@ -56,10 +56,6 @@ operation target source recorded tests_are result = record {
 -- the address of an access through a register
 abbrev pub address_through : State → ℕ → ℤ → ℕ
 address_through state authority offset = access_address (state authority).word.0 offset
-
--- the granule that an access through a register reaches
-abbrev pub granule_through : State → ℕ → ℤ → ℕ
-granule_through state authority offset = address_through state authority offset / 16
 
 -- the row of an access of a kind through a register, where nothing is written and nothing recorded
 abbrev pub access_through : State → ℕ → Kind → ℤ → ℕ → Row
@@ -95,36 +91,32 @@ row_of state (Seal target source authority recorded) =
 row_of state (Unseal target source authority recorded) =
     operation target source recorded (unseal_tests (state source) (state authority)) (unseal_result (state source) (state authority))
 row_of state (LoadCap target authority offset recorded) =
-    let granule = granule_through state authority offset in record (access_through state authority kinds.LoadCap offset 16) {
-      writes = Some (Register target, loaded_result (state authority) (state (granule_key granule)));
+    let granule = address_through state authority offset / 16 in record (access_through state authority kinds.LoadCap offset 16) {
+      writes = Some (Register target, loaded_result (state authority) (state (key_of (Granule granule))));
       parent = Some (Granule granule);
       records = Written recorded;
     }
 row_of state (StoreCap source authority offset) = record (access_through state authority (kinds.StoreCap (state source)) offset 16) {
-  writes = Some (Granule (granule_through state authority offset), state source);
+  writes = Some (Granule (address_through state authority offset / 16), state source);
   parent = Some (Register source);
 }
 row_of state (Load authority offset size value) = record (access_through state authority kinds.LoadData offset size) {
   records = Read value (value_at state (address_through state authority offset) size);
 }
 row_of state (Store authority offset size value) =
-    let granule = granule_through state authority offset in record (access_through state authority kinds.StoreData offset size) {
-      writes = Some (Granule granule, with_value (state (granule_key granule)) (address_through state authority offset % 16) size value);
+    let granule = address_through state authority offset / 16 in record (access_through state authority kinds.StoreData offset size) {
+      writes = Some (Granule granule, with_value (state (key_of (Granule granule))) (address_through state authority offset % 16) size value);
     }
 
--- whether two capabilities are the same: tag and word
-abbrev pub is_same_cap : Cap → Cap → Bool
-is_same_cap a b = beq a.tag b.tag && (a.word.0 == b.word.0)
+-- the granule that an access through a register reaches
+abbrev pub granule_through : State → ℕ → ℤ → ℕ
+granule_through state authority offset = address_through state authority offset / 16
 
 -- whether what is written, or read, is what a line records
 abbrev pub agrees : Option (Place × Cap) → Recorded → Bool
 agrees write Nothing = true
-agrees write (Written cap) = option_map_or (λ to. is_same_cap cap to.1) write true
+agrees write (Written cap) = option_map_or (λ to. beq cap.tag to.1.tag && (cap.word.0 == to.1.word.0)) write true
 agrees write (Read value in_memory) = value == in_memory
-
--- whether the line of a row records what the machine has
-abbrev pub is_recorded : Row → Bool
-is_recorded row = agrees row.writes row.records
 
 -- the granule that a place is
 abbrev pub granule_of : Place → Option ℕ
@@ -153,5 +145,5 @@ row_by rules row = row
 -- that it writes is all that changes
 pub record Leads (rules : Rules) (old : State) (step : Step) (new : State) : Type 0 where
   pub allowed : first_of (row_by rules (row_of old step)).tests ≡ None
-  pub recorded : IsTrue (is_recorded (row_by rules (row_of old step)))
+  pub recorded : IsTrue (agrees (row_by rules (row_of old step)).writes (row_by rules (row_of old step)).records)
   pub after : new ≡ state_with old (row_by rules (row_of old step)).writes

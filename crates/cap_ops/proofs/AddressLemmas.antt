@@ -8,10 +8,13 @@ use Rattle.cap_bounds.specs.Range.{KeepsBounds, IsRepresentable, with_address}
 use Rattle.cap_bounds.proofs.Keeping.{KeepsBounds-from_range, IsRepresentable-from_keeps, KeepsBounds-margins}
 use Rattle.cap_bounds.proofs.SameFields.{IsSound-with_address}
 use Rattle.cap_ops.specs.declared.faults.OpFault.{OpFault}
-use Rattle.cap_ops.specs.declared.faults.OpFault.TheVariants.{SourceSealed, NotRepresentable}
+use Rattle.cap_ops.specs.declared.faults.OpFault.TheVariants as faults
+use Rattle.cap_ops.specs.declared.refusal.Refusal.{Refusal}
+use Rattle.cap_ops.specs.declared.refusal.Refusal.TheVariants.{SourceSealed, NotRepresentable}
 use Rattle.cap_ops.specs.Authority.{StaysWithin}
 use Rattle.cap_ops.specs.Operations.{is_kept_at, set_addr_tests, set_addr_result}
 use Rattle.cap_ops.specs.Permissions.{is_sealed}
+use Rattle.cap_ops.specs.Refusals.{refusal_of}
 use Rattle.cap_ops.specs.Tests.{first_of}
 use Rattle.cap_ops.proofs.ReplacedFields.{perms_of-high}
 use Rattle.cap_ops.proofs.ReachLemmas.{ReachesNoMore-same, StaysWithin-words}
@@ -40,7 +43,7 @@ StaysWithin-set_addr source address fits h =
     (ReachesNoMore-same v w kept.0 kept.1 (IsFewer-same v w (perms_of-high v w high)), IsSound-with_address w address fits kept sound))
 
 -- what a new address is refused with
-first_fault : Bool → Bool → Bool → Option OpFault
+first_fault : Bool → Bool → Bool → Option Refusal
 first_fault tagged is_sealed kept =
     if tagged then (if is_sealed then Some SourceSealed else (if not kept then Some NotRepresentable else None)) else None
 
@@ -57,7 +60,7 @@ kept_since true false false t u h = cc
 kept_since true true kept t u h = cc
 kept_since false seal kept t u h = cc
 
-fault_since : (tagged seal kept : Bool) (fault : OpFault) → tagged ≡ true → seal ≡ false
+fault_since : (tagged seal kept : Bool) (fault : Refusal) → tagged ≡ true → seal ≡ false
     → first_fault tagged seal kept ≡ Some fault → fault ≡ NotRepresentable
 unfolding first_fault
 fault_since true false true fault t u h = cc
@@ -80,10 +83,15 @@ lost source address h keeps =
     (sym (first_of-set_addr source address) ∙ h) in
     both_ways _ not_kept (kept-KeepsBounds source.word.0 address keeps)
 
+-- the fault that is this refusal
+same_fault : (fault : OpFault) → refusal_of fault ≡ NotRepresentable → fault ≡ faults.NotRepresentable
+same_fault faults.NotRepresentable h = refl
+same_fault fault h = cc
+
 -- a new address is refused exactly outside the representable range
 pub NotRepresentable-exact : (source : Cap) (address : ℕ) (result : Result Cap OpFault) → address < 2 ^ 64
     → EndsWith result (set_addr_tests source address) (set_addr_result source address)
-    → source.tag ≡ true → is_sealed source.word.0 ≡ false → (result ≡ Err NotRepresentable) ↔ (IsRepresentable source.word.0 address → ⊥)
+    → source.tag ≡ true → is_sealed source.word.0 ≡ false → (result ≡ Err faults.NotRepresentable) ↔ (IsRepresentable source.word.0 address → ⊥)
 NotRepresentable-exact source address (Ok cap) fits ends tagged unsealed =
     let w = source.word.0 in
     let kept = kept_since source.tag (is_sealed w) (is_kept_at w address) tagged unsealed
@@ -91,18 +99,18 @@ NotRepresentable-exact source address (Ok cap) fits ends tagged unsealed =
     (λ e. cc, λ outside. absurd (outside (IsRepresentable-from_keeps w address fits (KeepsBounds-kept w address kept))))
 NotRepresentable-exact source address (Err fault) fits ends tagged unsealed =
     let w = source.word.0 in
-    let which = fault_since source.tag (is_sealed w) (is_kept_at w address) fault tagged unsealed
+    let which = fault_since source.tag (is_sealed w) (is_kept_at w address) (refusal_of fault) tagged unsealed
     (sym (first_of-set_addr source address) ∙ ends) in
-    (λ _ inside. lost source address (ends ∙ ap Some which) (KeepsBounds-from_range w address fits inside), λ _. ap Err which)
+    (λ _ inside. lost source address (ends ∙ ap Some which) (KeepsBounds-from_range w address fits inside), λ _. ap Err (same_fault fault which))
 
 -- and so never from the base to the top
 pub NotRepresentable-near : (source : Cap) (address : ℕ) (result : Result Cap OpFault) → address < 2 ^ 64
     → EndsWith result (set_addr_tests source address) (set_addr_result source address)
-    → base_of source.word.0 ≤ address → address ≤ top_of source.word.0 → result ≡ Err NotRepresentable → ⊥
+    → base_of source.word.0 ≤ address → address ≤ top_of source.word.0 → result ≡ Err faults.NotRepresentable → ⊥
 NotRepresentable-near source address (Ok cap) fits ends from until e = cc
 NotRepresentable-near source address (Err fault) fits ends from until e =
     let w = source.word.0 in
-    let which : fault ≡ NotRepresentable = cc in
+    let which : fault ≡ faults.NotRepresentable = cc in
     let above = KeepsBounds-margins w (address + 2 ^ 64) (omega arith) (omega arith) in
     let same : (address + 2 ^ 64) % 2 ^ 64 ≡ address = omega arith in
-    lost source address (ends ∙ ap Some which) (subst (KeepsBounds w) same above)
+    lost source address (ends ∙ ap (λ (f : OpFault). Some (refusal_of f)) which) (subst (KeepsBounds w) same above)

@@ -7,6 +7,7 @@ use Rattle.cap_word.specs.declared.word.Cap.{Cap}
 use Rattle.cap_word.specs.Fields.{address_of}
 use Rattle.cap_bounds.specs.Bounds.{IsInside, IsSound, base_of, top_of}
 use Rattle.cap_ops.specs.declared.faults.OpFault.{OpFault}
+use Rattle.cap_ops.specs.declared.refusal.Refusal.{Refusal}
 use Rattle.cap_ops.specs.Authority.{StaysWithin}
 use Rattle.cap_ops.specs.Operations.{Clears, IsStrictWhereTagged, clear_result, cleared, set_bounds_tests, set_bounds_result}
 use Rattle.cap_ops.specs.Permissions.{is_sealed}
@@ -22,15 +23,15 @@ StaysWithin-untagged cap source = record {
   sound = λ held sound. absurd (false≢true held);
 }
 
-pub clear_result-none : (tests : List (Bool × OpFault)) (result : Cap) → first_of tests ≡ None → clear_result tests result ≡ result
-clear_result-none tests result free = ap (λ (o : Option OpFault). if is_some o then cleared result else result) free
+pub clear_result-none : (tests : List (Bool × Refusal)) (result : Cap) → first_of tests ≡ None → clear_result tests result ≡ result
+clear_result-none tests result free = ap (λ (o : Option Refusal). if is_some o then cleared result else result) free
 
-pub clear_result-some : (tests : List (Bool × OpFault)) (result : Cap) (fault : OpFault) → first_of tests ≡ Some fault
+pub clear_result-some : (tests : List (Bool × Refusal)) (result : Cap) (fault : Refusal) → first_of tests ≡ Some fault
     → clear_result tests result ≡ cleared result
-clear_result-some tests result fault found = ap (λ (o : Option OpFault). if is_some o then cleared result else result) found
+clear_result-some tests result fault found = ap (λ (o : Option Refusal). if is_some o then cleared result else result) found
 
 -- what stays within a source where no test holds, stays within it in clear mode
-pub StaysWithin-clear : (tests : List (Bool × OpFault)) (result source : Cap) → (first_of tests ≡ None → StaysWithin result source)
+pub StaysWithin-clear : (tests : List (Bool × Refusal)) (result source : Cap) → (first_of tests ≡ None → StaysWithin result source)
     → StaysWithin (clear_result tests result) source
 StaysWithin-clear tests result source within =
     elim (first_of tests) as (λ o. first_of tests ≡ o → StaysWithin (clear_result tests result) source) [
@@ -40,14 +41,14 @@ StaysWithin-clear tests result source within =
     ] refl
 
 -- a call's outcome, or the result without its tag
-pub clear_result-outcome : (outcome : Result Cap OpFault) (tests : List (Bool × OpFault)) (result made : Cap)
+pub clear_result-outcome : (outcome : Result Cap OpFault) (tests : List (Bool × Refusal)) (result made : Cap)
     → EndsWith outcome tests result → Clears outcome result made
     → made ≡ clear_result tests result
 clear_result-outcome (Ok cap) tests result made ends clears = clears ∙ ends.1 ∙ sym (clear_result-none tests result ends.0)
-clear_result-outcome (Err fault) tests result made ends clears = clears ∙ sym (clear_result-some tests result fault ends)
+clear_result-outcome (Err fault) tests result made ends clears = clears ∙ sym (clear_result-some tests result _ ends)
 
 -- what has a tag in clear mode is the strict result
-pub strict_where_tagged : (tests : List (Bool × OpFault)) (result made : Cap) → made ≡ clear_result tests result
+pub strict_where_tagged : (tests : List (Bool × Refusal)) (result made : Cap) → made ≡ clear_result tests result
     → IsStrictWhereTagged tests result made
 strict_where_tagged tests result made is =
     elim (first_of tests) as (λ o. first_of tests ≡ o → IsStrictWhereTagged tests result made) [

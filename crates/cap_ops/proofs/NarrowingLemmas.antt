@@ -1,6 +1,7 @@
 -- What follows from the tests of new bounds.
 use Rattle.std.proofs.Common.{◌≡◌, ◌↔◌, ℕ, ◌+◌, ◌^◌, ◌<◌, ◌≤◌, Bool, true, false, not, ◌&&◌, [], ◌∷◌, Option, Some, None, Result, Ok, Err}
 use Rattle.std.proofs.Common.{if◌then◌else◌, refl, sym, ap, ◌∙◌, arith}
+use Rattle.std.proofs.lemmas.Option.{same_Some}
 use Rattle.std.proofs.lemmas.Bool.{both_ways, false_from_ne_true, not-false, and_parts, and_from, eqb-true, eq-eqb}
 use Rattle.cap_word.specs.declared.word.Cap.{Cap}
 use Rattle.cap_word.specs.Fields.{address_of}
@@ -11,10 +12,13 @@ use Rattle.cap_bounds.proofs.BoundedWords.{above-bounded_word}
 use Rattle.cap_bounds.proofs.LeastRounding.{IsInside-rounded, IsInside-requested}
 use Rattle.cap_bounds.proofs.RoundedWords.{AreFields-rounded, base_of-rounded_word, top_of-rounded_word, IsSound-rounded_word}
 use Rattle.cap_ops.specs.declared.faults.OpFault.{OpFault}
-use Rattle.cap_ops.specs.declared.faults.OpFault.TheVariants.{SourceSealed, BoundsEscape, NotExact}
+use Rattle.cap_ops.specs.declared.faults.OpFault.TheVariants as faults
+use Rattle.cap_ops.specs.declared.refusal.Refusal.{Refusal}
+use Rattle.cap_ops.specs.declared.refusal.Refusal.TheVariants.{SourceSealed, BoundsEscape, NotExact}
 use Rattle.cap_ops.specs.Authority.{ReachesNoMore, StaysWithin}
 use Rattle.cap_ops.specs.Operations.{covers, is_exact, set_bounds_tests, set_bounds_result, with_word}
 use Rattle.cap_ops.specs.Permissions.{is_sealed}
+use Rattle.cap_ops.specs.Refusals.{refusal_of}
 use Rattle.cap_ops.specs.Tests.{first_of}
 use Rattle.cap_ops.proofs.ReplacedFields.{perms_of-high}
 use Rattle.cap_ops.proofs.ReachLemmas.{StaysWithin-words}
@@ -65,7 +69,7 @@ StaysWithin-set_bounds source length exact fits h =
     no_more_rounded w base length base_fits fits (IsInside-covers w _ _ (not-false _ fail.1.0)) sound)
 
 -- what new bounds are refused with
-first_fault : Bool → Bool → Bool → Bool → Option OpFault
+first_fault : Bool → Bool → Bool → Bool → Option Refusal
 first_fault tagged is_sealed covered rounds = if tagged then (if is_sealed then Some SourceSealed else
     (if not covered then Some BoundsEscape else (if rounds then Some NotExact else None))) else None
 
@@ -122,7 +126,7 @@ escaped_since false seal covered rounds h = cc
 -- new bounds are refused for themselves exactly where the requested ones do not lie inside a sound source's
 module _ (source : Cap) (length : ℕ) (exact : Bool) (fits : length < 2 ^ 64) (tagged : source.tag ≡ true)
     (unsealed : is_sealed source.word.0 ≡ false) (sound : IsSound source.word.0) where
-  escapes_first : first_of (set_bounds_tests source length exact) ≡ Some BoundsEscape
+  pub escapes_first : first_of (set_bounds_tests source length exact) ≡ Some BoundsEscape
       → IsInside (address_of source.word.0) (address_of source.word.0 + length) (base_of source.word.0) (top_of source.word.0) → ⊥
   escapes_first h inside =
       let w = source.word.0 in
@@ -154,16 +158,22 @@ module _ (source : Cap) (length : ℕ) (exact : Bool) (fits : length < 2 ^ 64) (
       ∙ passes_since source.tag (is_sealed w) _ (exact && not (is_exact base length)) tagged unsealed kept
       (ap (λ (b : Bool). b && not (is_exact base length)) inexact)
 
+-- the fault that is this refusal
+same_fault : (fault : OpFault) → refusal_of fault ≡ BoundsEscape → fault ≡ faults.BoundsEscape
+same_fault faults.BoundsEscape h = refl
+same_fault fault h = cc
+
 pub BoundsEscape-exact : (source : Cap) (length : ℕ) (exact : Bool) (result : Result Cap OpFault) → length < 2 ^ 64
     → EndsWith result (set_bounds_tests source length exact) (set_bounds_result source length)
     → source.tag ≡ true → is_sealed source.word.0 ≡ false → IsSound source.word.0
-    → (result ≡ Err BoundsEscape) ↔ (IsInside (address_of source.word.0) (address_of source.word.0 + length)
+    → (result ≡ Err faults.BoundsEscape) ↔ (IsInside (address_of source.word.0) (address_of source.word.0 + length)
     (base_of source.word.0) (top_of source.word.0) → ⊥)
 BoundsEscape-exact source length exact (Ok cap) fits ends tagged unsealed sound =
     (λ e. cc, λ outside. let first = first_escapes source length exact fits tagged unsealed sound outside in cc)
 BoundsEscape-exact source length exact (Err fault) fits ends tagged unsealed sound = (
-  λ e. let which : fault ≡ BoundsEscape = cc in escapes_first source length exact fits tagged unsealed sound (ends ∙ ap Some which),
-  λ outside. let first = first_escapes source length exact fits tagged unsealed sound outside in cc,
+  λ e. let which : fault ≡ faults.BoundsEscape = cc in escapes_first source length exact fits tagged unsealed sound
+  (ends ∙ ap (λ (f : OpFault). Some (refusal_of f)) which),
+  λ outside. ap Err (same_fault fault (same_Some _ _ (sym ends ∙ first_escapes source length exact fits tagged unsealed sound outside))),
 )
 
 -- the source with the word that the code makes is the result

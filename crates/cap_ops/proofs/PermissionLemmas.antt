@@ -1,15 +1,19 @@
 -- The permissions of a word: the view, single bits, and which words have no more.
 use Rattle.std.proofs.Common.{◌≡◌, ℕ, zero, suc, ◌+◌, ◌*◌, ◌/◌, ◌%◌, ◌^◌, ◌<◌, ◌≤◌, Bool, true, false, ◌==◌, ◌&&◌, min, sym, ap, ◌∙◌, refl}
-use Rattle.std.proofs.Common.{arith}
+use Rattle.std.proofs.Common.{IsTrue, arith}
 use Rattle.std.proofs.lemmas.Nat.{shr-shr, and_mod, and_shr, and_le_l, and_block}
 use Rattle.std.proofs.lemmas.Nat.Bits.{shr_and_one, bit_at_cat_low, bit_at_and, bit_at_lowest, bit_at-suc, bit_at-lt}
 use Rattle.std.proofs.lemmas.Bool.{eqb-true, eq-eqb}
 use Rattle.std.specs.Prelude.{bit_and, nat_eq}
 use Rattle.std.specs.Int.{bit_at}
 use Rattle.cap_word.specs.Fields.{perms_of, bit_of}
-use Rattle.cap_ops.specs.Permissions.{perm_view_of, perms_from_view, has_permission, IsFewer, global, with_perms}
+use Rattle.cap_ops.specs.Permissions.{perm_view_of, perms_from_view, has_permission, global, with_perms}
 use Rattle.cap_ops.specs.Operations.{perms_with_common_global}
 use Rattle.cap_ops.proofs.ReplacedFields.{perms_of-with_perms}
+
+-- each permission of x is one of y
+abbrev pub IsFewer : ℕ → ℕ → Type 0
+IsFewer x y = (permission : ℕ) → IsTrue (has_permission x permission) → IsTrue (has_permission y permission)
 
 -- a number's low bits have the number's bits
 bit_at-low : (n k i : ℕ) → i < k → bit_at (n % 2 ^ k) i ≡ bit_at n i

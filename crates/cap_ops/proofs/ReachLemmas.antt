@@ -5,7 +5,7 @@ use Rattle.cap_bounds.specs.Bounds.{IsSound, base_of, top_of}
 use Rattle.cap_bounds.proofs.SameFields.{base_of-low, top_of-low, IsSound-low}
 use Rattle.cap_bounds.proofs.LeastRounding.{IsInside-refl, IsInside-trans}
 use Rattle.cap_ops.specs.Authority.{ReachesNoMore, StaysWithin}
-use Rattle.cap_ops.specs.Permissions.{IsFewer}
+use Rattle.cap_ops.proofs.PermissionLemmas.{IsFewer}
 
 -- a word reaches no more than itself
 pub ReachesNoMore-refl : (w : ℕ) → ReachesNoMore w w

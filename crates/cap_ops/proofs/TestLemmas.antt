@@ -1,10 +1,12 @@
 -- What follows where no test of a list holds, and from single tests.
 use Rattle.std.proofs.Common.{◌++◌, ◌≡◌, ℕ, Bool, true, false, List, [], ◌∷◌, Some, None, Result, MatchResult, if◌then◌else◌, refl, ap, ◌∙◌}
-use Rattle.std.proofs.Common.{sym}
+use Rattle.std.proofs.Common.{◌⊎◌, inl, inr, sym}
 use Rattle.std.proofs.lemmas.Bool.{and_parts, and_from, leb-true, le-leb}
 use Rattle.cap_word.specs.declared.word.Cap.{Cap}
 use Rattle.cap_bounds.specs.Bounds.{base_of, top_of, IsInside}
 use Rattle.cap_ops.specs.declared.faults.OpFault.{OpFault}
+use Rattle.cap_ops.specs.declared.refusal.Refusal.{Refusal}
+use Rattle.cap_ops.specs.Refusals.{refusal_of}
 use Rattle.cap_ops.specs.Operations.{covers, on_tagged}
 use Rattle.cap_ops.specs.Tests.{first_of}
 
@@ -28,14 +30,14 @@ if_tagged true tests = refl
 if_tagged false tests = refl
 
 -- a tagged source meets the tests for one, and an untagged one none
-pub first_of-on_tagged : (source : Cap) (tests : List (Bool × OpFault))
+pub first_of-on_tagged : (source : Cap) (tests : List (Bool × Refusal))
     → first_of (on_tagged source tests) ≡ (if source.tag then first_of tests else None)
 first_of-on_tagged source tests = if_tagged source.tag tests
 
-pub on_tagged-true : (source : Cap) (tests : List (Bool × OpFault)) → source.tag ≡ true → first_of (on_tagged source tests) ≡ first_of tests
+pub on_tagged-true : (source : Cap) (tests : List (Bool × Refusal)) → source.tag ≡ true → first_of (on_tagged source tests) ≡ first_of tests
 on_tagged-true source tests h = first_of-on_tagged source tests ∙ ap (λ (b : Bool). if b then first_of tests else None) h
 
-pub none_hold-tagged : (source : Cap) (tests : List (Bool × OpFault)) → source.tag ≡ true
+pub none_hold-tagged : (source : Cap) (tests : List (Bool × Refusal)) → source.tag ≡ true
     → first_of (on_tagged source tests) ≡ None → NoneHold tests
 none_hold-tagged source tests t h = none_hold tests (sym (on_tagged-true source tests t) ∙ h)
 
@@ -49,8 +51,8 @@ unfolding covers
 covers-inside w base top h = and_from _ _ (le-leb _ _ h.0) (le-leb _ _ h.1)
 
 -- how a call ends that answers the first test that holds, or a capability where none does
-abbrev pub EndsWith : Result Cap OpFault → List (Bool × OpFault) → Cap → Type 0
-EndsWith result tests cap = MatchResult result (λ made. (first_of tests ≡ None) × (made ≡ cap)) (λ fault. first_of tests ≡ Some fault)
+abbrev pub EndsWith : Result Cap OpFault → List (Bool × Refusal) → Cap → Type 0
+EndsWith result tests cap = MatchResult result (λ made. (first_of tests ≡ None) × (made ≡ cap)) (λ fault. first_of tests ≡ Some (refusal_of fault))
 
 -- where no test of a first list holds, the first of both is the second's
 pub first_of-append_none : {F : Type 0} (xs ys : List (Bool × F)) → first_of xs ≡ None → first_of (xs ++ ys) ≡ first_of ys
@@ -63,3 +65,16 @@ pub first_of-append_some : {F : Type 0} (xs ys : List (Bool × F)) (fault : F) �
 first_of-append_some [] ys fault h = cc
 first_of-append_some ((true, other) ∷ xs) ys fault h = h
 first_of-append_some ((false, other) ∷ xs) ys fault h = first_of-append_some xs ys fault h
+
+-- the first of both is one of the first list, or no test of that holds
+pub first_of-append : {F : Type 0} (xs ys : List (Bool × F)) (fault : F) → first_of (xs ++ ys) ≡ Some fault
+    → (first_of xs ≡ Some fault) ⊎ ((first_of xs ≡ None) × (first_of ys ≡ Some fault))
+first_of-append [] ys fault h = inr (refl, h)
+first_of-append ((true, other) ∷ xs) ys fault h = inl h
+first_of-append ((false, other) ∷ xs) ys fault h = first_of-append xs ys fault h
+
+-- where no test of two lists holds, none of either does
+pub first_of-append_free : {F : Type 0} (xs ys : List (Bool × F)) → first_of (xs ++ ys) ≡ None → (first_of xs ≡ None) × (first_of ys ≡ None)
+first_of-append_free [] ys h = (refl, h)
+first_of-append_free ((true, other) ∷ xs) ys h = cc
+first_of-append_free ((false, other) ∷ xs) ys h = first_of-append_free xs ys h

@@ -10,9 +10,10 @@ use Rattle.cap_bounds.specs.Bounds.{base_of, top_of}
 use Rattle.cap_bounds.specs.Range.{with_address}
 use Rattle.cap_bounds.specs.Rounding.{rounded_base, rounded_top, rounded_word}
 use Rattle.cap_ops.specs.declared.faults.OpFault.{OpFault}
-use Rattle.cap_ops.specs.declared.faults.OpFault.TheVariants.{SourceUntagged, SourceSealed, BoundsEscape, NotExact, NotRepresentable}
-use Rattle.cap_ops.specs.declared.faults.OpFault.TheVariants.{AuthorityUntagged, AuthoritySealed, AuthorityPermission, AuthorityBounds}
-use Rattle.cap_ops.specs.declared.faults.OpFault.TheVariants.{TypeOutOfRange, TypeMismatch}
+use Rattle.cap_ops.specs.declared.refusal.Refusal.{Refusal}
+use Rattle.cap_ops.specs.declared.refusal.Refusal.TheVariants.{SourceUntagged, SourceSealed, BoundsEscape, NotExact, NotRepresentable}
+use Rattle.cap_ops.specs.declared.refusal.Refusal.TheVariants.{AuthorityUntagged, AuthoritySealed, AuthorityPermission, AuthorityBounds}
+use Rattle.cap_ops.specs.declared.refusal.Refusal.TheVariants.{TypeOutOfRange, TypeMismatch}
 use Rattle.cap_ops.specs.Tests.{first_of}
 use Rattle.cap_ops.specs.Permissions.{has_permission, perm_view_of, perms_from_view, is_sealed, with_perms, with_type, unsealed_type}
 use Rattle.cap_ops.specs.Permissions.{greatest_type, global, permit_seal, permit_unseal}
@@ -26,11 +27,11 @@ abbrev pub cleared : Cap → Cap
 cleared cap = record cap { tag = false }
 
 -- the result of an operation in clear mode: it loses its tag where a test holds
-abbrev pub clear_result : List (Bool × OpFault) → Cap → Cap
+abbrev pub clear_result : List (Bool × Refusal) → Cap → Cap
 clear_result tests result = if is_some (first_of tests) then cleared result else result
 
 -- what has a tag in clear mode is what the strict operation gives: no test holds, and it is that result
-abbrev pub IsStrictWhereTagged : List (Bool × OpFault) → Cap → Cap → Type 0
+abbrev pub IsStrictWhereTagged : List (Bool × Refusal) → Cap → Cap → Type 0
 IsStrictWhereTagged tests result made = IsTrue made.tag → (first_of tests ≡ None) × (made ≡ result)
 
 -- what a call gave, or where it refused the result without its tag
@@ -41,10 +42,6 @@ Clears outcome result made = MatchResult outcome (λ cap. made ≡ cap) (λ faul
 unfoldable pub covers : ℕ → ℕ → ℕ → Bool
 covers w base top = nat_le (base_of w) base && nat_le top (top_of w)
 
--- an address lies in the bounds of a word
-unfoldable pub holds_address : ℕ → ℕ → Bool
-holds_address w address = nat_le (base_of w) address && nat_lt address (top_of w)
-
 -- a request needs no rounding
 unfoldable pub is_exact : ℕ → ℕ → Bool
 is_exact base length = rounded_base base length == base && rounded_top base length == base + length
@@ -53,17 +50,13 @@ is_exact base length = rounded_base base length == base && rounded_top base leng
 unfoldable pub is_kept_at : ℕ → ℕ → Bool
 is_kept_at w address = base_of (with_address w address) == base_of w && top_of (with_address w address) == top_of w
 
--- a word is sealed with an object type: it has that one, and it is none of the reserved ones
-unfoldable pub is_sealed_with : ℕ → ℕ → Bool
-is_sealed_with w otype = otype_of w == otype && nat_le (otype_of w) greatest_type
-
 -- the tests of a source that an untagged one does not meet
-abbrev pub on_tagged : Cap → List (Bool × OpFault) → List (Bool × OpFault)
+abbrev pub on_tagged : Cap → List (Bool × Refusal) → List (Bool × Refusal)
 on_tagged source tests = if source.tag then tests else []
 
 -- setting bounds: the length from the source's address on, rounded, is to lie inside the source's
 -- bounds; and where it is to be exact, not to be rounded at all
-unfoldable pub set_bounds_tests : Cap → ℕ → Bool → List (Bool × OpFault)
+unfoldable pub set_bounds_tests : Cap → ℕ → Bool → List (Bool × Refusal)
 set_bounds_tests source length exact =
     let w = source.word.0 in
     let base = address_of w in
@@ -77,7 +70,7 @@ unfoldable pub set_bounds_result : Cap → ℕ → Cap
 set_bounds_result source length = with_word source (rounded_word source.word.0 (address_of source.word.0) length)
 
 -- a new address is to keep the bounds
-unfoldable pub set_addr_tests : Cap → ℕ → List (Bool × OpFault)
+unfoldable pub set_addr_tests : Cap → ℕ → List (Bool × Refusal)
 set_addr_tests source address =
     on_tagged source ((is_sealed source.word.0, SourceSealed) ∷ (not (is_kept_at source.word.0 address), NotRepresentable) ∷ [])
 
@@ -86,25 +79,27 @@ unfoldable pub set_addr_result : Cap → ℕ → Cap
 set_addr_result source address = with_word source (with_address source.word.0 address)
 
 -- permissions are only taken from a source that is not sealed
-unfoldable pub and_perm_tests : Cap → List (Bool × OpFault)
+unfoldable pub and_perm_tests : Cap → List (Bool × Refusal)
 and_perm_tests source = on_tagged source ((is_sealed source.word.0, SourceSealed) ∷ [])
 
 -- the source with those of its permissions that the mask has too, both in the view
 unfoldable pub and_perm_result : Cap → ℕ → Cap
 and_perm_result source mask = with_word source (with_perms source.word.0 (perms_from_view (bit_and (perm_view_of source.word.0) mask)))
 
--- an authority for object types is to be tagged and unsealed, to have the permission, and to hold its
--- own address, which is the type
-abbrev pub type_authority_tests : Cap → ℕ → List (Bool × OpFault)
-type_authority_tests authority permission =
-    let w = authority.word.0 in
+-- an authority is to be tagged and unsealed, to have the permission, and to hold the addresses from base to top
+abbrev pub authority_tests : Cap → ℕ → ℕ → ℕ → List (Bool × Refusal)
+authority_tests authority permission base top =
     (not authority.tag, AuthorityUntagged)
-    ∷ (is_sealed w, AuthoritySealed)
-    ∷ (not (has_permission w permission), AuthorityPermission)
-    ∷ (not (holds_address w (address_of w)), AuthorityBounds) ∷ []
+    ∷ (is_sealed authority.word.0, AuthoritySealed)
+    ∷ (not (has_permission authority.word.0 permission), AuthorityPermission)
+    ∷ (not (covers authority.word.0 base top), AuthorityBounds) ∷ []
+
+-- an authority for object types is to hold its own address, which is the type
+abbrev pub type_authority_tests : Cap → ℕ → List (Bool × Refusal)
+type_authority_tests authority permission = authority_tests authority permission (address_of authority.word.0) (address_of authority.word.0 + 1)
 
 -- sealing: the authority first, then the type that it gives, then the source
-unfoldable pub seal_tests : Cap → Cap → List (Bool × OpFault)
+unfoldable pub seal_tests : Cap → Cap → List (Bool × Refusal)
 seal_tests source authority =
     type_authority_tests authority permit_seal
     ++ (nat_lt greatest_type (address_of authority.word.0), TypeOutOfRange)
@@ -115,12 +110,12 @@ seal_tests source authority =
 unfoldable pub seal_result : Cap → Cap → Cap
 seal_result source authority = with_word source (with_type source.word.0 (address_of authority.word.0 % 2 ^ 18))
 
--- unsealing: the authority first, then the source, which is to be sealed with the authority's address
-unfoldable pub unseal_tests : Cap → Cap → List (Bool × OpFault)
+-- unsealing: the authority first, then the source, which is to be sealed with the authority's address, and with no reserved type
+unfoldable pub unseal_tests : Cap → Cap → List (Bool × Refusal)
 unseal_tests source authority =
     type_authority_tests authority permit_unseal
     ++ (not source.tag, SourceUntagged)
-    ∷ (not (is_sealed_with source.word.0 (address_of authority.word.0)), TypeMismatch) ∷ []
+    ∷ (not (otype_of source.word.0 == address_of authority.word.0 && nat_le (otype_of source.word.0) greatest_type), TypeMismatch) ∷ []
 
 -- the permissions of a word, Global only where another word has it too
 abbrev pub perms_with_common_global : ℕ → ℕ → ℕ

@@ -1,6 +1,6 @@
 -- The permissions and the object type of a word (UCAM-CL-TR-987, the sections on permissions and on
 -- object types). Words are numbers below 2 ^ 128, and so are defined here by number.
-use Rattle.std.specs.Prelude.{ℕ, ◌+◌, ◌*◌, ◌/◌, ◌%◌, ◌^◌, Bool, not, ◌==◌, IsTrue}
+use Rattle.std.specs.Prelude.{ℕ, ◌+◌, ◌*◌, ◌/◌, ◌%◌, ◌^◌, Bool, not, ◌==◌}
 use Rattle.std.specs.Int.{bit_at}
 use Rattle.cap_word.specs.Fields.{perms_of, otype_of}
 
@@ -48,10 +48,6 @@ permit_seal = 7
 -- Unseal: object types that are addresses within the bounds may be taken off
 abbrev pub permit_unseal : ℕ
 permit_unseal = 9
-
--- each permission of x is one of y
-abbrev pub IsFewer : ℕ → ℕ → Type 0
-IsFewer x y = (permission : ℕ) → IsTrue (has_permission x permission) → IsTrue (has_permission y permission)
 
 -- the object type of a word that is not sealed (Sail CHERI-RISC-V: `otype_unsealed`)
 abbrev pub unsealed_type : ℕ

@@ -7,6 +7,7 @@ ghost use Rattle.cap_bounds.specs.Rounding.{HasRounding, rounded_base, rounded_t
 ghost use Rattle.cap_ops.specs.Authority.{StaysWithin};
 ghost use Rattle.cap_ops.specs.Operations.{covers, is_exact, set_bounds_result, set_bounds_tests};
 ghost use Rattle.cap_ops.specs.Permissions.{is_sealed};
+ghost use Rattle.cap_ops.specs.Refusals.{refusal_of};
 ghost use Rattle.cap_ops.specs.Tests.{first_of};
 
 use crate::faults::OpFault;
@@ -38,7 +39,7 @@ fn permitted(source: Cap, length: u64, exact: bool) -> Result<Rounded, OpFault>
     ensures { MatchResult result
         (λ rounded. (first_of (set_bounds_tests source length exact) ≡ None)
         × HasRounding rounded.ie rounded.e rounded.b rounded.t (address_of source.word.0) length)
-        (λ fault. first_of (set_bounds_tests source length exact) ≡ Some fault) }
+        (λ fault. first_of (set_bounds_tests source length exact) ≡ Some (refusal_of fault)) }
 {
     let rounded = rounding_of(source.word, length);
     if !source.tag {
@@ -63,7 +64,7 @@ fn permitted(source: Cap, length: u64, exact: bool) -> Result<Rounded, OpFault>
 pub fn set_bounds(source: Cap, length: u64, exact: bool) -> Result<Cap, OpFault>
     ensures outcome { MatchResult result
         (λ cap. (first_of (set_bounds_tests source length exact) ≡ None) × (cap ≡ set_bounds_result source length))
-        (λ fault. first_of (set_bounds_tests source length exact) ≡ Some fault) }
+        (λ fault. first_of (set_bounds_tests source length exact) ≡ Some (refusal_of fault)) }
     ensures stays_within { IfOk result (λ cap. StaysWithin cap source) }
     ensures escape { IsTrue source.tag → IsFalse (is_sealed source.word.0) → IsSound source.word.0
         → (result ≡ Err OpFault.BoundsEscape) ↔ (¬ IsInside (address_of source.word.0)

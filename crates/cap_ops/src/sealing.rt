@@ -1,12 +1,13 @@
 //! Object types: sealing and unsealing.
 
-ghost use Rattle.std.specs.Prelude.{◌≡◌, ◌<◌, ◌&&◌, None, Some, MatchResult, IfOk, IsFalse, IsTrue};
+ghost use Rattle.std.specs.Prelude.{◌≡◌, ◌+◌, ◌<◌, ◌==◌, ◌&&◌, nat_le, None, Some, MatchResult, IfOk, IsFalse, IsTrue, option_map};
 ghost use Rattle.cap_word.specs.Fields.{address_of, otype_of};
 ghost use Rattle.cap_ops.specs.Authority.{StaysWithin};
-ghost use Rattle.cap_ops.specs.Operations.{holds_address, is_sealed_with, perms_with_common_global};
+ghost use Rattle.cap_ops.specs.Operations.{covers, perms_with_common_global};
 ghost use Rattle.cap_ops.specs.Operations.{seal_result, seal_tests, type_authority_tests, unseal_result};
 ghost use Rattle.cap_ops.specs.Operations.{unseal_tests};
-ghost use Rattle.cap_ops.specs.Permissions.{global, has_permission, is_sealed};
+ghost use Rattle.cap_ops.specs.Permissions.{global, greatest_type, has_permission, is_sealed};
+ghost use Rattle.cap_ops.specs.Refusals.{refusal_of};
 ghost use Rattle.cap_ops.specs.Tests.{first_of};
 
 use crate::bits::{GLOBAL, PERMIT_SEAL, PERMIT_UNSEAL, permits, replace_permissions, replace_type};
@@ -29,9 +30,9 @@ pub fn sealed(word: Word) -> bool
 }
 
 /// Whether an address lies in a word's bounds.
-#[tactic(auto, unfolding(crate::specs::Operations::holds_address))]
+#[tactic(auto, unfolding(crate::specs::Operations::covers))]
 fn holds(word: Word, address: u64) -> bool
-    ensures { result ≡ holds_address word.0 address }
+    ensures { result ≡ covers word.0 address (address + 1) }
 {
     bounds(word).holds(address)
 }
@@ -39,7 +40,7 @@ fn holds(word: Word, address: u64) -> bool
 /// The first test that refuses an authority for object types.
 fn authority_fault(authority: Cap, permission: u32) -> Option<OpFault>
     requires { permission < 12 }
-    ensures { result ≡ first_of (type_authority_tests authority permission) }
+    ensures { option_map refusal_of result ≡ first_of (type_authority_tests authority permission) }
 {
     let word = authority.word;
     if !authority.tag {
@@ -58,7 +59,7 @@ fn authority_fault(authority: Cap, permission: u32) -> Option<OpFault>
 /// The first test that refuses a sealing.
 #[tactic(auto, unfolding(crate::specs::Operations::seal_tests))]
 fn seal_fault(source: Cap, authority: Cap) -> Option<OpFault>
-    ensures { result ≡ first_of (seal_tests source authority) }
+    ensures { option_map refusal_of result ≡ first_of (seal_tests source authority) }
 {
     if let Some(fault) = authority_fault(authority, PERMIT_SEAL) {
         return Some(fault);
@@ -93,7 +94,7 @@ pub(crate) fn with_authority_type(source: Cap, authority: Cap) -> Cap
 pub fn seal(source: Cap, authority: Cap) -> Result<Cap, OpFault>
     ensures outcome { MatchResult result
         (λ cap. (first_of (seal_tests source authority) ≡ None) × (cap ≡ seal_result source authority))
-        (λ fault. first_of (seal_tests source authority) ≡ Some fault) }
+        (λ fault. first_of (seal_tests source authority) ≡ Some (refusal_of fault)) }
     ensures sealed_so { IfOk result (λ cap. IsTrue cap.tag × IsTrue (is_sealed cap.word.0)
         × (otype_of cap.word.0 ≡ address_of authority.word.0) × (address_of cap.word.0 ≡ address_of source.word.0)) }
     ensures stays_within { IfOk result (λ cap. StaysWithin cap source) }
@@ -105,9 +106,8 @@ pub fn seal(source: Cap, authority: Cap) -> Result<Cap, OpFault>
 }
 
 /// Whether a word is sealed with an object type that is not reserved.
-#[tactic(auto, unfolding(crate::specs::Operations::is_sealed_with))]
 fn sealed_with(word: Word, address: u64) -> bool
-    ensures { result ≡ is_sealed_with word.0 address }
+    ensures { result ≡ (otype_of word.0 == address && nat_le (otype_of word.0) greatest_type) }
 {
     let object_type = word.object_type();
     u64::from(object_type) == address && object_type <= GREATEST_TYPE
@@ -116,7 +116,7 @@ fn sealed_with(word: Word, address: u64) -> bool
 /// The first test that refuses an unsealing.
 #[tactic(auto, unfolding(crate::specs::Operations::unseal_tests))]
 fn unseal_fault(source: Cap, authority: Cap) -> Option<OpFault>
-    ensures { result ≡ first_of (unseal_tests source authority) }
+    ensures { option_map refusal_of result ≡ first_of (unseal_tests source authority) }
 {
     if let Some(fault) = authority_fault(authority, PERMIT_UNSEAL) {
         return Some(fault);
@@ -159,7 +159,7 @@ pub(crate) fn without_type(source: Cap, authority: Cap) -> Cap
 pub fn unseal(source: Cap, authority: Cap) -> Result<Cap, OpFault>
     ensures outcome { MatchResult result
         (λ cap. (first_of (unseal_tests source authority) ≡ None) × (cap ≡ unseal_result source authority))
-        (λ fault. first_of (unseal_tests source authority) ≡ Some fault) }
+        (λ fault. first_of (unseal_tests source authority) ≡ Some (refusal_of fault)) }
     ensures unsealed_so { IfOk result (λ cap. IsTrue cap.tag × IsFalse (is_sealed cap.word.0)
         × (has_permission cap.word.0 global ≡ (has_permission source.word.0 global && has_permission authority.word.0 global))
         × (address_of cap.word.0 ≡ address_of source.word.0)) }

@@ -5,7 +5,6 @@ use Rattle.std.proofs.Math.Pow.{pow_mono}
 use Rattle.std.proofs.Math.Nat.{mul-le-mul}
 use Rattle.cap_word.specs.Digits.{hex_digits}
 use Rattle.cap_log.specs.declared.lines.Step.{Step}
-use Rattle.cap_ops.specs.declared.faults.OpFault.{OpFault}
 use Rattle.cap_ops.specs.declared.refusal.Refusal.{Refusal}
 use Rattle.cap_ops.specs.declared.refusal.Refusal.TheVariants.{WrongResult}
 use Rattle.cap_machine.specs.Accounts.{Account}
@@ -15,7 +14,7 @@ use Rattle.cap_report.specs.Parts.{lines_of_parts}
 use Rattle.cap_report.specs.StepLines.{asked_parts, step_lines, value_lines}
 
 -- the values of a load that no test refuses
-pub values_shown : (front : List ℕ) (access : Access) (recorded in_memory : ℕ) (fault : Option OpFault) → fault ≡ None
+pub values_shown : (front : List ℕ) (access : Access) (recorded in_memory : ℕ) (fault : Option Refusal) → fault ≡ None
     → front ++ text_line (codes "gives") (hex_digits (2 * access.size) in_memory)
     ++ text_line (codes "recorded") (hex_digits (2 * access.size) recorded)
     ≡ front ++ (value_lines (Read recorded in_memory) (Some access) fault ++ [])

@@ -13,7 +13,7 @@ use Rattle.cap_judge.specs.VerdictLines.{verdict_line}
 use Rattle.cap_judge.proofs.FaultPlaces.{at_fault}
 use Rattle.cap_judge.proofs.ReportLemmas.{IsHeld, tells}
 use Rattle.cap_report.specs.FaultReports.{IsLineReport, IsReport}
-use Rattle.cap_report.specs.Whys.{IsWhyText, IsTold}
+use Rattle.cap_report.specs.Whys.{Explains, IsWhyText}
 
 -- where a judge stopped, the report of that line is the report of the first fault, whatever bytes follow where the source has not ended
 pub reported : (given : List ℕ) (ended : Bool) (held : Held) (line : ℕ) (refusal : Refusal) (text report : List ℕ)
@@ -32,7 +32,7 @@ reported given ended held line refusal text report verdict stops told more end =
 -- the text of a judge that explains, by where it stopped
 pub told : (origins : Bool) (given : List ℕ) (ended : Bool) (held : Held) (text : List ℕ) (verdict : Verdict) (said : List ℕ) → IsHeld held
     → IsAnswerOf given ended (Ok verdict) → LeadsAfter given held verdict → StopsIn given ended held text verdict
-    → IsWhyText origins held text verdict said → IsTold origins true given ended verdict said
+    → IsWhyText origins held text verdict said → Explains origins given ended verdict said
 told true given ended held text (Yes steps roots) said is answer to stops why =
     subst (Tells true given (Yes steps roots)) (sym why) (tells given held (Yes steps roots) is to)
 told false given ended held text (Yes steps roots) said is answer to stops why = why

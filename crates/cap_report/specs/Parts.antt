@@ -5,7 +5,7 @@ use Rattle.cap_word.specs.Digits.{hex_digits}
 use Rattle.cap_word.specs.Fields.{address_of, perms_of, reserved_of, flag_of, otype_of, ie_of, e_of, b_of, t_of}
 use Rattle.cap_word.specs.declared.word.Cap.{Cap}
 use Rattle.cap_ops.specs.declared.refusal.Refusal.{Refusal}
-use Rattle.cap_ops.specs.Refusals.{refusal_number, name_of, refusal_of}
+use Rattle.cap_ops.specs.Refusals.{refusal_number, name_of}
 use Rattle.cap_texts.specs.TextLines.{text_line}
 use Rattle.cap_texts.specs.CapLines.{cap_lines, bounds_line, operand_lines}
 use Rattle.cap_report.specs.declared.parts.Part.{Part}
@@ -49,7 +49,7 @@ part_lines (Representable start end) = bounds_line (codes "representable") (code
 part_lines (Access start end) = bounds_line (codes "access") (codes " ") start end
 part_lines (Needs view) = text_line (codes "needs") (hex_digits 8 view)
 part_lines (Gives place cap) = cap_lines (codes "gives") place cap
-part_lines (Cleared fault) = cleared_line (refusal_of fault)
+part_lines (Cleared fault) = cleared_line fault
 part_lines (Recorded place cap) = cap_lines (codes "recorded") place cap
 part_lines (Differs given recorded) = differs_line given recorded
 

@@ -10,7 +10,6 @@ use Rattle.cap_log.specs.declared.lines.Place.{Place}
 use Rattle.cap_log.specs.declared.lines.Place.TheVariants.{Register}
 use Rattle.cap_log.specs.declared.lines.Step.{Step}
 use Rattle.cap_log.specs.declared.lines.Step.TheVariants.{SetAddr, Seal, Unseal, StoreCap}
-use Rattle.cap_ops.specs.declared.faults.OpFault.{OpFault}
 use Rattle.cap_ops.specs.Tests.{first_of}
 use Rattle.cap_ops.specs.Permissions.{has_permission, global, permit_store, permit_store_capability, permit_store_local_capability}
 use Rattle.cap_ops.specs.Permissions.{permit_seal, permit_unseal}
@@ -112,18 +111,18 @@ abbrev pub asked_parts : Account → Step → List Part
 asked_parts account step = operand_parts account step ++ reached_parts account step
 
 -- the test for which a result has no tag, where there is one
-abbrev pub cleared_parts : Option OpFault → List Part
+abbrev pub cleared_parts : Option Refusal → List Part
 cleared_parts None = []
 cleared_parts (Some fault) = parts.Cleared fault ∷ []
 
 -- what the rules give, what the line records, and in which fields these differ
-abbrev pub compared_parts : Option OpFault → Option (Place × Cap) → Recorded → List Part
+abbrev pub compared_parts : Option Refusal → Option (Place × Cap) → Recorded → List Part
 compared_parts fault (Some write) (Written recorded) =
     (parts.Gives write.0 write.1 ∷ cleared_parts fault) ++ parts.Recorded write.0 recorded ∷ parts.Differs write.1 recorded ∷ []
 compared_parts fault given records = []
 
 -- the value in memory, and the one that the line records, where no test refuses the access
-abbrev pub value_lines : Recorded → Option Access → Option OpFault → List ℕ
+abbrev pub value_lines : Recorded → Option Access → Option Refusal → List ℕ
 value_lines (Read recorded in_memory) (Some access) None =
     text_line (codes "gives") (hex_digits (2 * access.size) in_memory) ++ text_line (codes "recorded") (hex_digits (2 * access.size) recorded)
 value_lines records access fault = []

@@ -1,12 +1,11 @@
--- What a judge that explains a no answers and writes (this profile's own).
-use Rattle.std.specs.Prelude.{◌≡◌, ℕ, Bool, true, false, List, [], ◌++◌, if◌then◌else◌, Result}
+-- What a judge that explains a no writes (this profile's own).
+use Rattle.std.specs.Prelude.{◌≡◌, ℕ, Bool, true, List, [], ◌++◌, if◌then◌else◌}
 use Rattle.cap_judge.specs.declared.verdict.Verdict.{Verdict}
 use Rattle.cap_judge.specs.declared.verdict.Verdict.TheVariants.{Yes, No}
-use Rattle.cap_judge.specs.declared.verdict.JudgeToFault.{JudgeToFault}
 use Rattle.cap_machine.specs.Helds.{Held, account_of}
 use Rattle.cap_judge.specs.OriginLists.{report_text}
 use Rattle.cap_report.specs.FaultReports.{IsLineReport, IsReport}
-use Rattle.cap_judge.specs.Reports.{IsPushedFor, Tells}
+use Rattle.cap_judge.specs.Reports.{Tells}
 use Rattle.cap_judge.specs.VerdictLines.{verdict_line}
 
 -- the text that belongs to a verdict on bytes, with the report of a no: after a yes it is that of a judge that may be asked for origins,
@@ -23,19 +22,3 @@ IsWhyText origins held line (Yes steps roots) told =
     told ≡ (if origins then report_text held (Yes steps roots) else verdict_line (Yes steps roots))
 IsWhyText origins held line (No number refusal) told =
     (report : List ℕ) × IsLineReport (account_of held) line refusal report × (told ≡ verdict_line (No number refusal) ++ report)
-
--- the text of a judge that may be asked for origins, and for the report of a no
-abbrev pub IsTold : Bool → Bool → List ℕ → Bool → Verdict → List ℕ → Type 0
-IsTold origins false bytes ended verdict text = Tells origins bytes verdict text
-IsTold origins true bytes ended verdict text = Explains origins bytes ended verdict text
-
--- with a verdict its text was taken, without one nothing, and where the sink failed a beginning of the text
-abbrev pub IsExplanationOf : Bool → Bool → List ℕ → Bool → (List ℕ → Type 0) → Result Verdict JudgeToFault → Type 0
-IsExplanationOf origins why bytes ended took result = IsPushedFor (IsTold origins why bytes ended) bytes ended took result
-
--- an answer is that of the bytes that the source gave in the call, and of those that the sink took
-pub record Explained {S K : Type 0} (origins why : Bool) (gave : S → S → List ℕ → Type 0) (ended : S → Bool) (took : K → K → List ℕ → Type 0)
-    (old new : S) (before after : K) (result : Result Verdict JudgeToFault) : Type 0 where
-  pub given : List ℕ
-  pub gives : gave old new given
-  pub explanation : IsExplanationOf origins why given (ended new) (took before after) result

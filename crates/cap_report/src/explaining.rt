@@ -6,9 +6,10 @@ ghost use Rattle.cap_log.specs.Streams.{next_count};
 ghost use Rattle.cap_machine.specs.Helds.{account_of, held_of};
 ghost use Rattle.cap_judge.specs.FaultLines.{bytes_of};
 ghost use Rattle.cap_report.specs.FaultReports.{IsLineReport};
+ghost use Rattle.cap_judge.specs.Reports.{Reported};
 ghost use Rattle.cap_judge.specs.VerdictLines.{verdict_line};
 ghost use Rattle.cap_judge.specs.Verdicts.{NamesEscapes};
-ghost use Rattle.cap_report.specs.Whys.{Explained, IsWhyText};
+ghost use Rattle.cap_report.specs.Whys.{Explains, IsWhyText};
 ghost use Rattle.cap_judge.specs.declared.verdict.JudgeToFault.TheVariants.{Pull, Push};
 
 use crate::fault_reports::put_report;
@@ -31,7 +32,7 @@ pub fn judge_why<S: Source, K: Sink>(
     source: &mut S,
     sink: &mut K,
 ) -> Result<Verdict, JudgeToFault>
-    ensures explained { Explained origins true S.gave S.ended K.took source.old source.new sink.old sink.new result }
+    ensures explained { Reported (Explains origins) S.gave S.ended K.took source.old source.new sink.old sink.new result }
 
     // Whatever bytes it is the verdict of, a no names `BoundsEscape` exactly as `judge_bytes` says.
     ensures escape { IfOk result NamesEscapes }
@@ -53,7 +54,7 @@ pub fn judge_why_in<S: Source, M: TaggedStore, K: Sink>(
     sink: &mut K,
 ) -> Result<Verdict, JudgeToFault>
     requires { map.len (M.contents memory) ≡ 0 }
-    ensures explained { Explained origins true S.gave S.ended K.took source.old source.new sink.old sink.new result }
+    ensures explained { Reported (Explains origins) S.gave S.ended K.took source.old source.new sink.old sink.new result }
     ensures escape { IfOk result NamesEscapes }
     ensures counted { result ≢ Err Pull → S.faults source.new ≡ S.faults source.old }
     ensures pull_counted { result ≡ Err Pull → S.faults source.new ≡ next_count (S.faults source.old) }

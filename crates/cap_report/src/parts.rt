@@ -7,7 +7,6 @@ ghost use Rattle.cap_report.specs.Parts.{where_different};
 use cap_log::Place;
 use cap_log::buffers::{put, put_decimal};
 use cap_machine::Refusal;
-use cap_ops::OpFault;
 use cap_texts::cap_lines::{put_bounds_line, put_cap_lines, put_operand_lines};
 use cap_texts::text_lines::put_hex_line;
 use cap_word::{Cap, split};
@@ -35,7 +34,7 @@ pub enum Part {
     /// What the rules give for a place, without a tag where a test holds.
     Gives(Place, Cap),
     /// The test for which it has none.
-    Cleared(OpFault),
+    Cleared(Refusal),
     /// What the line records.
     Recorded(Place, Cap),
     /// The fields in which what the rules give and what the line records differ.
@@ -84,7 +83,7 @@ fn put_part(buffer: &mut [u8], at: usize, part: &Part) -> usize
         }
         Part::Needs(view) => put_hex_line(buffer, at, b"needs", 8, u128::from(view)),
         Part::Gives(place, cap) => put_cap_lines(buffer, at, b"gives", place, cap),
-        Part::Cleared(fault) => put_cleared_line(buffer, at, Refusal::from(fault)),
+        Part::Cleared(fault) => put_cleared_line(buffer, at, fault),
         Part::Recorded(place, cap) => put_cap_lines(buffer, at, b"recorded", place, cap),
         Part::Differs(given, recorded) => put_differs_line(buffer, at, given, recorded),
     }

@@ -3,3 +3,4 @@ pub mod DigitLemmas
 pub mod TextLemmas
 pub mod LaneLemmas
 pub mod ReadingLemmas
+pub mod WritingLemmas

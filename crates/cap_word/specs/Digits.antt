@@ -5,10 +5,10 @@ use Rattle.std.specs.Prelude.{◌≡◌, ℕ, suc, zero, ◌/◌, ◌%◌, ◌^�
 abbrev pub hex_digit : ℕ → ℕ
 hex_digit d = slice_index (codes "0123456789abcdef") d
 
--- the last k hexadecimal digits of a number, most significant first (this profile's own)
+-- the last k hexadecimal digits of a number, in lower case, most significant first (this profile's own)
 unfoldable pub hex_digits : ℕ → ℕ → List ℕ
 hex_digits zero n = []
-hex_digits (suc k) n = hex_digit (n / 16 ^ k % 16) ∷ hex_digits k n
+hex_digits (suc k) n = slice_index (codes "0123456789abcdef") (n / 16 ^ k % 16) ∷ hex_digits k n
 
 -- a byte is one of `0` to `9`, which are 48 to 57, or `a` to `f`, which are 97 to 102
 abbrev pub IsHexDigit : ℕ → Type 0

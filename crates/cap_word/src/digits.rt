@@ -1,4 +1,4 @@
-//! Up to sixteen hexadecimal digits, read at once as one vector.
+//! Up to sixteen hexadecimal digits, read and written at once as one vector.
 
 ghost use Rattle.std.specs.Prelude.{◌≡◌, ℕ, ◌<◌, ◌≤◌, ◌^◌, true, false, slice_index, take, IfSome, IfNone, ◌+◌, ◌*◌};
 ghost use Rattle.cap_word.specs.Digits.{hex_digits};
@@ -35,4 +35,20 @@ pub(crate) fn read_front(text: &[u8; 16], size: u8) -> Option<u64>
     } else {
         None
     }
+}
+
+/// The sixteen lower-case hexadecimal digits of a number, most significant first.
+#[inline(always)]
+pub fn number_text(number: u64) -> [u8; 16]
+    ensures digits { result ≡ hex_digits 16 number }
+{
+    let bytes = u8x8::from_array(number.to_be_bytes());
+    let high = bytes >> u8x8::splat(4);
+    let low = bytes & u8x8::splat(15);
+    let values = high.shuffle(low, [0, 8, 1, 9, 2, 10, 3, 11, 4, 12, 5, 13, 6, 14, 7, 15]);
+    // From a digit below ten to `0` and on, and from a greater one to `a` and on.
+    let first = values
+        .simd_lt(u8x16::splat(10))
+        .select(u8x16::splat(b'0'), u8x16::splat(b'a' - 10));
+    (values + first).to_array()
 }

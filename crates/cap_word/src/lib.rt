@@ -11,6 +11,7 @@ mod memory;
 mod text;
 mod word;
 
+pub use crate::digits::number_text;
 pub use crate::fields::Fields;
 pub use crate::layout::{join, split};
 pub use crate::memory::{from_memory, to_memory};

@@ -4,7 +4,7 @@ ghost use Rattle.std.specs.Prelude.{◌≡◌, ◌↔◌, ℕ, ◌*◌, ◌<◌,
 ghost use Rattle.std.specs.Prelude.{Some, IsSome, IsSomeAnd, IfSome, IfNone};
 ghost use Rattle.cap_word.specs.Digits.{AreHexDigits, hex_digits};
 
-use crate::digits::read_front;
+use crate::digits::{number_text, read_front};
 use crate::word::Word;
 
 /// Reads a word from its text, the 32 lower-case hexadecimal digits of its register layout, most
@@ -41,11 +41,13 @@ pub fn take_word(bytes: &[u8]) -> Option<(Word, &[u8])>
 }
 
 /// The text of a word: the 32 lower-case hexadecimal digits of its register layout.
+#[inline(always)]
 pub fn word_text(word: Word) -> [u8; 32]
     ensures digits { result ≡ hex_digits 32 word.0 }
 {
     let mut text = [0u8; 32];
-    let _written = hex::encode_to_slice(word.0.to_be_bytes(), &mut text);
+    text[..16].copy_from_slice(&number_text((word.0 >> 64) as u64));
+    text[16..].copy_from_slice(&number_text((word.0 % (1 << 64)) as u64));
     text
 }
 

@@ -56,7 +56,7 @@ fn report<S: Source, K: Sink>(
     source: &mut S,
     sink: &mut K,
 ) -> Result<Verdict, JudgeToFault>
-    ensures reported { Reported origins S.gave S.ended K.took source.old source.new sink.old sink.new result }
+    ensures reported { Reported (λ bytes _. Tells origins bytes) S.gave S.ended K.took source.old source.new sink.old sink.new result }
     ensures counted { result ≢ Err judging.Pull → S.faults source.new ≡ S.faults source.old }
     ensures pull_counted { result ≡ Err judging.Pull → S.faults source.new ≡ next_count (S.faults source.old) }
     ensures sink_counted { result ≢ Err judging.Push → K.faults sink.new ≡ K.faults sink.old }

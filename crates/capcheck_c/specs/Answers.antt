@@ -2,10 +2,10 @@
 use Rattle.std.specs.Prelude.{◌≡◌, ◌↔◌, ℕ, ◌+◌, ◌-◌, ◌%◌, ◌≤◌, Bool, ℤ, pos, neg_ℤ, ◌≤ℤ◌, List, ◌++◌, length, replicate}
 use Rattle.std.specs.Prelude.{MatchOption, IsTrue}
 use Rattle.cap_word.specs.declared.word.Cap.{Cap}
-use Rattle.cap_ops.specs.declared.faults.OpFault.{OpFault}
+use Rattle.cap_ops.specs.declared.refusal.Refusal.{Refusal}
 use Rattle.cap_ops.specs.declared.kinds.Kind.{Kind}
 use Rattle.cap_ops.specs.Accesses.{IsAllowed, access_address, access_tests, permission_for}
-use Rattle.cap_ops.specs.Faults.{fault_number}
+use Rattle.cap_ops.specs.Refusals.{refusal_number}
 use Rattle.cap_ops.specs.Sizes.{size_fits}
 use Rattle.cap_ops.specs.Tests.{first_of}
 use Rattle.cap_halves.specs.Passed.{cap_of, no_cap}
@@ -14,11 +14,11 @@ use Rattle.capcheck_c.specs.declared.values.Made.{Made}
 
 -- what an operation with these tests and this result answers: the result and 0 where no test holds, else
 -- NULL without a tag and the number of the first test that holds
-abbrev pub Answers : List (Bool × OpFault) → Cap → Made → Type 0
+abbrev pub Answers : List (Bool × Refusal) → Cap → Made → Type 0
 Answers tests result made =
     MatchOption (first_of tests)
     ((made.refusal ≡ 0) × (cap_of made.cap ≡ result))
-    (λ fault. (made.refusal ≡ fault_number fault) × (cap_of made.cap ≡ no_cap))
+    (λ refusal. (made.refusal ≡ refusal_number refusal) × (cap_of made.cap ≡ no_cap))
 
 -- an access of a kind has such offsets and sizes
 abbrev pub IsAccess : Kind → ℤ → ℕ → Type 0
@@ -34,7 +34,7 @@ bad_argument = 255
 pub record AnswersAccess (authority : Cap) (kind : Kind) (offset : ℤ) (size : ℕ) (answer : AccessAnswer) : Type 0 where
   pub outcome : IsAccess kind offset size → MatchOption (first_of (access_tests authority kind offset size))
       ((answer.refusal ≡ 0) × (answer.address ≡ access_address authority.word.0 offset))
-      (λ fault. (answer.refusal ≡ fault_number fault) × (answer.address ≡ 0))
+      (λ refusal. (answer.refusal ≡ refusal_number refusal) × (answer.address ≡ 0))
   pub allowed : answer.refusal ≡ 0 → IsAllowed authority.word.0 answer.address size (permission_for kind)
   pub in_one_granule : answer.refusal ≡ 0 → answer.address % 16 + size ≤ 16
   pub bad : (answer.refusal ≡ bad_argument) ↔ (¬ IsAccess kind offset size)

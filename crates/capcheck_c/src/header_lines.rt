@@ -4,16 +4,17 @@
 //! range; then the buffer is as it was.
 
 ghost use Rattle.std.specs.Prelude.{◌≡◌, ◌/◌, ◌%◌};
+ghost use Rattle.cap_log.specs.Lines.{IsLineAt};
 ghost use Rattle.cap_log.specs.declared.lines.Line.TheVariants as line;
 ghost use Rattle.cap_log.specs.declared.lines.Place.TheVariants as place;
-ghost use Rattle.capcheck_c.specs.LinesWritten.{AnswersLine, IsLineAt, mode_of};
+ghost use Rattle.capcheck_c.specs.LinesWritten.{AnswersLine, mode_of};
 ghost use Rattle.cap_halves.specs.Passed.{is_set, whole_of};
 
-use crate::ranges::{step_count_of, target_of, version_of};
-use crate::written::put_line;
+use crate::ranges::{step_count_of, version_of};
 use cap_halves::halves::word_of;
+use cap_halves::ranges::target_of;
 use cap_halves::values::Halves;
-use cap_log::{Line, Mode, Place};
+use cap_log::{Line, Mode, Place, write_line};
 
 /// Writes a version line into the buffer: 1 or 2.
 #[unsafe(no_mangle)]
@@ -23,7 +24,7 @@ pub extern "C" fn capcheck_line_version(buffer: &mut [u8; 96], version: u64) -> 
     let Some(version) = version_of(version) else {
         return 0;
     };
-    put_line(&Line::Version(version), buffer)
+    write_line(&Line::Version(version), buffer)
 }
 
 /// Writes the mode line of a log of version 2 into the buffer: clear mode, or else strict mode.
@@ -36,7 +37,7 @@ pub extern "C" fn capcheck_line_mode(buffer: &mut [u8; 96], clear: u8) -> usize
     } else {
         Mode::Strict
     };
-    put_line(&Line::Mode(mode), buffer)
+    write_line(&Line::Mode(mode), buffer)
 }
 
 /// Writes the line of a root in a register, 1 to 31, into the buffer.
@@ -48,7 +49,7 @@ pub extern "C" fn capcheck_line_root(buffer: &mut [u8; 96], register: u64, word:
         return 0;
     };
     let place = Place::Register(register);
-    put_line(&Line::Root(place, word_of(word)), buffer)
+    write_line(&Line::Root(place, word_of(word)), buffer)
 }
 
 /// Writes the line of a root in memory, at an address that is a multiple of 16, into the buffer.
@@ -63,7 +64,7 @@ pub extern "C" fn capcheck_line_root_at(buffer: &mut [u8; 96], address: u64, wor
         return 0;
     }
     let place = Place::Granule(address / 16);
-    put_line(&Line::Root(place, word_of(word)), buffer)
+    write_line(&Line::Root(place, word_of(word)), buffer)
 }
 
 /// Writes the end line with the number of step lines, below 2^32, into the buffer.
@@ -74,5 +75,5 @@ pub extern "C" fn capcheck_line_end(buffer: &mut [u8; 96], steps: u64) -> usize
     let Some(steps) = step_count_of(steps) else {
         return 0;
     };
-    put_line(&Line::End(steps), buffer)
+    write_line(&Line::End(steps), buffer)
 }

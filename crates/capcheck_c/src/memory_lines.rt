@@ -8,11 +8,9 @@ ghost use Rattle.cap_log.specs.declared.lines.Step.TheVariants as step;
 ghost use Rattle.capcheck_c.specs.LinesWritten.{AnswersLine};
 ghost use Rattle.cap_halves.specs.Passed.{cap_of};
 
-use crate::ranges::{offset_of, register_of, size_of, target_of};
-use crate::written::put_line;
-use cap_halves::halves::taken;
+use crate::written::put_step;
+use cap_halves::steps::{lc_of, load_of, sc_of, store_of};
 use cap_halves::values::Capability;
-use cap_log::{Line, Step};
 
 /// Writes the line of a step `lc` into the buffer.
 #[unsafe(no_mangle)]
@@ -25,22 +23,7 @@ pub extern "C" fn capcheck_line_lc(
 ) -> usize
     ensures line { AnswersLine (line.Step (step.LoadCap target authority offset (cap_of recorded))) buffer.old buffer.new result }
 {
-    let Some(target) = target_of(target) else {
-        return 0;
-    };
-    let Some(authority) = register_of(authority) else {
-        return 0;
-    };
-    let Some(offset) = offset_of(offset) else {
-        return 0;
-    };
-    let step = Step::LoadCap {
-        target,
-        authority,
-        offset,
-        result: taken(recorded),
-    };
-    put_line(&Line::Step(step), buffer)
+    put_step(lc_of(target, authority, offset, recorded), buffer)
 }
 
 /// Writes the line of a step `sc` into the buffer.
@@ -53,21 +36,7 @@ pub extern "C" fn capcheck_line_sc(
 ) -> usize
     ensures line { AnswersLine (line.Step (step.StoreCap source authority offset)) buffer.old buffer.new result }
 {
-    let Some(source) = register_of(source) else {
-        return 0;
-    };
-    let Some(authority) = register_of(authority) else {
-        return 0;
-    };
-    let Some(offset) = offset_of(offset) else {
-        return 0;
-    };
-    let step = Step::StoreCap {
-        source,
-        authority,
-        offset,
-    };
-    put_line(&Line::Step(step), buffer)
+    put_step(sc_of(source, authority, offset), buffer)
 }
 
 /// Writes the line of a step `load` into the buffer: `size` is 1, 2, 4 or 8, and `value` is below
@@ -82,22 +51,7 @@ pub extern "C" fn capcheck_line_load(
 ) -> usize
     ensures line { AnswersLine (line.Step (step.Load authority offset size value)) buffer.old buffer.new result }
 {
-    let Some(authority) = register_of(authority) else {
-        return 0;
-    };
-    let Some(offset) = offset_of(offset) else {
-        return 0;
-    };
-    let Some(size) = size_of(size, value) else {
-        return 0;
-    };
-    let step = Step::Load {
-        authority,
-        offset,
-        size,
-        value,
-    };
-    put_line(&Line::Step(step), buffer)
+    put_step(load_of(authority, offset, size, value), buffer)
 }
 
 /// Writes the line of a step `store` into the buffer: `size` is 1, 2, 4 or 8, and `value` is below
@@ -112,20 +66,5 @@ pub extern "C" fn capcheck_line_store(
 ) -> usize
     ensures line { AnswersLine (line.Step (step.Store authority offset size value)) buffer.old buffer.new result }
 {
-    let Some(authority) = register_of(authority) else {
-        return 0;
-    };
-    let Some(offset) = offset_of(offset) else {
-        return 0;
-    };
-    let Some(size) = size_of(size, value) else {
-        return 0;
-    };
-    let step = Step::Store {
-        authority,
-        offset,
-        size,
-        value,
-    };
-    put_line(&Line::Step(step), buffer)
+    put_step(store_of(authority, offset, size, value), buffer)
 }

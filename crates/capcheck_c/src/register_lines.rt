@@ -8,11 +8,12 @@ ghost use Rattle.cap_log.specs.declared.lines.Step.TheVariants as step;
 ghost use Rattle.capcheck_c.specs.LinesWritten.{AnswersLine};
 ghost use Rattle.cap_halves.specs.Passed.{cap_of};
 
-use crate::ranges::{register_of, target_of};
-use crate::written::put_line;
-use cap_halves::halves::taken;
+use crate::written::put_step;
+use cap_halves::steps::{
+    andperm_of, cleartag_of, move_of, seal_of, setaddr_of, setbounds_of, setboundsexact_of,
+    unseal_of,
+};
 use cap_halves::values::Capability;
-use cap_log::{Line, Step};
 
 /// Writes the line of a step `move` into the buffer.
 #[unsafe(no_mangle)]
@@ -24,18 +25,7 @@ pub extern "C" fn capcheck_line_move(
 ) -> usize
     ensures line { AnswersLine (line.Step (step.Move target source (cap_of recorded))) buffer.old buffer.new result }
 {
-    let Some(target) = target_of(target) else {
-        return 0;
-    };
-    let Some(source) = register_of(source) else {
-        return 0;
-    };
-    let step = Step::Move {
-        target,
-        source,
-        result: taken(recorded),
-    };
-    put_line(&Line::Step(step), buffer)
+    put_step(move_of(target, source, recorded), buffer)
 }
 
 /// Writes the line of a step `cleartag` into the buffer.
@@ -48,18 +38,7 @@ pub extern "C" fn capcheck_line_cleartag(
 ) -> usize
     ensures line { AnswersLine (line.Step (step.ClearTag target source (cap_of recorded))) buffer.old buffer.new result }
 {
-    let Some(target) = target_of(target) else {
-        return 0;
-    };
-    let Some(source) = register_of(source) else {
-        return 0;
-    };
-    let step = Step::ClearTag {
-        target,
-        source,
-        result: taken(recorded),
-    };
-    put_line(&Line::Step(step), buffer)
+    put_step(cleartag_of(target, source, recorded), buffer)
 }
 
 /// Writes the line of a step `setbounds` into the buffer.
@@ -73,19 +52,7 @@ pub extern "C" fn capcheck_line_setbounds(
 ) -> usize
     ensures line { AnswersLine (line.Step (step.SetBounds target source length (cap_of recorded))) buffer.old buffer.new result }
 {
-    let Some(target) = target_of(target) else {
-        return 0;
-    };
-    let Some(source) = register_of(source) else {
-        return 0;
-    };
-    let step = Step::SetBounds {
-        target,
-        source,
-        length,
-        result: taken(recorded),
-    };
-    put_line(&Line::Step(step), buffer)
+    put_step(setbounds_of(target, source, length, recorded), buffer)
 }
 
 /// Writes the line of a step `setboundsexact` into the buffer.
@@ -99,19 +66,7 @@ pub extern "C" fn capcheck_line_setboundsexact(
 ) -> usize
     ensures line { AnswersLine (line.Step (step.SetBoundsExact target source length (cap_of recorded))) buffer.old buffer.new result }
 {
-    let Some(target) = target_of(target) else {
-        return 0;
-    };
-    let Some(source) = register_of(source) else {
-        return 0;
-    };
-    let step = Step::SetBoundsExact {
-        target,
-        source,
-        length,
-        result: taken(recorded),
-    };
-    put_line(&Line::Step(step), buffer)
+    put_step(setboundsexact_of(target, source, length, recorded), buffer)
 }
 
 /// Writes the line of a step `setaddr` into the buffer.
@@ -125,19 +80,7 @@ pub extern "C" fn capcheck_line_setaddr(
 ) -> usize
     ensures line { AnswersLine (line.Step (step.SetAddr target source address (cap_of recorded))) buffer.old buffer.new result }
 {
-    let Some(target) = target_of(target) else {
-        return 0;
-    };
-    let Some(source) = register_of(source) else {
-        return 0;
-    };
-    let step = Step::SetAddr {
-        target,
-        source,
-        address,
-        result: taken(recorded),
-    };
-    put_line(&Line::Step(step), buffer)
+    put_step(setaddr_of(target, source, address, recorded), buffer)
 }
 
 /// Writes the line of a step `andperm` into the buffer.
@@ -151,19 +94,7 @@ pub extern "C" fn capcheck_line_andperm(
 ) -> usize
     ensures line { AnswersLine (line.Step (step.AndPerm target source mask (cap_of recorded))) buffer.old buffer.new result }
 {
-    let Some(target) = target_of(target) else {
-        return 0;
-    };
-    let Some(source) = register_of(source) else {
-        return 0;
-    };
-    let step = Step::AndPerm {
-        target,
-        source,
-        mask,
-        result: taken(recorded),
-    };
-    put_line(&Line::Step(step), buffer)
+    put_step(andperm_of(target, source, mask, recorded), buffer)
 }
 
 /// Writes the line of a step `seal` into the buffer.
@@ -177,22 +108,7 @@ pub extern "C" fn capcheck_line_seal(
 ) -> usize
     ensures line { AnswersLine (line.Step (step.Seal target source authority (cap_of recorded))) buffer.old buffer.new result }
 {
-    let Some(target) = target_of(target) else {
-        return 0;
-    };
-    let Some(source) = register_of(source) else {
-        return 0;
-    };
-    let Some(authority) = register_of(authority) else {
-        return 0;
-    };
-    let step = Step::Seal {
-        target,
-        source,
-        authority,
-        result: taken(recorded),
-    };
-    put_line(&Line::Step(step), buffer)
+    put_step(seal_of(target, source, authority, recorded), buffer)
 }
 
 /// Writes the line of a step `unseal` into the buffer.
@@ -206,20 +122,5 @@ pub extern "C" fn capcheck_line_unseal(
 ) -> usize
     ensures line { AnswersLine (line.Step (step.Unseal target source authority (cap_of recorded))) buffer.old buffer.new result }
 {
-    let Some(target) = target_of(target) else {
-        return 0;
-    };
-    let Some(source) = register_of(source) else {
-        return 0;
-    };
-    let Some(authority) = register_of(authority) else {
-        return 0;
-    };
-    let step = Step::Unseal {
-        target,
-        source,
-        authority,
-        result: taken(recorded),
-    };
-    put_line(&Line::Step(step), buffer)
+    put_step(unseal_of(target, source, authority, recorded), buffer)
 }

@@ -4,7 +4,7 @@ use Rattle.cap_ops.specs.Refusals.{refusal_number}
 use Rattle.cap_judge.specs.declared.verdict.Verdict.{Verdict}
 use Rattle.cap_judge.specs.declared.verdict.Verdict.TheVariants.{Yes, No}
 use Rattle.cap_judge.specs.Logs.{MayLackMemory, NamesNoGranules}
-use Rattle.cap_judge.specs.Verdicts.{IsVerdict, GuardsAuthority, NamesEscapes}
+use Rattle.cap_judge.specs.Verdicts.{IsVerdict, IsGuarded, NamesEscapes}
 use Rattle.capcheck_judge.specs.declared.answers.Answer.{Answer}
 
 -- an answer that is no verdict, and says why by this number
@@ -27,7 +27,7 @@ pub record AnswersBytes (bytes : List ℕ) (answer : Answer) : Type 0 where
   pub verdict : Option Verdict
   pub numbers : Answers verdict answer
   pub is_verdict : IfSome verdict (IsVerdict bytes)
-  pub authority : IfSome verdict (GuardsAuthority bytes)
+  pub authority : IsGuarded bytes
   pub no_memory : IfNone verdict ((more : List ℕ) × MayLackMemory bytes more)
   pub answers : NamesNoGranules bytes → IsSome verdict
 

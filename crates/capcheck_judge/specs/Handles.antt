@@ -13,7 +13,7 @@ use Rattle.cap_judge.specs.declared.verdict.Verdict.{Verdict}
 use Rattle.cap_judge.specs.Expectations.{Expects}
 use Rattle.cap_judge.specs.Judgings.{account_before}
 use Rattle.cap_judge.specs.Readings.{BeginsWhole, HasRead, Known, Stands, known_of}
-use Rattle.cap_judge.specs.Verdicts.{IsVerdict, GuardsAuthority}
+use Rattle.cap_judge.specs.Verdicts.{IsVerdict, IsGuarded}
 use Rattle.capcheck_judge.specs.Answers.{numbers_of, without_verdict}
 use Rattle.capcheck_judge.specs.declared.answers.Answer.{Answer}
 use Rattle.capcheck_judge.specs.declared.handle.Handle.{Handle}
@@ -59,7 +59,7 @@ pub record AnswersEnd (bytes : List ℕ) (answer : Answer) : Type 0 where
   pub verdict : Verdict
   pub numbers : answer ≡ numbers_of verdict
   pub is_verdict : IsVerdict bytes verdict
-  pub authority : GuardsAuthority bytes verdict
+  pub authority : IsGuarded bytes
 
 -- what the rules give, in numbers: the kind 1 is a capability, 2 a number, and 0 none
 abbrev pub IsGivenAs : Cap → ℕ → ℕ → ℕ → Given → Type 0

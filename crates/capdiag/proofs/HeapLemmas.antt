@@ -1,24 +1,26 @@
 -- Laws of the answer of a judge of an allocator's log.
-use Rattle.std.proofs.Common.{◌≡◌, ◌≢◌, ◌≤◌, ℕ, Bool, true, false, List, [], ◌++◌, Result, Ok, Err, refl, sym, ap, subst, ◌∙◌, append-nil, arith}
+use Rattle.std.proofs.Common.{◌≡◌, ◌≢◌, ◌≤◌, ℕ, Bool, true, false, List, [], ◌++◌, Result, Ok, Err, refl, sym, ap, subst, ◌∙◌, append-nil, append_assoc, arith}
 use Rattle.cap_log.specs.Streams.{next_count}
 use Rattle.cap_heap.specs.declared.verdict.HeapVerdict.{HeapVerdict}
 use Rattle.cap_heap.specs.declared.verdict.HeapVerdict.TheVariants.{Yes, No}
 use Rattle.cap_heap.specs.declared.verdict.HeapToFault.{HeapToFault}
 use Rattle.cap_heap.specs.declared.verdict.HeapToFault.TheVariants.{Pull, NoMemory, Push}
 use Rattle.cap_heap.specs.HeapLogs.{CanBeGuardedThroughout, IsFirstFault}
-use Rattle.cap_heap.specs.HeapVerdicts.{IsAnswerOf, IsOptimal, IsVerdict}
+use Rattle.cap_heap.specs.declared.refusal.HeapRefusal.{HeapRefusal}
+use Rattle.cap_heap.specs.HeapVerdicts.{IsAnswerOf, Lasts}
+use Rattle.cap_heap.specs.HeapWhys.{IsReport}
 use Rattle.cap_heap.specs.VerdictLines.{IsTold, Tells}
 use Rattle.cap_program.specs.declared.faults.Fault.TheVariants as faults
 use Rattle.cap_program.specs.Doings.{IsCounted, IsDone}
 use Rattle.capdiag.specs.Heaps.{ShowsHeap, StopsHeap, heap_judged, heap_status}
 
 -- what was pushed for an answer is what was done for the order
-pub heap_done : (report : Bool) (given : List ℕ) (ended : Bool) (took : List ℕ → Type 0) (answer : Result HeapVerdict HeapToFault)
-    → IsTold report given ended took answer → IsDone (ShowsHeap report given ended) (StopsHeap given) took (heap_judged answer)
-heap_done report given ended took (Ok verdict) p = (p.1, (verdict, p.0, p.2, refl), p.3)
-heap_done report given ended took (Err Pull) p = (p.0.fault, p.1)
-heap_done report given ended took (Err NoMemory) p = (p.0.fault, p.1)
-heap_done report given ended took (Err Push) p = (p.2, heap_status p.0, (p.0, p.1, p.3, refl), p.4, p.5)
+pub heap_done : (report why : Bool) (given : List ℕ) (ended : Bool) (took : List ℕ → Type 0) (answer : Result HeapVerdict HeapToFault)
+    → IsTold report why given ended took answer → IsDone (ShowsHeap report why given ended) (StopsHeap given) took (heap_judged answer)
+heap_done report why given ended took (Ok verdict) p = (p.1, (verdict, p.0, p.2, refl), p.3)
+heap_done report why given ended took (Err Pull) p = (p.0.fault, p.1)
+heap_done report why given ended took (Err NoMemory) p = (p.0.fault, p.1)
+heap_done report why given ended took (Err Push) p = (p.2, heap_status p.0, (p.0, p.1, p.3, refl), p.4, p.5)
 
 -- a fault of the source is one of the input
 pub heap_read : (before after : ℕ) (answer : Result HeapVerdict HeapToFault) → (answer ≢ Err Pull → after ≡ before)
@@ -36,26 +38,45 @@ heap_written before after (Err Pull) same next = record { counted = λ is. absur
 heap_written before after (Err NoMemory) same next = record { counted = λ is. absurd (cc); uncounted = λ other. same (λ is. cc) }
 heap_written before after (Err Push) same next = record { counted = λ is. next refl; uncounted = λ other. absurd (other refl) }
 
--- the verdict on the bytes given, and its text, are those of all bytes
-pub heap_known : (report : Bool) (known given rest : List ℕ) (ended : Bool) (verdict : HeapVerdict) (text : List ℕ) → known ≡ given ++ rest
-    → (ended ≡ true → rest ≡ []) → IsAnswerOf given ended (Ok verdict) → Tells report given verdict text
-    → IsVerdict known verdict × IsOptimal known true verdict × Tells report known verdict text
-heap_known report known given rest true verdict text are end answer tells =
-    subst (λ (bytes : List ℕ). IsVerdict bytes verdict × IsOptimal bytes true verdict × Tells report bytes verdict text)
-    (sym (are ∙ ap (λ (r : List ℕ). given ++ r) (end refl) ∙ append-nil given)) (answer.verdict, answer.optimal, tells)
-heap_known report known given rest false (Yes events live) text are end answer tells = absurd answer.verdict
-heap_known false known given rest false (No line refusal) text are end answer tells = (
-  subst (λ (bytes : List ℕ). IsFirstFault bytes line refusal) (sym are) (answer.verdict rest),
-  λ more none can. answer.optimal rest (λ e. cc)
-      (subst CanBeGuardedThroughout (ap (λ (m : List ℕ). known ++ m) (none refl) ∙ append-nil known ∙ are) can),
-  tells,
-)
-heap_known true known given rest false (No line refusal) text are end answer tells = (
-  subst (λ (bytes : List ℕ). IsFirstFault bytes line refusal) (sym are) (answer.verdict rest),
-  λ more none can. answer.optimal rest (λ e. cc)
-      (subst CanBeGuardedThroughout (ap (λ (m : List ℕ). known ++ m) (none refl) ∙ append-nil known ∙ are) can),
-  tells,
-)
+-- what lasts for the bytes given holds of all bytes
+lasts_known : (Fact : List ℕ → Type 0) (known given rest : List ℕ) (ended : Bool) → known ≡ given ++ rest → (ended ≡ true → rest ≡ [])
+    → Lasts given ended Fact → Lasts known true Fact
+lasts_known Fact known given rest ended are end lasts = λ more none.
+    subst Fact (sym (append_assoc given rest more) ∙ ap (λ (b : List ℕ). b ++ more) (sym are))
+    (lasts (rest ++ more) (λ e. ap (λ (r : List ℕ). r ++ more) (end e) ∙ none refl))
+
+-- and so does the text of a no
+module _ (known given rest : List ℕ) (ended : Bool) (are : known ≡ given ++ rest) (end : ended ≡ true → rest ≡ []) where
+  tells_no : (report why : Bool) (line : ℕ) (refusal : HeapRefusal) (text : List ℕ) → Tells report why given ended (No line refusal) text
+      → Tells report why known true (No line refusal) text
+  tells_no false false line refusal text is = is
+  tells_no true false line refusal text is = is
+  tells_no false true line refusal text is =
+      (is.0, lasts_known (λ all. IsReport all line refusal is.0) known given rest ended are end is.1, is.2)
+  tells_no true true line refusal text is =
+      (is.0, lasts_known (λ all. IsReport all line refusal is.0) known given rest ended are end is.1, is.2)
+
+  -- what is shown of the bytes given is shown of all bytes
+  shown : (report why : Bool) (verdict : HeapVerdict) (text : List ℕ) → IsAnswerOf given ended (Ok verdict)
+      → Tells report why given ended verdict text → IsAnswerOf known true (Ok verdict) × Tells report why known true verdict text
+  shown report why (Yes events live) text answer tells =
+      let same = are ∙ ap (λ (r : List ℕ). given ++ r) (end answer.verdict.0) ∙ append-nil given in
+      subst (λ (bytes : List ℕ). IsAnswerOf bytes true (Ok (Yes events live)) × Tells report why bytes true (Yes events live) text) (sym same)
+      (subst (λ (e : Bool). IsAnswerOf given e (Ok (Yes events live)) × Tells report why given e (Yes events live) text) answer.verdict.0 (answer, tells))
+  shown report why (No line refusal) text answer tells = (
+    record {
+      verdict = lasts_known (λ all. IsFirstFault all line refusal) known given rest ended are end answer.verdict;
+      optimal = lasts_known (λ all. CanBeGuardedThroughout all → ⊥) known given rest ended are end answer.optimal;
+      fault = tt;
+    },
+    tells_no report why line refusal text tells,
+  )
+
+pub heap_known : (report why : Bool) (known given rest : List ℕ) (ended : Bool) (text : List ℕ) (status : ℕ) → known ≡ given ++ rest
+    → (ended ≡ true → rest ≡ []) → ShowsHeap report why given ended text status → ShowsHeap report why known true text status
+heap_known report why known given rest ended text status are end shows =
+    let both = shown known given rest ended are end report why shows.0 text shows.1 shows.2 in
+    (shows.0, both.0, both.1, shows.3)
 
 pub heap_few : (verdict : HeapVerdict) → heap_status verdict ≤ 1
 heap_few (Yes events live) = omega arith

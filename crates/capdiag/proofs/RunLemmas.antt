@@ -54,20 +54,18 @@ shows_known (Some (Why origins file)) (Some known) None given ended text status 
 shows_known (Some (Why origins file)) (Some known) (Some xs) given ended text status gives all shows =
     let both = verdict_known origins known given xs ended shows.0 text gives (λ e. all e xs refl) shows.1 shows.2 in
     (known, refl, shows.0, both.0, both.1, shows.3)
-shows_known (Some (Heap report file)) None rest given ended text status gives all shows =
-    let three = heap_known report given given [] ended shows.0 text (sym (append-nil given)) (λ e. refl) shows.1 shows.2 in
-    (given, tt, shows.0, three.0, three.1, three.2, shows.3)
-shows_known (Some (Heap report file)) (Some known) None given ended text status gives all shows = absurd gives
-shows_known (Some (Heap report file)) (Some known) (Some xs) given ended text status gives all shows =
-    let three = heap_known report known given xs ended shows.0 text gives (λ e. all e xs refl) shows.1 shows.2 in
-    (known, refl, shows.0, three.0, three.1, three.2, shows.3)
+shows_known (Some (Heap report why file)) None rest given ended text status gives all shows =
+    (given, tt, heap_known report why given given [] ended text status (sym (append-nil given)) (λ e. refl) shows)
+shows_known (Some (Heap report why file)) (Some known) None given ended text status gives all shows = absurd gives
+shows_known (Some (Heap report why file)) (Some known) (Some xs) given ended text status gives all shows =
+    (known, refl, heap_known report why known given xs ended text status gives (λ e. all e xs refl) shows)
 
 -- the status of a text
 pub few : (order : Option Order) (given : List ℕ) (ended : Bool) (text : List ℕ) (status : ℕ) → Shows order given ended text status
     → status ≤ 1
 few None given ended text status shows = absurd shows
 few (Some (Why origins file)) given ended text status shows = let is = shows.3 in let at = verdict_few shows.0 in omega arith
-few (Some (Heap report file)) given ended text status shows = let is = shows.3 in let at = heap_few shows.0 in omega arith
+few (Some (Heap report why file)) given ended text status shows = let is = shows.3 in let at = heap_few shows.0 in omega arith
 
 -- an order with a text can be followed
 pub unfaulty : (order : Option Order) (given : List ℕ) (ended : Bool) (text : List ℕ) (status : ℕ) → Shows order given ended text status
@@ -90,9 +88,9 @@ asked_fault (Some (Why origins file)) given BadWords fails = absurd fails
 asked_fault (Some (Why origins file)) given BadWord fails = absurd fails
 asked_fault (Some (Why origins file)) given BadRequest fails = absurd fails
 asked_fault (Some (Why origins file)) given Write fails = absurd fails
-asked_fault (Some (Heap report file)) given Read fails = (λ two. absurd (cc), λ faulty. absurd faulty)
-asked_fault (Some (Heap report file)) given NoMemory fails = (λ two. absurd (cc), λ faulty. absurd faulty)
-asked_fault (Some (Heap report file)) given BadWords fails = absurd fails
-asked_fault (Some (Heap report file)) given BadWord fails = absurd fails
-asked_fault (Some (Heap report file)) given BadRequest fails = absurd fails
-asked_fault (Some (Heap report file)) given Write fails = absurd fails
+asked_fault (Some (Heap report why file)) given Read fails = (λ two. absurd (cc), λ faulty. absurd faulty)
+asked_fault (Some (Heap report why file)) given NoMemory fails = (λ two. absurd (cc), λ faulty. absurd faulty)
+asked_fault (Some (Heap report why file)) given BadWords fails = absurd fails
+asked_fault (Some (Heap report why file)) given BadWord fails = absurd fails
+asked_fault (Some (Heap report why file)) given BadRequest fails = absurd fails
+asked_fault (Some (Heap report why file)) given Write fails = absurd fails

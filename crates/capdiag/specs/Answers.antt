@@ -2,28 +2,23 @@
 use Rattle.std.specs.Prelude.{◌≡◌, ℕ, Bool, true, List, Option, Some, None, IfSome}
 use Rattle.cap_judge.specs.declared.verdict.Verdict.{Verdict}
 use Rattle.cap_judge.specs.Verdicts.{IsVerdict}
-use Rattle.cap_heap.specs.declared.verdict.HeapVerdict.{HeapVerdict}
-use Rattle.cap_heap.specs.HeapVerdicts.{IsOptimal}
-use Rattle.cap_heap.specs.HeapVerdicts as heap_verdicts
-use Rattle.cap_heap.specs.VerdictLines as heap_texts
 use Rattle.cap_report.specs.Whys.{Explains}
 use Rattle.cap_program.specs.declared.faults.Fault.{Fault}
 use Rattle.cap_program.specs.declared.faults.Fault.TheVariants.{BadWords}
 use Rattle.cap_program.specs.Judging.{ShowsVerdict, StopsJudging, verdict_status}
 use Rattle.capdiag.specs.declared.words.Order.{Order}
 use Rattle.capdiag.specs.declared.words.Order.TheVariants.{Why, Heap}
-use Rattle.capdiag.specs.Heaps.{ShowsHeap, StopsHeap, heap_status}
+use Rattle.capdiag.specs.Heaps.{ShowsHeap, StopsHeap}
 
 -- the text that an order prints, and its status: that of the verdict on its bytes, with the report of a no and the origins that are asked
--- for; or that of the verdict on them as an allocator's log, with the report that is asked for
+-- for; or that of the verdict on them as an allocator's log, with the reports that are asked for
 abbrev pub Prints : Option Order → Option (List ℕ) → List ℕ → ℕ → Type 0
 Prints None input text status = ⊥
 Prints (Some (Why origins file)) input text status =
     (bytes : List ℕ) × IfSome input (λ known. known ≡ bytes)
     × (verdict : Verdict) × IsVerdict bytes verdict × Explains origins bytes true verdict text × (status ≡ verdict_status verdict)
-Prints (Some (Heap report file)) input text status =
-    (bytes : List ℕ) × IfSome input (λ known. known ≡ bytes) × (verdict : HeapVerdict) × heap_verdicts.IsVerdict bytes verdict
-    × IsOptimal bytes true verdict × heap_texts.Tells report bytes verdict text × (status ≡ heap_status verdict)
+Prints (Some (Heap report why file)) input text status =
+    (bytes : List ℕ) × IfSome input (λ known. known ≡ bytes) × ShowsHeap report why bytes true text status
 
 -- an order that cannot be followed: there is none
 abbrev pub IsFaulty : Option Order → Type 0
@@ -39,11 +34,11 @@ ReadsInput (Some order) = Unit {0}
 abbrev pub Shows : Option Order → List ℕ → Bool → List ℕ → ℕ → Type 0
 Shows None given ended text status = ⊥
 Shows (Some (Why origins file)) given ended text status = ShowsVerdict (Explains origins given ended) given ended text status
-Shows (Some (Heap report file)) given ended text status = ShowsHeap report given ended text status
+Shows (Some (Heap report why file)) given ended text status = ShowsHeap report why given ended text status
 
 -- the fault that belongs to an order and the bytes given for it, but for one of the output
 abbrev pub Fails : Option Order → List ℕ → Fault → Type 0
 Fails None given BadWords = Unit {0}
 Fails (Some (Why origins file)) given fault = StopsJudging given fault
-Fails (Some (Heap report file)) given fault = StopsHeap given fault
+Fails (Some (Heap report why file)) given fault = StopsHeap given fault
 Fails order given fault = ⊥

@@ -22,10 +22,10 @@ heap_judged (Err heap_to.Pull) = Err Read
 heap_judged (Err heap_to.NoMemory) = Err NoMemory
 heap_judged (Err heap_to.Push) = Err Write
 
--- the text of the verdict on the bytes given, with the report where it is asked for, and its status
-abbrev pub ShowsHeap : Bool → List ℕ → Bool → List ℕ → ℕ → Type 0
-ShowsHeap report given ended text status =
-    (verdict : HeapVerdict) × IsAnswerOf given ended (Ok verdict) × Tells report given verdict text × (status ≡ heap_status verdict)
+-- the text of the verdict on the bytes given, with the reports of a yes and of a no where they are asked for, and its status
+abbrev pub ShowsHeap : Bool → Bool → List ℕ → Bool → List ℕ → ℕ → Type 0
+ShowsHeap report why given ended text status =
+    (verdict : HeapVerdict) × IsAnswerOf given ended (Ok verdict) × Tells report why given ended verdict text × (status ≡ heap_status verdict)
 
 -- why the bytes given were not judged: reading failed behind lines that begin a log; or memory was wanted for an object that comes to live
 abbrev pub StopsHeap : List ℕ → Fault → Type 0

@@ -9,6 +9,7 @@ abbrev pub Asks : List (List ℕ) → Order → Type 0
 Asks words (Why origins None) = words ≡ codes "why" ∷ option_word origins (codes "--origins")
 Asks words (Why origins (Some file)) =
     (words ≡ codes "why" ∷ (option_word origins (codes "--origins") ++ file.now ∷ [])) × IsTrue (is_operand file.now)
-Asks words (Heap report None) = words ≡ codes "heap" ∷ option_word report (codes "--report")
-Asks words (Heap report (Some file)) =
-    (words ≡ codes "heap" ∷ (option_word report (codes "--report") ++ file.now ∷ [])) × IsTrue (is_operand file.now)
+Asks words (Heap report why None) = words ≡ codes "heap" ∷ (option_word report (codes "--report") ++ option_word why (codes "--why"))
+Asks words (Heap report why (Some file)) =
+    (words ≡ codes "heap" ∷ (option_word report (codes "--report") ++ (option_word why (codes "--why") ++ file.now ∷ [])))
+    × IsTrue (is_operand file.now)

@@ -7,27 +7,29 @@ ghost use Rattle.cap_log.specs.Streams.{next_count};
 ghost use Rattle.cap_program.specs.Doings.{IsCounted, IsDone, IsInputCounted, ended_by, gave_by};
 ghost use Rattle.capdiag.specs.Heaps.{ShowsHeap, StopsHeap, heap_judged, heap_status};
 
-use cap_heap::{HeapToFault, HeapVerdict, judge_heap_report, judge_heap_to};
+use cap_heap::{HeapToFault, HeapVerdict, judge_heap_report, judge_heap_to, judge_heap_why};
 use cap_log::{Sink, Source};
 use cap_program::Fault;
 use std::alloc::Global;
 
-/// Judges an input as an allocator's log, pushes the line of the verdict and, where it is asked for, after a yes the
-/// report, and answers the status that goes with the verdict. A missing input is a read fault.
+/// Judges an input as an allocator's log, pushes the line of the verdict and, where they are asked for, after a yes the
+/// report of the log and after a no that of the line that was refused, and answers the status that goes with the verdict.
+/// A missing input is a read fault.
 pub fn judge_heap_input<S: Source, K: Sink>(
     alloc: Global,
     report: bool,
+    why: bool,
     input: &mut Option<S>,
     out: &mut K,
 ) -> Result<u8, Fault>
     ensures done { (given : List ℕ) × gave_by S.gave input.old input.new given
-        × IsDone (ShowsHeap report given (ended_by S.ended input.new)) (StopsHeap given) (K.took out.old out.new) result }
+        × IsDone (ShowsHeap report why given (ended_by S.ended input.new)) (StopsHeap given) (K.took out.old out.new) result }
     ensures read { IsInputCounted S.faults result input.old input.new }
     ensures written { IsCounted Fault.Write result (K.faults out.old) (K.faults out.new) }
     ensures missing { input.old ≡ None → result ≡ Err Fault.Read }
 {
     match input {
-        Some(source) => judge_heap_source(alloc, report, source, out),
+        Some(source) => judge_heap_source(alloc, report, why, source, out),
         None => Err(Fault::Read),
     }
 }
@@ -36,31 +38,35 @@ pub fn judge_heap_input<S: Source, K: Sink>(
 fn judge_heap_source<S: Source, K: Sink>(
     alloc: Global,
     report: bool,
+    why: bool,
     source: &mut S,
     sink: &mut K,
 ) -> Result<u8, Fault>
     ensures done { (given : List ℕ) × S.gave source.old source.new given
-        × IsDone (ShowsHeap report given (S.ended source.new)) (StopsHeap given) (K.took sink.old sink.new) result }
+        × IsDone (ShowsHeap report why given (S.ended source.new)) (StopsHeap given) (K.took sink.old sink.new) result }
     ensures read { IsCounted Fault.Read result (S.faults source.old) (S.faults source.new) }
     ensures written { IsCounted Fault.Write result (K.faults sink.old) (K.faults sink.new) }
 {
-    heap_judged(judge_heap_into(alloc, report, source, sink))
+    heap_judged(judge_heap_into(alloc, report, why, source, sink))
 }
 
-// Judges what a source gives, with the report or without.
+// Judges what a source gives, with the reports or without.
 fn judge_heap_into<S: Source, K: Sink>(
     alloc: Global,
     report: bool,
+    why: bool,
     source: &mut S,
     sink: &mut K,
 ) -> Result<HeapVerdict, HeapToFault>
-    ensures told { Told report S.gave S.ended K.took source.old source.new sink.old sink.new result }
+    ensures told { Told report why S.gave S.ended K.took source.old source.new sink.old sink.new result }
     ensures counted { result ≢ Err heap_faults.Pull → S.faults source.new ≡ S.faults source.old }
     ensures pull_counted { result ≡ Err heap_faults.Pull → S.faults source.new ≡ next_count (S.faults source.old) }
     ensures sink_counted { result ≢ Err heap_faults.Push → K.faults sink.new ≡ K.faults sink.old }
     ensures push_counted { result ≡ Err heap_faults.Push → K.faults sink.new ≡ next_count (K.faults sink.old) }
 {
-    if report {
+    if why {
+        judge_heap_why(alloc, report, source, sink)
+    } else if report {
         judge_heap_report(alloc, source, sink)
     } else {
         judge_heap_to(alloc, source, sink)

@@ -21,6 +21,10 @@ pub const ROWS: &str = r#"
 2 heap a b
 2 heap log --report
 2 heap --report --report
+2 heap --why --why
+2 heap --why --report
+2 heap log --why
+2 heap --report --why -log
 2 heap --origins
 2 judge
 2 judge log
@@ -153,6 +157,8 @@ pub const ROWS: &str = r#"
 # objects that lie apart
 0 heap
 0 heap log
+0 heap --why
+0 heap --why log
 | heap 1
 | root 0000000000000000 10000000000000000
 | malloc 0000000000001000 0000000000000010
@@ -171,9 +177,46 @@ pub const ROWS: &str = r#"
 | end 2
 = no 4 28 Overlaps
 
+# the same with what its tests saw
+1 heap --why
+1 heap --why log
+1 heap --report --why
+1 heap --report --why log
+| heap 1
+| root 0000000000000000 10000000000000000
+| malloc 0000000000010000 0000000000001001
+| malloc 0000000000011001 0000000000000001
+| end 2
+= no 4 28 Overlaps
+= line malloc 0000000000011001 0000000000000001
+= request 0000000000011001 00000000000011002
+= rounded 0000000000011001 00000000000011002
+= live request 0000000000010000 00000000000011001
+= live rounded 0000000000010000 00000000000011008
+= length 00000000000000001
+= alignment 00000000000000001
+
+# objects that lie apart, with what their bounds cost
+0 heap --report
+0 heap --report log
+0 heap --report --why
+0 heap --report --why log
+| heap 1
+| root 0000000000000000 10000000000000000
+| malloc 0000000000010000 0000000000001001
+| end 1
+= yes 1 1
+= objects 1
+= most 1
+= inexact 1
+= excess 7
+= padding 7
+= gaps 0
+
 # an allocator's log that isn't there
 3 heap gone
 3 heap --report gone
+3 heap --why gone
 | heap 1
 ! capdiag: read fault
 

@@ -16,9 +16,10 @@ use std::alloc::Global;
 use std::io::{Read, Write};
 
 /// Does what an order says, and answers the exit status: 0 for yes, 1 for no, 2 where there is no order, and 3
-/// where the input, the output or the memory failed. The input is the opened file or standard input, and `None` where it cannot be opened or the
-/// order reads none. A status above 1 comes with the line of its fault on `faults`, and with nothing else
-/// there; where that writer fails a beginning of the line stands there, and nothing else changes.
+/// where the input, the output or the memory failed. The input is the opened file or standard input, and
+/// `None` where it cannot be opened or the order reads none. A status above 1 comes with the line of its
+/// fault on `faults`, and with nothing else there; where that writer fails a beginning of the line stands
+/// there, and nothing else changes.
 ///
 /// It is [`carry_out`] over a reader and two writers. Of these no contract says whether a call failed; so it is
 /// there that each fault stands exactly where a stream counted one.
@@ -144,6 +145,10 @@ fn follow_order<S: Source, K: Sink>(
 {
     match order {
         Order::Why { origins, file: _ } => explain_input(alloc, origins, input, out),
-        Order::Heap { report, file: _ } => judge_heap_input(alloc, report, input, out),
+        Order::Heap {
+            report,
+            why,
+            file: _,
+        } => judge_heap_input(alloc, report, why, input, out),
     }
 }

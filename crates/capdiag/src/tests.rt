@@ -29,7 +29,11 @@ fn words_of<'a>(alloc: Global, line: &'a str) -> Result<Vec<&'a str>, AllocError
 fn input_of<'a>(order: Option<Order<'_>>, input: &'a [u8]) -> Option<&'a [u8]> {
     match order? {
         Order::Why { origins: _, file } => read_from(file, input),
-        Order::Heap { report: _, file } => read_from(file, input),
+        Order::Heap {
+            report: _,
+            why: _,
+            file,
+        } => read_from(file, input),
     }
 }
 

@@ -15,10 +15,12 @@ pub enum Order<'a> {
         /// The file's name, which does not begin with `-`.
         file: Option<&'a str>,
     },
-    /// `heap [--report] [FILE]`: judge the file, or standard input where no file is named, as an allocator's log.
+    /// `heap [--report] [--why] [FILE]`: judge the file, or standard input where no file is named, as an allocator's log.
     Heap {
         /// Whether after a yes the report is asked for.
         report: bool,
+        /// Whether after a no the report is asked for.
+        why: bool,
         /// The file's name, which does not begin with `-`.
         file: Option<&'a str>,
     },
@@ -58,10 +60,11 @@ fn read_heap<'a>(operands: &[&'a str]) -> Option<Order<'a>>
     ensures none { IfNone result ((order : Order) → Asks (codes "heap" ∷ map (λ word. word.now) operands.now) order → ⊥) }
 {
     let (report, operands) = take_option("--report", operands);
+    let (why, operands) = take_option("--why", operands);
     let file = match operands {
         [] => None,
         [file] if is_operand(file) => Some(*file),
         _ => return None,
     };
-    Some(Order::Heap { report, file })
+    Some(Order::Heap { report, why, file })
 }

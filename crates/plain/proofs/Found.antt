@@ -1,9 +1,8 @@
 -- Bounds that were found from the fields of a word are those of the word.
-use Rattle.std.proofs.Common.{◌≡◌, ℕ, Bool, ◌+◌, ◌*◌, ◌/◌, ◌%◌, ◌^◌, ◌<◌, ◌≤◌, ap, ◌∙◌, ◌-◌, subst}
+use Rattle.std.proofs.Common.{◌≡◌, ℕ, Bool, ◌+◌, ◌*◌, ◌/◌, ◌%◌, ◌^◌, ◌<◌, ◌≤◌, ap, ◌∙◌, ◌-◌, subst, sym}
 use Rattle.cap_word.specs.Fields.{ie_of, b_of, t_of, address_of}
-use Rattle.cap_bounds.specs.Bounds.{AreBounds, IsMantissa, IsResidue, cut_exponent_of, unit_of, length_of, span_of}
-use Rattle.cap_bounds.proofs.Mantissas.{IsMantissa-unique}
-use Rattle.cap_bounds.proofs.Decoded.{b_of-lt}
+use Rattle.cap_bounds.specs.Bounds.{AreBounds, IsMantissa, IsResidue, cut_exponent_of, unit_of, length_of}
+use Rattle.cap_bounds.proofs.Decoded.{length_of-mantissa}
 
 -- the same as of a word, of its fields
 pub record AreFound (e b t : ℕ) (ie : Bool) (address mantissa start raw_base raw_top base top : ℕ) : Type 0 where
@@ -48,11 +47,10 @@ module _ (w e b t : ℕ) (ie : Bool) (address : ℕ) (mantissa start raw_base ra
 -- the length of a word, from its mantissa and exponent
 pub length_found : (w e b t : ℕ) (ie : Bool) (mantissa : ℕ) → e ≡ cut_exponent_of w → b ≡ b_of w → t ≡ t_of w → ie ≡ ie_of w
     → IsMantissa b t ie mantissa → (mantissa + 2 ^ 14 - b) % 2 ^ 14 * 2 ^ e ≡ length_of w
-unfolding length_of
 length_found w e b t ie mantissa e_is b_is t_is ie_is is =
     let of_word : IsMantissa (b_of w) (t_of w) (ie_of w) mantissa =
     subst (λ (x : Bool). IsMantissa (b_of w) (t_of w) x mantissa) ie_is
     (subst (λ (x : ℕ). IsMantissa (b_of w) x ie mantissa) t_is (subst (λ (x : ℕ). IsMantissa x t ie mantissa) b_is is)) in
     ap (λ (x : ℕ). (mantissa + 2 ^ 14 - b) % 2 ^ 14 * 2 ^ x) e_is
     ∙ ap (λ (x : ℕ). (mantissa + 2 ^ 14 - x) % 2 ^ 14 * unit_of w) b_is
-    ∙ ap (λ (x : ℕ). span_of (b_of w) x * unit_of w) (IsMantissa-unique (b_of w) (t_of w) (ie_of w) mantissa (b_of-lt w) of_word)
+    ∙ sym (length_of-mantissa w mantissa of_word)

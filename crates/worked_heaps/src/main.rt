@@ -5,14 +5,19 @@
 //! a line feed. A line behind `#` says what the rows below it show.
 #![tactic(auto)]
 
+mod events;
 mod ways;
 
+use crate::events::report_holds;
 use crate::ways::row_holds;
 use std::io;
 
 fn main(rt: HostRuntime) -> io::Result<()> {
     let text = io::read_to_string(rt.alloc(), rt.stdin())?;
     let mut rows = 0u32;
+    if !report_holds() {
+        println!(rt; "another report")?;
+    }
     for line in text.split('\n') {
         if line.is_empty() || line.starts_with('#') {
             continue;

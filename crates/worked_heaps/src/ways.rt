@@ -1,8 +1,9 @@
 //! A log in pieces, cut, with a byte more, and where a pull or a push fails.
 
+use crate::events::events_hold;
 use cap_heap::{
     HeapFault, HeapRefusal, HeapToFault, HeapVerdict, heap_text, judge_heap, judge_heap_report,
-    judge_heap_to,
+    judge_heap_to, judge_heap_why,
 };
 use cap_log::{FailingSink, FailingSource, SliceSink, SliceSource};
 use std::alloc::{AllocError, Global};
@@ -21,6 +22,9 @@ pub fn row_holds(alloc: Global, told: &[u8], row: &[u8]) -> Result<bool, AllocEr
     let Ok(verdict) = judge_heap(alloc, &mut SliceSource::new(log, &[])) else {
         return Ok(false);
     };
+    if !events_hold(alloc, log, verdict)? {
+        return Ok(false);
+    }
     let mut text = [0u8; 64];
     let length = heap_text(&verdict, &mut text);
     if text[..length].strip_suffix(b"\n") != Some(line) {
@@ -50,14 +54,31 @@ fn with_feeds(alloc: Global, row: &[u8]) -> Result<Vec<u8>, AllocError> {
     Ok(text)
 }
 
-// Whether what a judge that reports writes of a log begins with this text, and nothing is behind it where it is a report.
+// Whether what judges that report write of a log begins with this text, and nothing is behind it where it is a report; and
+// whether they write the line of the verdict alone where the other one's report is asked for.
 fn report_holds(alloc: Global, log: &[u8], told: &[u8]) -> bool {
-    let mut room = [0u8; 512];
+    let line = told.split(|byte| *byte == b'\n').next().unwrap_or(&[]);
+    let is_yes = told.starts_with(b"yes");
+    let mut room = [0u8; 1024];
     let mut sink = SliceSink::new(&mut room);
-    let answer = judge_heap_report(alloc, &mut SliceSource::new(log, &[]), &mut sink);
+    let answer = judge_heap_why(alloc, true, &mut SliceSource::new(log, &[]), &mut sink);
     let taken = sink.taken();
     let is_whole = taken == told.len() + 1 || !told.contains(&b'\n');
-    answer.is_ok() && is_whole && room.starts_with(told)
+    if answer.is_err() || !is_whole || !room.starts_with(told) {
+        return false;
+    }
+    let mut other = [0u8; 1024];
+    let mut sink = SliceSink::new(&mut other);
+    let answer = judge_heap_why(alloc, false, &mut SliceSource::new(log, &[]), &mut sink);
+    let told = if is_yes { line.len() + 1 } else { taken };
+    if answer.is_err() || sink.taken() != told || other[..told] != room[..told] {
+        return false;
+    }
+    let mut other = [0u8; 1024];
+    let mut sink = SliceSink::new(&mut other);
+    let answer = judge_heap_report(alloc, &mut SliceSource::new(log, &[]), &mut sink);
+    let told = if is_yes { taken } else { line.len() + 1 };
+    answer.is_ok() && sink.taken() == told && other[..told] == room[..told]
 }
 
 // Whether a log in pieces of one byte, of which each pull fails in turn, has no verdict up to some pull, and the verdict

@@ -39,6 +39,7 @@ impl Part for Head {
         }
     }
 
+    #[inline(always)]
     fn write(&self, buffer: &mut [u8], at: usize) -> usize {
         put(buffer, at, head_text(*self))
     }
@@ -128,6 +129,7 @@ fn take_second_n(bytes: &[u8], end: u8) -> Option<(Head, &[u8])>
 }
 
 // The first word of a line.
+#[inline(always)]
 fn head_text(head: Head) -> &'static [u8]
     ensures { result.now ≡ head_spelling head }
 {

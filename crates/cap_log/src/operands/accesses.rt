@@ -5,6 +5,7 @@
 ghost use Rattle.cap_log.specs.declared.heads.Head.TheVariants as heads;
 ghost use Rattle.cap_log.specs.declared.lines.Step.TheVariants as steps;
 
+use crate::heads::Head;
 use crate::lines::Step;
 use crate::operands::Operands;
 use crate::parts::Part;
@@ -53,6 +54,18 @@ impl Operands for LoadCap {
     }
 
     #[inline(always)]
+    fn write(self, buffer: &mut [u8]) -> usize {
+        let operands = (
+            Target(self.target),
+            (
+                Register(self.authority),
+                (Offset(self.offset), Recorded(self.result)),
+            ),
+        );
+        (Head::LoadCap, operands).write(buffer, 0)
+    }
+
+    #[inline(always)]
     fn into_step(self) -> Step {
         Step::LoadCap {
             target: self.target,
@@ -85,6 +98,15 @@ impl Operands for StoreCap {
             offset: offset.0,
         };
         Some((step, rest))
+    }
+
+    #[inline(always)]
+    fn write(self, buffer: &mut [u8]) -> usize {
+        let operands = (
+            Register(self.source),
+            (Register(self.authority), Offset(self.offset)),
+        );
+        (Head::StoreCap, operands).write(buffer, 0)
     }
 
     #[inline(always)]
@@ -124,6 +146,16 @@ impl Operands for Load {
     }
 
     #[inline(always)]
+    fn write(self, buffer: &mut [u8]) -> usize {
+        let data = Loaded {
+            size: self.size,
+            value: self.value,
+        };
+        let operands = (Register(self.authority), (Offset(self.offset), data));
+        (Head::Load, operands).write(buffer, 0)
+    }
+
+    #[inline(always)]
     fn into_step(self) -> Step {
         Step::Load {
             authority: self.authority,
@@ -158,6 +190,16 @@ impl Operands for Store {
             value: stored.value,
         };
         Some((step, rest))
+    }
+
+    #[inline(always)]
+    fn write(self, buffer: &mut [u8]) -> usize {
+        let data = Stored {
+            size: self.size,
+            value: self.value,
+        };
+        let operands = (Register(self.authority), (Offset(self.offset), data));
+        (Head::Store, operands).write(buffer, 0)
     }
 
     #[inline(always)]

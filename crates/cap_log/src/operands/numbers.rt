@@ -5,6 +5,7 @@
 ghost use Rattle.cap_log.specs.declared.heads.Head.TheVariants as heads;
 ghost use Rattle.cap_log.specs.declared.lines.Step.TheVariants as steps;
 
+use crate::heads::Head;
 use crate::lines::Step;
 use crate::operands::Operands;
 use crate::parts::Part;
@@ -40,6 +41,18 @@ impl Operands for SetBounds {
             result: recorded.0,
         };
         Some((step, rest))
+    }
+
+    #[inline(always)]
+    fn write(self, buffer: &mut [u8]) -> usize {
+        let operands = (
+            Target(self.target),
+            (
+                Register(self.source),
+                (Number(self.length), Recorded(self.result)),
+            ),
+        );
+        (Head::SetBounds, operands).write(buffer, 0)
     }
 
     #[inline(always)]
@@ -80,6 +93,18 @@ impl Operands for SetBoundsExact {
     }
 
     #[inline(always)]
+    fn write(self, buffer: &mut [u8]) -> usize {
+        let operands = (
+            Target(self.target),
+            (
+                Register(self.source),
+                (Number(self.length), Recorded(self.result)),
+            ),
+        );
+        (Head::SetBoundsExact, operands).write(buffer, 0)
+    }
+
+    #[inline(always)]
     fn into_step(self) -> Step {
         Step::SetBoundsExact {
             target: self.target,
@@ -117,6 +142,18 @@ impl Operands for SetAddr {
     }
 
     #[inline(always)]
+    fn write(self, buffer: &mut [u8]) -> usize {
+        let operands = (
+            Target(self.target),
+            (
+                Register(self.source),
+                (Number(self.address), Recorded(self.result)),
+            ),
+        );
+        (Head::SetAddr, operands).write(buffer, 0)
+    }
+
+    #[inline(always)]
     fn into_step(self) -> Step {
         Step::SetAddr {
             target: self.target,
@@ -151,6 +188,18 @@ impl Operands for AndPerm {
             result: recorded.0,
         };
         Some((step, rest))
+    }
+
+    #[inline(always)]
+    fn write(self, buffer: &mut [u8]) -> usize {
+        let operands = (
+            Target(self.target),
+            (
+                Register(self.source),
+                (Number(self.mask), Recorded(self.result)),
+            ),
+        );
+        (Head::AndPerm, operands).write(buffer, 0)
     }
 
     #[inline(always)]

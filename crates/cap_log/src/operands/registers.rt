@@ -5,6 +5,7 @@
 ghost use Rattle.cap_log.specs.declared.heads.Head.TheVariants as heads;
 ghost use Rattle.cap_log.specs.declared.lines.Step.TheVariants as steps;
 
+use crate::heads::Head;
 use crate::lines::Step;
 use crate::operands::Operands;
 use crate::parts::Part;
@@ -43,6 +44,15 @@ impl Operands for Move {
     }
 
     #[inline(always)]
+    fn write(self, buffer: &mut [u8]) -> usize {
+        let operands = (
+            Target(self.target),
+            (Register(self.source), Recorded(self.result)),
+        );
+        (Head::Move, operands).write(buffer, 0)
+    }
+
+    #[inline(always)]
     fn into_step(self) -> Step {
         Step::Move {
             target: self.target,
@@ -74,6 +84,15 @@ impl Operands for ClearTag {
             result: recorded.0,
         };
         Some((step, rest))
+    }
+
+    #[inline(always)]
+    fn write(self, buffer: &mut [u8]) -> usize {
+        let operands = (
+            Target(self.target),
+            (Register(self.source), Recorded(self.result)),
+        );
+        (Head::ClearTag, operands).write(buffer, 0)
     }
 
     #[inline(always)]
@@ -113,6 +132,18 @@ impl Operands for Seal {
     }
 
     #[inline(always)]
+    fn write(self, buffer: &mut [u8]) -> usize {
+        let operands = (
+            Target(self.target),
+            (
+                Register(self.source),
+                (Register(self.authority), Recorded(self.result)),
+            ),
+        );
+        (Head::Seal, operands).write(buffer, 0)
+    }
+
+    #[inline(always)]
     fn into_step(self) -> Step {
         Step::Seal {
             target: self.target,
@@ -147,6 +178,18 @@ impl Operands for Unseal {
             result: recorded.0,
         };
         Some((step, rest))
+    }
+
+    #[inline(always)]
+    fn write(self, buffer: &mut [u8]) -> usize {
+        let operands = (
+            Target(self.target),
+            (
+                Register(self.source),
+                (Register(self.authority), Recorded(self.result)),
+            ),
+        );
+        (Head::Unseal, operands).write(buffer, 0)
     }
 
     #[inline(always)]

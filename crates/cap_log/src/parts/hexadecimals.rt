@@ -6,9 +6,9 @@ ghost use Rattle.cap_log.specs.Lines.{IsNumber};
 ghost use Rattle.cap_log.specs.Parts.{Writes};
 ghost use Rattle.cap_log.specs.Spaceless.{number-spaceless};
 
-use crate::buffers::put_hex;
+use crate::buffers::put;
 use crate::parts::{Part, Single};
-use cap_word::read_u64;
+use cap_word::{number_text, read_u64};
 
 /// How many digits a number has.
 const NUMBER_DIGITS: usize = 16;
@@ -31,6 +31,7 @@ impl Part for Number {
         Some((Number(number), &bytes[NUMBER_DIGITS + 1..]))
     }
 
+    #[inline(always)]
     fn write(&self, buffer: &mut [u8], at: usize) -> usize {
         write_number(buffer, at, self.0)
     }
@@ -41,9 +42,10 @@ impl Single for Number {
 }
 
 /// Writes a number in sixteen hexadecimal digits.
+#[inline(always)]
 pub fn write_number(buffer: &mut [u8], at: usize, number: u64) -> usize
     requires { at + 16 ≤ length buffer.old }
     ensures written { Writes at (hex_digits 16 number) buffer.old buffer.new result }
 {
-    put_hex(buffer, at, 16, u128::from(number))
+    put(buffer, at, &number_text(number))
 }

@@ -4,10 +4,9 @@ ghost use Rattle.std.specs.Fmt.{signed_decimal};
 ghost use Rattle.cap_log.specs.Lines.{IsOffset};
 ghost use Rattle.cap_log.specs.Spaceless.{offset-spaceless};
 
-use crate::buffers::put;
+use crate::buffers::{put, put_few};
 use crate::parts::decimals::take_decimal;
 use crate::parts::{Part, Single};
-use itoa::Buffer;
 
 /// The most digits that an offset has.
 const OFFSET_DIGITS: usize = 4;
@@ -47,9 +46,14 @@ impl Part for Offset {
         Some((Offset(number as i16), rest))
     }
 
+    #[inline(always)]
     fn write(&self, buffer: &mut [u8], at: usize) -> usize {
-        let mut digits = Buffer::new();
-        put(buffer, at, digits.format(self.0).as_bytes())
+        if self.0 < 0 {
+            let next = put(buffer, at, b"-");
+            put_few(buffer, next, self.0.unsigned_abs())
+        } else {
+            put_few(buffer, at, self.0.unsigned_abs())
+        }
     }
 }
 

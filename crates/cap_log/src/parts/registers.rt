@@ -5,7 +5,7 @@ ghost use Rattle.cap_log.specs.Lines.{IsPlace, IsRegister, IsTarget, place_spell
 ghost use Rattle.cap_log.specs.Parts.{Writes};
 ghost use Rattle.cap_log.specs.Spaceless.{place-spaceless, register-spaceless};
 
-use crate::buffers::{put, put_decimal};
+use crate::buffers::{put, put_few};
 use crate::lines::Place;
 use crate::parts::hexadecimals::{Number, write_number};
 use crate::parts::{Part, Single};
@@ -51,6 +51,7 @@ impl Part for Register {
         }
     }
 
+    #[inline(always)]
     fn write(&self, buffer: &mut [u8], at: usize) -> usize {
         write_register(buffer, at, self.0)
     }
@@ -77,6 +78,7 @@ impl Part for Target {
         Some((Target(register.0), rest))
     }
 
+    #[inline(always)]
     fn write(&self, buffer: &mut [u8], at: usize) -> usize {
         write_register(buffer, at, self.0)
     }
@@ -112,6 +114,7 @@ impl Part for Place {
         Some((Place::Register(target.0), rest))
     }
 
+    #[inline(always)]
     fn write(&self, buffer: &mut [u8], at: usize) -> usize {
         match *self {
             Place::Register(number) => write_register(buffer, at, number),
@@ -124,10 +127,11 @@ impl Part for Place {
 }
 
 // Writes a register's name.
+#[inline(always)]
 fn write_register(buffer: &mut [u8], at: usize, register: u8) -> usize
     requires { at + length (register_spelling register) ≤ length buffer.old }
     ensures { Writes at (register_spelling register) buffer.old buffer.new result }
 {
     let next = put(buffer, at, b"c");
-    put_decimal(buffer, next, u64::from(register))
+    put_few(buffer, next, u16::from(register))
 }

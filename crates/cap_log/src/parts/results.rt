@@ -33,6 +33,7 @@ impl Part for Word {
         Some((word, &bytes[WORD_DIGITS + 1..]))
     }
 
+    #[inline(always)]
     fn write(&self, buffer: &mut [u8], at: usize) -> usize {
         put(buffer, at, &word_text(*self))
     }
@@ -65,6 +66,7 @@ impl Part for Recorded {
         Some((Recorded(Cap { tag, word }), &bytes[RESULT_LENGTH + 1..]))
     }
 
+    #[inline(always)]
     fn write(&self, buffer: &mut [u8], at: usize) -> usize {
         if self.0.tag {
             let digits = put(buffer, at, b"= 1 ");

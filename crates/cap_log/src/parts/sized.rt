@@ -1,14 +1,14 @@
 //! Values of 1, 2, 4 or 8 bytes: their size, and two hexadecimal digits for each byte.
 
-ghost use Rattle.std.specs.Prelude.{◌≡◌, ℕ, ◌*◌, List, ◌++◌, decimal, IfSome, IfNone};
+ghost use Rattle.std.specs.Prelude.{◌≡◌, ℕ, ◌*◌, ◌+◌, ◌≤◌, length, List, ◌++◌, decimal, IfSome, IfNone};
 ghost use Rattle.cap_word.specs.Digits.{hex_digits};
 ghost use Rattle.cap_log.specs.Lines.{IsDataSize, IsDataValue};
-ghost use Rattle.cap_log.specs.Parts.{Begins, BeginsWithNone, IsEnd, IsSized, loaded_spelling, stored_spelling};
+ghost use Rattle.cap_log.specs.Parts.{Begins, BeginsWithNone, IsEnd, IsSized, Writes, loaded_spelling, stored_spelling};
 
-use crate::buffers::{put, put_decimal, put_hex};
+use crate::buffers::{put, put_few};
 use crate::parts::Part;
 use crate::parts::cutting::behind;
-use cap_word::{take_bytes, take_u64};
+use cap_word::{number_text, take_bytes, take_u64};
 
 /// The size and the value that a load records: the size, `= ` and the value's digits.
 #[derive(Clone, Copy)]
@@ -32,15 +32,11 @@ impl Part for Loaded {
         Some((Loaded { size, value }, rest))
     }
 
+    #[inline(always)]
     fn write(&self, buffer: &mut [u8], at: usize) -> usize {
-        let next = put_decimal(buffer, at, u64::from(self.size));
+        let next = put_few(buffer, at, u16::from(self.size));
         let digits = put(buffer, next, b" = ");
-        put_hex(
-            buffer,
-            digits,
-            2 * usize::from(self.size),
-            u128::from(self.value),
-        )
+        put_value(buffer, digits, self.size, self.value)
     }
 }
 
@@ -65,15 +61,30 @@ impl Part for Stored {
         Some((Stored { size, value }, rest))
     }
 
+    #[inline(always)]
     fn write(&self, buffer: &mut [u8], at: usize) -> usize {
-        let next = put_decimal(buffer, at, u64::from(self.size));
+        let next = put_few(buffer, at, u16::from(self.size));
         let digits = put(buffer, next, b" ");
-        put_hex(
-            buffer,
-            digits,
-            2 * usize::from(self.size),
-            u128::from(self.value),
-        )
+        put_value(buffer, digits, self.size, self.value)
+    }
+}
+
+// Writes a value of so many bytes: the last of its sixteen digits, two for each byte.
+#[inline(always)]
+fn put_value(buffer: &mut [u8], at: usize, size: u8, value: u64) -> usize
+    requires size { IsDataSize size }
+    requires room { at + 2 * size ≤ length buffer.old }
+    ensures { Writes at (hex_digits (2 * size) value) buffer.old buffer.new result }
+{
+    let digits = number_text(value);
+    if size == 8 {
+        put(buffer, at, &digits)
+    } else if size == 4 {
+        put(buffer, at, &digits[8..])
+    } else if size == 2 {
+        put(buffer, at, &digits[12..])
+    } else {
+        put(buffer, at, &digits[14..])
     }
 }
 

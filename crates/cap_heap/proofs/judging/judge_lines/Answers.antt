@@ -6,31 +6,32 @@ pub returns-in-Err-clause-judged : goal.returns-in-Err-clause-judged
 returns-in-Err-clause-judged g c =
     let p = stands g.S.Source.gave g.S.Source.ended c.args.source.now c.lines.source c.next.new.source c.lines.progress c.lines.line _ _ _ _
     g.met.S.Source.joined c.lines.invariant.here (c.next.follows.holds-at-none.0 c.lines.invariant.more) c.in-Err.is in
-    pulled c.lines.line _ p
+    pulled c.lines.line _ _ p
 
 pub returns-in-Ok-Finished-clause-judged : goal.returns-in-Ok-Finished-clause-judged
 returns-in-Ok-Finished-clause-judged g c =
     let p = stands g.S.Source.gave g.S.Source.ended c.args.source.now c.lines.source c.next.new.source c.lines.progress c.lines.line _ _ _ _
     g.met.S.Source.joined c.lines.invariant.here (c.next.follows.holds-at-none.0 c.lines.invariant.more) (c.in-Ok-Finished.is ∙ ap Ok c.in-Ok-Finished.field-0-is) in
-    rw c.finished.ensures (at_finish c.lines.line p)
+    rw (c.finished.ensures, c.new-in-Ok-Finished.ensures.value) (at_finish c.lines.line p)
 
 pub returns-in-Ok-Truncated-clause-judged : goal.returns-in-Ok-Truncated-clause-judged
 returns-in-Ok-Truncated-clause-judged g c =
     let p = stands g.S.Source.gave g.S.Source.ended c.args.source.now c.lines.source c.next.new.source c.lines.progress c.lines.line _ _ _ _
     g.met.S.Source.joined c.lines.invariant.here (c.next.follows.holds-at-none.0 c.lines.invariant.more) (c.in-Ok-Truncated.is ∙ ap Ok c.in-Ok-Truncated.field-0-is) in
-    rw c.refused.ensures (at_cut c.lines.line p)
+    rw (c.refused-verdict.ensures, c.of.ensures.value, c.kept.ensures.value) (at_cut c.lines.line p)
 
 pub returns-in-Ok-LineTooLong-clause-judged : goal.returns-in-Ok-LineTooLong-clause-judged
 returns-in-Ok-LineTooLong-clause-judged g c =
     let p = stands g.S.Source.gave g.S.Source.ended c.args.source.now c.lines.source c.next.new.source c.lines.progress c.lines.line _ _ _ _
     g.met.S.Source.joined c.lines.invariant.here (c.next.follows.holds-at-none.0 c.lines.invariant.more) (c.in-Ok-LineTooLong.is ∙ ap Ok c.in-Ok-LineTooLong.field-0-is) in
-    rw c.refused-in-Ok-LineTooLong.ensures (at_long c.lines.line p)
+    rw (c.refused-verdict-in-Ok-LineTooLong.ensures, c.of-in-Ok-LineTooLong.ensures.value, c.kept-in-Ok-LineTooLong.ensures.value) (at_long c.lines.line p)
 
 pub returns-in-Err-take_line-clause-judged : goal.returns-in-Err-take_line-clause-judged
 returns-in-Err-take_line-clause-judged g c =
     let p = stands g.S.Source.gave g.S.Source.ended c.args.source.now c.lines.source c.next.new.source c.lines.progress c.lines.line _ _ _ _
     g.met.S.Source.joined c.lines.invariant.here (c.next.follows.holds-at-none.0 c.lines.invariant.more) (c.in-Ok-Line.is ∙ ap Ok c.in-Ok-Line.field-0-is) in
-    rw c.answer_at.ensures (at_line c.lines.line c.in-Ok-Line.text p c.in-Err-take_line.end c.in-Err-take_line.ensures.err _)
+    rw (c.answer_at.ensures, c.of-in-Err-take_line.ensures.value)
+    (at_line c.lines.line c.in-Ok-Line.text p c.in-Err-take_line.end c.in-Err-take_line.ensures.err _ c.in-Err-take_line.ensures.stays)
 
 pub overflow_add-line : goal.overflow_add-line
 overflow_add-line g c = omega (arith, few _ c.lines.progress _ c.lines.line c.lines.invariant.here.2)

@@ -1,6 +1,7 @@
 use Rattle.std.proofs.Common.{◌≡◌, Some, sym, ◌∙◌, rules}
 use Rattle.std.proofs.lemmas.Option.{none-some}
 use Rattle.cap_ops.specs.Accesses.{access_tests}
+use Rattle.cap_ops.specs.Refusals.{refusal_of}
 use Rattle.cap_ops.specs.Tests.{first_of}
 use Rattle.cap_ops.specs.declared.kinds.Kind.TheVariants.{LoadData}
 use Rattle.cap_machine.specs.Helds.{account_of, held_of}
@@ -11,6 +12,6 @@ pub returns-in-Err : goal.returns-in-Err
 returns-in-Err g c = λ wrong.
     let account = account_of (held_of g.M.TaggedStore.contents c.args.machine.now) in
     let none = load_allowed account c.args.authority c.args.offset c.args.size c.args.value wrong in
-    let found : first_of (access_tests (account.state c.args.authority) LoadData c.args.offset c.args.size) ≡ Some c.in-Err.field-0 =
+    let found : first_of (access_tests (account.state c.args.authority) LoadData c.args.offset c.args.size) ≡ Some (refusal_of c.in-Err.field-0) =
     search rules in
-    none-some c.in-Err.field-0 (sym none ∙ found)
+    none-some _ (sym none ∙ found)

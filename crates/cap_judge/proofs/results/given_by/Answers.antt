@@ -4,7 +4,7 @@ use Rattle.std.proofs.lemmas.Int.{to_z-of_z}
 use Rattle.cap_word.specs.declared.word.Cap.{Cap}
 use Rattle.cap_log.specs.declared.lines.Step.{Step}
 use Rattle.cap_log.specs.Lines.{IsOffset, IsStepInRange}
-use Rattle.cap_ops.specs.declared.faults.OpFault.{OpFault}
+use Rattle.cap_ops.specs.declared.refusal.Refusal.{Refusal}
 use Rattle.cap_ops.specs.Tests.{first_of}
 use Rattle.cap_ops.specs.Operations as ops
 use Rattle.cap_ops.specs.Accesses.{loaded_result}
@@ -15,19 +15,19 @@ use Rattle.cap_judge.specs.Expectations.{IfWritten, UnlessWritten, lost_for}
 use Rattle.cap_judge.proofs.results.given_by.Goals as goal
 
 -- What `given_by` says of a step.
-abbrev Gives : State → Cap → Option OpFault → Step → Type 0
+abbrev Gives : State → Cap → Option Refusal → Step → Type 0
 Gives state cap fault step =
     let row = row_of state step in
     let cleared = clear_row row.access row in
     IfWritten row.records ((option_map (λ write. write.1) cleared.writes ≡ Some cap) × (lost_for row.access row ≡ fault))
 
 -- What it says of one whose line records no capability.
-abbrev Others : State → Cap → Option OpFault → Step → Type 0
+abbrev Others : State → Cap → Option Refusal → Step → Type 0
 Others state cap fault step =
     let row = row_of state step in UnlessWritten row.records ((cap ≡ untagged_null) × (fault ≡ None))
 
 -- An operation on what registers hold is that on the state's capabilities.
-by_one : (tests : Cap → List (Bool × OpFault)) (result : Cap → Cap) (held of_state cap : Cap) (fault : Option OpFault) → held ≡ of_state
+by_one : (tests : Cap → List (Bool × Refusal)) (result : Cap → Cap) (held of_state cap : Cap) (fault : Option Refusal) → held ≡ of_state
     → cap ≡ ops.clear_result (tests held) (result held) → fault ≡ first_of (tests held)
     → (Some (ops.clear_result (tests of_state) (result of_state)) ≡ Some cap) × (first_of (tests of_state) ≡ fault)
 by_one tests result held of_state cap fault same is lost = (
@@ -35,8 +35,8 @@ by_one tests result held of_state cap fault same is lost = (
   sym (lost ∙ ap (λ h. first_of (tests h)) same),
 )
 
-by_two : (tests : Cap → Cap → List (Bool × OpFault)) (result : Cap → Cap → Cap) (held of_state by by_state cap : Cap)
-    (fault : Option OpFault) → held ≡ of_state → by ≡ by_state
+by_two : (tests : Cap → Cap → List (Bool × Refusal)) (result : Cap → Cap → Cap) (held of_state by by_state cap : Cap)
+    (fault : Option Refusal) → held ≡ of_state → by ≡ by_state
     → cap ≡ ops.clear_result (tests held by) (result held by) → fault ≡ first_of (tests held by)
     → (Some (ops.clear_result (tests of_state by_state) (result of_state by_state)) ≡ Some cap)
     × (first_of (tests of_state by_state) ≡ fault)
@@ -57,102 +57,76 @@ loaded_by state authority offset held stored cap reached range same at there is 
     ap Some (sym (is ∙ ap (λ a. loaded_result a stored) same ∙ ap (λ s. loaded_result (state authority) s) there_now))
 
 pub returns-in-Move : goal.returns-in-Move
-returns-in-Move g c = record {
-  gives = let state = state_of (held_of g.M.TaggedStore.contents c.args.machine.now) in
-      let step = c.in-Move in
-      let given = c.untested in
-      subst (Gives state given.result.cap given.result.fault) (sym step.is)
-      (by_one (λ h. []) (λ h. h)
-      c.register.result (state step.source) given.result.cap given.result.fault
-      c.register.ensures.holds given.ensures.cap given.ensures.fault);
-  others = subst (Others _ _ _) (sym c.in-Move.is) tt;
-}
+returns-in-Move g c =
+    let step = c.in-Move in
+    let given = c.untested.ensures in record {
+      gives = rw step.is (by_one (λ h. []) (λ h. h) _ _ _ _
+          c.register.ensures.holds given.cap given.fault);
+      others = rw step.is tt;
+    }
 
 pub returns-in-ClearTag : goal.returns-in-ClearTag
-returns-in-ClearTag g c = record {
-  gives = let state = state_of (held_of g.M.TaggedStore.contents c.args.machine.now) in
-      let step = c.in-ClearTag in
-      let given = c.untested-in-ClearTag in
-      subst (Gives state given.result.cap given.result.fault) (sym step.is)
-      (by_one (λ h. []) (λ h. ops.cleared h)
-      c.register-in-ClearTag.result (state step.source) given.result.cap given.result.fault
-      c.register-in-ClearTag.ensures.holds (given.ensures.cap ∙ c.clear_tag.ensures.result_is) given.ensures.fault);
-  others = subst (Others _ _ _) (sym c.in-ClearTag.is) tt;
-}
+returns-in-ClearTag g c =
+    let step = c.in-ClearTag in
+    let given = c.untested-in-ClearTag.ensures in record {
+      gives = rw step.is (by_one (λ h. []) (λ h. ops.cleared h) _ _ _ _
+          c.register-in-ClearTag.ensures.holds (given.cap ∙ c.clear_tag.ensures.result_is) given.fault);
+      others = rw step.is tt;
+    }
 
 pub returns-in-SetBounds : goal.returns-in-SetBounds
-returns-in-SetBounds g c = record {
-  gives = let state = state_of (held_of g.M.TaggedStore.contents c.args.machine.now) in
-      let step = c.in-SetBounds in
-      let given = c.bounded in
-      subst (Gives state given.result.cap given.result.fault) (sym step.is)
-      (by_one (λ h. ops.set_bounds_tests h step.length false) (λ h. ops.set_bounds_result h step.length)
-      c.register-in-SetBounds.result (state step.source) given.result.cap given.result.fault
-      c.register-in-SetBounds.ensures.holds given.ensures.cap given.ensures.fault);
-  others = subst (Others _ _ _) (sym c.in-SetBounds.is) tt;
-}
+returns-in-SetBounds g c =
+    let step = c.in-SetBounds in
+    let given = c.bounded.ensures in record {
+      gives = rw step.is (by_one (λ h. ops.set_bounds_tests h step.length false) (λ h. ops.set_bounds_result h step.length) _ _ _ _
+          c.register-in-SetBounds.ensures.holds given.cap given.fault);
+      others = rw step.is tt;
+    }
 
 pub returns-in-SetBoundsExact : goal.returns-in-SetBoundsExact
-returns-in-SetBoundsExact g c = record {
-  gives = let state = state_of (held_of g.M.TaggedStore.contents c.args.machine.now) in
-      let step = c.in-SetBoundsExact in
-      let given = c.bounded-in-SetBoundsExact in
-      subst (Gives state given.result.cap given.result.fault) (sym step.is)
-      (by_one (λ h. ops.set_bounds_tests h step.length true) (λ h. ops.set_bounds_result h step.length)
-      c.register-in-SetBoundsExact.result (state step.source) given.result.cap given.result.fault
-      c.register-in-SetBoundsExact.ensures.holds given.ensures.cap given.ensures.fault);
-  others = subst (Others _ _ _) (sym c.in-SetBoundsExact.is) tt;
-}
+returns-in-SetBoundsExact g c =
+    let step = c.in-SetBoundsExact in
+    let given = c.bounded-in-SetBoundsExact.ensures in record {
+      gives = rw step.is (by_one (λ h. ops.set_bounds_tests h step.length true) (λ h. ops.set_bounds_result h step.length) _ _ _ _
+          c.register-in-SetBoundsExact.ensures.holds given.cap given.fault);
+      others = rw step.is tt;
+    }
 
 pub returns-in-SetAddr : goal.returns-in-SetAddr
-returns-in-SetAddr g c = record {
-  gives = let state = state_of (held_of g.M.TaggedStore.contents c.args.machine.now) in
-      let step = c.in-SetAddr in
-      let given = c.moved in
-      subst (Gives state given.result.cap given.result.fault) (sym step.is)
-      (by_one (λ h. ops.set_addr_tests h step.address) (λ h. ops.set_addr_result h step.address)
-      c.register-in-SetAddr.result (state step.source) given.result.cap given.result.fault
-      c.register-in-SetAddr.ensures.holds given.ensures.cap given.ensures.fault);
-  others = subst (Others _ _ _) (sym c.in-SetAddr.is) tt;
-}
+returns-in-SetAddr g c =
+    let step = c.in-SetAddr in
+    let given = c.moved.ensures in record {
+      gives = rw step.is (by_one (λ h. ops.set_addr_tests h step.address) (λ h. ops.set_addr_result h step.address) _ _ _ _
+          c.register-in-SetAddr.ensures.holds given.cap given.fault);
+      others = rw step.is tt;
+    }
 
 pub returns-in-AndPerm : goal.returns-in-AndPerm
-returns-in-AndPerm g c = record {
-  gives = let state = state_of (held_of g.M.TaggedStore.contents c.args.machine.now) in
-      let step = c.in-AndPerm in
-      let given = c.permitted in
-      subst (Gives state given.result.cap given.result.fault) (sym step.is)
-      (by_one (λ h. ops.and_perm_tests h) (λ h. ops.and_perm_result h step.mask)
-      c.register-in-AndPerm.result (state step.source) given.result.cap given.result.fault
-      c.register-in-AndPerm.ensures.holds given.ensures.cap given.ensures.fault);
-  others = subst (Others _ _ _) (sym c.in-AndPerm.is) tt;
-}
+returns-in-AndPerm g c =
+    let step = c.in-AndPerm in
+    let given = c.permitted.ensures in record {
+      gives = rw step.is (by_one (λ h. ops.and_perm_tests h) (λ h. ops.and_perm_result h step.mask) _ _ _ _
+          c.register-in-AndPerm.ensures.holds given.cap given.fault);
+      others = rw step.is tt;
+    }
 
 pub returns-in-Seal : goal.returns-in-Seal
-returns-in-Seal g c = record {
-  gives = let state = state_of (held_of g.M.TaggedStore.contents c.args.machine.now) in
-      let step = c.in-Seal in
-      let given = c.sealed in
-      subst (Gives state given.result.cap given.result.fault) (sym step.is)
-      (by_two (λ h b. ops.seal_tests h b) (λ h b. ops.seal_result h b)
-      c.register-in-Seal.result (state step.source) c.register-in-Seal-2.result (state step.authority)
-      given.result.cap given.result.fault c.register-in-Seal.ensures.holds
-      c.register-in-Seal-2.ensures.holds given.ensures.cap given.ensures.fault);
-  others = subst (Others _ _ _) (sym c.in-Seal.is) tt;
-}
+returns-in-Seal g c =
+    let step = c.in-Seal in
+    let given = c.sealed.ensures in record {
+      gives = rw step.is (by_two (λ h b. ops.seal_tests h b) (λ h b. ops.seal_result h b) _ _ _ _ _ _
+          c.register-in-Seal.ensures.holds c.register-in-Seal-2.ensures.holds given.cap given.fault);
+      others = rw step.is tt;
+    }
 
 pub returns-in-Unseal : goal.returns-in-Unseal
-returns-in-Unseal g c = record {
-  gives = let state = state_of (held_of g.M.TaggedStore.contents c.args.machine.now) in
-      let step = c.in-Unseal in
-      let given = c.unsealed in
-      subst (Gives state given.result.cap given.result.fault) (sym step.is)
-      (by_two (λ h b. ops.unseal_tests h b) (λ h b. ops.unseal_result h b)
-      c.register-in-Unseal.result (state step.source) c.register-in-Unseal-2.result (state step.authority)
-      given.result.cap given.result.fault c.register-in-Unseal.ensures.holds
-      c.register-in-Unseal-2.ensures.holds given.ensures.cap given.ensures.fault);
-  others = subst (Others _ _ _) (sym c.in-Unseal.is) tt;
-}
+returns-in-Unseal g c =
+    let step = c.in-Unseal in
+    let given = c.unsealed.ensures in record {
+      gives = rw step.is (by_two (λ h b. ops.unseal_tests h b) (λ h b. ops.unseal_result h b) _ _ _ _ _ _
+          c.register-in-Unseal.ensures.holds c.register-in-Unseal-2.ensures.holds given.cap given.fault);
+      others = rw step.is tt;
+    }
 
 pub returns-in-LoadCap : goal.returns-in-LoadCap
 returns-in-LoadCap g c = record {

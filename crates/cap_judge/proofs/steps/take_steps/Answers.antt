@@ -1,10 +1,13 @@
-use Rattle.std.proofs.Common.{◌++◌, ◌∷◌, [], ℕ, List, Bor, Option, IfSome, ap, append_assoc, sym, ◌∙◌, subst}
+use Rattle.std.proofs.Common.{◌++◌, ◌∷◌, [], ℕ, List, Bor, Option, IfSome, ap, append_assoc, sym, ◌∙◌, refl, subst}
 use Rattle.cap_log.specs.Lines.{spelling}
 use Rattle.cap_log.specs.declared.lines.Line.TheVariants.{Step}
 use Rattle.cap_machine.specs.Helds.{held_of}
 use Rattle.cap_judge.specs.Readings.{TakesStep}
-use Rattle.cap_judge.proofs.ReachLemmas.{steps_more}
+use Rattle.cap_judge.proofs.ReachLemmas.{steps_more, steps_none}
 use Rattle.cap_judge.proofs.steps.take_steps.Goals as goal
+
+pub steps-init : goal.steps-init
+steps-init g c = record { taken = ([], refl, steps_none (held_of g.M.TaggedStore.contents c.args.machine.now)) }
 
 pub steps-preserved : goal.steps-preserved
 steps-preserved g c =

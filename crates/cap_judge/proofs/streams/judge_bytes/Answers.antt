@@ -1,14 +1,12 @@
 use Rattle.std.proofs.Common.{◌≡◌, ◌≤◌, ◌-◌, arith, drop, length, rules, subst, take, Err}
 use Rattle.std.proofs.lemmas.List.{length-drop, take-append-drop, take_all}
-use Rattle.cap_machine.proofs.AuthorityLemmas.{one_root}
-use Rattle.cap_machine.proofs.AccessLemmas.{lie_inside}
 use Rattle.tagmem.specs.contracts.page_store.PageStoreTaggedStore.TheImpl.{ghosts}
 use Rattle.cap_judge.specs.declared.beginning.Stop.{Stop}
 use Rattle.cap_judge.specs.declared.beginning.Stop.TheVariants.{NoMemory}
 use Rattle.cap_judge.specs.declared.verdict.JudgeFault.TheVariants as faults
 use Rattle.cap_judge.specs.Readings.{StopsAt, known_of}
 use Rattle.cap_judge.proofs.EscapeLaws.{escapes_exactly}
-use Rattle.cap_judge.proofs.JudgeLemmas.{answered, guarded, guards}
+use Rattle.cap_judge.proofs.JudgeLemmas.{answered, guarded}
 use Rattle.cap_judge.proofs.StreamLemmas.{bytes_cut, bytes_fault, bytes_lack}
 use Rattle.cap_judge.proofs.streams.judge_bytes.Goals as goal
 
@@ -25,7 +23,7 @@ returns-in-Cut-clause-verdict c =
     c.end.ensures.verdict
 
 pub returns-in-Cut-clause-authority : goal.returns-in-Cut-clause-authority
-returns-in-Cut-clause-authority c = guards c.args.bytes.now (guarded one_root lie_inside c.args.bytes.now) c.end.result
+returns-in-Cut-clause-authority c = guarded c.args.bytes.now
 
 pub returns-in-Cut-clause-escape : goal.returns-in-Cut-clause-escape
 returns-in-Cut-clause-escape c = escapes_exactly c.args.bytes.now c.end.result
@@ -41,7 +39,7 @@ returns-in-Fault-clause-verdict c =
     (take-append-drop count bytes) c.end-in-Fault.ensures.verdict
 
 pub returns-in-Fault-clause-authority : goal.returns-in-Fault-clause-authority
-returns-in-Fault-clause-authority c = guards c.args.bytes.now (guarded one_root lie_inside c.args.bytes.now) c.end-in-Fault.result
+returns-in-Fault-clause-authority c = guarded c.args.bytes.now
 
 pub returns-in-Fault-clause-escape : goal.returns-in-Fault-clause-escape
 returns-in-Fault-clause-escape c = escapes_exactly c.args.bytes.now c.end-in-Fault.result
@@ -66,3 +64,6 @@ returns-clause-answers c =
     let stop = subst (λ (s : Stop). StopsAt old (take count bytes) (drop count bytes) s new) is c.take-taken.ensures.stops in
     answered bytes (Err faults.NoMemory)
     (bytes_lack old new bytes (take count bytes) (drop count bytes) c.over_pages-judge.ensures.read stop (take-append-drop count bytes))
+
+pub returns-clause-authority : goal.returns-clause-authority
+returns-clause-authority c = guarded c.args.bytes.now

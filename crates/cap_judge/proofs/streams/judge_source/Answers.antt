@@ -69,7 +69,7 @@ pieces-preserved g c =
       here = (
         here.0 ++ taken.0,
         subst (gave c.args.source.now c.fill.new.source) (sym (append_assoc here.0 taken.0 rest)) gives,
-        stop.0 here.0 here.2,
+        (stop.0 here.0 here.2).0,
       );
       clear = stop.2;
       cut = stop.1;
@@ -86,7 +86,7 @@ pieces-smaller g c =
     let rest = items c.take_pulled.new.pulled in
     let stop = subst (λ (s : Stop). StopsAt old taken.0 rest s new) c.in-Cut.is taken.2 in
     let some : length ok.0 ≢ 0 = search rules in
-    closer old new here.0 taken.0 (items c.pieces.pulled) ok.0 rest c.pieces.invariant.clear stop.2 here.2 (stop.0 here.0 here.2)
+    closer old new here.0 taken.0 (items c.pieces.pulled) ok.0 rest c.pieces.invariant.clear stop.2 here.2 (stop.0 here.0 here.2).0
     (sym ok.2 ∙ taken.1) c.pieces.invariant.cut stop.1 some
 
 pub returns-in-Fault-clause-judged : goal.returns-in-Fault-clause-judged
@@ -101,7 +101,7 @@ returns-in-Fault-clause-judged g c =
     let stop = subst (λ (s : Stop). StopsAt old taken.0 rest s new) c.in-Fault.is taken.2 in
     fault_judged gave g.S.Source.ended c.args.source.now c.fill.new.source new.held (bytes_of c.answered-in-Fault.result.1)
     (here.0 ++ (taken.0 ++ rest)) new c.ending-in-Fault.result c.answered-in-Fault.result.0 refl stop.1
-    c.ending-in-Fault.ensures.fault c.answered-in-Fault.ensures (stop.0 here.0 here.2)
+    c.ending-in-Fault.ensures.fault c.answered-in-Fault.ensures (stop.0 here.0 here.2).0
     (given_more gave c.args.source.now c.pieces.source c.fill.new.source here.0 (items c.pieces.pulled) ok.0 (taken.0 ++ rest)
     g.met.S.Source.joined here.1 ok.3 (sym taken.1 ∙ ok.2))
 

@@ -1,19 +1,23 @@
 use Rattle.std.specs.FinMap as map
-use Rattle.std.proofs.Common.{◌≡◌, ℕ, zero, suc, ◌+◌, List, Option, unwrap_or, refl, sym, ap, ◌∙◌, arith}
+use Rattle.std.proofs.Common.{◌≡◌, ℕ, zero, suc, ◌+◌, ◌-◌, ◌≤◌, List, take, Option, unwrap_or, refl, sym, ap, ◌∙◌, arith}
+use Rattle.std.proofs.lemmas.List.{drop-replicate, take-replicate}
 use Rattle.std.proofs.Math.ListN.{replicate}
+use Rattle.cap_word.specs.Memory.{number_of}
 use Rattle.tagmem.specs.Granules.{Entry, blank}
 use Rattle.tagmem.proofs.Granules.{shown-none, shown-some}
 use Rattle.cap_machine.specs.Values.{number_at}
-use Rattle.cap_machine.proofs.StateLemmas.{copies}
 use Rattle.cap_machine.proofs.granules.number_in.Goals as goal
 
--- Bytes that are all 0 spell 0.
-number_at-zeros : (byte_index size : ℕ) → number_at (replicate 16 0) byte_index size ≡ 0
-number_at-zeros byte_index zero = refl
-number_at-zeros byte_index (suc size) =
-    let here = copies {A = ℕ} 16 byte_index 0 0 refl in
-    let rest = number_at-zeros (byte_index + 1) size in
-    omega arith
+-- bytes that are all 0 spell 0
+zeros : (n : ℕ) → number_of (replicate n 0) ≡ 0
+unfolding number_of
+zeros zero = refl
+zeros (suc n) = omega (arith, zeros n)
+
+number_at-zeros : (byte_index size : ℕ) → byte_index + size ≤ 16 → number_at (replicate 16 0) byte_index size ≡ 0
+number_at-zeros byte_index size inside =
+    ap (λ (bytes : List ℕ). number_of (take size bytes)) (drop-replicate byte_index 16 0)
+    ∙ ap number_of (take-replicate size (16 - byte_index) 0 (omega arith)) ∙ zeros size
 
 pub returns-in-Some : goal.returns-in-Some
 returns-in-Some g c =
@@ -30,5 +34,5 @@ returns-in-None g c =
     record {
       value =
           sym (ap (λ (o : Option Entry). number_at (unwrap_or o blank).1 c.args.byte_index c.args.size)
-          (shown-none found (sym c.in-None.ensures.value)) ∙ number_at-zeros c.args.byte_index c.args.size);
+          (shown-none found (sym c.in-None.ensures.value)) ∙ number_at-zeros c.args.byte_index c.args.size c.requires.inside);
     }

@@ -1,10 +1,11 @@
-use Rattle.std.proofs.Common.{◌≡◌, ℕ, Option, None, ◌∙◌, ap, sym, subst, rules}
+use Rattle.std.proofs.Common.{◌≡◌, ℕ, Option, None, option_map, ◌∙◌, ap, sym, subst, rules}
 use Rattle.std.proofs.lemmas.Int.{to_z-of_z}
 use Rattle.std.specs.Prelude.{FitsSigned}
 use Rattle.std.specs.Int.{w16, cast_signed, cast_unsigned}
 use Rattle.cap_word.specs.declared.word.Cap.{Cap}
 use Rattle.cap_ops.specs.declared.faults.OpFault.{OpFault}
 use Rattle.cap_ops.specs.declared.access.Access.{Access}
+use Rattle.cap_ops.specs.Refusals.{refusal_of}
 use Rattle.cap_ops.specs.Tests.{first_of}
 use Rattle.cap_ops.specs.Accesses.{IsAllowed, access_address, access_tests, permission_for}
 use Rattle.cap_ops.proofs.AccessLemmas.{IsAllowed-access, in_granule}
@@ -13,13 +14,13 @@ use Rattle.cap_ops.proofs.accesses.access_by.Goals as goal
 -- what the tests that all failed leave
 allowed : (authority : Cap) (access : Access) (target : ℕ) (fault : Option OpFault) → FitsSigned w16 access.offset
     → target ≡ access_address authority.word.0 (cast_signed w16 (cast_unsigned w16 access.offset))
-    → fault ≡ first_of (access_tests authority access.kind access.offset access.size) → fault ≡ None
+    → option_map refusal_of fault ≡ first_of (access_tests authority access.kind access.offset access.size) → fault ≡ None
     → IsAllowed authority.word.0 target access.size (permission_for access.kind)
 allowed authority access target fault fits at first none =
     let w = authority.word.0 in
     let P : ℕ → Type 0 = λ address. IsAllowed w address access.size (permission_for access.kind) in
     subst P (sym (at ∙ ap (access_address w) (to_z-of_z w16 access.offset fits)))
-    (IsAllowed-access authority access.kind access.offset access.size (sym first ∙ none))
+    (IsAllowed-access authority access.kind access.offset access.size (sym first ∙ ap (option_map refusal_of) none))
 
 pub returns-in-None-clause-allowed : goal.returns-in-None-clause-allowed
 returns-in-None-clause-allowed g c =

@@ -1,4 +1,5 @@
-use Rattle.std.proofs.Common.{◌∙◌, sym}
+use Rattle.std.proofs.Common.{ap, option_map, ◌∙◌, sym}
+use Rattle.cap_ops.specs.Refusals.{refusal_of}
 use Rattle.cap_ops.proofs.Derivations.{StaysWithin-seal}
 use Rattle.cap_ops.proofs.ResultLemmas.{sealed_so}
 use Rattle.cap_ops.proofs.ReachLemmas.{StaysWithin-same}
@@ -11,5 +12,5 @@ returns-in-None-clause-stays_within c =
 
 pub returns-in-None-clause-sealed_so : goal.returns-in-None-clause-sealed_so
 returns-in-None-clause-sealed_so c =
-    sealed_so c.args.source c.args.authority c.with_authority_type.result (sym c.seal_fault.ensures ∙ c.in-None.is)
+    sealed_so c.args.source c.args.authority c.with_authority_type.result (sym c.seal_fault.ensures ∙ ap (option_map refusal_of) c.in-None.is)
     c.with_authority_type.ensures

@@ -1,4 +1,5 @@
-use Rattle.std.proofs.Common.{◌∙◌, sym}
+use Rattle.std.proofs.Common.{ap, option_map, ◌∙◌, sym}
+use Rattle.cap_ops.specs.Refusals.{refusal_of}
 use Rattle.cap_ops.proofs.Derivations.{StaysWithin-unseal}
 use Rattle.cap_ops.proofs.ResultLemmas.{unsealed_so}
 use Rattle.cap_ops.proofs.ReachLemmas.{StaysWithin-same}
@@ -10,4 +11,4 @@ returns-in-None-clause-stays_within c =
 
 pub returns-in-None-clause-unsealed_so : goal.returns-in-None-clause-unsealed_so
 returns-in-None-clause-unsealed_so c =
-    unsealed_so c.args.source c.args.authority c.without_type.result (sym c.unseal_fault.ensures ∙ c.in-None.is) c.without_type.ensures
+    unsealed_so c.args.source c.args.authority c.without_type.result (sym c.unseal_fault.ensures ∙ ap (option_map refusal_of) c.in-None.is) c.without_type.ensures

@@ -24,7 +24,7 @@ returns-clause-explained g c =
     record {
       given = by.judged.given;
       gives = by.judged.gives;
-      explanation = (
+      report = (
         by.judged.answer,
         why.0,
         told c.args.origins by.judged.given _ held text c.in_ok-verdict.verdict why.0 is by.judged.answer
@@ -50,7 +50,7 @@ returns-in_err-push_why-clause-explained g c =
     rw (failed.1, failed.2) (record {
       given = by.judged.given;
       gives = by.judged.gives;
-      explanation = (
+      report = (
         c.in_ok-verdict.verdict,
         by.judged.answer,
         why.0,

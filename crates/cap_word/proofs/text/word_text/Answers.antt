@@ -1,14 +1,20 @@
-use Rattle.std.proofs.Common.{◌∙◌, ap, length, arith}
-use Rattle.hex.specs.Hex.{encode_lower}
-use Rattle.cap_word.proofs.DigitLemmas.{hex_of_bytes}
-use Rattle.cap_word.proofs.TextLemmas.{at_ok, length-bytes}
+use Rattle.std.proofs.Common.{◌≡◌, ℕ, ◌++◌, ◌/◌, ◌%◌, ◌^◌, [], List, length, drop, ◌∙◌, ap, sym, refl}
+use Rattle.std.proofs.lemmas.List.{take_at, drop_at, append-nil}
+use borrow.Rule.Slice.PartMut.{put_mid}
+use Rattle.cap_word.specs.Digits.{hex_digits}
+use Rattle.cap_word.proofs.ReadingLemmas.{hex_digits-halves}
 use Rattle.cap_word.proofs.text.word_text.Goals as goal
 
+-- a text whose second half was written behind its first
+two_halves : (n : ℕ) (a b zs : List ℕ) → length a ≡ 16 → drop 16 zs ≡ [] → a ≡ hex_digits 16 (n / 2 ^ 64)
+    → b ≡ hex_digits 16 (n % 2 ^ 64) → put_mid 16 16 (a ++ zs) b ≡ hex_digits 32 n
+two_halves n a b zs long none high low =
+    let put : put_mid 16 16 (a ++ zs) b ≡ a ++ b = rw (take_at a zs 16 long, drop_at a zs 16 long, none, append-nil b) refl in
+    put ∙ ap (λ (x : List ℕ). x ++ b) high ∙ ap (λ (x : List ℕ). hex_digits 16 (n / 2 ^ 64) ++ x) low ∙ sym (hex_digits-halves n)
+
 pub returns : goal.returns
-returns c =
-    let call = c.encode_to_slice-written in
-    let len = ap length c.to_be_bytes.ensures ∙ length-bytes 16 c.args.word.0 in
-    record {
-      digits = at_ok call.result (call.ensures.fits.1 (omega (arith, len))) call.ensures.written
-          ∙ ap encode_lower c.to_be_bytes.ensures ∙ hex_of_bytes 16 c.args.word.0;
-    }
+returns c = record {
+  digits = two_halves c.args.word.0 _ _ _ c.copy_from_slice.ensures.len refl
+      (c.copy_from_slice.ensures.after ∙ c.number_text.ensures.digits)
+      (c.copy_from_slice-2.ensures.after ∙ c.number_text-2.ensures.digits);
+}

@@ -1,6 +1,7 @@
 use Rattle.std.proofs.Common.{rules}
 use Rattle.std.specs.Prelude.{Some}
 use Rattle.cap_judge.proofs.EscapeLaws.{named}
+use Rattle.cap_judge.proofs.JudgeLemmas.{guarded}
 use Rattle.capcheck_judge.proofs.judging.capcheck_judge_bytes.Goals as goal
 
 pub returns-in-Ok-clause-answer : goal.returns-in-Ok-clause-answer
@@ -8,7 +9,7 @@ returns-in-Ok-clause-answer c = record {
   verdict = Some c.in-Ok.verdict;
   numbers = c.numbers_of.ensures;
   is_verdict = c.in-Ok.ensures.verdict;
-  authority = c.in-Ok.ensures.authority;
+  authority = guarded c.args.bytes.now;
   no_memory = tt;
   answers = λ _. search rules;
 }

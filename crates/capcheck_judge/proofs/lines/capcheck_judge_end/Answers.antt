@@ -1,6 +1,6 @@
 use Rattle.std.proofs.Common.{◌≡◌, ◌≢◌, ◌∙◌, ℕ, List, ap, append-nil, arith, subst, sym}
 use Rattle.std.proofs.lemmas.List.Elements.{All-nil}
-use Rattle.cap_judge.specs.Verdicts.{GuardsAuthority, IsVerdict}
+use Rattle.cap_judge.specs.Verdicts.{IsGuarded, IsVerdict}
 use Rattle.std.specs.Prelude.{Some}
 use Rattle.capcheck_judge.proofs.HandleLemmas.{held_taken}
 use Rattle.cap_judge.proofs.EscapeLaws.{named}
@@ -15,7 +15,7 @@ returns-in-Some-clause-verdict c = λ bytes holds.
       numbers = c.numbers_of.ensures;
       is_verdict = subst (λ (b : List ℕ). IsVerdict b c.end-verdict.result) (append-nil bytes)
           (c.end-verdict.ensures.verdict bytes taken (omega arith, All-nil (λ b. b ≢ 10)));
-      authority = subst (λ (b : List ℕ). GuardsAuthority b c.end-verdict.result) (append-nil bytes)
+      authority = subst IsGuarded (append-nil bytes)
           (c.end-verdict.ensures.authority bytes taken);
     }
 

@@ -18,7 +18,7 @@ returns g c =
         r.given,
         r.gives,
         subst (IsDone (ShowsVerdict (Explains c.args.origins r.given ended) r.given ended) (StopsJudging r.given) took) is
-            (judged_done (Explains c.args.origins r.given ended) r.given ended took c.judge_why.result r.explanation),
+            (judged_done (Explains c.args.origins r.given ended) r.given ended took c.judge_why.result r.report),
       );
       read = subst (λ (d : Result ℕ Fault). IsCounted Read d (g.S.Source.faults c.args.source.now) (g.S.Source.faults c.judge_why.new.source)) is
           (judged_read _ _ c.judge_why.result e.counted e.pull_counted);

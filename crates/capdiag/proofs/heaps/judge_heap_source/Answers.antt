@@ -16,8 +16,8 @@ returns g c =
       done = (
         r.given,
         r.gives,
-        subst (IsDone (ShowsHeap c.args.report r.given ended) (StopsHeap r.given) took) is
-            (heap_done c.args.report r.given ended took c.judge_heap_into.result r.told),
+        subst (IsDone (ShowsHeap c.args.report c.args.why r.given ended) (StopsHeap r.given) took) is
+            (heap_done c.args.report c.args.why r.given ended took c.judge_heap_into.result r.told),
       );
       read = subst (λ (d : Result ℕ Fault). IsCounted Read d (g.S.Source.faults c.args.source.now)
           (g.S.Source.faults c.judge_heap_into.new.source)) is (heap_read _ _ c.judge_heap_into.result e.counted e.pull_counted);

@@ -4,7 +4,7 @@ use Rattle.cap_heap.specs.Events.{mallocs, frees}
 use Rattle.cap_heap.specs.HeapLogs.{most_events}
 use Rattle.cap_heap.specs.HeapReports.{IsReportOf}
 use Rattle.cap_heap.specs.Heaps.{live_in}
-use Rattle.cap_heap.proofs.RunLemmas.{Reaches-push, live_after}
+use Rattle.cap_heap.proofs.RunLemmas.{Reaches-push, Reaches-same, live_after}
 use Rattle.cap_heap.proofs.ReportLemmas.{report-malloc, report-free}
 use Rattle.cap_heap.proofs.progress.Progress.happen.Goals as goal
 
@@ -35,3 +35,9 @@ returns-in-Free-clause-ok c root events reaches =
     Reaches-push old.heap c.happen.new.self old.report old.report old.events root events c.args.event reaches c.requires.range few
     done.can done.ok done.count done.bounds
     (subst (λ (event : Event). IsReportOf old.report (events ++ event ∷ [])) (sym c.in-Free.is) told)
+
+pub returns-in-Err-clause-stays : goal.returns-in-Err-clause-stays
+returns-in-Err-clause-stays c root events reaches =
+    let same = c.in-Err.ensures in
+    let old = c.args.self.now in
+    Reaches-same old.heap c.happen.new.self old.report old.events root events same.bounds same.err same.err_count reaches

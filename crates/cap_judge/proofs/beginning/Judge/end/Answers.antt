@@ -1,11 +1,9 @@
 use Rattle.std.proofs.Common.{◌++◌, sym, subst}
 use Rattle.cap_machine.specs.Helds.{held_of}
-use Rattle.cap_machine.proofs.AuthorityLemmas.{one_root}
-use Rattle.cap_machine.proofs.AccessLemmas.{lie_inside}
 use Rattle.cap_judge.specs.Verdicts.{IsVerdict}
 use Rattle.cap_judge.proofs.EndingLemmas.{verdict_no, verdict_yes}
 use Rattle.cap_judge.proofs.EscapeLaws.{escapes_exactly}
-use Rattle.cap_judge.proofs.JudgeLemmas.{guarded, guards}
+use Rattle.cap_judge.proofs.JudgeLemmas.{guarded}
 use Rattle.cap_judge.proofs.beginning.Judge.end.Goals as goal
 
 pub returns-in-Ok : goal.returns-in-Ok
@@ -13,7 +11,7 @@ returns-in-Ok g c = record {
   verdict = λ bytes read cut.
       verdict_yes (held_of g.M.TaggedStore.contents c.args.self.now.machine) (bytes ++ c.args.rest.now) c.ending.result c.in-Ok.verdict
       c.in-Ok.is (c.ending.ensures.ends bytes read cut);
-  authority = λ bytes read. guards (bytes ++ c.args.rest.now) (guarded one_root lie_inside (bytes ++ c.args.rest.now)) c.in-Ok.verdict;
+  authority = λ bytes read. guarded (bytes ++ c.args.rest.now);
   escape = λ bytes read. escapes_exactly (bytes ++ c.args.rest.now) c.in-Ok.verdict;
 }
 
@@ -23,6 +21,6 @@ returns-in-Err g c = record {
       subst (IsVerdict (bytes ++ c.args.rest.now)) (sym c.verdict.ensures.value)
       (verdict_no (held_of g.M.TaggedStore.contents c.args.self.now.machine) (bytes ++ c.args.rest.now) c.ending.result c.in-Err.fault
       c.in-Err.is (c.ending.ensures.ends bytes read cut));
-  authority = λ bytes read. guards (bytes ++ c.args.rest.now) (guarded one_root lie_inside (bytes ++ c.args.rest.now)) c.verdict.result;
+  authority = λ bytes read. guarded (bytes ++ c.args.rest.now);
   escape = λ bytes read. escapes_exactly (bytes ++ c.args.rest.now) c.verdict.result;
 }

@@ -1,12 +1,11 @@
-use Rattle.cap_machine.specs.Helds.{held_of}
+use Rattle.cap_machine.specs.Helds.{held_of, account_of}
 use Rattle.std.proofs.Common.{◌≡◌, ◌++◌, ◌∷◌, [], OnOk, Some, ap, subst, sym}
 use Rattle.cap_log.specs.Lines.{IsInRange, spelling}
 use Rattle.cap_log.specs.declared.lines.Line.{Line}
 use Rattle.cap_log.specs.declared.lines.Line.TheVariants as lines
-use Rattle.cap_machine.specs.Helds.{account_of}
 use Rattle.cap_ops.specs.Tests.{first_of}
 use Rattle.cap_judge.specs.Logs.{line_tests}
-use Rattle.cap_judge.specs.Readings.{EndsFor, GoesOn}
+use Rattle.cap_judge.specs.Readings.{EndsFor, GoesOn, known_of}
 use Rattle.cap_judge.proofs.ReachLemmas.{step_ended}
 use Rattle.cap_judge.proofs.ReadingLemmas.{at}
 use Rattle.cap_judge.proofs.ResultLemmas.{err_part, ok_part}
@@ -26,6 +25,12 @@ returns-in-Root-clause-err g c =
     (lines.Root c.in-Root.place c.in-Root.word) c.follow_root.result c.in-Root.is c.requires.body c.requires.in_range
     (root_formed c.in-Root.place c.in-Root.word) c.follow_root.ensures.err
 
+pub returns-in-Root-clause-ok : goal.returns-in-Root-clause-ok
+returns-in-Root-clause-ok g c =
+    let old = known_of g.M.TaggedStore.contents c.args.self.now in
+    let new = known_of g.M.TaggedStore.contents c.follow_root.new.self in
+    subst (λ (l : Line). OnOk c.follow_root.result (GoesOn old (spelling l ++ 10 ∷ []) new)) (sym c.in-Root.is) c.follow_root.ensures.ok
+
 pub returns-in-Step-clause-ok : goal.returns-in-Step-clause-ok
 returns-in-Step-clause-ok g c =
     let old = held_of g.M.TaggedStore.contents c.args.self.now.machine in
@@ -43,6 +48,12 @@ returns-in-Step-clause-err g c =
     c.requires.in_range (step_forms c.in-Step.step)
     (err_part _ c.step.result _ (EndsFor old (lines.Step c.in-Step.step))
     (λ end ends. step_ended old new c.in-Step.step end ends) c.step.ensures.outcome)
+
+pub returns-in-End-clause-ok : goal.returns-in-End-clause-ok
+returns-in-End-clause-ok g c =
+    let old = known_of g.M.TaggedStore.contents c.args.self.now in
+    let new = known_of g.M.TaggedStore.contents c.follow_end.new.self in
+    subst (λ (l : Line). OnOk c.follow_end.result (GoesOn old (spelling l ++ 10 ∷ []) new)) (sym c.in-End.is) c.follow_end.ensures.ok
 
 pub returns-in-End-clause-err : goal.returns-in-End-clause-err
 returns-in-End-clause-err g c =

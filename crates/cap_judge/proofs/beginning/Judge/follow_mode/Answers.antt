@@ -1,6 +1,5 @@
-use Rattle.cap_machine.specs.Helds.{held_of}
+use Rattle.cap_machine.specs.Helds.{held_of, Held}
 use Rattle.std.proofs.Common.{refl, ap, ◌∙◌}
-use Rattle.cap_machine.specs.Helds.{Held}
 use Rattle.cap_machine.specs.declared.rules.Rules.{Rules}
 use Rattle.cap_judge.proofs.TakingLemmas.{goes_mode, mode_other}
 use Rattle.cap_judge.proofs.beginning.Judge.follow_mode.Goals as goal

@@ -1,7 +1,8 @@
 use Rattle.cap_machine.specs.Helds.{held_of}
-use Rattle.std.proofs.Common.{[], ◌≡◌, refl, subst, sym}
+use Rattle.std.proofs.Common.{[], ◌≡◌, ◌≢◌, ◌⊎◌, inl, inr, refl, subst, sym}
 use Rattle.cap_judge.specs.declared.beginning.Stage.{Stage}
 use Rattle.cap_judge.specs.declared.beginning.Stop.{Stop}
+use Rattle.cap_judge.specs.declared.beginning.Stop.TheVariants.{Cut, Fault}
 use Rattle.cap_judge.specs.Readings.{EndsAt, StopsAt, known_of}
 use Rattle.cap_judge.proofs.AnswerLemmas.{end_whole, whole_lacks}
 use Rattle.cap_judge.proofs.ReadingLemmas.{at, step_ends}
@@ -20,3 +21,15 @@ returns-in-NoMemory-clause-no_memory g c =
     let line = c.args.line.now in
     let stop = subst (λ (s : Stop). StopsAt old [] line s new) c.in-NoMemory.is c.stop.ensures.stops in
     (refl, whole_lacks old new line (end_whole old.held line c.args.end c.requires.ends) stop)
+
+fault_only : (stop : Stop) → (stop ≡ Fault) ⊎ (stop ≡ Cut) → stop ≢ Cut → stop ≡ Fault
+fault_only stop (inl fault) uncut = fault
+fault_only stop (inr cut) uncut = absurd (uncut cut)
+
+pub returns-in-Fault : goal.returns-in-Fault
+returns-in-Fault g c =
+    let old = known_of g.M.TaggedStore.contents c.args.self.now in
+    let new = known_of g.M.TaggedStore.contents c.stop.new.self in
+    let stop = subst (λ (s : Stop). StopsAt old [] c.args.line.now s new)
+    (fault_only c.stop.result c.in-Fault.is c.stop.ensures.uncut) c.stop.ensures.stops in
+    record { taken = λ bytes read. (stop.0 bytes read).0; unchanged = tt; no_memory = tt }

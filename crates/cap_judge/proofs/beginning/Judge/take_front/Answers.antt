@@ -1,4 +1,7 @@
+use Rattle.std.proofs.Common.{[], refl}
 use Rattle.cap_machine.specs.Helds.{held_of}
+use Rattle.cap_judge.specs.Readings.{known_of}
+use Rattle.cap_judge.proofs.ReadingLemmas.{stays}
 use Rattle.cap_judge.proofs.TakingLemmas.{front_end, steps_go}
 use Rattle.cap_judge.proofs.beginning.Judge.take_front.Goals as goal
 
@@ -13,3 +16,6 @@ pub returns-in-Body-clause-end : goal.returns-in-Body-clause-end
 returns-in-Body-clause-end g c =
     let new = held_of g.M.TaggedStore.contents c.take_steps.new.machine in
     front_end c.args.self.now.stage new c.take_steps.result.0.now c.take_steps.result.1 c.in-Body.is c.take_steps.ensures.end
+
+pub returns-in_default : goal.returns-in_default
+returns-in_default g c = record { taken = ([], refl, stays (known_of g.M.TaggedStore.contents c.args.self.now)); end = tt }

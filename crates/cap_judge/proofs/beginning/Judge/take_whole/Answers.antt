@@ -14,6 +14,14 @@ returns-in-Err-NoMemory-clause-no_memory g c = λ _.
     (c.in-Err-NoMemory.is ∙ ap Err c.in-Err-NoMemory.field-0-is) c.take_any.ensures.err in
     whole_lacks old new line (c.is_whole.ensures.whole is) stop
 
+pub returns-in-Err-Fault-clause-taken : goal.returns-in-Err-Fault-clause-taken
+returns-in-Err-Fault-clause-taken g c =
+    let old = known_of g.M.TaggedStore.contents c.args.self.now in
+    let new = known_of g.M.TaggedStore.contents c.take_any.new.self in
+    let stop = subst (λ (r : Result (Bor (List ℕ)) Stop). IfErr r (λ s. StopsAt old [] c.args.line.now s new))
+    (c.in-Err-Fault.is ∙ ap Err c.in-Err-Fault.field-0-is) c.take_any.ensures.err in
+    λ bytes read. (stop.0 bytes read).0
+
 pub returns-in-Err-Cut-clause-no_line : goal.returns-in-Err-Cut-clause-no_line
 returns-in-Err-Cut-clause-no_line g c =
     let old = known_of g.M.TaggedStore.contents c.args.self.now in
@@ -30,4 +38,4 @@ returns-in-Ok-clause-taken g c =
     let new = known_of g.M.TaggedStore.contents c.take_any.new.self in
     let is : c.is_whole.result ≡ true = search rules in
     let line = c.in-Ok.ensures.ok in
-    whole_taken old new c.args.line.now line.0 _ (c.is_whole.ensures.whole is) line.1 line.2
+    λ bytes read. (whole_taken old new c.args.line.now line.0 _ (c.is_whole.ensures.whole is) line.1 line.2 bytes read).0

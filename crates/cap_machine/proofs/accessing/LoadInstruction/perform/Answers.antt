@@ -16,9 +16,7 @@ returns-then-number_in-self g c =
     let address = c.in_ok-address.address in
     let out = passed (λ o. ReachesAddress (state_of old) c.args.self.authority kinds.LoadData o c.args.self.size
     (Ok c.in_ok-address.address)) c.args.self.offset (search rules) c.in_ok-address.ensures.outcome in
-    let read = c.number_in.ensures.value ∙ sym (value_in old address c.args.self.size (g.met.M.TaggedStore.are_stored
-    c.args.machine.now.memory)
-    c.in_ok-address.ensures.in_one_granule)
+    let read = c.number_in.ensures.value ∙ sym (value_in old address c.args.self.size (g.met.M.TaggedStore.are_stored c.args.machine.now.memory))
     ∙ ap (λ (a : ℕ). value_at (state_of old) a c.args.self.size) out.1 in
     record {
       outcome =
@@ -32,9 +30,7 @@ returns-then-machine-ge-MOST_STEPS g c =
     let address = c.in_ok-address.address in
     let out = passed (λ o. ReachesAddress (state_of old) c.args.self.authority kinds.LoadData o c.args.self.size
     (Ok c.in_ok-address.address)) c.args.self.offset (search rules) c.in_ok-address.ensures.outcome in
-    let read = c.number_in.ensures.value ∙ sym (value_in old address c.args.self.size (g.met.M.TaggedStore.are_stored
-    c.args.machine.now.memory)
-    c.in_ok-address.ensures.in_one_granule)
+    let read = c.number_in.ensures.value ∙ sym (value_in old address c.args.self.size (g.met.M.TaggedStore.are_stored c.args.machine.now.memory))
     ∙ ap (λ (a : ℕ). value_at (state_of old) a c.args.self.size) out.1 in
     record {
       outcome =
@@ -48,9 +44,7 @@ returns g c =
     let address = c.in_ok-address.address in
     let out = passed (λ o. ReachesAddress (state_of old) c.args.self.authority kinds.LoadData o c.args.self.size
     (Ok c.in_ok-address.address)) c.args.self.offset (search rules) c.in_ok-address.ensures.outcome in
-    let read = c.number_in.ensures.value ∙ sym (value_in old address c.args.self.size (g.met.M.TaggedStore.are_stored
-    c.args.machine.now.memory)
-    c.in_ok-address.ensures.in_one_granule)
+    let read = c.number_in.ensures.value ∙ sym (value_in old address c.args.self.size (g.met.M.TaggedStore.are_stored c.args.machine.now.memory))
     ∙ ap (λ (a : ℕ). value_at (state_of old) a c.args.self.size) out.1 in
     record {
       outcome =

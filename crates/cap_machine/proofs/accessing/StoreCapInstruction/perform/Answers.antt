@@ -42,7 +42,7 @@ returns-in_err-address g c =
     let fault = c.in_err-address.field-0.0 in
     let old = held_of g.M.TaggedStore.contents c.args.machine.now in
     let found = subst (λ (cap : Cap). first_of (access_tests (state_of old c.args.self.authority) (kinds.StoreCap cap)
-    c.args.self.offset 16) ≡ Some fault)
+    c.args.self.offset 16) ≡ Some (refusal_of fault))
     c.register-stored.ensures.holds
     (passed (λ o. ReachesAddress (state_of old) c.args.self.authority (kinds.StoreCap c.register-stored.result) o 16 (Err fault))
     c.args.self.offset (search rules) c.in_err-address.ensures.outcome) in

@@ -9,5 +9,5 @@ returns g c =
     record {
       value =
           c.number_in.ensures.value
-          ∙ sym (value_in held c.args.address c.args.size (g.met.M.TaggedStore.are_stored c.args.self.now.memory) c.requires.inside);
+          ∙ sym (value_in held c.args.address c.args.size (g.met.M.TaggedStore.are_stored c.args.self.now.memory));
     }

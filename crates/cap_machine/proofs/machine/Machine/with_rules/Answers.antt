@@ -2,7 +2,7 @@ use Rattle.std.proofs.Common.{ℕ, ap, false}
 use Rattle.std.specs.FinMap as map
 use Rattle.cap_word.specs.declared.word.Cap.{Cap}
 use Rattle.cap_machine.proofs.StateLemmas.{blank_account, blank_code, blank_state}
-use Rattle.cap_machine.proofs.SoundLemmas.{IsSoundState-null_state}
+use Rattle.cap_machine.proofs.SoundLemmas.{IsSoundState-start}
 use Rattle.cap_machine.proofs.CodeLemmas.{coded_blank}
 use Rattle.cap_machine.proofs.machine.Machine.with_rules.Goals as goal
 
@@ -20,6 +20,6 @@ invariant_of-result g c =
     let empty = map.empty_of_len _ c.requires in
     record {
       zero = null;
-      sound = IsSoundState-null_state _ (λ key. blank_state memory _ key empty null);
+      sound = IsSoundState-start _ (λ key. blank_state memory _ key empty null);
       coded = coded_blank _ _ (λ key. blank_state memory _ key empty null) (λ key. blank_code memory key empty);
     }

@@ -2,13 +2,12 @@ use Rattle.cap_log.proofs.SizedLemmas.{sized_room}
 use Rattle.cap_log.proofs.WriteLemmas.{Writes-three}
 use Rattle.cap_log.proofs.parts.sized.StoredPart.write.Goals as goal
 
-pub put_hex-requires-clause-room : goal.put_hex-requires-clause-room
-put_hex-requires-clause-room c =
-    let size = rw c.from.ensures at c.put_decimal-next.ensures.text in
-    rw c.from-2.ensures (sized_room _ _ _ c.args.self.now.size c.args.self.now.value _ _ _ _ size c.put-digits.ensures.written c.requires.room)
+pub put_value-requires-clause-room : goal.put_value-requires-clause-room
+put_value-requires-clause-room c =
+    let size = rw c.from.ensures at c.put_few-next.ensures in
+    sized_room _ _ _ c.args.self.now.size c.args.self.now.value _ _ _ _ size c.put-digits.ensures.written c.requires.room
 
 pub returns : goal.returns
 returns c =
-    let size = rw c.from.ensures at c.put_decimal-next.ensures.text in
-    let digits = rw (c.from-2.ensures, c.from-3.ensures) at c.put_hex.ensures.text in
-    record { written = Writes-three _ _ _ _ _ _ _ _ _ _ _ size c.put-digits.ensures.written digits }
+    let size = rw c.from.ensures at c.put_few-next.ensures in
+    record { written = Writes-three _ _ _ _ _ _ _ _ _ _ _ size c.put-digits.ensures.written c.put_value.ensures }

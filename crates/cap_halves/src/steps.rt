@@ -1,0 +1,279 @@
+//! Steps from the numbers that C passes: each kind's, where its numbers are in range.
+
+ghost use Rattle.std.specs.Prelude.{IfSome};
+ghost use Rattle.cap_log.specs.Lines.{IsStepInRange};
+ghost use Rattle.cap_log.specs.declared.lines.Step.TheVariants as steps;
+ghost use Rattle.cap_halves.specs.Passed.{IsStepOf, cap_of};
+
+use crate::halves::taken;
+use crate::ranges::{offset_of, register_of, size_of, target_of};
+use crate::values::Capability;
+use cap_log::{
+    AndPerm, ClearTag, Load, LoadCap, Move, Operands, Seal, SetAddr, SetBounds, SetBoundsExact,
+    Store, StoreCap, Unseal,
+};
+
+/// A step `move`, where its numbers are in range.
+#[inline(always)]
+pub fn move_of(target: u64, source: u64, recorded: Capability) -> Option<Move>
+    ensures range { IfSome result (λ made. IsStepInRange (⟦<Move as Operands>⟧.step made)) }
+    ensures step { IsStepOf ⟦<Move as Operands>⟧.step (steps.Move target source (cap_of recorded)) result }
+{
+    let Some(target) = target_of(target) else {
+        return None;
+    };
+    let Some(source) = register_of(source) else {
+        return None;
+    };
+    Some(Move {
+        target,
+        source,
+        result: taken(recorded),
+    })
+}
+
+/// A step `cleartag`, where its numbers are in range.
+#[inline(always)]
+pub fn cleartag_of(target: u64, source: u64, recorded: Capability) -> Option<ClearTag>
+    ensures range { IfSome result (λ made. IsStepInRange (⟦<ClearTag as Operands>⟧.step made)) }
+    ensures step { IsStepOf ⟦<ClearTag as Operands>⟧.step (steps.ClearTag target source (cap_of recorded)) result }
+{
+    let Some(target) = target_of(target) else {
+        return None;
+    };
+    let Some(source) = register_of(source) else {
+        return None;
+    };
+    Some(ClearTag {
+        target,
+        source,
+        result: taken(recorded),
+    })
+}
+
+/// A step `setbounds`, where its numbers are in range.
+#[inline(always)]
+pub fn setbounds_of(
+    target: u64,
+    source: u64,
+    length: u64,
+    recorded: Capability,
+) -> Option<SetBounds>
+    ensures range { IfSome result (λ made. IsStepInRange (⟦<SetBounds as Operands>⟧.step made)) }
+    ensures step { IsStepOf ⟦<SetBounds as Operands>⟧.step (steps.SetBounds target source length (cap_of recorded)) result }
+{
+    let Some(target) = target_of(target) else {
+        return None;
+    };
+    let Some(source) = register_of(source) else {
+        return None;
+    };
+    Some(SetBounds {
+        target,
+        source,
+        length,
+        result: taken(recorded),
+    })
+}
+
+/// A step `setboundsexact`, where its numbers are in range.
+#[inline(always)]
+pub fn setboundsexact_of(
+    target: u64,
+    source: u64,
+    length: u64,
+    recorded: Capability,
+) -> Option<SetBoundsExact>
+    ensures range { IfSome result (λ made. IsStepInRange (⟦<SetBoundsExact as Operands>⟧.step made)) }
+    ensures step { IsStepOf ⟦<SetBoundsExact as Operands>⟧.step (steps.SetBoundsExact target source length (cap_of recorded)) result }
+{
+    let Some(target) = target_of(target) else {
+        return None;
+    };
+    let Some(source) = register_of(source) else {
+        return None;
+    };
+    Some(SetBoundsExact {
+        target,
+        source,
+        length,
+        result: taken(recorded),
+    })
+}
+
+/// A step `setaddr`, where its numbers are in range.
+#[inline(always)]
+pub fn setaddr_of(target: u64, source: u64, address: u64, recorded: Capability) -> Option<SetAddr>
+    ensures range { IfSome result (λ made. IsStepInRange (⟦<SetAddr as Operands>⟧.step made)) }
+    ensures step { IsStepOf ⟦<SetAddr as Operands>⟧.step (steps.SetAddr target source address (cap_of recorded)) result }
+{
+    let Some(target) = target_of(target) else {
+        return None;
+    };
+    let Some(source) = register_of(source) else {
+        return None;
+    };
+    Some(SetAddr {
+        target,
+        source,
+        address,
+        result: taken(recorded),
+    })
+}
+
+/// A step `andperm`, where its numbers are in range.
+#[inline(always)]
+pub fn andperm_of(target: u64, source: u64, mask: u64, recorded: Capability) -> Option<AndPerm>
+    ensures range { IfSome result (λ made. IsStepInRange (⟦<AndPerm as Operands>⟧.step made)) }
+    ensures step { IsStepOf ⟦<AndPerm as Operands>⟧.step (steps.AndPerm target source mask (cap_of recorded)) result }
+{
+    let Some(target) = target_of(target) else {
+        return None;
+    };
+    let Some(source) = register_of(source) else {
+        return None;
+    };
+    Some(AndPerm {
+        target,
+        source,
+        mask,
+        result: taken(recorded),
+    })
+}
+
+/// A step `seal`, where its numbers are in range.
+#[inline(always)]
+pub fn seal_of(target: u64, source: u64, authority: u64, recorded: Capability) -> Option<Seal>
+    ensures range { IfSome result (λ made. IsStepInRange (⟦<Seal as Operands>⟧.step made)) }
+    ensures step { IsStepOf ⟦<Seal as Operands>⟧.step (steps.Seal target source authority (cap_of recorded)) result }
+{
+    let Some(target) = target_of(target) else {
+        return None;
+    };
+    let Some(source) = register_of(source) else {
+        return None;
+    };
+    let Some(authority) = register_of(authority) else {
+        return None;
+    };
+    Some(Seal {
+        target,
+        source,
+        authority,
+        result: taken(recorded),
+    })
+}
+
+/// A step `unseal`, where its numbers are in range.
+#[inline(always)]
+pub fn unseal_of(target: u64, source: u64, authority: u64, recorded: Capability) -> Option<Unseal>
+    ensures range { IfSome result (λ made. IsStepInRange (⟦<Unseal as Operands>⟧.step made)) }
+    ensures step { IsStepOf ⟦<Unseal as Operands>⟧.step (steps.Unseal target source authority (cap_of recorded)) result }
+{
+    let Some(target) = target_of(target) else {
+        return None;
+    };
+    let Some(source) = register_of(source) else {
+        return None;
+    };
+    let Some(authority) = register_of(authority) else {
+        return None;
+    };
+    Some(Unseal {
+        target,
+        source,
+        authority,
+        result: taken(recorded),
+    })
+}
+
+/// A step `lc`, where its numbers are in range.
+#[inline(always)]
+pub fn lc_of(target: u64, authority: u64, offset: i64, recorded: Capability) -> Option<LoadCap>
+    ensures range { IfSome result (λ made. IsStepInRange (⟦<LoadCap as Operands>⟧.step made)) }
+    ensures step { IsStepOf ⟦<LoadCap as Operands>⟧.step (steps.LoadCap target authority offset (cap_of recorded)) result }
+{
+    let Some(target) = target_of(target) else {
+        return None;
+    };
+    let Some(authority) = register_of(authority) else {
+        return None;
+    };
+    let Some(offset) = offset_of(offset) else {
+        return None;
+    };
+    Some(LoadCap {
+        target,
+        authority,
+        offset,
+        result: taken(recorded),
+    })
+}
+
+/// A step `sc`, where its numbers are in range.
+#[inline(always)]
+pub fn sc_of(source: u64, authority: u64, offset: i64) -> Option<StoreCap>
+    ensures range { IfSome result (λ made. IsStepInRange (⟦<StoreCap as Operands>⟧.step made)) }
+    ensures step { IsStepOf ⟦<StoreCap as Operands>⟧.step (steps.StoreCap source authority offset) result }
+{
+    let Some(source) = register_of(source) else {
+        return None;
+    };
+    let Some(authority) = register_of(authority) else {
+        return None;
+    };
+    let Some(offset) = offset_of(offset) else {
+        return None;
+    };
+    Some(StoreCap {
+        source,
+        authority,
+        offset,
+    })
+}
+
+/// A step `load`, where its numbers are in range. `size` is 1, 2, 4 or 8 bytes, and `value` their number.
+#[inline(always)]
+pub fn load_of(authority: u64, offset: i64, size: u64, value: u64) -> Option<Load>
+    ensures range { IfSome result (λ made. IsStepInRange (⟦<Load as Operands>⟧.step made)) }
+    ensures step { IsStepOf ⟦<Load as Operands>⟧.step (steps.Load authority offset size value) result }
+{
+    let Some(authority) = register_of(authority) else {
+        return None;
+    };
+    let Some(offset) = offset_of(offset) else {
+        return None;
+    };
+    let Some(size) = size_of(size, value) else {
+        return None;
+    };
+    Some(Load {
+        authority,
+        offset,
+        size,
+        value,
+    })
+}
+
+/// A step `store`, where its numbers are in range. `size` is 1, 2, 4 or 8 bytes, and `value` their number.
+#[inline(always)]
+pub fn store_of(authority: u64, offset: i64, size: u64, value: u64) -> Option<Store>
+    ensures range { IfSome result (λ made. IsStepInRange (⟦<Store as Operands>⟧.step made)) }
+    ensures step { IsStepOf ⟦<Store as Operands>⟧.step (steps.Store authority offset size value) result }
+{
+    let Some(authority) = register_of(authority) else {
+        return None;
+    };
+    let Some(offset) = offset_of(offset) else {
+        return None;
+    };
+    let Some(size) = size_of(size, value) else {
+        return None;
+    };
+    Some(Store {
+        authority,
+        offset,
+        size,
+        value,
+    })
+}

@@ -1,0 +1,57 @@
+-- What is told of a line for its refusal.
+use Rattle.std.proofs.Common.{◌≡◌, ◌⊎◌, ℕ, inl, inr, List, ◌++◌, length, take, min, Option, refl, sym, ap, subst, ◌∙◌, append_assoc, arith}
+use Rattle.std.proofs.lemmas.Bool.{cases_lt}
+use Rattle.std.proofs.lemmas.List.{take_all}
+use Rattle.std.specs.Prelude.{IfNone, Some, None}
+use Rattle.cap_bounds.specs.declared.decoding.Interval.{Interval}
+use Rattle.cap_heap.specs.declared.events.Event.{Event}
+use Rattle.cap_heap.specs.declared.events.Event.TheVariants.{Malloc, Free}
+use Rattle.cap_heap.specs.declared.lines.HeapLine.TheVariants.{Happens}
+use Rattle.cap_heap.specs.declared.refusal.HeapRefusal.{HeapRefusal}
+use Rattle.cap_heap.specs.declared.refusal.HeapRefusal.TheVariants.{Misplaced, Truncated, WrongCount}
+use Rattle.cap_heap.specs.declared.refusal.HeapRefusal.TheVariants.{LimitPassed, OutsideHeap}
+use Rattle.cap_heap.specs.HeapLines.{Spells}
+use Rattle.cap_heap.specs.HeapLogs.{Beginning}
+use Rattle.cap_heap.specs.HeapWhys.{AreDetails, AreEventDetails, count_in, count_line}
+use Rattle.cap_heap.specs.Objects.{Objects}
+
+-- at most 96 bytes are held of a text
+pub take_few : (text : List ℕ) (n : ℕ) → n ≡ min (length text) 96 → take n text ≡ take 96 text
+take_few text n is = elim (cases_lt 96 (length text)) [
+  | inl more ↦ let same : n ≡ 96 = omega (arith, is) in ap (λ (m : ℕ). take m text) same
+  | inr few ↦ take_all n text (omega (arith, is)) ∙ sym (take_all 96 text few)
+]
+
+-- three texts, one behind the other
+pub behind_each : (a b c d x y z : List ℕ) → d ≡ c ++ z → c ≡ b ++ y → b ≡ a ++ x → d ≡ a ++ (x ++ y ++ z)
+behind_each a b c d x y z third second first =
+    third ∙ ap (λ (l : List ℕ). l ++ z) (second ∙ ap (λ (l : List ℕ). l ++ y) first) ∙ simp append_assoc
+
+-- no event is spelled where neither kind is
+no_event : (text : List ℕ) → ((at size : ℕ) → Spells text (Happens (Malloc at size)) → ⊥) → ((at : ℕ) → Spells text (Happens (Free at)) → ⊥)
+    → (event : Event) → Spells text (Happens event) → ⊥
+no_event text malloc free (Malloc at size) spells = malloc at size spells
+no_event text malloc free (Free at) spells = free at spells
+
+pub none_read : (text : List ℕ) (read : Option Event) → ((at size : ℕ) → Spells text (Happens (Malloc at size)) → ⊥)
+    → IfNone read ((at : ℕ) → Spells text (Happens (Free at)) → ⊥)
+    → IfNone read ((event : Event) → Spells text (Happens event) → ⊥)
+none_read text None malloc free = no_event text malloc free
+none_read text (Some event) malloc free = tt
+
+-- the details of a request that is refused for another reason than that it lies outside the heap
+pub other_details : (heap : Interval) (objects : Objects) (at size : ℕ) (refusal other : HeapRefusal) (details : List ℕ)
+    → (refusal ≡ OutsideHeap → ⊥) → (other ≡ Misplaced) → AreEventDetails heap objects (Malloc at size) other details
+    → AreEventDetails heap objects (Malloc at size) refusal details
+other_details heap objects at size OutsideHeap other details differs is told = absurd (differs refl)
+other_details heap objects at size refusal other details differs is told =
+    subst (λ (r : HeapRefusal). AreEventDetails heap objects (Malloc at size) r details) is told
+
+-- the details of a line whose refusal is decided by how many events there were
+pub count_details : (beginning : Beginning) (text : List ℕ) (refusal : HeapRefusal) (details : List ℕ)
+    → (refusal ≡ Misplaced) ⊎ ((refusal ≡ Truncated) ⊎ ((refusal ≡ WrongCount) ⊎ (refusal ≡ LimitPassed)))
+    → details ≡ count_line (count_in beginning) → AreDetails beginning text refusal details
+count_details beginning text refusal details (inl e) is = subst (λ (r : HeapRefusal). AreDetails beginning text r details) (sym e) is
+count_details beginning text refusal details (inr (inl e)) is = subst (λ (r : HeapRefusal). AreDetails beginning text r details) (sym e) is
+count_details beginning text refusal details (inr (inr (inl e))) is = subst (λ (r : HeapRefusal). AreDetails beginning text r details) (sym e) is
+count_details beginning text refusal details (inr (inr (inr e))) is = subst (λ (r : HeapRefusal). AreDetails beginning text r details) (sym e) is

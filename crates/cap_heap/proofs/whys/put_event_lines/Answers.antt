@@ -1,0 +1,14 @@
+use Rattle.std.proofs.Common.{[], inl, inr, refl, sym, subst, append-nil}
+use Rattle.cap_heap.specs.declared.events.Event.{Event}
+use Rattle.cap_heap.specs.declared.lines.HeapLine.TheVariants.{Happens}
+use Rattle.cap_heap.specs.declared.events.Event.TheVariants.{Free}
+use Rattle.cap_heap.specs.HeapLines.{Spells}
+use Rattle.cap_heap.proofs.whys.put_event_lines.Goals as goal
+
+pub returns-in-Some-Free-clause-written : goal.returns-in-Some-Free-clause-written
+returns-in-Some-Free-clause-written c =
+    let spells = subst (λ (event : Event). Spells c.args.text.now (Happens event)) c.in-Some-Free.field-0-is c.in-Some-Free.ensures.some in
+    ([], inl (Free c.in-Some-Free.field-0-0, spells, refl), sym (append-nil _))
+
+pub returns-in-None-clause-written : goal.returns-in-None-clause-written
+returns-in-None-clause-written c = ([], inr (c.in-None.ensures.none, refl), sym (append-nil _))

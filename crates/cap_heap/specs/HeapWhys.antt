@@ -1,0 +1,83 @@
+-- The report of a no: the line that was refused, and what its tests saw (this profile's own, as are all below).
+use Rattle.std.specs.Prelude.{◌≡◌, ◌⊎◌, ℕ, ◌+◌, List, [], ◌++◌, length, take, Option, Some, None, MatchOption, codes, decimal}
+use Rattle.cap_word.specs.Digits.{hex_digits}
+use Rattle.cap_bounds.specs.declared.decoding.Interval.{Interval}
+use Rattle.cap_bounds.specs.Rounding.{rounded_base, rounded_top, alignment_of}
+use Rattle.cap_log.specs.Front.{FrontIs}
+use Rattle.cap_texts.specs.CapLines.{bounds_line}
+use Rattle.cap_texts.specs.ShownBytes.{line_line}
+use Rattle.cap_texts.specs.TextLines.{text_line}
+use Rattle.cap_heap.specs.declared.events.Event.{Event}
+use Rattle.cap_heap.specs.declared.events.Event.TheVariants.{Malloc, Free}
+use Rattle.cap_heap.specs.declared.lines.HeapLine.TheVariants.{Happens}
+use Rattle.cap_heap.specs.declared.refusal.HeapRefusal.{HeapRefusal}
+use Rattle.cap_heap.specs.declared.refusal.HeapRefusal.TheVariants.{BadHeader, LineTooLong, BadLine, Misplaced, Truncated, WrongCount}
+use Rattle.cap_heap.specs.declared.refusal.HeapRefusal.TheVariants.{LimitPassed, OutsideHeap}
+use Rattle.cap_heap.specs.HeapLines.{Spells}
+use Rattle.cap_heap.specs.Objects.{Objects, no_objects, AreApart}
+use Rattle.cap_heap.specs.Events.{Shares, objects_after}
+use Rattle.cap_heap.specs.HeapLogs.{Beginning, Body, Whole, IsFirstFault}
+
+-- how many events there were
+unfoldable pub count_line : ℕ → List ℕ
+count_line count = text_line (codes "events") (decimal count)
+
+-- the bounds that a request asks for, and those that it gets
+unfoldable pub request_lines : List ℕ → ℕ → ℕ → List ℕ
+request_lines name at size =
+    bounds_line name (codes "request ") at (at + size) ++ bounds_line name (codes "rounded ") (rounded_base at size) (rounded_top at size)
+
+-- the live object that overlaps it, where there is one
+abbrev pub live_lines : Option (ℕ × ℕ) → List ℕ
+live_lines None = []
+live_lines (Some entry) = request_lines (codes "live ") entry.0 entry.1
+
+-- what would be right: the length, and what addresses are multiples of
+unfoldable pub right_lines : ℕ → List ℕ
+right_lines size = text_line (codes "length") (hex_digits 17 (rounded_top 0 size)) ++ text_line (codes "alignment") (hex_digits 17 (alignment_of size))
+
+-- what is told of an event that is refused among these objects: of a request its bounds, of one outside the heap the heap's, of another a
+-- live object that has an address in common with it, where one has
+abbrev pub AreEventDetails : Interval → Objects → Event → HeapRefusal → List ℕ → Type 0
+AreEventDetails heap objects (Free at) refusal details = details ≡ []
+AreEventDetails heap objects (Malloc at size) OutsideHeap details =
+    details ≡ request_lines [] at size ++ bounds_line (codes "root") (codes " ") heap.base heap.top ++ right_lines size
+AreEventDetails heap objects (Malloc at size) refusal details =
+    (found : Option (ℕ × ℕ))
+    × MatchOption found ((other length : ℕ) → objects other ≡ Some length → AreApart at size other length)
+    (λ entry. Shares objects at size entry.0 entry.1)
+    × (details ≡ request_lines [] at size ++ live_lines found ++ right_lines size)
+
+-- how many events a beginning has
+abbrev pub count_in : Beginning → ℕ
+count_in (Body root events) = length events
+count_in (Whole root events) = length events
+count_in beginning = 0
+
+-- what is told of a line behind a beginning for its refusal: nothing where it has no form, how many events there were where that decides,
+-- and otherwise what is told of its event
+abbrev pub AreDetails : Beginning → List ℕ → HeapRefusal → List ℕ → Type 0
+AreDetails beginning text BadHeader details = details ≡ []
+AreDetails beginning text LineTooLong details = details ≡ []
+AreDetails beginning text BadLine details = details ≡ []
+AreDetails beginning text Misplaced details = details ≡ count_line (count_in beginning)
+AreDetails beginning text Truncated details = details ≡ count_line (count_in beginning)
+AreDetails beginning text WrongCount details = details ≡ count_line (count_in beginning)
+AreDetails beginning text LimitPassed details = details ≡ count_line (count_in beginning)
+AreDetails (Body root events) text refusal details =
+    ((event : Event) × Spells text (Happens event) × AreEventDetails root (objects_after no_objects events) event refusal details)
+    ⊎ (((event : Event) → Spells text (Happens event) → ⊥) × (details ≡ []))
+AreDetails beginning text refusal details = details ≡ []
+
+-- the text is the line that the bytes begin with: the first 96 bytes where more come before a line feed, all where none comes
+abbrev pub IsFrontText : List ℕ → List ℕ → Type 0
+IsFrontText bytes text = FrontIs bytes (text ≡ take 96 bytes) (text ≡ bytes) (λ line. text ≡ line)
+
+-- the report of a first fault: of the line that follows the beginning
+pub record IsReport (bytes : List ℕ) (number : ℕ) (refusal : HeapRefusal) (report : List ℕ) : Type 0 where
+  pub fault : IsFirstFault bytes number refusal
+  pub text : List ℕ
+  pub front : IsFrontText fault.rest text
+  pub details : List ℕ
+  pub are : AreDetails fault.beginning text refusal details
+  pub report_is : report ≡ line_line text ++ details

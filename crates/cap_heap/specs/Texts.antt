@@ -1,0 +1,26 @@
+-- The text of a verdict, by what its judge had read and the line that it refused (this profile's own).
+use Rattle.std.specs.Prelude.{◌≡◌, ℕ, Bool, true, false, List, ◌++◌}
+use Rattle.cap_texts.specs.ShownBytes.{line_line}
+use Rattle.cap_heap.specs.declared.progress.Progress.{Progress}
+use Rattle.cap_heap.specs.declared.refusal.HeapRefusal.{HeapRefusal}
+use Rattle.cap_heap.specs.declared.verdict.HeapVerdict.{HeapVerdict}
+use Rattle.cap_heap.specs.declared.verdict.HeapVerdict.TheVariants.{Yes, No}
+use Rattle.cap_heap.specs.HeapLogs.{Beginning}
+use Rattle.cap_heap.specs.HeapReports.{report_lines}
+use Rattle.cap_heap.specs.HeapWhys.{AreDetails}
+use Rattle.cap_heap.specs.Progresses.{StandsFor}
+use Rattle.cap_heap.specs.VerdictLines.{heap_line}
+
+-- what is told of a line that was refused
+abbrev pub IsLineReport : Progress → List ℕ → HeapRefusal → List ℕ → Type 0
+IsLineReport progress line refusal report =
+    (details : List ℕ) × ((beginning : Beginning) → StandsFor progress beginning → AreDetails beginning line refusal details)
+    × (report ≡ line_line line ++ details)
+
+-- the text of a verdict
+abbrev pub IsText : Bool → Bool → Progress → List ℕ → HeapVerdict → List ℕ → Type 0
+IsText false why progress line (Yes events live) text = text ≡ heap_line (Yes events live)
+IsText true why progress line (Yes events live) text = text ≡ heap_line (Yes events live) ++ report_lines progress.report
+IsText reports false progress line (No number refusal) text = text ≡ heap_line (No number refusal)
+IsText reports true progress line (No number refusal) text =
+    (report : List ℕ) × IsLineReport progress line refusal report × (text ≡ heap_line (No number refusal) ++ report)

@@ -1,0 +1,160 @@
+//! The report of a no: the line that was refused, and what its tests saw.
+
+ghost use Rattle.std.specs.Prelude.{◌≡◌, ℕ, List, ◌+◌, ◌≤◌, ◌++◌, codes, length, take, drop, [], Option, MatchOption, Some};
+ghost use Rattle.cap_bounds.specs.Rounding.{rounded_base, rounded_top};
+ghost use Rattle.cap_texts.specs.CapLines.{bounds_line};
+ghost use Rattle.cap_heap.specs.Heaps.{objects_in};
+ghost use Rattle.cap_heap.specs.HeapLogs.{Beginning};
+ghost use Rattle.cap_heap.specs.HeapWhys.{AreDetails, AreEventDetails, count_line, live_lines, request_lines, right_lines};
+ghost use Rattle.cap_heap.specs.Progresses.{AreEventDetailsIn, StandsFor};
+ghost use Rattle.cap_heap.specs.declared.events.Event.TheVariants.{Malloc};
+
+use crate::events::Event;
+use crate::heap::Heap;
+use crate::progress::Progress;
+use crate::reading::read_event;
+use crate::refusal::HeapRefusal;
+use crate::report::alignment;
+use crate::stage::Stage;
+use cap_bounds::{Interval, round, round_length};
+use cap_texts::cap_lines::put_bounds_line;
+use cap_texts::text_lines::{put_hex_line, put_number_line};
+
+/// Writes what is told of a line that was refused at an index of the buffer, and answers the index behind it. The progress
+/// is as it was before the line.
+pub(crate) fn put_details(
+    progress: &Progress,
+    text: &[u8],
+    refusal: HeapRefusal,
+    buffer: &mut [u8],
+    at: usize,
+) -> usize
+    requires room { at + 384 ≤ length buffer.old }
+    ensures fits { result ≤ length buffer.old }
+    ensures written { (details : List ℕ)
+        × ((beginning : Beginning) → StandsFor progress.now beginning → AreDetails beginning text.now refusal details)
+        × (take result buffer.new ≡ take at buffer.old ++ details) }
+{
+    match refusal {
+        HeapRefusal::BadHeader | HeapRefusal::LineTooLong | HeapRefusal::BadLine => at,
+        HeapRefusal::Misplaced
+        | HeapRefusal::Truncated
+        | HeapRefusal::WrongCount
+        | HeapRefusal::LimitPassed => put_count_line(progress.count(), buffer, at),
+        _ => match progress.stage {
+            Stage::Within => put_event_lines(&progress.heap, text, refusal, buffer, at),
+            _ => at,
+        },
+    }
+}
+
+// Writes how many events there were.
+#[tactic(auto, unfolding(crate::specs::HeapWhys::count_line))]
+fn put_count_line(count: u32, buffer: &mut [u8], at: usize) -> usize
+    requires room { at + 28 ≤ length buffer.old }
+    ensures fits { result ≤ at + 28 }
+    ensures written { take result buffer.new ≡ take at buffer.old ++ count_line count }
+{
+    put_number_line(buffer, at, b"events", u64::from(count))
+}
+
+// Writes what is told of an event that was refused, where the text is one's line.
+fn put_event_lines(
+    heap: &Heap,
+    text: &[u8],
+    refusal: HeapRefusal,
+    buffer: &mut [u8],
+    at: usize,
+) -> usize
+    requires room { at + 384 ≤ length buffer.old }
+    ensures fits { result ≤ length buffer.old }
+    ensures written { (details : List ℕ) × AreEventDetailsIn heap.now text.now refusal details
+        × (take result buffer.new ≡ take at buffer.old ++ details) }
+{
+    match read_event(text) {
+        Some(Event::Malloc { address, length }) => {
+            put_malloc_lines(heap, address, length, refusal, buffer, at)
+        }
+        Some(Event::Free { address: _ }) => at,
+        None => at,
+    }
+}
+
+// Writes what is told of a request that was refused.
+fn put_malloc_lines(
+    heap: &Heap,
+    address: u64,
+    size: u64,
+    refusal: HeapRefusal,
+    buffer: &mut [u8],
+    at: usize,
+) -> usize
+    requires room { at + 384 ≤ length buffer.old }
+    ensures fits { result ≤ length buffer.old }
+    ensures written { (details : List ℕ)
+        × AreEventDetails heap.now.bounds (objects_in heap.now) (Malloc address size) refusal details
+        × (take result buffer.new ≡ take at buffer.old ++ details) }
+{
+    let at = put_request_lines(buffer, at, b"", address, size);
+    match refusal {
+        HeapRefusal::OutsideHeap => {
+            let Interval { base, top } = heap.bounds();
+            let at = put_bounds_line(buffer, at, b"root", b" ", u128::from(base), top);
+            put_right_lines(buffer, at, size)
+        }
+        _ => {
+            let at = put_live_lines(buffer, at, heap.overlapped(address, size));
+            put_right_lines(buffer, at, size)
+        }
+    }
+}
+
+// Writes the bounds that a request asks for, and those that it gets.
+#[tactic(auto, unfolding(crate::specs::HeapWhys::request_lines))]
+fn put_request_lines(buffer: &mut [u8], at: usize, name: &[u8], address: u64, size: u64) -> usize
+    requires name { length name.now ≤ 5 }
+    requires room { at + 104 ≤ length buffer.old }
+    ensures from { at ≤ result }
+    ensures fits { result ≤ at + 104 }
+    ensures written { take result buffer.new ≡ take at buffer.old ++ request_lines name.now address size }
+    ensures rest { (k : ℕ) → result ≤ k → drop k buffer.new ≡ drop k buffer.old }
+{
+    let end = u128::from(address) + u128::from(size);
+    let at = put_bounds_line(buffer, at, name, b"request ", u128::from(address), end);
+    let rounded = round(address, size);
+    put_bounds_line(
+        buffer,
+        at,
+        name,
+        b"rounded ",
+        u128::from(rounded.base),
+        rounded.top,
+    )
+}
+
+// Writes those of a live object, where there is one.
+fn put_live_lines(buffer: &mut [u8], at: usize, found: Option<(u64, u64)>) -> usize
+    requires { at + 104 ≤ length buffer.old }
+    ensures from { at ≤ result }
+    ensures fits { result ≤ at + 104 }
+    ensures written { take result buffer.new ≡ take at buffer.old ++ live_lines found }
+    ensures rest { (k : ℕ) → result ≤ k → drop k buffer.new ≡ drop k buffer.old }
+{
+    match found {
+        Some((address, length)) => put_request_lines(buffer, at, b"live ", address, length),
+        None => at,
+    }
+}
+
+// Writes the length that would be right for a request, and what its address would be a multiple of.
+#[tactic(auto, unfolding(crate::specs::HeapWhys::right_lines))]
+fn put_right_lines(buffer: &mut [u8], at: usize, size: u64) -> usize
+    requires { at + 64 ≤ length buffer.old }
+    ensures from { at ≤ result }
+    ensures fits { result ≤ at + 64 }
+    ensures written { take result buffer.new ≡ take at buffer.old ++ right_lines size }
+    ensures rest { (k : ℕ) → result ≤ k → drop k buffer.new ≡ drop k buffer.old }
+{
+    let at = put_hex_line(buffer, at, b"length", 17, round_length(size));
+    put_hex_line(buffer, at, b"alignment", 17, alignment(size))
+}

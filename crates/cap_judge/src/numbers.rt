@@ -1,0 +1,54 @@
+//! Taking steps by their numbers, without their lines.
+
+ghost use Rattle.std.specs.Prelude.{◌≡◌, ◌≢◌, ℕ, List, [], ◌∷◌, ◌++◌, Err, OnOk, IfErr};
+ghost use Rattle.cap_log.specs.Lines.{IsStepInRange, spelling};
+ghost use Rattle.cap_log.specs.declared.lines.Line.TheVariants as lines;
+ghost use Rattle.cap_judge.specs.Logs.{MayLackMemory};
+ghost use Rattle.cap_judge.specs.Readings.{HasRead, known_of};
+ghost use Rattle.cap_judge.specs.declared.verdict.TakeFault.TheVariants.{NoLine, NoMemory};
+
+use crate::beginning::{Judge, Stage};
+use crate::verdict::TakeFault;
+use cap_log::write_step;
+use cap_machine::Instruction;
+use tagmem::TaggedStore;
+
+impl<M: TaggedStore> Judge<M> {
+    /// Takes a step by its numbers, which have to be in their ranges, as [`Judge::take_line`] takes the line that
+    /// spells it, with its line feed. That line is written only where the step is refused, or is no step's place. Where
+    /// there is no memory nothing has changed, and the step may be handed over again.
+    #[inline(always)]
+    pub fn take_step<I: Instruction>(&mut self, step: I) -> Result<(), TakeFault>
+        requires { IsStepInRange (I.step step) }
+        ensures taken { OnOk result ((bytes : List ℕ) → HasRead M.contents self.old bytes
+            → HasRead M.contents self.new (bytes ++ (spelling (lines.Step (I.step step)) ++ 10 ∷ []))) }
+        ensures unchanged { IfErr result (λ _. known_of M.contents self.new ≡ known_of M.contents self.old) }
+        ensures line { result ≢ Err NoLine }
+        ensures no_memory { result ≡ Err NoMemory → (bytes : List ℕ) → HasRead M.contents self.old bytes
+            → MayLackMemory (bytes ++ (spelling (lines.Step (I.step step)) ++ 10 ∷ [])) [] }
+    {
+        if let Stage::Body = self.stage {
+            return match step.perform(&mut self.machine) {
+                Ok(()) => Ok(()),
+                Err(_) => self.take_written(step),
+            };
+        }
+        self.take_written(step)
+    }
+
+    // Takes a step by its line.
+    #[inline(never)]
+    fn take_written<I: Instruction>(&mut self, step: I) -> Result<(), TakeFault>
+        requires { IsStepInRange (I.step step) }
+        ensures taken { OnOk result ((bytes : List ℕ) → HasRead M.contents self.old bytes
+            → HasRead M.contents self.new (bytes ++ (spelling (lines.Step (I.step step)) ++ 10 ∷ []))) }
+        ensures unchanged { IfErr result (λ _. known_of M.contents self.new ≡ known_of M.contents self.old) }
+        ensures line { result ≢ Err NoLine }
+        ensures no_memory { result ≡ Err NoMemory → (bytes : List ℕ) → HasRead M.contents self.old bytes
+            → MayLackMemory (bytes ++ (spelling (lines.Step (I.step step)) ++ 10 ∷ [])) [] }
+    {
+        let mut buffer = [0; 96];
+        let length = write_step(step, &mut buffer);
+        self.take_line(&buffer[..length])
+    }
+}
