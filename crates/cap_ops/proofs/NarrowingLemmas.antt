@@ -172,7 +172,7 @@ BoundsEscape-exact source length exact (Ok cap) fits ends tagged unsealed sound 
     (λ e. cc, λ outside. let first = first_escapes source length exact fits tagged unsealed sound outside in cc)
 BoundsEscape-exact source length exact (Err fault) fits ends tagged unsealed sound = (
   λ e. let which : fault ≡ faults.BoundsEscape = cc in escapes_first source length exact fits tagged unsealed sound
-  (ends ∙ ap (λ (f : OpFault). Some (refusal_of f)) which),
+      (ends ∙ ap (λ (f : OpFault). Some (refusal_of f)) which),
   λ outside. ap Err (same_fault fault (same_Some _ _ (sym ends ∙ first_escapes source length exact fits tagged unsealed sound outside))),
 )
 

@@ -48,11 +48,13 @@ fn answer_order(rt: &HostRuntime, order: Option<Order<'_>>) -> u8 {
     let file = match order {
         None => return run(rt.alloc(), order, None::<File>, out, errors),
         Some(Order::Why { origins: _, file }) => file,
-        Some(Order::Heap {
-            report: _,
-            why: _,
-            file,
-        }) => file,
+        Some(
+            Order::Heap {
+                report: _,
+                why: _,
+                file,
+            },
+        ) => file,
     };
     match file {
         Some(path) => run(rt.alloc(), order, File::open(rt, path).ok(), out, errors),
