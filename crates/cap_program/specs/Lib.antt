@@ -2,4 +2,3 @@ pub mod Faults
 pub mod Words
 pub mod Doings
 pub mod Runs
-pub mod Judging

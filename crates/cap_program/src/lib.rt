@@ -5,13 +5,11 @@
 mod answering;
 mod faults;
 mod inputs;
-mod judging;
 mod outputs;
 mod words;
 
 pub use crate::answering::{exit_status, hand_on, tell};
 pub use crate::faults::Fault;
 pub use crate::inputs::opened;
-pub use crate::judging::judged;
 pub use crate::outputs::{Output, show};
 pub use crate::words::{collect_words, is_operand, take_option};

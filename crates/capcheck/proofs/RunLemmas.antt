@@ -13,8 +13,8 @@ use Rattle.cap_vectors.specs.VectorFiles.{FailsFirst, IsVectorVerdict, IsVectorV
 use Rattle.cap_program.specs.declared.faults.Fault.{Fault}
 use Rattle.cap_program.specs.declared.faults.Fault.TheVariants.{BadWords, BadWord, BadRequest, Read, Write, NoMemory}
 use Rattle.cap_program.specs.Faults.{status_of}
-use Rattle.cap_program.specs.Judging.{verdict_status}
-use Rattle.cap_program.proofs.Judgements.{tells_known, verdict_few}
+use Rattle.cap_status.specs.Judging.{verdict_status}
+use Rattle.cap_status.proofs.Judgements.{tells_known, verdict_few}
 use Rattle.capcheck.specs.declared.words.Order.{Order}
 use Rattle.capcheck.specs.declared.words.Order.TheVariants.{Explain, Round, Judge, Vectors}
 use Rattle.capcheck.specs.Answers.{Prints, vector_status}

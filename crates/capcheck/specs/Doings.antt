@@ -4,7 +4,7 @@ use Rattle.cap_judge.specs.Reports.{Tells}
 use Rattle.cap_texts.specs.ExplainLines.{explain_lines}
 use Rattle.cap_vectors.specs.declared.files.VectorVerdict.{VectorVerdict}
 use Rattle.cap_vectors.specs.VectorFiles.{BreaksOff, IsVectorVerdictOf, vector_line}
-use Rattle.cap_program.specs.Judging.{ShowsVerdict, StopsJudging}
+use Rattle.cap_status.specs.Judging.{ShowsVerdict, StopsJudging}
 use Rattle.cap_program.specs.declared.faults.Fault.{Fault}
 use Rattle.cap_program.specs.declared.faults.Fault.TheVariants.{BadWords, BadWord, Read}
 use Rattle.capcheck.specs.declared.words.Order.{Order}

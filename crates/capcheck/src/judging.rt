@@ -2,14 +2,15 @@
 
 ghost use Rattle.std.specs.Prelude.{◌≡◌, ◌≢◌, ℕ, List, Err, None};
 ghost use Rattle.cap_program.specs.Doings.{IsCounted, IsDone, IsInputCounted, ended_by, gave_by};
-ghost use Rattle.cap_program.specs.Judging.{ShowsVerdict, StopsJudging};
+ghost use Rattle.cap_status.specs.Judging.{ShowsVerdict, StopsJudging};
 ghost use Rattle.cap_judge.specs.Reports.{Reported, Tells};
 ghost use Rattle.cap_judge.specs.declared.verdict.JudgeToFault.TheVariants as judging;
 ghost use Rattle.cap_log.specs.Streams.{next_count};
 
 use cap_judge::{JudgeToFault, Verdict, judge_origins, judge_to};
 use cap_log::{Sink, Source};
-use cap_program::{Fault, judged};
+use cap_program::Fault;
+use cap_status::judged;
 use std::alloc::Global;
 
 /// Judges an input, pushes the line of the verdict and, where they are asked for, those of origins, and answers the

@@ -12,8 +12,8 @@ use Rattle.cap_report.specs.Whys.{Explains}
 use Rattle.cap_program.specs.declared.faults.Fault.{Fault}
 use Rattle.cap_program.specs.declared.faults.Fault.TheVariants.{BadWords, BadWord, BadRequest, Read, Write, NoMemory}
 use Rattle.cap_program.specs.Faults.{status_of}
-use Rattle.cap_program.specs.Judging.{verdict_status}
-use Rattle.cap_program.proofs.Judgements.{tells_known, verdict_few}
+use Rattle.cap_status.specs.Judging.{verdict_status}
+use Rattle.cap_status.proofs.Judgements.{tells_known, verdict_few}
 use Rattle.capdiag.specs.declared.words.Order.{Order}
 use Rattle.capdiag.specs.declared.words.Order.TheVariants.{Why, Heap}
 use Rattle.capdiag.proofs.HeapLemmas.{heap_few, heap_known}

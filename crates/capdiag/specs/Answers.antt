@@ -5,7 +5,7 @@ use Rattle.cap_judge.specs.Verdicts.{IsVerdict}
 use Rattle.cap_report.specs.Whys.{Explains}
 use Rattle.cap_program.specs.declared.faults.Fault.{Fault}
 use Rattle.cap_program.specs.declared.faults.Fault.TheVariants.{BadWords}
-use Rattle.cap_program.specs.Judging.{ShowsVerdict, StopsJudging, verdict_status}
+use Rattle.cap_status.specs.Judging.{ShowsVerdict, StopsJudging, verdict_status}
 use Rattle.capdiag.specs.declared.words.Order.{Order}
 use Rattle.capdiag.specs.declared.words.Order.TheVariants.{Why, Heap}
 use Rattle.capdiag.specs.Heaps.{ShowsHeap, StopsHeap}

@@ -2,12 +2,13 @@
 
 ghost use Rattle.std.specs.Prelude.{◌≡◌, ℕ, List, Err, None};
 ghost use Rattle.cap_program.specs.Doings.{IsCounted, IsDone, IsInputCounted, ended_by, gave_by};
-ghost use Rattle.cap_program.specs.Judging.{ShowsVerdict, StopsJudging};
+ghost use Rattle.cap_status.specs.Judging.{ShowsVerdict, StopsJudging};
 ghost use Rattle.cap_report.specs.Whys.{Explains};
 
 use cap_log::{Sink, Source};
-use cap_program::{Fault, judged};
+use cap_program::Fault;
 use cap_report::judge_why;
+use cap_status::judged;
 use std::alloc::Global;
 
 /// Judges an input, pushes the line of the verdict, after a no with the report and after a yes with the origins where

@@ -3,8 +3,8 @@ use Rattle.cap_judge.specs.Reports.{Tells}
 use Rattle.cap_program.specs.declared.faults.Fault.{Fault}
 use Rattle.cap_program.specs.declared.faults.Fault.TheVariants.{Read, Write}
 use Rattle.cap_program.specs.Doings.{IsCounted, IsDone}
-use Rattle.cap_program.specs.Judging.{ShowsVerdict, StopsJudging}
-use Rattle.cap_program.proofs.Judgements.{judged_done, judged_read, judged_written}
+use Rattle.cap_status.specs.Judging.{ShowsVerdict, StopsJudging}
+use Rattle.cap_status.proofs.Judgements.{judged_done, judged_read, judged_written}
 use Rattle.capcheck.proofs.judging.judge_source.Goals as goal
 
 pub returns : goal.returns

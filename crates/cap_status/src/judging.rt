@@ -1,10 +1,10 @@
 //! The answer of a judge that writes, as a program answers it.
 
 ghost use Rattle.std.specs.Prelude.{◌≡◌};
-ghost use Rattle.cap_program.specs.Judging.{judged, verdict_status};
+ghost use Rattle.cap_status.specs.Judging.{judged, verdict_status};
 
-use crate::faults::Fault;
 use cap_judge::{JudgeToFault, Verdict};
+use cap_program::Fault;
 
 /// The status that goes with a verdict, or the fault that came instead.
 pub fn judged(answer: Result<Verdict, JudgeToFault>) -> Result<u8, Fault>

@@ -9,7 +9,7 @@ use Rattle.cap_judge.specs.Judgings.{IsVerdictOf}
 use Rattle.cap_judge.specs.Reports.{IsPushedFor, Tells}
 use Rattle.cap_program.specs.declared.faults.Fault.TheVariants as faults
 use Rattle.cap_program.specs.Doings.{IsCounted, IsDone}
-use Rattle.cap_program.specs.Judging.{ShowsVerdict, StopsJudging, judged, verdict_status}
+use Rattle.cap_status.specs.Judging.{ShowsVerdict, StopsJudging, judged, verdict_status}
 
 -- what was pushed for an answer is what was done for the order
 pub judged_done : (tells : Verdict → List ℕ → Type 0) (given : List ℕ) (ended : Bool) (took : List ℕ → Type 0)
