@@ -1,5 +1,5 @@
 -- What a slot that is written, and one more, do to slots in runs.
-use Rattle.std.proofs.Common.{◌≡◌, ℕ, ◌+◌, ◌<◌, ◌≤◌, List, [], ◌∷◌, ◌++◌, length, map, get_or, set, take, drop, All, sym, refl, ap, subst, ◌∙◌}
+use Rattle.std.proofs.Common.{◌≡◌, ℕ, ◌+◌, ◌<◌, List, length, map, get_or, set, take, All, sym, ap, subst, ◌∙◌}
 use Rattle.std.proofs.Common.{arith}
 use Rattle.std.specs.FinMap as finite
 use Rattle.std.specs.List.Sorted.{IsStrictlyIncreasing}
@@ -10,7 +10,7 @@ use Rattle.std.proofs.lemmas.List.Elements.{All-set}
 use Rattle.tagmem.specs.declared.list_store.Listed.{Listed}
 use Rattle.tagmem.specs.declared.lent_store.Slot.{Slot}
 use Rattle.tagmem.specs.Granules.{IsStored}
-use Rattle.tagmem.specs.Lent.{AreApart, AreRuns, entries_of, listed_of, part, run_end}
+use Rattle.tagmem.specs.Lent.{AreRuns, entries_of, listed_of, part, run_end}
 use Rattle.tagmem.specs.Listed.{IsEntryAt, contents_of, entry_of, granules_of}
 use Rattle.tagmem.proofs.Indexes.{granule_at-get_or, nothing}
 use Rattle.tagmem.proofs.Listed.{contents_of-put, found-set}

@@ -1,5 +1,5 @@
 //! A store in memory that is lent to it.
-ghost use Rattle.std.specs.Prelude.{◌≡◌, ℕ, ◌^◌, ◌<◌, ◌+◌, ◌≤◌, length, take, None, OnOk, OnErr, IfOk, IfErr, IfSome};
+ghost use Rattle.std.specs.Prelude.{◌≡◌, ℕ, ◌^◌, ◌<◌, ◌+◌, ◌≤◌, length, take, None, IsErr, ◌↔◌, OnOk, OnErr, IfOk, IfErr, IfSome};
 ghost use Rattle.std.specs.FinMap as map;
 ghost use Rattle.std.specs.Int.{bit_at};
 ghost use Rattle.tagmem.specs.Granules.{with_bytes, with_cap, with_write, HasRoom, IsCodeFor, IsStored};
@@ -119,7 +119,7 @@ impl<'a> LentStore<'a> {
         ensures ok { OnOk result (contents_of (in_use self.new)
             ≡ map.insert (contents_of (in_use self.old)) slot.granule (entry_of (listed_of slot))) }
         ensures err { OnErr result (in_use self.new ≡ in_use self.old) }
-        ensures full { OnErr result (length (in_use self.old) ≡ capacity_of self.old) }
+        ensures full { IsErr result ↔ (length (in_use self.old) ≡ capacity_of self.old) }
     {
         if self.used == self.slots.len() {
             return Err(NoMemory);
@@ -148,7 +148,8 @@ impl<'a> LentStore<'a> {
             ≡ with_write (contents_of (in_use self.old)) granule tag byte_index bytes.now code) }
         ensures err { OnErr result (in_use self.new ≡ in_use self.old) }
         ensures only_new { OnErr result (map.get (contents_of (in_use self.old)) granule ≡ None) }
-        ensures full { OnErr result (map.len (contents_of (in_use self.old)) ≡ capacity_of self.old) }
+        ensures full { IsErr result ↔ ((map.get (contents_of (in_use self.old)) granule ≡ None)
+            × (map.len (contents_of (in_use self.old)) ≡ capacity_of self.old)) }
     {
         match self.index_of(granule) {
             Some(index) => {
@@ -226,7 +227,9 @@ impl<'a> TaggedStore for LentStore<'a> {
         ensures ok { OnOk result (contents_of (in_use self.new) ≡ with_cap (contents_of (in_use self.old)) granule tag bytes code) }
         ensures err { OnErr result (contents_of (in_use self.new) ≡ contents_of (in_use self.old)) }
         ensures only_new { OnErr result (map.get (contents_of (in_use self.old)) granule ≡ None) }
-        ensures full { OnErr result (map.len (contents_of (in_use self.old)) ≡ capacity_of self.old) }
+        ensures full { IsErr result ↔ ((map.get (contents_of (in_use self.old)) granule ≡ None)
+            × (map.len (contents_of (in_use self.old)) ≡ capacity_of self.old)) }
+        ensures capacity { capacity_of self.new ≡ capacity_of self.old }
     {
         self.put(granule, tag, 0, &bytes, code)
     }
@@ -239,7 +242,9 @@ impl<'a> TaggedStore for LentStore<'a> {
         ensures ok { OnOk result (contents_of (in_use self.new) ≡ with_bytes (contents_of (in_use self.old)) granule byte_index bytes.now) }
         ensures err { OnErr result (contents_of (in_use self.new) ≡ contents_of (in_use self.old)) }
         ensures only_new { OnErr result (map.get (contents_of (in_use self.old)) granule ≡ None) }
-        ensures full { OnErr result (map.len (contents_of (in_use self.old)) ≡ capacity_of self.old) }
+        ensures full { IsErr result ↔ ((map.get (contents_of (in_use self.old)) granule ≡ None)
+            × (map.len (contents_of (in_use self.old)) ≡ capacity_of self.old)) }
+        ensures capacity { capacity_of self.new ≡ capacity_of self.old }
     {
         self.put(granule, false, byte_index, bytes, 0)
     }

@@ -1,11 +1,12 @@
-use Rattle.std.proofs.Common.{◌≡◌, ◌<◌, ℕ, All, OnOk, OnErr, refl, sym, subst, ◌∙◌, arith}
+use Rattle.std.proofs.Common.{◌≡◌, ◌<◌, All, OnOk, refl, sym, subst, ◌∙◌, arith}
 use Rattle.std.proofs.lemmas.List.Elements.{All-from_get_or}
 use Rattle.tagmem.specs.Granules.{Granules}
-use Rattle.tagmem.specs.LentStores.{capacity_of, in_use}
+use Rattle.tagmem.specs.LentStores.{in_use}
 use Rattle.tagmem.specs.Listed.{contents_of}
 use Rattle.tagmem.specs.ListLaws.{AreStored-contents_of, len-apart}
+use Rattle.std.proofs.lemmas.Option.{none-some}
 use Rattle.tagmem.proofs.Indexes.{OnErr-from}
-use Rattle.tagmem.proofs.Lent.{IsStored-written, get_unused, insert-written, length-entries_of, over_blank, over_slot}
+use Rattle.tagmem.proofs.Lent.{IsStored-written, get_slot, get_unused, insert-written, length-entries_of, no_slot, over_blank, over_slot}
 use Rattle.tagmem.proofs.lent_store.LentStore.put.Goals as goal
 
 pub replace-requires-clause-stored : goal.replace-requires-clause-stored
@@ -56,8 +57,18 @@ returns-in-None-clause-ok c =
 pub returns-in-None-clause-only_new : goal.returns-in-None-clause-only_new
 returns-in-None-clause-only_new c = OnErr-from _ _ (get_unused (in_use c.args.self.now) c.args.granule (c.in-None.ensures.absent refl))
 
+-- a granule that is there is not refused
+pub returns-in-Some-clause-full : goal.returns-in-Some-clause-full
+returns-in-Some-clause-full c =
+    let s = c.args.self.now in
+    let there = get_slot s.used s.slots.now s.fits s.runs.apart c.args.granule c.in-Some.index no_slot c.in-Some.ensures.found in
+    (λ no. cc, λ is. absurd (none-some _ (sym is.0 ∙ there)))
+
 -- each slot in use is of a granule of its own
 pub returns-in-None-clause-full : goal.returns-in-None-clause-full
 returns-in-None-clause-full c =
     let s = c.args.self.now in
-    subst (λ (n : ℕ). OnErr c.add.result (n ≡ capacity_of s)) (sym (len-apart (in_use s) s.runs.apart)) c.add.ensures.full
+    let many = len-apart (in_use s) s.runs.apart in (
+      λ err. (get_unused (in_use s) c.args.granule (c.in-None.ensures.absent refl), many ∙ c.add.ensures.full.0 err),
+      λ is. c.add.ensures.full.1 (sym many ∙ is.1),
+    )
