@@ -1,7 +1,7 @@
 -- What a search finds among entries whose granules rise, and what an edit at that index does.
-use Rattle.std.proofs.Common.{◌≡◌, ℕ, ◌+◌, ◌-◌, ◌<◌, ◌≤◌, List, [], ◌∷◌, length, get_or, set, take, drop, Some, None, false, Result, Ok}
-use Rattle.std.proofs.Common.{Err, IfOk, IfErr, OnOk, OnErr, is_ok, Bool, true, cond, sym, refl, ap, subst, ◌∙◌, arith}
-use Rattle.std.specs.FinMap as map
+use Rattle.std.proofs.Common.{◌≡◌, ℕ, ◌+◌, ◌-◌, ◌<◌, ◌≤◌, List, [], ◌∷◌, length, map, get_or, set, take, drop, Some, None, false, Result, Ok}
+use Rattle.std.proofs.Common.{Equal, Err, IfOk, IfErr, OnOk, OnErr, is_ok, Bool, true, cond, sym, refl, ap, subst, ◌∙◌, arith}
+use Rattle.std.specs.FinMap as finite
 use Rattle.std.specs.List.{insert}
 use Rattle.std.specs.List.Sorted.{IsSearchInRange, IsBinarySearchResult, IsNonDecreasingBy, IsStrictlyIncreasing}
 use Rattle.std.specs.Ordering.{nat_cmp, ordering_index}
@@ -27,41 +27,49 @@ nothing = record { granule = 0; tag = false; bytes = []; code = 0 }
 pub granule_at-get_or : (l : List Listed) (i : ℕ) (d : Listed) → i < length l → granule_at l i ≡ (get_or l i d).granule
 granule_at-get_or l i d in_range = get_or-map (λ listed. listed.granule) l i d 0 in_range
 
-module _ (l : List Listed) (far : RisesFar l) (k : ℕ) where
+-- a binary search among things whose numbers rise
+module _ {X : Type 0} (number : X → ℕ) (nothing : X) (xs : List X) (k : ℕ)
+    (far : (i j : ℕ) → i < j → j < length xs → get_or (map number xs) i 0 < get_or (map number xs) j 0) where
   -- the comparisons with k rise along the list, as a binary search asks
-  comparisons_rise : IsNonDecreasingBy (λ listed. ordering_index (nat_cmp listed.granule k)) l
-  comparisons_rise = IsNonDecreasingBy-from_default (λ listed. ordering_index (nat_cmp listed.granule k)) l nothing (λ i j le in_range.
-      let at_i = granule_at-get_or l i nothing (omega arith) in
-      let at_j = granule_at-get_or l j nothing in_range in
-      let granules_rise : granule_at l i ≤ granule_at l j = grind (arith, far i j, λ (same : i ≡ j). ap (granule_at l) same) in
+  comparisons_rise : IsNonDecreasingBy (λ x. ordering_index (nat_cmp (number x) k)) xs
+  comparisons_rise = IsNonDecreasingBy-from_default (λ x. ordering_index (nat_cmp (number x) k)) xs nothing (λ i j le in_range.
+      let at_i = get_or-map number xs i nothing 0 (omega arith) in
+      let at_j = get_or-map number xs j nothing 0 in_range in
+      let numbers_rise : get_or (map number xs) i 0 ≤ get_or (map number xs) j 0 =
+      grind (arith, far i j, λ (same : i ≡ j). ap (λ (at : ℕ). get_or (map number xs) at 0) same) in
       grind (arith, nat_tests))
 
-  -- a binary search ends at the granule's entry, or at the gap for it
-  pub searched : (r : Result ℕ ℕ) → IsSearchInRange r (length l) → IsBinarySearchResult (λ listed. nat_cmp listed.granule k) l r
-      → record { found : IfOk r (IsEntryAt l k); absent : IfErr r (IsGapFor l k) }
-  searched (Ok index) in_range equal = record {
-    found = record {
-      in_range = in_range;
-      has_granule = granule_at-get_or l index nothing in_range ∙ ranked _ k _ (sym (equal nothing));
-    };
-    absent = tt;
+  -- it ends at the number's own index, or at one that parts the lower ones from the higher ones
+  pub number_found : (index : ℕ) → index < length xs → ((d : X) → nat_cmp (number (get_or xs index d)) k ≡ Equal)
+      → get_or (map number xs) index 0 ≡ k
+  number_found index in_range equal = get_or-map number xs index nothing 0 in_range ∙ ranked _ k _ (sym (equal nothing))
+
+  pub numbers_parted : (index : ℕ) → index ≤ length xs → IsBinarySearchResult (λ x. nat_cmp (number x) k) xs (Err index) → record {
+    lower : (j : ℕ) → j < index → get_or (map number xs) j 0 < k;
+    higher : (j : ℕ) → index ≤ j → j < length xs → k < get_or (map number xs) j 0;
   }
-  searched (Err index) in_range parted =
-      let le_length : index ≤ length l = in_range in
-      record {
-        found = tt;
-        absent = record {
-          in_range = in_range;
-          lower_before = λ j lt.
-              let is : granule_at l j ≡ (get_or l j nothing).granule = granule_at-get_or l j nothing (omega arith) in
-              let below : (get_or l j nothing).granule < k = ranked _ k _ (sym ((parted comparisons_rise).0 j nothing (omega arith) lt)) in
-              omega arith;
-          higher_after = λ j le lt.
-              let is : granule_at l j ≡ (get_or l j nothing).granule = granule_at-get_or l j nothing lt in
-              let above : k < (get_or l j nothing).granule = ranked _ k _ (sym ((parted comparisons_rise).1 j nothing le lt)) in
-              omega arith;
-        };
-      }
+  numbers_parted index in_range parted = record {
+    lower = λ j lt.
+        let below : number (get_or xs j nothing) < k = ranked _ k _ (sym ((parted comparisons_rise).0 j nothing (omega arith) lt)) in
+        omega (arith, get_or-map number xs j nothing 0 (omega arith));
+    higher = λ j le lt.
+        let above : k < number (get_or xs j nothing) = ranked _ k _ (sym ((parted comparisons_rise).1 j nothing le lt)) in
+        omega (arith, get_or-map number xs j nothing 0 lt);
+  }
+
+-- so among entries it ends at the granule's entry, or at the gap for it
+pub searched : (l : List Listed) → RisesFar l → (k : ℕ) (r : Result ℕ ℕ) → IsSearchInRange r (length l)
+    → IsBinarySearchResult (λ listed. nat_cmp listed.granule k) l r
+    → record { found : IfOk r (IsEntryAt l k); absent : IfErr r (IsGapFor l k) }
+searched l far k (Ok index) in_range equal = record {
+  found = record { in_range = in_range; has_granule = number_found (λ listed. listed.granule) nothing l k far index in_range equal };
+  absent = tt;
+}
+searched l far k (Err index) in_range parted =
+    let sides = numbers_parted (λ listed. listed.granule) nothing l k far index in_range parted in record {
+      found = tt;
+      absent = record { in_range = in_range; lower_before = sides.lower; higher_after = sides.higher };
+    }
 
 module _ (l : List Listed) (rising : IsRising l) (k index : ℕ) (at : IsEntryAt l k index) where
   -- the granules before the index are lower, so none is k
@@ -69,13 +77,13 @@ module _ (l : List Listed) (rising : IsRising l) (k index : ℕ) (at : IsEntryAt
   none_before_at j lt same = omega (arith, rises_far l rising j index lt at.in_range, at.has_granule)
 
   -- what stands in the granule is what its entry says
-  pub get_at : (d : Listed) → map.get (contents_of l) k ≡ Some (entry_of (get_or l index d))
+  pub get_at : (d : Listed) → finite.get (contents_of l) k ≡ Some (entry_of (get_or l index d))
   get_at d = get-contents_of l k ∙ found_present l k index d at none_before_at
 
   -- the entry that is read there is the granule's, and says what stands in it
   pub read_at : (x : Listed) → x ≡ get_or l index x → record {
     granule_is : x.granule ≡ k;
-    entry_is : map.get (contents_of l) k ≡ Some (entry_of x);
+    entry_is : finite.get (contents_of l) k ≡ Some (entry_of x);
   }
   read_at x read = record {
     granule_is = ap (λ (listed : Listed). listed.granule) read ∙ sym (granule_at-get_or l index x at.in_range) ∙ at.has_granule;
@@ -99,17 +107,17 @@ rising_insert gs k index rising in_range below above i lt =
     grind (arith, lower i, lower (i + 1), here i, here (i + 1), higher i, moved, step, rising i, below i, above i)
 
 -- a granule that has a gap was never put
-pub get_in_gap : (l : List Listed) (k index : ℕ) → IsGapFor l k index → map.get (contents_of l) k ≡ None
+pub get_in_gap : (l : List Listed) (k index : ℕ) → IsGapFor l k index → finite.get (contents_of l) k ≡ None
 get_in_gap l k index gap = get-contents_of l k ∙ found_absent l k (λ j lt same. grind (arith, gap.lower_before j, gap.higher_after j))
 
 module _ (l : List Listed) (x : Listed) (index : ℕ) where
   -- an entry at the index of the granule's own changes that granule alone
   pub contents_of-set : IsRising l → IsEntryAt l x.granule index → contents_of (set l index x)
-      ≡ map.insert (contents_of l) x.granule (entry_of x)
+      ≡ finite.insert (contents_of l) x.granule (entry_of x)
   contents_of-set rising at = contents_of-put l (set l index x) x (found-set l x index at (none_before_at l rising x.granule index at))
 
   -- so does a new entry in its gap
-  pub contents_of-insert : IsGapFor l x.granule index → contents_of (insert l index x) ≡ map.insert (contents_of l) x.granule (entry_of x)
+  pub contents_of-insert : IsGapFor l x.granule index → contents_of (insert l index x) ≡ finite.insert (contents_of l) x.granule (entry_of x)
   contents_of-insert gap =
       contents_of-put l (insert l index x) x (found-insert l x index (λ j lt same. omega (arith, gap.lower_before j lt)))
 

@@ -1,5 +1,5 @@
 -- Why the map that a list of entries is keeps the laws of a store.
-use Rattle.std.proofs.Common.{◌≡◌, ℕ, suc, ◌+◌, ◌^◌, ◌<◌, ◌≢◌, true, false, cond, eqb, List, [], ◌∷◌, map, length, get_or, Option, Some}
+use Rattle.std.proofs.Common.{◌≡◌, ℕ, suc, ◌+◌, ◌^◌, ◌<◌, ◌≢◌, true, false, cond, eqb, List, [], ◌∷◌, map, length, take, get_or, Option, Some}
 use Rattle.std.proofs.Common.{None, is_some, sym, refl, ap, subst, ◌∙◌, arith}
 use Rattle.std.specs.Ordering.{nat_cmp}
 use Rattle.std.specs.Cmp.{nat_cmp_total, unsigned_tied}
@@ -7,12 +7,14 @@ use Rattle.std.specs.FinMap as map
 use Rattle.std.specs.FinMap.{find, get-from_entries}
 use Rattle.std.proofs.lemmas.Bool.{eqb-true}
 use Rattle.std.proofs.lemmas.Bool.Decides.{nat_tests}
-use Rattle.std.proofs.lemmas.List.{length-map}
+use Rattle.std.proofs.lemmas.List.{length-map, length-take}
 use Rattle.std.proofs.lemmas.List.Elements.{All-head, All-tail}
 use Rattle.std.proofs.lemmas.Map.Keys.{below_from_sorted, sorted_from_strictly_increasing}
 use Rattle.std.proofs.lemmas.Option.{none-some, same_Some}
 use Rattle.tagmem.specs.declared.list_store.Listed.{Listed}
 use Rattle.tagmem.specs.Granules.{Entry, IsStored, AreStored}
+use Rattle.tagmem.specs.declared.lent_store.Slot.{Slot}
+use Rattle.tagmem.specs.Lent.{AreApart, entries_of, listed_of}
 use Rattle.tagmem.specs.Listed.{entry_of, keyed, contents_of, granules_of, IsRising, AllStored}
 
 -- the granule of the entry at an index
@@ -69,21 +71,31 @@ pub rises_far : (l : List Listed) → IsRising l → RisesFar l
 rises_far l rising i j lt in_range =
     below_from_sorted (granules_of l) i j 0 (sorted_from_strictly_increasing (granules_of l) rising) lt (rw length-map in_range)
 
-len_by_tail : (l : List Listed) → RisesFar l → map.len (contents_of l) ≡ length l
-len_by_tail [] far = map.len-empty nat_cmp Entry
-len_by_tail (x ∷ l) far =
+-- no granule stands twice
+pub apart_far : (l : List Listed) → RisesFar l → AreApart l
+apart_far l far i j lt in_range same = omega (arith, far i j lt in_range)
+
+-- a list in which no granule stands twice has as many entries as its map
+pub len-apart : (l : List Listed) → AreApart l → map.len (contents_of l) ≡ length l
+len-apart [] apart = map.len-empty nat_cmp Entry
+len-apart (x ∷ l) apart =
     let absent : found l x.granule ≡ None =
-    found_absent l x.granule (λ j lt same. omega (arith, far 0 (suc j) (omega arith) (omega arith))) in
-    let tail : map.len (contents_of l) ≡ length l = len_by_tail l (λ i j lt in_range. far (suc i) (suc j) (omega arith) (omega arith)) in
+    found_absent l x.granule (λ j lt same. apart 0 (suc j) (omega arith) (omega arith) (sym same)) in
+    let tail : map.len (contents_of l) ≡ length l = len-apart l (λ i j lt in_range. apart (suc i) (suc j) (omega arith) (omega arith)) in
     let added : map.len (contents_of (x ∷ l)) ≡ map.len (contents_of l) + 1 =
     map.len-insert nat_cmp_total (contents_of l) x.granule (entry_of x)
     ∙ ap (λ o. cond (is_some o) (map.len (contents_of l)) (map.len (contents_of l) + 1)) (get-contents_of l x.granule ∙ absent) in
     omega arith
 
--- a list whose granules rise has as many entries as its map
+-- and so does one whose granules rise
 pub len-contents_of : (l : List Listed) → IsRising l → map.len (contents_of l) ≡ length l
-len-contents_of l rising = len_by_tail l (rises_far l rising)
+len-contents_of l rising = len-apart l (apart_far l (rises_far l rising))
 
 -- and a short one has a map whose count fits
 pub len_fits : (l : List Listed) → IsRising l → length l < 2 ^ 32 → map.len (contents_of l) < 2 ^ 32
 len_fits l rising short = omega (arith, len-contents_of l rising)
+
+-- of few slots too
+pub few_entries : (used : ℕ) (slots : List Slot) → AreApart (entries_of used slots) → used < 2 ^ 32
+    → map.len (contents_of (entries_of used slots)) < 2 ^ 32
+few_entries used slots apart few = omega (arith, len-apart (entries_of used slots) apart, length-map (take used slots) listed_of, length-take used slots)

@@ -2,19 +2,24 @@
 
 use crate::calls::answers::{none, number};
 use std::alloc::{AllocError, Global};
-use tagmem::{ListStore, PageStore, TaggedStore};
+use tagmem::{LentStore, ListStore, PageStore, Slot, TaggedStore};
 
 // How many granules there are.
 const GRANULES: u64 = 1 << 60;
 
-/// The answers of calls on a list without granules, where pages give the same.
+// How many slots are lent, more than any of the calls need.
+const SLOTS: usize = 2048;
+
+/// The answers of calls on a list without granules, where pages and lent slots give the same.
 pub fn stores_answer(alloc: Global, calls: &[&[u8]]) -> Result<String, AllocError> {
     let list = answers_of(alloc, &mut ListStore::new(alloc), calls)?;
     let pages = answers_of(alloc, &mut PageStore::new(alloc), calls)?;
-    if list.as_bytes() == pages.as_bytes() {
+    let mut slots = vec![in alloc; Slot::EMPTY; SLOTS]?;
+    let lent = answers_of(alloc, &mut LentStore::new(&mut slots), calls)?;
+    if list.as_bytes() == pages.as_bytes() && list.as_bytes() == lent.as_bytes() {
         Ok(list)
     } else {
-        format!(in alloc; "{list}, and pages: {pages}")
+        format!(in alloc; "{list}, and pages: {pages}, and slots: {lent}")
     }
 }
 

@@ -1,0 +1,304 @@
+//! A store in memory that is lent to it.
+ghost use Rattle.std.specs.Prelude.{◌≡◌, ℕ, ◌^◌, ◌<◌, ◌+◌, ◌≤◌, length, take, None, IsErr, ◌↔◌, OnOk, OnErr, IfOk, IfErr, IfSome};
+ghost use Rattle.std.specs.FinMap as map;
+ghost use Rattle.std.specs.Int.{bit_at};
+ghost use Rattle.tagmem.specs.Granules.{with_bytes, with_cap, with_write, HasRoom, IsCodeFor, IsStored};
+ghost use Rattle.tagmem.specs.Lent.{AreRuns, IsGapIn, IsLesser, IsNextIn, IsUnused, entries_of, listed_of, run_end};
+ghost use Rattle.tagmem.specs.Listed.{IsEntryAt, contents_of, entry_of};
+ghost use Rattle.tagmem.specs.ListLaws.{AreStored-contents_of, few_entries};
+
+use crate::overwriting::overwrite;
+use crate::store::{NoMemory, TaggedStore};
+
+/// Memory for one granule, that is lent to a `LentStore`: 32 bytes.
+#[derive(Clone, Copy)]
+pub struct Slot {
+    granule: u64,
+    // 0 just where it has no tag.
+    code: u64,
+    bytes: [u8; 16],
+}
+
+impl Slot {
+    /// A slot of which nothing was kept yet. It doesn't matter what slots hold when they are lent.
+    pub const EMPTY: Slot = Slot {
+        granule: 0,
+        code: 0,
+        bytes: [0; 16],
+    };
+}
+
+/// A store that keeps its entries in slots that are lent to it, and takes no memory: a granule that is put for the first
+/// time gets `NoMemory` exactly where all slots are in use.
+///
+/// They stand in runs, each of them sorted: one of 2^k slots for each bit k of their number. A new one is sorted together
+/// with the runs that its carry joins. So a granule is found by a search in each run, and a put moves, over all, each slot
+/// as many times as the number of slots has bits, whatever the order in which granules come.
+#[derive(Drop)]
+pub struct LentStore<'a> {
+    slots: &'a mut [Slot],
+    used: usize,
+    ghost fits: { used ≤ length slots.now },
+    ghost counted: { used < 2 ^ 32 },
+    ghost runs: { AreRuns (entries_of used slots.now) },
+}
+
+impl<'a> LentStore<'a> {
+    ghost use Rattle.tagmem.specs.LentStores.{capacity_of, in_use};
+
+    /// An empty store over slots.
+    pub fn new(slots: &'a mut [Slot]) -> LentStore<'a>
+        ensures empty { ⟦<LentStore<'a> as TaggedStore>⟧.contents result ≡ map.empty }
+        ensures capacity { capacity_of result ≡ length slots.old }
+    {
+        LentStore { slots, used: 0 }
+    }
+
+    // Where a granule stands in the run of a bit of the number of slots in use, or where it would.
+    fn search(&self, bit: u32, granule: u64) -> Result<usize, usize>
+        requires few { bit < 32 }
+        ensures found { IfOk result (IsEntryAt (in_use self.now) granule) }
+        ensures absent { IfErr result (IsGapIn (in_use self.now) (run_end self.now.used (bit + 1)) (run_end self.now.used bit) granule) }
+    {
+        let (start, end) = run(self.used, bit);
+        match self.slots[start..end].binary_search_by_key(&granule, |slot| slot.granule) {
+            Ok(index) => Ok(start + index),
+            Err(index) => Err(start + index),
+        }
+    }
+
+    // The index of a granule's slot. The run of the greatest bit, which has half of the slots or more, comes first.
+    fn index_of(&self, granule: u64) -> Option<usize>
+        ensures found { IfSome result (IsEntryAt (in_use self.now) granule) }
+        ensures absent { result ≡ None → IsUnused (in_use self.now) granule }
+    {
+        let mut bit = 32;
+        while bit > 0 {
+            bit -= 1;
+            if let Ok(index) = self.search(bit, granule) {
+                return Some(index);
+            }
+        }
+        None
+    }
+
+    // The least granule at or above a number in the run of a bit.
+    fn next_in_run(&self, bit: u32, granule: u64) -> Option<u64>
+        requires few { bit < 32 }
+        ensures least { IsNextIn (in_use self.now) (run_end self.now.used (bit + 1)) (run_end self.now.used bit) granule result }
+    {
+        match self.search(bit, granule) {
+            Ok(_) => Some(granule),
+            Err(index) => {
+                if index == run(self.used, bit).1 {
+                    None
+                } else {
+                    Some(self.slots[index].granule)
+                }
+            }
+        }
+    }
+
+    // Puts a slot at the index of its granule's own.
+    fn replace(&mut self, index: usize, slot: Slot)
+        requires stored { IsStored slot.granule (entry_of (listed_of slot)) }
+        requires found { IsEntryAt (in_use self.old) slot.granule index }
+        ensures capacity { capacity_of self.new ≡ capacity_of self.old }
+        ensures contents { contents_of (in_use self.new)
+            ≡ map.insert (contents_of (in_use self.old)) slot.granule (entry_of (listed_of slot)) }
+    {
+        self.slots[index] = slot;
+    }
+
+    // Puts a slot of a granule that has none behind the others, and sorts the run that ends there now.
+    fn add(&mut self, slot: Slot) -> Result<(), NoMemory>
+        requires stored { IsStored slot.granule (entry_of (listed_of slot)) }
+        requires absent { IsUnused (in_use self.old) slot.granule }
+        requires room { self.old.used < 4294967295 }
+        ensures capacity { capacity_of self.new ≡ capacity_of self.old }
+        ensures ok { OnOk result (contents_of (in_use self.new)
+            ≡ map.insert (contents_of (in_use self.old)) slot.granule (entry_of (listed_of slot))) }
+        ensures err { OnErr result (in_use self.new ≡ in_use self.old) }
+        ensures full { IsErr result ↔ (length (in_use self.old) ≡ capacity_of self.old) }
+    {
+        if self.used == self.slots.len() {
+            return Err(NoMemory);
+        }
+        append(self.slots, self.used, slot);
+        self.used += 1;
+        Ok(())
+    }
+
+    // Writes bytes inside a granule from a byte index on, over zeros where it was never put, and sets
+    // its code.
+    fn put(
+        &mut self,
+        granule: u64,
+        tag: bool,
+        byte_index: u8,
+        bytes: &[u8],
+        code: u64,
+    ) -> Result<(), NoMemory>
+        requires in_memory { granule < 2 ^ 60 }
+        requires coded { IsCodeFor tag code }
+        requires inside { byte_index + length bytes.now ≤ 16 }
+        requires room { HasRoom (contents_of (in_use self.old)) granule }
+        ensures capacity { capacity_of self.new ≡ capacity_of self.old }
+        ensures ok { OnOk result (contents_of (in_use self.new)
+            ≡ with_write (contents_of (in_use self.old)) granule tag byte_index bytes.now code) }
+        ensures err { OnErr result (in_use self.new ≡ in_use self.old) }
+        ensures only_new { OnErr result (map.get (contents_of (in_use self.old)) granule ≡ None) }
+        ensures full { IsErr result ↔ ((map.get (contents_of (in_use self.old)) granule ≡ None)
+            × (map.len (contents_of (in_use self.old)) ≡ capacity_of self.old)) }
+    {
+        match self.index_of(granule) {
+            Some(index) => {
+                let mut written = self.slots[index].bytes;
+                overwrite(&mut written, byte_index, bytes);
+                let slot = Slot {
+                    granule,
+                    code,
+                    bytes: written,
+                };
+                self.replace(index, slot);
+                Ok(())
+            }
+            None => {
+                let mut written = [0; 16];
+                overwrite(&mut written, byte_index, bytes);
+                let slot = Slot {
+                    granule,
+                    code,
+                    bytes: written,
+                };
+                self.add(slot)
+            }
+        }
+    }
+}
+
+impl<'a> TaggedStore for LentStore<'a> {
+    ghost use Rattle.tagmem.specs.LentStores.{capacity_of, in_use};
+
+    ghost contents = { λ s. contents_of (in_use s) };
+
+    ghost are_stored = { λ s. AreStored-contents_of (in_use s) s.runs.stored };
+
+    ghost count_fits = { λ s. few_entries s.used s.slots.now s.runs.apart s.counted };
+
+    fn get(&self, granule: u64) -> Option<(bool, [u8; 16])> {
+        match self.index_of(granule) {
+            Some(index) => {
+                let slot = self.slots[index];
+                let bytes = slot.bytes;
+                Some((slot.code != 0, bytes))
+            }
+            None => None,
+        }
+    }
+
+    fn code(&self, granule: u64) -> u64 {
+        match self.index_of(granule) {
+            Some(index) => self.slots[index].code,
+            None => 0,
+        }
+    }
+
+    fn next_put(&self, granule: u64) -> Option<u64> {
+        let mut least = None;
+        let mut bit = 32;
+        while bit > 0 {
+            bit -= 1;
+            least = lesser(least, self.next_in_run(bit, granule));
+        }
+        least
+    }
+
+    fn put_cap(
+        &mut self,
+        granule: u64,
+        tag: bool,
+        bytes: [u8; 16],
+        code: u64,
+    ) -> Result<(), NoMemory>
+        requires in_memory { granule < 2 ^ 60 }
+        requires coded { IsCodeFor tag code }
+        requires room { HasRoom (contents_of (in_use self.old)) granule }
+        ensures ok { OnOk result (contents_of (in_use self.new) ≡ with_cap (contents_of (in_use self.old)) granule tag bytes code) }
+        ensures err { OnErr result (contents_of (in_use self.new) ≡ contents_of (in_use self.old)) }
+        ensures only_new { OnErr result (map.get (contents_of (in_use self.old)) granule ≡ None) }
+        ensures full { IsErr result ↔ ((map.get (contents_of (in_use self.old)) granule ≡ None)
+            × (map.len (contents_of (in_use self.old)) ≡ capacity_of self.old)) }
+        ensures capacity { capacity_of self.new ≡ capacity_of self.old }
+    {
+        self.put(granule, tag, 0, &bytes, code)
+    }
+
+    fn put_bytes(&mut self, granule: u64, byte_index: u8, bytes: &[u8]) -> Result<(), NoMemory>
+        requires in_memory { granule < 2 ^ 60 }
+        requires some { 0 < length bytes.now }
+        requires inside { byte_index + length bytes.now ≤ 16 }
+        requires room { HasRoom (contents_of (in_use self.old)) granule }
+        ensures ok { OnOk result (contents_of (in_use self.new) ≡ with_bytes (contents_of (in_use self.old)) granule byte_index bytes.now) }
+        ensures err { OnErr result (contents_of (in_use self.new) ≡ contents_of (in_use self.old)) }
+        ensures only_new { OnErr result (map.get (contents_of (in_use self.old)) granule ≡ None) }
+        ensures full { IsErr result ↔ ((map.get (contents_of (in_use self.old)) granule ≡ None)
+            × (map.len (contents_of (in_use self.old)) ≡ capacity_of self.old)) }
+        ensures capacity { capacity_of self.new ≡ capacity_of self.old }
+    {
+        self.put(granule, false, byte_index, bytes, 0)
+    }
+
+    fn count(&self) -> u32 {
+        self.used as u32
+    }
+}
+
+// Puts a slot of a granule that has none behind those in use, and sorts the run that ends there now.
+fn append(slots: &mut [Slot], used: usize, slot: Slot)
+    requires free { used < length slots.old }
+    requires few { used < 4294967295 }
+    requires runs { AreRuns (entries_of used slots.old) }
+    requires absent { IsUnused (entries_of used slots.old) slot.granule }
+    requires stored { IsStored slot.granule (entry_of (listed_of slot)) }
+    ensures len { length slots.new ≡ length slots.old }
+    ensures runs { AreRuns (entries_of (used + 1) slots.new) }
+    ensures contents { contents_of (entries_of (used + 1) slots.new)
+        ≡ map.insert (contents_of (entries_of used slots.old)) slot.granule (entry_of (listed_of slot)) }
+{
+    slots[used] = slot;
+    let (start, end) = run(used + 1, lowest_bit(used + 1));
+    slots[start..end].sort_unstable_by_key(|slot| slot.granule);
+}
+
+// The lowest bit of a number that is set.
+fn lowest_bit(number: usize) -> u32
+    requires some { 0 < number }
+    requires fits { number < 2 ^ 63 }
+    ensures unset { (bit : ℕ) → bit < result → bit_at number bit ≡ 0 }
+    ensures is_set { bit_at number result ≡ 1 }
+    ensures few { result < 63 }
+{
+    number.trailing_zeros()
+}
+
+// Where the run of a bit of a number begins, and where it ends.
+fn run(number: usize, bit: u32) -> (usize, usize)
+    requires few { bit < 63 }
+    ensures from { result.0 ≡ run_end number (bit + 1) }
+    ensures to { result.1 ≡ run_end number bit }
+    ensures ordered { result.0 ≤ result.1 }
+    ensures inside { result.1 ≤ number }
+{
+    (number >> (bit + 1) << (bit + 1), number >> bit << bit)
+}
+
+// The lesser of two numbers that may be missing.
+fn lesser(one: Option<u64>, other: Option<u64>) -> Option<u64>
+    ensures { IsLesser one other result }
+{
+    match (one, other) {
+        (Some(a), Some(b)) => Some(a.min(b)),
+        (None, found) | (found, None) => found,
+    }
+}
