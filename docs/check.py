@@ -41,6 +41,9 @@ ELSEWHERE = {
     "sh web/test.sh": "by hand, in a browser",
     "python3 bench/speed.py": "by hand: it measures",
     "sh bench/million.sh moves 10000000 | crates/capcheck/out/capcheck judge": "by hand: it measures",
+    "sh examples/allocator/measure.sh glibc": "by hand: it measures",
+    "sh examples/allocator/measure.sh jemalloc /usr/lib/x86_64-linux-gnu/libjemalloc.so.2": "by hand: it measures",
+    "sh examples/allocator/measure.sh mimalloc /usr/lib/x86_64-linux-gnu/libmimalloc.so.2.0": "by hand: it measures",
 }
 COMMAND = re.compile(r"(\$|cc|sh|bash|cd|rt|python3|capcheck|capdiag|make|cat|git) ")
 

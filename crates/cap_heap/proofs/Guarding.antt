@@ -29,20 +29,24 @@ module _ (heap : Interval) (objects : Objects) (ends : heap.top ≤ 2 ^ 64) (req
   guards known = (
     word_for objects,
     record {
-      fits = λ at length is. subst (λ (word : ℕ). word < 2 ^ 128) (sym (word_is at length is)) (narrow at length is);
-      sound = λ at length is. subst IsSound (sym (word_is at length is)) (sound at length is);
-      contains = λ at length is. (
-        omega (arith, base at length is, rounded_base-le at length),
-        omega (arith, top at length is, rounded_top-ge at length),
+      inside = λ at size is. (
+        omega (arith, base at size is, (known.inside at size is).0),
+        omega (arith, top at size is, (known.inside at size is).1),
       );
-      inside = λ at length is. (
-        omega (arith, base at length is, (known.inside at length is).0),
-        omega (arith, top at length is, (known.inside at length is).1),
+      apart = λ at other size length is differ shares. known.apart at other size length is differ (
+        shares.0,
+        shares.1,
+        omega (arith, base at size is, shares.2),
+        omega (arith, top at size is, shares.3),
+        omega (arith, base other length shares.0, shares.4),
+        omega (arith, top other length shares.0, shares.5),
       );
-      apart = λ at other length size address is is2 differ c d.
-          known.apart at other length size is is2 differ address (omega (arith, base at length is, c.0), omega (arith, top at length is, c.1))
-          (omega (arith, base other size is2, d.0), omega (arith, top other size is2, d.1));
     },
+    λ at size is. (
+      subst (λ (word : ℕ). word < 2 ^ 128) (sym (word_is at size is)) (narrow at size is),
+      subst IsSound (sym (word_is at size is)) (sound at size is),
+      (omega (arith, base at size is, rounded_base-le at size), omega (arith, top at size is, rounded_top-ge at size)),
+    ),
   )
     where
       within : (at length : ℕ) → objects at ≡ Some length → at + length ≤ 2 ^ 64
@@ -66,17 +70,21 @@ module _ (heap : Interval) (objects : Objects) (ends : heap.top ≤ 2 ^ 64) (req
 
   -- least rounding: any sound words that guard have bounds around the rounded ones
   pub guarded : CanBeGuarded heap objects → IsApart heap objects
-  guarded (word, g) = record {
-    inside = λ at length is. (
-      omega (arith, (around at length is).0, (g.inside at length is).0),
-      omega (arith, (around at length is).1, (g.inside at length is).1),
+  guarded (word, g, fits) = record {
+    inside = λ at size is. (
+      omega (arith, (around at size is).0, (g.inside at size is).0),
+      omega (arith, (around at size is).1, (g.inside at size is).1),
     );
-    apart = λ at other length size is is2 differ address c d.
-        g.apart at other length size address is is2 differ
-        (omega (arith, (around at length is).0, c.0), omega (arith, (around at length is).1, c.1))
-        (omega (arith, (around other size is2).0, d.0), omega (arith, (around other size is2).1, d.1));
+    apart = λ at other size length is differ shares. g.apart at other size length is differ (
+      shares.0,
+      shares.1,
+      omega (arith, (around at size is).0, shares.2),
+      omega (arith, (around at size is).1, shares.3),
+      omega (arith, (around other length shares.0).0, shares.4),
+      omega (arith, (around other length shares.0).1, shares.5),
+    );
   }
     where
       around : (at length : ℕ) → objects at ≡ Some length
           → IsInside (rounded_base at length) (rounded_top at length) (base_of (word at)) (top_of (word at))
-      around at length is = IsInside-rounded (word at) at length (requests at length is).1 (g.sound at length is) (g.contains at length is)
+      around at length is = IsInside-rounded (word at) at length (requests at length is).1 (fits at length is).1 (fits at length is).2

@@ -1,5 +1,5 @@
 -- Where a judge is, and what it may answer there.
-use Rattle.std.proofs.Common.{◌≡◌, ◌≢◌, ℕ, ◌+◌, ◌≤◌, inl, inr, Bool, true, List, [], ◌∷◌, ◌++◌, length, take, refl, sym, ap}
+use Rattle.std.proofs.Common.{◌≡◌, ◌≢◌, ℕ, ◌+◌, ◌^◌, ◌≤◌, inl, inr, Bool, true, List, [], ◌∷◌, ◌++◌, length, take, refl, sym, ap}
 use Rattle.std.proofs.Common.{subst, ◌∙◌, append-nil, append_assoc, arith, Result, Ok, Err}
 use Rattle.std.proofs.lemmas.Grind.{flat_map-append}
 use Rattle.std.proofs.lemmas.List.Elements.{All-nil}
@@ -25,13 +25,14 @@ use Rattle.cap_heap.specs.declared.verdict.HeapVerdict.TheVariants.{No, Yes}
 use Rattle.cap_heap.specs.declared.verdict.HeapFault.TheVariants.{Pull}
 use Rattle.cap_heap.specs.HeapLines.{IsInRange, spelling}
 use Rattle.cap_heap.specs.Heaps.{live_in}
-use Rattle.cap_heap.specs.HeapLogs.{Beginning, Nothing, Headed, Body, Whole, lines_of, text_of, IsAccepted, IsLogOf, Refuses, most_events}
-use Rattle.cap_heap.specs.HeapLogs.{body_lines, RefusesWhole}
-use Rattle.cap_heap.specs.Objects.{IsApart}
+use Rattle.cap_heap.specs.HeapLogs.{text_of}
+use Rattle.cap_heap.specs.Beginnings.{Beginning, Nothing, Headed, Body, Whole, lines_of, events_of, due_of, root_of, IsAccepted, RefusesWhole, RefusesBehind}
+use Rattle.cap_heap.specs.Beginnings.{body_lines}
 use Rattle.cap_heap.specs.Progresses.{StandsFor, Stays, TakesText, EndsText, IsAt, IsStopped, LacksMemory}
 use Rattle.cap_heap.specs.HeapVerdicts.{IsVerdictOf, Lasts, MayLackMemory, ReportsAfter}
 use Rattle.cap_heap.specs.HeapWhys.{IsFrontText}
 use Rattle.cap_heap.specs.Judgings.{JudgedBy, StopsAfter, answer_at, finished_in, refused_in}
+use Rattle.cap_heap.proofs.BeginningLemmas.{begins, fault_of, is_log}
 use Rattle.cap_heap.proofs.Optimal.{optimal}
 
 pub accepted : (progress : Progress) (beginning : Beginning) → StandsFor progress beginning → IsAccepted beginning
@@ -41,14 +42,14 @@ accepted progress (Body root events) stands = stands.1.runs
 accepted progress (Whole root events) stands = stands.1.runs
 
 -- a log has few lines
-few_lines : (progress : Progress) (beginning : Beginning) → StandsFor progress beginning → length (lines_of beginning) ≤ most_events + 3
+few_lines : (progress : Progress) (beginning : Beginning) → StandsFor progress beginning → length (lines_of beginning) ≤ 2 ^ 32 + 3
 few_lines progress Nothing stands = omega arith
 few_lines progress Headed stands = omega arith
 few_lines progress (Body root events) stands = omega (arith, stands.1.runs.few, length-map events Happens)
 few_lines progress (Whole root events) stands =
     omega (arith, stands.1.runs.few, length-map events Happens, length_push (body_lines root events) (End (length events)))
 
-pub few : (bytes : List ℕ) (progress : Progress) (rest : List ℕ) (line : ℕ) → IsAt bytes progress rest line → line ≤ most_events + 4
+pub few : (bytes : List ℕ) (progress : Progress) (rest : List ℕ) (line : ℕ) → IsAt bytes progress rest line → line ≤ 2 ^ 32 + 4
 few bytes progress rest line at = omega (arith, at.line_is, few_lines progress at.beginning at.stands)
 
 -- nothing was read
@@ -127,7 +128,7 @@ shown_as : (progress : Progress) (line : ℕ) (refusal : HeapRefusal) (stage : S
 shown_as progress line refusal stage is = ap (λ (s : Stage). refused_in s line refusal) is
 
 refuses_cut : (progress : Progress) (line : ℕ) (rest : List ℕ) (beginning : Beginning) → StandsFor progress beginning → IsCut rest → rest ≢ []
-    → RefusedAt progress line refusals.Truncated (Refuses beginning rest)
+    → RefusedAt progress line refusals.Truncated (RefusesBehind beginning rest)
 refuses_cut progress line rest Nothing stands cut some =
     (refusals.Truncated, shown_as progress line refusals.Truncated _ stands, inr (inl (cut, refl)))
 refuses_cut progress line rest Headed stands cut some =
@@ -138,7 +139,7 @@ refuses_cut progress line rest (Whole root events) stands cut some =
     (refusals.Misplaced, shown_as progress line refusals.Truncated _ stands.0, (some, refl))
 
 refuses_long : (progress : Progress) (line : ℕ) (rest : List ℕ) (beginning : Beginning) → StandsFor progress beginning → IsTooLong rest
-    → RefusedAt progress line refusals.LineTooLong (λ shown. (more : List ℕ) → Refuses beginning (rest ++ more) shown)
+    → RefusedAt progress line refusals.LineTooLong (λ shown. (more : List ℕ) → RefusesBehind beginning (rest ++ more) shown)
 refuses_long progress line rest Nothing stands long =
     (refusals.LineTooLong, shown_as progress line refusals.LineTooLong _ stands, λ more. inl (IsTooLong-more rest more long, refl))
 refuses_long progress line rest Headed stands long =
@@ -153,7 +154,7 @@ refuses_long progress line rest (Whole root events) stands long = (
 
 -- a whole line that is refused is so whatever follows it
 refuses_line : (beginning : Beginning) (rest text left : List ℕ) (refusal : HeapRefusal) → IsLine rest text left
-    → RefusesWhole beginning text refusal → (more : List ℕ) → Refuses beginning (rest ++ more) refusal
+    → RefusesWhole beginning text refusal → (more : List ℕ) → RefusesBehind beginning (rest ++ more) refusal
 refuses_line Nothing rest text left refusal whole refuses more =
     inr (inr (text, left ++ more, IsLine-more rest text left more whole, refuses))
 refuses_line Headed rest text left refusal whole refuses more =
@@ -177,10 +178,11 @@ lacks progress given rest text left (Body root events) stands (line, spells, (ad
   address = address;
   size = size;
   more = left;
+  before = body_lines root events;
+  log = is_log root events stands.1.runs;
   bytes_are = bytes
       ∙ ap (λ (r : List ℕ). text_of (body_lines root events) ++ r)
       (whole.whole ∙ ap (λ (t : List ℕ). t ++ 10 ∷ left) (spells.1 ∙ ap spelling is));
-  runs = stands.1.runs;
   range = subst IsInRange is spells.0;
   few = few;
   room = room;
@@ -224,10 +226,13 @@ module _ {S : Type 0} {gave : S → S → List ℕ → Type 0} {ended : S → Bo
         verdict = tt;
         optimal = tt;
         fault = record {
-          beginning = p.at.beginning;
+          root = root_of p.at.beginning;
+          events = events_of p.at.beginning;
+          before = lines_of p.at.beginning;
+          due = due_of p.at.beginning;
           rest = p.rest;
+          log = begins p.at.beginning (accepted progress p.at.beginning p.at.stands);
           bytes_are = p.at.bytes_are;
-          accepted = accepted progress p.at.beginning p.at.stands;
           cut = p.next.0;
         };
       };
@@ -240,32 +245,30 @@ module _ {S : Type 0} {gave : S → S → List ℕ → Type 0} {ended : S → Bo
   refused_met : {shown : Result Next PullFault} (p : Stands gave ended old new progress line lines shown) (after : Progress)
       (refusal : HeapRefusal) (text rest : List ℕ) (beginning : Beginning) → StandsFor progress beginning → StandsFor after beginning
       → p.given ≡ text_of (lines_of beginning) ++ rest → line ≡ length (lines_of beginning) + 1
-      → ((more : List ℕ) → (ended new ≡ true → more ≡ []) → Refuses beginning (rest ++ more) refusal × IsFrontText (rest ++ more) text)
+      → ((more : List ℕ) → (ended new ≡ true → more ≡ []) → RefusesBehind beginning (rest ++ more) refusal × IsFrontText (rest ++ more) text)
       → JudgedBy gave ended old new (Ok (No line refusal)) after text
   refused_met p after refusal text rest beginning stands stands_after bytes number all =
       let stops : Lasts p.given (ended new) (λ whole. IsStopped whole after text line refusal) = λ more none. record {
-        fault = record {
-          beginning = beginning;
-          rest = rest ++ more;
-          bytes_are = ap (λ (l : List ℕ). l ++ more) bytes ∙ append_assoc (text_of (lines_of beginning)) rest more;
-          accepted = accepted progress beginning stands;
-          number_is = number;
-          refused = (all more none).0;
-        };
+        beginning = beginning;
+        rest = rest ++ more;
+        bytes_are = ap (λ (l : List ℕ). l ++ more) bytes ∙ append_assoc (text_of (lines_of beginning)) rest more;
+        accepted = accepted progress beginning stands;
+        number_is = number;
+        refused = (all more none).0;
         stands = stands_after;
         front = (all more none).1;
       } in
-      answered (No line refusal) p after text tt stops (λ more none. (stops more none).fault)
+      answered (No line refusal) p after text tt stops (λ more none. fault_of (stops more none))
 
   -- the bytes end at a line's start
   module _ (p : Stands gave ended old new progress line lines (Ok Finished)) where
     ends_here : (beginning : Beginning) → StandsFor progress beginning → p.given ≡ text_of (lines_of beginning) ++ []
-        → line ≡ length (lines_of beginning) + 1 → ((rest : List ℕ) → IsCut rest → Refuses beginning rest refusals.Truncated)
+        → line ≡ length (lines_of beginning) + 1 → ((rest : List ℕ) → IsCut rest → RefusesBehind beginning rest refusals.Truncated)
         → JudgedBy gave ended old new (Ok (No line refusals.Truncated)) progress []
     ends_here beginning stands bytes number refuses =
         refused_met p progress refusals.Truncated [] [] beginning stands stands bytes number
         (λ more none. let is = none p.next.1 in (
-          with_none (λ (b : List ℕ). Refuses beginning b refusals.Truncated) [] more is (refuses [] no_bytes),
+          with_none (λ (b : List ℕ). RefusesBehind beginning b refusals.Truncated) [] more is (refuses [] no_bytes),
           with_none (λ (b : List ℕ). IsFrontText b []) [] more is (inr (inl (no_bytes, refl))),
         ))
 
@@ -282,16 +285,12 @@ module _ {S : Type 0} {gave : S → S → List ℕ → Type 0} {ended : S → Bo
         subst (λ (stage : Stage). JudgedBy gave ended old new (Ok (finished_in stage progress.events (live_in progress.heap) line)) progress [])
         (sym stands.0) (ends_here (Body root events) stands bytes number (λ rest cut. inr (inl (cut, refl))))
     finish (Whole root events) stands bytes number =
-        let log : IsLogOf IsApart p.given root events = record {
-          bytes_are = bytes ∙ append-nil (text_of (lines_of (Whole root events)));
-          runs = stands.1.runs;
-        } in
+        let bytes_are : p.given ≡ text_of (lines_of (Whole root events)) = bytes ∙ append-nil (text_of (lines_of (Whole root events))) in
+        let log = is_log root events stands.1.runs in
         subst (λ (stage : Stage). JudgedBy gave ended old new (Ok (finished_in stage progress.events (live_in progress.heap) line)) progress [])
         (sym stands.0)
-        (answered (Yes progress.events (live_in progress.heap)) p progress [] (root, events, log, stands.1.report_is) tt (
-          p.next.1,
-          record { root = root; events = events; log = log; count_is = stands.1.count_is; live_is = stands.1.live_is },
-        ))
+        (answered (Yes progress.events (live_in progress.heap)) p progress [] (lines_of (Whole root events), root, events, bytes_are, log, stands.1.report_is) tt
+        (p.next.1, lines_of (Whole root events), root, events, bytes_are, log, stands.1.count_is, stands.1.live_is))
 
     pub at_finish : JudgedBy gave ended old new (Ok (finished_in progress.stage progress.events (live_in progress.heap) line)) progress []
     at_finish = finish p.at.beginning p.at.stands
@@ -306,7 +305,7 @@ module _ {S : Type 0} {gave : S → S → List ℕ → Type 0} {ended : S → Bo
       subst (λ (verdict : HeapVerdict). JudgedBy gave ended old new (Ok verdict) progress (take 96 (kept lines))) (sym here.1)
       (refused_met p progress here.0 (take 96 (kept lines)) p.rest p.at.beginning p.at.stands p.at.stands p.at.bytes_are p.at.line_is
       (λ more none. let is = none p.next.2 in (
-        with_none (λ (b : List ℕ). Refuses p.at.beginning b here.0) p.rest more is here.2,
+        with_none (λ (b : List ℕ). RefusesBehind p.at.beginning b here.0) p.rest more is here.2,
         subst (λ (t : List ℕ). IsFrontText (p.rest ++ more) (take 96 t)) (sym left) (cut_text p.rest more p.next.0 is),
       )))
 

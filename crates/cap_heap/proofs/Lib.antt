@@ -1,3 +1,4 @@
+mod BeginningLemmas
 mod Guarded
 mod Guarding
 mod JudgeLemmas

@@ -6,10 +6,10 @@ use Rattle.std.specs.Prelude.{◌≢◌, IfSome, MatchOption}
 use Rattle.cap_bounds.specs.declared.decoding.Interval.{Interval}
 use Rattle.cap_bounds.specs.Rounding.{rounded_base, rounded_top}
 use Rattle.cap_bounds.proofs.Roundings.{rounded_base-le, rounded_top-ge}
-use Rattle.cap_heap.specs.Objects.{IsApart, Covers, AreApart}
-use Rattle.cap_heap.specs.Events.{Shares}
+use Rattle.cap_heap.specs.Objects.{IsApart, Shares, Covers, LieApart}
 use Rattle.cap_heap.specs.Kept.{length_from}
 use Rattle.cap_heap.specs.Neighbours.{IsLastUpTo, IsFirstFrom}
+use Rattle.cap_heap.proofs.Objects.{apart_of}
 use Rattle.cap_heap.proofs.Rounded.{empty-apart, covers-own, length_from-long}
 
 module _ (heap : Interval) (lengths : ℕ → Option ℕ) (empty : ℕ → Bool) (known : IsApart heap (λ at. length_from (lengths at) (empty at)))
@@ -21,14 +21,14 @@ module _ (heap : Interval) (lengths : ℕ → Option ℕ) (empty : ℕ → Bool)
   same_size one two size size2 same is is2 = same_Some size size2 (sym is ∙ ap lengths same ∙ is2)
 
   pub none-below : IsLastUpTo lengths at None → (other size : ℕ) → other < at → length_from (lengths other) (empty other) ≡ Some size
-      → AreApart at length other size
+      → LieApart at length other size
   none-below none other size below is = elim (cases_lt 0 size) [
     | inl more ↦ absurd (none-some size (sym (none other (omega (arith, below))) ∙ length_from-long (lengths other) (empty other) size is more))
     | inr zero ↦ empty-apart at length other size (omega arith)
   ]
 
   pub none-above : IsFirstFrom lengths at None → (other size : ℕ) → at ≤ other → length_from (lengths other) (empty other) ≡ Some size
-      → AreApart at length other size
+      → LieApart at length other size
   none-above none other size from is = elim (cases_lt 0 size) [
     | inl more ↦ absurd (none-some size (sym (none other from) ∙ length_from-long (lengths other) (empty other) size is more))
     | inr zero ↦ empty-apart at length other size (omega arith)
@@ -37,11 +37,11 @@ module _ (heap : Interval) (lengths : ℕ → Option ℕ) (empty : ℕ → Bool)
   module _ (near near_size : ℕ) (here : lengths near ≡ Some near_size) where
     apart-near : (other size : ℕ) → lengths other ≡ Some size → other ≢ near → Covers other size near → ⊥
     apart-near other size is differs covers =
-        known.apart other near size near_size (lives other size is) (lives near near_size here) differs near covers
-        (covers-own near near_size (long near near_size here))
+        apart_of heap (λ a. length_from (lengths a) (empty a)) known other near size near_size (lives other size is) (lives near near_size here)
+        differs near covers (covers-own near near_size (long near near_size here))
 
     pub apart-below : IsLastUpTo lengths at (Some (near, near_size)) → rounded_top near near_size ≤ rounded_base at length
-        → (other size : ℕ) → other < at → length_from (lengths other) (empty other) ≡ Some size → AreApart at length other size
+        → (other size : ℕ) → other < at → length_from (lengths other) (empty other) ≡ Some size → LieApart at length other size
     apart-below last clear other size below is = elim (cases_lt 0 size) [
       | inr zero ↦ empty-apart at length other size (omega arith)
       | inl more ↦
@@ -58,7 +58,7 @@ module _ (heap : Interval) (lengths : ℕ → Option ℕ) (empty : ℕ → Bool)
     ]
 
     pub apart-above : IsFirstFrom lengths at (Some (near, near_size)) → rounded_top at length ≤ rounded_base near near_size
-        → (other size : ℕ) → at ≤ other → length_from (lengths other) (empty other) ≡ Some size → AreApart at length other size
+        → (other size : ℕ) → at ≤ other → length_from (lengths other) (empty other) ≡ Some size → LieApart at length other size
     apart-above first clear other size from is = elim (cases_lt 0 size) [
       | inr zero ↦ empty-apart at length other size (omega arith)
       | inl more ↦
@@ -78,66 +78,62 @@ module _ (heap : Interval) (lengths : ℕ → Option ℕ) (empty : ℕ → Bool)
 
     -- a neighbour whose bounds reach those of the request shares an address with it
     shares-below : near ≤ at → rounded_base at length < rounded_top near near_size
-        → Shares (λ a. length_from (lengths a) (empty a)) at length near near_size
+        → Shares rounded_base rounded_top (λ a. length_from (lengths a) (empty a)) at length near near_size
     shares-below below reach = elim (cases_lt (rounded_base at length) (rounded_base near near_size)) [
       | inl lower ↦ (
         lives near near_size here,
         near,
-        (
-          omega (arith, rounded_base-le near near_size),
-          omega (arith, rounded_top-ge at length),
-        ),
-        covers-own near near_size (long near near_size here),
+        omega (arith, rounded_base-le near near_size),
+        omega (arith, rounded_top-ge at length),
+        (covers-own near near_size (long near near_size here)).0,
+        (covers-own near near_size (long near near_size here)).1,
       )
       | inr higher ↦ (
         lives near near_size here,
         rounded_base at length,
-        (
-          omega arith,
-          omega (arith, rounded_base-le at length, rounded_top-ge at length),
-        ),
-        (higher, reach),
+        omega arith,
+        omega (arith, rounded_base-le at length, rounded_top-ge at length),
+        higher,
+        reach,
       )
     ]
 
     shares-above : at ≤ near → rounded_base near near_size < rounded_top at length
-        → Shares (λ a. length_from (lengths a) (empty a)) at length near near_size
+        → Shares rounded_base rounded_top (λ a. length_from (lengths a) (empty a)) at length near near_size
     shares-above above reach = elim (cases_lt (rounded_base near near_size) (rounded_base at length)) [
       | inl lower ↦ (
         lives near near_size here,
         at,
-        covers-own at length some,
-        (
-          omega (arith, rounded_base-le at length),
-          omega (arith, rounded_top-ge near near_size, long near near_size here),
-        ),
+        (covers-own at length some).0,
+        (covers-own at length some).1,
+        omega (arith, rounded_base-le at length),
+        omega (arith, rounded_top-ge near near_size, long near near_size here),
       )
       | inr higher ↦ (
         lives near near_size here,
         rounded_base near near_size,
-        (higher, reach),
-        (
-          omega arith,
-          omega (arith, rounded_base-le near near_size, rounded_top-ge near near_size, long near near_size here),
-        ),
+        higher,
+        reach,
+        omega arith,
+        omega (arith, rounded_base-le near near_size, rounded_top-ge near near_size, long near near_size here),
       )
     ]
 
   -- where neither neighbour's bounds reach those of the request, no object's do
   apart-under : (below : Option (ℕ × ℕ)) → IsLastUpTo lengths at below → IfSome below (λ entry. rounded_top entry.0 entry.1 ≤ rounded_base at length)
-      → (other size : ℕ) → other < at → length_from (lengths other) (empty other) ≡ Some size → AreApart at length other size
+      → (other size : ℕ) → other < at → length_from (lengths other) (empty other) ≡ Some size → LieApart at length other size
   apart-under None last clear = none-below last
   apart-under (Some entry) last clear = apart-below entry.0 entry.1 last.1 last clear
 
   apart-over : (above : Option (ℕ × ℕ)) → IsFirstFrom lengths at above → IfSome above (λ entry. rounded_top at length ≤ rounded_base entry.0 entry.1)
-      → (other size : ℕ) → at ≤ other → length_from (lengths other) (empty other) ≡ Some size → AreApart at length other size
+      → (other size : ℕ) → at ≤ other → length_from (lengths other) (empty other) ≡ Some size → LieApart at length other size
   apart-over None first clear = none-above first
   apart-over (Some entry) first clear = apart-above entry.0 entry.1 first.1 first clear
 
   apart-all : (below above : Option (ℕ × ℕ)) → IsLastUpTo lengths at below → IsFirstFrom lengths at above
       → IfSome below (λ entry. rounded_top entry.0 entry.1 ≤ rounded_base at length)
       → IfSome above (λ entry. rounded_top at length ≤ rounded_base entry.0 entry.1)
-      → (other size : ℕ) → length_from (lengths other) (empty other) ≡ Some size → AreApart at length other size
+      → (other size : ℕ) → length_from (lengths other) (empty other) ≡ Some size → LieApart at length other size
   apart-all below above last first clear clear2 other size is = elim (cases_lt other at) [
     | inl under ↦ apart-under below last clear other size under is
     | inr over ↦ apart-over above first clear2 other size over is
@@ -145,7 +141,7 @@ module _ (heap : Interval) (lengths : ℕ → Option ℕ) (empty : ℕ → Bool)
 
   -- a neighbour whose bounds reach those of the request shares an address with it
   pub shares-under : (entry : ℕ × ℕ) → IsLastUpTo lengths at (Some entry) → rounded_base at length < rounded_top entry.0 entry.1
-      → Shares (λ a. length_from (lengths a) (empty a)) at length entry.0 entry.1
+      → Shares rounded_base rounded_top (λ a. length_from (lengths a) (empty a)) at length entry.0 entry.1
   shares-under entry last reach = shares-below entry.0 entry.1 last.1 last.0 reach
 
   -- and where the one below does not, the one above tells
@@ -153,8 +149,8 @@ module _ (heap : Interval) (lengths : ℕ → Option ℕ) (empty : ℕ → Bool)
       → IfSome below (λ entry. rounded_top entry.0 entry.1 ≤ rounded_base at length)
       → MatchOption found (IfSome above (λ entry. rounded_top at length ≤ rounded_base entry.0 entry.1))
       (λ entry. (above ≡ Some entry) × (rounded_base entry.0 entry.1 < rounded_top at length))
-      → MatchOption found ((other size : ℕ) → length_from (lengths other) (empty other) ≡ Some size → AreApart at length other size)
-      (λ entry. Shares (λ a. length_from (lengths a) (empty a)) at length entry.0 entry.1)
+      → MatchOption found ((other size : ℕ) → length_from (lengths other) (empty other) ≡ Some size → LieApart at length other size)
+      (λ entry. Shares rounded_base rounded_top (λ a. length_from (lengths a) (empty a)) at length entry.0 entry.1)
   from-above below above None last first clear told = apart-all below above last first clear told
   from-above below above (Some entry) last first clear told =
       let here = subst (IsFirstFrom lengths at) told.0 first in shares-above entry.0 entry.1 here.1 here.0 told.1

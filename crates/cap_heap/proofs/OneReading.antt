@@ -1,8 +1,8 @@
 -- Bytes are not both a log and at fault in a line.
-use Rattle.std.proofs.Common.{◌≡◌, ◌≢◌, ℕ, ◌+◌, ◌≤◌, ◌⊎◌, Some, None, inl, inr, List, [], ◌∷◌, ◌++◌, length, map, take, refl, sym, ap, subst}
+use Rattle.std.proofs.Common.{◌≡◌, ◌≢◌, ℕ, ◌+◌, ◌-◌, ◌^◌, ◌<◌, ◌≤◌, ◌⊎◌, Some, None, inl, inr, List, [], ◌∷◌, ◌++◌, length, map, refl, sym, ap, subst}
 use Rattle.std.proofs.Common.{◌∙◌, append-nil, append_assoc, arith, codes, decimal, true, not, eqb, Option, IsSome}
 use Rattle.std.specs.List.{AllByRecursion}
-use Rattle.std.proofs.lemmas.List.{length-append, length_push, take_at}
+use Rattle.std.proofs.lemmas.List.{length-append}
 use Rattle.std.proofs.lemmas.List.Elements.{All-append}
 use Rattle.std.proofs.lemmas.Option.{none-some}
 use Rattle.std.proofs.lemmas.Bool.{false≢true}
@@ -12,7 +12,7 @@ use Rattle.cap_word.proofs.DigitLemmas.{length-hex_digits}
 use Rattle.cap_bounds.specs.declared.decoding.Interval.{Interval}
 use Rattle.cap_log.specs.Front.{HasNoFeed, IsLine, FrontIs}
 use Rattle.cap_log.specs.Spaceless.{Lacks-by_test, Lacks-hex, Lacks-decimal}
-use Rattle.cap_log.proofs.ElementLemmas.{AllByRecursion-append, short_decimal}
+use Rattle.cap_log.proofs.ElementLemmas.{short_decimal}
 use Rattle.cap_log.proofs.FrontLemmas.{IsLine-same, IsLine-not_too_long, IsLine-not_cut}
 use Rattle.cap_heap.specs.declared.events.Event.{Event}
 use Rattle.cap_heap.specs.declared.events.Event.TheVariants.{Malloc, Free}
@@ -20,14 +20,14 @@ use Rattle.cap_heap.specs.declared.lines.HeapLine.{HeapLine}
 use Rattle.cap_heap.specs.declared.lines.HeapLine.TheVariants.{Header, Root, Happens, End}
 use Rattle.cap_heap.specs.declared.refusal.HeapRefusal.{HeapRefusal}
 use Rattle.cap_heap.specs.declared.refusal.HeapRefusal.TheVariants as refusals
-use Rattle.cap_heap.specs.HeapLines.{IsInRange, spelling}
-use Rattle.cap_heap.specs.HeapLogs.{Beginning, Nothing, Headed, Body, Whole, Runs, IsLogOf, IsAccepted, IsFirstFault, IsRoot}
-use Rattle.cap_heap.specs.HeapLogs.{RefusesLine, RefusesText, RefusesWhole, Refuses, body_lines, lines_of, text_of}
+use Rattle.cap_heap.specs.Beginnings.{objects_after}
+use Rattle.cap_heap.specs.HeapLines.{IsInRange, Spells, spelling}
+use Rattle.cap_heap.specs.HeapLogs.{IsLogOf, IsFirstFault, RefusesLine, RefusesText, Refuses, text_of}
 use Rattle.cap_heap.specs.Objects.{Objects, no_objects, IsApart}
-use Rattle.cap_heap.specs.Events.{IsDue, AreDue, IsFaultOf, after, objects_after}
+use Rattle.cap_heap.specs.Events.{Throughout, IsFaultOf, after}
 use Rattle.cap_heap.proofs.LineLemmas.{one_spelling}
 use Rattle.cap_heap.proofs.Objects.{with_object-at, with_object-other}
-use Rattle.cap_heap.proofs.RunLemmas.{objects_after-push}
+use Rattle.cap_heap.proofs.RunLemmas.{from, now}
 
 -- a line has no line feed and at most 95 bytes
 
@@ -107,44 +107,50 @@ first_lines (first ∷ lines) (line ∷ more) rest range range' same =
       tail_range = next.tail_range;
     }
 
--- what refuses a whole line refuses no line that follows a beginning in a log that is accepted
-front_refuses : (rest : List ℕ) (text more : List ℕ) (beginning : Beginning) (refusal : HeapRefusal) → IsLine rest text more
-    → FrontIs rest (refusal ≡ refusals.LineTooLong) (refusal ≡ refusals.Truncated) (λ line. RefusesWhole beginning line refusal)
-    → RefusesWhole beginning text refusal
-front_refuses rest text more beginning refusal whole (inl long) = absurd (IsLine-not_too_long rest text more whole long.0)
-front_refuses rest text more beginning refusal whole (inr (inl cut)) = absurd (IsLine-not_cut rest text more whole cut.0)
-front_refuses rest text more beginning refusal whole (inr (inr h)) =
-    subst (λ (t : List ℕ). RefusesWhole beginning t refusal) (IsLine-same rest h.0 h.1 text more h.2 whole).0 h.3
-
--- a line of a form is refused as that
-text_refuses : (Holds : HeapLine → HeapRefusal → Type 0) (line : HeapLine) (refusal : HeapRefusal) → IsInRange line
-    → RefusesText Holds (spelling line) refusal → Holds line refusal
-text_refuses Holds line refusal range (inl none) = absurd (none.0 line (range, refl))
-text_refuses Holds line refusal range (inr found) =
-    subst (λ (l : HeapLine). Holds l refusal) (one_spelling (spelling line) found.0 line found.1 (range, refl)) found.2
-
-none_is_some : (o : Option ℕ) → o ≡ None → IsSome o → ⊥
-none_is_some None is some = absurd (false≢true some)
-none_is_some (Some n) is some = none-some n (sym is)
-
--- an event that is due and after which bounds lie apart is no fault
-no_fault : (root : Interval) (objects : Objects) (event : Event) (refusal : HeapRefusal) → IsDue objects event
-    → IsApart root (after objects event) → IsFaultOf root objects event refusal → ⊥
-no_fault root objects (Malloc at size) refusals.AddressTaken due apart fault = none_is_some (objects at) due fault
-no_fault root objects (Malloc at size) refusals.OutsideHeap due apart fault = fault.1 (apart.inside at size (with_object-at objects at size))
-no_fault root objects (Malloc at size) refusals.Overlaps due apart (fresh, within, other, length, shares) =
-    let differ : at ≢ other = λ same. none-some length (sym fresh ∙ ap objects same ∙ shares.0) in
-    apart.apart at other size length (with_object-at objects at size) (with_object-other objects at size other differ ∙ shares.0) differ
-    shares.1 shares.2 shares.3
-no_fault root objects (Malloc at size) refusal due apart fault = absurd fault
-no_fault root objects (Free at) refusal due apart fault = none_is_some (objects at) fault.1 due
-
 -- the line at the front of a text of lines
 front_line : (line : HeapLine) (lines : List HeapLine) (rest : List ℕ) → rest ≡ text_of (line ∷ lines) → IsInRange line
     → IsLine rest (spelling line) (text_of lines ++ [])
 front_line line lines rest is range =
     subst (λ (bytes : List ℕ). IsLine bytes (spelling line) (text_of lines ++ []))
     (sym (is ∙ sym (append-nil (text_of (line ∷ lines))) ∙ text_cons line lines [])) (is_line line range (text_of lines ++ []))
+
+-- what refuses a rest refuses the line at its front
+front_refuses : (root : Interval) (events : List Event) (due line : HeapLine) (lines : List HeapLine) (rest : List ℕ) (refusal : HeapRefusal)
+    → rest ≡ text_of (line ∷ lines) → IsInRange line
+    → FrontIs rest (refusal ≡ refusals.LineTooLong) (refusal ≡ refusals.Truncated) (RefusesText root events due refusal)
+    → RefusesText root events due refusal (spelling line)
+front_refuses root events due line lines rest refusal is range (inl long) =
+    absurd (IsLine-not_too_long rest (spelling line) (text_of lines ++ []) (front_line line lines rest is range) long.0)
+front_refuses root events due line lines rest refusal is range (inr (inl cut)) =
+    absurd (IsLine-not_cut rest (spelling line) (text_of lines ++ []) (front_line line lines rest is range) cut.0)
+front_refuses root events due line lines rest refusal is range (inr (inr h)) =
+    subst (λ (t : List ℕ). RefusesText root events due refusal t)
+    (IsLine-same rest h.0 h.1 (spelling line) (text_of lines ++ []) h.2 (front_line line lines rest is range)).0 h.3
+
+-- a line of a form is refused as that
+text_refuses : (Holds : HeapLine → Type 0) (line : HeapLine) (refusal : HeapRefusal) → IsInRange line
+    → ((((other : HeapLine) → Spells (spelling line) other → ⊥) × (refusal ≡ refusals.BadLine))
+    ⊎ ((other : HeapLine) × Spells (spelling line) other × Holds other)) → Holds line
+text_refuses Holds line refusal range (inl none) = absurd (none.0 line (range, refl))
+text_refuses Holds line refusal range (inr found) = subst Holds (one_spelling (spelling line) found.0 line found.1 (range, refl)) found.2
+
+none_is_some : (o : Option ℕ) → o ≡ None → IsSome o → ⊥
+none_is_some None is some = absurd (false≢true some)
+none_is_some (Some n) is some = none-some n (sym is)
+
+-- an event that happens in a log is no fault
+no_fault : (root : Interval) (objects : Objects) (event : Event) (more : List Event) (refusal : HeapRefusal)
+    → Throughout (IsApart root) objects (event ∷ more) → IsFaultOf root objects event refusal → ⊥
+no_fault root objects (Malloc at size) more refusals.AddressTaken all fault = none_is_some (objects at) all.1 fault
+no_fault root objects (Malloc at size) more refusals.OutsideHeap all fault =
+    fault.1 ((now (IsApart root) (after objects (Malloc at size)) more all.2).inside at size (with_object-at objects at size))
+no_fault root objects (Malloc at size) more refusals.Overlaps all (fresh, within, other, length, shares) =
+    let apart = now (IsApart root) (after objects (Malloc at size)) more all.2 in
+    let differ : at ≢ other = λ same. none-some length (sym fresh ∙ ap objects same ∙ shares.0) in
+    apart.apart at other size length (with_object-at objects at size) differ
+    (with_object-other objects at size other differ ∙ shares.0, shares.1, shares.2, shares.3, shares.4, shares.5)
+no_fault root objects (Malloc at size) more refusal all fault = absurd fault
+no_fault root objects (Free at) more refusal all fault = none_is_some (objects at) fault.1 all.1
 
 -- lines that begin with those of some events go on with their end, or with one event more
 abbrev GoesOn : List Event → List Event → ℕ → List HeapLine → Type 0
@@ -165,98 +171,136 @@ goes_on (event ∷ events) (other ∷ first) n tail same =
       | inr more ↦ inr (more.0, more.1, cc (one, more.2), more.3)
     ]
 
--- in events that keep apart, each is due, and bounds lie apart after it
-due_at : (objects : Objects) (first more : List Event) (event : Event) → AreDue objects (first ++ event ∷ more)
-    → IsDue (objects_after objects first) event
-due_at objects [] more event due = due.0
-due_at objects (other ∷ first) more event due = due_at (after objects other) first more event due.1
+-- lines at the front of those of events and an end line stop before an event, before the end line, or behind it
+abbrev Splits : List Event → ℕ → List HeapLine → List HeapLine → Type 0
+Splits events n before due =
+    ((event : Event) × (first : List Event) × (later : List HeapLine) × (before ≡ map Happens first) × (due ≡ Happens event ∷ later))
+    ⊎ ((before ≡ map Happens events) × (due ≡ End n ∷ []))
+    ⊎ ((before ≡ map Happens events ++ End n ∷ []) × (due ≡ []))
 
-apart_at : (root : Interval) (first more : List Event) (event : Event) → Runs IsApart root (first ++ event ∷ more)
-    → IsApart root (after (objects_after no_objects first) event)
-apart_at root first more event runs =
-    let cut : take (length first + 1) (first ++ event ∷ more) ≡ first ++ event ∷ [] =
-    ap (take (length first + 1)) (sym (append_assoc first (event ∷ []) more))
-    ∙ take_at (first ++ event ∷ []) more (length first + 1) (length_push first event) in
-    subst (IsApart root) (objects_after-push no_objects first event)
-    (subst (λ (events : List Event). IsApart root (objects_after no_objects events)) cut (runs.always (length first + 1)))
+splits : (events : List Event) (n : ℕ) (before due : List HeapLine) → before ++ due ≡ map Happens events ++ End n ∷ [] → Splits events n before due
+splits [] n [] due same = inr (inl (refl, same))
+splits [] n (line ∷ []) due same =
+    let one : line ≡ End n = cc in
+    let none : due ≡ [] = cc in
+    inr (inr (ap (λ (l : HeapLine). l ∷ []) one, none))
+splits [] n (line ∷ other ∷ before) due same = let no : ⊥ = cc in absurd no
+splits (event ∷ events) n [] due same = inl (event, [], map Happens events ++ End n ∷ [], refl, same)
+splits (event ∷ events) n (line ∷ before) due same =
+    let one : line ≡ Happens event = cc in
+    let others : before ++ due ≡ map Happens events ++ End n ∷ [] = cc in
+    elim (splits events n before due others) [
+      | inl next ↦ inl (next.0, event ∷ next.1, next.2, cc (one, next.3), next.4)
+      | inr (inl next) ↦ inr (inl (cc (one, next.0), next.1))
+      | inr (inr next) ↦ inr (inr (cc (one, next.0), next.1))
+    ]
 
--- so none is refused
-not_refused : (root : Interval) (first more : List Event) (event : Event) (refusal : HeapRefusal) → Runs IsApart root (first ++ event ∷ more)
-    → RefusesLine root first (Happens event) refusal → ⊥
-not_refused root first more event refusal runs (inl passed) =
-    omega (arith, passed.0, runs.few, length-append first (event ∷ more))
-not_refused root first more event refusal runs (inr fault) =
-    no_fault root (objects_after no_objects first) event refusal (due_at no_objects first more event runs.due) (apart_at root first more event runs)
-    fault.1
+-- the end line of a log is in range, and so are the first ones of its lines
+end_range : (events : List Event) (n : ℕ) → AllByRecursion IsInRange (map Happens events ++ End n ∷ []) → n < 2 ^ 32
+end_range [] n all = all.0
+end_range (event ∷ events) n all = end_range events n all.1
+
+range_front : (lines more : List HeapLine) → AllByRecursion IsInRange (lines ++ more) → AllByRecursion IsInRange lines
+range_front [] more all = tt
+range_front (line ∷ lines) more all = (all.0, range_front lines more all.1)
 
 one_root : (a b : Interval) → Root a ≡ Root b → a ≡ b
 one_root a b same = cc
 
--- the lines of a beginning that is accepted are in range
-whole_range : (root : Interval) (events : List Event) → Runs IsApart root events → AllByRecursion IsInRange (lines_of (Whole root events))
-whole_range root events runs =
-    AllByRecursion-append IsInRange (body_lines root events) (End (length events) ∷ []) runs.grammar (omega (arith, runs.few), tt)
+module _ (root : Interval) (events : List Event) (all : Throughout (IsApart root) no_objects events) (few : length events < 2 ^ 32)
+    (refusal : HeapRefusal) where
+  -- no event of a log is refused
+  not_refused : (first more : List Event) (event : Event) (n : ℕ) → events ≡ first ++ event ∷ more
+      → RefusesLine root first (End n) (Happens event) refusal → ⊥
+  not_refused first more event n are (inl passed) = omega (arith, passed.0, few, ap length are, length-append first (event ∷ more))
+  not_refused first more event n are (inr fault) =
+      no_fault root (objects_after no_objects first) event more refusal
+      (from (IsApart root) no_objects first (event ∷ more) (subst (Throughout (IsApart root) no_objects) are all)) fault.1
 
-accepted_range : (beginning : Beginning) → IsAccepted beginning → AllByRecursion IsInRange (lines_of beginning)
-accepted_range Nothing accepted = tt
-accepted_range Headed accepted = (tt, tt)
-accepted_range (Body root events) runs = runs.grammar
-accepted_range (Whole root events) runs = whole_range root events runs
-
--- what stands behind a beginning in a log is not refused
-module _ (root : Interval) (events : List Event) (runs : Runs IsApart root events) (refusal : HeapRefusal) where
+  -- what stands in a log behind events of another that ends there is not refused
   body_end : (first : List Event) (tail : List HeapLine) (rest : List ℕ) → GoesOn events first (length events) tail → rest ≡ text_of tail
-      → AllByRecursion IsInRange tail → Refuses (Body root first) rest refusal → ⊥
+      → AllByRecursion IsInRange tail → Refuses root first (End (length first) ∷ []) rest refusal → ⊥
   body_end first tail rest (inl ended) is range refused =
       let here = subst (λ (ls : List HeapLine). rest ≡ text_of ls) ended.1 is in
       let fits = subst (AllByRecursion IsInRange) ended.1 range in
-      let whole = front_line (End (length events)) [] rest here fits.0 in
-      let why = text_refuses (RefusesLine root first) (End (length events)) refusal fits.0
-      (front_refuses rest (spelling (End (length events))) _ (Body root first) refusal whole refused) in
+      let why = text_refuses (λ line. RefusesLine root first (End (length first)) line refusal) (End (length events)) refusal fits.0
+      (front_refuses root first (End (length first)) (End (length events)) [] rest refusal here fits.0 refused) in
       why.0 (ap length ended.0)
   body_end first tail rest (inr (event, more, are, tail_is)) is range refused =
       let here = subst (λ (ls : List HeapLine). rest ≡ text_of ls) tail_is is in
       let fits = subst (AllByRecursion IsInRange) tail_is range in
-      let whole = front_line (Happens event) (map Happens more ++ End (length events) ∷ []) rest here fits.0 in
-      let why = text_refuses (RefusesLine root first) (Happens event) refusal fits.0
-      (front_refuses rest (spelling (Happens event)) _ (Body root first) refusal whole refused) in
-      not_refused root first more event refusal (subst (Runs IsApart root) are runs) why
+      let why = text_refuses (λ line. RefusesLine root first (End (length first)) line refusal) (Happens event) refusal fits.0
+      (front_refuses root first (End (length first)) (Happens event) (map Happens more ++ End (length events) ∷ []) rest refusal here fits.0 refused) in
+      not_refused first more event (length first) are why
 
-  behind : (beginning : Beginning) (tail : List HeapLine) (rest : List ℕ) → lines_of (Whole root events) ≡ lines_of beginning ++ tail
-      → rest ≡ text_of tail → AllByRecursion IsInRange tail → Refuses beginning rest refusal → ⊥
-  behind Nothing tail rest lines is range refused =
-      let here = subst (λ (ls : List HeapLine). rest ≡ text_of ls) (sym lines) is in
-      let whole = front_line Header (Root root ∷ (map Happens events ++ End (length events) ∷ [])) rest here tt in
-      (front_refuses rest (spelling Header) _ Nothing refusal whole refused).0 (tt, refl)
-  behind Headed tail rest lines is range refused =
+  -- nor what stands behind some of them
+  body_amid : (others first : List Event) (event : Event) (later tail : List HeapLine) (rest : List ℕ) → GoesOn events first (length events) tail
+      → rest ≡ text_of tail → AllByRecursion IsInRange tail → Refuses root others (Happens event ∷ later) rest refusal → ⊥
+  body_amid others first event later tail rest (inl ended) is range refused =
+      let here = subst (λ (ls : List HeapLine). rest ≡ text_of ls) ended.1 is in
+      let fits = subst (AllByRecursion IsInRange) ended.1 range in
+      text_refuses (λ line. ⊥) (End (length events)) refusal fits.0
+      (front_refuses root others (Happens event) (End (length events)) [] rest refusal here fits.0 refused)
+  body_amid others first event later tail rest (inr (next, more, are, tail_is)) is range refused =
+      let here = subst (λ (ls : List HeapLine). rest ≡ text_of ls) tail_is is in
+      let fits = subst (AllByRecursion IsInRange) tail_is range in
+      text_refuses (λ line. ⊥) (Happens next) refusal fits.0
+      (front_refuses root others (Happens event) (Happens next) (map Happens more ++ End (length events) ∷ []) rest refusal here fits.0 refused)
+
+  -- nor anything behind a log
+  behind_end : (others : List Event) (tail : List HeapLine) (rest : List ℕ) → GoesOn events others (length events) (End (length others) ∷ tail)
+      → rest ≡ text_of tail → Refuses root others [] rest refusal → ⊥
+  behind_end others tail rest (inl ended) is refused =
+      let same = ended.1 in
+      let none : tail ≡ [] = cc in
+      refused.0 (is ∙ ap text_of none)
+  behind_end others tail rest (inr more) is refused = let clashing = more.3 in let no : ⊥ = cc in absurd no
+
+  behind_root : (others : List Event) (before due tail : List HeapLine) (rest : List ℕ) → Splits others (length others) before due
+      → map Happens events ++ End (length events) ∷ [] ≡ before ++ tail → rest ≡ text_of tail → AllByRecursion IsInRange tail
+      → Refuses root others due rest refusal → ⊥
+  behind_root others before due tail rest (inl (event, first, later, before_is, due_is)) same is range refused =
+      body_amid others first event later tail rest
+      (goes_on events first (length events) tail (same ∙ ap (λ (ls : List HeapLine). ls ++ tail) before_is)) is range
+      (subst (λ (ls : List HeapLine). Refuses root others ls rest refusal) due_is refused)
+  behind_root others before due tail rest (inr (inl (before_is, due_is))) same is range refused =
+      body_end others tail rest (goes_on events others (length events) tail (same ∙ ap (λ (ls : List HeapLine). ls ++ tail) before_is)) is range
+      (subst (λ (ls : List HeapLine). Refuses root others ls rest refusal) due_is refused)
+  behind_root others before due tail rest (inr (inr (before_is, due_is))) same is range refused =
+      behind_end others tail rest
+      (goes_on events others (length events) (End (length others) ∷ tail)
+      (same ∙ ap (λ (ls : List HeapLine). ls ++ tail) before_is ∙ append_assoc (map Happens others) (End (length others) ∷ []) tail))
+      is (subst (λ (ls : List HeapLine). Refuses root others ls rest refusal) due_is refused)
+
+  behind : (start : Interval) (others : List Event) (before due tail : List HeapLine) (rest : List ℕ)
+      → before ++ due ≡ Header ∷ Root start ∷ (map Happens others ++ End (length others) ∷ [])
+      → Header ∷ Root root ∷ (map Happens events ++ End (length events) ∷ []) ≡ before ++ tail
+      → rest ≡ text_of tail → AllByRecursion IsInRange tail → Refuses start others due rest refusal → ⊥
+  behind start others [] due tail rest are same is range refused =
+      let here = subst (λ (ls : List HeapLine). rest ≡ text_of ls) (sym same) is in
+      (front_refuses start others Header Header (Root root ∷ (map Happens events ++ End (length events) ∷ [])) rest refusal here tt
+      (subst (λ (ls : List HeapLine). Refuses start others ls rest refusal) are refused)).0 (tt, refl)
+  behind start others (first ∷ []) due tail rest are same is range refused =
+      let due_is : due ≡ Root start ∷ (map Happens others ++ End (length others) ∷ []) = cc in
       let tail_is : tail ≡ Root root ∷ (map Happens events ++ End (length events) ∷ []) = cc in
       let here = subst (λ (ls : List HeapLine). rest ≡ text_of ls) tail_is is in
       let fits = subst (AllByRecursion IsInRange) tail_is range in
-      let whole = front_line (Root root) (map Happens events ++ End (length events) ∷ []) rest here fits.0 in
-      let why = text_refuses (λ line why. (IsRoot line → ⊥) × (why ≡ refusals.Misplaced)) (Root root) refusal fits.0
-      (front_refuses rest (spelling (Root root)) _ Headed refusal whole refused) in
-      why.0 tt
-  behind (Body other first) tail rest lines is range refused =
-      let same : Root root ≡ Root other = cc in
-      let others : map Happens events ++ End (length events) ∷ [] ≡ map Happens first ++ tail = cc in
-      let root_is = one_root root other same in
-      body_end first tail rest (goes_on events first (length events) tail others) is range
-      (subst (λ (r : Interval). Refuses (Body r first) rest refusal) (sym root_is) refused)
-  behind (Whole other first) tail rest lines is range refused =
-      let joined = lines ∙ append_assoc (body_lines other first) (End (length first) ∷ []) tail in
-      let others : map Happens events ++ End (length events) ∷ [] ≡ map Happens first ++ (End (length first) ∷ tail) = cc in
-      elim (goes_on events first (length events) (End (length first) ∷ tail) others) [
-        | inl ended ↦
-            let none : tail ≡ [] = cc in
-            refused.0 (is ∙ ap text_of none)
-        | inr more ↦ let clashing = more.3 in let no : ⊥ = cc in no
-      ]
+      let why = text_refuses (λ line. RefusesLine start others (Root start) line refusal) (Root root) refusal fits.0
+      (front_refuses start others (Root start) (Root root) (map Happens events ++ End (length events) ∷ []) rest refusal here fits.0
+      (subst (λ (ls : List HeapLine). Refuses start others ls rest refusal) due_is refused)) in
+      why.0 root refl
+  behind start others (first ∷ second ∷ before) due tail rest are same is range refused =
+      let root_is : Root start ≡ Root root = cc in
+      let ours : before ++ due ≡ map Happens others ++ End (length others) ∷ [] = cc in
+      let theirs : map Happens events ++ End (length events) ∷ [] ≡ before ++ tail = cc in
+      behind_root others before due tail rest (splits others (length others) before due ours) theirs is range
+      (subst (λ (r : Interval). Refuses r others due rest refusal) (one_root start root root_is) refused)
 
--- bytes are not both
-pub not_both : (bytes : List ℕ) (line : ℕ) (refusal : HeapRefusal) → IsFirstFault bytes line refusal → (root : Interval) (events : List Event)
-    → IsLogOf IsApart bytes root events → ⊥
-not_both bytes line refusal fault root events log =
-    let all = whole_range root events log.runs in
-    let first = first_lines (lines_of (Whole root events)) (lines_of fault.beginning) fault.rest all (accepted_range fault.beginning fault.accepted)
-    (sym fault.bytes_are ∙ log.bytes_are) in
-    behind root events log.runs refusal fault.beginning first.tail fault.rest first.lines_are first.rest_is first.tail_range fault.refused
+-- the text of a log is at fault in no line
+pub not_both : (lines : List HeapLine) (root : Interval) (events : List Event) → IsLogOf IsApart lines root events → (number : ℕ)
+    (refusal : HeapRefusal) → IsFirstFault (text_of lines) number refusal → ⊥
+not_both lines root events (are, range, all) number refusal (start, others, before, due, rest, log, bytes_are, number_is, refused) =
+    let ranges = subst (AllByRecursion IsInRange) are range in
+    let first = first_lines lines before rest range (range_front before due log.1) (sym bytes_are) in
+    behind root events all (end_range events (length events) ranges.1.1) refusal start others before due first.tail rest log.0
+    (sym are ∙ first.lines_are) first.rest_is first.tail_range refused

@@ -14,7 +14,7 @@ use Rattle.cap_heap.specs.HeapLines.{IsInRange, Spells}
 use Rattle.cap_heap.specs.Objects.{no_objects}
 use Rattle.cap_heap.specs.HeapReports.{IsReportOf}
 use Rattle.cap_heap.specs.Heaps.{objects_in, live_in}
-use Rattle.cap_heap.specs.HeapLogs.{Beginning, Nothing, Headed, Body, Whole, lines_of, body_lines, RefusesWhole}
+use Rattle.cap_heap.specs.Beginnings.{Beginning, Nothing, Headed, Body, Whole, lines_of, body_lines, RefusesWhole}
 use Rattle.cap_heap.specs.Progresses.{Reaches, StandsFor, Stays, Takes, EndsLine, EndsText, LacksMemory}
 use Rattle.cap_heap.proofs.RunLemmas.{Reaches-start, lines-push}
 

@@ -2,15 +2,15 @@
 use Rattle.std.proofs.Common.{◌≡◌, ℕ, ◌<◌, true, false, Bool, Some, None, Option, arith}
 use Rattle.std.proofs.lemmas.Option.{none-some, same_Some}
 use Rattle.cap_bounds.proofs.Roundings.{rounded_base-short, rounded_top-short, rounded_base-le, rounded_top-ge}
-use Rattle.cap_heap.specs.Objects.{Covers, AreApart}
+use Rattle.cap_heap.specs.Objects.{Covers, LieApart}
 use Rattle.cap_heap.specs.Kept.{length_from}
 
 -- an object of no byte covers no address
-pub empty-apart : (at length other size : ℕ) → size ≡ 0 → AreApart at length other size
+pub empty-apart : (at length other size : ℕ) → size ≡ 0 → LieApart at length other size
 empty-apart at length other size none address c d =
     omega (arith, rounded_base-short other size (omega arith), rounded_top-short other size (omega arith), d.0, d.1)
 
-pub apart-empty : (at length other size : ℕ) → length ≡ 0 → AreApart at length other size
+pub apart-empty : (at length other size : ℕ) → length ≡ 0 → LieApart at length other size
 apart-empty at length other size none address c d = empty-apart other size at length none address d c
 
 -- a longer one covers its own address

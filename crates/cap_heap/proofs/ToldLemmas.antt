@@ -7,6 +7,7 @@ use Rattle.cap_heap.specs.declared.verdict.HeapToFault.TheVariants.{Push}
 use Rattle.cap_heap.specs.HeapVerdicts.{ReportsAfter}
 use Rattle.cap_heap.specs.Judgings.{JudgedBy, StopsAfter}
 use Rattle.cap_heap.specs.Texts.{IsText}
+use Rattle.cap_heap.proofs.BeginningLemmas.{fault_of}
 use Rattle.cap_heap.specs.VerdictLines.{Tells, Told, heap_line}
 
 -- without reports the text is the verdict's line
@@ -24,11 +25,11 @@ tells reports false progress line bytes ended (No number refusal) text reported 
 tells reports true progress line bytes ended (No number refusal) text reported stopped is = (
   is.0,
   λ more none. let stop = stopped more none in record {
-    fault = stop.fault;
+    fault = fault_of stop;
     text = line;
     front = stop.front;
     details = is.1.0;
-    are = is.1.1 stop.fault.beginning stop.stands;
+    are = is.1.1 stop.beginning stop.stands;
     report_is = is.1.2;
   },
   is.2,

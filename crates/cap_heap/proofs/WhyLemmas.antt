@@ -6,12 +6,12 @@ use Rattle.std.specs.Prelude.{IfNone, Some, None}
 use Rattle.cap_bounds.specs.declared.decoding.Interval.{Interval}
 use Rattle.cap_heap.specs.declared.events.Event.{Event}
 use Rattle.cap_heap.specs.declared.events.Event.TheVariants.{Malloc, Free}
+use Rattle.cap_heap.specs.declared.lines.HeapLine.{HeapLine}
 use Rattle.cap_heap.specs.declared.lines.HeapLine.TheVariants.{Happens}
 use Rattle.cap_heap.specs.declared.refusal.HeapRefusal.{HeapRefusal}
 use Rattle.cap_heap.specs.declared.refusal.HeapRefusal.TheVariants.{Misplaced, Truncated, WrongCount}
 use Rattle.cap_heap.specs.declared.refusal.HeapRefusal.TheVariants.{LimitPassed, OutsideHeap}
 use Rattle.cap_heap.specs.HeapLines.{Spells}
-use Rattle.cap_heap.specs.HeapLogs.{Beginning}
 use Rattle.cap_heap.specs.HeapWhys.{AreDetails, AreEventDetails, count_in, count_line}
 use Rattle.cap_heap.specs.Objects.{Objects}
 
@@ -48,10 +48,10 @@ other_details heap objects at size refusal other details differs is told =
     subst (λ (r : HeapRefusal). AreEventDetails heap objects (Malloc at size) r details) is told
 
 -- the details of a line whose refusal is decided by how many events there were
-pub count_details : (beginning : Beginning) (text : List ℕ) (refusal : HeapRefusal) (details : List ℕ)
+pub count_details : (root : Interval) (events : List Event) (due : List HeapLine) (text : List ℕ) (refusal : HeapRefusal) (details : List ℕ)
     → (refusal ≡ Misplaced) ⊎ ((refusal ≡ Truncated) ⊎ ((refusal ≡ WrongCount) ⊎ (refusal ≡ LimitPassed)))
-    → details ≡ count_line (count_in beginning) → AreDetails beginning text refusal details
-count_details beginning text refusal details (inl e) is = subst (λ (r : HeapRefusal). AreDetails beginning text r details) (sym e) is
-count_details beginning text refusal details (inr (inl e)) is = subst (λ (r : HeapRefusal). AreDetails beginning text r details) (sym e) is
-count_details beginning text refusal details (inr (inr (inl e))) is = subst (λ (r : HeapRefusal). AreDetails beginning text r details) (sym e) is
-count_details beginning text refusal details (inr (inr (inr e))) is = subst (λ (r : HeapRefusal). AreDetails beginning text r details) (sym e) is
+    → details ≡ count_line (count_in events due) → AreDetails root events due text refusal details
+count_details root events due text refusal details (inl e) is = subst (λ (r : HeapRefusal). AreDetails root events due text r details) (sym e) is
+count_details root events due text refusal details (inr (inl e)) is = subst (λ (r : HeapRefusal). AreDetails root events due text r details) (sym e) is
+count_details root events due text refusal details (inr (inr (inl e))) is = subst (λ (r : HeapRefusal). AreDetails root events due text r details) (sym e) is
+count_details root events due text refusal details (inr (inr (inr e))) is = subst (λ (r : HeapRefusal). AreDetails root events due text r details) (sym e) is

@@ -1,10 +1,11 @@
 -- The verdict on an allocator's log (this profile's own, as are all below).
-use Rattle.std.specs.Prelude.{◌≡◌, ℕ, ◌+◌, ◌<◌, Bool, true, List, [], ◌∷◌, ◌++◌, length, Result, IfOk, IfErr}
+use Rattle.std.specs.Prelude.{◌≡◌, ℕ, ◌+◌, ◌-◌, ◌^◌, ◌<◌, Bool, true, not, List, [], ◌∷◌, ◌++◌, length, count_by, fold, Result, IfOk, IfErr}
 use Rattle.cap_bounds.specs.declared.decoding.Interval.{Interval}
 use Rattle.cap_log.specs.Front.{IsCut}
 use Rattle.cap_heap.specs.declared.events.Event.{Event}
 use Rattle.cap_heap.specs.declared.events.Event.TheVariants.{Malloc}
-use Rattle.cap_heap.specs.declared.lines.HeapLine.TheVariants.{Happens}
+use Rattle.cap_heap.specs.declared.lines.HeapLine.{HeapLine}
+use Rattle.cap_heap.specs.declared.lines.HeapLine.TheVariants.{Happens, End}
 use Rattle.cap_heap.specs.declared.report.HeapReport.{HeapReport}
 use Rattle.cap_heap.specs.declared.verdict.HeapVerdict.{HeapVerdict}
 use Rattle.cap_heap.specs.declared.verdict.HeapVerdict.TheVariants.{Yes, No}
@@ -12,27 +13,21 @@ use Rattle.cap_heap.specs.declared.verdict.HeapFault.{HeapFault}
 use Rattle.cap_heap.specs.declared.verdict.HeapFault.TheVariants.{Pull, NoMemory}
 use Rattle.cap_heap.specs.HeapLines.{IsInRange, spelling}
 use Rattle.cap_heap.specs.Objects.{no_objects, IsApart}
-use Rattle.cap_heap.specs.Events.{HasRoom, objects_after, mallocs, frees}
+use Rattle.cap_heap.specs.Events.{HasRoom, after, is_malloc}
 use Rattle.cap_heap.specs.HeapReports.{IsReportOf}
-use Rattle.cap_heap.specs.HeapLogs.{Beginning, Runs, IsLogOf, IsFirstFault, IsAccepted, CanBeGuardedThroughout}
-use Rattle.cap_heap.specs.HeapLogs.{body_lines, lines_of, text_of, most_events}
-
--- the bytes are a log of so many events, at each moment of which the rounded bounds of the live objects lie apart and inside the root, and
--- so many objects live at its end: those that came to live and were not freed
-pub record IsYes (bytes : List ℕ) (count live : ℕ) : Type 0 where
-  pub root : Interval
-  pub events : List Event
-  pub log : IsLogOf IsApart bytes root events
-  pub count_is : count ≡ length events
-  pub live_is : live + frees events ≡ mallocs events
+use Rattle.cap_heap.specs.HeapLogs.{IsLogOf, IsFirstFault, CanBeGuardedThroughout, text_of}
 
 -- a fact holds of the bytes, whatever follows them where their source has not ended
 abbrev pub Lasts : List ℕ → Bool → (List ℕ → Type 0) → Type 0
 Lasts bytes ended Fact = (more : List ℕ) → (ended ≡ true → more ≡ []) → Fact (bytes ++ more)
 
--- the verdict on these bytes: yes for such a log, with its numbers, where their source has ended, and otherwise no with the first fault
+-- the verdict on these bytes: yes, where their source has ended, for a log of so many events, at each moment of which the rounded bounds of
+-- the live objects lie apart and inside the root, and so many objects live at its end: those that came to live and were not freed; and
+-- otherwise no with the first fault
 abbrev pub IsVerdictOf : List ℕ → Bool → HeapVerdict → Type 0
-IsVerdictOf bytes ended (Yes events live) = (ended ≡ true) × IsYes bytes events live
+IsVerdictOf bytes ended (Yes count live) = (ended ≡ true) × (lines : List HeapLine) × (root : Interval) × (events : List Event)
+    × (bytes ≡ text_of lines) × IsLogOf IsApart lines root events × (count ≡ length events)
+    × (live + count_by (λ event. not (is_malloc event)) events ≡ count_by is_malloc events)
 IsVerdictOf bytes ended (No line refusal) = Lasts bytes ended (λ all. IsFirstFault all line refusal)
 
 -- no choice of words does better: after a yes, at every moment sound words can be given to the live objects, with bounds that hold them and
@@ -41,27 +36,31 @@ abbrev pub IsOptimal : List ℕ → Bool → HeapVerdict → Type 0
 IsOptimal bytes ended (Yes events live) = CanBeGuardedThroughout bytes
 IsOptimal bytes ended (No line refusal) = Lasts bytes ended (λ all. CanBeGuardedThroughout all → ⊥)
 
--- the whole lines begin a log that is accepted, and less than a line follows them
+-- the whole lines are the first ones of a log, and less than a line follows them
 pub record BeginsLog (bytes : List ℕ) : Type 0 where
-  pub beginning : Beginning
+  pub root : Interval
+  pub events : List Event
+  pub before : List HeapLine
+  pub due : List HeapLine
   pub rest : List ℕ
-  pub bytes_are : bytes ≡ text_of (lines_of beginning) ++ rest
-  pub accepted : IsAccepted beginning
+  pub log : IsLogOf IsApart (before ++ due) root events
+  pub bytes_are : bytes ≡ text_of before ++ rest
   pub cut : IsCut rest
 
--- the bytes are the text of a body that is accepted, the line of an object that comes to live and that no test refuses, and what comes
+-- the bytes are the text of a log up to its end line, the line of an object that comes to live and that no test refuses, and what comes
 -- behind it
 pub record MayLackMemory (bytes : List ℕ) : Type 0 where
   pub root : Interval
   pub events : List Event
+  pub before : List HeapLine
   pub address : ℕ
   pub size : ℕ
   pub more : List ℕ
-  pub bytes_are : bytes ≡ text_of (body_lines root events) ++ (spelling (Happens (Malloc address size)) ++ 10 ∷ more)
-  pub runs : Runs IsApart root events
+  pub log : IsLogOf IsApart (before ++ End (length events) ∷ []) root events
+  pub bytes_are : bytes ≡ text_of before ++ (spelling (Happens (Malloc address size)) ++ 10 ∷ more)
   pub range : IsInRange (Happens (Malloc address size))
-  pub few : length events < most_events
-  pub room : HasRoom root (objects_after no_objects events) address size
+  pub few : length events < 2 ^ 32 - 1
+  pub room : HasRoom root (fold after no_objects events) address size
 
 -- why there is no verdict: the source failed behind whole lines that begin a log, or there was no memory for such an object
 abbrev pub IsFaultIn : List ℕ → HeapFault → Type 0
@@ -83,6 +82,6 @@ pub record Judged {S : Type 0} (gave : S → S → List ℕ → Type 0) (ended :
 
 -- after a yes, a report is that of the log that the bytes are
 abbrev pub ReportsAfter : List ℕ → HeapReport → HeapVerdict → Type 0
-ReportsAfter bytes report (Yes events live) =
-    (root : Interval) × (happened : List Event) × IsLogOf IsApart bytes root happened × IsReportOf report happened
+ReportsAfter bytes report (Yes events live) = (lines : List HeapLine) × (root : Interval) × (happened : List Event)
+    × (bytes ≡ text_of lines) × IsLogOf IsApart lines root happened × IsReportOf report happened
 ReportsAfter bytes report (No line refusal) = Unit {0}

@@ -1,3 +1,4 @@
+pub mod Beginnings
 pub mod Events
 pub mod HeapLines
 pub mod HeapLogs

@@ -1,5 +1,5 @@
 -- The live objects of an allocator, and the bounds of their capabilities. All of it is this profile's own.
-use Rattle.std.specs.Prelude.{◌≡◌, ◌≢◌, ℕ, ◌+◌, ◌^◌, ◌<◌, ◌≤◌, ◌==◌, if◌then◌else◌, Option, Some, None}
+use Rattle.std.specs.Prelude.{◌≡◌, ◌≢◌, ℕ, ◌+◌, ◌^◌, ◌<◌, ◌≤◌, Option, Some, None}
 use Rattle.cap_bounds.specs.declared.decoding.Interval.{Interval}
 use Rattle.cap_bounds.specs.Bounds.{IsInside, IsSound, base_of, top_of}
 use Rattle.cap_bounds.specs.Rounding.{rounded_base, rounded_top}
@@ -10,46 +10,31 @@ Objects = ℕ → Option ℕ
 
 -- none
 abbrev pub no_objects : Objects
-no_objects address = None
+no_objects = λ address. None
 
--- one more, and one less
-abbrev pub with_object : Objects → ℕ → ℕ → Objects
-with_object objects address length other = if address == other then Some length else objects other
+-- an object of this length lives at another address, and a byte lies in its bounds and in those of the first one
+abbrev pub Shares : (ℕ → ℕ → ℕ) → (ℕ → ℕ → ℕ) → Objects → ℕ → ℕ → ℕ → ℕ → Type 0
+Shares base top objects at size other length = (objects other ≡ Some length)
+    × (byte : ℕ) × (base at size ≤ byte) × (byte < top at size) × (base other length ≤ byte) × (byte < top other length)
 
-abbrev pub without_object : Objects → ℕ → Objects
-without_object objects address other = if address == other then None else objects other
+-- the bounds of all objects, by base and top of each, lie inside the heap's, and no byte lies in those of two
+pub record AreApart (base top : ℕ → ℕ → ℕ) (heap : Interval) (objects : Objects) : Type 0 where
+  pub inside : (at size : ℕ) → objects at ≡ Some size → IsInside (base at size) (top at size) heap.base heap.top
+  pub apart : (at other size length : ℕ) → objects at ≡ Some size → at ≢ other → Shares base top objects at size other length → ⊥
 
--- an address lies in bounds
-abbrev pub LiesIn : ℕ → ℕ → ℕ → Type 0
-LiesIn base top address = (base ≤ address) × (address < top)
+-- so do their rounded bounds
+abbrev pub IsApart : Interval → Objects → Type 0
+IsApart heap objects = AreApart rounded_base rounded_top heap objects
 
--- an address lies in the rounded bounds of an object
-abbrev pub Covers : ℕ → ℕ → ℕ → Type 0
-Covers at length address = LiesIn (rounded_base at length) (rounded_top at length) address
-
--- the rounded bounds of an object lie inside the heap's
-abbrev pub IsInHeap : Interval → ℕ → ℕ → Type 0
-IsInHeap heap at length = IsInside (rounded_base at length) (rounded_top at length) heap.base heap.top
-
--- no address lies in the rounded bounds of both of two objects
-abbrev pub AreApart : ℕ → ℕ → ℕ → ℕ → Type 0
-AreApart at length other size = (address : ℕ) → Covers at length address → Covers other size address → ⊥
-
--- the rounded bounds of all objects lie inside the heap's, and apart
-pub record IsApart (heap : Interval) (objects : Objects) : Type 0 where
-  pub inside : (at length : ℕ) → objects at ≡ Some length → IsInHeap heap at length
-  pub apart : (at other length size : ℕ) → objects at ≡ Some length → objects other ≡ Some size → at ≢ other → AreApart at length other size
-
--- words, one for each address, guard objects: each is sound, its bounds hold its object and lie inside the heap's, and no address lies in
--- the bounds of two
-pub record Guards (heap : Interval) (objects : Objects) (word : ℕ → ℕ) : Type 0 where
-  pub fits : (at length : ℕ) → objects at ≡ Some length → word at < 2 ^ 128
-  pub sound : (at length : ℕ) → objects at ≡ Some length → IsSound (word at)
-  pub contains : (at length : ℕ) → objects at ≡ Some length → IsInside at (at + length) (base_of (word at)) (top_of (word at))
-  pub inside : (at length : ℕ) → objects at ≡ Some length → IsInside (base_of (word at)) (top_of (word at)) heap.base heap.top
-  pub apart : (at other length size address : ℕ) → objects at ≡ Some length → objects other ≡ Some size → at ≢ other
-      → LiesIn (base_of (word at)) (top_of (word at)) address → LiesIn (base_of (word other)) (top_of (word other)) address → ⊥
-
--- to each object such a word can be given
+-- to each address a word can be given, such that those of objects are sound, their bounds hold them, and these lie inside the heap's and apart
 abbrev pub CanBeGuarded : Interval → Objects → Type 0
-CanBeGuarded heap objects = (word : ℕ → ℕ) × Guards heap objects word
+CanBeGuarded heap live = (word : ℕ → ℕ) × AreApart (λ at size. base_of (word at)) (λ at size. top_of (word at)) heap live
+    × ((at size : ℕ) → live at ≡ Some size → (word at < 2 ^ 128) × IsSound (word at) × IsInside at (at + size) (base_of (word at)) (top_of (word at)))
+
+-- a byte lies in the rounded bounds of an object
+abbrev pub Covers : ℕ → ℕ → ℕ → Type 0
+Covers at size byte = (rounded_base at size ≤ byte) × (byte < rounded_top at size)
+
+-- no byte lies in the rounded bounds of both of two objects
+abbrev pub LieApart : ℕ → ℕ → ℕ → ℕ → Type 0
+LieApart at size other length = (byte : ℕ) → Covers at size byte → Covers other length byte → ⊥

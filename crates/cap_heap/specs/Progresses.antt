@@ -1,5 +1,5 @@
 -- Which beginnings of a log the progress of its judge stands for, and how it goes on (this profile's own, as are all below).
-use Rattle.std.specs.Prelude.{◌≡◌, ◌⊎◌, ℕ, ◌+◌, ◌<◌, List, [], ◌∷◌, ◌++◌, length}
+use Rattle.std.specs.Prelude.{◌≡◌, ◌⊎◌, ℕ, ◌+◌, ◌-◌, ◌^◌, ◌<◌, List, [], ◌∷◌, ◌++◌, length}
 use Rattle.cap_bounds.specs.declared.decoding.Interval.{Interval}
 use Rattle.cap_heap.specs.declared.events.Event.{Event}
 use Rattle.cap_heap.specs.declared.events.Event.TheVariants.{Malloc}
@@ -7,18 +7,19 @@ use Rattle.cap_heap.specs.declared.events.EventEnd.{EventEnd}
 use Rattle.cap_heap.specs.declared.events.EventEnd.TheVariants.{Refused, NoMemory}
 use Rattle.cap_heap.specs.declared.heap.Heap.{Heap}
 use Rattle.cap_heap.specs.declared.lines.HeapLine.{HeapLine}
-use Rattle.cap_heap.specs.declared.lines.HeapLine.TheVariants.{Happens}
+use Rattle.cap_heap.specs.declared.lines.HeapLine.TheVariants.{Happens, End}
 use Rattle.cap_heap.specs.declared.progress.Progress.{Progress}
 use Rattle.cap_heap.specs.declared.refusal.HeapRefusal.{HeapRefusal}
 use Rattle.cap_heap.specs.declared.report.HeapReport.{HeapReport}
 use Rattle.cap_heap.specs.declared.stage.Stage.TheVariants as stages
 use Rattle.cap_heap.specs.HeapLines.{Spells}
 use Rattle.cap_heap.specs.Objects.{no_objects, IsApart}
-use Rattle.cap_heap.specs.Events.{HasRoom, objects_after, mallocs, frees}
+use Rattle.cap_heap.specs.Events.{HasRoom, mallocs, frees}
 use Rattle.cap_heap.specs.HeapReports.{IsReportOf}
 use Rattle.cap_heap.specs.Heaps.{objects_in, live_in}
 use Rattle.cap_heap.specs.HeapWhys.{AreEventDetails, IsFrontText}
-use Rattle.cap_heap.specs.HeapLogs.{IsFirstFault, Beginning, Nothing, Headed, Body, Whole, Runs, RefusesLine, RefusesWhole, lines_of, text_of, most_events}
+use Rattle.cap_heap.specs.HeapLogs.{RefusesLine, text_of}
+use Rattle.cap_heap.specs.Beginnings.{Beginning, Nothing, Headed, Body, Whole, Runs, IsAccepted, RefusesWhole, RefusesBehind, lines_of, objects_after}
 
 -- a root and events that are accepted lead to a heap, a report and a number of events
 pub record Reaches (heap : Heap) (report : HeapReport) (count : ℕ) (root : Interval) (events : List Event) : Type 0 where
@@ -52,12 +53,12 @@ TakesText old text new = (line : HeapLine) × Spells text line × Takes old line
 -- an object comes to live that no test refuses
 abbrev pub WantsMemory : Interval → List Event → HeapLine → Type 0
 WantsMemory root events line =
-    (address : ℕ) × (size : ℕ) × (line ≡ Happens (Malloc address size)) × (length events < most_events)
+    (address : ℕ) × (size : ℕ) × (line ≡ Happens (Malloc address size)) × (length events < 2 ^ 32 - 1)
     × HasRoom root (objects_after no_objects events) address size
 
 -- why a line after these events is not taken
 abbrev pub EndsLine : Interval → List Event → HeapLine → EventEnd → Type 0
-EndsLine root events line (Refused refusal) = RefusesLine root events line refusal
+EndsLine root events line (Refused refusal) = RefusesLine root events (End (length events)) line refusal
 EndsLine root events line NoMemory = WantsMemory root events line
 
 -- the line after a beginning is one for which there may be no memory
@@ -86,6 +87,11 @@ AreEventDetailsIn heap text refusal details =
 -- after a no, the progress stands for the beginning behind which a line was refused, whatever bytes follow where the source has not ended,
 -- and the text is that line
 pub record IsStopped (bytes : List ℕ) (progress : Progress) (text : List ℕ) (number : ℕ) (refusal : HeapRefusal) : Type 0 where
-  pub fault : IsFirstFault bytes number refusal
-  pub stands : StandsFor progress fault.beginning
-  pub front : IsFrontText fault.rest text
+  pub beginning : Beginning
+  pub rest : List ℕ
+  pub bytes_are : bytes ≡ text_of (lines_of beginning) ++ rest
+  pub accepted : IsAccepted beginning
+  pub number_is : number ≡ length (lines_of beginning) + 1
+  pub refused : RefusesBehind beginning rest refusal
+  pub stands : StandsFor progress beginning
+  pub front : IsFrontText rest text

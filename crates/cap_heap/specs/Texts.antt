@@ -5,16 +5,15 @@ use Rattle.cap_heap.specs.declared.progress.Progress.{Progress}
 use Rattle.cap_heap.specs.declared.refusal.HeapRefusal.{HeapRefusal}
 use Rattle.cap_heap.specs.declared.verdict.HeapVerdict.{HeapVerdict}
 use Rattle.cap_heap.specs.declared.verdict.HeapVerdict.TheVariants.{Yes, No}
-use Rattle.cap_heap.specs.HeapLogs.{Beginning}
+use Rattle.cap_heap.specs.Beginnings.{Beginning, AreDetailsBehind}
 use Rattle.cap_heap.specs.HeapReports.{report_lines}
-use Rattle.cap_heap.specs.HeapWhys.{AreDetails}
 use Rattle.cap_heap.specs.Progresses.{StandsFor}
 use Rattle.cap_heap.specs.VerdictLines.{heap_line}
 
 -- what is told of a line that was refused
 abbrev pub IsLineReport : Progress → List ℕ → HeapRefusal → List ℕ → Type 0
 IsLineReport progress line refusal report =
-    (details : List ℕ) × ((beginning : Beginning) → StandsFor progress beginning → AreDetails beginning line refusal details)
+    (details : List ℕ) × ((beginning : Beginning) → StandsFor progress beginning → AreDetailsBehind beginning line refusal details)
     × (report ≡ line_line line ++ details)
 
 -- the text of a verdict

@@ -6,8 +6,8 @@ ghost use Rattle.std.specs.BTreeMap as tree;
 ghost use Rattle.std.specs.BTreeSet as set;
 ghost use Rattle.cap_bounds.specs.Rounding.{rounded_base, rounded_top};
 ghost use Rattle.cap_heap.specs.Neighbours.{IsLastUpTo};
-ghost use Rattle.cap_heap.specs.Objects.{AreApart, IsApart, no_objects, with_object, without_object};
-ghost use Rattle.cap_heap.specs.Events.{CanHappen, HasRoom, IsEndOf, IsFaultOf, Shares, after, frees, mallocs};
+ghost use Rattle.cap_heap.specs.Objects.{IsApart, LieApart, Shares, no_objects};
+ghost use Rattle.cap_heap.specs.Events.{CanHappen, HasRoom, IsEndOf, IsFaultOf, after, frees, mallocs};
 ghost use Rattle.cap_heap.specs.Kept.{kept, kept_count};
 ghost use Rattle.cap_heap.specs.declared.events.Event.TheVariants.{Malloc, Free};
 ghost use Rattle.cap_heap.specs.declared.events.EventEnd.TheVariants.{NoMemory};
@@ -82,8 +82,8 @@ impl Heap {
     /// where no object's have.
     pub fn overlapped(&self, address: u64, length: u64) -> Option<(u64, u64)>
         ensures shared { MatchOption result
-            ((other size : ℕ) → objects_in self.now other ≡ Some size → AreApart address length other size)
-            (λ entry. Shares (objects_in self.now) address length entry.0 entry.1) }
+            ((other size : ℕ) → objects_in self.now other ≡ Some size → LieApart address length other size)
+            (λ entry. Shares rounded_base rounded_top (objects_in self.now) address length entry.0 entry.1) }
     {
         let below = last_up_to(&self.lengths, address);
         self.reaching(below, address, length, round(address, length))
@@ -101,8 +101,8 @@ impl Heap {
         requires base { rounded.base ≡ rounded_base address length }
         requires top { rounded.top ≡ rounded_top address length }
         ensures { MatchOption result
-            ((other size : ℕ) → objects_in self.now other ≡ Some size → AreApart address length other size)
-            (λ entry. Shares (objects_in self.now) address length entry.0 entry.1) }
+            ((other size : ℕ) → objects_in self.now other ≡ Some size → LieApart address length other size)
+            (λ entry. Shares rounded_base rounded_top (objects_in self.now) address length entry.0 entry.1) }
     {
         if length == 0 {
             return None;
@@ -135,7 +135,7 @@ impl Heap {
     // An object of no bytes comes to live where there is room for it.
     fn keep_empty(&mut self, address: u64) -> Result<(), EventEnd>
         requires { HasRoom self.old.bounds (objects_in self.old) address 0 }
-        ensures ok { OnOk result ((other : ℕ) → objects_in self.new other ≡ with_object (objects_in self.old) address 0 other) }
+        ensures ok { OnOk result ((other : ℕ) → objects_in self.new other ≡ after (objects_in self.old) (Malloc address 0) other) }
         ensures count { OnOk result (live_in self.new ≡ live_in self.old + 1) }
         ensures end { IfErr result (λ end. end ≡ NoMemory) }
         ensures err { OnErr result ((other : ℕ) → objects_in self.new other ≡ objects_in self.old other) }
@@ -152,7 +152,7 @@ impl Heap {
     fn keep_long(&mut self, address: u64, length: u64) -> Result<(), EventEnd>
         requires some { 0 < length }
         requires room { HasRoom self.old.bounds (objects_in self.old) address length }
-        ensures ok { OnOk result ((other : ℕ) → objects_in self.new other ≡ with_object (objects_in self.old) address length other) }
+        ensures ok { OnOk result ((other : ℕ) → objects_in self.new other ≡ after (objects_in self.old) (Malloc address length) other) }
         ensures count { OnOk result (live_in self.new ≡ live_in self.old + 1) }
         ensures end { IfErr result (λ end. end ≡ NoMemory) }
         ensures err { OnErr result ((other : ℕ) → objects_in self.new other ≡ objects_in self.old other) }
@@ -169,7 +169,7 @@ impl Heap {
     /// changes. Memory is taken for an object that no test refuses; `NoMemory` comes only there.
     pub fn malloc(&mut self, address: u64, length: u64) -> Result<(), EventEnd>
         ensures room { OnOk result (HasRoom self.old.bounds (objects_in self.old) address length) }
-        ensures ok { OnOk result ((other : ℕ) → objects_in self.new other ≡ with_object (objects_in self.old) address length other) }
+        ensures ok { OnOk result ((other : ℕ) → objects_in self.new other ≡ after (objects_in self.old) (Malloc address length) other) }
         ensures count { OnOk result (live_in self.new ≡ live_in self.old + 1) }
         ensures end { IfErr result (IsEndOf self.old.bounds (objects_in self.old) (Malloc address length)) }
         ensures err { OnErr result ((other : ℕ) → objects_in self.new other ≡ objects_in self.old other) }
@@ -189,7 +189,7 @@ impl Heap {
     /// The object at an address lives no more, or none lived there and nothing changes.
     pub fn free(&mut self, address: u64) -> Result<(), EventEnd>
         ensures live { OnOk result (IsSome (objects_in self.old address)) }
-        ensures ok { OnOk result ((other : ℕ) → objects_in self.new other ≡ without_object (objects_in self.old) address other) }
+        ensures ok { OnOk result ((other : ℕ) → objects_in self.new other ≡ after (objects_in self.old) (Free address) other) }
         ensures count { OnOk result (live_in self.old ≡ live_in self.new + 1) }
         ensures end { IfErr result (IsEndOf self.old.bounds (objects_in self.old) (Free address)) }
         ensures err { OnErr result ((other : ℕ) → objects_in self.new other ≡ objects_in self.old other) }

@@ -3,19 +3,20 @@
 ghost use Rattle.std.specs.Prelude.{ℕ, List, ◌↔◌};
 ghost use Rattle.cap_bounds.specs.declared.decoding.Interval.{Interval};
 ghost use Rattle.cap_heap.specs.declared.events.Event.{Event};
+ghost use Rattle.cap_heap.specs.declared.lines.HeapLine.{HeapLine};
 ghost use Rattle.cap_heap.specs.declared.refusal.HeapRefusal.{HeapRefusal};
 ghost use Rattle.cap_heap.specs.Objects.{CanBeGuarded, IsApart};
-ghost use Rattle.cap_heap.specs.HeapLogs.{IsFirstFault, IsLogOf};
+ghost use Rattle.cap_heap.specs.HeapLogs.{IsFirstFault, IsLogOf, text_of};
 
-/// Whatever bytes are read: they are a log at each moment of which the rounded bounds of the live objects lie inside the
+/// Whatever the lines: they are a log at each moment of which the rounded bounds of the live objects lie inside the
 /// root and apart, exactly where they are one at each moment of which sound words can be given so.
 pub fn apart_is_guarded()
-    ensures law { (bytes : List ℕ) (root : Interval) (events : List Event)
-        → IsLogOf IsApart bytes root events ↔ IsLogOf CanBeGuarded bytes root events }
+    ensures law { (lines : List HeapLine) (root : Interval) (events : List Event)
+        → IsLogOf IsApart lines root events ↔ IsLogOf CanBeGuarded lines root events }
 {}
 
-/// No bytes are both such a log and at fault in a line.
+/// The text of such a log is at fault in no line.
 pub fn logs_have_no_fault()
-    ensures law { (bytes : List ℕ) (line : ℕ) (refusal : HeapRefusal) (root : Interval) (events : List Event)
-        → IsFirstFault bytes line refusal → IsLogOf IsApart bytes root events → ⊥ }
+    ensures law { (lines : List HeapLine) (root : Interval) (events : List Event) → IsLogOf IsApart lines root events
+        → (number : ℕ) (refusal : HeapRefusal) → IsFirstFault (text_of lines) number refusal → ⊥ }
 {}

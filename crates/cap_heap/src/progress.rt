@@ -6,7 +6,7 @@ ghost use Rattle.cap_heap.specs.declared.events.Event.{Event};
 ghost use Rattle.cap_heap.specs.declared.lines.HeapLine.TheVariants.{Happens, End};
 ghost use Rattle.cap_heap.specs.declared.stage.Stage.TheVariants as stages;
 ghost use Rattle.cap_heap.specs.HeapLines.{IsInRange};
-ghost use Rattle.cap_heap.specs.HeapLogs.{Beginning};
+ghost use Rattle.cap_heap.specs.Beginnings.{Beginning, due_of, events_of};
 
 use crate::events::{Event, EventEnd};
 use crate::heap::Heap;
@@ -50,7 +50,7 @@ impl Progress {
 
     /// How many events there were.
     pub fn count(&self) -> u32
-        ensures value { (beginning : Beginning) → StandsFor self.now beginning → result ≡ count_in beginning }
+        ensures value { (beginning : Beginning) → StandsFor self.now beginning → result ≡ count_in (events_of beginning) (due_of beginning) }
     {
         match self.stage {
             Stage::Start | Stage::Headed => 0,

@@ -4,8 +4,8 @@ ghost use Rattle.std.specs.Prelude.{◌≡◌, ℕ, List, ◌+◌, ◌≤◌, �
 ghost use Rattle.cap_bounds.specs.Rounding.{rounded_base, rounded_top};
 ghost use Rattle.cap_texts.specs.CapLines.{bounds_line};
 ghost use Rattle.cap_heap.specs.Heaps.{objects_in};
-ghost use Rattle.cap_heap.specs.HeapLogs.{Beginning};
-ghost use Rattle.cap_heap.specs.HeapWhys.{AreDetails, AreEventDetails, count_line, live_lines, request_lines, right_lines};
+ghost use Rattle.cap_heap.specs.Beginnings.{AreDetailsBehind, Beginning};
+ghost use Rattle.cap_heap.specs.HeapWhys.{AreEventDetails, count_line, live_lines, request_lines, right_lines};
 ghost use Rattle.cap_heap.specs.Progresses.{AreEventDetailsIn, StandsFor};
 ghost use Rattle.cap_heap.specs.declared.events.Event.TheVariants.{Malloc};
 
@@ -32,7 +32,7 @@ pub(crate) fn put_details(
     requires room { at + 384 ≤ length buffer.old }
     ensures fits { result ≤ length buffer.old }
     ensures written { (details : List ℕ)
-        × ((beginning : Beginning) → StandsFor progress.now beginning → AreDetails beginning text.now refusal details)
+        × ((beginning : Beginning) → StandsFor progress.now beginning → AreDetailsBehind beginning text.now refusal details)
         × (take result buffer.new ≡ take at buffer.old ++ details) }
 {
     match refusal {

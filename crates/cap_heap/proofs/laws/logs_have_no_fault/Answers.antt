@@ -2,4 +2,4 @@ use Rattle.cap_heap.proofs.OneReading.{not_both}
 use Rattle.cap_heap.proofs.laws.logs_have_no_fault.Goals as goal
 
 pub returns : goal.returns
-returns c = record { law = λ bytes line refusal root events fault log. not_both bytes line refusal fault root events log }
+returns c = record { law = λ lines root events log number refusal fault. not_both lines root events log number refusal fault }

@@ -1,7 +1,6 @@
-use Rattle.std.proofs.Common.{◌≡◌, ◌<◌, ◌+◌, ◌++◌, ◌∷◌, [], length, sym, subst, arith}
+use Rattle.std.proofs.Common.{◌≡◌, ◌<◌, ◌+◌, ◌-◌, ◌^◌, ◌++◌, ◌∷◌, [], length, sym, subst, arith}
 use Rattle.cap_heap.specs.declared.events.Event.{Event}
 use Rattle.cap_heap.specs.Events.{mallocs, frees}
-use Rattle.cap_heap.specs.HeapLogs.{most_events}
 use Rattle.cap_heap.specs.HeapReports.{IsReportOf}
 use Rattle.cap_heap.specs.Heaps.{live_in}
 use Rattle.cap_heap.proofs.RunLemmas.{Reaches-push, Reaches-same, live_after}
@@ -12,7 +11,7 @@ pub returns-in-Malloc-clause-ok : goal.returns-in-Malloc-clause-ok
 returns-in-Malloc-clause-ok c root events reaches =
     let done = c.in-Ok.ensures in
     let old = c.args.self.now in
-    let few : length events < most_events = omega (arith, c.if-self.false, reaches.count_is, reaches.runs.few) in
+    let few : length events < 2 ^ 32 - 1 = omega (arith, c.if-self.false, reaches.count_is, reaches.runs.few) in
     let live = live_after old.heap c.happen.new.self old.report c.add.new.self old.events root events c.args.event reaches c.requires.range few
     done.can done.ok done.count done.bounds in
     let counted : c.live.result + frees (events ++ c.args.event ∷ []) ≡ mallocs (events ++ c.args.event ∷ []) =
@@ -27,7 +26,7 @@ pub returns-in-Free-clause-ok : goal.returns-in-Free-clause-ok
 returns-in-Free-clause-ok c root events reaches =
     let done = c.in-Ok.ensures in
     let old = c.args.self.now in
-    let few : length events < most_events = omega (arith, c.if-self.false, reaches.count_is, reaches.runs.few) in
+    let few : length events < 2 ^ 32 - 1 = omega (arith, c.if-self.false, reaches.count_is, reaches.runs.few) in
     let live = live_after old.heap c.happen.new.self old.report old.report old.events root events c.args.event reaches c.requires.range few
     done.can done.ok done.count done.bounds in
     let told = report-free old.report events _ (live_in c.happen.new.self) reaches.report_is
