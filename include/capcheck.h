@@ -9,12 +9,14 @@
  * be called from several threads at once. The C library's memcpy, memmove and memset are all that they
  * need.
  *
- * What a caller owes are the pointers, and they stand in four kinds of call:
+ * What a caller owes are the pointers, and they stand in five kinds of call:
  *   capcheck_to_memory     bytes points to 16 bytes that may be written;
  *   capcheck_from_memory   bytes points to 16 bytes that may be read;
  *   capcheck_read_word     text points to `length` bytes that may be read, and isn't null, not even
  *                          where length is 0;
- *   capcheck_line_...      buffer points to CAPCHECK_LINE_SIZE bytes that may be written.
+ *   capcheck_line_...      buffer points to CAPCHECK_LINE_SIZE bytes that may be written;
+ *   capcheck_read_line     bytes points to `length` bytes that may be read, and isn't null, not even
+ *                          where length is 0.
  * During the call nothing else writes those bytes, and where the call writes them nothing else reads
  * them. No alignment is asked for.
  *
@@ -398,6 +400,51 @@ size_t capcheck_line_store(char buffer[CAPCHECK_LINE_SIZE], uint64_t authority, 
 /* The end line, with the number of step lines, below 2^32. */
 CAPCHECK_CHECKED
 size_t capcheck_line_end(char buffer[CAPCHECK_LINE_SIZE], uint64_t steps);
+
+/* ---- Lines read ---- */
+
+/* The kinds of lines: each is named as the call that writes it. */
+enum capcheck_line_kind {
+    CAPCHECK_KIND_NONE = 0, /* no line */
+    CAPCHECK_KIND_VERSION = 1,
+    CAPCHECK_KIND_MODE = 2,
+    CAPCHECK_KIND_ROOT = 3,
+    CAPCHECK_KIND_ROOT_AT = 4,
+    CAPCHECK_KIND_MOVE = 5,
+    CAPCHECK_KIND_CLEARTAG = 6,
+    CAPCHECK_KIND_SETBOUNDS = 7,
+    CAPCHECK_KIND_SETBOUNDSEXACT = 8,
+    CAPCHECK_KIND_SETADDR = 9,
+    CAPCHECK_KIND_ANDPERM = 10,
+    CAPCHECK_KIND_SEAL = 11,
+    CAPCHECK_KIND_UNSEAL = 12,
+    CAPCHECK_KIND_LC = 13,
+    CAPCHECK_KIND_SC = 14,
+    CAPCHECK_KIND_LOAD = 15,
+    CAPCHECK_KIND_STORE = 16,
+    CAPCHECK_KIND_END = 17
+};
+
+/* A line: its kind, and its numbers, as the call that writes it takes them. What its kind doesn't have is 0, and NULL
+ * without a tag for a capability. */
+typedef struct capcheck_line {
+    capcheck_cap cap;  /* what a step records; a root's word, with a tag */
+    uint64_t number;   /* a version; 1 for clear mode; the address of a root in memory; a step's length, address, mask or
+                          value; the number of steps */
+    size_t length;     /* how many bytes the line has, its line feed with them */
+    int16_t offset;    /* of an access: -2048 to 2047 */
+    uint8_t kind;      /* enum capcheck_line_kind */
+    uint8_t target;    /* the register that a step writes or a root is in */
+    uint8_t source;    /* the register that it reads */
+    uint8_t authority; /* the register of its authority */
+    uint8_t size;      /* of a load or a store: 1, 2, 4 or 8 */
+} capcheck_line;
+
+/* Reads the line at the front of some bytes, with its line feed: the inverse of the calls that write lines. The next line
+ * of a log begins `length` bytes further. Where no line with its line feed stands there, the kind is CAPCHECK_KIND_NONE
+ * and the length 0. It says nothing of whether the line may stand where it does, or its step be made. */
+CAPCHECK_CHECKED
+capcheck_line capcheck_read_line(const char *bytes, size_t length);
 
 #ifdef __cplusplus
 }

@@ -404,6 +404,46 @@ static void lines_out_of_range(void) {
     values_out_of_range(4, UINT64_C(1) << 32);
 }
 
+static capcheck_line read_of(const char *text) { return capcheck_read_line(text, strlen(text)); }
+
+static bool has_registers(capcheck_line is, unsigned target, unsigned source, unsigned authority) {
+    return is.target == target && is.source == source && is.authority == authority;
+}
+
+static bool is_nothing(capcheck_line is) {
+    return is.kind == CAPCHECK_KIND_NONE && is.length == 0 && has_registers(is, 0, 0, 0) && is.number == 0 && is.offset == 0 &&
+           is.size == 0 && is_cap(is.cap, 0, NOTHING, 0);
+}
+
+/* The line at the front of some bytes, and nothing where none with its line feed stands there. */
+static void lines_read(void) {
+    capcheck_line is = read_of("capcheck 2\nmode clear\n");
+    EXPECT(is.kind == CAPCHECK_KIND_VERSION && is.number == 2 && is.length == 11 && is_cap(is.cap, 0, NOTHING, 0));
+    is = read_of("mode clear\n");
+    EXPECT(is.kind == CAPCHECK_KIND_MODE && is.number == 1 && is.length == 11);
+    EXPECT(read_of("mode strict\n").kind == CAPCHECK_KIND_MODE && read_of("mode strict\n").number == 0);
+    is = read_of("root c31 ffff1ffffc0180040000000000001000\n");
+    EXPECT(is.kind == CAPCHECK_KIND_ROOT && has_registers(is, 31, 0, 0) && is_cap(is.cap, 1, ALL, 0x1000));
+    is = read_of("root @0000000000000020 ffff1ffffc0180040000000000001000\n");
+    EXPECT(is.kind == CAPCHECK_KIND_ROOT_AT && is.number == 0x20 && has_registers(is, 0, 0, 0) && is_cap(is.cap, 1, ALL, 0x1000));
+    is = read_of("setaddr c3 c2 0000000000000010 = 0 ffff1ffffc0180040000000000001000\n");
+    EXPECT(is.kind == CAPCHECK_KIND_SETADDR && has_registers(is, 3, 2, 0) && is.number == 16 && is_cap(is.cap, 0, ALL, 0x1000));
+    is = read_of("seal c3 c1 c2" ALL_RESULT);
+    EXPECT(is.kind == CAPCHECK_KIND_SEAL && has_registers(is, 3, 1, 2) && is.number == 0 && is_cap(is.cap, 1, ALL, 0x1000));
+    is = read_of("lc c3 c1 -2048" ALL_RESULT);
+    EXPECT(is.kind == CAPCHECK_KIND_LC && has_registers(is, 3, 0, 1) && is.offset == -2048 && is.size == 0);
+    is = read_of("sc c0 c31 2032\n");
+    EXPECT(is.kind == CAPCHECK_KIND_SC && has_registers(is, 0, 0, 31) && is.offset == 2032 && is_cap(is.cap, 0, NOTHING, 0));
+    is = read_of("load c1 -8 8 = ffffffffffffffff\n");
+    EXPECT(is.kind == CAPCHECK_KIND_LOAD && has_registers(is, 0, 0, 1) && is.offset == -8 && is.size == 8 && is.number == UINT64_MAX);
+    is = read_of("store c1 8 4 12345678\n");
+    EXPECT(is.kind == CAPCHECK_KIND_STORE && is.size == 4 && is.number == 0x12345678 && is.length == 22);
+    is = read_of("end 4294967295\n");
+    EXPECT(is.kind == CAPCHECK_KIND_END && is.number == 4294967295u);
+    EXPECT(is_nothing(read_of("")) && is_nothing(read_of("\n")) && is_nothing(read_of("end 1")) && is_nothing(read_of("end 01\n")));
+    EXPECT(is_nothing(read_of("sc c32 c1 0\n")) && is_nothing(read_of(" end 1\n")) && is_nothing(read_of("end 1 \n")));
+}
+
 int main(void) {
     words();
     fields();
@@ -414,5 +454,6 @@ int main(void) {
     accesses();
     lines();
     lines_out_of_range();
+    lines_read();
     return failures == 0 ? 0 : 1;
 }

@@ -1,3 +1,4 @@
 pub mod Answers
+pub mod LinesRead
 pub mod LinesWritten
 pub mod WordFields

@@ -14,6 +14,7 @@ mod header_lines;
 mod memory_lines;
 mod operations;
 mod ranges;
+mod read_lines;
 mod refusals;
 mod register_lines;
 mod requests;

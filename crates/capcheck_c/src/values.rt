@@ -113,3 +113,28 @@ pub struct RefusalName {
     /// The name, and bytes 0 behind it.
     pub text: [u8; 24],
 }
+
+/// A line that was read (in C `capcheck_line`).
+#[repr(C)]
+#[derive(Debug, Clone, Copy, PartialEq, Eq)]
+pub struct LineRead {
+    /// What a step records, or the word of a root with a tag; else NULL without a tag.
+    pub cap: Capability,
+    /// The version, 1 for clear mode, the address of a root in memory, a length, an address, a mask, a value, or the
+    /// number of steps; else 0.
+    pub number: u64,
+    /// How many bytes the line has with its line feed; 0 where there is none.
+    pub length: usize,
+    /// The offset of an access, else 0.
+    pub offset: i16,
+    /// The kind of the line, 1 to 17; 0 where there is none.
+    pub kind: u8,
+    /// The register that a step writes or that holds a root, else 0.
+    pub target: u8,
+    /// The register that a step reads first, else 0.
+    pub source: u8,
+    /// The register of an authority, else 0.
+    pub authority: u8,
+    /// The size of a load or a store of data, else 0.
+    pub size: u8,
+}

@@ -1,0 +1,64 @@
+-- What reading a line gives (this profile's own, as are all below).
+use Rattle.std.specs.Prelude.{◌≡◌, ◌≢◌, ℕ, ◌+◌, ◌*◌, ℤ, pos, true, List, length}
+use Rattle.cap_word.specs.declared.word.Cap.{Cap}
+use Rattle.cap_log.specs.Lines.{IsInRange, spelling}
+use Rattle.cap_log.specs.Parts.{Begins, BeginsWithNone}
+use Rattle.cap_log.specs.declared.lines.Line.{Line}
+use Rattle.cap_log.specs.declared.lines.Line.TheVariants as lines
+use Rattle.cap_log.specs.declared.lines.Mode.TheVariants.{Strict, Clear}
+use Rattle.cap_log.specs.declared.lines.Place.TheVariants.{Register, Granule}
+use Rattle.cap_log.specs.declared.lines.Step.{Step}
+use Rattle.cap_log.specs.declared.lines.Step.TheVariants as steps
+use Rattle.cap_halves.specs.Passed.{cap_of, no_cap}
+use Rattle.capcheck_c.specs.declared.values.LineRead.{LineRead}
+
+-- what was read has this kind, these registers, and this number and capability
+pub record IsOfKind (kind target source authority number : ℕ) (cap : Cap) (read : LineRead) : Type 0 where
+  pub kind_is : read.kind ≡ kind
+  pub target_is : read.target ≡ target
+  pub source_is : read.source ≡ source
+  pub authority_is : read.authority ≡ authority
+  pub number_is : read.number ≡ number
+  pub cap_is : cap_of read.cap ≡ cap
+
+-- and it is of no access
+abbrev pub Reads : ℕ → ℕ → ℕ → ℕ → ℕ → Cap → LineRead → Type 0
+Reads kind target source authority number cap read =
+    IsOfKind kind target source authority number cap read × (read.offset ≡ pos 0) × (read.size ≡ 0)
+
+-- or of one at this offset, of so many bytes
+abbrev pub ReadsAt : ℕ → ℕ → ℕ → ℕ → ℤ → ℕ → ℕ → Cap → LineRead → Type 0
+ReadsAt kind target source authority offset size number cap read =
+    IsOfKind kind target source authority number cap read × (read.offset ≡ offset) × (read.size ≡ size)
+
+-- what was read is this step
+abbrev pub IsStepRead : Step → LineRead → Type 0
+IsStepRead (steps.Move target source result) read = Reads 5 target source 0 0 result read
+IsStepRead (steps.ClearTag target source result) read = Reads 6 target source 0 0 result read
+IsStepRead (steps.SetBounds target source length result) read = Reads 7 target source 0 length result read
+IsStepRead (steps.SetBoundsExact target source length result) read = Reads 8 target source 0 length result read
+IsStepRead (steps.SetAddr target source address result) read = Reads 9 target source 0 address result read
+IsStepRead (steps.AndPerm target source mask result) read = Reads 10 target source 0 mask result read
+IsStepRead (steps.Seal target source authority result) read = Reads 11 target source authority 0 result read
+IsStepRead (steps.Unseal target source authority result) read = Reads 12 target source authority 0 result read
+IsStepRead (steps.LoadCap target authority offset result) read = ReadsAt 13 target 0 authority offset 0 0 result read
+IsStepRead (steps.StoreCap source authority offset) read = ReadsAt 14 0 source authority offset 0 0 no_cap read
+IsStepRead (steps.Load authority offset size value) read = ReadsAt 15 0 0 authority offset size value no_cap read
+IsStepRead (steps.Store authority offset size value) read = ReadsAt 16 0 0 authority offset size value no_cap read
+
+-- what was read is this line
+abbrev pub IsLineRead : Line → LineRead → Type 0
+IsLineRead (lines.Version version) read = Reads 1 0 0 0 version no_cap read
+IsLineRead (lines.Mode Strict) read = Reads 2 0 0 0 0 no_cap read
+IsLineRead (lines.Mode Clear) read = Reads 2 0 0 0 1 no_cap read
+IsLineRead (lines.Root (Register register) word) read = Reads 3 register 0 0 0 (record { tag = true; word = word }) read
+IsLineRead (lines.Root (Granule granule) word) read = Reads 4 0 0 0 (16 * granule) (record { tag = true; word = word }) read
+IsLineRead (lines.Step step) read = IsStepRead step read
+IsLineRead (lines.End steps) read = Reads 17 0 0 0 steps no_cap read
+
+-- what is read at the front of bytes: the line that they begin with, with its line feed, and its length; or that they begin with none
+pub record ReadsFront (bytes : List ℕ) (read : LineRead) : Type 0 where
+  pub line : (line : Line) (rest : List ℕ) → Begins IsInRange spelling 10 bytes line rest
+      → IsLineRead line read × (read.length ≡ length (spelling line) + 1)
+  pub kind : read.kind ≢ 0 → (line : Line) × (rest : List ℕ) × Begins IsInRange spelling 10 bytes line rest
+  pub none : BeginsWithNone IsInRange spelling 10 bytes → Reads 0 0 0 0 0 no_cap read × (read.length ≡ 0)
