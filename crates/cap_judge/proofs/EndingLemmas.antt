@@ -8,14 +8,12 @@ use Rattle.cap_log.specs.declared.lines.Line.{Line}
 use Rattle.cap_log.specs.declared.lines.Line.TheVariants as lines
 use Rattle.cap_log.specs.declared.lines.Step.{Step}
 use Rattle.cap_log.specs.Lines.{IsInRange, spelling}
-use Rattle.cap_log.specs.Front.{IsCut, IsLine}
+use Rattle.cap_log.specs.Front.{IsCut}
 use Rattle.cap_ops.specs.declared.refusal.Refusal.{Refusal}
 use Rattle.cap_ops.specs.declared.refusal.Refusal.TheVariants.{Misplaced, Truncated}
-use Rattle.cap_machine.specs.Accounts.{Account}
-use Rattle.cap_machine.specs.Helds.{Held, account_of}
+use Rattle.cap_machine.specs.Helds.{Held}
 use Rattle.cap_machine.specs.States.{DeclaredRoot}
 use Rattle.cap_machine.specs.declared.rules.Rules.{Rules}
-use Rattle.cap_machine.specs.declared.rules.Rules.TheVariants.{One, TwoStrict, TwoClear}
 use Rattle.cap_judge.specs.declared.beginning.Stage.{Stage}
 use Rattle.cap_judge.specs.declared.beginning.Stage.TheVariants as stages
 use Rattle.cap_judge.specs.declared.beginning.Stop.{Stop}
@@ -32,7 +30,7 @@ use Rattle.cap_judge.specs.Verdicts.{IsVerdict}
 use Rattle.cap_judge.proofs.JudgeLemmas.{front_refused}
 use Rattle.cap_judge.proofs.OneReading.{same_front, text_cons}
 use Rattle.cap_judge.proofs.ReachLemmas.{same_rules}
-use Rattle.cap_judge.proofs.ReadingLemmas.{IsUnendedAt, account_stands, all_read, at, goes_further, moved, read_behind, unended_after}
+use Rattle.cap_judge.proofs.ReadingLemmas.{IsUnendedAt, account_stands, all_read, goes_further, moved, read_behind, unended_after}
 use Rattle.cap_judge.proofs.SourceLemmas.{few_body}
 
 -- Where a line is at fault

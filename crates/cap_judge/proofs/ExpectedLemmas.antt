@@ -1,6 +1,6 @@
 -- What the rules give for a step that is refused for its result.
-use Rattle.std.proofs.Common.{◌≡◌, ◌≢◌, ℕ, ℤ, ◌+◌, inl, inr, Bool, true, false, not, List, [], ◌∷◌, ◌++◌, length, map, refl, sym, ap, subst}
-use Rattle.std.proofs.Common.{◌∙◌, Option, Some, None, append-nil, append_assoc, arith}
+use Rattle.std.proofs.Common.{◌≡◌, ◌≢◌, ℕ, ℤ, ◌+◌, inl, inr, Bool, true, false, not, List, [], ◌∷◌, ◌++◌, length, refl, sym, ap, subst, ◌∙◌}
+use Rattle.std.proofs.Common.{Option, Some, None, append-nil, append_assoc, arith}
 use Rattle.std.specs.Prelude.{is_some, option_map}
 use Rattle.std.specs.Bool.{if◌then◌else◌}
 use Rattle.std.proofs.lemmas.Bool.{false≢true}
@@ -11,7 +11,7 @@ use Rattle.cap_log.specs.declared.lines.Line.TheVariants as lines
 use Rattle.cap_log.specs.declared.lines.Place.{Place}
 use Rattle.cap_log.specs.declared.lines.Step.{Step}
 use Rattle.cap_log.specs.declared.lines.Step.TheVariants as steps
-use Rattle.cap_log.specs.Front.{FrontIs, IsCut, IsLine}
+use Rattle.cap_log.specs.Front.{IsCut, IsLine}
 use Rattle.std.proofs.lemmas.List.Elements.{All-nil}
 use Rattle.cap_log.proofs.SpellingLemmas.{one_spelling}
 use Rattle.cap_log.specs.Lines.{Spells}
@@ -23,25 +23,22 @@ use Rattle.cap_ops.specs.Tests.{first_of}
 use Rattle.cap_ops.proofs.TestLemmas.{first_of-append}
 use Rattle.cap_machine.proofs.EscapeLemmas.{never_wrong}
 use Rattle.cap_ops.specs.declared.refusal.Refusal.{Refusal}
-use Rattle.cap_ops.specs.declared.refusal.Refusal.TheVariants.{Misplaced, PlaceTaken, UnsoundRoot, WrongResult, LimitPassed, WrongCount}
-use Rattle.cap_ops.specs.declared.refusal.Refusal.TheVariants.{Truncated, LineTooLong, BadHeader, BadMode}
+use Rattle.cap_ops.specs.declared.refusal.Refusal.TheVariants.{WrongResult, LimitPassed, Truncated}
 use Rattle.cap_machine.specs.declared.rules.Rules.{Rules}
 use Rattle.cap_machine.specs.declared.rules.Rules.TheVariants.{One, TwoStrict, TwoClear}
-use Rattle.cap_machine.specs.States.{State, DeclaredRoot, value_at}
-use Rattle.cap_machine.specs.Steps.{Access, Recorded, Row, Nothing as Unrecorded, Written, address_through, agrees, clear_row, row_by}
-use Rattle.cap_machine.specs.Steps.{row_of}
+use Rattle.cap_machine.specs.States.{State, DeclaredRoot}
+use Rattle.cap_machine.specs.Steps.{Access, Recorded, Row, Nothing as Unrecorded, Written, agrees, clear_row, row_by, row_of}
 use Rattle.cap_machine.proofs.StepLemmas.{is_recorded}
 use Rattle.cap_machine.specs.Accounts.{Account, row_in, step_tests}
 use Rattle.cap_machine.specs.Helds.{Held, account_of}
 use Rattle.cap_judge.specs.declared.verdict.Expected.{Expected}
-use Rattle.cap_judge.specs.declared.verdict.Expected.TheVariants.{Capability, Number}
+use Rattle.cap_judge.specs.declared.verdict.Expected.TheVariants.{Capability}
 use Rattle.cap_judge.specs.declared.verdict.Verdict.TheVariants.{Yes, No}
 use Rattle.cap_judge.specs.declared.faults.Fault.{Fault}
 use Rattle.cap_judge.specs.FaultLines.{bytes_of}
-use Rattle.cap_judge.specs.Logs.{Beginning, Nothing, NoMode, Body, Whole, IsFirstFault, Refuses, account_after, body_lines, line_tests}
-use Rattle.cap_judge.specs.Logs.{IsAccepted, RunsBy, lines_of, text_of}
+use Rattle.cap_judge.specs.Logs.{Beginning, Nothing, NoMode, Body, Whole, IsFirstFault, Refuses, account_after, body_lines, IsAccepted}
+use Rattle.cap_judge.specs.Logs.{RunsBy, lines_of, text_of}
 use Rattle.cap_judge.specs.Judgings.{IsLastFront, account_before}
-use Rattle.cap_judge.specs.Verdicts.{IsYes}
 use Rattle.cap_judge.specs.Expectations.{Expects, IsExpected, GivesFor, GivesForText, given_for, given_in, IfWritten, lost_for}
 use Rattle.cap_judge.specs.declared.beginning.Stage.{Stage}
 use Rattle.cap_judge.specs.declared.beginning.Stage.TheVariants as stages

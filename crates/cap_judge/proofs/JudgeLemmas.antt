@@ -1,6 +1,6 @@
 -- Where the judge is, and what it may answer there.
-use Rattle.std.proofs.Common.{◌≡◌, ◌≢◌, ℕ, zero, suc, ◌+◌, true, false, List, [], ◌∷◌, ◌++◌, length, map, refl, sym, ap}
-use Rattle.std.proofs.Common.{subst, ◌∙◌, append-nil, append_assoc, arith, Result, Ok, Err, IsOk, IfOk, IfErr}
+use Rattle.std.proofs.Common.{◌≡◌, ℕ, zero, suc, ◌+◌, true, List, [], ◌∷◌, ◌++◌, length, map, refl, sym, ap, subst, ◌∙◌, append_assoc}
+use Rattle.std.proofs.Common.{arith, Result, Ok, Err, IsOk, IfErr}
 use Rattle.std.specs.List.{AllByRecursion}
 use Rattle.std.proofs.lemmas.Grind.{flat_map-append}
 use Rattle.std.proofs.lemmas.Bool.{false≢true, and_parts, eqb-true, leb-true}
@@ -11,9 +11,9 @@ use Rattle.cap_log.specs.declared.lines.Line.{Line}
 use Rattle.cap_log.specs.declared.lines.Line.TheVariants as lines
 use Rattle.cap_log.specs.declared.lines.Step.{Step}
 use Rattle.cap_log.specs.Lines.{spelling, IsInRange, IsStepInRange}
-use Rattle.cap_log.specs.Front.{FrontIs, IsLine}
+use Rattle.cap_log.specs.Front.{FrontIs}
 use Rattle.cap_ops.specs.declared.refusal.Refusal.{Refusal}
-use Rattle.cap_ops.specs.declared.refusal.Refusal.TheVariants.{LineTooLong, Misplaced, Truncated}
+use Rattle.cap_ops.specs.declared.refusal.Refusal.TheVariants.{LineTooLong, Truncated}
 use Rattle.cap_machine.specs.declared.ends.StepEnd.TheVariants.{NoMemory}
 use Rattle.cap_machine.specs.States.{State, DeclaredRoot, start}
 use Rattle.cap_machine.specs.declared.rules.Rules.{Rules}
@@ -24,16 +24,13 @@ use Rattle.cap_machine.proofs.AccessLemmas.{lie_inside}
 use Rattle.cap_machine.proofs.AuthorityLemmas.{one_root}
 use Rattle.cap_machine.proofs.EscapeLemmas.{clears_along}
 use Rattle.cap_judge.specs.declared.verdict.Verdict.{Verdict}
-use Rattle.cap_judge.specs.declared.verdict.Verdict.TheVariants.{Yes, No}
 use Rattle.cap_judge.specs.declared.verdict.JudgeFault.{JudgeFault}
 use Rattle.cap_judge.specs.declared.verdict.JudgeFault.TheVariants as faults
 use Rattle.cap_judge.specs.Logs.{Beginning, Nothing, NoMode, Body, Whole, header_lines, body_lines, lines_of, text_of, account_after}
-use Rattle.cap_judge.specs.Logs.{IsAccepted, RunsBy, RefusesWhole, Refuses, IsFirstFault, MayLackMemory}
-use Rattle.cap_judge.specs.Logs.{IsLogOf, NamesNoGranules, named_by_line}
+use Rattle.cap_judge.specs.Logs.{RunsBy, RefusesWhole, Refuses, IsFirstFault, MayLackMemory, IsLogOf, NamesNoGranules, named_by_line}
 use Rattle.cap_machine.specs.Escapes.{ClearsExactly}
 use Rattle.cap_judge.specs.Verdicts.{IsYes, IsGuarded, IsFault}
 use Rattle.cap_judge.specs.Judgings.{IsBehind}
-use Rattle.std.proofs.lemmas.List.{length_push}
 
 -- one line more
 pub text_push : (lines : List Line) (line : Line) (rest : List ℕ)

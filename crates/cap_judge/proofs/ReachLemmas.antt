@@ -1,25 +1,20 @@
 -- What lines lead a machine to, step by step and root by root.
-use Rattle.std.proofs.Common.{◌≡◌, ℕ, ◌+◌, ◌^◌, ◌<◌, Bool, true, nat_lt, List, [], ◌∷◌, ◌++◌, map, refl, sym, ap, subst, ◌∙◌, arith, Some}
-use Rattle.std.proofs.Common.{None, append_assoc, append-nil}
-use Rattle.std.proofs.lemmas.Bool.{lt-ltb}
+use Rattle.std.proofs.Common.{◌≡◌, ℕ, ◌+◌, ◌^◌, ◌<◌, true, List, [], ◌∷◌, ◌++◌, map, refl, sym, ap, subst, ◌∙◌, arith, None, append_assoc}
+use Rattle.std.proofs.Common.{append-nil}
 use Rattle.std.proofs.lemmas.List.{length_push}
-use Rattle.cap_word.specs.declared.word.Word.{Word}
-use Rattle.cap_log.specs.declared.lines.Place.{Place}
-use Rattle.cap_log.specs.declared.lines.Line.{Line}
-use Rattle.cap_log.specs.declared.lines.Line.TheVariants.{Root, Step}
+use Rattle.cap_log.specs.declared.lines.Line.TheVariants.{Step}
 use Rattle.cap_log.specs.declared.lines.Step as steps_module
 use Rattle.cap_log.specs.Lines.{IsInRange, IsStepInRange, IsPlace, spelling}
 use Rattle.cap_log.specs.Parts.{Begins}
 use Rattle.cap_ops.specs.Tests.{first_of}
-use Rattle.cap_ops.specs.declared.refusal.Refusal.TheVariants.{Misplaced}
 use Rattle.cap_machine.specs.declared.ends.StepEnd.{StepEnd}
 use Rattle.cap_machine.specs.declared.ends.StepEnd.TheVariants.{Refused, NoMemory}
 use Rattle.cap_machine.specs.declared.rules.Rules.{Rules}
-use Rattle.cap_machine.specs.declared.rules.Rules.TheVariants.{One, TwoStrict, TwoClear}
+use Rattle.cap_machine.specs.declared.rules.Rules.TheVariants.{One}
 use Rattle.cap_machine.specs.States.{State, DeclaredRoot}
 use Rattle.cap_machine.specs.Steps.{Leads}
 use Rattle.cap_machine.specs.Accounts.{Account, no_account, with_root, with_step, root_tests, step_tests}
-use Rattle.cap_machine.specs.Helds.{Held, Makes, EndsStep, TakesRoot, EndsRoot, state_of, account_of}
+use Rattle.cap_machine.specs.Helds.{Held, Makes, EndsStep, TakesRoot, state_of, account_of}
 use Rattle.cap_machine.proofs.AccountLemmas.{with_root-grows, with_step-grows, account_after-grows, after_roots}
 use Rattle.cap_judge.specs.Logs.{has_form, text_of}
 use Rattle.cap_judge.specs.Readings.{Reaches, EndsFor, EndsStepAt, TakesStep, TakesSteps}

@@ -22,23 +22,17 @@ use Rattle.cap_machine.specs.Accounts.{Account, is_new, no_account}
 use Rattle.cap_machine.specs.Helds.{Held, account_of}
 use Rattle.cap_machine.specs.States.{DeclaredRoot}
 use Rattle.cap_machine.specs.declared.rules.Rules.{Rules}
-use Rattle.cap_machine.specs.declared.rules.Rules.TheVariants.{One, TwoStrict, TwoClear}
-use Rattle.cap_machine.proofs.AccountLemmas.{account_after-grows}
+use Rattle.cap_machine.specs.declared.rules.Rules.TheVariants.{One}
 use Rattle.cap_judge.specs.declared.beginning.Stage.{Stage}
 use Rattle.cap_judge.specs.declared.beginning.Stage.TheVariants as stages
-use Rattle.cap_judge.specs.declared.beginning.Stop.{Stop}
-use Rattle.cap_judge.specs.declared.beginning.Stop.TheVariants as stops
 use Rattle.cap_judge.specs.declared.faults.Fault.{Fault}
-use Rattle.cap_judge.specs.FaultLines.{IsFrontText, bytes_of}
-use Rattle.cap_judge.specs.Readings.{rules_of}
-use Rattle.cap_judge.specs.Judgings.{IsBehind, IsLastFront, account_before}
-use Rattle.cap_judge.specs.Logs.{Beginning, Nothing, NoMode, Body, Whole, header_lines, body_lines, lines_of, text_of, has_form}
-use Rattle.cap_judge.specs.Logs.{SpellsBy, IsAccepted, Refuses, RefusesWhole, line_tests, named_by_line}
-use Rattle.cap_judge.specs.Readings.{EndsFor, Reaches}
-use Rattle.cap_judge.specs.Readings.{EndsAt, EndsBehind, EndsFrom, EndsStepAt, Faults, GoesOn, IsAfter, IsAtFault, IsFaultAt, IsRest, Known, Read}
-use Rattle.cap_judge.specs.Readings.{StopsAt, TakesSteps}
+use Rattle.cap_judge.specs.FaultLines.{bytes_of}
+use Rattle.cap_judge.specs.Readings.{rules_of, EndsFor, Reaches, EndsAt, EndsBehind, EndsFrom, EndsStepAt, Faults, GoesOn, IsAfter}
+use Rattle.cap_judge.specs.Readings.{IsAtFault, IsRest, Known, Read, TakesSteps}
+use Rattle.cap_judge.specs.Judgings.{IsLastFront, account_before}
+use Rattle.cap_judge.specs.Logs.{Beginning, Nothing, NoMode, Body, Whole, header_lines, body_lines, lines_of, text_of, has_form, SpellsBy}
+use Rattle.cap_judge.specs.Logs.{IsAccepted, Refuses, RefusesWhole, line_tests, named_by_line}
 use Rattle.cap_judge.proofs.JudgeLemmas.{IsUnended, front_refused, text_push}
-use Rattle.cap_judge.proofs.LogLemmas.{steps_push, roots_push}
 use Rattle.cap_judge.proofs.ReachLemmas.{header_reached, same_rules, step_formed}
 
 -- a judge that knows this

@@ -1,10 +1,10 @@
 -- What a judge answers on the bytes that a source gave.
-use Rattle.std.proofs.Common.{◌≡◌, ◌≢◌, ℕ, ◌+◌, ◌-◌, ◌*◌, ◌<◌, ◌≤◌, inl, inr, Bool, true, false, List, [], ◌∷◌, ◌++◌, length, refl, sym, ap}
-use Rattle.std.proofs.Common.{subst, ◌∙◌, append-nil, append_assoc, arith, Result, Ok, Err, IfOk}
+use Rattle.std.proofs.Common.{◌≡◌, ◌≢◌, ℕ, ◌+◌, ◌-◌, ◌*◌, ◌<◌, ◌≤◌, inl, inr, Bool, true, false, List, [], ◌∷◌, ◌++◌, length, sym, ap}
+use Rattle.std.proofs.Common.{subst, ◌∙◌, append-nil, append_assoc, arith, Result, Ok, Err}
 use Rattle.std.proofs.lemmas.Bool.{false≢true}
 use Rattle.std.proofs.lemmas.List.{length-append}
 use Rattle.std.proofs.lemmas.List.Elements.{All-nil}
-use Rattle.cap_log.specs.Front.{IsCut, IsLine}
+use Rattle.cap_log.specs.Front.{IsCut}
 use Rattle.cap_machine.specs.Helds.{Held}
 use Rattle.cap_judge.specs.declared.beginning.Stage.{Stage}
 use Rattle.cap_judge.specs.declared.beginning.Stage.TheVariants as stages
@@ -16,9 +16,9 @@ use Rattle.cap_judge.specs.declared.verdict.JudgeFault.TheVariants as judge_faul
 use Rattle.cap_judge.specs.declared.verdict.Verdict.{Verdict}
 use Rattle.cap_judge.specs.declared.verdict.Verdict.TheVariants.{Yes, No}
 use Rattle.cap_judge.specs.FaultLines.{bytes_of}
-use Rattle.cap_judge.specs.Judgings.{IsVerdictOf, JudgedBy, LeadsAfter, StopsBefore, StopsIn}
+use Rattle.cap_judge.specs.Judgings.{IsVerdictOf, JudgedBy, StopsBefore}
 use Rattle.cap_judge.specs.Logs.{IsFirstFault, MayLackMemory, lines_of, text_of}
-use Rattle.cap_judge.specs.Readings.{EndsWith, GoesOn, IsAnswered, IsAtFault, IsRest, Known, Read, StopsAt}
+use Rattle.cap_judge.specs.Readings.{EndsWith, IsAnswered, IsAtFault, IsRest, Known, Read, StopsAt}
 use Rattle.cap_judge.proofs.BeginningLemmas.{accepted_in_range}
 use Rattle.cap_judge.proofs.EndingLemmas.{count_read, fault_of, first_fault, lines_read, more_lines, stops_fault}
 use Rattle.cap_judge.proofs.ReadingLemmas.{all_read}

@@ -3,7 +3,6 @@ use Rattle.std.proofs.Common.{◌≡◌, ◌≢◌, ℕ, ◌^◌, ◌<◌, inl, 
 use Rattle.std.proofs.Common.{arith, append-nil, append_assoc, None, Some, Option, Result, Ok, Err, IfErr, IfSome, ◌-◌, length, take, drop}
 use Rattle.std.proofs.lemmas.List.{length-append, take_at}
 use Rattle.std.proofs.lemmas.List.Prefix.{end_rest}
-use Rattle.std.proofs.lemmas.Bool.{false≢true}
 use Rattle.cap_word.specs.declared.word.Word.{Word}
 use Rattle.cap_log.specs.declared.lines.Line.{Line}
 use Rattle.cap_log.specs.declared.lines.Line.TheVariants as lines
@@ -12,8 +11,8 @@ use Rattle.cap_log.specs.declared.lines.Place.{Place}
 use Rattle.cap_log.specs.declared.lines.Step.{Step}
 use Rattle.cap_log.specs.Lines.{IsInRange, IsPlace, IsStepInRange, Spells, spelling}
 use Rattle.cap_log.specs.Front.{IsCut, IsLine, IsTooLong}
-use Rattle.cap_log.specs.Parts.{Begins, BeginsWithNone}
-use Rattle.cap_log.proofs.FrontLemmas.{IsLine-not_cut, IsLine-same, IsLine-not_too_long, IsTooLong-not_cut}
+use Rattle.cap_log.specs.Parts.{BeginsWithNone}
+use Rattle.cap_log.proofs.FrontLemmas.{IsLine-same}
 use Rattle.cap_log.proofs.SpellingLemmas.{one_spelling}
 use Rattle.cap_ops.specs.Tests.{first_of}
 use Rattle.cap_ops.specs.declared.refusal.Refusal.{Refusal}
@@ -24,21 +23,22 @@ use Rattle.cap_machine.specs.Accounts.{Account}
 use Rattle.cap_machine.specs.Helds.{Held, Makes, TakesRoot, account_of}
 use Rattle.cap_machine.specs.States.{DeclaredRoot}
 use Rattle.cap_machine.specs.declared.rules.Rules.{Rules}
-use Rattle.cap_machine.specs.declared.rules.Rules.TheVariants.{One, TwoStrict, TwoClear}
+use Rattle.cap_machine.specs.declared.rules.Rules.TheVariants.{One}
 use Rattle.cap_judge.specs.declared.beginning.Stage.{Stage}
 use Rattle.cap_judge.specs.declared.beginning.Stage.TheVariants as stages
 use Rattle.cap_judge.specs.declared.beginning.Stop.{Stop}
 use Rattle.cap_judge.specs.declared.beginning.Stop.TheVariants as stops
 use Rattle.cap_judge.specs.declared.faults.Fault.{Fault}
-use Rattle.cap_judge.specs.FaultLines.{IsFrontText, bytes_of}
+use Rattle.cap_judge.specs.FaultLines.{IsFrontText}
 use Rattle.cap_judge.specs.Judgings.{IsLastFront}
 use Rattle.cap_judge.specs.Logs.{has_form, line_tests, MayLackMemory, body_lines}
-use Rattle.cap_judge.specs.Readings.{EndsAt, EndsFor, EndsFrom, EndsStepAt, GoesOn, GoesOrStops, IsAtFault, Known, Reaches, Read, StopsAt, TakesSteps, rules_of}
+use Rattle.cap_judge.specs.Readings.{EndsAt, EndsFor, EndsFrom, EndsStepAt, GoesOn, IsAtFault, Known, Reaches, StopsAt, TakesSteps}
+use Rattle.cap_judge.specs.Readings.{rules_of}
 use Rattle.cap_judge.proofs.EndingLemmas.{stops_later}
 use Rattle.cap_judge.proofs.FormLemmas.{no_form}
 use Rattle.cap_judge.proofs.LogLemmas.{roots_push, steps_push}
 use Rattle.cap_judge.proofs.ReachLemmas.{root_on, step_formed, step_on}
-use Rattle.cap_judge.proofs.ReadingLemmas.{all_read, at, body_ends, ended_ends, formless_ends, goes_further, leads_body, leads_end, leads_mode, leads_one}
+use Rattle.cap_judge.proofs.ReadingLemmas.{all_read, at, body_ends, ended_ends, formless_ends, leads_body, leads_end, leads_mode, leads_one}
 use Rattle.cap_judge.proofs.ReadingLemmas.{leads_steps, leads_two, led, long_ends, mode_ends, stays, step_ends, version_ends}
 
 -- the stages of an arm

@@ -1,5 +1,5 @@
-use Rattle.std.proofs.Common.{◌≡◌, ◌/◌, ℕ, ℤ, Bool, List, Option, None, Some, true, false, option_map, [], ap, sym, subst, ◌∙◌}
-use Rattle.std.proofs.Common.{rules, w16, to_z, of_z, FitsSigned}
+use Rattle.std.proofs.Common.{◌≡◌, ◌/◌, ℕ, ℤ, Bool, List, Option, None, Some, true, false, option_map, [], ap, sym, subst, ◌∙◌, rules, w16}
+use Rattle.std.proofs.Common.{to_z, of_z, FitsSigned}
 use Rattle.std.proofs.lemmas.Int.{to_z-of_z}
 use Rattle.cap_word.specs.declared.word.Cap.{Cap}
 use Rattle.cap_log.specs.declared.lines.Step.{Step}

@@ -1,4 +1,4 @@
-use Rattle.std.proofs.Common.{◌≡◌, ◌≢◌, ◌++◌, [], ℕ, List, ap, append-nil, append_assoc, arith, length, refl, rules, subst, sym, true, ◌∙◌}
+use Rattle.std.proofs.Common.{◌≡◌, ◌≢◌, ◌++◌, [], ℕ, List, append-nil, append_assoc, arith, length, refl, rules, subst, sym, true, ◌∙◌}
 use Rattle.std.proofs.lemmas.List.Elements.{All-nil}
 use Rattle.cap_log.specs.Front.{IsCut}
 use Rattle.cap_log.specs.Pulled.{items}
@@ -6,7 +6,8 @@ use Rattle.cap_machine.specs.Helds.{held_of}
 use Rattle.cap_judge.specs.declared.beginning.Stop.{Stop}
 use Rattle.cap_judge.specs.FaultLines.{bytes_of}
 use Rattle.cap_judge.specs.Readings.{EndsWith, StopsAt, known_of}
-use Rattle.cap_judge.proofs.StreamLemmas.{closer, ended_judged, fault_judged, given_more, lacking_judged, nothing_clear, nothing_more, pull_judged}
+use Rattle.cap_judge.proofs.StreamLemmas.{closer, ended_judged, fault_judged, given_more, lacking_judged, nothing_clear, nothing_more}
+use Rattle.cap_judge.proofs.StreamLemmas.{pull_judged}
 use Rattle.cap_judge.proofs.streams.judge_source.Goals as goal
 
 pub pieces-init : goal.pieces-init

@@ -1,4 +1,4 @@
-use Rattle.cap_machine.specs.Helds.{held_of, Held}
+use Rattle.cap_machine.specs.Helds.{held_of}
 use Rattle.std.proofs.Common.{refl, ap, ◌∙◌}
 use Rattle.cap_machine.specs.declared.rules.Rules.{Rules}
 use Rattle.cap_judge.proofs.TakingLemmas.{goes_mode, mode_other}

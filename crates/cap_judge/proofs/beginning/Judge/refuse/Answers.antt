@@ -1,4 +1,3 @@
-use Rattle.cap_machine.specs.Helds.{held_of}
 use Rattle.std.proofs.Common.{sym, subst}
 use Rattle.cap_ops.specs.declared.refusal.Refusal.{Refusal}
 use Rattle.cap_machine.specs.declared.ends.StepEnd.TheVariants.{Refused}

@@ -1,9 +1,8 @@
-use Rattle.std.proofs.Common.{◌≡◌, ◌++◌, ◌∷◌, [], ℕ, List, None, Some, Option, arith, ap, append_assoc, length, refl, rules, subst, sym, ◌∙◌, ◌-◌, take, drop}
-use Rattle.std.proofs.lemmas.List.{length-append}
+use Rattle.std.proofs.Common.{◌≡◌, ◌++◌, [], ℕ, List, None, Some, Option, ap, append_assoc, refl, rules, subst, sym, ◌∙◌}
 use Rattle.cap_judge.specs.declared.beginning.Stop.{Stop}
-use Rattle.cap_judge.specs.Readings.{GoesOrStops, StopsAt, known_of}
+use Rattle.cap_judge.specs.Readings.{GoesOrStops, known_of}
 use Rattle.cap_judge.proofs.ReadingLemmas.{goes_further, stays}
-use Rattle.cap_judge.proofs.TakingLemmas.{front_count, shorter, stops_here}
+use Rattle.cap_judge.proofs.TakingLemmas.{stops_here}
 use Rattle.cap_judge.proofs.beginning.Judge.take.Goals as goal
 
 pub lines-init : goal.lines-init

@@ -1,6 +1,5 @@
-use Rattle.cap_machine.specs.Helds.{held_of}
+use Rattle.cap_machine.specs.Helds.{held_of, Held}
 use Rattle.std.proofs.Common.{[], ◌≡◌, ◌++◌, ◌∙◌, Err, IfErr, List, OnOk, Option, Result, IfSome, Some, ap, subst, ℕ}
-use Rattle.cap_machine.specs.Helds.{Held}
 use Rattle.cap_machine.specs.declared.ends.StepEnd.{StepEnd}
 use Rattle.cap_judge.specs.Logs.{MayLackMemory}
 use Rattle.cap_judge.specs.Readings.{EndsStepAt, Read, TakesStep, known_of}

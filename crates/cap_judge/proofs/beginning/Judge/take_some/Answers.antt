@@ -1,4 +1,4 @@
-use Rattle.std.proofs.Common.{◌≡◌, ◌≢◌, ◌++◌, ◌∷◌, [], ℕ, List, Some, append_assoc, append-nil, ap, subst, sym, ◌∙◌, refl}
+use Rattle.std.proofs.Common.{◌++◌, ◌∷◌, [], ℕ, List, append_assoc, ap, sym, ◌∙◌}
 use Rattle.cap_judge.specs.Readings.{known_of}
 use Rattle.cap_judge.proofs.ReadingLemmas.{goes_further}
 use Rattle.cap_judge.proofs.TakingLemmas.{feed_some, stops_after}
