@@ -14,9 +14,10 @@ use Rattle.cap_judge.specs.declared.verdict.Verdict.TheVariants.{No}
 use Rattle.cap_judge.specs.Logs.{Beginning, Nothing, NoMode, Body, Whole, lines_of, text_of, IsFirstFault}
 use Rattle.cap_judge.specs.Judgings.{IsBehind, IsVerdictOf, account_before, IsLastFront, StopsBefore}
 use Rattle.cap_judge.specs.FaultLines.{IsFrontText}
-use Rattle.cap_judge.proofs.BeginningLemmas.{accepted_in_range}
-use Rattle.cap_judge.proofs.OneReading.{Stage, Unread, Versioned, Within, Ended, Reads, behind, text_cons, same_front}
-use Rattle.cap_judge.proofs.OneVerdict.{stage_of, accepted_read}
+use Rattle.cap_judge.proofs.LogLemmas.{accepted_in_range}
+use Rattle.cap_judge.proofs.OneVerdict.{text_cons, same_front}
+use Rattle.cap_judge.specs.Turns.{Stage, Unread, Versioned, Within, Ended, Reads, behind}
+use Rattle.cap_judge.proofs.InTurn.{stage_of, accepted_read}
 use Rattle.cap_judge.proofs.SourceLemmas.{whole_verdict}
 
 -- as many lines at the front of the same bytes are the same

@@ -1,7 +1,7 @@
 use Rattle.cap_machine.specs.Helds.{held_of}
 use Rattle.std.proofs.Common.{ap, arith, length}
 use Rattle.cap_judge.specs.Logs.{header_lines}
-use Rattle.cap_judge.proofs.TakingLemmas.{ended_by}
+use Rattle.cap_judge.proofs.ReadingLemmas.{ended_by}
 use Rattle.cap_judge.proofs.EndingLemmas.{count_at_body, count_at_end}
 use Rattle.cap_judge.proofs.beginning.Judge.next_line.Goals as goal
 

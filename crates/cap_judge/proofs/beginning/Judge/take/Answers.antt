@@ -2,7 +2,7 @@ use Rattle.std.proofs.Common.{◌≡◌, ◌++◌, [], ℕ, List, None, Some, Op
 use Rattle.cap_judge.specs.declared.beginning.Stop.{Stop}
 use Rattle.cap_judge.specs.Readings.{GoesOrStops, known_of}
 use Rattle.cap_judge.proofs.ReadingLemmas.{goes_further, stays}
-use Rattle.cap_judge.proofs.TakingLemmas.{stops_here}
+use Rattle.cap_judge.proofs.ReadingLemmas.{stops_here}
 use Rattle.cap_judge.proofs.beginning.Judge.take.Goals as goal
 
 pub lines-init : goal.lines-init

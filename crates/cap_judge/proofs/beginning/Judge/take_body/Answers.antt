@@ -4,7 +4,7 @@ use Rattle.cap_machine.specs.declared.ends.StepEnd.{StepEnd}
 use Rattle.cap_judge.specs.Logs.{MayLackMemory}
 use Rattle.cap_judge.specs.Readings.{EndsStepAt, Read, TakesStep, known_of}
 use Rattle.cap_judge.specs.declared.verdict.TakeFault.TheVariants.{NoMemory}
-use Rattle.cap_judge.proofs.AnswerLemmas.{end_whole, memory_only, no_line, step_alone, whole_some}
+use Rattle.cap_judge.proofs.EndingLemmas.{end_whole, memory_only, no_line, step_alone, whole_some}
 use Rattle.cap_judge.proofs.ReadingLemmas.{at}
 use Rattle.cap_judge.proofs.beginning.Judge.take_body.Goals as goal
 

@@ -4,7 +4,7 @@ use Rattle.cap_judge.specs.declared.beginning.Stage.{Stage}
 use Rattle.cap_judge.specs.declared.beginning.Stop.{Stop}
 use Rattle.cap_judge.specs.declared.beginning.Stop.TheVariants.{Cut, Fault}
 use Rattle.cap_judge.specs.Readings.{EndsAt, StopsAt, known_of}
-use Rattle.cap_judge.proofs.AnswerLemmas.{end_whole, whole_lacks}
+use Rattle.cap_judge.proofs.EndingLemmas.{end_whole, whole_lacks}
 use Rattle.cap_judge.proofs.ReadingLemmas.{at, step_ends}
 use Rattle.cap_judge.proofs.beginning.Judge.take_end.Goals as goal
 

@@ -1,7 +1,7 @@
 use Rattle.std.proofs.Common.{[], ◌≡◌, ◌∙◌, Bor, Err, IfErr, List, Result, ap, rules, subst, true, ℕ}
 use Rattle.cap_judge.specs.declared.beginning.Stop.{Stop}
 use Rattle.cap_judge.specs.Readings.{StopsAt, known_of}
-use Rattle.cap_judge.proofs.AnswerLemmas.{whole_lacks, whole_taken, whole_uncut}
+use Rattle.cap_judge.proofs.EndingLemmas.{whole_lacks, whole_taken, whole_uncut}
 use Rattle.cap_judge.proofs.beginning.Judge.take_whole.Goals as goal
 
 pub returns-in-Err-NoMemory-clause-no_memory : goal.returns-in-Err-NoMemory-clause-no_memory
