@@ -37,7 +37,7 @@ use Rattle.std.proofs.lemmas.Grind.{flat_map-append}
 use Rattle.cap_log.proofs.FrontLemmas.{IsLine-not_cut, IsLine-not_too_long, IsLine-same, IsTooLong-not_cut}
 use Rattle.cap_judge.specs.declared.beginning.Stop.TheVariants as stops
 use Rattle.cap_log.specs.declared.lines.Mode.TheVariants as modes
-use Rattle.cap_machine.specs.declared.rules.Rules.TheVariants.{One, TwoStrict, TwoClear}
+use Rattle.cap_machine.specs.declared.rules.Rules.TheVariants.{One, TwoStrict}
 use Rattle.cap_judge.specs.declared.verdict.TakeFault.{TakeFault}
 use Rattle.cap_judge.specs.declared.verdict.TakeFault.TheVariants.{NoLine, NoMemory}
 
@@ -204,8 +204,7 @@ verdict_no held bytes end fault is ends = (subst (EndsWith held bytes) is ends).
 -- there are no more lines than the limits allow
 few_header : (rules_are : Rules) → length (header_lines rules_are) ≤ 2
 few_header One = omega arith
-few_header TwoStrict = omega arith
-few_header TwoClear = omega arith
+few_header rules_are = omega arith
 
 pub few_body : (rules_are : Rules) (roots : List DeclaredRoot) (steps : List _)
     → length (body_lines rules_are roots steps) ≡ length (header_lines rules_are) + (length roots + length steps)
@@ -272,15 +271,10 @@ count_read stages.Ended held (Whole rules_are roots steps) clear after = whole_c
 count_read (stages.Refused fault) held beginning clear after = absurd (clear tt)
 count_read stage held beginning clear after = absurd after
 
-pub count_at_body : (stage : Stage) (held : Held) (beginning : Beginning) → stage ≡ stages.Body → IsAfter stage held beginning
-    → length (header_lines held.rules) + held.roots + held.steps ≡ length (lines_of beginning)
-count_at_body stage held beginning is after =
-    count_read stages.Body held beginning (λ f. f) (subst (λ (s : Stage). IsAfter s held beginning) is after)
-
-pub count_at_end : (stage : Stage) (held : Held) (beginning : Beginning) → stage ≡ stages.Ended → IsAfter stage held beginning
-    → length (header_lines held.rules) + held.roots + held.steps + 1 ≡ length (lines_of beginning)
-count_at_end stage held beginning is after =
-    count_read stages.Ended held beginning (λ f. f) (subst (λ (s : Stage). IsAfter s held beginning) is after)
+pub count_at : (stage known : Stage) (held : Held) (beginning : Beginning) → stage ≡ known → (IsAtFault known → ⊥)
+    → IsAfter stage held beginning → lines_read known held ≡ length (lines_of beginning)
+count_at stage known held beginning is clear after =
+    count_read known held beginning clear (subst (λ (s : Stage). IsAfter s held beginning) is after)
 
 -- a text that goes on has no fewer lines, and more where it goes on by something
 pub more_lines : (before after : List Line) (front : List ℕ) → AllByRecursion IsInRange before → AllByRecursion IsInRange after

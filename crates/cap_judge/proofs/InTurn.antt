@@ -62,8 +62,7 @@ still_free account root roots own free key held =
 -- a line that has a form by the rules of version 1 has one by any rules
 formed : (rules_are : Rules) (line : Line) → has_form One line ≡ true → has_form rules_are line ≡ true
 formed One line one = one
-formed TwoStrict line one = refl
-formed TwoClear line one = refl
+formed rules_are line one = refl
 
 -- sound roots at distinct places are read, where their account keeps to the limits
 roots_read : (rules_are : Rules) (account : Account) (roots : List DeclaredRoot) → account.rules ≡ rules_are → account.steps ≡ 0

@@ -14,8 +14,8 @@ use Rattle.cap_ops.specs.declared.refusal.Refusal.{Refusal}
 use Rattle.cap_ops.specs.declared.refusal.Refusal.TheVariants.{LineTooLong, Misplaced, Truncated}
 use Rattle.cap_judge.specs.declared.verdict.Verdict.{Verdict}
 use Rattle.cap_judge.specs.declared.verdict.Verdict.TheVariants.{Yes, No}
-use Rattle.cap_judge.specs.Logs.{Nothing, NoMode, text_of, line_tests, RefusesLine, RefusesWhole, Beginning, Body, Whole, lines_of}
-use Rattle.cap_judge.specs.Logs.{IsAccepted, Refuses}
+use Rattle.cap_judge.specs.Logs.{Nothing, NoMode, text_of, line_tests, RefusesLine, RefusesWhole, Beginning, Whole, lines_of, IsAccepted}
+use Rattle.cap_judge.specs.Logs.{Refuses}
 use Rattle.cap_machine.proofs.AccountLemmas.{account_after-grows}
 use Rattle.cap_judge.specs.Verdicts.{IsVerdict}
 use Rattle.cap_judge.proofs.LogLemmas.{accepted_in_range}
@@ -155,9 +155,7 @@ record Reading (bytes : List ℕ) (verdict : Verdict) : Type 0 where
 refused : (beginning : Beginning) (rest : List ℕ) (number line : ℕ) (refusal : Refusal) → line ≡ number → Refuses beginning rest refusal
     → Answers (stage_of beginning) rest number (No line refusal)
 refused Nothing rest number line refusal is refuses = (is, refuses)
-refused NoMode rest number line refusal is refuses = (is, refuses)
-refused (Body rules_are roots steps) rest number line refusal is refuses = (is, refuses)
-refused (Whole rules_are roots steps) rest number line refusal is refuses = (is, refuses)
+refused beginning rest number line refusal is refuses = (is, refuses)
 
 -- each verdict comes from a reading
 read : (bytes : List ℕ) (verdict : Verdict) → IsVerdict bytes verdict → Reading bytes verdict

@@ -443,14 +443,10 @@ IsUnendedAt stage = Unit {0}
 
 pub unended_after : (stage : Stage) (held : Held) (beginning : Beginning) → IsUnendedAt stage → IsAfter stage held beginning
     → IsUnended beginning
-unended_after stages.Version held (Whole rules_are roots steps) goes after = after
-unended_after stages.Mode held (Whole rules_are roots steps) goes after = after
-unended_after stages.Body held (Whole rules_are roots steps) goes after = after
 unended_after stages.Ended held beginning goes after = absurd goes
 unended_after (stages.Refused fault) held beginning goes after = absurd goes
-unended_after stage held Nothing goes after = tt
-unended_after stage held NoMode goes after = tt
-unended_after stage held (Body rules_are roots steps) goes after = tt
+unended_after stage held (Whole rules_are roots steps) goes after = after
+unended_after stage held beginning goes after = tt
 
 pub long_ends : (stage : Stage) (held : Held) (bytes : List ℕ) → IsUnendedAt stage → IsTooLong bytes
     → EndsAt (at stage held) bytes (ends.Refused LineTooLong)
@@ -522,8 +518,7 @@ header_from stage held line refusal is range tests misplaced bad =
 -- Behind the end line
 
 line_some : (bytes text rest : List ℕ) → IsLine bytes text rest → bytes ≢ []
-line_some bytes [] rest whole = λ none. let e = sym whole.whole ∙ none in cc
-line_some bytes (b ∷ text) rest whole = λ none. let e = sym whole.whole ∙ none in cc
+line_some bytes text rest whole none = omega (arith, ap length (sym whole.whole ∙ none), length-append text (10 ∷ rest))
 
 pub ended_from : (stage : Stage) (held : Held) (line : Line) → stage ≡ stages.Ended → EndsFrom (at stage held) line (ends.Refused Misplaced)
 ended_from stage held line is bytes rest whole =
@@ -546,12 +541,9 @@ front_end stage held rest (Some end) is ends_at =
 pub long_arm : (stage : Stage) (held : Held) (bytes : List ℕ)
     → (stage ≡ stages.Version) ⊎ (stage ≡ stages.Mode) ⊎ (stage ≡ stages.Body) → IsTooLong bytes
     → EndsAt (at stage held) bytes (ends.Refused LineTooLong)
-long_arm stage held bytes (inl is) long =
-    subst (λ (s : Stage). EndsAt (at s held) bytes (ends.Refused LineTooLong)) (sym is) (long_ends stages.Version held bytes tt long)
-long_arm stage held bytes (inr (inl is)) long =
-    subst (λ (s : Stage). EndsAt (at s held) bytes (ends.Refused LineTooLong)) (sym is) (long_ends stages.Mode held bytes tt long)
-long_arm stage held bytes (inr (inr is)) long =
-    subst (λ (s : Stage). EndsAt (at s held) bytes (ends.Refused LineTooLong)) (sym is) (long_ends stages.Body held bytes tt long)
+long_arm stage held bytes (inl is) long = long_ends stage held bytes (subst IsUnendedAt (sym is) tt) long
+long_arm stage held bytes (inr (inl is)) long = long_ends stage held bytes (subst IsUnendedAt (sym is) tt) long
+long_arm stage held bytes (inr (inr is)) long = long_ends stage held bytes (subst IsUnendedAt (sym is) tt) long
 
 pub formless_by : (stage : Stage) (held : Held) (bytes text more : List ℕ) → stage ≡ stages.Ended → IsLine bytes text more
     → EndsAt (at stage held) bytes (ends.Refused Misplaced)
