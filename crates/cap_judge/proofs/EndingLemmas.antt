@@ -9,8 +9,6 @@ use Rattle.cap_log.specs.declared.lines.Line.TheVariants as lines
 use Rattle.cap_log.specs.declared.lines.Step.{Step}
 use Rattle.cap_log.specs.Lines.{IsInRange, spelling}
 use Rattle.cap_log.specs.Front.{IsCut, IsLine, IsTooLong}
-use Rattle.cap_ops.specs.declared.refusal.Refusal.{Refusal}
-use Rattle.cap_ops.specs.declared.refusal.Refusal.TheVariants.{Misplaced, Truncated}
 use Rattle.cap_machine.specs.Helds.{Held}
 use Rattle.cap_machine.specs.States.{DeclaredRoot}
 use Rattle.cap_machine.specs.declared.rules.Rules.{Rules}
@@ -19,17 +17,17 @@ use Rattle.cap_judge.specs.declared.beginning.Stage.TheVariants as stages
 use Rattle.cap_judge.specs.declared.faults.Fault.{Fault}
 use Rattle.cap_judge.specs.declared.verdict.Verdict.{Verdict}
 use Rattle.cap_judge.specs.declared.verdict.Verdict.TheVariants.{Yes, No}
-use Rattle.cap_judge.specs.FaultLines.{IsFrontText, bytes_of}
+use Rattle.cap_judge.specs.FaultLines.{bytes_of}
 use Rattle.cap_judge.specs.Judgings.{IsLastFront, StopsBefore}
 use Rattle.cap_judge.specs.Logs.{Beginning, Nothing, NoMode, Body, Whole, header_lines, body_lines, lines_of, text_of, IsFirstFault}
-use Rattle.cap_judge.specs.Logs.{Refuses, IsAccepted, MayLackMemory}
+use Rattle.cap_judge.specs.Logs.{IsAccepted, MayLackMemory}
 use Rattle.cap_judge.specs.Readings.{Reaches, EndsWith, IsAfter, IsAtFault, IsFaultAt, IsRest, Known, Read, BeginsWhole, EndsStepAt, GoesOn}
 use Rattle.cap_judge.specs.Readings.{IsNoLine, Stands, StopsAt, TakesStep}
 use Rattle.cap_judge.specs.Verdicts.{IsVerdict, IsYes}
-use Rattle.cap_judge.proofs.JudgeLemmas.{front_refused, text_push, yes_of}
+use Rattle.cap_judge.proofs.JudgeLemmas.{text_push, yes_of}
 use Rattle.cap_judge.proofs.OneVerdict.{same_front, text_cons, one_verdict}
 use Rattle.cap_judge.proofs.ReachLemmas.{same_rules}
-use Rattle.cap_judge.proofs.ReadingLemmas.{IsUnendedAt, account_stands, all_read, read_behind, unended_after, at, known_line, one_step_goes}
+use Rattle.cap_judge.proofs.ReadingLemmas.{account_stands, all_read, read_behind, at, known_line, one_step_goes}
 use Rattle.cap_log.specs.Parts.{Begins}
 use Rattle.cap_machine.specs.declared.ends.StepEnd.{StepEnd}
 use Rattle.cap_judge.proofs.LogLemmas.{no_roots}
@@ -58,15 +56,6 @@ fault_of stage is = absurd is
 pub clear_of : (stage : Stage) → ((fault : Fault) → stage ≡ stages.Refused fault → ⊥) → IsAtFault stage → ⊥
 clear_of (stages.Refused fault) other is = other fault refl
 clear_of stage other is = is
-
-pub unended_of : (stage : Stage) → ((fault : Fault) → stage ≡ stages.Refused fault → ⊥) → (stage ≡ stages.Ended → ⊥) → IsUnendedAt stage
-unended_of (stages.Refused fault) other unended = other fault refl
-unended_of stages.Ended other unended = unended refl
-unended_of stage other unended = tt
-
--- what is at fault at one stage is one fault
-pub same_fault : (stage : Stage) (fault other : Fault) → stage ≡ stages.Refused fault → stage ≡ stages.Refused other → fault ≡ other
-same_fault stage fault other is also = let same : stages.Refused fault ≡ stages.Refused other = sym is ∙ also in cc
 
 pub first_fault : (known : Known) (fault : Fault) (bytes : List ℕ) → known.stage ≡ stages.Refused fault → Read known bytes
     → (more : List ℕ) → IsFirstFault (bytes ++ more) fault.line fault.refusal
@@ -110,84 +99,6 @@ pub ends_fault : (known : Known) (fault : Fault) (bytes rest : List ℕ) → kno
 ends_fault known fault bytes rest is read =
     let all = (read_behind known rest (at_fault known.stage fault is) bytes read).0 in
     (fault_now known fault (bytes ++ rest) is all, stops_fault known fault (bytes ++ rest) true is all)
-
--- Where none is
-
--- after the end line
-ends_yes_at : (held : Held) (bytes : List ℕ) (beginning : Beginning) → IsAfter stages.Ended held beginning
-    → bytes ≡ text_of (lines_of beginning) → EndsWith held bytes (Ok (Yes held.steps held.roots))
-ends_yes_at held bytes (Whole rules_are roots steps) after are = (
-  record {
-    rules = rules_are;
-    roots = roots;
-    steps = steps;
-    log = record { bytes_are = are; runs = after.runs };
-    step_count_is = after.steps_are;
-    root_count_is = after.roots_are;
-  },
-  record {
-    rules = rules_are;
-    roots = roots;
-    steps = steps;
-    log = record { bytes_are = are; runs = after.runs };
-    account = after.account;
-  },
-)
-ends_yes_at held bytes beginning after are = absurd after
-
-pub ends_yes : (known : Known) (bytes rest : List ℕ) → known.stage ≡ stages.Ended → rest ≡ [] → Read known bytes
-    → EndsWith known.held (bytes ++ rest) (Ok (Yes known.held.steps known.held.roots))
-ends_yes known bytes rest is none read =
-    let clear : IsAtFault known.stage → ⊥ = λ fault. subst IsAtFault is fault in
-    ends_yes_at known.held (bytes ++ rest) read.beginning (subst (λ (s : Stage). IsAfter s known.held read.beginning) is read.after)
-    (ap (λ (r : List ℕ). bytes ++ r) none ∙ append-nil bytes ∙ all_read known bytes read clear)
-
--- the text of a front where the source has ended
-last_front : (rest text : List ℕ) → IsFrontText rest text → IsLastFront rest true text
-last_front rest text (inl long) = inl long
-last_front rest text (inr (inl cut)) = inr (inl (cut.0, (cut.1, refl)))
-last_front rest text (inr (inr line)) = inr (inr line)
-
--- a rest that is refused
-pub ends_no : (known : Known) (fault : Fault) (bytes rest : List ℕ) (refusal : Refusal) → (IsAtFault known.stage → ⊥)
-    → ((beginning : Beginning) → IsAfter known.stage known.held beginning → fault.line ≡ length (lines_of beginning) + 1)
-    → fault.refusal ≡ refusal → IsFrontText rest (bytes_of fault.text)
-    → ((beginning : Beginning) → IsAfter known.stage known.held beginning → Refuses beginning rest refusal)
-    → Read known bytes → EndsWith known.held (bytes ++ rest) (Err fault)
-ends_no known fault bytes rest refusal clear number why front refused read =
-    let are = ap (λ (b : List ℕ). b ++ rest) (all_read known bytes read clear) in (
-      record {
-        beginning = read.beginning;
-        rest = rest;
-        bytes_are = are;
-        accepted = read.behind.accepted;
-        number_is = number read.beginning read.after;
-        refused = subst (Refuses read.beginning rest) (sym why) (refused read.beginning read.after);
-      },
-      record {
-        beginning = read.beginning;
-        rest = rest;
-        behind = record { bytes_are = are; accepted = read.behind.accepted };
-        line_is = number read.beginning read.after;
-        account = account_stands known.stage known.held read.beginning read.after;
-        front = last_front rest (bytes_of fault.text) front;
-      },
-    )
-
-pub truncated : (stage : Stage) (held : Held) (rest : List ℕ) → IsUnendedAt stage → IsCut rest → (beginning : Beginning)
-    → IsAfter stage held beginning → Refuses beginning rest Truncated
-truncated stage held rest goes cut beginning after =
-    front_refused beginning rest Truncated (unended_after stage held beginning goes after) (inr (inl (cut, refl)))
-
-misplaced_at : (held : Held) (rest : List ℕ) → rest ≢ [] → (beginning : Beginning) → IsAfter stages.Ended held beginning
-    → Refuses beginning rest Misplaced
-misplaced_at held rest some (Whole rules_are roots steps) after = (some, refl)
-misplaced_at held rest some beginning after = absurd after
-
-pub misplaced : (stage : Stage) (held : Held) (rest : List ℕ) → stage ≡ stages.Ended → rest ≢ [] → (beginning : Beginning)
-    → IsAfter stage held beginning → Refuses beginning rest Misplaced
-misplaced stage held rest is some beginning after =
-    misplaced_at held rest some beginning (subst (λ (s : Stage). IsAfter s held beginning) is after)
 
 -- the verdict
 pub verdict_yes : (held : Held) (bytes : List ℕ) (end : Result Verdict Fault) (verdict : Verdict) → end ≡ Ok verdict

@@ -41,7 +41,7 @@ reached held rules_are roots steps runs account =
     }
 
 -- a step goes on from a run
-step_on : (rules_are : Rules) (roots : List DeclaredRoot) (steps : List steps_module.Step) (old new : Held) (step : steps_module.Step)
+pub step_on : (rules_are : Rules) (roots : List DeclaredRoot) (steps : List steps_module.Step) (old new : Held) (step : steps_module.Step)
     → Reaches old rules_are roots steps → IsStepInRange step → Makes old step new → Reaches new rules_are roots (steps ++ step ∷ [])
 step_on rules_are roots steps old new step reaches range makes =
     let at = reaches.account in

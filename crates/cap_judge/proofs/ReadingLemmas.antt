@@ -34,7 +34,7 @@ use Rattle.cap_judge.specs.Judgings.{IsLastFront, account_before}
 use Rattle.cap_judge.specs.Logs.{Beginning, Nothing, NoMode, Body, Whole, body_lines, lines_of, text_of, has_form, SpellsBy, IsAccepted}
 use Rattle.cap_judge.specs.Logs.{Refuses, RefusesWhole, line_tests, named_by_line, MayLackMemory}
 use Rattle.cap_judge.proofs.JudgeLemmas.{IsUnended, front_refused}
-use Rattle.cap_judge.proofs.ReachLemmas.{same_rules, step_formed, reached, steps_more, steps_none, step_taken}
+use Rattle.cap_judge.proofs.ReachLemmas.{same_rules, step_formed, reached, steps_more, steps_none, step_on}
 use Rattle.std.proofs.lemmas.List.Prefix.{end_rest}
 use Rattle.cap_word.specs.declared.word.Word.{Word}
 use Rattle.cap_log.specs.declared.lines.Place.{Place}
@@ -290,7 +290,8 @@ one_step_goes stage old new bytes rest is taken =
 pub step_goes : (stage : Stage) (old new : Held) (step : Step) → stage ≡ stages.Body → IsStepInRange step → Makes old step new
     → GoesOn (at stage old) (spelling (lines.Step step) ++ 10 ∷ []) (at stage new)
 step_goes stage old new step is range makes =
-    one_step_goes stage old new (spelling (lines.Step step) ++ 10 ∷ []) [] is (step_taken old new _ [] step (range, refl) makes)
+    one_step_goes stage old new (spelling (lines.Step step) ++ 10 ∷ []) [] is
+    (step, (range, refl), λ rules_are roots steps reaches. step_on rules_are roots steps old new step reaches range makes)
 
 -- The line at fault
 
@@ -611,11 +612,6 @@ pub feed_some : (front text : List ℕ) → front ++ (text ++ 10 ∷ []) ≢ []
 feed_some [] [] = λ e. cc
 feed_some [] (b ∷ text) = λ e. cc
 feed_some (a ∷ front) text = λ e. cc
-
--- what comes behind a front that is not empty is shorter
-pub shorter : (bytes front rest : List ℕ) → bytes ≡ front ++ rest → front ≢ [] → length rest < length bytes
-shorter bytes [] rest split some = absurd (some refl)
-shorter bytes (b ∷ front) rest split some = omega (arith, ap length split, length-append front rest)
 
 -- where the whole stopped
 pub stops_here : (first old new : Known) (bytes so_far front middle rest : List ℕ) (stop : Stop) → bytes ≡ so_far ++ front → front ≡ middle ++ rest

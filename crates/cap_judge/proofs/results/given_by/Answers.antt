@@ -66,7 +66,8 @@ returns-in-Move g c = rw c.in-Move.is (record {
 pub returns-in-ClearTag : goal.returns-in-ClearTag
 returns-in-ClearTag g c = rw c.in-ClearTag.is (record {
   gives = by_one (λ h. []) (λ h. ops.cleared h) _ _ _ _
-      c.register-in-ClearTag.ensures.holds (c.untested-in-ClearTag.ensures.cap ∙ c.clear_tag.ensures.result_is) c.untested-in-ClearTag.ensures.fault;
+      c.register-in-ClearTag.ensures.holds (c.untested-in-ClearTag.ensures.cap ∙ c.clear_tag.ensures.result_is)
+      c.untested-in-ClearTag.ensures.fault;
   others = tt;
 })
 

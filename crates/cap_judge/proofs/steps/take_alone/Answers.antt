@@ -11,7 +11,8 @@ pub returns-in-SetBounds : goal.returns-in-SetBounds
 returns-in-SetBounds g c = rw (of_kind c.args.line.now _ _ _ c.in_ok-head.ensures.some c.in-SetBounds.is) c.run_alone-in-SetBounds.ensures
 
 pub returns-in-SetBoundsExact : goal.returns-in-SetBoundsExact
-returns-in-SetBoundsExact g c = rw (of_kind c.args.line.now _ _ _ c.in_ok-head.ensures.some c.in-SetBoundsExact.is) c.run_alone-in-SetBoundsExact.ensures
+returns-in-SetBoundsExact g c =
+    rw (of_kind c.args.line.now _ _ _ c.in_ok-head.ensures.some c.in-SetBoundsExact.is) c.run_alone-in-SetBoundsExact.ensures
 
 pub returns-in-SetAddr : goal.returns-in-SetAddr
 returns-in-SetAddr g c = rw (of_kind c.args.line.now _ _ _ c.in_ok-head.ensures.some c.in-SetAddr.is) c.run_alone-in-SetAddr.ensures

@@ -35,4 +35,5 @@ returns c =
     let is : c.take-taken.result.stop ≡ NoMemory = search rules in
     let lack = bytes_lack _ _ c.args.bytes.now c.take-taken.result.count c.over_pages-judge.ensures.read
     (rw is at c.take-taken.ensures.stops) in
-    record { verdict = tt; authority = guarded c.args.bytes.now; escape = tt; fault = lack; answers = answered c.args.bytes.now (Err faults.NoMemory) lack }
+    let none = answered c.args.bytes.now (Err faults.NoMemory) lack in
+    record { verdict = tt; authority = guarded c.args.bytes.now; escape = tt; fault = lack; answers = none }

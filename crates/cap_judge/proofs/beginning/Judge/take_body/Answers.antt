@@ -23,8 +23,7 @@ returns-in-Some-Err-clause-no_line g c =
     (memory_only c.take_end.result _ c.take_end.ensures.no_memory)
 
 pub returns-in-None-clause-taken : goal.returns-in-None-clause-taken
-returns-in-None-clause-taken g c = rw (ap (held_of g.M.TaggedStore.contents) c.in-None.ensures.none) at c.take_whole.ensures.taken
+returns-in-None-clause-taken g c = rw c.in-None.ensures.none at c.take_whole.ensures.taken
 
 pub returns-in-None-clause-no_memory : goal.returns-in-None-clause-no_memory
-returns-in-None-clause-no_memory g c =
-    rw (ap (held_of g.M.TaggedStore.contents) c.in-None.ensures.none) at c.take_whole.ensures.no_memory
+returns-in-None-clause-no_memory g c = rw c.in-None.ensures.none at c.take_whole.ensures.no_memory
