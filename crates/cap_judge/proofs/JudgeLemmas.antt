@@ -14,7 +14,6 @@ use Rattle.cap_log.specs.Lines.{spelling, IsInRange, IsStepInRange}
 use Rattle.cap_log.specs.Front.{FrontIs}
 use Rattle.cap_ops.specs.declared.refusal.Refusal.{Refusal}
 use Rattle.cap_ops.specs.declared.refusal.Refusal.TheVariants.{LineTooLong, Truncated}
-use Rattle.cap_machine.specs.declared.ends.StepEnd.TheVariants.{NoMemory}
 use Rattle.cap_machine.specs.States.{State, DeclaredRoot, start}
 use Rattle.cap_machine.specs.declared.rules.Rules.{Rules}
 use Rattle.cap_machine.specs.declared.rules.Rules.TheVariants.{One}

@@ -7,7 +7,7 @@ use Rattle.cap_ops.specs.Tests.{first_of}
 use Rattle.cap_ops.specs.declared.refusal.Refusal.{Refusal}
 use Rattle.cap_ops.specs.declared.refusal.Refusal.TheVariants.{BadHeader, BadMode, BadLine, LineTooLong, Misplaced, Truncated}
 use Rattle.cap_log.specs.declared.lines.Line.{Line}
-use Rattle.cap_log.specs.declared.lines.Line.TheVariants.{Version, Mode, Step}
+use Rattle.cap_log.specs.declared.lines.Line.TheVariants.{Version, Mode}
 use Rattle.cap_log.specs.declared.lines.Mode as modes_module
 use Rattle.cap_log.specs.Lines.{Spells}
 use Rattle.cap_log.specs.Front.{IsLine}

@@ -1,7 +1,6 @@
 use Rattle.cap_machine.specs.Helds.{held_of}
 use Rattle.std.proofs.Common.{◌∙◌, Some, ap}
 use Rattle.cap_judge.proofs.EndingLemmas.{end_whole, memory_only, no_line, step_alone, whole_some}
-use Rattle.cap_judge.proofs.ReadingLemmas.{at}
 use Rattle.cap_judge.proofs.beginning.Judge.take_body.Goals as goal
 
 pub returns-in-Some-Ok-clause-taken : goal.returns-in-Some-Ok-clause-taken
