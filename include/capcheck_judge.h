@@ -36,7 +36,7 @@ enum capcheck_state {
     CAPCHECK_NO = 2,        /* they are none: a line is at fault */
     CAPCHECK_NO_MEMORY = 3, /* memory was refused, and there is no verdict */
     CAPCHECK_NO_JUDGE = 4,  /* the judge isn't open */
-    CAPCHECK_NO_LINE = 5    /* the bytes are no line */
+    CAPCHECK_NO_LINE = 5    /* the bytes are no line, or a number is out of its range */
 };
 
 /* An answer. What a state has no number for is 0. */
@@ -123,6 +123,46 @@ uint8_t capcheck_judge_open(capcheck_judge *judge);
  *   CAPCHECK_NO_JUDGE   the judge isn't open */
 CAPCHECK_CHECKED
 uint8_t capcheck_judge_line(capcheck_judge *judge, const char *line, size_t length);
+
+/* ---- Steps without their lines ---- */
+
+/* Hands over the next step by its numbers: as capcheck_judge_line does with the line that the call of capcheck.h of the
+ * same name writes for them, and with its answers. No line is made, but for a step that is refused. Where that call
+ * answers 0, since a number is out of its range, the answer is CAPCHECK_NO_LINE, and nothing has changed. Steps and
+ * lines may be mixed; the header, the roots and the end are lines. */
+CAPCHECK_CHECKED
+uint8_t capcheck_judge_move(capcheck_judge *judge, uint64_t target, uint64_t source, capcheck_cap recorded);
+CAPCHECK_CHECKED
+uint8_t capcheck_judge_cleartag(capcheck_judge *judge, uint64_t target, uint64_t source, capcheck_cap recorded);
+CAPCHECK_CHECKED
+uint8_t capcheck_judge_setbounds(capcheck_judge *judge, uint64_t target, uint64_t source, uint64_t length,
+                                 capcheck_cap recorded);
+CAPCHECK_CHECKED
+uint8_t capcheck_judge_setboundsexact(capcheck_judge *judge, uint64_t target, uint64_t source, uint64_t length,
+                                      capcheck_cap recorded);
+CAPCHECK_CHECKED
+uint8_t capcheck_judge_setaddr(capcheck_judge *judge, uint64_t target, uint64_t source, uint64_t address,
+                               capcheck_cap recorded);
+CAPCHECK_CHECKED
+uint8_t capcheck_judge_andperm(capcheck_judge *judge, uint64_t target, uint64_t source, uint64_t mask,
+                               capcheck_cap recorded);
+CAPCHECK_CHECKED
+uint8_t capcheck_judge_seal(capcheck_judge *judge, uint64_t target, uint64_t source, uint64_t authority,
+                            capcheck_cap recorded);
+CAPCHECK_CHECKED
+uint8_t capcheck_judge_unseal(capcheck_judge *judge, uint64_t target, uint64_t source, uint64_t authority,
+                              capcheck_cap recorded);
+CAPCHECK_CHECKED
+uint8_t capcheck_judge_lc(capcheck_judge *judge, uint64_t target, uint64_t authority, int64_t offset,
+                          capcheck_cap recorded);
+CAPCHECK_CHECKED
+uint8_t capcheck_judge_sc(capcheck_judge *judge, uint64_t source, uint64_t authority, int64_t offset);
+CAPCHECK_CHECKED
+uint8_t capcheck_judge_load(capcheck_judge *judge, uint64_t authority, int64_t offset, uint64_t size, uint64_t value);
+CAPCHECK_CHECKED
+uint8_t capcheck_judge_store(capcheck_judge *judge, uint64_t authority, int64_t offset, uint64_t size, uint64_t value);
+
+/* ---- How the lines stand ---- */
 
 /* How the lines so far stand: CAPCHECK_GOES_ON, or CAPCHECK_NO with the line and the refusal, which stand
  * whatever lines follow. */

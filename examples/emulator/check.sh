@@ -128,6 +128,14 @@ status=0
     { echo 'check.sh: the judged emulator stops elsewhere' >&2; exit 1; }
 grep -q '^emulator: c4 is 1 .* and in the log 1 ' "$work/complaints" || { echo 'check.sh: the judged emulator shows no difference' >&2; exit 1; }
 
+# The same by steps without their lines: no log is written, and it stops at the same line.
+quietly ${CC:-cc} -std=c99 $strict -Wconversion -DJUDGED -DSTEPS examples/emulator/emulator.c $libraries -o "$work/stepped"
+"$work/stepped" > "$work/log" 2> "$work/stepping"
+[ "$(cat "$work/stepping")" = 'emulator: yes 27 1' ] && [ ! -s "$work/log" ] || { echo 'check.sh: the emulator by steps gets another verdict' >&2; exit 1; }
+status=0
+"$work/stepped" --bug > "$work/log" 2> "$work/stepping" || status=$?
+[ "$status" = 1 ] && cmp "$work/complaints" "$work/stepping" || { echo 'check.sh: the emulator by steps stops elsewhere' >&2; exit 1; }
+
 judged 'yes 27 1' 0
 judged 'no 12 12 NotExact' 1 --bug
 grep -qx 'emulator: line 12: NotExact' "$work/complaints" || { echo 'check.sh: the emulator names another line' >&2; exit 1; }

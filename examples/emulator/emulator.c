@@ -10,7 +10,8 @@
  * with the word that the step would have made, as a wrong emulator does.
  *
  * Compiled with -DJUDGED it has the judge linked in. Then it stops in the very step that writes the first
- * line at fault, and shows what the rules give and where its registers differ from those of the log.
+ * line at fault, and shows what the rules give and where its registers differ from those of the log. With -DSTEPS
+ * beside it, it writes no log: it hands each step over by its numbers, and stops in the same one.
  */
 #include <capcheck.h>
 #ifdef JUDGED
@@ -75,9 +76,8 @@ static void show_expected(void) {
         fprintf(stderr, "emulator: the rules give %0*llx\n", 2 * given.size, (unsigned long long)given.number);
 }
 
-/* Hands the line that was written to the judge, and stops where it is at fault. */
-static void judge_line(size_t length) {
-    uint8_t state = capcheck_judge_line(&judge, line, length);
+/* Goes on where a line or a step was taken that isn't at fault, and else stops. */
+static void stop_at_fault(uint8_t state) {
     if (state == CAPCHECK_GOES_ON)
         return;
     capcheck_answer answer = capcheck_judge_answer(&judge);
@@ -93,6 +93,9 @@ static void judge_line(size_t length) {
     exit(state == CAPCHECK_NO ? 1 : 2);
 }
 
+/* Hands the line that was written to the judge. */
+static void judge_line(size_t length) { stop_at_fault(capcheck_judge_line(&judge, line, length)); }
+
 /* Says what the verdict on the whole log is. */
 static void end_judge(void) {
     capcheck_answer answer = capcheck_judge_end(&judge);
@@ -106,14 +109,31 @@ static void judge_line(size_t length) { (void)length; }
 static void end_judge(void) {}
 #endif
 
+#ifdef STEPS
+static bool kept(size_t length) { return length != 0; }
+#else
+static bool kept(size_t length) { return length != 0 && fwrite(line, 1, length, stdout) == length; }
+#endif
+
 static void write_line(size_t length) {
-    if (length == 0 || fwrite(line, 1, length, stdout) != length) {
+    if (!kept(length)) {
         fprintf(stderr, "emulator: line %llu can't be written\n", (unsigned long long)lines + 1);
         exit(2);
     }
     lines++;
     judge_line(length);
 }
+
+/* A step of a kind with its operands: written as a line, or handed over by its numbers. */
+#ifdef STEPS
+static void take_step(uint8_t state) {
+    lines++;
+    stop_at_fault(state);
+}
+#define STEP(kind, ...) take_step(capcheck_judge_##kind(&judge, __VA_ARGS__))
+#else
+#define STEP(kind, ...) write_line(capcheck_line_##kind(line, __VA_ARGS__))
+#endif
 
 static void complain(uint8_t refusal) {
     fprintf(stderr, "emulator: line %llu: %s\n", (unsigned long long)lines + 1,
@@ -128,7 +148,7 @@ static void set_address(unsigned target, unsigned source, uint64_t address) {
         made.cap.word.low = address;
     }
     registers[target] = made.cap;
-    write_line(capcheck_line_setaddr(line, target, source, address, made.cap));
+    STEP(setaddr, target, source, address, made.cap);
 }
 
 static void set_bounds_exact(unsigned target, unsigned source, uint64_t length) {
@@ -139,7 +159,7 @@ static void set_bounds_exact(unsigned target, unsigned source, uint64_t length) 
         made.cap.word = capcheck_with_bounds(made.cap.word, made.cap.word.low, length);
     }
     registers[target] = made.cap;
-    write_line(capcheck_line_setboundsexact(line, target, source, length, made.cap));
+    STEP(setboundsexact, target, source, length, made.cap);
 }
 
 static void and_permissions(unsigned target, unsigned source, uint64_t mask) {
@@ -149,7 +169,7 @@ static void and_permissions(unsigned target, unsigned source, uint64_t mask) {
         made.cap = capcheck_and_perm_clear(registers[source], mask);
     }
     registers[target] = made.cap;
-    write_line(capcheck_line_andperm(line, target, source, mask, made.cap));
+    STEP(andperm, target, source, mask, made.cap);
 }
 
 /* The place of an access in memory, which all authorities of this program stay inside. */
@@ -170,7 +190,7 @@ static void store_capability(unsigned source, unsigned authority, int64_t offset
     uint64_t place = place_of(capcheck_may_store_cap(registers[authority], offset, stored), offset, authority);
     capcheck_to_memory(stored.word, memory + place);
     tags[place / GRANULE] = stored.tag;
-    write_line(capcheck_line_sc(line, source, authority, offset));
+    STEP(sc, source, authority, offset);
 }
 
 static void load_capability(unsigned target, unsigned authority, int64_t offset) {
@@ -179,7 +199,7 @@ static void load_capability(unsigned target, unsigned authority, int64_t offset)
     stored.word = capcheck_from_memory(memory + place);
     stored.tag = tags[place / GRANULE];
     registers[target] = capcheck_loaded(registers[authority], stored);
-    write_line(capcheck_line_lc(line, target, authority, offset, registers[target]));
+    STEP(lc, target, authority, offset, registers[target]);
 }
 
 static void store_number(unsigned authority, int64_t offset, uint64_t value) {
@@ -187,7 +207,7 @@ static void store_number(unsigned authority, int64_t offset, uint64_t value) {
     for (unsigned i = 0; i < 8; i++)
         memory[place + i] = (uint8_t)(value >> (8 * i));
     tags[place / GRANULE] = 0;
-    write_line(capcheck_line_store(line, authority, offset, 8, value));
+    STEP(store, authority, offset, 8, value);
 }
 
 static uint64_t load_number(unsigned authority, int64_t offset) {
@@ -195,7 +215,7 @@ static uint64_t load_number(unsigned authority, int64_t offset) {
     uint64_t value = 0;
     for (unsigned i = 0; i < 8; i++)
         value |= (uint64_t)memory[place + i] << (8 * i);
-    write_line(capcheck_line_load(line, authority, offset, 8, value));
+    STEP(load, authority, offset, 8, value);
     return value;
 }
 

@@ -1,17 +1,20 @@
 -- What a handle of C holds, and what the calls on it answer (this profile's own, as are all below).
-use Rattle.std.specs.Prelude.{◌≡◌, ℕ, List, Option, None, Some}
+use Rattle.std.specs.Prelude.{◌≡◌, ◌≢◌, ◌<◌, ◌↔◌, ℕ, List, [], ◌∷◌, ◌++◌, Option, None, Some}
 use denote.RattleType.{RattleType}
 use Rattle.cap_machine.specs.States.{State}
 use Rattle.tagmem.specs.contracts.page_store.PageStore.{the_row as store_row}
 use Rattle.tagmem.specs.contracts.page_store.PageStoreTaggedStore.TheImpl.{ghosts}
 use Rattle.cap_judge.specs.contracts.beginning.Judge.{the_row as judge_row}
 use Rattle.cap_word.specs.declared.word.Cap.{Cap}
+use Rattle.cap_log.specs.Lines.{IsInRange, spelling}
+use Rattle.cap_log.specs.declared.lines.Line.{Line}
 use Rattle.cap_halves.specs.Passed.{cap_of, no_cap}
 use Rattle.cap_judge.specs.declared.verdict.Expected.{Expected}
 use Rattle.cap_judge.specs.declared.verdict.Expected.TheVariants.{Capability, Number}
 use Rattle.cap_judge.specs.declared.verdict.Verdict.{Verdict}
 use Rattle.cap_judge.specs.Expectations.{Expects}
 use Rattle.cap_judge.specs.Judgings.{account_before}
+use Rattle.cap_judge.specs.Logs.{MayLackMemory}
 use Rattle.cap_judge.specs.Readings.{BeginsWhole, HasRead, Known, Stands, known_of}
 use Rattle.cap_judge.specs.Verdicts.{IsVerdict, IsGuarded}
 use Rattle.capcheck_judge.specs.Answers.{numbers_of, without_verdict}
@@ -41,6 +44,21 @@ pub record Holds (held : Held) (bytes : List ℕ) : Type 0 where
 -- what the machine holds behind these bytes, or before their line at fault
 abbrev pub state_behind : {held : Held} {bytes : List ℕ} → Holds held bytes → State
 state_behind holds = (account_before holds.taken.beginning).state
+
+-- what a call answers that hands over a step: where the step's line is in range, what the call answers that hands over that line; else
+-- that it is none
+pub record HandsOver (line : Line) (old new : Held) (state : ℕ) : Type 0 where
+  pub answers : state < 6
+  pub never_yes : state ≢ 1
+  pub taken : state < 3 → (bytes : List ℕ) → Holds old bytes → Holds new (bytes ++ (spelling line ++ 10 ∷ []))
+  pub goes_on : state ≡ 0 → (bytes : List ℕ) → Holds old bytes → BeginsWhole (bytes ++ (spelling line ++ 10 ∷ []))
+  pub at_fault : state ≡ 2 → (bytes : List ℕ) → Holds old bytes → BeginsWhole (bytes ++ (spelling line ++ 10 ∷ [])) → ⊥
+  pub unchanged : 2 < state → known_in new ≡ known_in old
+  pub still_holds : 2 < state → (bytes : List ℕ) → Holds old bytes → Holds new bytes
+  pub no_memory : state ≡ 3 → (bytes : List ℕ) → Holds old bytes → MayLackMemory (bytes ++ (spelling line ++ 10 ∷ [])) []
+  pub no_judge : (state ≡ 4) ↔ (old ≡ None)
+  pub no_line : (state ≡ 5) ↔ ((old ≢ None) × (¬ IsInRange line))
+  pub held : (new ≡ None) ↔ (old ≡ None)
 
 -- how the bytes stand, in numbers: the state 0 says that none of their lines is at fault
 abbrev pub Standing : Option Verdict → Answer → Type 0

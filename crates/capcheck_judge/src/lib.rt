@@ -10,4 +10,7 @@ mod handle;
 mod held;
 mod judging;
 mod lines;
+mod memory_steps;
 mod places;
+mod register_steps;
+mod steps;
