@@ -23,7 +23,7 @@ use Rattle.cap_machine.proofs.EscapeLemmas.{escapes_first}
 use Rattle.cap_judge.specs.declared.verdict.Verdict.{Verdict}
 use Rattle.cap_judge.specs.declared.verdict.Verdict.TheVariants.{Yes, No}
 use Rattle.cap_judge.specs.Logs.{Beginning, Nothing, NoMode, Body, Whole, SpellsBy, account_after, line_tests, IsAccepted, RunsBy}
-use Rattle.cap_judge.specs.Logs.{RefusesLine, RefusesWhole, Refuses}
+use Rattle.cap_judge.specs.Logs.{RefusesLine, Refuses}
 use Rattle.cap_judge.specs.Verdicts.{EscapesExactly, FaultEscapes, NamesEscapes}
 use Rattle.cap_judge.proofs.LogLemmas.{last_state}
 use Rattle.cap_judge.proofs.JudgeLemmas.{are_sound, behind_header, steps_in_range}

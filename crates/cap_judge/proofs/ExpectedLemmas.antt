@@ -1,6 +1,6 @@
 -- What the rules give for a step that is refused for its result.
-use Rattle.std.proofs.Common.{◌≡◌, ◌≢◌, ℕ, ℤ, ◌+◌, inl, inr, Bool, true, false, not, List, [], ◌∷◌, ◌++◌, length, map, refl, sym, ap, subst}
-use Rattle.std.proofs.Common.{◌∙◌, Option, Some, None, append-nil, append_assoc, arith}
+use Rattle.std.proofs.Common.{◌≡◌, ◌≢◌, ℕ, ℤ, ◌+◌, inl, inr, Bool, true, false, not, List, [], ◌∷◌, ◌++◌, length, refl, sym, ap, subst, ◌∙◌}
+use Rattle.std.proofs.Common.{Option, Some, None, append-nil, append_assoc, arith}
 use Rattle.std.specs.Prelude.{is_some, option_map}
 use Rattle.std.specs.Bool.{if◌then◌else◌}
 use Rattle.std.proofs.lemmas.Bool.{false≢true}
@@ -11,7 +11,7 @@ use Rattle.cap_log.specs.declared.lines.Line.TheVariants as lines
 use Rattle.cap_log.specs.declared.lines.Place.{Place}
 use Rattle.cap_log.specs.declared.lines.Step.{Step}
 use Rattle.cap_log.specs.declared.lines.Step.TheVariants as steps
-use Rattle.cap_log.specs.Front.{FrontIs, IsCut, IsLine}
+use Rattle.cap_log.specs.Front.{IsCut, IsLine}
 use Rattle.std.proofs.lemmas.List.Elements.{All-nil}
 use Rattle.cap_log.proofs.SpellingLemmas.{one_spelling}
 use Rattle.cap_log.specs.Lines.{Spells}
@@ -23,25 +23,22 @@ use Rattle.cap_ops.specs.Tests.{first_of}
 use Rattle.cap_ops.proofs.TestLemmas.{first_of-append}
 use Rattle.cap_machine.proofs.EscapeLemmas.{never_wrong}
 use Rattle.cap_ops.specs.declared.refusal.Refusal.{Refusal}
-use Rattle.cap_ops.specs.declared.refusal.Refusal.TheVariants.{Misplaced, PlaceTaken, UnsoundRoot, WrongResult, LimitPassed, WrongCount}
-use Rattle.cap_ops.specs.declared.refusal.Refusal.TheVariants.{Truncated, LineTooLong, BadHeader, BadMode}
+use Rattle.cap_ops.specs.declared.refusal.Refusal.TheVariants.{WrongResult, LimitPassed, Truncated}
 use Rattle.cap_machine.specs.declared.rules.Rules.{Rules}
-use Rattle.cap_machine.specs.declared.rules.Rules.TheVariants.{One, TwoStrict, TwoClear}
-use Rattle.cap_machine.specs.States.{State, DeclaredRoot, value_at}
-use Rattle.cap_machine.specs.Steps.{Access, Recorded, Row, Nothing as Unrecorded, Written, address_through, agrees, clear_row, row_by}
-use Rattle.cap_machine.specs.Steps.{row_of}
+use Rattle.cap_machine.specs.declared.rules.Rules.TheVariants.{One, TwoClear}
+use Rattle.cap_machine.specs.States.{State, DeclaredRoot}
+use Rattle.cap_machine.specs.Steps.{Access, Recorded, Row, Nothing as Unrecorded, Written, agrees, clear_row, row_by, row_of}
 use Rattle.cap_machine.proofs.StepLemmas.{is_recorded}
 use Rattle.cap_machine.specs.Accounts.{Account, row_in, step_tests}
 use Rattle.cap_machine.specs.Helds.{Held, account_of}
 use Rattle.cap_judge.specs.declared.verdict.Expected.{Expected}
-use Rattle.cap_judge.specs.declared.verdict.Expected.TheVariants.{Capability, Number}
+use Rattle.cap_judge.specs.declared.verdict.Expected.TheVariants.{Capability}
 use Rattle.cap_judge.specs.declared.verdict.Verdict.TheVariants.{Yes, No}
 use Rattle.cap_judge.specs.declared.faults.Fault.{Fault}
 use Rattle.cap_judge.specs.FaultLines.{bytes_of}
-use Rattle.cap_judge.specs.Logs.{Beginning, Nothing, NoMode, Body, Whole, IsFirstFault, Refuses, account_after, body_lines, line_tests}
-use Rattle.cap_judge.specs.Logs.{IsAccepted, RunsBy, lines_of, text_of}
+use Rattle.cap_judge.specs.Logs.{Beginning, Nothing, NoMode, Body, Whole, IsFirstFault, Refuses, account_after, body_lines, IsAccepted}
+use Rattle.cap_judge.specs.Logs.{RunsBy, lines_of, text_of}
 use Rattle.cap_judge.specs.Judgings.{IsLastFront, account_before}
-use Rattle.cap_judge.specs.Verdicts.{IsYes}
 use Rattle.cap_judge.specs.Expectations.{Expects, IsExpected, GivesFor, GivesForText, given_for, given_in, IfWritten, lost_for}
 use Rattle.cap_judge.specs.declared.beginning.Stage.{Stage}
 use Rattle.cap_judge.specs.declared.beginning.Stage.TheVariants as stages
@@ -91,15 +88,12 @@ by_rules : (rules_are : Rules) (row : Row) (recorded cap : Cap) → row.records 
     → first_of (row_by rules_are row).tests ≡ None
     → option_map (λ (write : Place × Cap). write.1) (clear_row row.access row).writes ≡ Some cap
     → given_in (row_by rules_are row) ≡ Some (Capability cap)
-by_rules One row recorded cap is none h =
-    written row.writes row.records row.access recorded cap is (sym (ap (option_map (λ (write : Place × Cap). write.1))
-    (kept_writes row.access row none)) ∙ h)
-by_rules TwoStrict row recorded cap is none h =
-    written row.writes row.records row.access recorded cap is (sym (ap (option_map (λ (write : Place × Cap). write.1))
-    (kept_writes row.access row none)) ∙ h)
 by_rules TwoClear row recorded cap is none h =
     let cleared = clear_row row.access row in
     written cleared.writes cleared.records cleared.access recorded cap (kept_records row.access row ∙ is) h
+by_rules rules_are row recorded cap is none h =
+    written row.writes row.records row.access recorded cap is (sym (ap (option_map (λ (write : Place × Cap). write.1))
+    (kept_writes row.access row none)) ∙ h)
 
 operated : (account : Account) (step : Step) (recorded given : Cap) → (row_of account.state step).records ≡ Written recorded
     → (let row = row_of account.state step in option_map (λ (write : Place × Cap). write.1) (clear_row row.access row).writes ≡ Some given)
@@ -122,49 +116,45 @@ no_store (steps.Load authority offset size value) a b c = b authority offset siz
 no_store (steps.Store authority offset size value) a b c = c authority offset size value refl
 no_store step a b c = tt
 
+-- it records a capability
+records_one : (state : State) (step : Step) → IsNoStore step → (recorded : Cap) × ((row_of state step).records ≡ Written recorded)
+records_one state (steps.Move target source recorded) kind = (recorded, refl)
+records_one state (steps.ClearTag target source recorded) kind = (recorded, refl)
+records_one state (steps.SetBounds target source size recorded) kind = (recorded, refl)
+records_one state (steps.SetBoundsExact target source size recorded) kind = (recorded, refl)
+records_one state (steps.SetAddr target source address recorded) kind = (recorded, refl)
+records_one state (steps.AndPerm target source mask recorded) kind = (recorded, refl)
+records_one state (steps.Seal target source authority recorded) kind = (recorded, refl)
+records_one state (steps.Unseal target source authority recorded) kind = (recorded, refl)
+records_one state (steps.LoadCap target authority offset recorded) kind = (recorded, refl)
+records_one state step kind = absurd kind
+
 pub gives_capability : (account : Account) (step : Step) (given : Cap) (fault : Option Refusal) → IsNoStore step
     → (let row = row_of account.state step in
     let cleared_row = clear_row row.access row in
     IfWritten row.records ((option_map (λ (write : Place × Cap). write.1) cleared_row.writes ≡ Some given)
     × (lost_for row.access row ≡ fault)))
     → GivesFor account step (Some (Capability given))
-gives_capability account (steps.Move target source recorded) given fault kind is =
-    operated account (steps.Move target source recorded) recorded given refl is.0
-gives_capability account (steps.ClearTag target source recorded) given fault kind is =
-    operated account (steps.ClearTag target source recorded) recorded given refl is.0
-gives_capability account (steps.SetBounds target source size recorded) given fault kind is =
-    operated account (steps.SetBounds target source size recorded) recorded given refl is.0
-gives_capability account (steps.SetBoundsExact target source size recorded) given fault kind is =
-    operated account (steps.SetBoundsExact target source size recorded) recorded given refl is.0
-gives_capability account (steps.SetAddr target source address recorded) given fault kind is =
-    operated account (steps.SetAddr target source address recorded) recorded given refl is.0
-gives_capability account (steps.AndPerm target source mask recorded) given fault kind is =
-    operated account (steps.AndPerm target source mask recorded) recorded given refl is.0
-gives_capability account (steps.Seal target source authority recorded) given fault kind is =
-    operated account (steps.Seal target source authority recorded) recorded given refl is.0
-gives_capability account (steps.Unseal target source authority recorded) given fault kind is =
-    operated account (steps.Unseal target source authority recorded) recorded given refl is.0
-gives_capability account (steps.LoadCap target authority offset recorded) given fault kind is =
-    operated account (steps.LoadCap target authority offset recorded) recorded given refl is.0
-gives_capability account step given fault kind is = absurd kind
+gives_capability account step given fault kind is =
+    let one = records_one account.state step kind in operated account step one.0 given one.1 (rw one.1 at is).0
 
 -- a store records nothing
 stores : (rules_are : Rules) (row : Row) → row.records ≡ Unrecorded → is_recorded (row_by rules_are row) ≡ true
-stores One row none = ap (agrees row.writes) none
-stores TwoStrict row none = ap (agrees row.writes) none
 stores TwoClear row none =
     let cleared_row = clear_row row.access row in ap (agrees cleared_row.writes) (kept_records row.access row ∙ none)
+stores rules_are row none = ap (agrees row.writes) none
 
-pub nothing_recorded : (account : Account) (step : Step) → (row_of account.state step).records ≡ Unrecorded → GivesFor account step None
-nothing_recorded account step none =
-    λ h. false≢true (sym (wrong account step h).1 ∙ stores account.rules (row_of account.state step) none)
+pub nothing_recorded : (account : Account) (step known : Step) → step ≡ known → (row_of account.state known).records ≡ Unrecorded
+    → GivesFor account step None
+nothing_recorded account step known is none =
+    subst (λ (s : Step). GivesFor account s None) (sym is)
+    (λ h. false≢true (sym (wrong account known h).1 ∙ stores account.rules (row_of account.state known) none))
 
 -- a load
 load_tests : (rules_are : Rules) (state : State) (authority : ℕ) (offset : ℤ) (size value : ℕ)
     → (row_by rules_are (row_of state (steps.Load authority offset size value))).tests ≡ access_tests (state authority) LoadData offset size
 load_tests One state authority offset size value = refl
-load_tests TwoStrict state authority offset size value = refl
-load_tests TwoClear state authority offset size value = refl
+load_tests rules_are state authority offset size value = refl
 
 pub load_allowed : (account : Account) (authority : ℕ) (offset : ℤ) (size value : ℕ)
     → first_of (step_tests account (steps.Load authority offset size value)) ≡ Some WrongResult
@@ -172,17 +162,6 @@ pub load_allowed : (account : Account) (authority : ℕ) (offset : ℤ) (size va
 load_allowed account authority offset size value h =
     ap first_of (sym (load_tests account.rules account.state authority offset size value))
     ∙ (wrong account (steps.Load authority offset size value) h).0
-
-pub stored_cap : (account : Account) (step : Step) (source authority : ℕ) (offset : ℤ) → step ≡ steps.StoreCap source authority offset
-    → GivesFor account step None
-stored_cap account step source authority offset is =
-    subst (λ (s : Step). GivesFor account s None) (sym is) (nothing_recorded account (steps.StoreCap source authority offset) refl)
-
-pub stored : (account : Account) (step : Step) (authority : ℕ) (offset : ℤ) (size value : ℕ)
-    → step ≡ steps.Store authority offset size value
-    → GivesFor account step None
-stored account step authority offset size value is =
-    subst (λ (s : Step). GivesFor account s None) (sym is) (nothing_recorded account (steps.Store authority offset size value) refl)
 
 -- which step a text spells
 abbrev OfLine : Account → Line → Option Expected → Type 0
@@ -210,13 +189,11 @@ cut_off beginning accepted goes line fault =
 
 nothing_wrong : (beginning : Beginning) → IsAccepted beginning → (line : ℕ)
     → IsFirstFault (text_of (lines_of beginning)) line WrongResult → ⊥
-nothing_wrong Nothing accepted line fault = cut_off Nothing accepted tt line fault
-nothing_wrong NoMode accepted line fault = cut_off NoMode accepted tt line fault
-nothing_wrong (Body rules_are roots steps_are) accepted line fault = cut_off (Body rules_are roots steps_are) accepted tt line fault
 nothing_wrong (Whole rules_are roots steps_are) accepted line fault =
     let yes = yes_of (text_of (lines_of (Whole rules_are roots steps_are))) rules_are roots steps_are refl accepted in
     let same = one_verdict _ (Yes (length steps_are) (length roots)) (No line WrongResult) yes fault in
     cc
+nothing_wrong beginning accepted line fault = cut_off beginning accepted tt line fault
 
 pub none_at_fault : (known : Known) (bytes : List ℕ) → (IsAtFault known.stage → ⊥) → Read known bytes → Expects bytes None
 none_at_fault known bytes clear read = λ line fault.

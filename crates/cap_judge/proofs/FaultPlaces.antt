@@ -1,6 +1,6 @@
 -- Where a judge stopped is at the first fault: its machine holds what the lines before that lead to, and it holds the text of that line.
-use Rattle.std.proofs.Common.{◌≡◌, ℕ, ◌+◌, inl, inr, Bool, true, List, [], ◌∷◌, ◌++◌, length, refl, sym, ap, subst, ◌∙◌}
-use Rattle.std.proofs.Common.{append-nil, append_assoc, arith}
+use Rattle.std.proofs.Common.{◌≡◌, ℕ, ◌+◌, inl, inr, Bool, true, List, [], ◌∷◌, ◌++◌, length, refl, sym, ap, subst, ◌∙◌, append-nil}
+use Rattle.std.proofs.Common.{append_assoc, arith}
 use Rattle.std.specs.List.{AllByRecursion}
 use Rattle.std.proofs.lemmas.List.{take-append-le}
 use Rattle.cap_log.specs.declared.lines.Line.{Line}
@@ -14,9 +14,10 @@ use Rattle.cap_judge.specs.declared.verdict.Verdict.TheVariants.{No}
 use Rattle.cap_judge.specs.Logs.{Beginning, Nothing, NoMode, Body, Whole, lines_of, text_of, IsFirstFault}
 use Rattle.cap_judge.specs.Judgings.{IsBehind, IsVerdictOf, account_before, IsLastFront, StopsBefore}
 use Rattle.cap_judge.specs.FaultLines.{IsFrontText}
-use Rattle.cap_judge.proofs.BeginningLemmas.{accepted_in_range}
-use Rattle.cap_judge.proofs.OneReading.{Stage, Unread, Versioned, Within, Ended, Reads, behind, text_cons, same_front}
-use Rattle.cap_judge.proofs.OneVerdict.{stage_of, accepted_read}
+use Rattle.cap_judge.proofs.LogLemmas.{accepted_in_range}
+use Rattle.cap_judge.proofs.OneVerdict.{text_cons, same_front}
+use Rattle.cap_judge.specs.Turns.{Stage, Unread, Versioned, Within, Ended, Reads, behind}
+use Rattle.cap_judge.proofs.InTurn.{stage_of, accepted_read}
 use Rattle.cap_judge.proofs.SourceLemmas.{whole_verdict}
 
 -- as many lines at the front of the same bytes are the same

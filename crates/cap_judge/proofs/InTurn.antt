@@ -1,112 +1,268 @@
 -- Lines that are allowed in turn are those of a beginning that is accepted.
-use Rattle.std.proofs.Common.{◌≡◌, ◌↔◌, List, [], ◌∷◌, ◌++◌, length, map, refl, sym, subst, append_assoc, append-nil}
-use Rattle.std.specs.List.{AllByRecursion}
+use Rattle.std.proofs.Common.{◌≡◌, ◌↔◌, List, [], ◌∷◌, ◌++◌, length, map, refl, sym, subst, append_assoc, append-nil, ℕ, ◌+◌, ◌≤◌, inl, inr}
+use Rattle.std.proofs.Common.{true, not, nat_eq, ap, ◌∙◌, arith, eq-eqb, IsTrue, None, ◌==◌}
+use Rattle.std.specs.List.{AllByRecursion, IsDistinct}
 use Rattle.cap_log.specs.declared.lines.Line.{Line}
-use Rattle.cap_log.specs.declared.lines.Line.TheVariants.{Root, Step, End}
+use Rattle.cap_log.specs.declared.lines.Line.TheVariants.{Root, Step, End, Version, Mode}
 use Rattle.cap_log.specs.declared.lines.Step as steps_module
 use Rattle.cap_log.specs.Lines.{IsInRange}
 use Rattle.cap_ops.proofs.TestLemmas.{none_hold}
 use Rattle.cap_machine.specs.declared.rules.Rules.{Rules}
 use Rattle.cap_machine.specs.declared.rules.Rules.TheVariants.{One, TwoStrict, TwoClear}
-use Rattle.cap_machine.specs.States.{DeclaredRoot}
+use Rattle.cap_machine.specs.States.{DeclaredRoot, State, start, key_of, tagged}
 use Rattle.cap_machine.specs.Steps.{Leads}
-use Rattle.cap_machine.specs.Accounts.{Account, no_account, with_step, root_tests}
-use Rattle.cap_machine.proofs.AccountLemmas.{account_after-grows, first_of-none, after_roots}
+use Rattle.cap_machine.specs.Accounts.{Account, no_account, with_step, root_tests, most_roots, most_granules, most_steps, with_root}
+use Rattle.cap_machine.proofs.AccountLemmas.{account_after-grows, first_of-none, after_roots, with_root-grows, with_step-grows}
+use Rattle.cap_machine.proofs.AccountLemmas.{after_roots-grows, after_steps-grows, root_free, step_free, after_steps}
 use Rattle.cap_judge.specs.Logs.{Beginning, Nothing, NoMode, Body, Whole, header_lines, body_lines, lines_of, account_after, RunsBy}
-use Rattle.cap_judge.specs.Logs.{IsAccepted, line_tests}
-use Rattle.cap_judge.specs.Turns.{Stage, Unread, Within, Reads, behind}
-use Rattle.cap_judge.proofs.BeginningLemmas.{accepted_in_range}
-use Rattle.cap_judge.proofs.LogLemmas.{after_roots-push, after_steps-push}
-use Rattle.cap_judge.proofs.NextLemmas.{leads_on, step_runs, root_runs, no_roots}
-use Rattle.cap_judge.proofs.OneVerdict.{stage_of, accepted_read}
+use Rattle.cap_judge.specs.Logs.{IsAccepted, line_tests, has_form}
+use Rattle.cap_judge.specs.Turns.{Stage, Unread, Within, Reads, behind, Versioned, Ended, Allows}
+use Rattle.cap_judge.proofs.LogLemmas.{after_roots-push, after_steps-push, steps_push, roots_push, accepted_in_range, step_runs, root_runs}
+use Rattle.cap_judge.proofs.LogLemmas.{no_roots}
+use Rattle.std.proofs.lemmas.Bool.{false≢true, cond-false, eqb-false, false_from_ne_true, le-ltb, lt-ltb, not-false, eqb-true}
+use Rattle.std.proofs.lemmas.Bool.Decides.{eqb_tells}
+use Rattle.cap_bounds.specs.Bounds.{is_sound}
+use Rattle.cap_word.specs.declared.word.Cap.{Cap}
+use Rattle.cap_machine.specs.Runs.{IsRun}
+use Rattle.cap_machine.proofs.OriginLemmas.{keys, IsFree, roots_start}
+use Rattle.std.proofs.lemmas.Option.{none-some}
+use Rattle.cap_ops.specs.Tests.{first_of}
+use Rattle.cap_ops.specs.declared.refusal.Refusal.TheVariants.{Misplaced}
+use Rattle.cap_log.specs.declared.lines.Mode.TheVariants.{Strict, Clear}
+use Rattle.cap_log.specs.declared.lines.Place.{Place}
+use Rattle.cap_word.specs.declared.word.Word.{Word}
+use Rattle.std.specs.Bool.{if◌then◌else◌}
+use Rattle.cap_judge.specs.Readings.{rules_of}
 
-AllByRecursion-split : {X : Type 0} (P : X → Type 0) (xs ys : List X) → AllByRecursion P (xs ++ ys)
-    → AllByRecursion P xs × AllByRecursion P ys
-AllByRecursion-split P [] ys h = (tt, h)
-AllByRecursion-split P (x ∷ xs) ys h = let rest = AllByRecursion-split P xs ys h.1 in ((h.0, rest.0), rest.1)
+-- one reading after another
+pub Reads-append : (from middle to : Stage) (lines more : List Line) → Reads from lines middle → Reads middle more to
+    → Reads from (lines ++ more) to
+Reads-append from middle to [] more h k = subst (λ (stage : Stage). Reads stage more to) (sym h) k
+Reads-append from middle to (line ∷ lines) more h k = (h.0, Reads-append (behind from line) middle to lines more h.1 k)
 
--- a reading in two parts
-Reads-split : (from to : Stage) (lines more : List Line) → Reads from (lines ++ more) to
-    → (middle : Stage) × Reads from lines middle × Reads middle more to
-Reads-split from to [] more h = (from, refl, h)
-Reads-split from to (line ∷ lines) more h =
-    let rest = Reads-split (behind from line) to lines more h.1 in
-    (rest.0, (h.0, rest.1), rest.2)
+-- Distinct roots
 
--- the stage behind a header
-header_stage : (rules_are : Rules) (to : Stage) → Reads Unread (header_lines rules_are) to → Within (no_account rules_are) ≡ to
-header_stage One to h = h.1
-header_stage TwoStrict to h = h.1.1
-header_stage TwoClear to h = h.1.1
+-- no root has a place that has a tag
+abbrev AreFree : State → List DeclaredRoot → Type 0
+AreFree state roots = (key : ℕ) → IsTrue (state key).tag → IsFree key roots
+
+-- one root more has a tag at its place alone
+still_free : (account : Account) (root : DeclaredRoot) (roots : List DeclaredRoot) → IsFree (key_of root.place) roots
+    → AreFree account.state (root ∷ roots) → AreFree (with_root account root.place root.word).state roots
+still_free account root roots own free key held =
+    elim (eqb_tells (key_of root.place) key) [
+      | inl same ↦ subst (λ (k : ℕ). IsFree k roots) same.1 own
+      | inr unlike ↦
+          let kept = cond-false _ (tagged root.word) (account.state key) unlike.0 in
+          (free key (ap (λ (cap : Cap). cap.tag) (sym kept) ∙ held)).1
+    ]
+
+-- What is accepted is read
+
+-- a line that has a form by the rules of version 1 has one by any rules
+formed : (rules_are : Rules) (line : Line) → has_form One line ≡ true → has_form rules_are line ≡ true
+formed One line one = one
+formed rules_are line one = refl
+
+-- sound roots at distinct places are read, where their account keeps to the limits
+roots_read : (rules_are : Rules) (account : Account) (roots : List DeclaredRoot) → account.rules ≡ rules_are → account.steps ≡ 0
+    → IsDistinct nat_eq (keys roots) → AreFree account.state roots → AllByRecursion
+    (λ (root : DeclaredRoot). IsTrue (is_sound root.word.0)) roots
+    → account.roots + length roots ≤ most_roots → (after_roots account roots).granules ≤ most_granules rules_are
+    → Reads (Within account) (map (λ (root : DeclaredRoot). Root root.place root.word) roots) (Within (after_roots account roots))
+unfolding IsDistinct
+roots_read rules_are account [] same none distinct free sound few_roots few_granules = refl
+roots_read rules_are account (root ∷ roots) same none distinct free sound few_roots few_granules =
+    let line = Root root.place root.word in
+    let after = with_root account root.place root.word in
+    let one = with_root-grows account root.place root.word in
+    let rest = after_roots-grows after roots in
+    let most = ap most_granules same in
+    let untagged = false_from_ne_true _ (λ held. eqb-false (key_of root.place) _ (free (key_of root.place) held).0 refl) in
+    let unrefused = root_free account root.place root.word untagged sound.0 (omega arith) (omega arith) in (
+      (formed account.rules line refl, first_of-none (line_tests account line) (le-ltb 0 account.steps (omega arith), unrefused)),
+      roots_read rules_are after roots (one.rules_stay ∙ same) (omega arith) distinct.1 (still_free account root roots distinct.0 free)
+          sound.1 (omega arith) few_granules,
+    )
+
+-- and so are steps that have a run from its state
+steps_read : (rules_are : Rules) (account : Account) (steps : List steps_module.Step) (states : List State) → account.rules ≡ rules_are
+    → IsRun rules_are account.state steps states → account.steps + length steps ≤ most_steps
+    → (after_steps account steps).granules ≤ most_granules rules_are
+    → Reads (Within account) (map Step steps) (Within (after_steps account steps))
+steps_read rules_are account [] states same run few_steps few_granules = refl
+steps_read rules_are account (step ∷ steps) [] same run few_steps few_granules = absurd run
+steps_read rules_are account (step ∷ steps) (next ∷ states) same run few_steps few_granules =
+    let after = with_step account step in
+    let one = with_step-grows account step in
+    let rest = after_steps-grows after steps in
+    let most = ap most_granules same in
+    let leads = subst (λ (r : Rules). Leads r account.state step next) (sym same) run.0 in
+    let later = subst (λ (state : State). IsRun rules_are state steps states) leads.after run.1 in (
+      (formed account.rules (Step step) refl, step_free account step next leads (omega arith) (omega arith)),
+      steps_read rules_are after steps states (one.rules_stay ∙ same) later (omega arith) few_granules,
+    )
+
+header_read : (rules_are : Rules) → Reads Unread (header_lines rules_are) (Within (no_account rules_are))
+header_read One = (tt, refl)
+header_read TwoStrict = (tt, (tt, refl))
+header_read TwoClear = (tt, (tt, refl))
+
+body_read : (rules_are : Rules) (roots : List DeclaredRoot) (steps : List steps_module.Step) → RunsBy rules_are roots steps
+    → Reads Unread (body_lines rules_are roots steps) (Within (account_after rules_are roots steps))
+body_read rules_are roots steps runs =
+    let first = no_account rules_are in
+    let rooted = after_roots first roots in
+    let last = account_after rules_are roots steps in
+    let started = sym (roots_start rules_are roots runs.distinct) in
+    let run = subst (λ (state : State). IsRun rules_are state steps runs.run.0) started runs.run.1 in
+    let by_roots = after_roots-grows first roots in
+    let by_steps = after_steps-grows rooted steps in
+    let few_roots = runs.few_roots in
+    let few_steps = runs.few_steps in
+    let few_granules = runs.few_granules in
+    let free = λ (key : ℕ) (held : IsTrue (start [] key).tag). absurd (false≢true held) in
+    let roots_are = roots_read rules_are first roots refl refl runs.distinct free runs.sound (omega arith) (omega arith) in
+    let steps_are = steps_read rules_are rooted steps runs.run.0 by_roots.rules_stay run (omega arith) few_granules in
+    Reads-append Unread (Within first) (Within last) (header_lines rules_are) _ (header_read rules_are)
+    (Reads-append (Within first) (Within rooted) (Within last) _ (map Step steps) roots_are steps_are)
+
+-- the stage behind a beginning
+abbrev pub stage_of : Beginning → Stage
+stage_of Nothing = Unread
+stage_of NoMode = Versioned
+stage_of (Body rules_are roots steps) = Within (account_after rules_are roots steps)
+stage_of (Whole rules_are roots steps) = Ended (account_after rules_are roots steps)
+
+pub accepted_read : (beginning : Beginning) → IsAccepted beginning → Reads Unread (lines_of beginning) (stage_of beginning)
+accepted_read Nothing accepted = refl
+accepted_read NoMode accepted = (tt, refl)
+accepted_read (Body rules_are roots steps) runs = body_read rules_are roots steps runs
+accepted_read (Whole rules_are roots steps) runs =
+    let last = account_after rules_are roots steps in
+    let end = End (length steps) in
+    let counts = account_after-grows rules_are roots steps in
+    let free = first_of-none (line_tests last end) (ap not (eq-eqb (length steps) last.steps (omega arith)), tt) in
+    Reads-append Unread (Within last) (Ended last) (body_lines rules_are roots steps) (end ∷ []) (body_read rules_are roots steps runs)
+    ((formed last.rules end refl, free), refl)
+
+-- A line that is allowed makes the beginning longer
+
+-- the beginning with one line more
+abbrev pub with_line : Beginning → Line → Beginning
+with_line Nothing (Version version) = if version == 1 then Body One [] [] else NoMode
+with_line NoMode (Mode mode) = Body (rules_of mode) [] []
+with_line (Body rules_are roots steps) (Root place word) = Body rules_are (roots ++ record { place = place; word = word } ∷ []) steps
+with_line (Body rules_are roots steps) (Step step) = Body rules_are roots (steps ++ step ∷ [])
+with_line (Body rules_are roots steps) (End count) = Whole rules_are roots steps
+with_line beginning line = beginning
+
+-- it is accepted, has this line more, and stands at the stage behind it
+pub record Longer (beginning : Beginning) (line : Line) : Type 0 where
+  pub accepted : IsAccepted (with_line beginning line)
+  pub lines_are : lines_of (with_line beginning line) ≡ lines_of beginning ++ line ∷ []
+  pub stage_is : stage_of (with_line beginning line) ≡ behind (stage_of beginning) line
+
+-- a root is declared before the first step
+no_root : (rules_are : Rules) (roots : List DeclaredRoot) (step : steps_module.Step) (steps : List steps_module.Step) (place : Place)
+    (word : Word) → first_of (line_tests (account_after rules_are roots (step ∷ steps)) (Root place word)) ≡ None → ⊥
+no_root rules_are roots step steps place word free =
+    let account = account_after rules_are roots (step ∷ steps) in
+    let counted = (account_after-grows rules_are roots (step ∷ steps)).steps_are in
+    false≢true (sym (none_hold (line_tests account (Root place word)) free).0 ∙ lt-ltb 0 account.steps (omega arith))
+
+-- the end line counts the steps
+end_counts : (rules_are : Rules) (roots : List DeclaredRoot) (steps : List steps_module.Step) (count : ℕ)
+    → first_of (line_tests (account_after rules_are roots steps) (End count)) ≡ None → length steps ≡ count
+end_counts rules_are roots steps count free =
+    let account = account_after rules_are roots steps in
+    let counted = (account_after-grows rules_are roots steps).steps_are in
+    let is = eqb-true count account.steps (not-false _ (none_hold (line_tests account (End count)) free).0) in
+    omega (arith, is)
+
+pub longer : (beginning : Beginning) (line : Line) → IsAccepted beginning → IsInRange line → Allows (stage_of beginning) line
+    → Longer beginning line
+longer Nothing (Version version) accepted (inl is) allowed =
+    subst (λ (v : ℕ). Longer Nothing (Version v)) (sym is) (record { accepted = no_roots One; lines_are = refl; stage_is = refl })
+longer Nothing (Version version) accepted (inr is) allowed =
+    subst (λ (v : ℕ). Longer Nothing (Version v)) (sym is) (record { accepted = tt; lines_are = refl; stage_is = refl })
+longer NoMode (Mode Strict) accepted range allowed = record { accepted = no_roots TwoStrict; lines_are = refl; stage_is = refl }
+longer NoMode (Mode Clear) accepted range allowed = record { accepted = no_roots TwoClear; lines_are = refl; stage_is = refl }
+longer (Body rules_are roots []) (Root place word) runs range allowed =
+    let account = account_after rules_are roots [] in
+    let root : DeclaredRoot = record { place = place; word = word } in
+    let free = first_of-none (root_tests account place word) (none_hold (line_tests account (Root place word)) allowed.1).1 in
+    record {
+      accepted = root_runs rules_are roots root runs range.0 range.1 free;
+      lines_are = roots_push rules_are roots root;
+      stage_is = ap Within (after_roots-push (no_account rules_are) roots root);
+    }
+longer (Body rules_are roots (step ∷ steps)) (Root place word) runs range allowed =
+    absurd (no_root rules_are roots step steps place word allowed.1)
+longer (Body rules_are roots steps) (Step step) runs range allowed = record {
+  accepted = step_runs rules_are roots steps step runs range allowed.1;
+  lines_are = steps_push rules_are roots steps step;
+  stage_is = ap Within (after_steps-push (after_roots (no_account rules_are) roots) steps step);
+}
+longer (Body rules_are roots steps) (End count) runs range allowed =
+    let all = end_counts rules_are roots steps count allowed.1 in
+    record { accepted = runs; lines_are = ap (λ n. body_lines rules_are roots steps ++ End n ∷ []) all; stage_is = refl }
+longer (Body rules_are roots steps) (Version version) runs range allowed = absurd (none-some Misplaced (sym allowed.1))
+longer (Body rules_are roots steps) (Mode mode) runs range allowed = absurd (none-some Misplaced (sym allowed.1))
+longer beginning line accepted range allowed = absurd allowed
+
+-- So do lines that are allowed in turn, and the lines of a beginning lead to it
 
 abbrev root_line : DeclaredRoot → Line
 root_line root = Root root.place root.word
 
--- roots that are allowed in turn, behind others
-roots_in_turn : (rules_are : Rules) (before roots : List DeclaredRoot) (to : Stage) → RunsBy rules_are before []
-    → AllByRecursion IsInRange (map root_line roots) → Reads (Within (account_after rules_are before [])) (map root_line roots) to
-    → RunsBy rules_are (before ++ roots) [] × (Within (account_after rules_are (before ++ roots) []) ≡ to)
-roots_in_turn rules_are before [] to runs range reads =
-    let none = sym (append-nil before) in (
-      subst (λ (rs : List DeclaredRoot). RunsBy rules_are rs []) none runs,
-      subst (λ (rs : List DeclaredRoot). Within (account_after rules_are rs []) ≡ to) none reads,
-    )
-roots_in_turn rules_are before (root ∷ roots) to runs range reads =
-    let account = account_after rules_are before [] in
-    let free = none_hold (line_tests account (root_line root)) reads.0.1 in
-    let unrefused = first_of-none (root_tests account root.place root.word) free.1 in
-    let one = root_runs rules_are before root runs range.0.0 range.0.1 unrefused in
-    let push = after_roots-push (no_account rules_are) before root in
-    let rest = subst (λ (a : Account). Reads (Within a) (map root_line roots) to) (sym push) reads.1 in
-    let all = append_assoc before (root ∷ []) roots in
-    subst (λ (rs : List DeclaredRoot). RunsBy rules_are rs [] × (Within (account_after rules_are rs []) ≡ to)) all
-    (roots_in_turn rules_are (before ++ root ∷ []) roots to one range.1 rest)
+abbrev with_lines : Beginning → List Line → Beginning
+with_lines beginning [] = beginning
+with_lines beginning (line ∷ lines) = with_lines (with_line beginning line) lines
 
--- steps that are allowed in turn, behind others
-steps_in_turn : (rules_are : Rules) (roots : List DeclaredRoot) (before steps : List steps_module.Step) (to : Stage)
-    → RunsBy rules_are roots before
-    → AllByRecursion IsInRange (map Step steps) → Reads (Within (account_after rules_are roots before)) (map Step steps) to
-    → RunsBy rules_are roots (before ++ steps)
-steps_in_turn rules_are roots before [] to runs range reads = subst (RunsBy rules_are roots) (sym (append-nil before)) runs
-steps_in_turn rules_are roots before (step ∷ steps) to runs range reads =
-    let account = account_after rules_are roots before in
-    let same = (account_after-grows rules_are roots before).rules_stay in
-    let next = (with_step account step).state in
-    let leads = subst (λ (r : Rules). Leads r account.state step next) same (leads_on account step reads.0.1) in
-    let one = step_runs rules_are roots before step next runs range.0 reads.0.1 leads in
-    let push = after_steps-push (after_roots (no_account rules_are) roots) before step in
-    let rest = subst (λ (a : Account). Reads (Within a) (map Step steps) to) (sym push) reads.1 in
-    subst (RunsBy rules_are roots) (append_assoc before (step ∷ []) steps)
-    (steps_in_turn rules_are roots (before ++ step ∷ []) steps to one range.1 rest)
+all_longer : (beginning : Beginning) (lines : List Line) (to : Stage) → IsAccepted beginning → AllByRecursion IsInRange lines
+    → Reads (stage_of beginning) lines to → IsAccepted (with_lines beginning lines)
+all_longer beginning [] to accepted range reads = accepted
+all_longer beginning (line ∷ lines) to accepted range reads =
+    let one = longer beginning line accepted range.0 reads.0 in
+    all_longer (with_line beginning line) lines to one.accepted range.1 (subst (λ (s : Stage). Reads s lines to) (sym one.stage_is) reads.1)
 
-body_in_turn : (rules_are : Rules) (roots : List DeclaredRoot) (steps : List steps_module.Step) (to : Stage)
-    → AllByRecursion IsInRange (body_lines rules_are roots steps) → Reads Unread (body_lines rules_are roots steps) to
-    → RunsBy rules_are roots steps
-body_in_turn rules_are roots steps to range reads =
-    let behind_header = Reads-split Unread to (header_lines rules_are) _ reads in
-    let behind_roots = Reads-split behind_header.0 to (map root_line roots) (map Step steps) behind_header.2 in
-    let later = AllByRecursion-split IsInRange (header_lines rules_are) _ range in
-    let ranges = AllByRecursion-split IsInRange (map root_line roots) (map Step steps) later.1 in
-    let roots_read = subst (λ (s : Stage). Reads s (map root_line roots) behind_roots.0)
-    (sym (header_stage rules_are behind_header.0 behind_header.1))
-    behind_roots.1 in
-    let rooted = roots_in_turn rules_are [] roots behind_roots.0 (no_roots rules_are) ranges.0 roots_read in
-    let steps_read = subst (λ (s : Stage). Reads s (map Step steps) to) (sym rooted.1) behind_roots.2 in
-    steps_in_turn rules_are roots [] steps to rooted.0 ranges.1 steps_read
+roots_back : (rules_are : Rules) (before roots : List DeclaredRoot) (lines : List Line)
+    → with_lines (Body rules_are before []) (map root_line roots ++ lines) ≡ with_lines (Body rules_are (before ++ roots) []) lines
+roots_back rules_are before [] lines = ap (λ rs. with_lines (Body rules_are rs []) lines) (sym (append-nil before))
+roots_back rules_are before (root ∷ roots) lines =
+    roots_back rules_are (before ++ root ∷ []) roots lines
+    ∙ ap (λ rs. with_lines (Body rules_are rs []) lines) (append_assoc before (root ∷ []) roots)
 
-in_turn : (beginning : Beginning) (to : Stage) → AllByRecursion IsInRange (lines_of beginning) → Reads Unread (lines_of beginning) to
-    → IsAccepted beginning
-in_turn Nothing to range reads = tt
-in_turn NoMode to range reads = tt
-in_turn (Body rules_are roots steps) to range reads = body_in_turn rules_are roots steps to range reads
-in_turn (Whole rules_are roots steps) to range reads =
-    let body = Reads-split Unread to (body_lines rules_are roots steps) (End (length steps) ∷ []) reads in
-    body_in_turn rules_are roots steps body.0
-    (AllByRecursion-split IsInRange (body_lines rules_are roots steps) (End (length steps) ∷ []) range).0 body.1
+steps_back : (rules_are : Rules) (roots : List DeclaredRoot) (before steps : List steps_module.Step) (lines : List Line)
+    → with_lines (Body rules_are roots before) (map Step steps ++ lines) ≡ with_lines (Body rules_are roots (before ++ steps)) lines
+steps_back rules_are roots before [] lines = ap (λ ss. with_lines (Body rules_are roots ss) lines) (sym (append-nil before))
+steps_back rules_are roots before (step ∷ steps) lines =
+    steps_back rules_are roots (before ++ step ∷ []) steps lines
+    ∙ ap (λ ss. with_lines (Body rules_are roots ss) lines) (append_assoc before (step ∷ []) steps)
+
+behind_header : (rules_are : Rules) (roots : List DeclaredRoot) (steps : List steps_module.Step) (lines : List Line)
+    → with_lines (Body rules_are [] []) ((map root_line roots ++ map Step steps) ++ lines) ≡ with_lines (Body rules_are roots steps) lines
+behind_header rules_are roots steps lines =
+    ap (with_lines (Body rules_are [] [])) (append_assoc (map root_line roots) (map Step steps) lines)
+    ∙ roots_back rules_are [] roots (map Step steps ++ lines) ∙ steps_back rules_are roots [] steps lines
+
+body_back : (rules_are : Rules) (roots : List DeclaredRoot) (steps : List steps_module.Step) (lines : List Line)
+    → with_lines Nothing (body_lines rules_are roots steps ++ lines) ≡ with_lines (Body rules_are roots steps) lines
+body_back One roots steps lines = behind_header One roots steps lines
+body_back TwoStrict roots steps lines = behind_header TwoStrict roots steps lines
+body_back TwoClear roots steps lines = behind_header TwoClear roots steps lines
+
+lines_back : (beginning : Beginning) → with_lines Nothing (lines_of beginning) ≡ beginning
+lines_back Nothing = refl
+lines_back NoMode = refl
+lines_back (Body rules_are roots steps) =
+    ap (with_lines Nothing) (sym (append-nil (body_lines rules_are roots steps))) ∙ body_back rules_are roots steps []
+lines_back (Whole rules_are roots steps) = body_back rules_are roots steps (End (length steps) ∷ [])
 
 pub accepted_in_turn : (beginning : Beginning)
     → IsAccepted beginning ↔ (AllByRecursion IsInRange (lines_of beginning) × ((stage : Stage) × Reads Unread (lines_of beginning) stage))
 accepted_in_turn beginning = (
   λ accepted. (accepted_in_range beginning accepted, (stage_of beginning, accepted_read beginning accepted)),
-  λ h. in_turn beginning h.1.0 h.0 h.1.1,
+  λ h. subst IsAccepted (lines_back beginning) (all_longer Nothing (lines_of beginning) h.1.0 tt h.0 h.1.1),
 )

@@ -1,6 +1,6 @@
 -- Where the judge is, and what it may answer there.
-use Rattle.std.proofs.Common.{◌≡◌, ◌≢◌, ℕ, zero, suc, ◌+◌, true, false, List, [], ◌∷◌, ◌++◌, length, map, refl, sym, ap}
-use Rattle.std.proofs.Common.{subst, ◌∙◌, append-nil, append_assoc, arith, Result, Ok, Err, IsOk, IfOk, IfErr}
+use Rattle.std.proofs.Common.{◌≡◌, ℕ, zero, suc, ◌+◌, true, List, [], ◌∷◌, ◌++◌, length, map, refl, sym, subst, append_assoc, arith, Result}
+use Rattle.std.proofs.Common.{Ok, Err, IsOk, IfErr}
 use Rattle.std.specs.List.{AllByRecursion}
 use Rattle.std.proofs.lemmas.Grind.{flat_map-append}
 use Rattle.std.proofs.lemmas.Bool.{false≢true, and_parts, eqb-true, leb-true}
@@ -11,44 +11,35 @@ use Rattle.cap_log.specs.declared.lines.Line.{Line}
 use Rattle.cap_log.specs.declared.lines.Line.TheVariants as lines
 use Rattle.cap_log.specs.declared.lines.Step.{Step}
 use Rattle.cap_log.specs.Lines.{spelling, IsInRange, IsStepInRange}
-use Rattle.cap_log.specs.Front.{FrontIs, IsLine}
+use Rattle.cap_log.specs.Front.{FrontIs}
 use Rattle.cap_ops.specs.declared.refusal.Refusal.{Refusal}
-use Rattle.cap_ops.specs.declared.refusal.Refusal.TheVariants.{LineTooLong, Misplaced, Truncated}
-use Rattle.cap_machine.specs.declared.ends.StepEnd.TheVariants.{NoMemory}
+use Rattle.cap_ops.specs.declared.refusal.Refusal.TheVariants.{LineTooLong, Truncated}
 use Rattle.cap_machine.specs.States.{State, DeclaredRoot, start}
 use Rattle.cap_machine.specs.declared.rules.Rules.{Rules}
-use Rattle.cap_machine.specs.declared.rules.Rules.TheVariants.{One, TwoStrict, TwoClear}
+use Rattle.cap_machine.specs.declared.rules.Rules.TheVariants.{One}
 use Rattle.cap_machine.specs.Accounts.{Account, is_new}
 use Rattle.cap_machine.specs.Runs.{AreSound, IsRun}
 use Rattle.cap_machine.proofs.AccessLemmas.{lie_inside}
 use Rattle.cap_machine.proofs.AuthorityLemmas.{one_root}
 use Rattle.cap_machine.proofs.EscapeLemmas.{clears_along}
 use Rattle.cap_judge.specs.declared.verdict.Verdict.{Verdict}
-use Rattle.cap_judge.specs.declared.verdict.Verdict.TheVariants.{Yes, No}
 use Rattle.cap_judge.specs.declared.verdict.JudgeFault.{JudgeFault}
 use Rattle.cap_judge.specs.declared.verdict.JudgeFault.TheVariants as faults
-use Rattle.cap_judge.specs.Logs.{Beginning, Nothing, NoMode, Body, Whole, header_lines, body_lines, lines_of, text_of, account_after}
-use Rattle.cap_judge.specs.Logs.{IsAccepted, RunsBy, RefusesWhole, Refuses, IsFirstFault, MayLackMemory}
-use Rattle.cap_judge.specs.Logs.{IsLogOf, NamesNoGranules, named_by_line}
+use Rattle.cap_judge.specs.Logs.{Beginning, Whole, header_lines, body_lines, lines_of, text_of, account_after, RunsBy, RefusesWhole}
+use Rattle.cap_judge.specs.Logs.{Refuses, IsFirstFault, MayLackMemory, IsLogOf, NamesNoGranules, named_by_line}
 use Rattle.cap_machine.specs.Escapes.{ClearsExactly}
 use Rattle.cap_judge.specs.Verdicts.{IsYes, IsGuarded, IsFault}
 use Rattle.cap_judge.specs.Judgings.{IsBehind}
-use Rattle.std.proofs.lemmas.List.{length_push}
 
 -- one line more
 pub text_push : (lines : List Line) (line : Line) (rest : List ℕ)
     → text_of (lines ++ line ∷ []) ++ rest ≡ text_of lines ++ (spelling line ++ 10 ∷ rest)
-text_push lines line rest =
-    let piece = λ (l : Line). spelling l ++ 10 ∷ [] in
-    ap (λ (text : List ℕ). text ++ rest) (flat_map-append piece lines (line ∷ []))
-    ∙ simp (append_assoc)
+text_push lines line rest = simp (flat_map-append, append_assoc)
 
 -- a beginning that goes on: it has no end line
 abbrev pub IsUnended : Beginning → Type 0
-IsUnended Nothing = Unit {0}
-IsUnended NoMode = Unit {0}
-IsUnended (Body rules_are roots steps) = Unit {0}
 IsUnended (Whole rules_are roots steps) = ⊥
+IsUnended beginning = Unit {0}
 
 -- the front of what follows a beginning is refused
 abbrev pub RefusesFront : Beginning → List ℕ → Refusal → Type 0
@@ -58,10 +49,8 @@ RefusesFront beginning rest refusal =
 -- the line behind a beginning can be refused by its front
 pub front_refused : (beginning : Beginning) (rest : List ℕ) (refusal : Refusal) → IsUnended beginning → RefusesFront beginning rest refusal
     → Refuses beginning rest refusal
-front_refused Nothing rest refusal unended refused = refused
-front_refused NoMode rest refusal unended refused = refused
-front_refused (Body rules_are roots steps) rest refusal unended refused = refused
 front_refused (Whole rules_are roots steps) rest refusal unended refused = absurd unended
+front_refused beginning rest refusal unended refused = refused
 
 -- behind an accepted beginning the first line that is refused is the first fault
 pub fault_behind : (bytes rest : List ℕ) (beginning : Beginning) (refusal : Refusal) → IsBehind bytes beginning rest
@@ -124,8 +113,7 @@ are_sound (first ∷ roots) all root (suc index, below, is) = are_sound roots al
 pub behind_header : (rules_are : Rules) (lines : List Line) → AllByRecursion IsInRange (header_lines rules_are ++ lines)
     → AllByRecursion IsInRange lines
 behind_header One lines all = all.1
-behind_header TwoStrict lines all = all.1.1
-behind_header TwoClear lines all = all.1.1
+behind_header rules_are lines all = all.1.1
 
 -- every log is guarded, and clears tags, as its runs do
 pub guarded : (bytes : List ℕ) → IsGuarded bytes

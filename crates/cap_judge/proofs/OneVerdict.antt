@@ -1,139 +1,145 @@
--- No bytes have two verdicts: each verdict comes from a reading of the bytes that stops.
-use Rattle.std.proofs.Common.{◌≡◌, ℕ, ◌+◌, ◌≤◌, inl, inr, true, not, nat_eq, List, [], ◌∷◌, ◌++◌, length, map, refl, sym, ap, subst, ◌∙◌}
-use Rattle.std.proofs.Common.{append-nil, arith, eq-eqb, IsTrue}
-use Rattle.std.specs.List.{AllByRecursion, IsDistinct}
-use Rattle.std.proofs.lemmas.Bool.{false≢true, cond-false, eqb-false, false_from_ne_true, le-ltb}
-use Rattle.std.proofs.lemmas.Bool.Decides.{eqb_tells}
-use Rattle.cap_bounds.specs.Bounds.{is_sound}
-use Rattle.cap_word.specs.declared.word.Cap.{Cap}
+-- Bytes have one reading, a line at a time, that stops, and no two verdicts: each comes from such a reading.
+use Rattle.std.proofs.Common.{◌≡◌, ◌≢◌, ℕ, inl, inr, ◌⊎◌, List, [], ◌∷◌, ◌++◌, refl, sym, ap, subst, ◌∙◌, append_assoc, ◌+◌, length}
+use Rattle.std.proofs.Common.{append-nil, arith}
+use Rattle.std.specs.List.{AllByRecursion}
+use Rattle.std.proofs.lemmas.Option.{none-some, same_Some}
 use Rattle.cap_log.specs.declared.lines.Line.{Line}
-use Rattle.cap_log.specs.declared.lines.Line.TheVariants.{Root, Step, End}
-use Rattle.cap_log.specs.declared.lines.Step as steps_module
+use Rattle.cap_log.specs.declared.lines.Line.TheVariants.{Version, Mode}
+use Rattle.cap_log.specs.Lines.{spelling, IsInRange}
+use Rattle.cap_log.specs.Front.{IsLine, IsTooLong, IsCut}
+use Rattle.cap_log.proofs.FrontLemmas.{IsLine-same, IsLine-not_too_long, IsLine-not_cut, IsTooLong-not_cut}
+use Rattle.cap_log.proofs.SpellingLemmas.{one_spelling, IsLine-spelling}
+use Rattle.cap_ops.specs.Tests.{first_of}
 use Rattle.cap_ops.specs.declared.refusal.Refusal.{Refusal}
-use Rattle.cap_machine.specs.declared.rules.Rules.{Rules}
-use Rattle.cap_machine.specs.declared.rules.Rules.TheVariants.{One, TwoStrict, TwoClear}
-use Rattle.cap_machine.specs.States.{State, DeclaredRoot, start, key_of, tagged}
-use Rattle.cap_machine.specs.Steps.{Leads}
-use Rattle.cap_machine.specs.Accounts.{Account, no_account, most_roots, most_granules, most_steps, with_root, with_step}
-use Rattle.cap_machine.specs.Runs.{IsRun}
-use Rattle.cap_machine.proofs.AccountLemmas.{with_root-grows, with_step-grows, after_roots-grows, after_steps-grows, account_after-grows}
-use Rattle.cap_machine.proofs.AccountLemmas.{first_of-none, root_free, step_free, after_roots, after_steps}
-use Rattle.cap_machine.proofs.OriginLemmas.{keys, IsFree, roots_start}
+use Rattle.cap_ops.specs.declared.refusal.Refusal.TheVariants.{LineTooLong, Misplaced, Truncated}
 use Rattle.cap_judge.specs.declared.verdict.Verdict.{Verdict}
 use Rattle.cap_judge.specs.declared.verdict.Verdict.TheVariants.{Yes, No}
-use Rattle.cap_judge.specs.Logs.{Beginning, Nothing, NoMode, Body, Whole, header_lines, body_lines, lines_of, text_of, account_after}
-use Rattle.cap_judge.specs.Logs.{RunsBy, IsAccepted, has_form, line_tests, Refuses}
+use Rattle.cap_judge.specs.Logs.{Nothing, NoMode, text_of, line_tests, RefusesLine, RefusesWhole, Beginning, Whole, lines_of, IsAccepted}
+use Rattle.cap_judge.specs.Logs.{Refuses}
+use Rattle.cap_machine.proofs.AccountLemmas.{account_after-grows}
 use Rattle.cap_judge.specs.Verdicts.{IsVerdict}
-use Rattle.cap_judge.proofs.BeginningLemmas.{accepted_in_range}
-use Rattle.cap_judge.proofs.OneReading.{Stage, Unread, Versioned, Within, Ended, Reads, Answers, Reads-append, one_reading, answer_stops}
-use Rattle.cap_judge.proofs.OneReading.{one_answer}
+use Rattle.cap_judge.proofs.LogLemmas.{accepted_in_range}
+use Rattle.cap_judge.proofs.InTurn.{stage_of, accepted_read}
+use Rattle.cap_judge.specs.Turns.{Stage, Unread, Versioned, Within, Ended, Allows, behind, Reads}
 
--- Distinct roots
+-- no line that is allowed stands at the front of the bytes
+abbrev pub Stops : Stage → List ℕ → Type 0
+Stops stage rest = (line : Line) (more : List ℕ) → IsInRange line → Allows stage line → rest ≡ spelling line ++ 10 ∷ more → ⊥
 
--- no root has a place that has a tag
-abbrev AreFree : State → List DeclaredRoot → Type 0
-AreFree state roots = (key : ℕ) → IsTrue (state key).tag → IsFree key roots
+-- a whole line is refused at a stage: the same as after a beginning that is read so far
+abbrev pub RefusesText : Stage → List ℕ → Refusal → Type 0
+RefusesText Unread text refusal = RefusesWhole Nothing text refusal
+RefusesText Versioned text refusal = RefusesWhole NoMode text refusal
+RefusesText (Within account) text refusal = RefusesLine account text refusal
+RefusesText (Ended account) text refusal = ⊥
 
--- one root more has a tag at its place alone
-still_free : (account : Account) (root : DeclaredRoot) (roots : List DeclaredRoot) → IsFree (key_of root.place) roots
-    → AreFree account.state (root ∷ roots) → AreFree (with_root account root.place root.word).state roots
-still_free account root roots own free key held =
-    elim (eqb_tells (key_of root.place) key) [
-      | inl same ↦ subst (λ (k : ℕ). IsFree k roots) same.1 own
-      | inr unlike ↦
-          let kept = cond-false _ (tagged root.word) (account.state key) unlike.0 in
-          (free key (ap (λ (cap : Cap). cap.tag) (sym kept) ∙ held)).1
-    ]
+-- what follows is refused before the end line: it is too long, or cut, or a whole line that is refused
+abbrev pub RefusesNext : Stage → List ℕ → Refusal → Type 0
+RefusesNext stage rest refusal =
+    (IsTooLong rest × (refusal ≡ LineTooLong))
+    ⊎ (IsCut rest × (refusal ≡ Truncated))
+    ⊎ ((text : List ℕ) × (more : List ℕ) × IsLine rest text more × RefusesText stage text refusal)
 
--- What is accepted is read
+-- the verdict where a reading stops, at the line of this number
+abbrev pub Answers : Stage → List ℕ → ℕ → Verdict → Type 0
+Answers (Ended account) rest number (Yes steps roots) = (rest ≡ []) × (steps ≡ account.steps) × (roots ≡ account.roots)
+Answers (Ended account) rest number (No line refusal) = (line ≡ number) × ((rest ≢ []) × (refusal ≡ Misplaced))
+Answers stage rest number (Yes steps roots) = ⊥
+Answers stage rest number (No line refusal) = (line ≡ number) × RefusesNext stage rest refusal
 
--- a line that has a form by the rules of version 1 has one by any rules
-formed : (rules_are : Rules) (line : Line) → has_form One line ≡ true → has_form rules_are line ≡ true
-formed One line one = one
-formed TwoStrict line one = refl
-formed TwoClear line one = refl
+-- the first line of a text
+pub text_cons : (line : Line) (lines : List Line) (rest : List ℕ)
+    → text_of (line ∷ lines) ++ rest ≡ spelling line ++ 10 ∷ (text_of lines ++ rest)
+text_cons line lines rest = simp (append_assoc)
 
--- sound roots at distinct places are read, where their account keeps to the limits
-roots_read : (rules_are : Rules) (account : Account) (roots : List DeclaredRoot) → account.rules ≡ rules_are → account.steps ≡ 0
-    → IsDistinct nat_eq (keys roots) → AreFree account.state roots → AllByRecursion
-    (λ (root : DeclaredRoot). IsTrue (is_sound root.word.0)) roots
-    → account.roots + length roots ≤ most_roots → (after_roots account roots).granules ≤ most_granules rules_are
-    → Reads (Within account) (map (λ (root : DeclaredRoot). Root root.place root.word) roots) (Within (after_roots account roots))
-unfolding IsDistinct
-roots_read rules_are account [] same none distinct free sound few_roots few_granules = refl
-roots_read rules_are account (root ∷ roots) same none distinct free sound few_roots few_granules =
-    let line = Root root.place root.word in
-    let after = with_root account root.place root.word in
-    let one = with_root-grows account root.place root.word in
-    let rest = after_roots-grows after roots in
-    let most = ap most_granules same in
-    let untagged = false_from_ne_true _ (λ held. eqb-false (key_of root.place) _ (free (key_of root.place) held).0 refl) in
-    let unrefused = root_free account root.place root.word untagged sound.0 (omega arith) (omega arith) in (
-      (formed account.rules line refl, first_of-none (line_tests account line) (le-ltb 0 account.steps (omega arith), unrefused)),
-      roots_read rules_are after roots (one.rules_stay ∙ same) (omega arith) distinct.1 (still_free account root roots distinct.0 free)
-          sound.1 (omega arith) few_granules,
-    )
+-- texts that begin with lines in range begin with the same line, and go on alike
+pub same_front : (line other : Line) (more rest : List ℕ) → IsInRange line → IsInRange other
+    → spelling line ++ 10 ∷ more ≡ spelling other ++ 10 ∷ rest → (line ≡ other) × (more ≡ rest)
+same_front line other more rest range range' same =
+    let both = IsLine-same _ (spelling line) more (spelling other) rest (IsLine-spelling line range more)
+    (subst (λ (bytes : List ℕ). IsLine bytes (spelling other) rest) (sym same) (IsLine-spelling other range' rest)) in
+    (one_spelling (spelling line) line other (range, refl) (range', both.0), both.1)
 
--- and so are steps that have a run from its state
-steps_read : (rules_are : Rules) (account : Account) (steps : List steps_module.Step) (states : List State) → account.rules ≡ rules_are
-    → IsRun rules_are account.state steps states → account.steps + length steps ≤ most_steps
-    → (after_steps account steps).granules ≤ most_granules rules_are
-    → Reads (Within account) (map Step steps) (Within (after_steps account steps))
-steps_read rules_are account [] states same run few_steps few_granules = refl
-steps_read rules_are account (step ∷ steps) [] same run few_steps few_granules = absurd run
-steps_read rules_are account (step ∷ steps) (next ∷ states) same run few_steps few_granules =
-    let after = with_step account step in
-    let one = with_step-grows account step in
-    let rest = after_steps-grows after steps in
-    let most = ap most_granules same in
-    let leads = subst (λ (r : Rules). Leads r account.state step next) (sym same) run.0 in
-    let later = subst (λ (state : State). IsRun rules_are state steps states) leads.after run.1 in (
-      (formed account.rules (Step step) refl, step_free account step next leads (omega arith) (omega arith)),
-      steps_read rules_are after steps states (one.rules_stay ∙ same) later (omega arith) few_granules,
-    )
+-- two readings of the same bytes that stop are one
+pub one_reading : (from to to' : Stage) (lines lines' : List Line) (rest rest' : List ℕ)
+    → AllByRecursion IsInRange lines → AllByRecursion IsInRange lines' → Reads from lines to → Reads from lines' to'
+    → Stops to rest → Stops to' rest' → text_of lines ++ rest ≡ text_of lines' ++ rest'
+    → (lines ≡ lines') × (to ≡ to') × (rest ≡ rest')
+one_reading from to to' [] [] rest rest' range range' reads reads' stops stops' same = (refl, sym reads ∙ reads', same)
+one_reading from to to' [] (line ∷ lines) rest rest' range range' reads reads' stops stops' same =
+    let allowed = subst (λ (stage : Stage). Allows stage line) reads reads'.0 in
+    absurd (stops line (text_of lines ++ rest') range'.0 allowed (same ∙ text_cons line lines rest'))
+one_reading from to to' (line ∷ lines) [] rest rest' range range' reads reads' stops stops' same =
+    let allowed = subst (λ (stage : Stage). Allows stage line) reads' reads.0 in
+    absurd (stops' line (text_of lines ++ rest) range.0 allowed (sym same ∙ text_cons line lines rest))
+one_reading from to to' (line ∷ lines) (other ∷ lines') rest rest' range range' reads reads' stops stops' same =
+    let first = same_front line other _ _ range.0 range'.0 (sym (text_cons line lines rest) ∙ same ∙ text_cons other lines' rest') in
+    let moved = subst (λ (l : Line). Reads (behind from l) lines' to') (sym first.0) reads'.1 in
+    let all = one_reading (behind from line) to to' lines lines' rest rest' range.1 range'.1 reads.1 moved stops stops' first.1 in
+    (ap (λ (l : Line). l ∷ lines) first.0 ∙ ap (λ (ls : List Line). other ∷ ls) all.0, all.1, all.2)
 
-header_read : (rules_are : Rules) → Reads Unread (header_lines rules_are) (Within (no_account rules_are))
-header_read One = (tt, refl)
-header_read TwoStrict = (tt, (tt, refl))
-header_read TwoClear = (tt, (tt, refl))
+-- what refuses bytes that begin with a whole line refuses this line
+front_refused : (stage : Stage) (rest text more : List ℕ) (refusal : Refusal) → IsLine rest text more → RefusesNext stage rest refusal
+    → RefusesText stage text refusal
+front_refused stage rest text more refusal whole (inl long) = absurd (IsLine-not_too_long rest text more whole long.0)
+front_refused stage rest text more refusal whole (inr (inl cut)) = absurd (IsLine-not_cut rest text more whole cut.0)
+front_refused stage rest text more refusal whole (inr (inr h)) =
+    subst (λ (t : List ℕ). RefusesText stage t refusal) (IsLine-same rest h.0 h.1 text more h.2 whole).0 h.3
 
-body_read : (rules_are : Rules) (roots : List DeclaredRoot) (steps : List steps_module.Step) → RunsBy rules_are roots steps
-    → Reads Unread (body_lines rules_are roots steps) (Within (account_after rules_are roots steps))
-body_read rules_are roots steps runs =
-    let first = no_account rules_are in
-    let rooted = after_roots first roots in
-    let last = account_after rules_are roots steps in
-    let started = sym (roots_start rules_are roots runs.distinct) in
-    let run = subst (λ (state : State). IsRun rules_are state steps runs.run.0) started runs.run.1 in
-    let by_roots = after_roots-grows first roots in
-    let by_steps = after_steps-grows rooted steps in
-    let few_roots = runs.few_roots in
-    let few_steps = runs.few_steps in
-    let few_granules = runs.few_granules in
-    let free = λ (key : ℕ) (held : IsTrue (start [] key).tag). absurd (false≢true held) in
-    let roots_are = roots_read rules_are first roots refl refl runs.distinct free runs.sound (omega arith) (omega arith) in
-    let steps_are = steps_read rules_are rooted steps runs.run.0 by_roots.rules_stay run (omega arith) few_granules in
-    Reads-append Unread (Within first) (Within last) (header_lines rules_are) _ (header_read rules_are)
-    (Reads-append (Within first) (Within rooted) (Within last) _ (map Step steps) roots_are steps_are)
+-- a line that is allowed is not refused
+not_refused : (stage : Stage) (line : Line) (refusal : Refusal) → IsInRange line → Allows stage line
+    → RefusesText stage (spelling line) refusal → ⊥
+not_refused Unread (Version version) refusal range allowed refused = refused.0 version (range, refl)
+not_refused Versioned (Mode mode) refusal range allowed refused = refused.0 mode (range, refl)
+not_refused (Within account) line refusal range allowed (inl none) = none.0 line ((range, refl), allowed.0)
+not_refused (Within account) line refusal range allowed (inr found) =
+    let same = one_spelling (spelling line) found.0 line found.1.0 (range, refl) in
+    none-some refusal (sym allowed.1 ∙ ap (λ (l : Line). first_of (line_tests account l)) (sym same) ∙ found.2)
+not_refused (Ended account) line refusal range allowed refused = refused
+not_refused stage line refusal range allowed refused = absurd allowed
 
--- the stage behind a beginning
-abbrev pub stage_of : Beginning → Stage
-stage_of Nothing = Unread
-stage_of NoMode = Versioned
-stage_of (Body rules_are roots steps) = Within (account_after rules_are roots steps)
-stage_of (Whole rules_are roots steps) = Ended (account_after rules_are roots steps)
+-- so where what follows is refused, the reading stops
+next_stops : (stage : Stage) (rest : List ℕ) (refusal : Refusal) → RefusesNext stage rest refusal → Stops stage rest
+next_stops stage rest refusal refused line more range allowed is =
+    let whole = subst (λ (bytes : List ℕ). IsLine bytes (spelling line) more) (sym is) (IsLine-spelling line range more) in
+    not_refused stage line refusal range allowed (front_refused stage rest (spelling line) more refusal whole refused)
 
-pub accepted_read : (beginning : Beginning) → IsAccepted beginning → Reads Unread (lines_of beginning) (stage_of beginning)
-accepted_read Nothing accepted = refl
-accepted_read NoMode accepted = (tt, refl)
-accepted_read (Body rules_are roots steps) runs = body_read rules_are roots steps runs
-accepted_read (Whole rules_are roots steps) runs =
-    let last = account_after rules_are roots steps in
-    let end = End (length steps) in
-    let counts = account_after-grows rules_are roots steps in
-    let free = first_of-none (line_tests last end) (ap not (eq-eqb (length steps) last.steps (omega arith)), tt) in
-    Reads-append Unread (Within last) (Ended last) (body_lines rules_are roots steps) (end ∷ []) (body_read rules_are roots steps runs)
-    ((formed last.rules end refl, free), refl)
+-- where there is a verdict, the reading stops
+pub answer_stops : (stage : Stage) (rest : List ℕ) (number : ℕ) (verdict : Verdict) → Answers stage rest number verdict → Stops stage rest
+answer_stops (Ended account) rest number verdict answers = λ line more range allowed is. allowed
+answer_stops stage rest number (Yes steps roots) answers = absurd answers
+answer_stops stage rest number (No line refusal) answers = next_stops stage rest refusal answers.1
+
+-- a whole line is refused with one refusal
+one_text : (stage : Stage) (text : List ℕ) (a b : Refusal) → RefusesText stage text a → RefusesText stage text b → a ≡ b
+one_text Unread text a b h k = h.1 ∙ sym k.1
+one_text Versioned text a b h k = h.1 ∙ sym k.1
+one_text (Within account) text a b (inl h) (inl k) = h.1 ∙ sym k.1
+one_text (Within account) text a b (inl h) (inr k) = absurd (h.0 k.0 k.1)
+one_text (Within account) text a b (inr h) (inl k) = absurd (k.0 h.0 h.1)
+one_text (Within account) text a b (inr h) (inr k) =
+    same_Some a b (sym h.2 ∙ ap (λ (line : Line). first_of (line_tests account line)) (one_spelling text h.0 k.0 h.1.0 k.1.0) ∙ k.2)
+one_text (Ended account) text a b h k = absurd h
+
+-- and so is what follows: too long, cut and a whole line exclude one another
+one_next : (stage : Stage) (rest : List ℕ) (a b : Refusal) → RefusesNext stage rest a → RefusesNext stage rest b → a ≡ b
+one_next stage rest a b (inr (inr h)) k = one_text stage h.0 a b h.3 (front_refused stage rest h.0 h.1 b h.2 k)
+one_next stage rest a b h (inr (inr k)) = one_text stage k.0 a b (front_refused stage rest k.0 k.1 a k.2 h) k.3
+one_next stage rest a b (inl h) (inl k) = h.1 ∙ sym k.1
+one_next stage rest a b (inr (inl h)) (inr (inl k)) = h.1 ∙ sym k.1
+one_next stage rest a b (inl h) (inr (inl k)) = absurd (IsTooLong-not_cut rest h.0 k.0)
+one_next stage rest a b (inr (inl h)) (inl k) = absurd (IsTooLong-not_cut rest k.0 h.0)
+
+-- where a reading stops there is one verdict
+pub one_answer : (stage : Stage) (rest : List ℕ) (number : ℕ) (a b : Verdict) → Answers stage rest number a → Answers stage rest number b
+    → a ≡ b
+one_answer (Ended account) rest number (Yes steps roots) (Yes steps' roots') h k = cc
+one_answer (Ended account) rest number (Yes steps roots) (No line refusal) h k = absurd (k.1.0 h.0)
+one_answer (Ended account) rest number (No line refusal) (Yes steps roots) h k = absurd (h.1.0 k.0)
+one_answer (Ended account) rest number (No line refusal) (No line' refusal') h k = cc
+one_answer stage rest number (Yes steps roots) verdict h k = absurd h
+one_answer stage rest number verdict (Yes steps roots) h k = absurd k
+one_answer stage rest number (No line refusal) (No line' refusal') h k = let same = one_next stage rest refusal refusal' h.1 k.1 in cc
 
 -- Verdicts
 
@@ -149,9 +155,7 @@ record Reading (bytes : List ℕ) (verdict : Verdict) : Type 0 where
 refused : (beginning : Beginning) (rest : List ℕ) (number line : ℕ) (refusal : Refusal) → line ≡ number → Refuses beginning rest refusal
     → Answers (stage_of beginning) rest number (No line refusal)
 refused Nothing rest number line refusal is refuses = (is, refuses)
-refused NoMode rest number line refusal is refuses = (is, refuses)
-refused (Body rules_are roots steps) rest number line refusal is refuses = (is, refuses)
-refused (Whole rules_are roots steps) rest number line refusal is refuses = (is, refuses)
+refused beginning rest number line refusal is refuses = (is, refuses)
 
 -- each verdict comes from a reading
 read : (bytes : List ℕ) (verdict : Verdict) → IsVerdict bytes verdict → Reading bytes verdict

@@ -1,5 +1,5 @@
 -- One clause on both variants of a result, taken apart.
-use Rattle.std.proofs.Common.{Result, Ok, Err, MatchResult, OnOk, IfOk, IfErr}
+use Rattle.std.proofs.Common.{Result, Ok, Err, MatchResult, OnOk, IfErr}
 
 -- what follows at an `Ok` from what a clause on both variants says there
 pub ok_part : {T E P X : Type 0} (r : Result T E) (Q : E → Type 0) → (P → X) → MatchResult r (λ _. P) Q → OnOk r X

@@ -1,102 +1,32 @@
 -- All bytes have a verdict: read a line at a time, they come to an end, or to a line that is refused.
 use Rattle.std.proofs.Common.{◌≡◌, ℕ, zero, suc, ◌+◌, ◌<◌, Bool, true, false, inl, inr, ◌⊎◌, List, [], ◌∷◌, ◌++◌, length, Option, Some}
-use Rattle.std.proofs.Common.{None, refl, sym, ap, subst, ◌∙◌, append-nil, arith}
-use Rattle.std.proofs.lemmas.Bool.{false≢true, lt-ltb, not-false, eqb-true}
+use Rattle.std.proofs.Common.{None, refl, sym, ap, ◌∙◌, append-nil, arith}
+use Rattle.std.proofs.lemmas.Bool.{false≢true}
 use Rattle.std.proofs.lemmas.List.{length-append}
-use Rattle.std.proofs.lemmas.Option.{none-some}
 use Rattle.cap_ops.specs.Tests.{first_of}
-use Rattle.cap_ops.proofs.TestLemmas.{none_hold}
 use Rattle.cap_ops.specs.declared.refusal.Refusal.{Refusal}
 use Rattle.cap_ops.specs.declared.refusal.Refusal.TheVariants.{BadHeader, BadMode, BadLine, LineTooLong, Misplaced, Truncated}
 use Rattle.cap_log.specs.declared.lines.Line.{Line}
-use Rattle.cap_log.specs.declared.lines.Line.TheVariants.{Version, Mode, Root, Step, End}
+use Rattle.cap_log.specs.declared.lines.Line.TheVariants.{Version, Mode}
 use Rattle.cap_log.specs.declared.lines.Mode as modes_module
-use Rattle.cap_log.specs.declared.lines.Mode.TheVariants.{Strict, Clear}
-use Rattle.cap_log.specs.Lines.{IsInRange, Spells}
+use Rattle.cap_log.specs.Lines.{Spells}
 use Rattle.cap_log.specs.Front.{IsLine}
 use Rattle.cap_log.proofs.DecidedLines.{line_decided, front_decided}
 use Rattle.cap_log.proofs.SpellingLemmas.{one_spelling}
 use Rattle.cap_machine.specs.declared.rules.Rules.{Rules}
-use Rattle.cap_machine.specs.declared.rules.Rules.TheVariants.{One, TwoStrict, TwoClear}
 use Rattle.cap_machine.specs.States.{DeclaredRoot}
-use Rattle.cap_machine.specs.Accounts.{Account, root_tests, with_step}
+use Rattle.cap_machine.specs.Accounts.{Account}
 use Rattle.cap_log.specs.declared.lines.Step as steps_module
-use Rattle.cap_machine.specs.Steps.{Leads}
-use Rattle.cap_machine.proofs.AccountLemmas.{account_after-grows, first_of-none}
 use Rattle.cap_judge.specs.declared.verdict.Verdict.{Verdict}
 use Rattle.cap_judge.specs.declared.verdict.Verdict.TheVariants.{Yes, No}
-use Rattle.cap_judge.specs.Logs.{Beginning, Nothing, NoMode, Body, Whole, lines_of, text_of, body_lines, account_after, RunsBy, IsAccepted}
-use Rattle.cap_judge.specs.Logs.{has_form, line_tests, RefusesLine, RefusesWhole, Refuses}
+use Rattle.cap_judge.specs.Logs.{Beginning, Nothing, NoMode, Body, Whole, lines_of, text_of, account_after, IsAccepted, has_form}
+use Rattle.cap_judge.specs.Logs.{line_tests, RefusesLine, RefusesWhole, Refuses}
 use Rattle.cap_judge.specs.Judgings.{IsBehind}
 use Rattle.cap_judge.specs.Verdicts.{IsVerdict}
 use Rattle.cap_judge.proofs.JudgeLemmas.{IsUnended, fault_behind, front_refused, text_push, yes_of}
-use Rattle.cap_judge.proofs.LogLemmas.{steps_push, roots_push}
-use Rattle.cap_judge.proofs.NextLemmas.{leads_on, step_runs, root_runs, no_roots}
-use Rattle.cap_judge.proofs.OneReading.{Allows}
-use Rattle.cap_judge.proofs.OneVerdict.{stage_of}
-
--- A line that is allowed makes the beginning longer
-
--- an accepted beginning that has this line more
-abbrev pub Longer : Beginning → Line → Type 0
-Longer beginning line = (next : Beginning) × IsAccepted next × (lines_of next ≡ lines_of beginning ++ line ∷ [])
-
-with_version : (version : ℕ) → IsInRange (Version version) → Longer Nothing (Version version)
-with_version version (inl is) = (Body One [] [], no_roots One, ap (λ v. Version v ∷ []) (sym is))
-with_version version (inr is) = (NoMode, tt, ap (λ v. Version v ∷ []) (sym is))
-
-with_mode : (mode : modes_module.Mode) → Longer NoMode (Mode mode)
-with_mode Strict = (Body TwoStrict [] [], no_roots TwoStrict, refl)
-with_mode Clear = (Body TwoClear [] [], no_roots TwoClear, refl)
-
--- a root is declared before the first step
-with_a_root : (rules_are : Rules) (roots : List DeclaredRoot) (steps : List steps_module.Step) (root : DeclaredRoot)
-    → RunsBy rules_are roots steps
-    → IsInRange (Root root.place root.word) → first_of (line_tests (account_after rules_are roots steps) (Root root.place root.word)) ≡ None
-    → Longer (Body rules_are roots steps) (Root root.place root.word)
-with_a_root rules_are roots [] root runs range free =
-    let tests = line_tests (account_after rules_are roots []) (Root root.place root.word) in
-    let unrefused = first_of-none (root_tests (account_after rules_are roots []) root.place root.word) (none_hold tests free).1 in
-    (Body rules_are (roots ++ root ∷ []) [], root_runs rules_are roots root runs range.0 range.1 unrefused, roots_push rules_are roots root)
-with_a_root rules_are roots (step ∷ steps) root runs range free =
-    let account = account_after rules_are roots (step ∷ steps) in
-    let counted = (account_after-grows rules_are roots (step ∷ steps)).steps_are in
-    let before = (none_hold (line_tests account (Root root.place root.word)) free).0 in
-    absurd (false≢true (sym before ∙ lt-ltb 0 account.steps (omega arith)))
-
-with_a_step : (rules_are : Rules) (roots : List DeclaredRoot) (steps : List steps_module.Step) (step : steps_module.Step)
-    → RunsBy rules_are roots steps → IsInRange (Step step) → first_of (line_tests (account_after rules_are roots steps) (Step step)) ≡ None
-    → Longer (Body rules_are roots steps) (Step step)
-with_a_step rules_are roots steps step runs range free =
-    let account = account_after rules_are roots steps in
-    let same = (account_after-grows rules_are roots steps).rules_stay in
-    let leads = subst (λ (r : Rules). Leads r account.state step (with_step account step).state) same (leads_on account step free) in (
-      Body rules_are roots (steps ++ step ∷ []),
-      step_runs rules_are roots steps step (with_step account step).state runs range free leads,
-      steps_push rules_are roots steps step,
-    )
-
-with_an_end : (rules_are : Rules) (roots : List DeclaredRoot) (steps : List steps_module.Step) (count : ℕ) → RunsBy rules_are roots steps
-    → first_of (line_tests (account_after rules_are roots steps) (End count)) ≡ None → Longer (Body rules_are roots steps) (End count)
-with_an_end rules_are roots steps count runs free =
-    let account = account_after rules_are roots steps in
-    let counted = (account_after-grows rules_are roots steps).steps_are in
-    let same = not-false _ (none_hold (line_tests account (End count)) free).0 in
-    let is : count ≡ account.steps = eqb-true count account.steps same in
-    let all : length steps ≡ count = omega arith in
-    (Whole rules_are roots steps, runs, ap (λ n. body_lines rules_are roots steps ++ End n ∷ []) all)
-
-longer : (beginning : Beginning) (line : Line) → IsAccepted beginning → IsInRange line → Allows (stage_of beginning) line
-    → Longer beginning line
-longer Nothing (Version version) accepted range allowed = with_version version range
-longer NoMode (Mode mode) accepted range allowed = with_mode mode
-longer (Body rules_are roots steps) (Root place word) runs range allowed =
-    with_a_root rules_are roots steps (record { place = place; word = word }) runs range allowed.1
-longer (Body rules_are roots steps) (Step step) runs range allowed = with_a_step rules_are roots steps step runs range allowed.1
-longer (Body rules_are roots steps) (End count) runs range allowed = with_an_end rules_are roots steps count runs allowed.1
-longer (Body rules_are roots steps) (Version version) runs range allowed = absurd (none-some Misplaced (sym allowed.1))
-longer (Body rules_are roots steps) (Mode mode) runs range allowed = absurd (none-some Misplaced (sym allowed.1))
-longer beginning line accepted range allowed = absurd allowed
+use Rattle.cap_judge.proofs.FormLemmas.{no_form}
+use Rattle.cap_judge.proofs.InTurn.{stage_of, longer, with_line}
+use Rattle.cap_judge.specs.Turns.{Allows}
 
 -- Each line is refused or allowed
 
@@ -133,12 +63,7 @@ mode_turn text line spells = inl (BadMode, (no_mode text line spells refl, refl)
 -- a line that has no form by the rules
 formless : (account : Account) (text : List ℕ) (line : Line) → Spells text line → has_form account.rules line ≡ false
     → RefusesLine account text BadLine
-formless account text line spells none =
-    inl (
-      λ other is. let same =
-          one_spelling text line other spells is.0 in false≢true (sym none ∙ ap (has_form account.rules) same ∙ is.1),
-      refl,
-    )
+formless account text line spells none = inl (no_form account.rules text line spells none, refl)
 
 -- the first test that holds, or none
 by_tests : (rules_are : Rules) (roots : List DeclaredRoot) (steps : List steps_module.Step) (text : List ℕ) (line : Line)
@@ -154,23 +79,15 @@ by_form rules_are roots steps text line spells true formed = by_tests rules_are 
 by_form rules_are roots steps text line spells false none =
     inl (BadLine, formless (account_after rules_are roots steps) text line spells none)
 
-turn : (beginning : Beginning) → IsUnended beginning → (text : List ℕ) → Turn beginning text
-turn Nothing unended text =
-    elim (line_decided text) [
-      | inl found ↦ first_turn text found.0 found.1
-      | inr none ↦ inl (BadHeader, (λ version. none (Version version), refl))
-    ]
-turn NoMode unended text =
-    elim (line_decided text) [
-      | inl found ↦ mode_turn text found.0 found.1
-      | inr none ↦ inl (BadMode, (λ mode. none (Mode mode), refl))
-    ]
-turn (Body rules_are roots steps) unended text =
-    elim (line_decided text) [
-      | inl found ↦ by_form rules_are roots steps text found.0 found.1 _ refl
-      | inr none ↦ inl (BadLine, inl (λ line is. none line is.0, refl))
-    ]
-turn (Whole rules_are roots steps) unended text = absurd unended
+turn : (beginning : Beginning) → IsUnended beginning → (text : List ℕ)
+    → ((line : Line) × Spells text line) ⊎ ((line : Line) → Spells text line → ⊥) → Turn beginning text
+turn Nothing unended text (inl found) = first_turn text found.0 found.1
+turn Nothing unended text (inr none) = inl (BadHeader, (λ version. none (Version version), refl))
+turn NoMode unended text (inl found) = mode_turn text found.0 found.1
+turn NoMode unended text (inr none) = inl (BadMode, (λ mode. none (Mode mode), refl))
+turn (Body rules_are roots steps) unended text (inl found) = by_form rules_are roots steps text found.0 found.1 _ refl
+turn (Body rules_are roots steps) unended text (inr none) = inl (BadLine, inl (λ line is. none line is.0, refl))
+turn (Whole rules_are roots steps) unended text line = absurd unended
 
 -- What follows a beginning
 
@@ -191,13 +108,13 @@ by_turn beginning unended rest text more accepted whole (inr allowed) =
     let next = longer beginning line accepted allowed.1.0 allowed.2 in
     let rest_is = whole.whole ∙ ap (λ (t : List ℕ). t ++ 10 ∷ more) allowed.1.1 in
     inr (
-      next.0,
-      next.1,
+      with_line beginning line,
+      next.accepted,
       (
         more,
         ap (λ (r : List ℕ). text_of (lines_of beginning) ++ r) rest_is
             ∙ sym (text_push (lines_of beginning) line more)
-            ∙ sym (ap (λ (ls : List Line). text_of ls ++ more) next.2),
+            ∙ sym (ap (λ (ls : List Line). text_of ls ++ more) next.lines_are),
         omega (arith, ap length whole.whole, length-append text (10 ∷ more)),
       ),
     )
@@ -209,7 +126,7 @@ follows beginning unended rest accepted =
       | inr shorter ↦
           elim shorter [
             | inl cut ↦ inl (Truncated, front_refused beginning rest Truncated unended (inr (inl (cut, refl))))
-            | inr line ↦ by_turn beginning unended rest line.0 line.1 accepted line.2 (turn beginning unended line.0)
+            | inr line ↦ by_turn beginning unended rest line.0 line.1 accepted line.2 (turn beginning unended line.0 (line_decided line.0))
           ]
     ]
 
@@ -236,13 +153,8 @@ verdict_from (suc fuel) bytes (Whole rules_are roots steps) (byte ∷ rest) few 
   No (length (lines_of (Whole rules_are roots steps)) + 1) Misplaced,
   fault_behind bytes (byte ∷ rest) (Whole rules_are roots steps) Misplaced here (λ is. let none = ap length is in omega arith, refl),
 )
-verdict_from (suc fuel) bytes Nothing rest few here =
-    from_here fuel bytes (verdict_from fuel bytes) Nothing rest few here (follows Nothing tt rest here.accepted)
-verdict_from (suc fuel) bytes NoMode rest few here =
-    from_here fuel bytes (verdict_from fuel bytes) NoMode rest few here (follows NoMode tt rest here.accepted)
-verdict_from (suc fuel) bytes (Body rules_are roots steps) rest few here =
-    from_here fuel bytes (verdict_from fuel bytes) (Body rules_are roots steps) rest few here
-    (follows (Body rules_are roots steps) tt rest here.accepted)
+verdict_from (suc fuel) bytes beginning rest few here =
+    from_here fuel bytes (verdict_from fuel bytes) beginning rest few here (follows beginning tt rest here.accepted)
 
 pub some_verdict : (bytes : List ℕ) → (verdict : Verdict) × IsVerdict bytes verdict
 some_verdict bytes = verdict_from (length bytes + 1) bytes Nothing bytes (omega arith) (record { bytes_are = refl; accepted = tt })

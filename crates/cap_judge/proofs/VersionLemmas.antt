@@ -51,9 +51,7 @@ to_one : (rest : List ℕ) (beginning : Beginning) (refusal : Refusal) → Refus
 to_one rest Nothing refusal (inl long) = inl long
 to_one rest Nothing refusal (inr (inl cut)) = inr (inl cut)
 to_one rest Nothing refusal (inr (inr line)) = inr (inr (line.0, line.1, line.2, (line.3.0 1, line.3.1)))
-to_one rest NoMode refusal refused = refused
-to_one rest (Body rules_are roots steps) refusal refused = refused
-to_one rest (Whole rules_are roots steps) refusal refused = refused
+to_one rest beginning refusal refused = refused
 
 -- no version line of these bytes is another than that of version 1
 no_other : (bytes line more : List ℕ) → IsOfVersionOne bytes → IsLine bytes line more → (Spells line (Version 1) → ⊥)
@@ -74,9 +72,7 @@ from_one bytes rest Nothing refusal one are (inr (inl cut)) = inr (inl cut)
 from_one bytes rest Nothing refusal one are (inr (inr line)) =
     let whole = subst (λ (b : List ℕ). IsLine b line.0 line.1) (sym are) line.2 in
     inr (inr (line.0, line.1, line.2, (no_other bytes line.0 line.1 one whole line.3.0, line.3.1)))
-from_one bytes rest NoMode refusal one are refused = refused
-from_one bytes rest (Body rules_are roots steps) refusal one are refused = refused
-from_one bytes rest (Whole rules_are roots steps) refusal one are refused = refused
+from_one bytes rest beginning refusal one are refused = refused
 
 -- they have one verdict by both
 to_version : (bytes : List ℕ) (verdict : Verdict) → IsOfVersionOne bytes → IsVerdict bytes verdict → IsVerdictOne bytes verdict

@@ -1,16 +1,20 @@
+use Rattle.std.proofs.Common.{refl}
+use Rattle.cap_log.specs.declared.lines.Step.TheVariants as steps
 use Rattle.cap_machine.specs.Helds.{account_of, held_of}
-use Rattle.cap_judge.proofs.ExpectedLemmas.{gives_capability, no_store, stored, stored_cap}
+use Rattle.cap_judge.proofs.ExpectedLemmas.{gives_capability, no_store, nothing_recorded}
 use Rattle.cap_judge.proofs.expecting.expected_of.Goals as goal
 
 pub returns-in-StoreCap : goal.returns-in-StoreCap
 returns-in-StoreCap g c =
     let account = account_of (held_of g.M.TaggedStore.contents c.args.machine.now) in
-    stored_cap account c.args.step.now c.in-StoreCap.source c.in-StoreCap.authority c.in-StoreCap.offset c.in-StoreCap.is
+    nothing_recorded account c.args.step.now (steps.StoreCap c.in-StoreCap.source c.in-StoreCap.authority c.in-StoreCap.offset)
+    c.in-StoreCap.is refl
 
 pub returns-in-Store : goal.returns-in-Store
 returns-in-Store g c =
     let account = account_of (held_of g.M.TaggedStore.contents c.args.machine.now) in
-    stored account c.args.step.now c.in-Store.authority c.in-Store.offset c.in-Store.size c.in-Store.value c.in-Store.is
+    nothing_recorded account c.args.step.now (steps.Store c.in-Store.authority c.in-Store.offset c.in-Store.size c.in-Store.value)
+    c.in-Store.is refl
 
 pub returns-in_default : goal.returns-in_default
 returns-in_default g c =

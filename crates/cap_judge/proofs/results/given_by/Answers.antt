@@ -1,5 +1,5 @@
-use Rattle.std.proofs.Common.{◌≡◌, ◌/◌, ℕ, ℤ, Bool, List, Option, None, Some, true, false, option_map, [], ap, sym, subst, ◌∙◌}
-use Rattle.std.proofs.Common.{rules, w16, to_z, of_z, FitsSigned}
+use Rattle.std.proofs.Common.{◌≡◌, ◌/◌, ℕ, ℤ, Bool, List, Option, None, Some, true, false, option_map, [], ap, sym, subst, ◌∙◌, rules, w16}
+use Rattle.std.proofs.Common.{to_z, of_z, FitsSigned}
 use Rattle.std.proofs.lemmas.Int.{to_z-of_z}
 use Rattle.cap_word.specs.declared.word.Cap.{Cap}
 use Rattle.cap_log.specs.declared.lines.Step.{Step}
@@ -57,76 +57,62 @@ loaded_by state authority offset held stored cap reached range same at there is 
     ap Some (sym (is ∙ ap (λ a. loaded_result a stored) same ∙ ap (λ s. loaded_result (state authority) s) there_now))
 
 pub returns-in-Move : goal.returns-in-Move
-returns-in-Move g c =
-    let step = c.in-Move in
-    let given = c.untested.ensures in record {
-      gives = rw step.is (by_one (λ h. []) (λ h. h) _ _ _ _
-          c.register.ensures.holds given.cap given.fault);
-      others = rw step.is tt;
-    }
+returns-in-Move g c = rw c.in-Move.is (record {
+  gives = by_one (λ h. []) (λ h. h) _ _ _ _
+      c.register.ensures.holds c.untested.ensures.cap c.untested.ensures.fault;
+  others = tt;
+})
 
 pub returns-in-ClearTag : goal.returns-in-ClearTag
-returns-in-ClearTag g c =
-    let step = c.in-ClearTag in
-    let given = c.untested-in-ClearTag.ensures in record {
-      gives = rw step.is (by_one (λ h. []) (λ h. ops.cleared h) _ _ _ _
-          c.register-in-ClearTag.ensures.holds (given.cap ∙ c.clear_tag.ensures.result_is) given.fault);
-      others = rw step.is tt;
-    }
+returns-in-ClearTag g c = rw c.in-ClearTag.is (record {
+  gives = by_one (λ h. []) (λ h. ops.cleared h) _ _ _ _
+      c.register-in-ClearTag.ensures.holds (c.untested-in-ClearTag.ensures.cap ∙ c.clear_tag.ensures.result_is)
+      c.untested-in-ClearTag.ensures.fault;
+  others = tt;
+})
 
 pub returns-in-SetBounds : goal.returns-in-SetBounds
-returns-in-SetBounds g c =
-    let step = c.in-SetBounds in
-    let given = c.bounded.ensures in record {
-      gives = rw step.is (by_one (λ h. ops.set_bounds_tests h step.length false) (λ h. ops.set_bounds_result h step.length) _ _ _ _
-          c.register-in-SetBounds.ensures.holds given.cap given.fault);
-      others = rw step.is tt;
-    }
+returns-in-SetBounds g c = rw c.in-SetBounds.is (record {
+  gives = by_one (λ h. ops.set_bounds_tests h c.in-SetBounds.length false) (λ h. ops.set_bounds_result h c.in-SetBounds.length) _ _ _ _
+      c.register-in-SetBounds.ensures.holds c.bounded.ensures.cap c.bounded.ensures.fault;
+  others = tt;
+})
 
 pub returns-in-SetBoundsExact : goal.returns-in-SetBoundsExact
-returns-in-SetBoundsExact g c =
-    let step = c.in-SetBoundsExact in
-    let given = c.bounded-in-SetBoundsExact.ensures in record {
-      gives = rw step.is (by_one (λ h. ops.set_bounds_tests h step.length true) (λ h. ops.set_bounds_result h step.length) _ _ _ _
-          c.register-in-SetBoundsExact.ensures.holds given.cap given.fault);
-      others = rw step.is tt;
-    }
+returns-in-SetBoundsExact g c = rw c.in-SetBoundsExact.is (record {
+  gives = by_one (λ h. ops.set_bounds_tests h c.in-SetBoundsExact.length true)
+      (λ h. ops.set_bounds_result h c.in-SetBoundsExact.length) _ _ _ _
+      c.register-in-SetBoundsExact.ensures.holds c.bounded-in-SetBoundsExact.ensures.cap c.bounded-in-SetBoundsExact.ensures.fault;
+  others = tt;
+})
 
 pub returns-in-SetAddr : goal.returns-in-SetAddr
-returns-in-SetAddr g c =
-    let step = c.in-SetAddr in
-    let given = c.moved.ensures in record {
-      gives = rw step.is (by_one (λ h. ops.set_addr_tests h step.address) (λ h. ops.set_addr_result h step.address) _ _ _ _
-          c.register-in-SetAddr.ensures.holds given.cap given.fault);
-      others = rw step.is tt;
-    }
+returns-in-SetAddr g c = rw c.in-SetAddr.is (record {
+  gives = by_one (λ h. ops.set_addr_tests h c.in-SetAddr.address) (λ h. ops.set_addr_result h c.in-SetAddr.address) _ _ _ _
+      c.register-in-SetAddr.ensures.holds c.moved.ensures.cap c.moved.ensures.fault;
+  others = tt;
+})
 
 pub returns-in-AndPerm : goal.returns-in-AndPerm
-returns-in-AndPerm g c =
-    let step = c.in-AndPerm in
-    let given = c.permitted.ensures in record {
-      gives = rw step.is (by_one (λ h. ops.and_perm_tests h) (λ h. ops.and_perm_result h step.mask) _ _ _ _
-          c.register-in-AndPerm.ensures.holds given.cap given.fault);
-      others = rw step.is tt;
-    }
+returns-in-AndPerm g c = rw c.in-AndPerm.is (record {
+  gives = by_one (λ h. ops.and_perm_tests h) (λ h. ops.and_perm_result h c.in-AndPerm.mask) _ _ _ _
+      c.register-in-AndPerm.ensures.holds c.permitted.ensures.cap c.permitted.ensures.fault;
+  others = tt;
+})
 
 pub returns-in-Seal : goal.returns-in-Seal
-returns-in-Seal g c =
-    let step = c.in-Seal in
-    let given = c.sealed.ensures in record {
-      gives = rw step.is (by_two (λ h b. ops.seal_tests h b) (λ h b. ops.seal_result h b) _ _ _ _ _ _
-          c.register-in-Seal.ensures.holds c.register-in-Seal-2.ensures.holds given.cap given.fault);
-      others = rw step.is tt;
-    }
+returns-in-Seal g c = rw c.in-Seal.is (record {
+  gives = by_two (λ h b. ops.seal_tests h b) (λ h b. ops.seal_result h b) _ _ _ _ _ _
+      c.register-in-Seal.ensures.holds c.register-in-Seal-2.ensures.holds c.sealed.ensures.cap c.sealed.ensures.fault;
+  others = tt;
+})
 
 pub returns-in-Unseal : goal.returns-in-Unseal
-returns-in-Unseal g c =
-    let step = c.in-Unseal in
-    let given = c.unsealed.ensures in record {
-      gives = rw step.is (by_two (λ h b. ops.unseal_tests h b) (λ h b. ops.unseal_result h b) _ _ _ _ _ _
-          c.register-in-Unseal.ensures.holds c.register-in-Unseal-2.ensures.holds given.cap given.fault);
-      others = rw step.is tt;
-    }
+returns-in-Unseal g c = rw c.in-Unseal.is (record {
+  gives = by_two (λ h b. ops.unseal_tests h b) (λ h b. ops.unseal_result h b) _ _ _ _ _ _
+      c.register-in-Unseal.ensures.holds c.register-in-Unseal-2.ensures.holds c.unsealed.ensures.cap c.unsealed.ensures.fault;
+  others = tt;
+})
 
 pub returns-in-LoadCap : goal.returns-in-LoadCap
 returns-in-LoadCap g c = record {

@@ -1,12 +1,12 @@
-use Rattle.std.proofs.Common.{◌≡◌, ◌≢◌, ◌++◌, [], ℕ, List, ap, append-nil, append_assoc, arith, length, refl, rules, subst, sym, true, ◌∙◌}
+use Rattle.std.proofs.Common.{◌≡◌, ◌≢◌, ◌++◌, [], ℕ, List, append-nil, append_assoc, arith, length, refl, rules, subst, sym, true, ◌∙◌}
 use Rattle.std.proofs.lemmas.List.Elements.{All-nil}
 use Rattle.cap_log.specs.Front.{IsCut}
 use Rattle.cap_log.specs.Pulled.{items}
 use Rattle.cap_machine.specs.Helds.{held_of}
-use Rattle.cap_judge.specs.declared.beginning.Stop.{Stop}
 use Rattle.cap_judge.specs.FaultLines.{bytes_of}
-use Rattle.cap_judge.specs.Readings.{EndsWith, StopsAt, known_of}
-use Rattle.cap_judge.proofs.StreamLemmas.{closer, ended_judged, fault_judged, given_more, lacking_judged, nothing_clear, nothing_more, pull_judged}
+use Rattle.cap_judge.specs.Readings.{EndsWith, known_of}
+use Rattle.cap_judge.proofs.SourceLemmas.{closer, ended_judged, fault_judged, given_more, lacking_judged, nothing_clear, nothing_more}
+use Rattle.cap_judge.proofs.SourceLemmas.{pull_judged}
 use Rattle.cap_judge.proofs.streams.judge_source.Goals as goal
 
 pub pieces-init : goal.pieces-init
@@ -25,50 +25,44 @@ pieces-init g c =
 
 pub returns-in-Ok-eq0-clause-judged : goal.returns-in-Ok-eq0-clause-judged
 returns-in-Ok-eq0-clause-judged g c =
-    let gave = g.S.Source.gave in
     let here = c.pieces.invariant.here in
     let ok = c.in-Ok-eq0.ensures.ok in
     let none : length ok.0 ≡ 0 = search rules in
     let end : g.S.Source.ended c.fill.new.source ≡ true = search rules in
     let held = held_of g.M.TaggedStore.contents c.pieces.judge.machine in
-    let kept = items c.pieces.pulled in
     let now = items c.fill.new.self in
-    let cut = subst IsCut (sym (nothing_more kept ok.0 now ok.2 none)) c.pieces.invariant.cut in
+    let cut = subst IsCut (sym (nothing_more (items c.pieces.pulled) ok.0 now ok.2 none)) c.pieces.invariant.cut in
     let shown = c.as_slice.ensures.value in
     let ends = subst (λ (b : List ℕ). EndsWith held (here.0 ++ b) c.ending.result) shown
     (c.ending.ensures.ends here.0 here.2 (subst IsCut (sym shown) cut)) in
-    ended_judged gave g.S.Source.ended c.args.source.now c.fill.new.source held (bytes_of c.answered.result.1) (here.0 ++ now)
+    ended_judged g.S.Source.gave g.S.Source.ended c.args.source.now c.fill.new.source held (bytes_of c.answered.result.1) (here.0 ++ now)
     c.ending.result c.answered.result.0 c.answered.ensures ends
-    (given_more gave c.args.source.now c.pieces.source c.fill.new.source here.0 kept ok.0 now g.met.S.Source.joined here.1 ok.3 ok.2) end
+    (given_more g.S.Source.gave here.0 (items c.pieces.pulled) now g.met.S.Source.joined here.1 ok.3 ok.2) end
 
 pub returns-in-Err-clause-judged : goal.returns-in-Err-clause-judged
 returns-in-Err-clause-judged g c =
     let gave = g.S.Source.gave in
     let here = c.pieces.invariant.here in
-    let err = c.in-Err.ensures.err in
     let known = known_of g.M.TaggedStore.contents c.pieces.judge in
-    let kept = items c.pieces.pulled in
-    pull_judged gave g.S.Source.ended c.args.source.now c.fill.new.source known.held _ (here.0 ++ kept) known here.0 kept
+    let given = here.0 ++ items c.pieces.pulled in
+    pull_judged gave g.S.Source.ended c.args.source.now c.fill.new.source known.held _ given known here.0 (items c.pieces.pulled)
     here.2 c.pieces.invariant.clear c.pieces.invariant.cut refl
-    (subst (gave c.args.source.now c.fill.new.source) (append-nil (here.0 ++ kept))
-    (g.met.S.Source.joined c.args.source.now c.pieces.source c.fill.new.source (here.0 ++ kept) [] here.1 err.1))
+    (subst (gave c.args.source.now c.fill.new.source) (append-nil given)
+    (g.met.S.Source.joined c.args.source.now c.pieces.source c.fill.new.source given [] here.1 c.in-Err.ensures.err.1))
 
 pub pieces-preserved : goal.pieces-preserved
 pieces-preserved g c =
-    let gave = g.S.Source.gave in
     let here = c.pieces.invariant.here in
     let ok = c.in-Ok.ensures.ok in
-    let old = known_of g.M.TaggedStore.contents c.pieces.judge in
-    let new = known_of g.M.TaggedStore.contents c.take_pulled.new.judge in
     let taken = c.take_pulled.ensures in
     let rest = items c.take_pulled.new.pulled in
-    let stop = subst (λ (s : Stop). StopsAt old taken.0 rest s new) c.in-Cut.is taken.2 in
-    let gives = given_more gave c.args.source.now c.pieces.source c.fill.new.source here.0 (items c.pieces.pulled) ok.0 (taken.0 ++ rest)
-    g.met.S.Source.joined here.1 ok.3 (sym taken.1 ∙ ok.2) in
+    let stop = rw c.in-Cut.is at taken.2 in
+    let gives = given_more g.S.Source.gave here.0 (items c.pieces.pulled) (taken.0 ++ rest) g.met.S.Source.joined here.1 ok.3
+    (sym taken.1 ∙ ok.2) in
     record {
       here = (
         here.0 ++ taken.0,
-        subst (gave c.args.source.now c.fill.new.source) (sym (append_assoc here.0 taken.0 rest)) gives,
+        subst (g.S.Source.gave c.args.source.now c.fill.new.source) (sym (append_assoc here.0 taken.0 rest)) gives,
         (stop.0 here.0 here.2).0,
       );
       clear = stop.2;
@@ -80,43 +74,34 @@ pub pieces-smaller : goal.pieces-smaller
 pieces-smaller g c =
     let here = c.pieces.invariant.here in
     let ok = c.in-Ok.ensures.ok in
-    let old = known_of g.M.TaggedStore.contents c.pieces.judge in
-    let new = known_of g.M.TaggedStore.contents c.take_pulled.new.judge in
     let taken = c.take_pulled.ensures in
-    let rest = items c.take_pulled.new.pulled in
-    let stop = subst (λ (s : Stop). StopsAt old taken.0 rest s new) c.in-Cut.is taken.2 in
+    let stop = rw c.in-Cut.is at taken.2 in
     let some : length ok.0 ≢ 0 = search rules in
-    closer old new here.0 taken.0 (items c.pieces.pulled) ok.0 rest c.pieces.invariant.clear stop.2 here.2 (stop.0 here.0 here.2).0
+    closer (known_of g.M.TaggedStore.contents c.pieces.judge) (known_of g.M.TaggedStore.contents c.take_pulled.new.judge) here.0 taken.0
+    (items c.pieces.pulled) ok.0 (items c.take_pulled.new.pulled) c.pieces.invariant.clear stop.2 here.2 (stop.0 here.0 here.2).0
     (sym ok.2 ∙ taken.1) c.pieces.invariant.cut stop.1 some
 
 pub returns-in-Fault-clause-judged : goal.returns-in-Fault-clause-judged
 returns-in-Fault-clause-judged g c =
-    let gave = g.S.Source.gave in
     let here = c.pieces.invariant.here in
     let ok = c.in-Ok.ensures.ok in
-    let old = known_of g.M.TaggedStore.contents c.pieces.judge in
     let new = known_of g.M.TaggedStore.contents c.take_pulled.new.judge in
     let taken = c.take_pulled.ensures in
-    let rest = items c.take_pulled.new.pulled in
-    let stop = subst (λ (s : Stop). StopsAt old taken.0 rest s new) c.in-Fault.is taken.2 in
-    fault_judged gave g.S.Source.ended c.args.source.now c.fill.new.source new.held (bytes_of c.answered-in-Fault.result.1)
-    (here.0 ++ (taken.0 ++ rest)) new c.ending-in-Fault.result c.answered-in-Fault.result.0 refl stop.1
+    let given = taken.0 ++ items c.take_pulled.new.pulled in
+    let stop = rw c.in-Fault.is at taken.2 in
+    fault_judged g.S.Source.gave g.S.Source.ended c.args.source.now c.fill.new.source new.held (bytes_of c.answered-in-Fault.result.1)
+    (here.0 ++ given) new c.ending-in-Fault.result c.answered-in-Fault.result.0 refl stop.1
     c.ending-in-Fault.ensures.fault c.answered-in-Fault.ensures (stop.0 here.0 here.2).0
-    (given_more gave c.args.source.now c.pieces.source c.fill.new.source here.0 (items c.pieces.pulled) ok.0 (taken.0 ++ rest)
-    g.met.S.Source.joined here.1 ok.3 (sym taken.1 ∙ ok.2))
+    (given_more g.S.Source.gave here.0 (items c.pieces.pulled) given g.met.S.Source.joined here.1 ok.3 (sym taken.1 ∙ ok.2))
 
 pub returns-in-NoMemory-clause-judged : goal.returns-in-NoMemory-clause-judged
 returns-in-NoMemory-clause-judged g c =
-    let gave = g.S.Source.gave in
     let here = c.pieces.invariant.here in
     let ok = c.in-Ok.ensures.ok in
-    let old = known_of g.M.TaggedStore.contents c.pieces.judge in
-    let new = known_of g.M.TaggedStore.contents c.take_pulled.new.judge in
     let taken = c.take_pulled.ensures in
     let rest = items c.take_pulled.new.pulled in
-    let stop = subst (λ (s : Stop). StopsAt old taken.0 rest s new) c.in-NoMemory.is taken.2 in
-    let lack = stop.1 here.0 here.2 in
-    let gives = given_more gave c.args.source.now c.pieces.source c.fill.new.source here.0 (items c.pieces.pulled) ok.0 (taken.0 ++ rest)
-    g.met.S.Source.joined here.1 ok.3 (sym taken.1 ∙ ok.2) in
-    lacking_judged gave g.S.Source.ended c.args.source.now c.fill.new.source new.held _ (here.0 ++ taken.0 ++ rest) lack.1 lack.3
-    (subst (gave c.args.source.now c.fill.new.source) (sym (append_assoc here.0 taken.0 rest)) gives)
+    let lack = (rw c.in-NoMemory.is at taken.2).1 here.0 here.2 in
+    let gives = given_more g.S.Source.gave here.0 (items c.pieces.pulled) (taken.0 ++ rest) g.met.S.Source.joined here.1 ok.3
+    (sym taken.1 ∙ ok.2) in
+    lacking_judged g.S.Source.gave g.S.Source.ended c.args.source.now c.fill.new.source _ _ (here.0 ++ taken.0 ++ rest) lack.1 lack.3
+    (subst (g.S.Source.gave c.args.source.now c.fill.new.source) (sym (append_assoc here.0 taken.0 rest)) gives)

@@ -1,8 +1,7 @@
 use Rattle.std.proofs.Common.{Some, sym, subst, refl}
 use Rattle.cap_judge.specs.declared.verdict.Verdict.{Verdict}
 use Rattle.cap_judge.specs.Readings.{Stands, known_of}
-use Rattle.cap_judge.proofs.AnswerLemmas.{begins, not_at_fault, stands_no}
-use Rattle.cap_judge.proofs.EndingLemmas.{clear_of}
+use Rattle.cap_judge.proofs.EndingLemmas.{begins, not_at_fault, stands_no, clear_of}
 use Rattle.cap_judge.proofs.EscapeLaws.{named}
 use Rattle.cap_judge.proofs.beginning.Judge.answer.Goals as goal
 

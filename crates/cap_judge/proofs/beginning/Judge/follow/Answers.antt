@@ -1,5 +1,5 @@
 use Rattle.cap_machine.specs.Helds.{held_of}
-use Rattle.cap_judge.proofs.TakingLemmas.{ended_by, ended_from}
+use Rattle.cap_judge.proofs.ReadingLemmas.{ended_by, ended_from}
 use Rattle.cap_judge.proofs.beginning.Judge.follow.Goals as goal
 
 pub returns-in-Ended-clause-err : goal.returns-in-Ended-clause-err

@@ -1,15 +1,12 @@
 use Rattle.cap_machine.specs.Helds.{held_of, account_of}
-use Rattle.std.proofs.Common.{◌≡◌, ◌++◌, ◌∷◌, [], OnOk, Some, ap, subst, sym}
+use Rattle.std.proofs.Common.{◌++◌, ◌∷◌, [], OnOk, subst, sym}
 use Rattle.cap_log.specs.Lines.{IsInRange, spelling}
 use Rattle.cap_log.specs.declared.lines.Line.{Line}
 use Rattle.cap_log.specs.declared.lines.Line.TheVariants as lines
-use Rattle.cap_ops.specs.Tests.{first_of}
-use Rattle.cap_judge.specs.Logs.{line_tests}
 use Rattle.cap_judge.specs.Readings.{EndsFor, GoesOn, known_of}
 use Rattle.cap_judge.proofs.ReachLemmas.{step_ended}
-use Rattle.cap_judge.proofs.ReadingLemmas.{at}
+use Rattle.cap_judge.proofs.ReadingLemmas.{at, end_formed, from_known, header_from, header_tests, root_formed, step_forms, step_goes}
 use Rattle.cap_judge.proofs.ResultLemmas.{err_part, ok_part}
-use Rattle.cap_judge.proofs.TakingLemmas.{end_formed, from_known, header_from, header_tests, root_formed, step_forms, step_goes}
 use Rattle.cap_judge.proofs.beginning.Judge.follow_body.Goals as goal
 
 pub returns-in-Version-clause-err : goal.returns-in-Version-clause-err

@@ -1,7 +1,7 @@
-use Rattle.cap_machine.specs.Helds.{held_of, Held}
+use Rattle.cap_machine.specs.Helds.{held_of}
 use Rattle.std.proofs.Common.{refl, ap, ◌∙◌}
 use Rattle.cap_machine.specs.declared.rules.Rules.{Rules}
-use Rattle.cap_judge.proofs.TakingLemmas.{goes_mode, mode_other}
+use Rattle.cap_judge.proofs.ReadingLemmas.{goes_mode, mode_other}
 use Rattle.cap_judge.proofs.beginning.Judge.follow_mode.Goals as goal
 
 pub returns-in-Mode-clause-ok : goal.returns-in-Mode-clause-ok

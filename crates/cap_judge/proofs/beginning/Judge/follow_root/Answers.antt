@@ -1,7 +1,7 @@
 use Rattle.cap_machine.specs.Helds.{held_of}
 use Rattle.std.proofs.Common.{◌≡◌, arith, rules}
 use Rattle.cap_judge.proofs.ResultLemmas.{ok_part}
-use Rattle.cap_judge.proofs.TakingLemmas.{root_goes}
+use Rattle.cap_judge.proofs.ReadingLemmas.{root_goes}
 use Rattle.cap_judge.proofs.beginning.Judge.follow_root.Goals as goal
 
 pub returns-clause-ok : goal.returns-clause-ok

@@ -1,6 +1,6 @@
 use Rattle.cap_machine.specs.Helds.{held_of}
 use Rattle.std.proofs.Common.{refl}
-use Rattle.cap_judge.proofs.TakingLemmas.{goes_one, goes_two, version_other}
+use Rattle.cap_judge.proofs.ReadingLemmas.{goes_one, goes_two, version_other}
 use Rattle.cap_judge.proofs.beginning.Judge.follow_version.Goals as goal
 
 pub returns-then-version-eq1-clause-ok : goal.returns-then-version-eq1-clause-ok

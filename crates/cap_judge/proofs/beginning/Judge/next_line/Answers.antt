@@ -1,15 +1,15 @@
 use Rattle.cap_machine.specs.Helds.{held_of}
-use Rattle.std.proofs.Common.{ap, arith, length, subst}
+use Rattle.std.proofs.Common.{ap, arith, length}
 use Rattle.cap_judge.specs.Logs.{header_lines}
-use Rattle.cap_judge.specs.Readings.{IsAfter}
-use Rattle.cap_judge.proofs.TakingLemmas.{ended_by}
-use Rattle.cap_judge.proofs.EndingLemmas.{count_at_body, count_at_end}
+use Rattle.cap_judge.proofs.ReadingLemmas.{ended_by}
+use Rattle.cap_judge.specs.declared.beginning.Stage.TheVariants as stages
+use Rattle.cap_judge.proofs.EndingLemmas.{count_at}
 use Rattle.cap_judge.proofs.beginning.Judge.next_line.Goals as goal
 
 pub returns-in-Body : goal.returns-in-Body
 returns-in-Body g c = λ beginning after.
     let held = held_of g.M.TaggedStore.contents c.args.self.now.machine in
-    let number = count_at_body c.args.self.now.stage held beginning c.in-Body.is after in
+    let number = count_at c.args.self.now.stage stages.Body held beginning c.in-Body.is (λ f. f) after in
     omega (
       arith,
       number,
@@ -22,7 +22,8 @@ returns-in-Body g c = λ beginning after.
 pub returns-in-Ended : goal.returns-in-Ended
 returns-in-Ended g c = λ beginning after.
     let held = held_of g.M.TaggedStore.contents c.args.self.now.machine in
-    let number = count_at_end c.args.self.now.stage held beginning (ended_by c.args.self.now.stage c.requires.clear c.in-Ended.is) after in
+    let number = count_at c.args.self.now.stage stages.Ended held beginning
+    (ended_by c.args.self.now.stage c.requires.clear c.in-Ended.is) (λ f. f) after in
     omega (
       arith,
       number,

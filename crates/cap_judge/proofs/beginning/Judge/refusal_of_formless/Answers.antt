@@ -1,5 +1,5 @@
 use Rattle.cap_machine.specs.Helds.{held_of}
-use Rattle.cap_judge.proofs.TakingLemmas.{ended_by, formless_by}
+use Rattle.cap_judge.proofs.ReadingLemmas.{ended_by, formless_by}
 use Rattle.cap_judge.proofs.beginning.Judge.refusal_of_formless.Goals as goal
 
 pub returns-in-Ended : goal.returns-in-Ended

@@ -1,5 +1,5 @@
 use Rattle.cap_machine.specs.Helds.{held_of}
-use Rattle.cap_judge.proofs.TakingLemmas.{long_arm}
+use Rattle.cap_judge.proofs.ReadingLemmas.{long_arm}
 use Rattle.cap_judge.proofs.beginning.Judge.refusal_of_long.Goals as goal
 
 pub returns-in-Version : goal.returns-in-Version

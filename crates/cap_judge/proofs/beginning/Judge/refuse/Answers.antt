@@ -1,11 +1,9 @@
-use Rattle.cap_machine.specs.Helds.{held_of}
 use Rattle.std.proofs.Common.{sym, subst}
 use Rattle.cap_ops.specs.declared.refusal.Refusal.{Refusal}
 use Rattle.cap_machine.specs.declared.ends.StepEnd.TheVariants.{Refused}
 use Rattle.cap_judge.specs.FaultLines.{bytes_of}
 use Rattle.cap_judge.specs.Readings.{EndsAt, known_of}
-use Rattle.cap_judge.proofs.ReadingLemmas.{fault_read}
-use Rattle.cap_judge.proofs.TakingLemmas.{fault_front}
+use Rattle.cap_judge.proofs.ReadingLemmas.{fault_read, fault_front}
 use Rattle.cap_judge.proofs.beginning.Judge.refuse.Goals as goal
 
 pub returns-clause-taken : goal.returns-clause-taken

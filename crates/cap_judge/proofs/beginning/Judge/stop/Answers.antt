@@ -1,6 +1,6 @@
 use Rattle.std.proofs.Common.{subst}
 use Rattle.cap_judge.specs.Readings.{EndsAt, known_of}
-use Rattle.cap_judge.proofs.TakingLemmas.{stops_lacking}
+use Rattle.cap_judge.proofs.ReadingLemmas.{stops_lacking}
 use Rattle.cap_judge.proofs.beginning.Judge.stop.Goals as goal
 
 pub returns-in-NoMemory-clause-stops : goal.returns-in-NoMemory-clause-stops

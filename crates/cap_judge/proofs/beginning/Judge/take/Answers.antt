@@ -1,9 +1,6 @@
-use Rattle.std.proofs.Common.{◌≡◌, ◌++◌, ◌∷◌, [], ℕ, List, None, Some, Option, arith, ap, append_assoc, length, refl, rules, subst, sym, ◌∙◌, ◌-◌, take, drop}
-use Rattle.std.proofs.lemmas.List.{length-append}
-use Rattle.cap_judge.specs.declared.beginning.Stop.{Stop}
-use Rattle.cap_judge.specs.Readings.{GoesOrStops, StopsAt, known_of}
-use Rattle.cap_judge.proofs.ReadingLemmas.{goes_further, stays}
-use Rattle.cap_judge.proofs.TakingLemmas.{front_count, shorter, stops_here}
+use Rattle.std.proofs.Common.{◌≡◌, ◌++◌, [], ℕ, List, None, Some, ap, append_assoc, refl, rules, sym, ◌∙◌}
+use Rattle.cap_judge.specs.Readings.{known_of}
+use Rattle.cap_judge.proofs.ReadingLemmas.{goes_further, stays, stops_here}
 use Rattle.cap_judge.proofs.beginning.Judge.take.Goals as goal
 
 pub lines-init : goal.lines-init
@@ -17,7 +14,7 @@ lines-preserved g c =
     let so_far = c.lines.invariant.taken in
     let taken = c.take_some-stop.ensures in
     let none : c.take_some-stop.result.1 ≡ None = search rules in
-    let on = subst (λ (s : Option Stop). GoesOrStops old taken.0 c.take_some-stop.result.0.now s new) none taken.2 in
+    let on = rw none at taken.2 in
     record {
       taken = (
         so_far.0 ++ taken.0,
@@ -34,6 +31,6 @@ returns-in-Some-clause-stops g c =
     let so_far = c.lines.invariant.taken in
     let taken = c.take_some-stop.ensures in
     let some : c.take_some-stop.result.1 ≡ Some c.in-Some.stop = search rules in
-    let stops = subst (λ (s : Option Stop). GoesOrStops old taken.0 c.take_some-stop.result.0.now s new) some taken.2 in
+    let stops = rw some at taken.2 in
     stops_here (known_of contents c.args.self.now) old new c.args.bytes.now so_far.0 c.lines.rest.now taken.0 c.take_some-stop.result.0.now
     c.in-Some.stop so_far.1 taken.1 so_far.2 stops

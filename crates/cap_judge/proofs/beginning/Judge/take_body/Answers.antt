@@ -1,48 +1,28 @@
 use Rattle.cap_machine.specs.Helds.{held_of}
-use Rattle.std.proofs.Common.{[], ◌≡◌, ◌++◌, ◌∙◌, Err, IfErr, List, OnOk, Option, Result, IfSome, Some, ap, subst, ℕ}
-use Rattle.cap_machine.specs.Helds.{Held}
-use Rattle.cap_machine.specs.declared.ends.StepEnd.{StepEnd}
-use Rattle.cap_judge.specs.Logs.{MayLackMemory}
-use Rattle.cap_judge.specs.Readings.{EndsStepAt, Read, TakesStep, known_of}
-use Rattle.cap_judge.specs.declared.verdict.TakeFault.TheVariants.{NoMemory}
-use Rattle.cap_judge.proofs.AnswerLemmas.{end_whole, memory_only, no_line, step_alone, whole_some}
-use Rattle.cap_judge.proofs.ReadingLemmas.{at}
+use Rattle.std.proofs.Common.{◌∙◌, Some, ap}
+use Rattle.cap_judge.proofs.EndingLemmas.{end_whole, memory_only, no_line, step_alone, whole_some}
 use Rattle.cap_judge.proofs.beginning.Judge.take_body.Goals as goal
 
 pub returns-in-Some-Ok-clause-taken : goal.returns-in-Some-Ok-clause-taken
-returns-in-Some-Ok-clause-taken g c =
-    let old = held_of g.M.TaggedStore.contents c.args.self.now.machine in
-    let new = held_of g.M.TaggedStore.contents c.take_alone.new.machine in
-    let step = subst (λ (r : Option (Result (Unit {0}) StepEnd)). IfSome r (λ answer. OnOk answer (TakesStep old c.args.line.now new [])))
-    (c.in-Some-Ok.is ∙ ap Some c.in-Some-Ok.field-0-is) c.take_alone.ensures.ok in
-    λ bytes read. ((step_alone c.args.self.now.stage old new c.args.line.now c.requires.body step).0 bytes read).0
+returns-in-Some-Ok-clause-taken g c = λ bytes read.
+    let step = rw (c.in-Some-Ok.is ∙ ap Some c.in-Some-Ok.field-0-is) at c.take_alone.ensures.ok in
+    ((step_alone c.args.self.now.stage _ _ c.args.line.now c.requires.body step).0 bytes read).0
 
 pub returns-in-Some-Ok-clause-no_line : goal.returns-in-Some-Ok-clause-no_line
 returns-in-Some-Ok-clause-no_line g c =
-    let old = held_of g.M.TaggedStore.contents c.args.self.now.machine in
-    let new = held_of g.M.TaggedStore.contents c.take_alone.new.machine in
-    let step = subst (λ (r : Option (Result (Unit {0}) StepEnd)). IfSome r (λ answer. OnOk answer (TakesStep old c.args.line.now new [])))
-    (c.in-Some-Ok.is ∙ ap Some c.in-Some-Ok.field-0-is) c.take_alone.ensures.ok in
-    no_line _ c.args.line.now
-    (whole_some c.args.line.now (step_alone c.args.self.now.stage old new c.args.line.now c.requires.body step).1) (λ e. cc)
+    let step = rw (c.in-Some-Ok.is ∙ ap Some c.in-Some-Ok.field-0-is) at c.take_alone.ensures.ok in
+    no_line _ c.args.line.now (whole_some c.args.line.now (step_alone c.args.self.now.stage _ _ c.args.line.now c.requires.body step).1)
+    (λ e. cc)
 
 pub returns-in-Some-Err-clause-no_line : goal.returns-in-Some-Err-clause-no_line
 returns-in-Some-Err-clause-no_line g c =
     let old = held_of g.M.TaggedStore.contents c.args.self.now.machine in
-    let ends = subst (λ (r : Option (Result (Unit {0}) StepEnd)). IfSome r (λ answer. IfErr answer (EndsStepAt old c.args.line.now [])))
-    (c.in-Some-Err.is ∙ ap Some c.in-Some-Err.field-0-is) c.take_alone.ensures.err in
+    let ends = rw (c.in-Some-Err.is ∙ ap Some c.in-Some-Err.field-0-is) at c.take_alone.ensures.err in
     no_line c.take_end.result c.args.line.now (whole_some c.args.line.now (end_whole old c.args.line.now c.in-Some-Err.end ends))
     (memory_only c.take_end.result _ c.take_end.ensures.no_memory)
 
 pub returns-in-None-clause-taken : goal.returns-in-None-clause-taken
-returns-in-None-clause-taken g c =
-    let new = known_of g.M.TaggedStore.contents c.take_whole.new.self in
-    subst (λ (h : Held). OnOk c.take_whole.result ((bytes : List ℕ) → Read (at c.args.self.now.stage h) bytes
-    → Read new (bytes ++ c.args.line.now)))
-    (ap (held_of g.M.TaggedStore.contents) c.in-None.ensures.none) c.take_whole.ensures.taken
+returns-in-None-clause-taken g c = rw c.in-None.ensures.none at c.take_whole.ensures.taken
 
 pub returns-in-None-clause-no_memory : goal.returns-in-None-clause-no_memory
-returns-in-None-clause-no_memory g c =
-    subst (λ (h : Held). c.take_whole.result ≡ Err NoMemory → (bytes : List ℕ) → Read (at c.args.self.now.stage h) bytes
-    → MayLackMemory (bytes ++ c.args.line.now) [])
-    (ap (held_of g.M.TaggedStore.contents) c.in-None.ensures.none) c.take_whole.ensures.no_memory
+returns-in-None-clause-no_memory g c = rw c.in-None.ensures.none at c.take_whole.ensures.no_memory

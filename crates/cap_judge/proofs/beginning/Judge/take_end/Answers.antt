@@ -3,8 +3,8 @@ use Rattle.std.proofs.Common.{[], ◌≡◌, ◌≢◌, ◌⊎◌, inl, inr, ref
 use Rattle.cap_judge.specs.declared.beginning.Stage.{Stage}
 use Rattle.cap_judge.specs.declared.beginning.Stop.{Stop}
 use Rattle.cap_judge.specs.declared.beginning.Stop.TheVariants.{Cut, Fault}
-use Rattle.cap_judge.specs.Readings.{EndsAt, StopsAt, known_of}
-use Rattle.cap_judge.proofs.AnswerLemmas.{end_whole, whole_lacks}
+use Rattle.cap_judge.specs.Readings.{EndsAt}
+use Rattle.cap_judge.proofs.EndingLemmas.{end_whole, whole_lacks}
 use Rattle.cap_judge.proofs.ReadingLemmas.{at, step_ends}
 use Rattle.cap_judge.proofs.beginning.Judge.take_end.Goals as goal
 
@@ -16,11 +16,9 @@ stop-requires-clause-ends g c =
 
 pub returns-in-NoMemory-clause-no_memory : goal.returns-in-NoMemory-clause-no_memory
 returns-in-NoMemory-clause-no_memory g c =
-    let old = known_of g.M.TaggedStore.contents c.args.self.now in
-    let new = known_of g.M.TaggedStore.contents c.stop.new.self in
-    let line = c.args.line.now in
-    let stop = subst (λ (s : Stop). StopsAt old [] line s new) c.in-NoMemory.is c.stop.ensures.stops in
-    (refl, whole_lacks old new line (end_whole old.held line c.args.end c.requires.ends) stop)
+    let held = held_of g.M.TaggedStore.contents c.args.self.now.machine in
+    let stop = rw c.in-NoMemory.is at c.stop.ensures.stops in
+    (refl, whole_lacks _ _ c.args.line.now (end_whole held c.args.line.now c.args.end c.requires.ends) stop)
 
 fault_only : (stop : Stop) → (stop ≡ Fault) ⊎ (stop ≡ Cut) → stop ≢ Cut → stop ≡ Fault
 fault_only stop (inl fault) uncut = fault
@@ -28,8 +26,5 @@ fault_only stop (inr cut) uncut = absurd (uncut cut)
 
 pub returns-in-Fault : goal.returns-in-Fault
 returns-in-Fault g c =
-    let old = known_of g.M.TaggedStore.contents c.args.self.now in
-    let new = known_of g.M.TaggedStore.contents c.stop.new.self in
-    let stop = subst (λ (s : Stop). StopsAt old [] c.args.line.now s new)
-    (fault_only c.stop.result c.in-Fault.is c.stop.ensures.uncut) c.stop.ensures.stops in
+    let stop = rw (fault_only c.stop.result c.in-Fault.is c.stop.ensures.uncut) at c.stop.ensures.stops in
     record { taken = λ bytes read. (stop.0 bytes read).0; unchanged = tt; no_memory = tt }

@@ -1,8 +1,7 @@
 use Rattle.std.proofs.Common.{[], refl}
 use Rattle.cap_machine.specs.Helds.{held_of}
 use Rattle.cap_judge.specs.Readings.{known_of}
-use Rattle.cap_judge.proofs.ReadingLemmas.{stays}
-use Rattle.cap_judge.proofs.TakingLemmas.{front_end, steps_go}
+use Rattle.cap_judge.proofs.ReadingLemmas.{stays, front_end, steps_go}
 use Rattle.cap_judge.proofs.beginning.Judge.take_front.Goals as goal
 
 pub returns-in-Body-clause-taken : goal.returns-in-Body-clause-taken

@@ -1,7 +1,6 @@
-use Rattle.std.proofs.Common.{◌≡◌, ◌≢◌, ◌++◌, ◌∷◌, [], ℕ, List, Some, append_assoc, append-nil, ap, subst, sym, ◌∙◌, refl}
+use Rattle.std.proofs.Common.{◌++◌, ◌∷◌, [], ℕ, List, append_assoc, ap, sym, ◌∙◌}
 use Rattle.cap_judge.specs.Readings.{known_of}
-use Rattle.cap_judge.proofs.ReadingLemmas.{goes_further}
-use Rattle.cap_judge.proofs.TakingLemmas.{feed_some, stops_after}
+use Rattle.cap_judge.proofs.ReadingLemmas.{goes_further, feed_some, stops_after}
 use Rattle.cap_judge.proofs.beginning.Judge.take_some.Goals as goal
 
 pub returns-in-Some : goal.returns-in-Some

@@ -1,5 +1,5 @@
 use Rattle.cap_machine.specs.Helds.{held_of}
-use Rattle.cap_judge.proofs.TakingLemmas.{step_goes}
+use Rattle.cap_judge.proofs.ReadingLemmas.{step_goes}
 use Rattle.cap_judge.proofs.beginning.Judge.take_step.Goals as goal
 
 pub returns-in-Ok-clause-taken : goal.returns-in-Ok-clause-taken

@@ -1,7 +1,5 @@
-use Rattle.std.proofs.Common.{◌≡◌, ℕ, List, [], ◌∷◌, ◌++◌, Err, OnOk, subst}
-use Rattle.cap_judge.specs.Logs.{MayLackMemory}
-use Rattle.cap_judge.specs.Readings.{IsNoLine, Read, known_of}
-use Rattle.cap_judge.specs.declared.verdict.TakeFault.TheVariants.{NoMemory}
+use Rattle.std.proofs.Common.{[], ◌∷◌, ◌++◌, subst}
+use Rattle.cap_judge.specs.Readings.{IsNoLine}
 use Rattle.cap_log.specs.Lines.{IsStepInRange, spelling}
 use Rattle.cap_log.specs.declared.lines.Line.TheVariants as lines
 use Rattle.cap_log.specs.declared.lines.Step.{Step}
@@ -13,18 +11,11 @@ step_is_line : (step : Step) → IsStepInRange step → IsNoLine (spelling (line
 step_is_line step range none = none.0 (spelling (lines.Step step)) (IsLine-spelling (lines.Step step) range [])
 
 pub returns-clause-taken : goal.returns-clause-taken
-returns-clause-taken g c =
-    let old = known_of g.M.TaggedStore.contents c.args.self.now in
-    let new = known_of g.M.TaggedStore.contents c.take_line.new.self in
-    subst (λ (line : List ℕ). OnOk c.take_line.result ((bytes : List ℕ) → Read old bytes → Read new (bytes ++ line)))
-    c.write_step-length.ensures.line.written c.take_line.ensures.taken
+returns-clause-taken g c = rw c.write_step-length.ensures.line.written at c.take_line.ensures.taken
 
 pub returns-clause-line : goal.returns-clause-line
 returns-clause-line g c = λ is.
     step_is_line _ c.requires (subst IsNoLine c.write_step-length.ensures.line.written (c.take_line.ensures.no_line.0 is))
 
 pub returns-clause-no_memory : goal.returns-clause-no_memory
-returns-clause-no_memory g c =
-    let old = known_of g.M.TaggedStore.contents c.args.self.now in
-    subst (λ (line : List ℕ). c.take_line.result ≡ Err NoMemory → (bytes : List ℕ) → Read old bytes → MayLackMemory (bytes ++ line) [])
-    c.write_step-length.ensures.line.written c.take_line.ensures.no_memory
+returns-clause-no_memory g c = rw c.write_step-length.ensures.line.written at c.take_line.ensures.no_memory
