@@ -1,18 +1,41 @@
 -- Laws of the answer of a judge of an allocator's log.
-use Rattle.std.proofs.Common.{◌≡◌, ◌≢◌, ◌≤◌, ℕ, Bool, true, false, List, [], ◌++◌, Result, Ok, Err, refl, sym, ap, subst, ◌∙◌, append-nil, append_assoc, arith}
+use Rattle.std.proofs.Common.{◌≡◌, ◌≢◌, ◌≤◌, ℕ, Bool, true, false, List, [], ◌∷◌, ◌++◌, Result, Ok, Err, refl, sym, ap, subst, ◌∙◌, append-nil, append_assoc, arith}
+use Rattle.std.proofs.lemmas.List.Elements.{All-nil}
+use Rattle.std.proofs.lemmas.Option.{none-some}
 use Rattle.cap_log.specs.Streams.{next_count}
+use Rattle.cap_heap.specs.declared.lines.HeapLine.TheVariants.{Header, Root, End}
 use Rattle.cap_heap.specs.declared.verdict.HeapVerdict.{HeapVerdict}
 use Rattle.cap_heap.specs.declared.verdict.HeapVerdict.TheVariants.{Yes, No}
 use Rattle.cap_heap.specs.declared.verdict.HeapToFault.{HeapToFault}
 use Rattle.cap_heap.specs.declared.verdict.HeapToFault.TheVariants.{Pull, NoMemory, Push}
 use Rattle.cap_heap.specs.HeapLogs.{CanBeGuardedThroughout, IsFirstFault}
 use Rattle.cap_heap.specs.declared.refusal.HeapRefusal.{HeapRefusal}
-use Rattle.cap_heap.specs.HeapVerdicts.{IsAnswerOf, Lasts}
+use Rattle.cap_heap.specs.HeapVerdicts.{BeginsLog, IsAnswerOf, Lasts}
 use Rattle.cap_heap.specs.HeapWhys.{IsReport}
 use Rattle.cap_heap.specs.VerdictLines.{IsTold, Tells}
 use Rattle.cap_program.specs.declared.faults.Fault.TheVariants as faults
 use Rattle.cap_program.specs.Doings.{IsCounted, IsDone}
 use Rattle.capdiag.specs.Heaps.{ShowsHeap, StopsHeap, heap_judged, heap_status}
+
+-- no bytes are the beginning of a log
+pub nothing_begins : BeginsLog []
+nothing_begins = record {
+  root = record { base = 0; top = 0 };
+  events = [];
+  before = [];
+  due = Header ∷ Root (record { base = 0; top = 0 }) ∷ End 0 ∷ [];
+  rest = [];
+  log = (
+    refl,
+    (tt, ((omega arith, omega arith, omega arith), (omega arith, tt))),
+    record {
+      inside = λ at size is. absurd (none-some size is);
+      apart = λ at other size length is differ shares. absurd (none-some size is);
+    },
+  );
+  bytes_are = refl;
+  cut = (omega arith, All-nil (λ b. b ≢ 10));
+}
 
 -- what was pushed for an answer is what was done for the order
 pub heap_done : (report why : Bool) (given : List ℕ) (ended : Bool) (took : List ℕ → Type 0) (answer : Result HeapVerdict HeapToFault)
