@@ -1,5 +1,5 @@
 -- Bytes are not both a log and at fault in a line.
-use Rattle.std.proofs.Common.{◌≡◌, ◌≢◌, ℕ, ◌+◌, ◌-◌, ◌^◌, ◌<◌, ◌≤◌, ◌⊎◌, Some, None, inl, inr, List, [], ◌∷◌, ◌++◌, length, map, refl, sym, ap, subst}
+use Rattle.std.proofs.Common.{◌≡◌, ◌≢◌, ℕ, ◌+◌, ◌^◌, ◌<◌, ◌≤◌, ◌⊎◌, Some, None, inl, inr, List, [], ◌∷◌, ◌++◌, length, map, refl, sym, ap, subst}
 use Rattle.std.proofs.Common.{◌∙◌, append-nil, append_assoc, arith, codes, decimal, true, not, eqb, Option, IsSome}
 use Rattle.std.specs.List.{AllByRecursion}
 use Rattle.std.proofs.lemmas.List.{length-append}
