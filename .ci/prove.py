@@ -5,7 +5,8 @@
 
 Each crate is proved by the call of the kit's `rattle` with which `rt ci` proves it, from nothing, over what the
 libraries below it state. It begins as soon as those are proved; the crate with the longest chain above it gets all
-processors, and each other one. What this script proved before from the same text by the same kit isn't proved again.
+processors, and each other one. The first crate named goes first, with those below it: the others are proved at the lowest
+priority beside them. What this script proved before from the same text by the same kit isn't proved again.
 A line says when a crate is proved, how many are left and how long it took, and at least once a minute what is under
 way. A crate that isn't proved stops it: the prover's words stand in the crate's out/prove.txt, and are shown."""
 import hashlib
@@ -79,7 +80,7 @@ class Crate:
             return [*words, "-o", f"{self.made}.o" if self.is_program else self.made]
         return [*words, "--statements", "-o", self.made]
 
-    def prove(self, jobs):
+    def prove(self, jobs, goes_first=True):
         """Whether it was proved, and linked where it is a program."""
         shutil.rmtree(f"{self.out}/rlib", ignore_errors=True)
         os.makedirs(os.path.dirname(self.made), exist_ok=True)
@@ -89,7 +90,8 @@ class Crate:
         before = self.sum()
         with open(f"{self.out}/prove.txt", "w+", encoding="utf-8", errors="replace") as log:
             how = {"cwd": self.folder, "stdin": subprocess.DEVNULL, "stdout": log, "stderr": subprocess.STDOUT}
-            status = subprocess.run([f"{KIT}/bin/rattle", "build", *self.words(jobs)], **how).returncode
+            nice = [] if goes_first else ["nice", "-n", "19"]
+            status = subprocess.run([*nice, f"{KIT}/bin/rattle", "build", *self.words(jobs)], **how).returncode
             if not status and self.is_program:
                 link = [*LINK, "-o", self.made, f"{self.made}.o", f"{KIT}/c/libos_c.a", f"{KIT}/c/liblibc_c.a"]
                 status = subprocess.run([f"{KIT}/bin/rattle-link", *link], **how).returncode
@@ -111,7 +113,8 @@ def main(names):
     for it in reversed(crates):
         for use in it.uses:
             use.chain = max(use.chain, use.lines + it.chain)
-    left.sort(key=lambda it: -it.chain)
+    first = [Crate.of(names[0]), *Crate.of(names[0]).below]
+    left.sort(key=lambda it: (it not in first, -it.chain))
     began, running, failed, turn = time.time(), {}, [], threading.Condition()
 
     def say(text):
@@ -119,7 +122,7 @@ def main(names):
 
     def work(crate, jobs):
         at = time.time()
-        is_proved = crate.prove(jobs)
+        is_proved = crate.prove(jobs, crate in first)
         with turn:
             del running[crate]
             (done if is_proved else failed).append(crate)
@@ -130,8 +133,11 @@ def main(names):
     with turn:
         while running or (left and not failed):
             ready = [it for it in left if not failed and all(use in done for use in it.uses)]
-            for crate in ready[: max(0, cores - len(running))]:
-                jobs = 1 if any(it > 1 for it in running.values()) else cores
+            for crate in ready:
+                before = [jobs for it, jobs in running.items() if it in first or crate not in first]
+                if len(before) >= cores:
+                    break
+                jobs = 1 if max(before, default=1) > 1 else cores
                 left.remove(crate)
                 running[crate] = jobs
                 threading.Thread(target=work, args=(crate, jobs)).start()

@@ -1,7 +1,7 @@
 -- What is kept with one object more, and with one less.
 use Rattle.std.proofs.Common.{◌≡◌, ℕ, true, false, Bool, eqb, Some, None, Option, inl, inr, sym, ap, refl, ◌∙◌, arith}
 use Rattle.std.specs.Option.{is_some}
-use Rattle.std.specs.Prelude.{◌≢◌, IsSome, IsTrue, if◌then◌else◌, ◌⊎◌, OnOk, OnErr, Result, Ok, Err}
+use Rattle.std.specs.Prelude.{◌≢◌, IfNone, IsSome, IsTrue, MatchBool, if◌then◌else◌, ◌⊎◌, OnOk, OnErr, Result, Ok, Err}
 use Rattle.std.proofs.lemmas.Bool.{false≢true, eqb-true, cases_Bool}
 use Rattle.std.proofs.lemmas.Bool.Decides.{nat_tests}
 use Rattle.std.proofs.lemmas.Option.{none-some, same_Some}
@@ -88,3 +88,14 @@ new_or_before old new at size own others other length is = elim (cases_Bool (eqb
       inl (here, same_Some size length (sym own ∙ ap new here ∙ is))
   | inr differs ↦ inr (sym (others other (differ at other differs)) ∙ is)
 ]
+
+-- where there is none
+pub of_none : {F : Type 0} (o : Option (ℕ × ℕ)) → is_some o ≡ false → IfNone o F → F
+of_none None h fact = fact
+of_none (Some x) h fact = absurd (false≢true (sym h))
+
+-- an object without a byte lives where the set has its address, and elsewhere none does where the map has none
+pub told_by_set : (o : Option ℕ) (b : Bool) → o ≡ None → MatchBool b (IsSome (length_from o b)) (length_from o b ≡ None)
+told_by_set None true h = refl
+told_by_set None false h = refl
+told_by_set (Some size) b h = absurd (none-some size (sym h))

@@ -8,7 +8,7 @@ use Rattle.cap_bounds.specs.Rounding.{rounded_base, rounded_top}
 use Rattle.cap_bounds.proofs.Roundings.{rounded_base-le, rounded_top-ge}
 use Rattle.cap_heap.specs.Objects.{IsApart, Shares, Covers, LieApart}
 use Rattle.cap_heap.specs.Kept.{length_from}
-use Rattle.cap_heap.specs.Neighbours.{IsLastUpTo, IsFirstFrom}
+use Rattle.cap_heap.specs.Neighbours.{IsLastBelow, IsFirstFrom}
 use Rattle.cap_heap.proofs.Objects.{apart_of}
 use Rattle.cap_heap.proofs.Rounded.{empty-apart, covers-own, length_from-long}
 
@@ -20,10 +20,10 @@ module _ (heap : Interval) (lengths : ℕ → Option ℕ) (empty : ℕ → Bool)
   same_size : (one two size size2 : ℕ) → one ≡ two → lengths one ≡ Some size → lengths two ≡ Some size2 → size ≡ size2
   same_size one two size size2 same is is2 = same_Some size size2 (sym is ∙ ap lengths same ∙ is2)
 
-  pub none-below : IsLastUpTo lengths at None → (other size : ℕ) → other < at → length_from (lengths other) (empty other) ≡ Some size
-      → LieApart at length other size
+  pub none-below : IsLastBelow lengths (rounded_top at length) None → (other size : ℕ) → other < rounded_top at length
+      → length_from (lengths other) (empty other) ≡ Some size → LieApart at length other size
   none-below none other size below is = elim (cases_lt 0 size) [
-    | inl more ↦ absurd (none-some size (sym (none other (omega (arith, below))) ∙ length_from-long (lengths other) (empty other) size is more))
+    | inl more ↦ absurd (none-some size (sym (none other below) ∙ length_from-long (lengths other) (empty other) size is more))
     | inr zero ↦ empty-apart at length other size (omega arith)
   ]
 
@@ -40,8 +40,8 @@ module _ (heap : Interval) (lengths : ℕ → Option ℕ) (empty : ℕ → Bool)
         apart_of heap (λ a. length_from (lengths a) (empty a)) known other near size near_size (lives other size is) (lives near near_size here)
         differs near covers (covers-own near near_size (long near near_size here))
 
-    pub apart-below : IsLastUpTo lengths at (Some (near, near_size)) → rounded_top near near_size ≤ rounded_base at length
-        → (other size : ℕ) → other < at → length_from (lengths other) (empty other) ≡ Some size → LieApart at length other size
+    pub apart-below : IsLastBelow lengths (rounded_top at length) (Some (near, near_size)) → rounded_top near near_size ≤ rounded_base at length
+        → (other size : ℕ) → other < rounded_top at length → length_from (lengths other) (empty other) ≡ Some size → LieApart at length other size
     apart-below last clear other size below is = elim (cases_lt 0 size) [
       | inr zero ↦ empty-apart at length other size (omega arith)
       | inl more ↦
@@ -50,7 +50,7 @@ module _ (heap : Interval) (lengths : ℕ → Option ℕ) (empty : ℕ → Bool)
             | inl less ↦ apart-near other size stands (λ same. omega arith)
                 (omega (arith, rounded_base-le other size), omega (arith, rounded_top-ge near near_size, c.0, d.1))
             | inr more ↦
-                let same : other ≡ near = omega (arith, last.2 other size (omega (arith, below)) stands) in
+                let same : other ≡ near = omega (arith, last.2 other size below stands) in
                 let sizes : size ≡ near_size = same_size other near size near_size same stands here in
                 let top : rounded_top other size ≡ rounded_top near near_size = ap (λ a. rounded_top a size) same ∙ ap (rounded_top near) sizes in
                 omega (arith, c.0, d.1)
@@ -77,14 +77,14 @@ module _ (heap : Interval) (lengths : ℕ → Option ℕ) (empty : ℕ → Bool)
     ]
 
     -- a neighbour whose bounds reach those of the request shares an address with it
-    shares-below : near ≤ at → rounded_base at length < rounded_top near near_size
+    shares-below : near < rounded_top at length → rounded_base at length < rounded_top near near_size
         → Shares rounded_base rounded_top (λ a. length_from (lengths a) (empty a)) at length near near_size
     shares-below below reach = elim (cases_lt (rounded_base at length) (rounded_base near near_size)) [
       | inl lower ↦ (
         lives near near_size here,
         near,
         omega (arith, rounded_base-le near near_size),
-        omega (arith, rounded_top-ge at length),
+        below,
         (covers-own near near_size (long near near_size here)).0,
         (covers-own near near_size (long near near_size here)).1,
       )
@@ -119,9 +119,9 @@ module _ (heap : Interval) (lengths : ℕ → Option ℕ) (empty : ℕ → Bool)
       )
     ]
 
-  -- where neither neighbour's bounds reach those of the request, no object's do
-  apart-under : (below : Option (ℕ × ℕ)) → IsLastUpTo lengths at below → IfSome below (λ entry. rounded_top entry.0 entry.1 ≤ rounded_base at length)
-      → (other size : ℕ) → other < at → length_from (lengths other) (empty other) ≡ Some size → LieApart at length other size
+  apart-under : (below : Option (ℕ × ℕ)) → IsLastBelow lengths (rounded_top at length) below
+      → IfSome below (λ entry. rounded_top entry.0 entry.1 ≤ rounded_base at length)
+      → (other size : ℕ) → other < rounded_top at length → length_from (lengths other) (empty other) ≡ Some size → LieApart at length other size
   apart-under None last clear = none-below last
   apart-under (Some entry) last clear = apart-below entry.0 entry.1 last.1 last clear
 
@@ -130,27 +130,39 @@ module _ (heap : Interval) (lengths : ℕ → Option ℕ) (empty : ℕ → Bool)
   apart-over None first clear = none-above first
   apart-over (Some entry) first clear = apart-above entry.0 entry.1 first.1 first clear
 
-  apart-all : (below above : Option (ℕ × ℕ)) → IsLastUpTo lengths at below → IsFirstFrom lengths at above
+  -- where the last object that begins below the request's top does not reach it, and neither does one that begins above, none does
+  apart-all : (below : Option (ℕ × ℕ)) → IsLastBelow lengths (rounded_top at length) below
       → IfSome below (λ entry. rounded_top entry.0 entry.1 ≤ rounded_base at length)
-      → IfSome above (λ entry. rounded_top at length ≤ rounded_base entry.0 entry.1)
+      → ((other size : ℕ) → rounded_top at length ≤ other → length_from (lengths other) (empty other) ≡ Some size → LieApart at length other size)
       → (other size : ℕ) → length_from (lengths other) (empty other) ≡ Some size → LieApart at length other size
-  apart-all below above last first clear clear2 other size is = elim (cases_lt other at) [
+  apart-all below last clear above other size is = elim (cases_lt other (rounded_top at length)) [
     | inl under ↦ apart-under below last clear other size under is
-    | inr over ↦ apart-over above first clear2 other size over is
+    | inr over ↦ above other size over is
   ]
 
-  -- a neighbour whose bounds reach those of the request shares an address with it
-  pub shares-under : (entry : ℕ × ℕ) → IsLastUpTo lengths at (Some entry) → rounded_base at length < rounded_top entry.0 entry.1
+  -- one that does shares an address with it
+  pub shares-under : (entry : ℕ × ℕ) → IsLastBelow lengths (rounded_top at length) (Some entry) → rounded_base at length < rounded_top entry.0 entry.1
       → Shares rounded_base rounded_top (λ a. length_from (lengths a) (empty a)) at length entry.0 entry.1
   shares-under entry last reach = shares-below entry.0 entry.1 last.1 last.0 reach
 
-  -- and where the one below does not, the one above tells
-  pub from-above : (below above found : Option (ℕ × ℕ)) → IsLastUpTo lengths at below → IsFirstFrom lengths at above
+  -- no object that begins above does where all bounds begin at their object's address
+  pub apart-straight : (below : Option (ℕ × ℕ)) → IsLastBelow lengths (rounded_top at length) below
+      → IfSome below (λ entry. rounded_top entry.0 entry.1 ≤ rounded_base at length)
+      → ((other size : ℕ) → lengths other ≡ Some size → rounded_base other size ≡ other)
+      → (other size : ℕ) → length_from (lengths other) (empty other) ≡ Some size → LieApart at length other size
+  apart-straight below last clear begins = apart-all below last clear (λ other size over is. elim (cases_lt 0 size) [
+    | inl more ↦ λ byte c d. omega (arith, over, c.1, d.0, begins other size (length_from-long (lengths other) (empty other) size is more))
+    | inr zero ↦ empty-apart at length other size (omega arith)
+  ])
+
+  -- and elsewhere the first one tells
+  pub from-above : (below above found : Option (ℕ × ℕ)) → IsLastBelow lengths (rounded_top at length) below → IsFirstFrom lengths at above
       → IfSome below (λ entry. rounded_top entry.0 entry.1 ≤ rounded_base at length)
       → MatchOption found (IfSome above (λ entry. rounded_top at length ≤ rounded_base entry.0 entry.1))
       (λ entry. (above ≡ Some entry) × (rounded_base entry.0 entry.1 < rounded_top at length))
       → MatchOption found ((other size : ℕ) → length_from (lengths other) (empty other) ≡ Some size → LieApart at length other size)
       (λ entry. Shares rounded_base rounded_top (λ a. length_from (lengths a) (empty a)) at length entry.0 entry.1)
-  from-above below above None last first clear told = apart-all below above last first clear told
+  from-above below above None last first clear told =
+      apart-all below last clear (λ other size over. apart-over above first told other size (omega (arith, over, rounded_top-ge at length)))
   from-above below above (Some entry) last first clear told =
       let here = subst (IsFirstFrom lengths at) told.0 first in shares-above entry.0 entry.1 here.1 here.0 told.1

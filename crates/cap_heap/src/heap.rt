@@ -1,11 +1,10 @@
 //! A heap: the objects of an allocator that live.
 
-ghost use Rattle.std.specs.Prelude.{◌≡◌, ◌<◌, ◌≤◌, ◌+◌, ◌^◌, ℕ, false, Some, None, IfErr, OnOk, OnErr, IsSome, IsSomeAnd, IfSome, MatchBool, MatchOption, ◌≢◌, [], ◌∷◌};
+ghost use Rattle.std.specs.Prelude.{◌≡◌, ◌<◌, ◌≤◌, ◌+◌, ◌^◌, ℕ, true, false, Some, None, IfErr, IfNone, OnOk, OnErr, IsSome, MatchBool, MatchOption, [], ◌∷◌};
 ghost use Rattle.std.specs.Ordering.{nat_cmp};
 ghost use Rattle.std.specs.BTreeMap as tree;
 ghost use Rattle.std.specs.BTreeSet as set;
 ghost use Rattle.cap_bounds.specs.Rounding.{rounded_base, rounded_top};
-ghost use Rattle.cap_heap.specs.Neighbours.{IsLastUpTo};
 ghost use Rattle.cap_heap.specs.Objects.{IsApart, LieApart, Shares, no_objects};
 ghost use Rattle.cap_heap.specs.Events.{CanHappen, HasRoom, IsEndOf, IsFaultOf, after, frees, mallocs};
 ghost use Rattle.cap_heap.specs.Kept.{kept, kept_count};
@@ -13,7 +12,7 @@ ghost use Rattle.cap_heap.specs.declared.events.Event.TheVariants.{Malloc, Free}
 ghost use Rattle.cap_heap.specs.declared.events.EventEnd.TheVariants.{NoMemory};
 
 use crate::events::{Event, EventEnd};
-use crate::neighbours::{first_from, last_up_to, reaching_down, reaching_up};
+use crate::neighbours::{first_from, last_below, reaching_down, reaching_up};
 use crate::refusal::HeapRefusal;
 use cap_bounds::{Interval, Rounded, round};
 use std::alloc::Global;
@@ -27,9 +26,12 @@ pub struct Heap {
     lengths: BTreeMap<u64, u64>,
     // The addresses of the others, whose bounds have no address.
     empty: BTreeSet<u64>,
+    // Where it is true, no object's rounded bounds begin below its address.
+    straight: bool,
     ghost apart: { IsApart bounds (kept lengths empty) },
     ghost long: { (address length : ℕ) → tree.get nat_cmp lengths address ≡ Some length → 0 < length },
     ghost once: { (address length : ℕ) → tree.get nat_cmp lengths address ≡ Some length → set.contains nat_cmp empty address ≡ false },
+    ghost begins: { straight ≡ true → (address length : ℕ) → tree.get nat_cmp lengths address ≡ Some length → rounded_base address length ≡ address },
 }
 
 impl Heap {
@@ -45,6 +47,7 @@ impl Heap {
             bounds,
             lengths: BTreeMap::new(alloc),
             empty: BTreeSet::new(alloc),
+            straight: true,
         }
     }
 
@@ -85,19 +88,12 @@ impl Heap {
             ((other size : ℕ) → objects_in self.now other ≡ Some size → LieApart address length other size)
             (λ entry. Shares rounded_base rounded_top (objects_in self.now) address length entry.0 entry.1) }
     {
-        let below = last_up_to(&self.lengths, address);
-        self.reaching(below, address, length, round(address, length))
+        self.reaching(address, length, round(address, length))
     }
 
-    // The same, where the last object up to the address and the rounded bounds of the request are these.
-    fn reaching(
-        &self,
-        below: Option<(u64, u64)>,
-        address: u64,
-        length: u64,
-        rounded: Rounded,
-    ) -> Option<(u64, u64)>
-        requires near { IsLastUpTo (tree.get nat_cmp self.now.lengths) address below }
+    // The same, where the rounded bounds of the request are these. The last object that begins below their top tells of
+    // all, but for one that begins above and whose bounds begin below its address.
+    fn reaching(&self, address: u64, length: u64, rounded: Rounded) -> Option<(u64, u64)>
         requires base { rounded.base ≡ rounded_base address length }
         requires top { rounded.top ≡ rounded_top address length }
         ensures { MatchOption result
@@ -107,26 +103,43 @@ impl Heap {
         if length == 0 {
             return None;
         }
-        match reaching_up(below, rounded.base) {
+        match reaching_up(last_below(&self.lengths, rounded.top), rounded.base) {
             Some(entry) => Some(entry),
-            None => reaching_down(first_from(&self.lengths, address), rounded.top),
+            None => {
+                if self.straight {
+                    return None;
+                }
+                reaching_down(first_from(&self.lengths, address), rounded.top)
+            }
         }
     }
 
-    // The first test of a request that holds, or `None` where it can be met.
-    fn refusal(&self, address: u64, length: u64) -> Option<HeapRefusal>
+    // Whether an object lives at an address, where the rounded bounds of a request there reach those of this object, or of none.
+    fn is_taken(&self, address: u64, length: u64, overlapped: Option<(u64, u64)>) -> bool
+        requires { IfNone overlapped ((other size : ℕ) → objects_in self.now other ≡ Some size → LieApart address length other size) }
+        ensures { MatchBool result (IsSome (objects_in self.now address)) (objects_in self.now address ≡ None) }
+    {
+        if length > 0 && overlapped.is_none() {
+            return self.empty.contains(&address);
+        }
+        self.lengths.contains_key(&address) || self.empty.contains(&address)
+    }
+
+    // The first test of a request that holds, or `None` where it can be met; its rounded bounds are these.
+    fn refusal(&self, address: u64, length: u64, rounded: Rounded) -> Option<HeapRefusal>
+        requires base { rounded.base ≡ rounded_base address length }
+        requires top { rounded.top ≡ rounded_top address length }
         ensures { MatchOption result (HasRoom self.now.bounds (objects_in self.now) address length)
             (IsFaultOf self.now.bounds (objects_in self.now) (Malloc address length)) }
     {
-        let below = last_up_to(&self.lengths, address);
-        if is_at(below, address) || self.empty.contains(&address) {
+        let overlapped = self.reaching(address, length, rounded);
+        if self.is_taken(address, length, overlapped) {
             return Some(HeapRefusal::AddressTaken);
         }
-        let rounded = round(address, length);
         if !self.bounds.contains(rounded.base, rounded.top) {
             return Some(HeapRefusal::OutsideHeap);
         }
-        match self.reaching(below, address, length, rounded) {
+        match overlapped {
             Some(_) => Some(HeapRefusal::Overlaps),
             None => None,
         }
@@ -148,9 +161,17 @@ impl Heap {
         }
     }
 
-    // A longer object comes to live where there is room for it.
-    fn keep_long(&mut self, address: u64, length: u64) -> Result<(), EventEnd>
+    // Whether no object's rounded bounds begin below its address, with one more at this address whose bounds begin at this base.
+    fn stays_straight(&self, address: u64, base: u64) -> bool
+        ensures { result ≡ true → (self.now.straight ≡ true) × (base ≡ address) }
+    {
+        self.straight && base == address
+    }
+
+    // A longer object comes to live where there is room for it; its rounded bounds begin at this base.
+    fn keep_long(&mut self, address: u64, length: u64, base: u64) -> Result<(), EventEnd>
         requires some { 0 < length }
+        requires base { base ≡ rounded_base address length }
         requires room { HasRoom self.old.bounds (objects_in self.old) address length }
         ensures ok { OnOk result ((other : ℕ) → objects_in self.new other ≡ after (objects_in self.old) (Malloc address length) other) }
         ensures count { OnOk result (live_in self.new ≡ live_in self.old + 1) }
@@ -159,6 +180,7 @@ impl Heap {
         ensures err_count { OnErr result (live_in self.new ≡ live_in self.old) }
         ensures bounds { self.new.bounds ≡ self.old.bounds }
     {
+        self.straight = self.stays_straight(address, base);
         match self.lengths.insert(address, length) {
             Ok(_) => Ok(()),
             Err(_) => Err(EventEnd::NoMemory),
@@ -166,7 +188,9 @@ impl Heap {
     }
 
     /// An object comes to live at an address, or the first test that refuses it is the answer and nothing
-    /// changes. Memory is taken for an object that no test refuses; `NoMemory` comes only there.
+    /// changes. Memory is taken for an object that no test refuses; `NoMemory` comes only there. An object of a byte or
+    /// more takes two walks down the map of such objects, one more once one came whose rounded bounds begin below its
+    /// address, and one down the set of those of no bytes where any live.
     pub fn malloc(&mut self, address: u64, length: u64) -> Result<(), EventEnd>
         ensures room { OnOk result (HasRoom self.old.bounds (objects_in self.old) address length) }
         ensures ok { OnOk result ((other : ℕ) → objects_in self.new other ≡ after (objects_in self.old) (Malloc address length) other) }
@@ -176,11 +200,12 @@ impl Heap {
         ensures err_count { OnErr result (live_in self.new ≡ live_in self.old) }
         ensures bounds { self.new.bounds ≡ self.old.bounds }
     {
-        if let Some(refusal) = self.refusal(address, length) {
+        let rounded = round(address, length);
+        if let Some(refusal) = self.refusal(address, length, rounded) {
             return Err(EventEnd::Refused(refusal));
         }
         if length > 0 {
-            self.keep_long(address, length)
+            self.keep_long(address, length, rounded.base)
         } else {
             self.keep_empty(address)
         }
@@ -203,15 +228,5 @@ impl Heap {
             return Ok(());
         }
         Err(EventEnd::Refused(HeapRefusal::NotLive))
-    }
-}
-
-// Whether an entry is there and has this address.
-fn is_at(entry: Option<(u64, u64)>, address: u64) -> bool
-    ensures { MatchBool result (IsSomeAnd entry (λ e. e.0 ≡ address)) (IfSome entry (λ e. e.0 ≢ address)) }
-{
-    match entry {
-        Some((key, _)) => key == address,
-        None => false,
     }
 }

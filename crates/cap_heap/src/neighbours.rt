@@ -1,19 +1,32 @@
 //! The neighbours of an address in an ordered map.
 
-ghost use Rattle.std.specs.Prelude.{◌≡◌, ◌<◌, ◌≤◌, IfSome, MatchOption, Some};
+ghost use Rattle.std.specs.Prelude.{◌≡◌, ◌<◌, ◌≤◌, ◌^◌, ℕ, IfSome, MatchOption, Some};
 ghost use Rattle.std.specs.Ordering.{nat_cmp};
 ghost use Rattle.std.specs.BTreeMap as tree;
 ghost use Rattle.cap_bounds.specs.Rounding.{rounded_base, rounded_top};
-ghost use Rattle.cap_heap.specs.Neighbours.{IsFirstFrom, IsLastUpTo};
+ghost use Rattle.cap_heap.specs.Neighbours.{IsFirstFrom, IsLastBelow};
 
 use cap_bounds::round;
 use std::collections::BTreeMap;
 
-/// The last entry up to an address.
-pub(crate) fn last_up_to(map: &BTreeMap<u64, u64>, address: u64) -> Option<(u64, u64)>
-    ensures { IsLastUpTo (tree.get nat_cmp map.now) address result }
+/// The last entry below a number.
+pub(crate) fn last_below(map: &BTreeMap<u64, u64>, number: u128) -> Option<(u64, u64)>
+    ensures { IsLastBelow (tree.get nat_cmp map.now) number result }
 {
-    match map.range(..=address).next_back() {
+    let Ok(number) = u64::try_from(number) else {
+        return last(map);
+    };
+    match map.range(..number).next_back() {
+        Some((key, value)) => Some((*key, *value)),
+        None => None,
+    }
+}
+
+// The last entry.
+fn last(map: &BTreeMap<u64, u64>) -> Option<(u64, u64)>
+    ensures { (number : ℕ) → 2 ^ 64 ≤ number → IsLastBelow (tree.get nat_cmp map.now) number result }
+{
+    match map.last_key_value() {
         Some((key, value)) => Some((*key, *value)),
         None => None,
     }

@@ -4,6 +4,7 @@ use Rattle.std.specs.BTreeMap as tree
 use Rattle.std.specs.BTreeSet as set
 use Rattle.std.specs.BTreeMap.{is_at}
 use Rattle.std.specs.Map.{lookup}
+use Rattle.cap_bounds.specs.Rounding.{rounded_base}
 use Rattle.cap_heap.specs.Kept.{length_from}
 use Rattle.cap_heap.specs.Heaps.{objects_in}
 use Rattle.cap_heap.proofs.Objects.{IsApart-with, IsApart-same}
@@ -46,4 +47,18 @@ invariant_of-self-clause-long c other length is =
             | inr before ↦ s.long other length before
           ]
       | inr same ↦ s.long other length (sym (ap (lookup (is_at (nat_cmp other))) same) ∙ is)
+    ]
+
+pub invariant_of-self-clause-begins : goal.invariant_of-self-clause-begins
+invariant_of-self-clause-begins c straight other length is =
+    let s = c.args.self.now in
+    let at = c.args.address in
+    let told = c.stays_straight-self.ensures straight in
+    elim (either c.insert.result c.insert.ensures.updates c.insert.ensures.err) [
+      | inl updates ↦ elim (new_or_before (tree.get nat_cmp s.lengths) (tree.get nat_cmp c.insert.new.self) at c.args.length updates.1
+          (λ q differ. updates.2 q (not_equal at q differ)) other length is) [
+            | inl new ↦ ap (λ a. rounded_base a length) (sym new.0) ∙ ap (rounded_base at) (sym new.1) ∙ sym c.requires.base ∙ told.1 ∙ new.0
+            | inr before ↦ s.begins told.0 other length before
+          ]
+      | inr same ↦ s.begins told.0 other length (sym (ap (lookup (is_at (nat_cmp other))) same) ∙ is)
     ]
