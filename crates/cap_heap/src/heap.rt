@@ -107,9 +107,10 @@ impl Heap {
             Some(entry) => Some(entry),
             None => {
                 if self.straight {
-                    return None;
+                    None
+                } else {
+                    reaching_down(first_from(&self.lengths, address), rounded.top)
                 }
-                reaching_down(first_from(&self.lengths, address), rounded.top)
             }
         }
     }
