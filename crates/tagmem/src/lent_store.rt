@@ -32,8 +32,8 @@ impl Slot {
 /// time gets `NoMemory` exactly where all slots are in use.
 ///
 /// They stand in runs, each of them sorted: one of 2^k slots for each bit k of their number. A new one is sorted together
-/// with the runs that its carry joins. So a granule is found by a search in each run, and each slot is sorted anew at
-/// most as many times as the number of slots has bits, whatever the order in which granules come.
+/// with the runs that its carry joins. So a granule is found by a search in each run, and a put moves, over all, each slot
+/// as many times as the number of slots has bits, whatever the order in which granules come.
 #[derive(Drop)]
 pub struct LentStore<'a> {
     slots: &'a mut [Slot],
