@@ -200,3 +200,31 @@ function requestDrawing({ base, length, rounded }, width) {
     const below = labels(points, width, low + 8);
     return canvas(width, low + 12 + below.height, ...nodes, ...below.nodes);
 }
+
+/** Ranges one below the other on one axis, each with its name. Where some are far smaller than others, the axis is for
+ * those, and an arrow says that a range goes on. */
+function axisDrawing(bars, width) {
+    const sizes = bars.map(({ base, top }) => top - base).filter((size) => size > 0n);
+    const least = sizes.reduce((one, other) => (other < one ? other : one), sizes[0] ?? 1n);
+    const near = bars.filter(({ base, top }) => top - base <= least << 12n);
+    const from = near.reduce((least, { base }) => (base < least ? base : least), near[0].base);
+    const end = near.reduce((greatest, { top }) => (top > greatest ? top : greatest), near[0].top);
+    const room = (end - from) / 8n + 1n;
+    const left = 100;
+    const axis = scaled(from - room, end - from + 2n * room, left, width - 12);
+    const nodes = bars.flatMap(({ name, base, top, kind }, place) => {
+        const y = 4 + place * 26;
+        const [x1, x2] = [axis.cut(base), axis.cut(top)];
+        return [
+            words(0, y + 14, name, "note", "start"), bar(x1, x2, y, 18, kind),
+            ...(axis.x(base) < left ? [shape("path", { d: `M${left} ${y}l-8 9l8 9z`, class: kind })] : []),
+            ...(axis.x(top) > width - 12 ? [shape("path", { d: `M${width - 12} ${y}l8 9l-8 9z`, class: kind })] : []),
+        ];
+    });
+    const low = 8 + bars.length * 26;
+    const ends = bars.flatMap(({ base, top }) => [base, top]).filter((at) => axis.x(at) >= left && axis.x(at) <= width - 12);
+    const points = [...new Set(ends)].map((at) => ({ x: axis.x(at), number: hex(at), note: "" }));
+    const below = labels(points, width, low + 8);
+    const guides = points.map(({ x }) => line(x, 4, x, low, "leader"));
+    return canvas(width, low + 12 + below.height, ...guides, ...nodes, line(left, low, width - 12, low, "axis"), ...below.nodes);
+}

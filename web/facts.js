@@ -12,6 +12,8 @@ const PERMISSIONS = [
     [0x8000, "User bit 15"], [0x10000, "User bit 16"], [0x20000, "User bit 17"], [0x40000, "User bit 18"],
 ];
 
+const permissionNames = (view) => PERMISSIONS.filter(([bit]) => view & bit).map(([, name]) => name);
+
 const hex = (number, digits = 1) => number.toString(16).padStart(digits, "0");
 const decimal = (number) => number.toString().replace(/\B(?=(\d{3})+$)/g, ",");
 const ox = (number) => `0x${hex(number)}`;

@@ -94,9 +94,11 @@ function refuse(id, problem) {
 
 const widthOf = (id) => Math.max(280, Math.floor(byId(id).clientWidth));
 
+const row = ([name, value, remark]) =>
+    make("tr", {}, make("th", { scope: "row" }, name), make("td", {}, value, ...(remark ? [make("small", {}, remark)] : [])));
+
 function fill(id, rows) {
-    byId(id).tBodies[0].replaceChildren(...rows.map(([name, value, remark]) =>
-        make("tr", {}, make("th", { scope: "row" }, name), make("td", {}, value, ...(remark ? [make("small", {}, remark)] : [])))));
+    byId(id).tBodies[0].replaceChildren(...rows.map(row));
 }
 
 function figure(caption, drawing) {
@@ -285,11 +287,12 @@ function outcome(mode, says, cap) {
 
 // ---- What a link has ----
 
-const VIEWS = { capability: showCapability, request: showRequest, operation: showOperation };
+const VIEWS = { capability: showCapability, request: showRequest, operation: showOperation, log: showLog };
 const FIELDS = {
     capability: ["word", "order", "tag", "to"],
     request: ["base", "length"],
     operation: ["do", "source", "sourcetag", "authority", "authoritytag", "value", "offset", "size"],
+    log: ["text", "line"],
 };
 const defaults = {};
 let view = "capability";
@@ -364,6 +367,15 @@ function changed() {
     writing = setTimeout(() => history.replaceState(null, "", linkTo()), 350);
 }
 
+/** Another view: going back in the browser leads to the one before. */
+function turnTo(name) {
+    if (writing) history.replaceState(null, "", linkTo());
+    clearTimeout(writing);
+    view = name;
+    history.pushState(null, "", linkTo());
+    show();
+}
+
 async function copy(text, what) {
     let said = `${what} copied.`;
     try {
@@ -410,7 +422,7 @@ function tryByKey(event) {
 function listen() {
     for (const name of Object.values(FIELDS).flat()) for (const control of controlsOf(name)) control.addEventListener("input", changed);
     for (const button of document.querySelectorAll("[data-view]")) {
-        button.addEventListener("click", () => { view = button.dataset.view; changed(); });
+        button.addEventListener("click", () => { if (view !== button.dataset.view) turnTo(button.dataset.view); });
     }
     byId("copy-link").addEventListener("click", () => copy(location.href.split("#")[0] + linkTo(), "Link"));
     byId("copy-text").addEventListener("click", () =>
@@ -435,18 +447,26 @@ function listen() {
     addEventListener("resize", () => requestAnimationFrame(show));
 }
 
-function start() {
+/** A module that stands in the page, packed. */
+async function unpacked(id) {
+    const packed = Uint8Array.from(atob(byId(id).textContent.replace(/\s/g, "")), (letter) => letter.charCodeAt(0));
+    const stream = new Blob([packed]).stream().pipeThrough(new DecompressionStream("gzip"));
+    return new Uint8Array(await new Response(stream).arrayBuffer());
+}
+
+async function start() {
     byId("do").append(...Object.entries(OPERATIONS).map(([name, { title }]) => make("option", { value: name }, title)));
     for (const name of Object.values(FIELDS).flat()) defaults[name] = valueOf(name);
     try {
-        const text = byId("module").textContent.replace(/\s/g, "");
-        c = library(Uint8Array.from(atob(text), (letter) => letter.charCodeAt(0)));
+        c = library(await unpacked("module"));
+        Beside.module = new WebAssembly.Module(await unpacked("judge"));
     } catch (problem) {
         failed(problem);
         return;
     }
     listen();
+    listenToLog();
     restore();
 }
 
-start();
+const started = start();

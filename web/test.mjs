@@ -5,6 +5,7 @@ import path from "node:path";
 import * as answers from "./tests/answers.mjs";
 import { Browser } from "./tests/browser.mjs";
 import { address, capability, count, file, same, STATES, tools } from "./tests/given.mjs";
+import * as logs from "./tests/logs.mjs";
 import * as module from "./tests/module.mjs";
 import * as use from "./tests/use.mjs";
 
@@ -16,6 +17,7 @@ const GROUPS = {
     logsAreFollowed: answers.logsAreFollowed,
     refusalsAreNamed: answers.refusalsAreNamed,
     badInputIsRefused: answers.badInputIsRefused,
+    logsAreJudged: logs.logsAreJudged,
     linksRestore: use.linksRestore,
     addressMoves: use.addressMoves,
     usableByKeys: use.usableByKeys,
