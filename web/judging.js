@@ -8,18 +8,17 @@ const SLOT = 32; // bytes of a slot for a granule
 const GRANULES = 2 ** 20; // as many as a log may name
 const SHORTEST = "sc c1 c1 0\n".length; // of the lines that name one
 const LONGEST = "origin @0000000000000010 @0000000000000010\n".length;
-const ROOM = 4096; // for a report, and for lines behind a beginning
+const ROOM = 4096; // for a report, and as much for lines behind a beginning
 const SPAN = 4096; // lines between two checkpoints
 
 class Judge {
     constructor(module, size) {
         this.exports = new WebAssembly.Instance(module).exports;
         this.count = Math.min(GRANULES, Math.floor(size / SHORTEST) + 1);
-        this.room = ROOM + LONGEST * (this.count + 31);
-        this.result = grown(this.exports.memory, 64 + SLOT * this.count + this.room + size + ROOM);
+        this.result = grown(this.exports.memory, 64 + SLOT * this.count + ROOM + size + ROOM);
         this.slots = this.result + 64;
         this.text = this.slots + SLOT * this.count;
-        this.log = this.text + this.room;
+        this.log = this.text + ROOM;
         this.size = size;
     }
 
@@ -27,16 +26,36 @@ class Judge {
         return new Uint8Array(this.exports.memory.buffer, from, length);
     }
 
-    /** What the module says of the first bytes of its log, and the report or the origins. */
-    why(length = this.size, origins = true) {
-        const given = [this.log, length, this.slots, this.count, this.text, this.room].map(BigInt);
-        this.exports.capcheck_judge_why(BigInt(this.result), Number(origins), ...given);
+    /** What the module says of the first bytes of its log, and the report of a no. */
+    why(length = this.size) {
+        return this.asked(0, length, this.text, ROOM);
+    }
+
+    /** The text of the origins after a yes, which may be long. */
+    origins() {
+        const room = ROOM + LONGEST * (this.count + 31);
+        this.more ??= grown(this.exports.memory, room);
+        return this.asked(1, this.size, this.more, room);
+    }
+
+    asked(origins, length, text, room) {
+        const given = [this.log, length, this.slots, this.count, text, room].map(BigInt);
+        this.exports.capcheck_judge_why(BigInt(this.result), origins, ...given);
         const said = readStruct(this.exports.memory, "why", this.result);
-        return { ...said.answer, line: Number(said.answer.line), text: this.bytes(this.text, Number(said.length)).slice() };
+        return { ...said.answer, line: Number(said.answer.line), text: latin.decode(this.bytes(text, Number(said.length))) };
     }
 }
 
 const ascii = (bytes) => String.fromCharCode(...bytes);
+const latin = new TextDecoder("latin1");
+
+/** The register that a line writes, or 0. */
+function targetOf(text) {
+    const kind = text.slice(0, text.indexOf(" "));
+    const first = kind.length + 2;
+    if (kind === "sc" || kind === "load" || kind === "store" || text[first - 1] !== "c") return 0;
+    return Number(text[first + 1] === " " ? text[first] : text.slice(first, first + 2));
+}
 
 /** A log in a judge's memory, by its lines, which are counted from 1. */
 class Lines {
@@ -58,22 +77,25 @@ class Lines {
         return ascii(found.at(-1) === 10 ? found.subarray(0, -1) : found);
     }
 
-    /** The register that a line writes, or 0. */
-    written(line) {
-        const parts = this.text(line).split(" ", 2);
-        return ["sc", "load", "store", "end", "capcheck", "mode"].includes(parts[0]) ? 0 : registerOf(parts[1]) ?? 0;
+    /** The texts of lines before a fault, from one on and up to another; they are short. */
+    texts(from, to) {
+        const at = this.starts[from - 1];
+        return latin.decode(this.judge.bytes(this.judge.log + at, this.starts[to] - at)).split("\n", to - from + 1);
     }
 
-    /** For each register the last line before one that wrote it, or 0. */
+    /** For each register the last line before one that wrote it, or 0. Register 0 stands for none. */
     writers(line) {
         const wanted = Math.floor((line - 1) / SPAN);
         for (let at = this.checkpoints.length; at <= wanted; at++) {
-            const made = at ? Uint32Array.from(this.checkpoints[at - 1]) : new Uint32Array(32);
-            for (let k = Math.max(1, (at - 1) * SPAN + 1); k <= at * SPAN; k++) made[this.written(k)] = k;
+            const made = at ? this.written(this.checkpoints[at - 1], (at - 1) * SPAN + 1, at * SPAN) : new Uint32Array(32);
             this.checkpoints.push(made);
         }
-        const made = Uint32Array.from(this.checkpoints[wanted]);
-        for (let k = wanted * SPAN + 1; k < line; k++) made[this.written(k)] = k;
+        return this.written(this.checkpoints[wanted], wanted * SPAN + 1, line - 1);
+    }
+
+    written(before, from, to) {
+        const made = Uint32Array.from(before);
+        if (from <= to) this.texts(from, to).forEach((text, k) => (made[targetOf(text)] = from + k));
         made[0] = 0;
         return made;
     }
@@ -106,7 +128,7 @@ class Lines {
         if (!parts?.offset) return null;
         for (const digit of "01") {
             const said = this.behind(line, `lc c1 ${parts.authority} ${parts.offset} = 1 ${digit.padStart(32, "0")}\n`);
-            const found = ascii(said.text).match(/^source (@[0-9a-f]+) ([01]) ([0-9a-f]+)$/m);
+            const found = said.text.match(/^source (@[0-9a-f]+) ([01]) ([0-9a-f]+)$/m);
             if (found) return { place: found[1], tag: Number(found[2]), word: found[3] };
         }
         return null;

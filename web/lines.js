@@ -12,6 +12,10 @@ const FORMS = Object.fromEntries(Object.entries({
     load: "authority offset size = value", store: "authority offset size value",
 }).map(([kind, names]) => [kind, names.split(" ")]));
 
+// The same by names: which word of the line it is.
+const PLACES = Object.fromEntries(Object.entries(FORMS).map(([kind, names]) =>
+    [kind, Object.fromEntries(names.map((name, k) => [name, k + 1]))]));
+
 /** The parts of a line by their names; `kind` is its first word. Nothing where it has none of the forms. */
 function partsOf(text) {
     const [kind, ...words] = text.split(" ");
@@ -22,7 +26,7 @@ function partsOf(text) {
 /** Where a part of a line begins. */
 function placeOf(text, name) {
     const words = text.split(" ");
-    return words.slice(0, 1 + FORMS[words[0]].indexOf(name)).join(" ").length + 1;
+    return words.slice(0, PLACES[words[0]][name]).join(" ").length + 1;
 }
 
 /** The number of a register that a line names, or none where it is a granule. */

@@ -52,7 +52,7 @@ async function openLog(blob, name) {
 
 function judgeLog(blob, name, text) {
     log.beside?.end();
-    Object.assign(log, { name, text, size: blob.size, judged: null, report: null, at: null, granule: null, made: null, line: 0, shown: "" });
+    Object.assign(log, { name, text, size: blob.size, judged: null, report: null, at: null, granule: null, made: null, origins: null, line: 0, shown: "" });
     log.beside = new Beside(blob, toldOfLog);
     tellWork("Reading", 0);
     byId("log").querySelector(".results").hidden = true;
@@ -71,7 +71,7 @@ function toldOfLog(told) {
     if (told.read !== undefined) return tellWork(told.read < log.size ? "Reading" : "Judging", told.read);
     tellWork(null);
     if (told.problem) return failed(new Error(told.problem));
-    log.judged = { ...told.judged, report: new TextDecoder().decode(told.judged.text.subarray(0, 1 << 16)) };
+    log.judged = told.judged;
     const asked = Number(byId("line").value);
     stepTo(asked || log.judged.line || log.judged.count);
 }
@@ -94,8 +94,8 @@ function showLog() {
 
 function showVerdict() {
     log.shown = `${log.size} ${widthOf("why")}`;
-    const { state, line, refusal, steps, roots, count, took, report } = log.judged;
-    log.report = state === 2 ? reportOf(report) : null;
+    const { state, line, refusal, steps, roots, count, took, text } = log.judged;
+    log.report = state === 2 ? reportOf(text) : null;
     const first = state === 1 ? "Yes: a run of the machine." : state === 2 ? `No: line ${decimal(line)} is at fault.` : "No verdict.";
     const second = state === 1 ? `${counted(steps, "step")} from ${counted(roots, "root")}.`
         : state === 2 ? `${refusal} ${log.report.refusal}: ${REFUSALS[log.report.refusal]}.` : "There wasn't memory enough.";
@@ -103,10 +103,11 @@ function showVerdict() {
     byId("verdict").replaceChildren(make("b", {}, first), " ", make("span", {}, second), " ",
         make("small", {}, `${log.name ? `${log.name}, ` : ""}${counted(count, "line")}, ${sizeOf(log.size)}, judged in ${decimal(Math.ceil(took))} ms`));
     byId("why").replaceChildren(...(log.report ? reportShown(log.report) : []));
-    byId("report-text").textContent = report.length < 1 << 16 ? report : `${report}…`;
+    byId("report-text").textContent = text;
     byId("find-shortest").hidden = state !== 2;
     byId("to-fault").hidden = state !== 2;
-    showOrigins(state === 1 ? report : "", log.judged.text.length);
+    byId("origins").hidden = state !== 1;
+    showOrigins();
     showShortest();
 }
 
@@ -160,12 +161,23 @@ function capabilityCard(name, cap, differs, cleared) {
 
 const linkOf = (word, tag) => `#${new URLSearchParams({ show: "capability", word, order: "register", tag, to: "" })}`;
 
-function showOrigins(text, size) {
-    const found = text.split("\n").slice(1).filter((row) => /^origin \S+ \S+$/.test(row)).map((row) => row.split(" "));
-    byId("origins").hidden = text === "";
-    byId("origins-of").replaceChildren(...(found.length ? [] : [make("li", {}, "No place holds a tagged capability.")]),
+// The origins are asked for once they are to be seen: they cost a judging of the whole log.
+async function askOrigins() {
+    if (!byId("origins").open || log.origins) return;
+    const { beside } = log;
+    const origins = await beside.ask({ ask: "origins" });
+    if (log.beside !== beside) return;
+    log.origins = origins;
+    showOrigins();
+}
+
+function showOrigins() {
+    if (!log.origins) byId("origins").open = false;
+    const found = (log.origins ?? "").split("\n", FEW + 2).slice(1).filter((it) => it !== "").map((it) => it.split(" "));
+    byId("origins-of").replaceChildren(
         ...found.slice(0, FEW).map(([, place, root]) => make("li", {}, `${place} descends from the root at ${root}`)),
-        ...(found.length > FEW || size > 1 << 16 ? [make("li", {}, "and more: the copied report has all.")] : []));
+        ...(found.length ? [] : [make("li", {}, "No place holds a tagged capability.")]),
+        ...(found.length > FEW ? [make("li", {}, "There are more; the copied text has all.")] : []));
 }
 
 // ---- Line by line ----
@@ -333,7 +345,9 @@ function listenToLog() {
         log.beside.end();
         tellWork(null);
     });
-    byId("copy-report").addEventListener("click", () => copy(new TextDecoder().decode(log.judged.text), "Report"));
+    byId("copy-report").addEventListener("click", () => copy(log.judged.text, "Report"));
+    byId("origins").addEventListener("toggle", askOrigins);
+    byId("copy-origins").addEventListener("click", () => copy(log.origins, "Origins"));
     byId("find-shortest").addEventListener("click", findShortest);
     byId("copy-shortest").addEventListener("click", () => copy(log.made.text, "Log"));
     const steps = { first: () => 1, back: () => log.line - 1, next: () => log.line + 1, last: () => log.judged.count, "to-fault": () => log.judged.line };

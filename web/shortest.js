@@ -11,23 +11,25 @@ function ancestors(lines, last) {
     const addresses = new Array(32).fill("0");
     const granules = new Map();
     const parents = new Uint32Array(3 * (last + 1));
-    for (let line = 1; line <= last; line++) {
-        const parts = partsOf(lines.text(line));
-        if (!parts || parts.kind === "end") continue;
-        const { kind, source, authority, offset, target, place } = parts;
-        const granule = place?.startsWith("@") ? BigInt(`0x${place.slice(1)}`) >> 4n
-            : offset ? BigInt.asUintN(64, BigInt(`0x${addresses[registerOf(authority)]}`) + BigInt(offset)) >> 4n : null;
-        const written = registerOf(target ?? place);
-        parents.set([
-            source ? registers[registerOf(source)] : place && written !== null ? registers[written] : 0,
-            authority ? registers[registerOf(authority)] : 0,
-            granule !== null && kind !== "sc" ? granules.get(granule) ?? 0 : 0,
-        ], 3 * line);
-        if (granule !== null && kind !== "lc" && kind !== "load") granules.set(granule, line);
-        if (written) {
-            registers[written] = line;
-            addresses[written] = parts.word.slice(16);
-        }
+    const take = (text, line) => {
+        const words = text.split(" ");
+        const at = PLACES[words[0]];
+        if (!at || words[0] === "end") return;
+        const [source, authority] = [registerOf(words[at.source]), registerOf(words[at.authority])];
+        const written = registerOf(words[at.target ?? at.place]);
+        const granule = words[1].startsWith("@") ? BigInt(`0x${words[1].slice(1)}`) >> 4n
+            : at.offset ? BigInt.asUintN(64, BigInt(`0x${addresses[authority]}`) + BigInt(words[at.offset])) >> 4n : null;
+        parents[3 * line] = registers[source ?? (at.place ? written : null) ?? 0];
+        parents[3 * line + 1] = registers[authority ?? 0];
+        if (granule !== null && words[0] !== "sc") parents[3 * line + 2] = granules.get(granule) ?? 0;
+        if (granule !== null && words[0] !== "lc" && words[0] !== "load") granules.set(granule, line);
+        if (!written) return;
+        registers[written] = line;
+        addresses[written] = words[at.word].slice(16);
+    };
+    for (let from = 1; from <= last; from += SPAN) {
+        const to = Math.min(last, from + SPAN - 1);
+        lines.texts(from, to).forEach((text, k) => take(text, from + k));
     }
     const found = new Set();
     for (const left = [last]; left.length;) {
@@ -76,8 +78,8 @@ function shortest(module, lines, said) {
         const judge = new Judge(module, text.length);
         judge.bytes(judge.log, text.length).set(Uint8Array.from(text, (letter) => letter.charCodeAt(0)));
         const again = judge.why();
-        if (reportOf(ascii(again.text)) === reportOf(ascii(said.text))) {
-            return { text, verdict: ascii(again.text).split("\n")[0], lines: text.split("\n").length - 1 };
+        if (reportOf(again.text) === reportOf(said.text)) {
+            return { text, verdict: again.text.split("\n")[0], lines: text.split("\n").length - 1 };
         }
     }
     return null;

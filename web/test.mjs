@@ -18,6 +18,7 @@ const GROUPS = {
     refusalsAreNamed: answers.refusalsAreNamed,
     badInputIsRefused: answers.badInputIsRefused,
     logsAreJudged: logs.logsAreJudged,
+    longLogsAreJudged: logs.longLogsAreJudged,
     linksRestore: use.linksRestore,
     addressMoves: use.addressMoves,
     usableByKeys: use.usableByKeys,

@@ -33,6 +33,7 @@ const ANSWERS = {
         const { lines, said } = held;
         return line > lines.count || (said.line && line > said.line) ? null : lines.granule(line);
     },
+    origins: () => held.lines.judge.origins().text,
     shortest: () => shortest(held.module, held.lines, held.said),
 };
 

@@ -19,7 +19,8 @@ function printed(program, words, log) {
 
 const wantedOf = (log) => ({
     verdict: printed(CAPCHECK, ["judge"], log),
-    report: printed(CAPDIAG, ["why", "--origins"], log),
+    report: printed(CAPDIAG, ["why"], log),
+    origins: printed(CAPCHECK, ["judge", "--origins"], log),
 });
 
 /** Waits until a log is judged and its line is shown. */
@@ -45,7 +46,10 @@ const said = async (logs) => {
     const found = [];
     for (const it of logs) {
         await dropped(bytesOf8(it), "given.log");
-        found.push([seen("verdict"), new TextDecoder().decode(log.judged.text), seen("report-text"), byId("fault").hidden]);
+        byId("origins").open = log.judged.state === 1;
+        while (byId("origins").open && !log.origins) await new Promise((done) => setTimeout(done, 2));
+        found.push([seen("verdict"), log.judged.text, seen("report-text"), byId("fault").hidden, log.origins ?? log.judged.text.split(/(?<=\n)/)[0],
+            [...document.querySelectorAll("#origins-of li")].map((it) => it.textContent)]);
     }
     return found;
 };
@@ -67,9 +71,12 @@ export async function logsAreJudged(page) {
     logs.forEach((log, k) => {
         const name = examples[k] ?? `random log ${k - examples.length}`;
         const wanted = wantedOf(log);
-        const [sentence, report, visible, fine] = shown[k];
+        const [sentence, report, visible, fine, origins, list] = shown[k];
         check(sentence.startsWith(sentenceOf(wanted.verdict)), `${name}: “${sentence}”, where the program has ${wanted.verdict}`);
         same(report, wanted.report, name);
+        same(origins, wanted.origins, `${name}: origins`);
+        const places = [...origins.matchAll(/^origin (\S+) (\S+)$/gm)].map(([, place, from]) => `${place} descends from the root at ${from}`);
+        if (places.length) same(list, places, `${name}: the list of origins`);
         check(visible === report && fine && report.startsWith(wanted.verdict), `${name}: it is seen`);
         const kind = wanted.verdict.split(" ")[3]?.trim() ?? "yes";
         kinds[kind] = (kinds[kind] ?? 0) + 1;
@@ -186,3 +193,56 @@ const drawnLogs = (count, others) => {
         return changes[k % changes.length](log);
     });
 };
+
+/** A file of the disk is opened by the page's button: what it takes, and the longest time in which the page did nothing. */
+async function opened(page, name) {
+    const { root: top } = await page.send("DOM.getDocument");
+    const { nodeId } = await page.send("DOM.querySelector", { nodeId: top.nodeId, selector: "#file" });
+    await page.run(() => {
+        globalThis.gaps = [];
+        let last = performance.now();
+        globalThis.ticking = setInterval(() => {
+            globalThis.gaps.push(performance.now() - last);
+            last = performance.now();
+        }, 5);
+        log.judged = null;
+        document.getElementById("file").addEventListener("change", () => (globalThis.began = performance.now()), { capture: true, once: true });
+    });
+    await page.send("DOM.setFileInputFiles", { nodeId, files: [name] });
+    return page.run(async () => {
+        while (!log.judged || !log.at) await new Promise((done) => setTimeout(done, 5));
+        const took = performance.now() - globalThis.began;
+        clearInterval(globalThis.ticking);
+        return { took, gap: Math.max(...globalThis.gaps), says: seen("verdict") };
+    });
+}
+
+const LONG = ["moves", "mixed", "varied", "down"];
+
+/** Logs of a million steps: the verdict within three seconds, while the page goes on, and any line within one. */
+export async function longLogsAreJudged(page) {
+    await page.run(settled);
+    const folder = fs.mkdtempSync(path.join(os.tmpdir(), "capcheck-logs-"));
+    const times = [];
+    try {
+        for (const kind of LONG) {
+            const name = path.join(folder, `${kind}.log`);
+            fs.writeFileSync(name, execFileSync("sh", ["bench/million.sh", kind], { cwd: root, maxBuffer: 1 << 28 }));
+            const { took, gap, says } = await opened(page, name);
+            check(says.startsWith("Yes: a run of the machine. 1,000,000 steps from 1 root."), `${kind}: ${says}`);
+            check(took <= 3000, `${kind}: ${took} ms`);
+            check(gap <= 250, `${kind}: the page did nothing for ${gap} ms`);
+            const stepped = await page.run(async () => {
+                const began = performance.now();
+                stepTo(654321);
+                await globalThis.settled();
+                return [performance.now() - began, seen("code"), document.querySelectorAll("#held tr").length];
+            });
+            check(stepped[0] <= 1500 && stepped[1].includes("654,321") && stepped[2] > 1, `${kind}: stepped: ${stepped}`);
+            times.push(`${kind} ${Math.round(took)} ms, longest gap ${Math.round(gap)}, a step ${Math.round(stepped[0])}`);
+        }
+    } finally {
+        fs.rmSync(folder, { recursive: true });
+    }
+    return times.join("; ");
+}

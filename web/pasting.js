@@ -1,0 +1,66 @@
+"use strict";
+// What people paste: words as debuggers, emulators and crash dumps print them. Each line gives a word, or its parts, or
+// nothing. Where a form doesn't say which digits come first, more than one reading is told.
+
+// The permissions that a letter stands for in `[rwxRW,BASE-TOP]`.
+const LETTERS = { r: "Load", w: "Store", x: "Execute", R: "Load Capability", W: "Store Capability", E: "Access System Registers" };
+
+const REGISTER = /^\W*(?:c[0-9]{1,2}|c(?:zr?|ra|sp|gp|tp|fp|null|ul|lr|lrc|telr|pc|id|rsp|rddc|elr)|c[ast][0-9]{1,2}|p?cc|ddc|[a-z]+cc|[a-z]+dc|\$c\w+)\s*(?:[:=|]\s*|\s+)/i;
+
+const maskOf = (letters) => [...letters].reduce((mask, it) => mask | (PERMISSIONS.find(([, name]) => name === LETTERS[it])?.[0] ?? 0), 0);
+const number16 = (digits) => BigInt(`0x${digits.replace(/^0x/i, "")}`);
+
+/** `0x1000 [rwRW,0x1000-0x2000] (sealed)`: an address, letters of permissions, bounds. */
+function bracketed(text) {
+    const found = text.match(/(?:(0x[0-9a-f]+|\b[0-9a-f]+)\s*)?\[([rwxRWE]*),\s*(0x[0-9a-f]+)-(0x[0-9a-f]+)\](.*)$/i);
+    if (!found) return null;
+    const [, at, letters, from, to, rest] = found;
+    const base = number16(from);
+    return { base, length: number16(to) - base, mask: maskOf(letters), address: at ? number16(at) : base, otype: null, sealed: /seal|sentry/i.test(rest), tag: Number(!/invalid/i.test(rest)) };
+}
+
+/** `v:1 s:0 p:00078fff b:0000000000001000 l:0000000000000fff o:0 t:3ffff`: fields with a letter each. */
+function lettered(text) {
+    const found = Object.fromEntries([...text.matchAll(/\b([vspbloat])\s*[:=]\s*(?:0x)?([0-9a-f]+|-1)\b/gi)].map(([, name, value]) => [name.toLowerCase(), value]));
+    if (!("b" in found && "l" in found)) return null;
+    const base = number16(found.b);
+    const type = found.t === undefined || /^-1$|^f{4,}$/i.test(found.t) ? null : Number(number16(found.t));
+    return {
+        base, length: number16(found.l), mask: found.p ? Number(number16(found.p)) : 0, otype: type,
+        address: found.a ? number16(found.a) : BigInt.asUintN(64, base + number16(found.o ?? "0")), sealed: found.s === "1", tag: Number(found.v !== "0"),
+    };
+}
+
+/** The digits of a word, with a tag before or behind them. */
+function digitsIn(text) {
+    const parts = text.split(/[\s,:|_]+/).map((it) => it.replace(/^0x/i, "").toLowerCase()).filter((it) => it !== "");
+    if (parts.some((it) => !/^[0-9a-f]+$/.test(it))) return null;
+    const isTag = (it) => it === "0" || it === "1";
+    const whole = (words) => words.join("").length === 32;
+    // Halves may have lost their leading zeros.
+    const halves = (words) => words.length === 2 && words.every((it) => it.length > 2 && it.length <= 16) && words.map((it) => it.padStart(16, "0"));
+    for (const [words, tag] of [[parts, null], [parts.slice(1), parts[0]], [parts.slice(0, -1), parts.at(-1)]]) {
+        if (tag !== null && !isTag(tag)) continue;
+        const found = whole(words) ? words.join("") : halves(words) ? halves(words).join("") : null;
+        if (found) return { digits: found, tag: tag === null ? null : Number(tag), halves: words.length === 2 };
+    }
+    return null;
+}
+
+/** What a line has: a word's digits or the parts of one, with its tag and its register where these are told. */
+function pastedLine(text) {
+    const vs = text.match(/\bv\s*[:=]\s*([01])\b/i);
+    const parts = bracketed(text) ?? lettered(text);
+    const [named] = text.match(REGISTER) ?? [""];
+    const name = named.replace(/[^\w$]/g, "");
+    if (parts) return { name, parts, tag: parts.tag };
+    const tries = [[text, ""], [text.slice(named.length), name]];
+    for (const [rest, name] of tries) {
+        const found = digitsIn(rest.replace(/\b[vt](?:ag)?\s*[:=]\s*([01])\b/i, " ").replace(/[[\]()]/g, " ").trim());
+        if (found) return { name, ...found, tag: vs ? Number(vs[1]) : found.tag };
+    }
+    return null;
+}
+
+/** All that a text has, line by line. */
+const pasted = (text) => text.split("\n").map((it) => pastedLine(it.trim())).filter((it) => it !== null);
