@@ -37,14 +37,22 @@ module capcheck_c capcheck
 module capcheck_freestanding judge
 [ "${1:-}" != --module ] || exit 0
 
-# A line `@NAME@` of page.html is the file NAME.
 for module in capcheck judge; do
     gzip -9 -n < "web/out/$module.wasm" | base64 -w 120 > "web/out/$module.base64"
 done
+# A line `@NAME@` of page.html is the file NAME; of a script and the style without the lines that are remarks, and the
+# blanks before a line.
 awk '
     /^@[a-z0-9_.\/]+@$/ {
         name = "web/" substr($0, 2, length($0) - 2)
-        while ((got = (getline line < name)) > 0) print line
+        is_code = name ~ /[.](js|css)$/
+        remark = 0
+        while ((got = (getline line < name)) > 0) {
+            if (is_code) sub(/^ +/, "", line)
+            if (is_code && line ~ /^\/\*\*/) remark = 1
+            if (!remark && !(is_code && line ~ /^(\/\/.*)?$/)) print line
+            if (line ~ /\*\/$/) remark = 0
+        }
         if (got < 0) { print "build.sh: no file " name > "/dev/stderr"; exit 1 }
         close(name)
         next

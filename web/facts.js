@@ -103,6 +103,26 @@ function explained(f) {
     ];
 }
 
+/** A capability in a sentence: what it allows, where, and whether its address lies there. */
+function sentenceOf(c, f) {
+    const has = (name) => permissionNames(f.view).includes(name);
+    const list = (words) => words.join(", ").replace(/, ([^,]*)$/, " and $1");
+    const reach = (load, store) => list([...(has(load) ? ["read"] : []), ...(has(store) ? ["write"] : [])]);
+    const data = reach("Load", "Store");
+    const caps = [["read", "Load"], ["write", "Store"]].filter(([, name]) => has(name) && has(`${name} Capability`)).map(([verb]) => verb);
+    const both = data !== "" && list(caps) === data;
+    const can = [
+        ...(data ? [`${data} data${both ? " and capabilities" : ""}`] : []), ...(caps.length && !both ? [`${list(caps)} capabilities`] : []),
+        ...["Execute", "Seal", "Unseal"].filter(has).map((name) => name.toLowerCase()),
+    ];
+    if (!f.sound) return `Not sound: ${f.why}.`;
+    const type = f.kind === "unsealed" ? "" : `, ${f.kind === "sealed" ? "sealed with type" : "with the reserved type"} ${ox(f.fields.otype)}`;
+    const where = f.length > GREATEST ? "the whole address space" : `${decimal(f.length)} byte${f.length === 1n ? "" : "s"} from ${ox(f.bounds.base)}`;
+    const address = c.contains(f.word, f.fields.address, 1n) ? "the address lies in bounds" : `the address, ${ox(f.fields.address)}, lies outside the bounds`;
+    const says = `${can.length ? list(can) : "no access"}, ${where}${type}; ${address}`;
+    return f.tag ? `${says[0].toUpperCase()}${says.slice(1)}.` : `No tag, so it is data and allows nothing. With a tag: ${says}.`;
+}
+
 /** What setting the address gives: whether it keeps the bounds, those that the word has there, and what the
  * operation says. */
 function moved(c, cap, address) {

@@ -28,6 +28,17 @@ function exactly(digits, wanted) {
     throw new Refused(`${digits.length} digits, and there have to be ${wanted}: ${gap}.`);
 }
 
+/** The word that a text has in the register's order: its digits alone, or as others print it; of several lines the one
+ * that is chosen. With it what was told besides: a tag, a register, what the word can't have. */
+function foundIn(text) {
+    if (text.trim() === "") throw new Refused("Type 32 hexadecimal digits.");
+    const all = pasted(text);
+    const it = all[Number(chosen.which)] ?? all[0];
+    if (!it) return { all, word: read(exactly(digitsOf(text), 32)), tag: null, says: "" };
+    if (it.parts) return { all, ...it, ...madeOf(c, it.parts) };
+    return { all, says: "", ...it, word: read(it.digits) };
+}
+
 /** Spaces and underscores between digits, `0x` before them, and upper-case digits are taken. */
 function digitsOf(text) {
     const digits = text.trim().toLowerCase().replace(/^0x/, "").replace(/[\s_]/g, "");
@@ -109,14 +120,20 @@ const shown = { facts: null, domain: null, tried: null };
 
 function showCapability() {
     const order = document.querySelector("[name=order]:checked").value;
-    const word = taken("word", (text) => wordOf(text, order));
-    byId("capability").querySelector(".results").hidden = word === null;
+    const found = taken("word", (text) => (order === "memory" ? { all: [], word: wordOf(text, order), says: "" } : foundIn(text)));
+    byId("capability").querySelector(".results").hidden = found === null;
     shown.facts = null;
-    if (word === null) return;
+    showChoice(found?.all ?? []);
+    if (found === null) return;
+    const { word } = found;
     const facts = factsOf(c, { word, tag: Number(byId("tag").checked) });
     shown.facts = facts;
+    showTaken(found, facts, order);
+    byId("means").textContent = sentenceOf(c, facts);
+    byId("perms").replaceChildren(permissionsOf(facts));
+    byId("type").textContent = `Object type ${ox(facts.fields.otype)}, ${facts.kind}.`;
     fill("lines", explained(facts));
-    byId("lines").querySelectorAll("td")[3].append(permissionsOf(facts));
+    if (facts.sound) byId("lines").tBodies[0].rows[13].after(row(["length", `${ox(facts.length)}, ${decimal(facts.length)} bytes`, "no line of it, but the top less the base"]));
     showTried(facts);
     const { fields, scale, range } = facts;
     byId("range-says").textContent = range.every ? "Every address keeps these bounds: the representable range is the whole address space."
@@ -136,6 +153,38 @@ function showCapability() {
         ],
     }, widthOf("near") >= 660 ? Math.floor((widthOf("near") - 16) / 2) : widthOf("near"));
     byId("near").replaceChildren(figure("At the base", near(base, "base")), figure("At the top", near(top, "top")));
+}
+
+// What the link and the field say of lists that hang on another field's text.
+const chosen = { which: "0" };
+
+/** The words of a dump, of which one is chosen. */
+function showChoice(all) {
+    byId("choice").hidden = all.length < 2;
+    byId("which").replaceChildren(...all.map(({ name, tag, digits, parts }, k) => {
+        const says = `${name ? `${name}: ` : ""}${tag ?? ""} ${digits ?? `${ox(parts.base)} up to ${ox(parts.base + parts.length)}`}`;
+        return make("option", { value: k, ...(k === Number(chosen.which) ? { selected: "" } : {}) }, says.trim());
+    }));
+    byId("which").size = Math.min(8, Math.max(2, all.length));
+    document.querySelector("label[for=which]").textContent = `${all.length} capabilities: choose one`;
+}
+
+/** What was taken of a text that isn't just digits, and what it would be read the other way. */
+function showTaken({ says, name, parts, digits, isHalves }, facts, order) {
+    const plain = byId("word").value.trim().toLowerCase() === facts.text;
+    byId("taken").textContent = order === "memory" || plain ? "" : `Taken${name ? `, of ${name}` : ""}: ${facts.text}${parts ? ", made by the library" : ""}. ${says}`;
+    byId("offer").replaceChildren();
+    if (facts.sound || order === "memory" || !digits) return;
+    const offer = (text, label, act) => {
+        const button = make("button", { type: "button", class: "small" }, label);
+        button.addEventListener("click", () => { act(); changed(); });
+        byId("offer").append(`${text}: the other way it is sound. `, button, " ");
+    };
+    if (c.sound(c.fromMemory(Uint8Array.from(digits.match(/../g), (byte) => parseInt(byte, 16))))) {
+        offer("Looks like memory order", "Read it so", () => { byId("word").value = digits; setValue("order", "memory"); });
+    }
+    const turned = digits.slice(16) + digits.slice(0, 16);
+    if (isHalves && c.sound(read(turned))) offer("Looks like the low half first", "Turn the halves", () => { byId("word").value = turned; });
 }
 
 function permissionsOf({ view }) {
@@ -289,7 +338,7 @@ function outcome(mode, says, cap) {
 
 const VIEWS = { capability: showCapability, request: showRequest, operation: showOperation, log: showLog };
 const FIELDS = {
-    capability: ["word", "order", "tag", "to"],
+    capability: ["word", "which", "order", "tag", "to"],
     request: ["base", "length"],
     operation: ["do", "source", "sourcetag", "authority", "authoritytag", "value", "offset", "size"],
     log: ["text", "line"],
@@ -301,12 +350,18 @@ let writing = 0;
 const controlsOf = (name) => (name === "order" ? [...document.querySelectorAll("[name=order]")] : [byId(name)]);
 
 function valueOf(name) {
+    if (name in chosen) return chosen[name];
     const control = controlsOf(name).find((it) => it.type !== "radio" || it.checked);
     return control.type === "checkbox" ? String(Number(control.checked)) : control.value;
 }
 
 /** Whether a field can have a value; it then has it. */
 function setValue(name, value) {
+    if (name in chosen) {
+        const isNumber = /^\d{1,4}$/.test(value);
+        chosen[name] = isNumber ? value : "0";
+        return isNumber;
+    }
     const [control, ...others] = controlsOf(name);
     const choices = control.type === "radio" ? [control, ...others].map((it) => it.value)
         : control.type === "checkbox" ? ["0", "1"] : control.tagName === "SELECT" ? [...control.options].map((it) => it.value) : null;
@@ -391,6 +446,26 @@ async function copy(text, what) {
 
 // ---- What a person does ----
 
+/** A word from the fields of its parts. */
+function makeWord() {
+    const letters = (text) => (/^[rwxRWE]+$/.test(text.trim()) ? BigInt(maskOf(text.trim())) : text.trim() === "" ? 0x78fffn : numberOf(text));
+    const parts = {
+        base: taken("make-base", numberOf), length: taken("make-length", numberOf), mask: taken("make-perms", letters),
+        otype: taken("make-type", (text) => (text.trim() === "" ? 0x3ffff : numberOf(text) > 0x3ffffn ? refusedType() : Number(numberOf(text)))),
+    };
+    if (Object.values(parts).includes(null)) return;
+    const { word, says } = madeOf(c, { ...parts, address: parts.base });
+    setValue("order", "register");
+    byId("word").value = c.textOf(word);
+    byId("tag").checked = true;
+    changed();
+    byId("made").textContent = says;
+}
+
+function refusedType() {
+    throw new Refused("A type has 18 bits: 3ffff is unsealed.");
+}
+
 function tryAddress(address) {
     byId("to").value = hex(BigInt.asUintN(64, address), 16);
     changed();
@@ -420,10 +495,22 @@ function tryByKey(event) {
 }
 
 function listen() {
-    for (const name of Object.values(FIELDS).flat()) for (const control of controlsOf(name)) control.addEventListener("input", changed);
+    for (const name of Object.values(FIELDS).flat()) {
+        if (name !== "word" && !(name in chosen)) for (const control of controlsOf(name)) control.addEventListener("input", changed);
+    }
     for (const button of document.querySelectorAll("[data-view]")) {
         button.addEventListener("click", () => { if (view !== button.dataset.view) turnTo(button.dataset.view); });
     }
+    // A tag that stands in the text is that of the capability, until it is changed.
+    const takeTag = () => {
+        const [all, order] = [pasted(byId("word").value), valueOf("order")];
+        const tag = order === "register" ? (all[Number(chosen.which)] ?? all[0])?.tag : null;
+        if (tag !== null && tag !== undefined) byId("tag").checked = tag === 1;
+        changed();
+    };
+    byId("word").addEventListener("input", () => { chosen.which = "0"; takeTag(); });
+    byId("which").addEventListener("input", () => { chosen.which = byId("which").value; takeTag(); });
+    byId("make").addEventListener("click", makeWord);
     byId("copy-link").addEventListener("click", () => copy(location.href.split("#")[0] + linkTo(), "Link"));
     byId("copy-text").addEventListener("click", () =>
         copy(explained(shown.facts).map(([name, value]) => `${name} ${value}\n`).join(""), "Lines"));

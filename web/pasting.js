@@ -5,7 +5,7 @@
 // The permissions that a letter stands for in `[rwxRW,BASE-TOP]`.
 const LETTERS = { r: "Load", w: "Store", x: "Execute", R: "Load Capability", W: "Store Capability", E: "Access System Registers" };
 
-const REGISTER = /^\W*(?:c[0-9]{1,2}|c(?:zr?|ra|sp|gp|tp|fp|null|ul|lr|lrc|telr|pc|id|rsp|rddc|elr)|c[ast][0-9]{1,2}|p?cc|ddc|[a-z]+cc|[a-z]+dc|\$c\w+)\s*(?:[:=|]\s*|\s+)/i;
+const REGISTER = /^[^\w$]*(\$?(?:c\d{1,2}|c[ast]\d{1,2}|c[a-z]{2,5}|[a-z]*pcc|ddc|x\d{1,2}))\s*(?:[:=|]\s*|\s+)/i;
 
 const maskOf = (letters) => [...letters].reduce((mask, it) => mask | (PERMISSIONS.find(([, name]) => name === LETTERS[it])?.[0] ?? 0), 0);
 const number16 = (digits) => BigInt(`0x${digits.replace(/^0x/i, "")}`);
@@ -15,8 +15,13 @@ function bracketed(text) {
     const found = text.match(/(?:(0x[0-9a-f]+|\b[0-9a-f]+)\s*)?\[([rwxRWE]*),\s*(0x[0-9a-f]+)-(0x[0-9a-f]+)\](.*)$/i);
     if (!found) return null;
     const [, at, letters, from, to, rest] = found;
-    const base = number16(from);
-    return { base, length: number16(to) - base, mask: maskOf(letters), address: at ? number16(at) : base, otype: null, sealed: /seal|sentry/i.test(rest), tag: Number(!/invalid/i.test(rest)) };
+    const [base, top] = [number16(from), number16(to)];
+    if (top < base) return null;
+    const says = /seal|sentry/i.test(rest) ? "It is sealed, and the text doesn't say with which type. " : "";
+    return {
+        base, length: top - base, mask: maskOf(letters), address: at ? number16(at) : base, otype: null, tag: Number(!/invalid/i.test(rest)),
+        says: `${says}The letters tell no permission but ${Object.values(LETTERS).join(", ")}.`,
+    };
 }
 
 /** `v:1 s:0 p:00078fff b:0000000000001000 l:0000000000000fff o:0 t:3ffff`: fields with a letter each. */
@@ -27,7 +32,8 @@ function lettered(text) {
     const type = found.t === undefined || /^-1$|^f{4,}$/i.test(found.t) ? null : Number(number16(found.t));
     return {
         base, length: number16(found.l), mask: found.p ? Number(number16(found.p)) : 0, otype: type,
-        address: found.a ? number16(found.a) : BigInt.asUintN(64, base + number16(found.o ?? "0")), sealed: found.s === "1", tag: Number(found.v !== "0"),
+        address: found.a ? number16(found.a) : BigInt.asUintN(64, base + number16(found.o ?? "0")), tag: Number(found.v !== "0"),
+        says: found.s === "1" && type === null ? "It is sealed, and the text doesn't say with which type." : "",
     };
 }
 
@@ -42,7 +48,7 @@ function digitsIn(text) {
     for (const [words, tag] of [[parts, null], [parts.slice(1), parts[0]], [parts.slice(0, -1), parts.at(-1)]]) {
         if (tag !== null && !isTag(tag)) continue;
         const found = whole(words) ? words.join("") : halves(words) ? halves(words).join("") : null;
-        if (found) return { digits: found, tag: tag === null ? null : Number(tag), halves: words.length === 2 };
+        if (found) return { digits: found, tag: tag === null ? null : Number(tag), isHalves: words.length === 2 };
     }
     return null;
 }
@@ -51,11 +57,9 @@ function digitsIn(text) {
 function pastedLine(text) {
     const vs = text.match(/\bv\s*[:=]\s*([01])\b/i);
     const parts = bracketed(text) ?? lettered(text);
-    const [named] = text.match(REGISTER) ?? [""];
-    const name = named.replace(/[^\w$]/g, "");
-    if (parts) return { name, parts, tag: parts.tag };
-    const tries = [[text, ""], [text.slice(named.length), name]];
-    for (const [rest, name] of tries) {
+    const [named, register = ""] = text.match(REGISTER) ?? [""];
+    if (parts) return { name: register, parts, tag: parts.tag };
+    for (const [rest, name] of [[text, ""], [text.slice(named.length), register]]) {
         const found = digitsIn(rest.replace(/\b[vt](?:ag)?\s*[:=]\s*([01])\b/i, " ").replace(/[[\]()]/g, " ").trim());
         if (found) return { name, ...found, tag: vs ? Number(vs[1]) : found.tag };
     }
@@ -64,3 +68,17 @@ function pastedLine(text) {
 
 /** All that a text has, line by line. */
 const pasted = (text) => text.split("\n").map((it) => pastedLine(it.trim())).filter((it) => it !== null);
+
+/** The word with given parts, as the library makes it: bounds, permissions and the address set from all of memory, and
+ * the type put in. It says what the word can't have. */
+function madeOf(c, { base, length, mask, address, otype, says = "" }) {
+    const whole = { word: almighty(c, base), tag: 1 };
+    const bounded = length > GREATEST ? whole : c.setBoundsClear(whole, length, false);
+    const allowed = c.andPermClear(bounded, BigInt(mask));
+    const { word } = c.setAddrClear(allowed, address);
+    const bounds = c.decode(allowed.word);
+    const exact = bounds.base === base && bounds.top === base + length;
+    const rounded = exact ? "" : `No word has the bounds ${span({ base, top: base + length })}: these are rounded to ${span(bounds)}. `;
+    const lost = c.keepsBounds(allowed.word, address) ? "" : `At the address ${ox(address)} no word keeps these bounds. `;
+    return { word: otype === null ? word : c.join({ ...c.split(word), otype }).word, says: `${rounded}${lost}${says}` };
+}
