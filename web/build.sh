@@ -5,7 +5,8 @@
 #   sh web/build.sh           the modules and the page
 #   sh web/build.sh --module  the modules alone, web/out/capcheck.wasm and web/out/judge.wasm
 #
-# RT_LIB may name another command in place of `rt lib`.
+# RT_LIB may name another command in place of `rt lib`, and PAGES where the links of the page lead to in place of this
+# checkout.
 set -eu
 cd "$(dirname "$0")/.."
 kit=$(dirname "$(rt doc)")
@@ -57,6 +58,6 @@ awk '
         close(name)
         next
     }
-    { print }
-' web/page.html > web/out/capcheck.html
+    { gsub(/@pages@/, pages); print }
+' pages="${PAGES:-../..}" web/page.html > web/out/capcheck.html
 echo "web/out/capcheck.html: $(wc -c < web/out/capcheck.html) bytes, of which the modules are $(cat web/out/*.base64 | wc -c)"

@@ -27,8 +27,10 @@ function scaled(from, size, left, right) {
 
 const LETTER = { number: 7.4, note: 6.6, strong: 8.2 };
 
-/** Places labels of two lines below points of an axis, so that none lies on another or on another's leader. */
+/** Places labels of two lines below points of an axis, or of one where there are no notes, so that none lies on another
+ * or on another's leader. */
 function labels(points, width, top) {
+    const high = points.some(({ note }) => note) ? 36 : 21;
     const merged = [];
     for (const { x, number, note } of points) {
         const same = merged.find((it) => it.number === number && Math.abs(it.x - x) < 1);
@@ -41,14 +43,14 @@ function labels(points, width, top) {
     for (let rows = 1; !placed && rows <= merged.length + 1; rows++) placed = placing(merged, [], rows, width);
     placed = placed || merged.map((it, row) => ({ ...it, row, anchor: "start", left: Math.min(it.x, width - it.width) }));
     const nodes = placed.flatMap(({ x, number, note, row, anchor, left, width: w }) => {
-        const y = top + row * 36;
+        const y = top + row * high;
         const text = anchor === "middle" ? left + w / 2 : anchor === "start" ? left : left + w;
         return [
-            line(x, top - 6, x, y + (anchor === "middle" ? 2 : 30), "leader"),
-            words(text, y + 14, number, "number", anchor), words(text, y + 29, note, "note", anchor),
+            line(x, top - 6, x, y + (anchor === "middle" ? 2 : high - 6), "leader"),
+            words(text, y + 14, number, "number", anchor), ...(note ? [words(text, y + 29, note, "note", anchor)] : []),
         ];
     });
-    return { nodes, height: Math.max(0, ...placed.map((it) => it.row + 1)) * 36 };
+    return { nodes, height: Math.max(0, ...placed.map((it) => it.row + 1)) * high };
 }
 
 function placing(wanted, placed, rows, width) {
@@ -152,10 +154,11 @@ function marker(domain, tried, width, low) {
     const text = place < 0 ? `← ${says}` : place > width ? `${says} →` : says;
     const half = (text.length * LETTER.strong) / 2;
     return [
-        words(Math.max(half, Math.min(width - half, at)), 14, text, `number ${kind}`),
+        ...(tried.typed ? [words(Math.max(half, Math.min(width - half, at)), 14, text, `number ${kind}`)] : []),
         line(at, 34, domain.cut(domain.place(tried.address)), low, kind),
         shape("circle", { cx: at, cy: 34, r: 10, class: kind }),
-        tried.keeps ? shape("path", { d: `M${at - 4} 34l3 4l5 -7`, class: "sign" })
+        !tried.typed ? shape("path", { d: `M${at - 2} 30l-4 4l4 4m4 -8l4 4l-4 4`, class: "sign" })
+            : tried.keeps ? shape("path", { d: `M${at - 4} 34l3 4l5 -7`, class: "sign" })
             : shape("path", { d: `M${at - 4} 30l8 8m0 -8l-8 8`, class: "sign" }),
     ];
 }

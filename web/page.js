@@ -116,6 +116,20 @@ function figure(caption, drawing) {
     return make("figure", { role: "img", "aria-label": caption }, make("figcaption", {}, caption), drawing);
 }
 
+const opened = new Set();
+
+/** A word that opens a line of text. */
+function term(name, text) {
+    const button = make("button", { type: "button", class: "term", "data-term": name, "aria-expanded": String(opened.has(name)) }, text);
+    return opened.has(name) ? [button, make("span", { class: "meaning" }, TERMS[name])] : [button];
+}
+
+function openTerm(name) {
+    if (!opened.delete(name)) opened.add(name);
+    show();
+    document.querySelector(`section:not([hidden]) [data-term=${name}]`)?.focus();
+}
+
 const shown = { facts: null, domain: null, tried: null };
 
 function showCapability() {
@@ -133,12 +147,20 @@ function showCapability() {
     byId("perms").replaceChildren(permissionsOf(facts));
     byId("type").textContent = `Object type ${ox(facts.fields.otype)}, ${facts.kind}.`;
     fill("lines", explained(facts));
+    for (const it of byId("lines").tBodies[0].rows) {
+        const [{ textContent: name }] = it.cells;
+        if (!(name in TERMS)) continue;
+        const [button, ...meaning] = term(name, name);
+        it.cells[0].replaceChildren(button);
+        it.cells[1].append(...meaning);
+    }
     if (facts.sound) byId("lines").tBodies[0].rows[13].after(row(["length", `${ox(facts.length)}, ${decimal(facts.length)} bytes`, "no line of it, but the top less the base"]));
     showTried(facts);
     const { fields, scale, range } = facts;
-    byId("range-says").textContent = range.every ? "Every address keeps these bounds: the representable range is the whole address space."
-        : `The representable range is ${ox(range.size)} addresses from ${ox(range.start)} on, 2^14 units of 2^${scale.cut} bytes; `
-        + "a tick is an eighth of it. Where an address leaves it, the digits mean other bounds.";
+    byId("range-says").replaceChildren(...(range.every
+        ? ["Every address keeps these bounds: the ", ...term("range", "representable range"), " is the whole address space."]
+        : ["The ", ...term("range", "representable range"), ` is ${ox(range.size)} addresses from ${ox(range.start)} on, 2^14 units of `
+            + `2^${scale.cut} bytes; a tick is an eighth of it. Where an address leaves it, the digits mean other bounds.`]));
     byId("grid-says").textContent = (fields.ie
         ? `E is ${fields.e}. A short tick is a unit, 2^${scale.cut} bytes; a bound can lie at each long one, `
             + `8 units, ${ox(scale.step)} bytes apart.`
@@ -198,16 +220,17 @@ function showTried(facts) {
     const address = typed ? taken("to", numberOf) : facts.fields.address;
     if (!typed) refuse("to", "");
     const cap = { word: facts.word, tag: facts.tag };
-    const tried = address === null ? null : moved(c, cap, address);
+    const tried = address === null ? null : { ...moved(c, cap, address), typed };
     const { svg, domain } = rangeDrawing(facts, tried, widthOf("range"));
     byId("range").replaceChildren(svg);
     Object.assign(shown, { domain, tried });
-    byId("take").disabled = tried === null;
-    byId("to-says").replaceChildren(...(tried ? triedText(facts, tried) : []));
+    byId("take").disabled = !typed || tried === null;
+    byId("to-says").replaceChildren(...(typed && tried ? triedText(facts, tried) : []));
     if (!tried) return;
     const place = domain.cut(domain.place(address)) / (domain.right - domain.left);
     byId("range").setAttribute("aria-valuenow", String(Math.round(place * 1000)));
-    byId("range").setAttribute("aria-valuetext", `${ox(address)}, ${tried.keeps ? "keeps the bounds" : "loses the bounds"}`);
+    byId("range").setAttribute("aria-valuetext", 
+        typed ? `${ox(address)}, ${tried.keeps ? "keeps the bounds" : "loses the bounds"}` : `${ox(address)}, the address itself`);
 }
 
 function triedText(facts, tried) {
@@ -289,40 +312,46 @@ function showOperation() {
         const word = taken(id, (text) => wordOf(text, "register"));
         return word && { word, tag: Number(byId(`${id}tag`).checked) };
     };
-    const given = { source: cap("source") };
+    const given = {};
+    if (takes.includes("source")) given.source = cap("source");
     if (takes.includes("authority")) given.authority = cap("authority");
     if (value) given.value = taken("value", numberOf);
     if (takes.includes("offset")) given.offset = taken("offset", offsetOf);
     if (takes.includes("size")) given.size = BigInt(byId("size").value);
     const whole = Object.values(given).every((it) => it !== null);
     byId("operation").querySelector(".results").hidden = !whole;
-    if (whole) byId("outcomes").replaceChildren(...outcomes(byId("do").value, operation, given));
+    if (!whole) return;
+    byId("outcomes").replaceChildren(...outcomes(byId("do").value, operation, given));
+    const bars = rangesOf(c, operation, given);
+    byId("ranges").setAttribute("aria-label", bars.map(({ name, ...it }) => `${name} ${span(it)}`).join("; "));
+    byId("ranges").replaceChildren(axisDrawing(bars, widthOf("ranges")));
 }
 
 function outcomes(name, operation, given) {
     if (operation.access) {
         const { address, refusal: number } = operation.access(c, given);
-        if (number) return [refused("In both modes", name, given, number)];
+        if (number) return [refused(["In both modes"], name, given, number)];
         const cap = operation.result && operation.result(c, given);
         const what = { lc: "the register gets", sc: "memory gets" }[name];
-        return [outcome("In both modes", `Allowed, at ${ox(address)}${what ? `; ${what}` : ""}`, cap)];
+        return [outcome(["In both modes"], `Allowed, at ${ox(address)}${what ? `; ${what}` : ""}`, cap)];
     }
     const strict = operation.strict(c, given);
     const clear = operation.clear(c, given);
+    const headings = { Strict: term("strict", "Strict"), Clear: term("clear", "Clear") };
     const lost = strict.refusal && given.source.tag ? `The result has no tag: ${refusal(strict.refusal)}` : "The result";
     return [
-        strict.refusal ? refused("Strict", name, given, strict.refusal) : outcome("Strict", "The result", strict.cap),
-        outcome("Clear", lost, clear),
+        strict.refusal ? refused(headings.Strict, name, given, strict.refusal) : outcome(headings.Strict, "The result", strict.cap),
+        outcome(headings.Clear, lost, clear),
     ];
 }
 
 function refused(mode, name, given, number) {
-    return make("div", { class: "outcome refused" }, make("h3", {}, mode),
+    return make("div", { class: "outcome refused" }, make("h3", {}, ...mode),
         make("p", {}, "Refused: ", make("span", { class: "name" }, refusal(number))), make("p", {}, compared(c, name, given, number)));
 }
 
 function outcome(mode, says, cap) {
-    const made = make("div", { class: "outcome" }, make("h3", {}, mode), make("p", {}, says));
+    const made = make("div", { class: "outcome" }, make("h3", {}, ...mode), make("p", {}, says));
     if (!cap) return made;
     const text = c.textOf(cap.word);
     const link = new URLSearchParams({ show: "capability", word: text, order: "register", tag: cap.tag, to: "" });
@@ -530,6 +559,11 @@ function listen() {
         tryAtPixel(event);
     });
     range.addEventListener("pointermove", (event) => { if (range.hasPointerCapture(event.pointerId)) tryAtPixel(event); });
+    // What is typed is in the address before a link leads elsewhere, so that going back leads to it.
+    addEventListener("click", ({ target }) => {
+        if (target.closest('a[href^="#"]')) history.replaceState(null, "", linkTo());
+        if (target.dataset.term) openTerm(target.dataset.term);
+    }, { capture: true });
     addEventListener("hashchange", restore);
     addEventListener("resize", () => requestAnimationFrame(show));
 }
