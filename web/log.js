@@ -98,7 +98,7 @@ function showVerdict() {
     log.report = state === 2 ? reportOf(text) : null;
     const first = state === 1 ? "Yes: a run of the machine." : state === 2 ? `No: line ${decimal(line)} is at fault.` : "No verdict.";
     const second = state === 1 ? `${counted(steps, "step")} from ${counted(roots, "root")}.`
-        : state === 2 ? `${refusal} ${log.report.refusal}: ${REFUSALS[log.report.refusal]}.` : "There wasn't memory enough.";
+        : state === 2 ? `${refusal} ${log.report.refusal}: ${REFUSALS[log.report.refusal] ?? ""}.` : "There wasn't memory enough.";
     byId("verdict").className = `verdict ${state === 1 ? "yes" : "no"}`;
     byId("verdict").replaceChildren(make("b", {}, first), " ", make("span", {}, second), " ",
         make("small", {}, `${log.name ? `${log.name}, ` : ""}${counted(count, "line")}, ${sizeOf(log.size)}, judged in ${decimal(Math.ceil(took))} ms`));

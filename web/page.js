@@ -196,17 +196,21 @@ function showTaken({ says, name, parts, digits, isHalves }, facts, order) {
     const plain = byId("word").value.trim().toLowerCase() === facts.text;
     byId("taken").textContent = order === "memory" || plain ? "" : `Taken${name ? `, of ${name}` : ""}: ${facts.text}${parts ? ", made by the library" : ""}. ${says}`;
     byId("offer").replaceChildren();
-    if (facts.sound || order === "memory" || !digits) return;
-    const offer = (text, label, act) => {
+    // Almost any digits are sound: what a word is likely to be has its address in its bounds too.
+    const isLikely = (it) => c.sound(it) && c.contains(it, c.split(it).address, 1n);
+    if (isLikely(facts.word) || order === "memory" || !digits) return;
+    const offer = (other, text, label, act) => {
+        if (!isLikely(other)) return;
         const button = make("button", { type: "button", class: "small" }, label);
         button.addEventListener("click", () => { act(); changed(); });
-        byId("offer").append(`${text}: the other way it is sound. `, button, " ");
+        byId("offer").append(`${text}: the other way it is sound${facts.sound ? ", and its address lies in its bounds" : ""}. `, button, " ");
     };
-    if (c.sound(c.fromMemory(Uint8Array.from(digits.match(/../g), (byte) => parseInt(byte, 16))))) {
-        offer("Looks like memory order", "Read it so", () => { byId("word").value = digits; setValue("order", "memory"); });
-    }
+    offer(c.fromMemory(Uint8Array.from(digits.match(/../g), (byte) => parseInt(byte, 16))), "Looks like memory order", "Read it so", () => {
+        byId("word").value = digits;
+        setValue("order", "memory");
+    });
     const turned = digits.slice(16) + digits.slice(0, 16);
-    if (isHalves && c.sound(read(turned))) offer("Looks like the low half first", "Turn the halves", () => { byId("word").value = turned; });
+    if (isHalves) offer(read(turned), "Looks like the low half first", "Turn the halves", () => { byId("word").value = turned; });
 }
 
 function permissionsOf({ view }) {

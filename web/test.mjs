@@ -7,6 +7,8 @@ import { Browser } from "./tests/browser.mjs";
 import { address, capability, count, file, same, STATES, tools } from "./tests/given.mjs";
 import * as logs from "./tests/logs.mjs";
 import * as module from "./tests/module.mjs";
+import * as pasting from "./tests/pasting.mjs";
+import * as stepping from "./tests/stepping.mjs";
 import * as use from "./tests/use.mjs";
 
 // Each group of checks takes the page, and may say something of what it saw.
@@ -19,6 +21,13 @@ const GROUPS = {
     badInputIsRefused: answers.badInputIsRefused,
     logsAreJudged: logs.logsAreJudged,
     longLogsAreJudged: logs.longLogsAreJudged,
+    logsAreOpened: stepping.logsAreOpened,
+    linesAreStepped: stepping.linesAreStepped,
+    shortLogsAreJudged: stepping.shortLogsAreJudged,
+    logsAreUsable: stepping.logsAreUsable,
+    changedJudges: stepping.changedJudges,
+    pastedIsTaken: pasting.pastedIsTaken,
+    putRight: pasting.putRight,
     linksRestore: use.linksRestore,
     addressMoves: use.addressMoves,
     usableByKeys: use.usableByKeys,

@@ -4,14 +4,14 @@ import fs from "node:fs";
 import os from "node:os";
 import path from "node:path";
 
-import { address, check, file, hash, root, same, text, tools } from "./given.mjs";
+import { check, file, root, same, text } from "./given.mjs";
 
-const CAPCHECK = process.env.CAPCHECK ?? file("crates/capcheck/out/capcheck");
-const CAPDIAG = process.env.CAPDIAG ?? file("crates/capdiag/out/capdiag");
-const examples = fs.readdirSync(file("examples")).filter((name) => name.endsWith(".log"));
+export const CAPCHECK = process.env.CAPCHECK ?? file("crates/capcheck/out/capcheck");
+export const CAPDIAG = process.env.CAPDIAG ?? file("crates/capdiag/out/capdiag");
+export const examples = fs.readdirSync(file("examples")).filter((name) => name.endsWith(".log"));
 
 /** What a program prints of a log: its verdict, and the report or the origins. */
-function printed(program, words, log) {
+export function printed(program, words, log) {
     const { stdout, error } = spawnSync(program, words, { input: Buffer.from(log, "latin1"), maxBuffer: 1 << 28 });
     if (error) throw new Error(`${program}: ${error.message}; build it, or name one by CAPCHECK and CAPDIAG`);
     return stdout.toString();
@@ -87,7 +87,7 @@ export async function logsAreJudged(page) {
 
 /** Logs at random, made in the page: roots, steps with the results that the library gives, and in most of them a
  * change somewhere. What is right of them, the programs say. */
-const drawnLogs = (count, others) => {
+export const drawnLogs = (count, others) => {
     let seed = 5;
     const random = (below) => {
         seed = (seed + 0x6d2b79f5) | 0;
@@ -195,7 +195,7 @@ const drawnLogs = (count, others) => {
 };
 
 /** A file of the disk is opened by the page's button: what it takes, and the longest time in which the page did nothing. */
-async function opened(page, name) {
+export async function opened(page, name) {
     const { root: top } = await page.send("DOM.getDocument");
     const { nodeId } = await page.send("DOM.querySelector", { nodeId: top.nodeId, selector: "#file" });
     await page.run(() => {

@@ -171,7 +171,7 @@ export async function everythingHasAName(page) {
 }
 
 /** The contrast of every text with what it stands on, and of what is drawn with the paper. */
-const contrasts = () => {
+export const contrasts = () => {
     const parse = (colour) => colour.match(/[\d.]+/g).map(Number);
     const light = (colour) => {
         const [r, g, b] =
@@ -232,6 +232,24 @@ export async function contrastSuffices(page) {
     return `least contrast of a text ${least.toFixed(2)}`;
 }
 
+/** Whether the page is as wide as the screen, which texts of drawings lie outside, and which on another. */
+export const overlaps = () => {
+    const boxes = [...document.querySelectorAll("svg text")]
+                      .filter((it) => visible(it) && it.textContent)
+                      .map((it) => [it.textContent, it.getBoundingClientRect(), it.closest("svg").getBoundingClientRect(),
+                               it.closest("svg")]);
+    const lie = boxes
+                    .filter(([, box, frame]) =>
+                                box.left < frame.left - 1 || box.right > frame.right + 1 || box.bottom > frame.bottom + 1)
+                    .map(([name]) => name);
+    const over = [];
+    boxes.forEach(([name, a, , svg], k) => boxes.slice(k + 1).forEach(([other, b, , its]) => {
+        if (svg === its && a.left < b.right - 1 && b.left < a.right - 1 && a.top < b.bottom - 3 && b.top < a.bottom - 3)
+            over.push(`${name} on ${other}`);
+    }));
+    return [document.documentElement.scrollWidth <= innerWidth, lie, over];
+};
+
 /** No text of a drawing lies on another or outside, and the page isn't wider than the screen. */
 export async function fitsTheScreen(page) {
     const more = [
@@ -246,22 +264,7 @@ export async function fitsTheScreen(page) {
                  hash({ show: "request", base: "fffffffffffff000", length: "1000" })]) {
             await page.go(address + link);
             await page.run(tools);
-            const got = await page.run(() => {
-                const boxes = [...document.querySelectorAll("svg text")]
-                                  .filter((it) => visible(it) && it.textContent)
-                                  .map((it) => [it.textContent, it.getBoundingClientRect(), it.closest("svg").getBoundingClientRect(),
-                                           it.closest("svg")]);
-                const lie = boxes
-                                .filter(([, box, frame]) =>
-                                            box.left < frame.left - 1 || box.right > frame.right + 1 || box.bottom > frame.bottom + 1)
-                                .map(([name]) => name);
-                const over = [];
-                boxes.forEach(([name, a, , svg], k) => boxes.slice(k + 1).forEach(([other, b, , its]) => {
-                    if (svg === its && a.left < b.right - 1 && b.left < a.right - 1 && a.top < b.bottom - 3 && b.top < a.bottom - 3)
-                        over.push(`${name} on ${other}`);
-                }));
-                return [document.documentElement.scrollWidth <= innerWidth, lie, over];
-            });
+            const got = await page.run(overlaps);
             same(got, [true, [], []], `${width} pixels: ${link}`);
         }
     }
