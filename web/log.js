@@ -117,7 +117,7 @@ function reportShown(report) {
     const bars = [
         ...Object.entries(caps).map(([name, { bounds }]) => ({ name, base: BigInt(`0x${bounds[0]}`), top: BigInt(`0x${bounds[1]}`), kind: "bounds" })),
         ...Object.entries(spans).map(([name, it]) => ({ name, ...it, kind: name === "representable" ? "range" : "asked" })),
-    ];
+    ].filter(({ base, top }) => base <= top).sort((one, other) => ORDER.indexOf(one.name) - ORDER.indexOf(other.name));
     if (bars.length > 1) {
         const says = bars.map(({ name, ...it }) => `${name} ${span(it)}`).join("; ");
         shown.push(make("div", { class: "drawing", role: "img", "aria-label": says }, axisDrawing(bars, widthOf("why"))));

@@ -42,6 +42,7 @@ const SPANS = {
     request: "the bounds that are asked for", rounded: "what they are rounded to", moved: "the bounds at the new address",
     representable: "the addresses that keep the source's bounds", access: "the bytes that the step reaches",
 };
+const ORDER = [...CAPABILITIES.slice(0, 4), ...Object.keys(SPANS), "gives", "recorded"];
 const COUNTS = { roots: "taken before it", steps: "taken before it", granules: "named before it", length: "of the root, in bytes" };
 
 /** A report by the names of its lines. */
