@@ -1,0 +1,16 @@
+use Rattle.cap_answers.proofs.TextLemmas.{told_from}
+use Rattle.capcheck_judge.proofs.reports.write_report.Goals as goal
+
+pub returns-in-Ok : goal.returns-in-Ok
+returns-in-Ok c = λ bytes read.
+    let so_far = c.in-Ok.ensures.ok bytes read in
+    record {
+      verdict = so_far.0;
+      text = so_far.1;
+      explains = so_far.2;
+      told = told_from c.new-sink.result c.push_refused.new.sink so_far.1 c.args.text.now c.length.result c.new-sink.ensures.none
+          c.new-sink.ensures.room c.length.ensures.count so_far.3;
+    }
+
+pub returns-in-Err : goal.returns-in-Err
+returns-in-Err c = λ bytes read. absurd (omega arith)
