@@ -1,12 +1,10 @@
 -- The report of a first fault: it is that of the place where the judge stopped.
-use Rattle.std.proofs.Common.{◌≡◌, ◌≢◌, ℕ, Bool, true, false, List, [], ◌++◌, refl, sym, ap, subst, Ok, Err, Result, OnOk, OnErr, Some}
+use Rattle.std.proofs.Common.{◌≡◌, ℕ, Bool, true, false, List, [], ◌++◌, refl, sym, ap, subst, Ok, Err, Result, OnOk, OnErr, Some}
 use Rattle.std.specs.Bool.{if◌then◌else◌}
 use Rattle.cap_ops.specs.declared.refusal.Refusal.{Refusal}
 use Rattle.cap_machine.specs.Accounts.{Account}
 use Rattle.cap_machine.specs.Helds.{Held, account_of}
 use Rattle.cap_judge.specs.declared.faults.Fault.{Fault}
-use Rattle.cap_judge.specs.declared.verdict.JudgeFault.{JudgeFault}
-use Rattle.cap_judge.specs.declared.verdict.JudgeFault.TheVariants as faults
 use Rattle.cap_judge.specs.declared.verdict.Verdict.{Verdict}
 use Rattle.cap_judge.specs.declared.verdict.Verdict.TheVariants.{Yes, No}
 use Rattle.cap_judge.specs.Judgings.{IsVerdictOf, IsAnswerOf, LeadsAfter, StopsBefore, StopsIn}
@@ -66,12 +64,6 @@ pub why_no : (origins : Bool) (held : Held) (text : List ℕ) (verdict : Verdict
     → IsLineReport (account_of held) text refusal report → IsWhyText origins held text verdict (verdict_line verdict ++ report)
 why_no origins held text verdict line refusal report is by =
     subst (λ (v : Verdict). IsWhyText origins held text v (verdict_line v ++ report)) (sym is) (report, by, refl)
-
--- no verdict for want of memory
-pub lacks : (bytes : List ℕ) (fault : JudgeFault) → fault ≢ faults.Pull → IsAnswerOf bytes true (Err fault)
-    → IsAnswerOf bytes true (Err faults.NoMemory)
-lacks bytes faults.Pull other answer = absurd (other refl)
-lacks bytes faults.NoMemory other answer = answer
 
 -- the text of a line at fault that a judge was handed
 pub so_far : (bytes : List ℕ) (held : Held) (fault : Fault) (report : List ℕ) → StandsIn held bytes (Some fault)

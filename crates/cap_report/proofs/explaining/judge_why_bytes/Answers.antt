@@ -1,14 +1,14 @@
-use Rattle.std.proofs.Common.{Err, ap, subst}
+use Rattle.std.proofs.Common.{subst}
 use Rattle.cap_machine.specs.Helds.{held_of}
 use Rattle.cap_judge.specs.FaultLines.{bytes_of}
 use Rattle.cap_judge.specs.Judgings.{JudgedAll}
 use Rattle.cap_judge.proofs.EscapeLaws.{named}
 use Rattle.cap_judge.proofs.ReportLemmas.{IsHeld}
-use Rattle.cap_report.proofs.WhyLemmas.{lacks, told}
+use Rattle.cap_report.proofs.WhyLemmas.{told}
 use Rattle.cap_report.proofs.explaining.judge_why_bytes.Goals as goal
 
-pub returns-in-Ok-in-Ok-clause-explained : goal.returns-in-Ok-in-Ok-clause-explained
-returns-in-Ok-in-Ok-clause-explained g c =
+pub returns-in-Ok-push_why-clause-explained : goal.returns-in-Ok-push_why-clause-explained
+returns-in-Ok-push_why-clause-explained g c =
     let machine = c.judge_bytes_keeping-answer.result.machine in
     let held = held_of g.M.TaggedStore.contents machine in
     let text = bytes_of c.judge_bytes_keeping-answer.result.fault in
@@ -18,15 +18,15 @@ returns-in-Ok-in-Ok-clause-explained g c =
       stored = g.met.M.TaggedStore.are_stored machine.memory;
     } in
     let all = subst (λ r. JudgedAll c.args.bytes.now r held text) c.in-Ok.is c.judge_bytes_keeping-answer.ensures.judged in
-    let why = c.push_why.ensures.ok in (
+    let why = c.in-Ok-push_why.ensures.ok in (
       all.answer,
       why.0,
       told c.args.origins c.args.bytes.now _ held text c.in-Ok.verdict why.0 is all.answer all.leads all.stops why.1,
       why.2,
     )
 
-pub returns-in-Ok-in-Err-clause-explained : goal.returns-in-Ok-in-Err-clause-explained
-returns-in-Ok-in-Err-clause-explained g c =
+pub returns-in-Ok-clause-explained : goal.returns-in-Ok-clause-explained
+returns-in-Ok-clause-explained g c =
     let machine = c.judge_bytes_keeping-answer.result.machine in
     let held = held_of g.M.TaggedStore.contents machine in
     let text = bytes_of c.judge_bytes_keeping-answer.result.fault in
@@ -36,7 +36,7 @@ returns-in-Ok-in-Err-clause-explained g c =
       stored = g.met.M.TaggedStore.are_stored machine.memory;
     } in
     let all = subst (λ r. JudgedAll c.args.bytes.now r held text) c.in-Ok.is c.judge_bytes_keeping-answer.ensures.judged in
-    let why = c.push_why.ensures.err in (
+    let why = c.in-Err-push_why.ensures.err in (
       c.in-Ok.verdict,
       all.answer,
       why.0,
@@ -45,8 +45,5 @@ returns-in-Ok-in-Err-clause-explained g c =
       why.3,
     )
 
-pub returns-in-Err-clause-explained : goal.returns-in-Err-clause-explained
-returns-in-Err-clause-explained g c = ?
-
-pub returns-in-Ok-in-Ok-clause-escape : goal.returns-in-Ok-in-Ok-clause-escape
-returns-in-Ok-in-Ok-clause-escape g c = named c.in-Ok.verdict
+pub returns-in-Ok-push_why-clause-escape : goal.returns-in-Ok-push_why-clause-escape
+returns-in-Ok-push_why-clause-escape g c = named c.in-Ok.verdict

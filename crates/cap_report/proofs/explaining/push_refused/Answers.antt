@@ -1,4 +1,4 @@
-use Rattle.std.proofs.Common.{◌++◌, ℕ, List, Some, subst, take}
+use Rattle.std.proofs.Common.{◌++◌, Some, subst, take}
 use Rattle.cap_machine.specs.Helds.{account_of}
 use Rattle.cap_judge.specs.FaultLines.{bytes_of}
 use Rattle.cap_judge.specs.Readings.{known_of}
