@@ -10,4 +10,4 @@ pub told_from : (first last : TextSink) (text old : List ℕ) (count : ℕ) → 
 told_from first last text old count none room is took =
     subst (λ (n : ℕ). IsTold 0 n text old last.room.now) (sym is)
     (subst (λ (o : List ℕ). IsTold 0 last.length text o last.room.now) room
-        (subst (λ (n : ℕ). IsTold n last.length text first.room.now last.room.now) none took.1))
+    (subst (λ (n : ℕ). IsTold n last.length text first.room.now last.room.now) none took.1))
