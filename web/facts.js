@@ -16,6 +16,7 @@ const permissionNames = (view) => PERMISSIONS.filter(([bit]) => view & bit).map(
 
 const hex = (number, digits = 1) => number.toString(16).padStart(digits, "0");
 const decimal = (number) => number.toString().replace(/\B(?=(\d{3})+$)/g, ",");
+const counted = (count, what) => `${decimal(count)} ${what}${count == 1 ? "" : "s"}`;
 const ox = (number) => `0x${hex(number)}`;
 const span = ({ base, top }) => `${ox(base)} up to ${ox(top)}`;
 
@@ -112,14 +113,16 @@ function sentenceOf(c, f) {
     const caps = [["read", "Load"], ["write", "Store"]].filter(([, name]) => has(name) && has(`${name} Capability`)).map(([verb]) => verb);
     const both = data !== "" && list(caps) === data;
     const can = [
-        ...(data ? [`${data} data${both ? " and capabilities" : ""}`] : []), ...(caps.length && !both ? [`${list(caps)} capabilities`] : []),
+        ...(data ? [`${data} data${both ? " and capabilities" : ""}`] : []),
+        ...(caps.length && !both ? [`${list(caps)} capabilities`] : []),
         ...["Execute", "Seal", "Unseal"].filter(has).map((name) => name.toLowerCase()),
     ];
     if (!f.sound) return `Not sound: ${f.why}.`;
-    const type = f.kind === "unsealed" ? "" : `, ${f.kind === "sealed" ? "sealed with type" : "with the reserved type"} ${ox(f.fields.otype)}`;
-    const where = f.length > GREATEST ? "the whole address space" : `${decimal(f.length)} byte${f.length === 1n ? "" : "s"} from ${ox(f.bounds.base)}`;
-    const address = c.contains(f.word, f.fields.address, 1n) ? "the address lies in bounds" : `the address, ${ox(f.fields.address)}, lies outside the bounds`;
-    const says = `${can.length ? list(can) : "no access"}, ${where}${type}; ${address}`;
+    const { address, otype } = f.fields;
+    const type = f.kind === "unsealed" ? "" : `, ${f.kind === "sealed" ? "sealed with type" : "with the reserved type"} ${ox(otype)}`;
+    const where = f.length > GREATEST ? "the whole address space" : `${counted(f.length, "byte")} from ${ox(f.bounds.base)}`;
+    const inside = c.contains(f.word, address, 1n) ? "the address lies in bounds" : `the address, ${ox(address)}, lies outside the bounds`;
+    const says = `${can.length ? list(can) : "no access"}, ${where}${type}; ${inside}`;
     return f.tag ? `${says[0].toUpperCase()}${says.slice(1)}.` : `No tag, so it is data and allows nothing. With a tag: ${says}.`;
 }
 
@@ -276,10 +279,13 @@ function compared(c, name, o, refusal) {
 // The words that open a line of text.
 const TERMS = {
     range: "The addresses that the word can get and keep its bounds. They are all that lie in the bounds, and some on either side.",
-    e: "E is the exponent: bounds are counted in units of 2^E bytes. The greater the length, the greater E, and the fewer the places where bounds can lie.",
+    e: "E is the exponent: bounds are counted in units of 2^E bytes. The greater the length, the greater E, and the fewer the places "
+        + "where bounds can lie.",
     b: "B is the base in units, its lowest 14 bits. The other bits are those of the address, or one more or less.",
     t: "T is the top in units, its lowest 14 bits. The word has 12 of them, or 9 beside an exponent; the others follow from B.",
-    sound: "A word is sound where its bounds make sense: the top is the base plus the length, and at most 2^64. Only sound words can be roots.",
+    sound: "A word is sound where its bounds make sense: the top is the base plus the length, and at most 2^64. Only sound words can "
+        + "be roots.",
     strict: "Strict is a machine that traps: where a test holds, the operation is refused, and nothing changes.",
-    clear: "Clear is a machine that clears tags in place of trapping, as Morello and current CHERI-RISC-V do: where a test holds, the result has no tag.",
+    clear: "Clear is a machine that clears tags in place of trapping, as Morello and current CHERI-RISC-V do: where a test holds, the "
+        + "result has no tag.",
 };

@@ -34,10 +34,13 @@ class Beside {
 }
 
 // The log that is open: its worker, what it is called, its text where that is in the field, and what was said of it.
-const log = { beside: null, name: "", text: null, size: 0, judged: null, report: null, line: 0, wait: 0, shown: "" };
+const closed = {
+    beside: null, name: "", text: null, size: 0, judged: null, report: null, origins: null, made: null, line: 0, at: null,
+    granule: null, shown: "",
+};
+const log = { ...closed, wait: 0 };
 
 const sizeOf = (bytes) => (bytes < 1e6 ? `${decimal(bytes)} bytes` : `${(bytes / 1e6).toFixed(1)} MB`);
-const counted = (count, what) => `${decimal(count)} ${what}${count === 1 ? "" : "s"}`;
 
 /** Opens a log. Where it is small and plain, its text goes into the field, and so into the link. */
 async function openLog(blob, name) {
@@ -52,7 +55,7 @@ async function openLog(blob, name) {
 
 function judgeLog(blob, name, text) {
     log.beside?.end();
-    Object.assign(log, { name, text, size: blob.size, judged: null, report: null, at: null, granule: null, made: null, origins: null, line: 0, shown: "" });
+    Object.assign(log, closed, { name, text, size: blob.size });
     log.beside = new Beside(blob, toldOfLog);
     tellWork("Reading", 0);
     byId("log").querySelector(".results").hidden = true;
@@ -100,8 +103,8 @@ function showVerdict() {
     const second = state === 1 ? `${counted(steps, "step")} from ${counted(roots, "root")}.`
         : state === 2 ? `${refusal} ${log.report.refusal}: ${REFUSALS[log.report.refusal] ?? ""}.` : "There wasn't memory enough.";
     byId("verdict").className = `verdict ${state === 1 ? "yes" : "no"}`;
-    byId("verdict").replaceChildren(make("b", {}, first), " ", make("span", {}, second), " ",
-        make("small", {}, `${log.name ? `${log.name}, ` : ""}${counted(count, "line")}, ${sizeOf(log.size)}, judged in ${decimal(Math.ceil(took))} ms`));
+    const facts = [...(log.name ? [log.name] : []), counted(count, "line"), sizeOf(log.size), `judged in ${decimal(Math.ceil(took))} ms`];
+    byId("verdict").replaceChildren(make("b", {}, first), " ", make("span", {}, second), " ", make("small", {}, facts.join(", ")));
     byId("why").replaceChildren(...(log.report ? reportShown(log.report) : []));
     byId("report-text").textContent = text;
     byId("find-shortest").hidden = state !== 2;
@@ -115,7 +118,7 @@ function reportShown(report) {
     const { caps, spans, counts, values, differs, needs, cleared } = report;
     const shown = [];
     const bars = [
-        ...Object.entries(caps).map(([name, { bounds }]) => ({ name, base: BigInt(`0x${bounds[0]}`), top: BigInt(`0x${bounds[1]}`), kind: "bounds" })),
+        ...Object.entries(caps).map(([name, { bounds }]) => ({ name, base: bounds[0], top: bounds[1], kind: "bounds" })),
         ...Object.entries(spans).map(([name, it]) => ({ name, ...it, kind: name === "representable" ? "range" : "asked" })),
     ].filter(({ base, top }) => base <= top).sort((one, other) => ORDER.indexOf(one.name) - ORDER.indexOf(other.name));
     if (bars.length > 1) {
@@ -127,13 +130,13 @@ function reportShown(report) {
     const rows = [
         ...Object.entries(spans).map(([name, it]) => [name, span(it), SPANS[name]]),
         ...(needs ? [["needs", permissionNames(Number(`0x${needs}`)).join(", "), "the permissions that the authority needs"]] : []),
-        ...Object.entries(values).map(([name, value]) => [name, `0x${value}`, name === "gives" ? "what the rules give" : "what the line records"]),
-        ...Object.entries(counts).map(([name, value]) => [name, name === "length" ? ox(BigInt(`0x${value}`)) : decimal(value), COUNTS[name]]),
+        ...Object.entries(values).map(([name, value]) => [name, `0x${value}`, VALUES[name]]),
+        ...Object.entries(counts).map(([name, value]) => [name, value, COUNTS[name]]),
     ];
     if (rows.length) {
-        const table = make("table", {}, make("tbody", {}, ...rows.map(row)));
-        if (values.gives) for (const it of [...table.rows].filter((it) => /gives|recorded/.test(it.textContent))) it.classList.add("differs");
-        shown.push(table);
+        const made = rows.map(row);
+        for (const it of made) if (it.cells[0].textContent in values) it.classList.add("differs");
+        shown.push(make("table", {}, make("tbody", {}, ...made)));
     }
     return shown;
 }
@@ -142,12 +145,13 @@ function reportShown(report) {
 function capabilityCard(name, cap, differs, cleared) {
     const both = name === "gives" || name === "recorded";
     const mark = (field) => (both && differs.includes(field) ? { class: "differs" } : {});
-    const [base, top] = cap.bounds.map((it) => BigInt(`0x${it}`));
+    const [base, top] = cap.bounds;
     const word = make("a", { href: linkOf(cap.word, cap.tag), class: "mono" }, cap.word);
+    const bound = ["base", "top"].find((it) => differs.includes(it));
     const lines = [
         make("span", mark("tag"), cap.tag === "1" ? "tag 1" : "no tag"),
         word,
-        make("span", ["base", "top"].some((it) => differs.includes(it)) ? mark(differs.includes("base") ? "base" : "top") : {}, `bounds ${span({ base, top })}`),
+        make("span", mark(bound), `bounds ${span({ base, top })}`),
         make("span", mark("address"), `address ${ox(BigInt(`0x${cap.word.slice(16)}`))}`),
         make("span", mark("perms"), `permissions 0x${cap.perms[0]}`),
         make("span", mark("otype"), `type ${cap.otype.join(" ")}`),
@@ -214,8 +218,10 @@ function showStep() {
     byId("code").setAttribute("aria-activedescendant", `line-${at.line}`);
     const { registers, line } = at;
     const parts = partsOf(at.texts[line - at.from] ?? "");
-    byId("before-says").textContent = registers === null ? `The judge stopped at line ${decimal(judged.line)}, and nothing is known of what comes behind.`
-        : registers.length ? "Each register is as the line beside it left it; the judge found that line right." : "No register was written so far.";
+    byId("before-says").textContent = registers === null
+        ? `The judge stopped at line ${decimal(judged.line)}, and nothing is known of what comes behind.`
+        : registers.length ? "Each register is as the line beside it left it; the judge found that line right."
+            : "No register was written so far.";
     byId("step-link").replaceChildren(...stepLink(parts, registers));
     const rows = (registers ?? []).map((it) => heldRow(`c${it.number}`, it, parts, it.by));
     if (log.granule) rows.push(heldRow(log.granule.place, log.granule, null, 0));
@@ -350,7 +356,9 @@ function listenToLog() {
     byId("copy-origins").addEventListener("click", () => copy(log.origins, "Origins"));
     byId("find-shortest").addEventListener("click", findShortest);
     byId("copy-shortest").addEventListener("click", () => copy(log.made.text, "Log"));
-    const steps = { first: () => 1, back: () => log.line - 1, next: () => log.line + 1, last: () => log.judged.count, "to-fault": () => log.judged.line };
+    const steps = {
+        first: () => 1, back: () => log.line - 1, next: () => log.line + 1, last: () => log.judged.count, "to-fault": () => log.judged.line,
+    };
     for (const [id, to] of Object.entries(steps)) byId(id).addEventListener("click", () => stepTo(to()));
     byId("code").addEventListener("click", (event) => {
         const line = event.target.closest("[data-line]");

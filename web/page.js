@@ -134,7 +134,8 @@ const shown = { facts: null, domain: null, tried: null };
 
 function showCapability() {
     const order = document.querySelector("[name=order]:checked").value;
-    const found = taken("word", (text) => (order === "memory" ? { all: [], word: wordOf(text, order), says: "" } : foundIn(text)));
+    const reading = (text) => (order === "memory" ? { all: [], word: wordOf(text, order), says: "" } : foundIn(text));
+    const found = taken("word", reading);
     byId("capability").querySelector(".results").hidden = found === null;
     shown.facts = null;
     showChoice(found?.all ?? []);
@@ -154,7 +155,10 @@ function showCapability() {
         it.cells[0].replaceChildren(button);
         it.cells[1].append(...meaning);
     }
-    if (facts.sound) byId("lines").tBodies[0].rows[13].after(row(["length", `${ox(facts.length)}, ${decimal(facts.length)} bytes`, "no line of it, but the top less the base"]));
+    if (facts.sound) {
+        const length = ["length", `${ox(facts.length)}, ${counted(facts.length, "byte")}`, "no line of it, but the top less the base"];
+        byId("lines").tBodies[0].rows[13].after(row(length));
+    }
     showTried(facts);
     const { fields, scale, range } = facts;
     byId("range-says").replaceChildren(...(range.every
@@ -194,7 +198,8 @@ function showChoice(all) {
 /** What was taken of a text that isn't just digits, and what it would be read the other way. */
 function showTaken({ says, name, parts, digits, isHalves }, facts, order) {
     const plain = byId("word").value.trim().toLowerCase() === facts.text;
-    byId("taken").textContent = order === "memory" || plain ? "" : `Taken${name ? `, of ${name}` : ""}: ${facts.text}${parts ? ", made by the library" : ""}. ${says}`;
+    const whose = `${name ? `, of ${name}` : ""}: ${facts.text}${parts ? ", made by the library" : ""}`;
+    byId("taken").textContent = order === "memory" || plain ? "" : `Taken${whose}. ${says}`;
     byId("offer").replaceChildren();
     // Almost any digits are sound: what a word is likely to be has its address in its bounds too.
     const isLikely = (it) => c.sound(it) && c.contains(it, c.split(it).address, 1n);
@@ -203,7 +208,8 @@ function showTaken({ says, name, parts, digits, isHalves }, facts, order) {
         if (!isLikely(other)) return;
         const button = make("button", { type: "button", class: "small" }, label);
         button.addEventListener("click", () => { act(); changed(); });
-        byId("offer").append(`${text}: the other way it is sound${facts.sound ? ", and its address lies in its bounds" : ""}. `, button, " ");
+        const also = facts.sound ? ", and its address lies in its bounds" : "";
+        byId("offer").append(`${text}: the other way it is sound${also}. `, button, " ");
     };
     offer(c.fromMemory(Uint8Array.from(digits.match(/../g), (byte) => parseInt(byte, 16))), "Looks like memory order", "Read it so", () => {
         byId("word").value = digits;
@@ -481,10 +487,15 @@ async function copy(text, what) {
 
 /** A word from the fields of its parts. */
 function makeWord() {
-    const letters = (text) => (/^[rwxRWE]+$/.test(text.trim()) ? BigInt(maskOf(text.trim())) : text.trim() === "" ? 0x78fffn : numberOf(text));
+    const letters = (text) => (text.trim() === "" ? 0x78fffn : /^[rwxRWE]+$/.test(text.trim()) ? maskOf(text.trim()) : numberOf(text));
+    const type = (text) => {
+        const found = text.trim() === "" ? 0x3ffffn : numberOf(text);
+        if (found > 0x3ffffn) throw new Refused("A type has 18 bits: 3ffff is unsealed.");
+        return Number(found);
+    };
     const parts = {
-        base: taken("make-base", numberOf), length: taken("make-length", numberOf), mask: taken("make-perms", letters),
-        otype: taken("make-type", (text) => (text.trim() === "" ? 0x3ffff : numberOf(text) > 0x3ffffn ? refusedType() : Number(numberOf(text)))),
+        base: taken("make-base", numberOf), length: taken("make-length", numberOf),
+        mask: taken("make-perms", letters), otype: taken("make-type", type),
     };
     if (Object.values(parts).includes(null)) return;
     const { word, says } = madeOf(c, { ...parts, address: parts.base });
@@ -493,10 +504,6 @@ function makeWord() {
     byId("tag").checked = true;
     changed();
     byId("made").textContent = says;
-}
-
-function refusedType() {
-    throw new Refused("A type has 18 bits: 3ffff is unsealed.");
 }
 
 function tryAddress(address) {

@@ -19,14 +19,16 @@ function bracketed(text) {
     if (top < base) return null;
     const says = /seal|sentry/i.test(rest) ? "It is sealed, and the text doesn't say with which type. " : "";
     return {
-        base, length: top - base, mask: maskOf(letters), address: at ? number16(at) : base, otype: null, tag: Number(!/invalid/i.test(rest)),
+        base, length: top - base, mask: maskOf(letters), otype: null,
+        address: at ? number16(at) : base, tag: Number(!/invalid/i.test(rest)),
         says: `${says}The letters tell no permission but ${Object.values(LETTERS).join(", ")}.`,
     };
 }
 
 /** `v:1 s:0 p:00078fff b:0000000000001000 l:0000000000000fff o:0 t:3ffff`: fields with a letter each. */
 function lettered(text) {
-    const found = Object.fromEntries([...text.matchAll(/\b([vspbloat])\s*[:=]\s*(?:0x)?([0-9a-f]+|-1)\b/gi)].map(([, name, value]) => [name.toLowerCase(), value]));
+    const fields = [...text.matchAll(/\b([vspbloat])\s*[:=]\s*(?:0x)?([0-9a-f]+|-1)\b/gi)];
+    const found = Object.fromEntries(fields.map(([, name, value]) => [name.toLowerCase(), value]));
     if (!("b" in found && "l" in found)) return null;
     const base = number16(found.b);
     const type = found.t === undefined || /^-1$|^f{4,}$/i.test(found.t) ? null : Number(number16(found.t));
@@ -44,10 +46,10 @@ function digitsIn(text) {
     const isTag = (it) => it === "0" || it === "1";
     const whole = (words) => words.join("").length === 32;
     // Halves may have lost their leading zeros.
-    const halves = (words) => words.length === 2 && words.every((it) => it.length > 2 && it.length <= 16) && words.map((it) => it.padStart(16, "0"));
+    const areHalves = (words) => words.length === 2 && words.every((it) => it.length > 2 && it.length <= 16);
     for (const [words, tag] of [[parts, null], [parts.slice(1), parts[0]], [parts.slice(0, -1), parts.at(-1)]]) {
         if (tag !== null && !isTag(tag)) continue;
-        const found = whole(words) ? words.join("") : halves(words) ? halves(words).join("") : null;
+        const found = whole(words) ? words.join("") : areHalves(words) ? words.map((it) => it.padStart(16, "0")).join("") : null;
         if (found) return { digits: found, tag: tag === null ? null : Number(tag), isHalves: words.length === 2 };
     }
     return null;

@@ -43,6 +43,7 @@ const SPANS = {
     representable: "the addresses that keep the source's bounds", access: "the bytes that the step reaches",
 };
 const ORDER = [...CAPABILITIES.slice(0, 4), ...Object.keys(SPANS), "gives", "recorded"];
+const VALUES = { gives: "what the rules give", recorded: "what the line records" };
 const COUNTS = { roots: "taken before it", steps: "taken before it", granules: "named before it", length: "of the root, in bytes" };
 
 /** A report by the names of its lines. */
@@ -51,13 +52,13 @@ function reportOf(text) {
     const report = { refusal: verdict[3], caps: {}, spans: {}, counts: {}, values: {}, differs: [], needs: null, cleared: null };
     for (const [name, first, ...rest] of rows) {
         if (name in SPANS) report.spans[name] = { base: BigInt(`0x${first}`), top: BigInt(`0x${rest[0]}`) };
-        else if (name in COUNTS) report.counts[name] = first;
+        else if (name in COUNTS) report.counts[name] = name === "length" ? ox(BigInt(`0x${first}`)) : decimal(first);
         else if (name === "differs") report.differs = [first, ...rest];
         else if (name === "needs") report.needs = first;
         else if (name === "cleared") report.cleared = `${first} ${rest[0]}`;
         else if (CAPABILITIES.includes(name) && rest.length === 0) report.values[name] = first;
         else if (CAPABILITIES.includes(name) && /^c\d|^@/.test(first)) report.caps[name] = { place: first, tag: rest[0], word: rest[1] };
-        else if (CAPABILITIES.includes(name)) report.caps[name][first] = rest;
+        else if (CAPABILITIES.includes(name)) report.caps[name][first] = first === "bounds" ? rest.map((it) => BigInt(`0x${it}`)) : rest;
     }
     return report;
 }

@@ -43,22 +43,34 @@ const logOf = (name, line = "") => hash({ show: "log", text: text(`examples/${na
 
 // Pictures to look at: name, width, scheme, state.
 const PICTURES = [
-    ["light", 1000, "light", STATES[0]], ["dark", 1000, "dark", STATES[1]], ["narrow", 360, "light", STATES[1]],
-    ["request", 1000, "light", STATES[8]], ["request-dark-narrow", 360, "dark", STATES[8]],
-    ["operation", 1000, "dark", STATES.at(-1)], ["operation-narrow", 360, "light", STATES.at(-1)],
-    ["wrapped", 1000, "light", STATES[4]], ["unsound", 1000, "light", STATES[3]],
+    ["light", 1000, "light", STATES[0]],
+    ["dark", 1000, "dark", STATES[1]],
+    ["narrow", 360, "light", STATES[1]],
+    ["request", 1000, "light", STATES[8]],
+    ["request-dark-narrow", 360, "dark", STATES[8]],
+    ["operation", 1000, "dark", STATES.at(-1)],
+    ["operation-narrow", 360, "light", STATES.at(-1)],
+    ["wrapped", 1000, "light", STATES[4]],
+    ["unsound", 1000, "light", STATES[3]],
     ["narrow-bad", 360, "light", capability("12g")],
-    ["log", 1280, "light", logOf("kept_tag")], ["log-dark", 1280, "dark", logOf("wrong_result")],
-    ["log-narrow", 360, "light", logOf("local_stored")], ["log-yes-narrow", 360, "dark", logOf("memory", "9")],
-    ["dump", 1000, "dark", capability("c1: 0x1 0xffff1ffffbffd000 0x0000000000001000\nc2 0 ffff1fffdc0180040000000000000000\n0x1800 [rwRW,0x1000-0x2000]", { which: "2" })],
+    ["log", 1280, "light", logOf("kept_tag")],
+    ["log-dark", 1280, "dark", logOf("wrong_result")],
+    ["log-narrow", 360, "light", logOf("local_stored")],
+    ["log-yes-narrow", 360, "dark", logOf("memory", "9")],
+    [
+        "dump", 1000, "dark",
+        capability(
+            "c1: 0x1 0xffff1ffffbffd000 0x0000000000001000\nc2 0 ffff1fffdc0180040000000000000000\n0x1800 [rwRW,0x1000-0x2000]",
+            { which: "2" })
+    ],
 ];
 
 /** The pictures for docs/: the head of the page, with an address that would lose the bounds, and with a log. */
 async function picturesOfHeads(page) {
     await page.scheme("light");
     for (const [name, width, height, link] of [
-             ["page.png", 900, 850, capability("003d1ffffc1a13910000000000013c08", { to: "19400" })], ["page_log.png", 960, 880, logOf("kept_tag")]
-         ]) {
+             ["page.png", 900, 850, capability("003d1ffffc1a13910000000000013c08", { to: "19400" })],
+             ["page_log.png", 960, 880, logOf("kept_tag")]]) {
         await page.size(width, height);
         await page.go(address + link);
         await page.run(quiet);

@@ -48,8 +48,11 @@ const said = async (logs) => {
         await dropped(bytesOf8(it), "given.log");
         byId("origins").open = log.judged.state === 1;
         while (byId("origins").open && !log.origins) await new Promise((done) => setTimeout(done, 2));
-        found.push([seen("verdict"), log.judged.text, seen("report-text"), byId("fault").hidden, log.origins ?? log.judged.text.split(/(?<=\n)/)[0],
-            [...document.querySelectorAll("#origins-of li")].map((it) => it.textContent)]);
+        found.push([
+            seen("verdict"), log.judged.text, seen("report-text"), byId("fault").hidden,
+            log.origins ?? log.judged.text.split(/(?<=\n)/)[0],
+            [...document.querySelectorAll("#origins-of li")].map((it) => it.textContent)
+        ]);
     }
     return found;
 };
@@ -75,7 +78,8 @@ export async function logsAreJudged(page) {
         check(sentence.startsWith(sentenceOf(wanted.verdict)), `${name}: “${sentence}”, where the program has ${wanted.verdict}`);
         same(report, wanted.report, name);
         same(origins, wanted.origins, `${name}: origins`);
-        const places = [...origins.matchAll(/^origin (\S+) (\S+)$/gm)].map(([, place, from]) => `${place} descends from the root at ${from}`);
+        const places = [...origins.matchAll(/^origin (\S+) (\S+)$/gm)].map(
+            ([, place, from]) => `${place} descends from the root at ${from}`);
         if (places.length) same(list, places, `${name}: the list of origins`);
         check(visible === report && fine && report.startsWith(wanted.verdict), `${name}: it is seen`);
         const kind = wanted.verdict.split(" ")[3]?.trim() ?? "yes";
@@ -109,7 +113,9 @@ export const drawnLogs = (count, others) => {
             lines.push(`root c${number} ${c.textOf(cap.word)}`);
         };
         root(1, { word: whole, tag: 1 });
-        if (random(2)) root(2, c.setBoundsClear(c.setAddrClear({ word: whole, tag: 1 }, BigInt(random(1 << 20) * 16)), BigInt(random(1 << 12) * 16), 0));
+        if (random(2))
+            root(2, c.setBoundsClear(
+                        c.setAddrClear({ word: whole, tag: 1 }, BigInt(random(1 << 20) * 16)), BigInt(random(1 << 12) * 16), 0));
         let steps = 0;
         const step = (kind, target, words, got) => {
             registers[target] = got;
@@ -119,9 +125,14 @@ export const drawnLogs = (count, others) => {
         for (let left = random(40); left > 0; left--) {
             const [target, from, by] = [1 + random(8), random(9), random(9)];
             const [source, authority] = [registers[from], registers[by]];
-            const kind = among(["move", "cleartag", "setbounds", "setboundsexact", "setaddr", "andperm", "seal", "unseal", "lc", "sc", "load", "store"]);
+            const kind = among([
+                "move", "cleartag", "setbounds", "setboundsexact", "setaddr", "andperm", "seal", "unseal", "lc", "sc", "load",
+                "store"
+            ]);
             const near = c.split(source.word).address;
-            const number = among([BigInt(random(256) * 16), near + BigInt(random(64)), BigInt(random(0x7fffffff)), 0x7ffffn, BigInt(random(1 << 19))]);
+            const number = among([
+                BigInt(random(256) * 16), near + BigInt(random(64)), BigInt(random(0x7fffffff)), 0x7ffffn, BigInt(random(1 << 19))
+            ]);
             const pick = (strict, clear, ...given) => {
                 if (mode === 2) return clear(...given);
                 const got = strict(...given);
@@ -152,18 +163,25 @@ export const drawnLogs = (count, others) => {
                 const place = address >> 4n;
                 const held = memory.get(place) ?? { tag: 0, bytes: new Uint8Array(16) };
                 const at = Number(address & 15n);
-                if (kind === "lc") step(kind, target, `c${by} ${offset}`, c.loaded(authority, { word: c.fromMemory(held.bytes), tag: held.tag }));
+                if (kind === "lc")
+                    step(
+                        kind, target, `c${by} ${offset}`, c.loaded(authority, { word: c.fromMemory(held.bytes), tag: held.tag }));
                 else {
                     steps++;
                     if (kind === "sc") memory.set(place, { tag: source.tag, bytes: c.toMemory(source.word) });
-                    const part = kind === "load" ? held.bytes.slice(at, at + Number(size)) : Uint8Array.from({ length: Number(size) }, () => random(256));
+                    const part = kind === "load" ? held.bytes.slice(at, at + Number(size))
+                                                 : Uint8Array.from({ length: Number(size) }, () => random(256));
                     const value = [...part].reverse().map((it) => hex(it, 2)).join("");
                     if (kind === "store") {
                         const bytes = held.bytes.slice();
                         bytes.set(part, at);
                         memory.set(place, { tag: 0, bytes });
                     }
-                    lines.push({ sc: `sc c${from} c${by} ${offset}`, load: `load c${by} ${offset} ${size} = ${value}`, store: `store c${by} ${offset} ${size} ${value}` }[kind]);
+                    lines.push({
+                        sc: `sc c${from} c${by} ${offset}`,
+                        load: `load c${by} ${offset} ${size} = ${value}`,
+                        store: `store c${by} ${offset} ${size} ${value}`
+                    }[kind]);
                 }
             }
         }
@@ -172,21 +190,42 @@ export const drawnLogs = (count, others) => {
     const all = `root c9 ${c.textOf(whole)}`;
     const changes = [
         (log) => log,
-        (log) => { const at = random(log.length); return log.slice(0, at) + String.fromCharCode(random(256)) + log.slice(at + 1); },
-        (log) => { const at = random(log.length); return log.slice(0, at) + among([..."0123456789abcdef"]) + log.slice(at + 1); },
+        (log) => {
+            const at = random(log.length);
+            return log.slice(0, at) + String.fromCharCode(random(256)) + log.slice(at + 1);
+        },
+        (log) => {
+            const at = random(log.length);
+            return log.slice(0, at) + among([..."0123456789abcdef"]) + log.slice(at + 1);
+        },
         (log) => log.replace(/= 1(?=.*\nend)/, "= 0"),
-        (log) => { const lines = log.split("\n"); lines.splice(1 + random(lines.length - 1), 1); return lines.join("\n"); },
-        (log) => { const lines = log.split("\n"); lines.splice(1 + random(lines.length - 1), 0, among(lines)); return lines.join("\n"); },
+        (log) => {
+            const lines = log.split("\n");
+            lines.splice(1 + random(lines.length - 1), 1);
+            return lines.join("\n");
+        },
+        (log) => {
+            const lines = log.split("\n");
+            lines.splice(1 + random(lines.length - 1), 0, among(lines));
+            return lines.join("\n");
+        },
         (log) => log.slice(0, random(log.length)),
         (log) => log + among(["x", "end 0\n", "\n"]),
         (log) => log.replace(/end \d+/, "x".repeat(95 + random(4))),
         (log) => log.replace(/end \d+/, among([
-            `setbounds c3 c2 00000000ffffffff = 1 ${c.textOf(whole)}`, `setaddr c3 c2 7fffffffffffffff = 1 ${c.textOf(whole)}`,
-            `lc c3 c2 ${among([-2048, 1, 2032])} = 0 ${c.textOf(whole)}`, "load c0 0 8 = 0000000000000000", `setboundsexact c3 c1 0000000000100001 = 1 ${c.textOf(whole)}`,
-            `seal c3 c1 c0 = 1 ${c.textOf(whole)}`, `unseal c3 c1 c1 = 1 ${c.textOf(whole)}`, `sc c1 c2 ${among([8, 0, 2047])}`, all,
+            `setbounds c3 c2 00000000ffffffff = 1 ${c.textOf(whole)}`,
+            `setaddr c3 c2 7fffffffffffffff = 1 ${c.textOf(whole)}`,
+            `lc c3 c2 ${among([-2048, 1, 2032])} = 0 ${c.textOf(whole)}`,
+            "load c0 0 8 = 0000000000000000",
+            `setboundsexact c3 c1 0000000000100001 = 1 ${c.textOf(whole)}`,
+            `seal c3 c1 c0 = 1 ${c.textOf(whole)}`,
+            `unseal c3 c1 c1 = 1 ${c.textOf(whole)}`,
+            `sc c1 c2 ${among([8, 0, 2047])}`,
+            all,
         ])),
         (log) => log.replace(/root c1 .*/, (it) => `${it}\n${among([it, "root c9 ffff1ffffc01a0030000000000000000", all])}`),
-        (log) => log.replace(/(=? ?[01]) (\w{4})(\w{28}\n)(?=end)/, (it, tag, perms, rest) => `${tag} ${perms === "ffff" ? "fffe" : "ffff"}${rest}`),
+        (log) => log.replace(/(=? ?[01]) (\w{4})(\w{28}\n)(?=end)/,
+            (it, tag, perms, rest) => `${tag} ${perms === "ffff" ? "fffe" : "ffff"}${rest}`),
     ];
     return Array.from({ length: count }, (it, k) => {
         const log = k % 10 === 9 ? among(others) : made();
@@ -206,7 +245,8 @@ export async function opened(page, name) {
             last = performance.now();
         }, 5);
         log.judged = null;
-        document.getElementById("file").addEventListener("change", () => (globalThis.began = performance.now()), { capture: true, once: true });
+        document.getElementById("file").addEventListener(
+            "change", () => (globalThis.began = performance.now()), { capture: true, once: true });
     });
     await page.send("DOM.setFileInputFiles", { nodeId, files: [name] });
     return page.run(async () => {

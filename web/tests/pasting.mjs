@@ -37,15 +37,24 @@ const FORMS = [
 const PARTS = [
     ["0x1800 [rwRW,0x1000-0x2000]", { base: 0x1000n, top: 0x2000n, view: 0x3c, address: 0x1800n, otype: 0x3ffff }, 1],
     ["[rwRW,0x1000-0x2000]", { base: 0x1000n, top: 0x2000n, view: 0x3c, address: 0x1000n, otype: 0x3ffff }, 1],
-    ["c4: 0x40001234 [rxR,0x40000000-0x40010000] (sentry)", { base: 0x40000000n, top: 0x40010000n, view: 0x16, address: 0x40001234n, otype: 0x3ffff }, 1],
+    [
+        "c4: 0x40001234 [rxR,0x40000000-0x40010000] (sentry)",
+        { base: 0x40000000n, top: 0x40010000n, view: 0x16, address: 0x40001234n, otype: 0x3ffff }, 1
+    ],
     ["0x1000 [,0x1000-0x1fff] (invalid)", { base: 0x1000n, top: 0x1fffn, view: 0, address: 0x1000n, otype: 0x3ffff }, 0],
     ["0x1001 [rw,0x1001-0x5002]", { base: 0x1000n, top: 0x5020n, view: 0xc, address: 0x1001n, otype: 0x3ffff }, 1],
     [
         "v:1 s:0 p:00078fff b:0000000000001000 l:0000000000000fff o:10 t:3ffff",
         { base: 0x1000n, top: 0x1fffn, view: 0x78fff, address: 0x1010n, otype: 0x3ffff }, 1
     ],
-    ["c7: v:0 s:1 p:0000003d b:12720 l:39b0 o:0 t:1a", { base: 0x12720n, top: 0x160d0n, view: 0x3d, address: 0x12720n, otype: 0x1a }, 0],
-    ["v:1 s:0 p:00078fff b:0 l:10000000000000000 o:0 t:-1", { base: 0n, top: 1n << 64n, view: 0x78fff, address: 0n, otype: 0x3ffff }, 1],
+    [
+        "c7: v:0 s:1 p:0000003d b:12720 l:39b0 o:0 t:1a",
+        { base: 0x12720n, top: 0x160d0n, view: 0x3d, address: 0x12720n, otype: 0x1a }, 0
+    ],
+    [
+        "v:1 s:0 p:00078fff b:0 l:10000000000000000 o:0 t:-1",
+        { base: 0n, top: 1n << 64n, view: 0x78fff, address: 0n, otype: 0x3ffff }, 1
+    ],
 ];
 
 export async function pastedIsTaken(page) {
@@ -82,12 +91,16 @@ export async function pastedIsTaken(page) {
         const words = [0, 1, 2].map((k) => {
             which.value = String(k);
             which.dispatchEvent(new Event("input", { bubbles: true }));
-            return [rows("lines").word, Number(document.getElementById("tag").checked), seen("label[for=which]".replace(/.*/, "choice")).includes("3 capabilities")];
+            return [
+                rows("lines").word, Number(document.getElementById("tag").checked),
+                seen("choice").includes("3 capabilities")
+            ];
         });
         await new Promise((done) => setTimeout(done, 500));
         return { options, words, link: location.href };
     }, dump);
-    same(list.options, [`c1: 1 ${HIGH}${LOW}`, "c2: 0 ffff1fffdc0180040000000000000000", "csp: 1 0x1000 up to 0x2000"], "the list of a dump");
+    same(list.options, [`c1: 1 ${HIGH}${LOW}`, "c2: 0 ffff1fffdc0180040000000000000000", "csp: 1 0x1000 up to 0x2000"],
+        "the list of a dump");
     same(list.words.map(([word, tag, counted]) => [word.slice(16), tag, counted]),
         [[LOW, 1, true], ["0000000000000000", 0, true], ["0000000000001800", 1, true]], "chosen from the list");
     await page.go(list.link);
@@ -114,7 +127,8 @@ async function memoryIsOffered(page) {
         [...document.querySelectorAll("#offer button")].find((it) => it.textContent === "Turn the halves").click();
         return [offers, first, rows("lines").word];
     }, "00100000000000000450fe070000ffff", "0000000000013c08 003d1ffffc1a1391", WORD);
-    check(got[0][0].includes("Looks like memory order: the other way it is sound, and its address lies in its bounds."), `memory order: ${got[0][0]}`);
+    check(got[0][0].includes("Looks like memory order: the other way it is sound, and its address lies in its bounds."),
+        `memory order: ${got[0][0]}`);
     check(got[0][1].includes("Looks like the low half first: the other way it is sound, and"), `halves: ${got[0][1]}`);
     same(got[0].slice(2), ["", ""], "nothing is offered where the word is sound, or both ways it isn't");
     same(got[1], [WORD, "memory", ""], "memory order is taken");
@@ -148,20 +162,38 @@ async function wordIsMade(page) {
 
 async function capabilityIsSaid(page) {
     const cases = [
-        ["003d1ffffc1a13910000000000013c08", "1", "Read and write data and capabilities, 14,768 bytes from 0x12720; the address lies in bounds."],
-        ["ffff1ffffc0180040000000000000000", "1",
-            "Read and write data and capabilities, execute, seal and unseal, the whole address space; the address lies in bounds."],
-        ["00041ffffbffd0000000000000002000", "1", "Read data, 4,095 bytes from 0x1000; the address, 0x2000, lies outside the bounds."],
+        [
+            "003d1ffffc1a13910000000000013c08", "1",
+            "Read and write data and capabilities, 14,768 bytes from 0x12720; the address lies in bounds."
+        ],
+        [
+            "ffff1ffffc0180040000000000000000", "1",
+            "Read and write data and capabilities, execute, seal and unseal, the whole address space; the address lies in bounds."
+        ],
+        [
+            "00041ffffbffd0000000000000002000", "1",
+            "Read data, 4,095 bytes from 0x1000; the address, 0x2000, lies outside the bounds."
+        ],
         ["000c1ffffbffd0000000000000001000", "1", "Read and write data, 4,095 bytes from 0x1000; the address lies in bounds."],
-        ["001c1ffffbffd0000000000000001000", "1", "Read and write data and read capabilities, 4,095 bytes from 0x1000; the address lies in bounds."],
-        ["ffff1fffdc0180040000000000000000", "0", "No tag, so it is data and allows nothing. With a tag: read and write data and capabilities, "
-            + "execute, seal and unseal, the whole address space, sealed with type 0x3fffb; the address lies in bounds."],
-        ["ffff1ffffc01a0030000000000000000", "1", "Not sound: the top, 0x18000000000000000, lies above 2^64, where addresses end."],
+        [
+            "001c1ffffbffd0000000000000001000", "1",
+            "Read and write data and read capabilities, 4,095 bytes from 0x1000; the address lies in bounds."
+        ],
+        [
+            "ffff1fffdc0180040000000000000000", "0",
+            "No tag, so it is data and allows nothing. With a tag: read and write data and capabilities, " +
+                "execute, seal and unseal, the whole address space, sealed with type 0x3fffb; the address lies in bounds."
+        ],
+        [
+            "ffff1ffffc01a0030000000000000000", "1",
+            "Not sound: the top, 0x18000000000000000, lies above 2^64, where addresses end."
+        ],
     ];
     for (const [word, tag, wanted] of cases) {
         await page.go(address + capability(word, { tag }));
         await page.run(tools);
-        const got = await page.run(() => [seen("means"), rows("lines").length, seen("type"), document.querySelectorAll("#perms li").length]);
+        const got = await page.run(
+            () => [seen("means"), rows("lines").length, seen("type"), document.querySelectorAll("#perms li").length]);
         same(got[0], wanted, `${word} in a sentence`);
         same(got[3], 16, "its permissions stand below the digits");
         if (word.startsWith("003d")) same([got[1], got[2]], ["0x39b0, 14,768 bytes", "Object type 0x3ffff, unsealed."], "length and type");
@@ -179,7 +211,8 @@ export async function putRight(page) {
     }
     await page.go(address + capability("003d1ffffc1a13910000000000013c08"));
     await page.run(tools);
-    const untouched = await page.run(() => [seen("to-says"), document.querySelectorAll("#range .tried.number").length, document.getElementById("take").disabled]);
+    const untouched = await page.run(() => [seen("to-says"), document.querySelectorAll("#range .tried.number").length,
+                                         document.getElementById("take").disabled]);
     same(untouched, ["", 0, true], "an address that wasn't touched says nothing");
     const back = await page.run(async () => {
         const paused = () => new Promise((done) => setTimeout(done, 120));
@@ -200,7 +233,9 @@ export async function putRight(page) {
         const drawn = await page.run((part) => {
             location.hash = part;
             restore();
-            return [...document.querySelectorAll("#ranges text[text-anchor=start]")].map((it) => it.textContent).filter((it) => /^[a-z]+$/.test(it) && !/^[a-f0-9]+$/.test(it));
+            return [...document.querySelectorAll("#ranges text[text-anchor=start]")]
+                .map((it) => it.textContent)
+                .filter((it) => /^[a-z]+$/.test(it) && !/^[a-f0-9]+$/.test(it));
         }, hash({ ...fields, do: name, source: WORD, sourcetag: "1", value: "1800" }));
         same(drawn, wanted, `${name} is drawn`);
     }

@@ -57,7 +57,8 @@ export async function logsAreOpened(page) {
     const link = await page.run(() => location.href);
     check(link === address + state("wrong_result", 6), `the link has a small log: ${link}`);
     await at(page, state("wrong_result", 4));
-    same(await page.run(() => [seen("verdict").slice(0, 23), byId("line").value, document.querySelector("[aria-selected=true]").dataset.line]),
+    same(await page.run(() => [seen("verdict").slice(0, 23), byId("line").value,
+                            document.querySelector("[aria-selected=true]").dataset.line]),
         ["No: line 6 is at fault.", "4", "4"], "the link is restored");
     const without = await page.run(async (text) => {
         await dropped(bytesOf8(text.slice(0, -1)), "cut.log");
@@ -67,7 +68,8 @@ export async function logsAreOpened(page) {
         await dropped(bytesOf8(`${text}\xff\x00<b>\\`), "more.log");
         return [first, second, [log.judged.text.split("\n")[0], document.querySelector("#code .at-fault")?.textContent]];
     }, text("examples/moves.log"));
-    same(without, [["no 5 5 Truncated", false], ["no 1 5 Truncated", true], ["no 6 4 Misplaced", "6\\xff\\x00<b>\\x5c"]], "cut, empty, other bytes");
+    same(without, [["no 5 5 Truncated", false], ["no 1 5 Truncated", true], ["no 6 4 Misplaced", "6\\xff\\x00<b>\\x5c"]],
+        "cut, empty, other bytes");
     // A long log is read, stopped, and another opened.
     const folder = fs.mkdtempSync(path.join(os.tmpdir(), "capcheck-logs-"));
     try {
@@ -93,7 +95,8 @@ export async function logsAreOpened(page) {
     const fetched = page.requests.filter((url) => !/^(data|blob|file|about):/.test(url));
     same(fetched, [], "nothing is fetched");
     const stopped = await page.run(() => new Promise((done) => {
-        const worker = new Worker(URL.createObjectURL(new Blob(["fetch('data:,x').then(() => postMessage('went through'), () => postMessage('stopped'))"])));
+        const worker = new Worker(URL.createObjectURL(
+            new Blob(["fetch('data:,x').then(() => postMessage('went through'), () => postMessage('stopped'))"])));
         worker.onmessage = ({ data }) => done(data);
     }));
     same(stopped, "stopped", "a fetch from a worker");
@@ -122,8 +125,11 @@ export async function linesAreStepped(page) {
                 stepTo(line);
                 await globalThis.settled();
                 await new Promise((done) => setTimeout(done, 90));
-                for (let k = 0; k < 200 && /^(lc|sc|load|store) /.test(log.at.texts[line - log.at.from] ?? "") && !log.granule; k++) await new Promise((done) => setTimeout(done, 5));
-                return Object.fromEntries([...document.querySelectorAll("#held tr")].map((it) => [it.cells[0].textContent, it.querySelector("a").textContent]));
+                for (let k = 0; k < 200 && /^(lc|sc|load|store) /.test(log.at.texts[line - log.at.from] ?? "") && !log.granule;
+                     k++)
+                    await new Promise((done) => setTimeout(done, 5));
+                return Object.fromEntries([...document.querySelectorAll("#held tr")].map(
+                    (it) => [it.cells[0].textContent, it.querySelector("a").textContent]));
             }, log, line);
             const before = `${lines.slice(0, line - 1).join("\n")}\n`;
             const said = (step) => printed(CAPDIAG, ["why"], before + step).match(/^source (\S+) ([01] \S+)$/m);
@@ -136,7 +142,9 @@ export async function linesAreStepped(page) {
             }
             const [kind, one, two, three] = lines[line - 1].split(" ");
             const reached = { lc: [two, three], sc: [two, three], load: [one, two], store: [one, two] }[kind];
-            const found = reached && ["0", "1"].map((digit) => said(`lc c1 ${reached.join(" ")} = 1 ${digit.repeat(32)}\n`)).find((it) => it);
+            const found =
+                reached &&
+                ["0", "1"].map((digit) => said(`lc c1 ${reached.join(" ")} = 1 ${digit.repeat(32)}\n`)).find((it) => it);
             if (!found) continue;
             same(shown[found[1]], found[2], `${found[1]} before line ${line}`);
             granules++;
@@ -158,13 +166,17 @@ export async function linesAreStepped(page) {
         }, 100));
     });
     same(marked, ["0000000000000021"], "the length is marked");
-    check(operation[0] === "operation" && operation[1].includes("11 BoundsEscape") && operation[1].includes("0x1000 up to 0x1021"), `the step: ${operation}`);
+    check(
+        operation[0] === "operation" && operation[1].includes("11 BoundsEscape") && operation[1].includes("0x1000 up to 0x1021"),
+        `the step: ${operation}`);
     same(capability, ["capability", "ffff1ffffc0180040000000000000000"], "the capability of a register");
-    for (const [name, wanted] of [["wrong_result", ["f"]], ["kept_tag", ["1"]], ["local_stored", ["c2"]], ["cleared_used", ["c4"]], ["no_mode", null]]) {
+    for (const [name, wanted] of [["wrong_result", ["f"]], ["kept_tag", ["1"]], ["local_stored", ["c2"]],
+             ["cleared_used", ["c4"]], ["no_mode", null]]) {
         await at(page, state(name));
         const found = await page.run(() => [...document.querySelectorAll("#code .at-fault mark")].map((it) => it.textContent));
         const line = printed(CAPDIAG, ["why"], text(`examples/${name}.log`)).match(/^line (.*)$/m)[1];
-        if (wanted?.[0] === "c2" || wanted?.[0] === "c4") check(found.length === 1 && line.split(" ").includes(found[0]), `${name}: marked ${found} of ${line}`);
+        if (wanted?.[0] === "c2" || wanted?.[0] === "c4")
+            check(found.length === 1 && line.split(" ").includes(found[0]), `${name}: marked ${found} of ${line}`);
         else same(found, wanted ?? [line], `${name}: marked`);
     }
     return `${registers} registers and ${granules} granules`;
@@ -287,7 +299,8 @@ export async function changedJudges(page) {
         const other = Buffer.from(bytes);
         check(other[at] !== value, `byte ${at} is another`);
         other[at] = value;
-        fs.writeFileSync(changed, html.replace(/(<script id="judge"[^>]*>)[^<]*/, (_, head) => head + zlib.gzipSync(other).toString("base64")));
+        fs.writeFileSync(changed,
+            html.replace(/(<script id="judge"[^>]*>)[^<]*/, (_, head) => head + zlib.gzipSync(other).toString("base64")));
         await page.go(pathToFileURL(changed).href + state("wrong_result"));
         await page.run(tools);
         await page.run(() => new Promise((done) => setTimeout(done, 1500)));

@@ -122,7 +122,8 @@ export async function usableByKeys(page) {
     for (const link of [STATES[0], STATES[8], STATES[11], STATES[15]]) {
         await page.go(address + link);
         await page.run(tools);
-        const wanted = await page.run(() => [...document.querySelectorAll("button, input, textarea, select, summary, a[href], [tabindex='0']")]
+        const wanted = await page.run(() => [...document.querySelectorAll(
+            "button, input, textarea, select, summary, a[href], [tabindex='0']")]
                                                 .filter((it) => visible(it) && !it.disabled && !(it.type === "radio" && !it.checked))
                                                 .map((it) => it.id || it.dataset.view || it.dataset.term || it.name || it.textContent));
         const reached = [];
@@ -154,7 +155,8 @@ export async function everythingHasAName(page) {
         const { nodes } = await page.send("Accessibility.getFullAXTree");
         const roles = nodes.filter((it) => !it.ignored).map((it) => [it.role?.value, it.name?.value ?? ""]);
         const named =
-            new Set(["textbox", "checkbox", "radio", "combobox", "button", "slider", "link", "image", "figure", "navigation", "region", "listbox", "progressbar"]);
+            new Set(["textbox", "checkbox", "radio", "combobox", "button", "slider", "link", "image", "figure", "navigation", "region",
+                "listbox", "progressbar"]);
         for (const [role, name] of roles)
             if (named.has(role)) check(name.trim() !== "", `${role} without a name at ${link}`);
         for (const role of ["banner", "main", "contentinfo", "navigation", "heading"])
@@ -162,7 +164,8 @@ export async function everythingHasAName(page) {
     }
     await page.run(tools);
     const labels =
-        await page.run(() => [...document.querySelectorAll("input:not(#link):not(#file), textarea, select")].map((it) => [it.id || it.value, it.labels.length]));
+        await page.run(() => [...document.querySelectorAll("input:not(#link):not(#file), textarea, select")].map(
+            (it) => [it.id || it.value, it.labels.length]));
     for (const [name, count] of labels) same(count, 1, `labels of ${name}`);
     check(await page.run(() => document.documentElement.lang === "en" && document.title !== ""), "language and title");
     check(await page.run(() => [...document.querySelectorAll("[aria-describedby]")].every(
