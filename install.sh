@@ -4,7 +4,9 @@
 #   PREFIX/bin/capcheck              the program, and capdiag, which says why a log got a no
 #   PREFIX/lib/libcapcheck_c.a       the library for C, and libcapcheck_c.so made of it
 #   PREFIX/lib/libcapcheck_judge.a   the judge for C, and libcapcheck_judge.so made of it
-#   PREFIX/lib/pkgconfig/*.pc        what `pkg-config --cflags --libs capcheck` reads, or `capcheck_judge` for both libraries
+#   PREFIX/lib/libcapcheck_freestanding.a  the judge without a heap, and libcapcheck_freestanding.so made of it
+#   PREFIX/lib/pkgconfig/*.pc        what `pkg-config --cflags --libs capcheck` reads, or `capcheck_judge` or
+#                                    `capcheck_freestanding` for the judges, with the library for C
 #   PREFIX/include/capcheck*.h       their headers
 #   PREFIX/share/man/man1/*.1        the programs' manual pages
 #
@@ -21,12 +23,13 @@ to=${DESTDIR:-}$prefix
 program=crates/capcheck/out/capcheck
 diagnosis=crates/capdiag/out/capdiag
 library=crates/capcheck_c/out/libcapcheck_c.a
+freestanding=crates/capcheck_freestanding/out/libcapcheck_freestanding.a
 judge=judge/out/libcapcheck_judge.a
 version=$(sed -n 's/^#define CAPCHECK_VERSION_STRING "\(.*\)"$/\1/p' include/capcheck.h)
 
 # What another command built is taken as it is, and the rest is proved side by side, unless it was.
 missing=
-for crate in capcheck capdiag capcheck_c capcheck_judge; do
+for crate in capcheck capdiag capcheck_c capcheck_judge capcheck_freestanding; do
     case $crate in
         capcheck_*) made=crates/$crate/out/lib$crate.a ;;
         *) made=crates/$crate/out/$crate ;;
@@ -41,9 +44,10 @@ cp "$program" "$to/bin/capcheck"
 cp "$diagnosis" "$to/bin/capdiag"
 cp "$library" "$to/lib/libcapcheck_c.a"
 cp "$judge" "$to/lib/libcapcheck_judge.a"
-cp include/capcheck.h include/capcheck_judge.h "$to/include/"
+cp "$freestanding" "$to/lib/libcapcheck_freestanding.a"
+cp include/*.h "$to/include/"
 cp docs/capcheck.1 docs/capdiag.1 "$to/share/man/man1/"
-for name in capcheck_c capcheck_judge; do
+for name in capcheck_c capcheck_judge capcheck_freestanding; do
     ${CC:-cc} -shared -Wl,-soname,lib$name.so.1 -Wl,--whole-archive "$to/lib/lib$name.a" -Wl,--no-whole-archive -o "$to/lib/lib$name.so.1"
     ln -sf "lib$name.so.1" "$to/lib/lib$name.so"
 done
@@ -65,5 +69,15 @@ Version: $version
 Requires: capcheck
 Cflags: -I\${prefix}/include
 Libs: -L\${prefix}/lib -lcapcheck_judge
+PC
+cat > "$to/lib/pkgconfig/capcheck_freestanding.pc" <<PC
+prefix=$prefix
+
+Name: capcheck_freestanding
+Description: the judge of logs of 128-bit CHERI capabilities without a heap
+Version: $version
+Requires: capcheck
+Cflags: -I\${prefix}/include
+Libs: -L\${prefix}/lib -lcapcheck_freestanding
 PC
 echo "capcheck $version is installed below $to"

@@ -11,8 +11,10 @@
  * What a caller owes:
  *   bytes, line   point to `length` bytes that may be read, and aren't null, not even where length is 0.
  *                 During the call nothing writes them.
+ *   text          points to `room` bytes that may be read and written, and isn't null, not even where room is 0. During
+ *                 the call nothing else reads or writes them.
  *   judge         isn't null, points to a capcheck_judge whose bytes are all 0, or that is as the last call on
- *                 it left it (for capcheck_judge_open too), and doesn't overlap the line. Of an open one and
+ *                 it left it (for capcheck_judge_open too), and doesn't overlap the line or the text. Of an open one and
  *                 its copies only one is used. It is used by the thread that opened it, by
  *                 one call at a time.
  *   stack         some 40 KB for capcheck_judge_bytes, and some 10 KB for the other calls.
@@ -23,46 +25,11 @@
 #ifndef CAPCHECK_JUDGE_H
 #define CAPCHECK_JUDGE_H
 
-#include "capcheck.h"
+#include "capcheck_answer.h"
 
 #ifdef __cplusplus
 extern "C" {
 #endif
-
-/* How an answer stands. */
-enum capcheck_state {
-    CAPCHECK_GOES_ON = 0,   /* no line so far is at fault; what follows decides */
-    CAPCHECK_YES = 1,       /* the bytes are a log whose steps have a run from its roots */
-    CAPCHECK_NO = 2,        /* they are none: a line is at fault */
-    CAPCHECK_NO_MEMORY = 3, /* memory was refused, and there is no verdict */
-    CAPCHECK_NO_JUDGE = 4,  /* the judge isn't open */
-    CAPCHECK_NO_LINE = 5    /* the bytes are no line, or a number is out of its range */
-};
-
-/* An answer. What a state has no number for is 0. */
-typedef struct capcheck_answer {
-    uint64_t line;   /* CAPCHECK_NO: the first line at fault, from 1 on */
-    uint32_t steps;  /* CAPCHECK_YES: how many step lines the log has */
-    uint32_t roots;  /* CAPCHECK_YES: how many root lines it has */
-    uint8_t state;   /* enum capcheck_state */
-    uint8_t refusal; /* CAPCHECK_NO: the first test that this line fails, 1 to 25 */
-} capcheck_answer;
-
-/* The refusals of a line that are no refusal of an operation or an access: the others are in capcheck.h, and
- * capcheck_refusal_name names all. */
-enum capcheck_line_refusal {
-    CAPCHECK_BAD_HEADER = 1,
-    CAPCHECK_LINE_TOO_LONG = 2,
-    CAPCHECK_BAD_LINE = 3,
-    CAPCHECK_MISPLACED = 4,
-    CAPCHECK_TRUNCATED = 5,
-    CAPCHECK_WRONG_COUNT = 6,
-    CAPCHECK_PLACE_TAKEN = 7,
-    CAPCHECK_UNSOUND_ROOT = 8,
-    CAPCHECK_WRONG_RESULT = 23,
-    CAPCHECK_LIMIT_PASSED = 24,
-    CAPCHECK_BAD_MODE = 25
-};
 
 /* Takes memory from now on by these in place of malloc, realloc and free, whose promises they keep: for a judge in
  * an allocator, whose malloc would call itself, and for a program that counts. None is null. It is called while no
@@ -185,6 +152,13 @@ capcheck_optional_cap capcheck_judge_granule(capcheck_judge *judge, uint64_t add
  * CAPCHECK_EXPECTS_NOTHING after any other no, before a no, and where the judge isn't open. */
 CAPCHECK_CHECKED
 capcheck_expected capcheck_judge_expected(capcheck_judge *judge);
+
+/* After a no: writes what `capdiag why` prints of the lines so far, whatever lines follow: the line of the no, and the
+ * report of the line at fault. It stands at the front of `text`, without a byte 0 behind it, where it fits the room, and
+ * the answer is how many bytes it has. Where it doesn't fit, what the room holds is nobody's, and the answer says what it
+ * wants. 0 before a no, and where the judge isn't open: then nothing is written. */
+CAPCHECK_CHECKED
+uint64_t capcheck_judge_report(capcheck_judge *judge, char *text, size_t room);
 
 /* Closes a judge, and gives its memory back. One that isn't open stays so. */
 void capcheck_judge_close(capcheck_judge *judge);

@@ -1,10 +1,15 @@
-// node check.mjs MODULE VECTORS..: what the module answers to each line of vector files, by the page's calls.
+// node check.mjs MODULE JUDGE FILES..: what the module answers to each line of vector files, by the page's calls, and
+// what the judge's module answers to each log: what docs/FORMAT.md says, and byte for byte what CAPDIAG prints, where
+// that program is there.
+import { spawnSync } from "node:child_process";
 import fs from "node:fs";
 import vm from "node:vm";
 
-const [module, ...files] = process.argv.slice(2);
+const [module, judging, ...files] = process.argv.slice(2);
 const here = new URL(".", import.meta.url);
-const c = vm.runInThisContext(`${fs.readFileSync(new URL("words.js", here), "utf8")}; library`)(fs.readFileSync(module));
+const script = (...names) => names.map((name) => fs.readFileSync(new URL(name, here), "utf8")).join("\n");
+const { library, Judge } = vm.runInThisContext(`${script("words.js", "lines.js", "judging.js")}; ({ library, Judge })`);
+const c = library(fs.readFileSync(module));
 
 const number = (digits) => BigInt(`0x${digits}`);
 const word = (digits) => ({ high: number(digits.slice(0, 16)), low: number(digits.slice(16)) });
@@ -35,7 +40,22 @@ const agree = (line, said, wanted, calls) => {
     agreed += calls;
 };
 
-for (const file of files) {
+const judge = new WebAssembly.Module(fs.readFileSync(judging));
+const diagnosis = process.env.CAPDIAG ?? "crates/capdiag/out/capdiag";
+const verdicts = Object.fromEntries([...fs.readFileSync(new URL("../docs/FORMAT.md", here), "utf8")
+    .matchAll(/^\| `(\w+\.log)` \| .* \| `(.*)` \|$/gm)].map(([, name, verdict]) => [name, verdict]));
+
+for (const name of files.filter((it) => it.endsWith(".log"))) {
+    const bytes = fs.readFileSync(name);
+    const judged = new Judge(judge, bytes.length);
+    judged.bytes(judged.log, bytes.length).set(bytes);
+    const { text } = judged.why();
+    agree(name, text.split("\n")[0], verdicts[name.split("/").at(-1)], 1);
+    if (!fs.existsSync(diagnosis)) continue;
+    agree(name, text, spawnSync(diagnosis, ["why", name]).stdout.toString(), 0);
+}
+
+for (const file of files.filter((it) => it.endsWith(".vectors"))) {
     for (const line of fs.readFileSync(file, "utf8").trimEnd().split("\n")) {
         const [left, right] = line.split(" = ");
         const [form, ...given] = left.split(" ");

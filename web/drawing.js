@@ -27,8 +27,10 @@ function scaled(from, size, left, right) {
 
 const LETTER = { number: 7.4, note: 6.6, strong: 8.2 };
 
-/** Places labels of two lines below points of an axis, so that none lies on another or on another's leader. */
+/** Places labels of two lines below points of an axis, or of one where there are no notes, so that none lies on another
+ * or on another's leader. */
 function labels(points, width, top) {
+    const high = points.some(({ note }) => note) ? 36 : 21;
     const merged = [];
     for (const { x, number, note } of points) {
         const same = merged.find((it) => it.number === number && Math.abs(it.x - x) < 1);
@@ -41,14 +43,14 @@ function labels(points, width, top) {
     for (let rows = 1; !placed && rows <= merged.length + 1; rows++) placed = placing(merged, [], rows, width);
     placed = placed || merged.map((it, row) => ({ ...it, row, anchor: "start", left: Math.min(it.x, width - it.width) }));
     const nodes = placed.flatMap(({ x, number, note, row, anchor, left, width: w }) => {
-        const y = top + row * 36;
+        const y = top + row * high;
         const text = anchor === "middle" ? left + w / 2 : anchor === "start" ? left : left + w;
         return [
-            line(x, top - 6, x, y + (anchor === "middle" ? 2 : 30), "leader"),
-            words(text, y + 14, number, "number", anchor), words(text, y + 29, note, "note", anchor),
+            line(x, top - 6, x, y + (anchor === "middle" ? 2 : high - 6), "leader"),
+            words(text, y + 14, number, "number", anchor), ...(note ? [words(text, y + 29, note, "note", anchor)] : []),
         ];
     });
-    return { nodes, height: Math.max(0, ...placed.map((it) => it.row + 1)) * 36 };
+    return { nodes, height: Math.max(0, ...placed.map((it) => it.row + 1)) * high };
 }
 
 function placing(wanted, placed, rows, width) {
@@ -152,10 +154,11 @@ function marker(domain, tried, width, low) {
     const text = place < 0 ? `← ${says}` : place > width ? `${says} →` : says;
     const half = (text.length * LETTER.strong) / 2;
     return [
-        words(Math.max(half, Math.min(width - half, at)), 14, text, `number ${kind}`),
+        ...(tried.typed ? [words(Math.max(half, Math.min(width - half, at)), 14, text, `number ${kind}`)] : []),
         line(at, 34, domain.cut(domain.place(tried.address)), low, kind),
         shape("circle", { cx: at, cy: 34, r: 10, class: kind }),
-        tried.keeps ? shape("path", { d: `M${at - 4} 34l3 4l5 -7`, class: "sign" })
+        !tried.typed ? shape("path", { d: `M${at - 2} 30l-4 4l4 4m4 -8l4 4l-4 4`, class: "sign" })
+            : tried.keeps ? shape("path", { d: `M${at - 4} 34l3 4l5 -7`, class: "sign" })
             : shape("path", { d: `M${at - 4} 30l8 8m0 -8l-8 8`, class: "sign" }),
     ];
 }
@@ -199,4 +202,32 @@ function requestDrawing({ base, length, rounded }, width) {
     ];
     const below = labels(points, width, low + 8);
     return canvas(width, low + 12 + below.height, ...nodes, ...below.nodes);
+}
+
+/** Ranges one below the other on one axis, each with its name. Where some are far smaller than others, the axis is for
+ * those, and an arrow says that a range goes on. */
+function axisDrawing(bars, width) {
+    const sizes = bars.map(({ base, top }) => top - base).filter((size) => size > 0n);
+    const least = sizes.reduce((one, other) => (other < one ? other : one), sizes[0] ?? 1n);
+    const near = bars.filter(({ base, top }) => top - base <= least << 12n);
+    const from = near.reduce((least, { base }) => (base < least ? base : least), near[0].base);
+    const end = near.reduce((greatest, { top }) => (top > greatest ? top : greatest), near[0].top);
+    const room = (end - from) / 8n + 1n;
+    const left = 100;
+    const axis = scaled(from - room, end - from + 2n * room, left, width - 12);
+    const nodes = bars.flatMap(({ name, base, top, kind }, place) => {
+        const y = 4 + place * 26;
+        const [x1, x2] = [axis.cut(base), axis.cut(top)];
+        return [
+            words(0, y + 14, name, "note", "start"), bar(x1, x2, y, 18, kind),
+            ...(axis.x(base) < left ? [shape("path", { d: `M${left} ${y}l-8 9l8 9z`, class: kind })] : []),
+            ...(axis.x(top) > width - 12 ? [shape("path", { d: `M${width - 12} ${y}l8 9l-8 9z`, class: kind })] : []),
+        ];
+    });
+    const low = 8 + bars.length * 26;
+    const ends = bars.flatMap(({ base, top }) => [base, top]).filter((at) => axis.x(at) >= left && axis.x(at) <= width - 12);
+    const points = [...new Set(ends)].map((at) => ({ x: axis.x(at), number: hex(at), note: "" }));
+    const below = labels(points, width, low + 8);
+    const guides = points.map(({ x }) => line(x, 4, x, low, "leader"));
+    return canvas(width, low + 12 + below.height, ...guides, ...nodes, line(left, low, width - 12, low, "axis"), ...below.nodes);
 }

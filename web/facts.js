@@ -12,8 +12,11 @@ const PERMISSIONS = [
     [0x8000, "User bit 15"], [0x10000, "User bit 16"], [0x20000, "User bit 17"], [0x40000, "User bit 18"],
 ];
 
+const permissionNames = (view) => PERMISSIONS.filter(([bit]) => view & bit).map(([, name]) => name);
+
 const hex = (number, digits = 1) => number.toString(16).padStart(digits, "0");
 const decimal = (number) => number.toString().replace(/\B(?=(\d{3})+$)/g, ",");
+const counted = (count, what) => `${decimal(count)} ${what}${count == 1 ? "" : "s"}`;
 const ox = (number) => `0x${hex(number)}`;
 const span = ({ base, top }) => `${ox(base)} up to ${ox(top)}`;
 
@@ -101,6 +104,28 @@ function explained(f) {
     ];
 }
 
+/** A capability in a sentence: what it allows, where, and whether its address lies there. */
+function sentenceOf(c, f) {
+    const has = (name) => permissionNames(f.view).includes(name);
+    const list = (words) => words.join(", ").replace(/, ([^,]*)$/, " and $1");
+    const reach = (load, store) => list([...(has(load) ? ["read"] : []), ...(has(store) ? ["write"] : [])]);
+    const data = reach("Load", "Store");
+    const caps = [["read", "Load"], ["write", "Store"]].filter(([, name]) => has(name) && has(`${name} Capability`)).map(([verb]) => verb);
+    const both = data !== "" && list(caps) === data;
+    const can = [
+        ...(data ? [`${data} data${both ? " and capabilities" : ""}`] : []),
+        ...(caps.length && !both ? [`${list(caps)} capabilities`] : []),
+        ...["Execute", "Seal", "Unseal"].filter(has).map((name) => name.toLowerCase()),
+    ];
+    if (!f.sound) return `Not sound: ${f.why}.`;
+    const { address, otype } = f.fields;
+    const type = f.kind === "unsealed" ? "" : `, ${f.kind === "sealed" ? "sealed with type" : "with the reserved type"} ${ox(otype)}`;
+    const where = f.length > GREATEST ? "the whole address space" : `${counted(f.length, "byte")} from ${ox(f.bounds.base)}`;
+    const inside = c.contains(f.word, address, 1n) ? "the address lies in bounds" : `the address, ${ox(address)}, lies outside the bounds`;
+    const says = `${can.length ? list(can) : "no access"}, ${where}${type}; ${inside}`;
+    return f.tag ? `${says[0].toUpperCase()}${says.slice(1)}.` : `No tag, so it is data and allows nothing. With a tag: ${says}.`;
+}
+
 /** What setting the address gives: whether it keeps the bounds, those that the word has there, and what the
  * operation says. */
 function moved(c, cap, address) {
@@ -140,31 +165,31 @@ const needs = { seal: "Seal", unseal: "Unseal", load: "Load", lc: "Load", store:
 /** Each operation of the page: what it is called, what it takes, and both its ways. An access has one. */
 const OPERATIONS = {
     setbounds: {
-        takes: ["length"], title: "setbounds: narrow the bounds, rounded",
+        takes: ["source", "length"], title: "setbounds: narrow the bounds, rounded",
         strict: (c, o) => c.setBounds(o.source, o.value, false), clear: (c, o) => c.setBoundsClear(o.source, o.value, false),
     },
     setboundsexact: {
-        takes: ["length"], title: "setboundsexact: narrow the bounds, not rounded",
+        takes: ["source", "length"], title: "setboundsexact: narrow the bounds, not rounded",
         strict: (c, o) => c.setBounds(o.source, o.value, true), clear: (c, o) => c.setBoundsClear(o.source, o.value, true),
     },
     setaddr: {
-        takes: ["address"], title: "setaddr: set the address",
+        takes: ["source", "address"], title: "setaddr: set the address",
         strict: (c, o) => c.setAddr(o.source, o.value), clear: (c, o) => c.setAddrClear(o.source, o.value),
     },
     andperm: {
-        takes: ["mask"], title: "andperm: take permissions away",
+        takes: ["source", "mask"], title: "andperm: take permissions away",
         strict: (c, o) => c.andPerm(o.source, o.value), clear: (c, o) => c.andPermClear(o.source, o.value),
     },
     seal: {
-        takes: ["authority"], title: "seal: with the authority's address as type",
+        takes: ["source", "authority"], title: "seal: with the authority's address as type",
         strict: (c, o) => c.seal(o.source, o.authority), clear: (c, o) => c.sealClear(o.source, o.authority),
     },
     unseal: {
-        takes: ["authority"], title: "unseal: by an authority at its type",
+        takes: ["source", "authority"], title: "unseal: by an authority at its type",
         strict: (c, o) => c.unseal(o.source, o.authority), clear: (c, o) => c.unsealClear(o.source, o.authority),
     },
     cleartag: {
-        takes: [], title: "cleartag: drop the tag",
+        takes: ["source"], title: "cleartag: drop the tag",
         strict: (c, o) => ({ cap: c.clearTag(o.source), refusal: 0 }), clear: (c, o) => c.clearTag(o.source),
     },
     load: {
@@ -176,18 +201,39 @@ const OPERATIONS = {
         access: (c, o) => c.mayStore(o.authority, o.offset, o.size),
     },
     lc: {
-        takes: ["authority", "offset"], title: "lc: load a capability, the source standing in memory",
+        takes: ["source", "authority", "offset"], title: "lc: load a capability, the source standing in memory",
         access: (c, o) => c.mayLoadCap(o.authority, o.offset), result: (c, o) => c.loaded(o.authority, o.source),
     },
     sc: {
-        takes: ["authority", "offset"], title: "sc: store the source",
+        takes: ["source", "authority", "offset"], title: "sc: store the source",
         access: (c, o) => c.mayStoreCap(o.authority, o.offset, o.source), result: (c, o) => o.source,
     },
 };
 
+/** The ranges of an operation: what it starts from, what it asks for, and what it gives. */
+function rangesOf(c, operation, o) {
+    const of = (name, cap) => ({ name, kind: "bounds", ...c.decode(cap.word) });
+    const bars = [...(o.source ? [of("source", o.source)] : []), ...(o.authority ? [of("authority", o.authority)] : [])];
+    if (operation.takes.includes("length")) {
+        const { address } = c.split(o.source.word);
+        const { base, top } = c.round(address, o.value);
+        bars.push({ name: "request", kind: "asked", base: address, top: address + o.value }, { name: "rounded", kind: "asked", base, top });
+    }
+    if (operation.takes.includes("address")) {
+        const { start, size, every } = c.reach(o.source.word);
+        if (!every) bars.push({ name: "range", kind: "range", base: start, top: start + size });
+    }
+    if (operation.access) {
+        const { address } = c.mayLoad({ word: almighty(c, c.split(o.authority.word).address), tag: 1 }, o.offset, 1n);
+        bars.push({ name: "access", kind: "asked", base: address, top: address + (o.size ?? 16n) });
+    }
+    if (operation.clear) bars.push(of("result", operation.clear(c, o)));
+    return bars.filter(({ base, top }) => base <= top);
+}
+
 /** What a refusal compares, with the numbers of this case. */
 function compared(c, name, o, refusal) {
-    const source = c.split(o.source.word);
+    const source = o.source && c.split(o.source.word);
     const authority = o.authority && c.split(o.authority.word);
     const unsealed = ox(c.split(c.nothing()).otype);
     const within = (cap) => span(c.decode(cap.word));
@@ -229,3 +275,17 @@ function compared(c, name, o, refusal) {
         default: return "The module answers a number that is no refusal.";
     }
 }
+
+// The words that open a line of text.
+const TERMS = {
+    range: "The addresses that the word can get and keep its bounds. They are all that lie in the bounds, and some on either side.",
+    e: "E is the exponent: bounds are counted in units of 2^E bytes. The greater the length, the greater E, and the fewer the places "
+        + "where bounds can lie.",
+    b: "B is the base in units, its lowest 14 bits. The other bits are those of the address, or one more or less.",
+    t: "T is the top in units, its lowest 14 bits. The word has 12 of them, or 9 beside an exponent; the others follow from B.",
+    sound: "A word is sound where its bounds make sense: the top is the base plus the length, and at most 2^64. Only sound words can "
+        + "be roots.",
+    strict: "Strict is a machine that traps: where a test holds, the operation is refused, and nothing changes.",
+    clear: "Clear is a machine that clears tags in place of trapping, as Morello and current CHERI-RISC-V do: where a test holds, the "
+        + "result has no tag.",
+};

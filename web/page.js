@@ -28,6 +28,17 @@ function exactly(digits, wanted) {
     throw new Refused(`${digits.length} digits, and there have to be ${wanted}: ${gap}.`);
 }
 
+/** The word that a text has in the register's order: its digits alone, or as others print it; of several lines the one
+ * that is chosen. With it what was told besides: a tag, a register, what the word can't have. */
+function foundIn(text) {
+    if (text.trim() === "") throw new Refused("Type 32 hexadecimal digits.");
+    const all = pasted(text);
+    const it = all[Number(chosen.which)] ?? all[0];
+    if (!it) return { all, word: read(exactly(digitsOf(text), 32)), tag: null, says: "" };
+    if (it.parts) return { all, ...it, ...madeOf(c, it.parts) };
+    return { all, says: "", ...it, word: read(it.digits) };
+}
+
 /** Spaces and underscores between digits, `0x` before them, and upper-case digits are taken. */
 function digitsOf(text) {
     const digits = text.trim().toLowerCase().replace(/^0x/, "").replace(/[\s_]/g, "");
@@ -94,32 +105,66 @@ function refuse(id, problem) {
 
 const widthOf = (id) => Math.max(280, Math.floor(byId(id).clientWidth));
 
+const row = ([name, value, remark]) =>
+    make("tr", {}, make("th", { scope: "row" }, name), make("td", {}, value, ...(remark ? [make("small", {}, remark)] : [])));
+
 function fill(id, rows) {
-    byId(id).tBodies[0].replaceChildren(...rows.map(([name, value, remark]) =>
-        make("tr", {}, make("th", { scope: "row" }, name), make("td", {}, value, ...(remark ? [make("small", {}, remark)] : [])))));
+    byId(id).tBodies[0].replaceChildren(...rows.map(row));
 }
 
 function figure(caption, drawing) {
     return make("figure", { role: "img", "aria-label": caption }, make("figcaption", {}, caption), drawing);
 }
 
+const opened = new Set();
+
+/** A word that opens a line of text. */
+function term(name, text) {
+    const button = make("button", { type: "button", class: "term", "data-term": name, "aria-expanded": String(opened.has(name)) }, text);
+    return opened.has(name) ? [button, make("span", { class: "meaning" }, TERMS[name])] : [button];
+}
+
+function openTerm(name) {
+    if (!opened.delete(name)) opened.add(name);
+    show();
+    document.querySelector(`section:not([hidden]) [data-term=${name}]`)?.focus();
+}
+
 const shown = { facts: null, domain: null, tried: null };
 
 function showCapability() {
     const order = document.querySelector("[name=order]:checked").value;
-    const word = taken("word", (text) => wordOf(text, order));
-    byId("capability").querySelector(".results").hidden = word === null;
+    const reading = (text) => (order === "memory" ? { all: [], word: wordOf(text, order), says: "" } : foundIn(text));
+    const found = taken("word", reading);
+    byId("capability").querySelector(".results").hidden = found === null;
     shown.facts = null;
-    if (word === null) return;
+    showChoice(found?.all ?? []);
+    if (found === null) return;
+    const { word } = found;
     const facts = factsOf(c, { word, tag: Number(byId("tag").checked) });
     shown.facts = facts;
+    showTaken(found, facts, order);
+    byId("means").textContent = sentenceOf(c, facts);
+    byId("perms").replaceChildren(permissionsOf(facts));
+    byId("type").textContent = `Object type ${ox(facts.fields.otype)}, ${facts.kind}.`;
     fill("lines", explained(facts));
-    byId("lines").querySelectorAll("td")[3].append(permissionsOf(facts));
+    for (const it of byId("lines").tBodies[0].rows) {
+        const [{ textContent: name }] = it.cells;
+        if (!(name in TERMS)) continue;
+        const [button, ...meaning] = term(name, name);
+        it.cells[0].replaceChildren(button);
+        it.cells[1].append(...meaning);
+    }
+    if (facts.sound) {
+        const length = ["length", `${ox(facts.length)}, ${counted(facts.length, "byte")}`, "no line of it, but the top less the base"];
+        byId("lines").tBodies[0].rows[13].after(row(length));
+    }
     showTried(facts);
     const { fields, scale, range } = facts;
-    byId("range-says").textContent = range.every ? "Every address keeps these bounds: the representable range is the whole address space."
-        : `The representable range is ${ox(range.size)} addresses from ${ox(range.start)} on, 2^14 units of 2^${scale.cut} bytes; `
-        + "a tick is an eighth of it. Where an address leaves it, the digits mean other bounds.";
+    byId("range-says").replaceChildren(...(range.every
+        ? ["Every address keeps these bounds: the ", ...term("range", "representable range"), " is the whole address space."]
+        : ["The ", ...term("range", "representable range"), ` is ${ox(range.size)} addresses from ${ox(range.start)} on, 2^14 units of `
+            + `2^${scale.cut} bytes; a tick is an eighth of it. Where an address leaves it, the digits mean other bounds.`]));
     byId("grid-says").textContent = (fields.ie
         ? `E is ${fields.e}. A short tick is a unit, 2^${scale.cut} bytes; a bound can lie at each long one, `
             + `8 units, ${ox(scale.step)} bytes apart.`
@@ -136,6 +181,44 @@ function showCapability() {
     byId("near").replaceChildren(figure("At the base", near(base, "base")), figure("At the top", near(top, "top")));
 }
 
+// What the link and the field say of lists that hang on another field's text.
+const chosen = { which: "0" };
+
+/** The words of a dump, of which one is chosen. */
+function showChoice(all) {
+    byId("choice").hidden = all.length < 2;
+    byId("which").replaceChildren(...all.map(({ name, tag, digits, parts }, k) => {
+        const says = `${name ? `${name}: ` : ""}${tag ?? ""} ${digits ?? `${ox(parts.base)} up to ${ox(parts.base + parts.length)}`}`;
+        return make("option", { value: k, ...(k === Number(chosen.which) ? { selected: "" } : {}) }, says.trim());
+    }));
+    byId("which").size = Math.min(8, Math.max(2, all.length));
+    document.querySelector("label[for=which]").textContent = `${all.length} capabilities: choose one`;
+}
+
+/** What was taken of a text that isn't just digits, and what it would be read the other way. */
+function showTaken({ says, name, parts, digits, isHalves }, facts, order) {
+    const plain = byId("word").value.trim().toLowerCase() === facts.text;
+    const whose = `${name ? `, of ${name}` : ""}: ${facts.text}${parts ? ", made by the library" : ""}`;
+    byId("taken").textContent = order === "memory" || plain ? "" : `Taken${whose}. ${says}`;
+    byId("offer").replaceChildren();
+    // Almost any digits are sound: what a word is likely to be has its address in its bounds too.
+    const isLikely = (it) => c.sound(it) && c.contains(it, c.split(it).address, 1n);
+    if (isLikely(facts.word) || order === "memory" || !digits) return;
+    const offer = (other, text, label, act) => {
+        if (!isLikely(other)) return;
+        const button = make("button", { type: "button", class: "small" }, label);
+        button.addEventListener("click", () => { act(); changed(); });
+        const also = facts.sound ? ", and its address lies in its bounds" : "";
+        byId("offer").append(`${text}: the other way it is sound${also}. `, button, " ");
+    };
+    offer(c.fromMemory(Uint8Array.from(digits.match(/../g), (byte) => parseInt(byte, 16))), "Looks like memory order", "Read it so", () => {
+        byId("word").value = digits;
+        setValue("order", "memory");
+    });
+    const turned = digits.slice(16) + digits.slice(0, 16);
+    if (isHalves) offer(read(turned), "Looks like the low half first", "Turn the halves", () => { byId("word").value = turned; });
+}
+
 function permissionsOf({ view }) {
     return make("ul", { class: "perms" }, ...PERMISSIONS.map(([bit, name]) => view & bit
         ? make("li", {}, name)
@@ -147,16 +230,17 @@ function showTried(facts) {
     const address = typed ? taken("to", numberOf) : facts.fields.address;
     if (!typed) refuse("to", "");
     const cap = { word: facts.word, tag: facts.tag };
-    const tried = address === null ? null : moved(c, cap, address);
+    const tried = address === null ? null : { ...moved(c, cap, address), typed };
     const { svg, domain } = rangeDrawing(facts, tried, widthOf("range"));
     byId("range").replaceChildren(svg);
     Object.assign(shown, { domain, tried });
-    byId("take").disabled = tried === null;
-    byId("to-says").replaceChildren(...(tried ? triedText(facts, tried) : []));
+    byId("take").disabled = !typed || tried === null;
+    byId("to-says").replaceChildren(...(typed && tried ? triedText(facts, tried) : []));
     if (!tried) return;
     const place = domain.cut(domain.place(address)) / (domain.right - domain.left);
     byId("range").setAttribute("aria-valuenow", String(Math.round(place * 1000)));
-    byId("range").setAttribute("aria-valuetext", `${ox(address)}, ${tried.keeps ? "keeps the bounds" : "loses the bounds"}`);
+    byId("range").setAttribute("aria-valuetext", 
+        typed ? `${ox(address)}, ${tried.keeps ? "keeps the bounds" : "loses the bounds"}` : `${ox(address)}, the address itself`);
 }
 
 function triedText(facts, tried) {
@@ -238,40 +322,46 @@ function showOperation() {
         const word = taken(id, (text) => wordOf(text, "register"));
         return word && { word, tag: Number(byId(`${id}tag`).checked) };
     };
-    const given = { source: cap("source") };
+    const given = {};
+    if (takes.includes("source")) given.source = cap("source");
     if (takes.includes("authority")) given.authority = cap("authority");
     if (value) given.value = taken("value", numberOf);
     if (takes.includes("offset")) given.offset = taken("offset", offsetOf);
     if (takes.includes("size")) given.size = BigInt(byId("size").value);
     const whole = Object.values(given).every((it) => it !== null);
     byId("operation").querySelector(".results").hidden = !whole;
-    if (whole) byId("outcomes").replaceChildren(...outcomes(byId("do").value, operation, given));
+    if (!whole) return;
+    byId("outcomes").replaceChildren(...outcomes(byId("do").value, operation, given));
+    const bars = rangesOf(c, operation, given);
+    byId("ranges").setAttribute("aria-label", bars.map(({ name, ...it }) => `${name} ${span(it)}`).join("; "));
+    byId("ranges").replaceChildren(axisDrawing(bars, widthOf("ranges")));
 }
 
 function outcomes(name, operation, given) {
     if (operation.access) {
         const { address, refusal: number } = operation.access(c, given);
-        if (number) return [refused("In both modes", name, given, number)];
+        if (number) return [refused(["In both modes"], name, given, number)];
         const cap = operation.result && operation.result(c, given);
         const what = { lc: "the register gets", sc: "memory gets" }[name];
-        return [outcome("In both modes", `Allowed, at ${ox(address)}${what ? `; ${what}` : ""}`, cap)];
+        return [outcome(["In both modes"], `Allowed, at ${ox(address)}${what ? `; ${what}` : ""}`, cap)];
     }
     const strict = operation.strict(c, given);
     const clear = operation.clear(c, given);
+    const headings = { Strict: term("strict", "Strict"), Clear: term("clear", "Clear") };
     const lost = strict.refusal && given.source.tag ? `The result has no tag: ${refusal(strict.refusal)}` : "The result";
     return [
-        strict.refusal ? refused("Strict", name, given, strict.refusal) : outcome("Strict", "The result", strict.cap),
-        outcome("Clear", lost, clear),
+        strict.refusal ? refused(headings.Strict, name, given, strict.refusal) : outcome(headings.Strict, "The result", strict.cap),
+        outcome(headings.Clear, lost, clear),
     ];
 }
 
 function refused(mode, name, given, number) {
-    return make("div", { class: "outcome refused" }, make("h3", {}, mode),
+    return make("div", { class: "outcome refused" }, make("h3", {}, ...mode),
         make("p", {}, "Refused: ", make("span", { class: "name" }, refusal(number))), make("p", {}, compared(c, name, given, number)));
 }
 
 function outcome(mode, says, cap) {
-    const made = make("div", { class: "outcome" }, make("h3", {}, mode), make("p", {}, says));
+    const made = make("div", { class: "outcome" }, make("h3", {}, ...mode), make("p", {}, says));
     if (!cap) return made;
     const text = c.textOf(cap.word);
     const link = new URLSearchParams({ show: "capability", word: text, order: "register", tag: cap.tag, to: "" });
@@ -285,11 +375,12 @@ function outcome(mode, says, cap) {
 
 // ---- What a link has ----
 
-const VIEWS = { capability: showCapability, request: showRequest, operation: showOperation };
+const VIEWS = { capability: showCapability, request: showRequest, operation: showOperation, log: showLog };
 const FIELDS = {
-    capability: ["word", "order", "tag", "to"],
+    capability: ["word", "which", "order", "tag", "to"],
     request: ["base", "length"],
     operation: ["do", "source", "sourcetag", "authority", "authoritytag", "value", "offset", "size"],
+    log: ["text", "line"],
 };
 const defaults = {};
 let view = "capability";
@@ -298,12 +389,18 @@ let writing = 0;
 const controlsOf = (name) => (name === "order" ? [...document.querySelectorAll("[name=order]")] : [byId(name)]);
 
 function valueOf(name) {
+    if (name in chosen) return chosen[name];
     const control = controlsOf(name).find((it) => it.type !== "radio" || it.checked);
     return control.type === "checkbox" ? String(Number(control.checked)) : control.value;
 }
 
 /** Whether a field can have a value; it then has it. */
 function setValue(name, value) {
+    if (name in chosen) {
+        const isNumber = /^\d{1,4}$/.test(value);
+        chosen[name] = isNumber ? value : "0";
+        return isNumber;
+    }
     const [control, ...others] = controlsOf(name);
     const choices = control.type === "radio" ? [control, ...others].map((it) => it.value)
         : control.type === "checkbox" ? ["0", "1"] : control.tagName === "SELECT" ? [...control.options].map((it) => it.value) : null;
@@ -364,6 +461,15 @@ function changed() {
     writing = setTimeout(() => history.replaceState(null, "", linkTo()), 350);
 }
 
+/** Another view: going back in the browser leads to the one before. */
+function turnTo(name) {
+    if (writing) history.replaceState(null, "", linkTo());
+    clearTimeout(writing);
+    view = name;
+    history.pushState(null, "", linkTo());
+    show();
+}
+
 async function copy(text, what) {
     let said = `${what} copied.`;
     try {
@@ -378,6 +484,27 @@ async function copy(text, what) {
 }
 
 // ---- What a person does ----
+
+/** A word from the fields of its parts. */
+function makeWord() {
+    const letters = (text) => (text.trim() === "" ? 0x78fffn : /^[rwxRWE]+$/.test(text.trim()) ? maskOf(text.trim()) : numberOf(text));
+    const type = (text) => {
+        const found = text.trim() === "" ? 0x3ffffn : numberOf(text);
+        if (found > 0x3ffffn) throw new Refused("A type has 18 bits: 3ffff is unsealed.");
+        return Number(found);
+    };
+    const parts = {
+        base: taken("make-base", numberOf), length: taken("make-length", numberOf),
+        mask: taken("make-perms", letters), otype: taken("make-type", type),
+    };
+    if (Object.values(parts).includes(null)) return;
+    const { word, says } = madeOf(c, { ...parts, address: parts.base });
+    setValue("order", "register");
+    byId("word").value = c.textOf(word);
+    byId("tag").checked = true;
+    changed();
+    byId("made").textContent = says;
+}
 
 function tryAddress(address) {
     byId("to").value = hex(BigInt.asUintN(64, address), 16);
@@ -408,10 +535,22 @@ function tryByKey(event) {
 }
 
 function listen() {
-    for (const name of Object.values(FIELDS).flat()) for (const control of controlsOf(name)) control.addEventListener("input", changed);
-    for (const button of document.querySelectorAll("[data-view]")) {
-        button.addEventListener("click", () => { view = button.dataset.view; changed(); });
+    for (const name of Object.values(FIELDS).flat()) {
+        if (name !== "word" && !(name in chosen)) for (const control of controlsOf(name)) control.addEventListener("input", changed);
     }
+    for (const button of document.querySelectorAll("[data-view]")) {
+        button.addEventListener("click", () => { if (view !== button.dataset.view) turnTo(button.dataset.view); });
+    }
+    // A tag that stands in the text is that of the capability, until it is changed.
+    const takeTag = () => {
+        const [all, order] = [pasted(byId("word").value), valueOf("order")];
+        const tag = order === "register" ? (all[Number(chosen.which)] ?? all[0])?.tag : null;
+        if (tag !== null && tag !== undefined) byId("tag").checked = tag === 1;
+        changed();
+    };
+    byId("word").addEventListener("input", () => { chosen.which = "0"; takeTag(); });
+    byId("which").addEventListener("input", () => { chosen.which = byId("which").value; takeTag(); });
+    byId("make").addEventListener("click", makeWord);
     byId("copy-link").addEventListener("click", () => copy(location.href.split("#")[0] + linkTo(), "Link"));
     byId("copy-text").addEventListener("click", () =>
         copy(explained(shown.facts).map(([name, value]) => `${name} ${value}\n`).join(""), "Lines"));
@@ -431,22 +570,35 @@ function listen() {
         tryAtPixel(event);
     });
     range.addEventListener("pointermove", (event) => { if (range.hasPointerCapture(event.pointerId)) tryAtPixel(event); });
+    // What is typed is in the address before a link leads elsewhere, so that going back leads to it.
+    addEventListener("click", ({ target }) => {
+        if (target.closest('a[href^="#"]')) history.replaceState(null, "", linkTo());
+        if (target.dataset.term) openTerm(target.dataset.term);
+    }, { capture: true });
     addEventListener("hashchange", restore);
     addEventListener("resize", () => requestAnimationFrame(show));
 }
 
-function start() {
+/** A module that stands in the page, packed. */
+async function unpacked(id) {
+    const packed = Uint8Array.from(atob(byId(id).textContent.replace(/\s/g, "")), (letter) => letter.charCodeAt(0));
+    const stream = new Blob([packed]).stream().pipeThrough(new DecompressionStream("gzip"));
+    return new Uint8Array(await new Response(stream).arrayBuffer());
+}
+
+async function start() {
     byId("do").append(...Object.entries(OPERATIONS).map(([name, { title }]) => make("option", { value: name }, title)));
     for (const name of Object.values(FIELDS).flat()) defaults[name] = valueOf(name);
     try {
-        const text = byId("module").textContent.replace(/\s/g, "");
-        c = library(Uint8Array.from(atob(text), (letter) => letter.charCodeAt(0)));
+        c = library(await unpacked("module"));
+        Beside.module = new WebAssembly.Module(await unpacked("judge"));
     } catch (problem) {
         failed(problem);
         return;
     }
     listen();
+    listenToLog();
     restore();
 }
 
-start();
+const started = start();

@@ -4,8 +4,11 @@ import path from "node:path";
 
 import * as answers from "./tests/answers.mjs";
 import { Browser } from "./tests/browser.mjs";
-import { address, capability, count, file, same, STATES, tools } from "./tests/given.mjs";
+import { address, capability, count, file, hash, same, STATES, text, tools } from "./tests/given.mjs";
+import * as logs from "./tests/logs.mjs";
 import * as module from "./tests/module.mjs";
+import * as pasting from "./tests/pasting.mjs";
+import * as stepping from "./tests/stepping.mjs";
 import * as use from "./tests/use.mjs";
 
 // Each group of checks takes the page, and may say something of what it saw.
@@ -16,6 +19,15 @@ const GROUPS = {
     logsAreFollowed: answers.logsAreFollowed,
     refusalsAreNamed: answers.refusalsAreNamed,
     badInputIsRefused: answers.badInputIsRefused,
+    logsAreJudged: logs.logsAreJudged,
+    longLogsAreJudged: logs.longLogsAreJudged,
+    logsAreOpened: stepping.logsAreOpened,
+    linesAreStepped: stepping.linesAreStepped,
+    shortLogsAreJudged: stepping.shortLogsAreJudged,
+    logsAreUsable: stepping.logsAreUsable,
+    changedJudges: stepping.changedJudges,
+    pastedIsTaken: pasting.pastedIsTaken,
+    putRight: pasting.putRight,
     linksRestore: use.linksRestore,
     addressMoves: use.addressMoves,
     usableByKeys: use.usableByKeys,
@@ -27,22 +39,50 @@ const GROUPS = {
     changedModules: module.changedModules,
 };
 
+const logOf = (name, line = "") => hash({ show: "log", text: text(`examples/${name}.log`), line });
+
 // Pictures to look at: name, width, scheme, state.
 const PICTURES = [
-    ["light", 1000, "light", STATES[0]], ["dark", 1000, "dark", STATES[1]], ["narrow", 360, "light", STATES[1]],
-    ["request", 1000, "light", STATES[8]], ["request-dark-narrow", 360, "dark", STATES[8]],
-    ["operation", 1000, "dark", STATES.at(-1)], ["operation-narrow", 360, "light", STATES.at(-1)],
-    ["wrapped", 1000, "light", STATES[4]], ["unsound", 1000, "light", STATES[3]],
+    ["light", 1000, "light", STATES[0]],
+    ["dark", 1000, "dark", STATES[1]],
+    ["narrow", 360, "light", STATES[1]],
+    ["request", 1000, "light", STATES[8]],
+    ["request-dark-narrow", 360, "dark", STATES[8]],
+    ["operation", 1000, "dark", STATES.at(-1)],
+    ["operation-narrow", 360, "light", STATES.at(-1)],
+    ["wrapped", 1000, "light", STATES[4]],
+    ["unsound", 1000, "light", STATES[3]],
     ["narrow-bad", 360, "light", capability("12g")],
+    ["log", 1280, "light", logOf("kept_tag")],
+    ["log-dark", 1280, "dark", logOf("wrong_result")],
+    ["log-narrow", 360, "light", logOf("local_stored")],
+    ["log-yes-narrow", 360, "dark", logOf("memory", "9")],
+    [
+        "dump", 1000, "dark",
+        capability(
+            "c1: 0x1 0xffff1ffffbffd000 0x0000000000001000\nc2 0 ffff1fffdc0180040000000000000000\n0x1800 [rwRW,0x1000-0x2000]",
+            { which: "2" })
+    ],
 ];
 
-/** The picture for docs/: the head of the page, with an address that would lose the bounds. */
-async function pictureOfHead(page) {
-    await page.size(900, 850);
+/** The pictures for docs/: the head of the page, with an address that would lose the bounds, and with a log. */
+async function picturesOfHeads(page) {
     await page.scheme("light");
-    await page.go(address + capability("003d1ffffc1a13910000000000013c08", { to: "19400" }));
-    await page.picture(file("web/out/pictures/page.png"), false);
+    for (const [name, width, height, link] of [
+             ["page.png", 900, 850, capability("003d1ffffc1a13910000000000013c08", { to: "19400" })],
+             ["page_log.png", 960, 880, logOf("kept_tag")]]) {
+        await page.size(width, height);
+        await page.go(address + link);
+        await page.run(quiet);
+        await page.picture(file(`web/out/pictures/${name}`), false);
+    }
 }
+
+/** Waits until a log that is shown is judged. */
+const quiet = async () => {
+    for (let k = 0; k < 500 && view === "log" && !log.at; k++) await new Promise((done) => setTimeout(done, 10));
+    await new Promise((done) => setTimeout(done, 200));
+};
 
 async function pictures(page) {
     const folder = file("web/out/pictures");
@@ -51,6 +91,7 @@ async function pictures(page) {
         await page.size(width, 900, width === 360);
         await page.scheme(scheme);
         await page.go(address + link);
+        await page.run(quiet);
         await page.picture(path.join(folder, `${name}.png`));
     }
 }
@@ -60,8 +101,8 @@ async function main() {
     try {
         const page = await browser.open(address);
         for (const [name, group] of Object.entries(GROUPS)) {
-            // ONLY names a part of the groups.
-            if (!name.includes(process.env.ONLY ?? "")) continue;
+            // ONLY names parts of groups, with commas between them.
+            if (!(process.env.ONLY ?? "").split(",").some((part) => name.includes(part))) continue;
             const before = count.passed + count.failed;
             await page.size(1000, 1200);
             await page.go(address);
@@ -72,7 +113,7 @@ async function main() {
             console.log(`${name}: ${count.passed + count.failed - before} checks${said ? `, ${said}` : ""}`);
         }
         await pictures(page);
-        await pictureOfHead(page);
+        await picturesOfHeads(page);
     } finally {
         await browser.end();
     }

@@ -24,6 +24,8 @@ const LAYOUT = {
     access: { size: 16, fields: { address: [0, 8], refusal: [8, 1] } },
     digits: { size: 33, text: true },
     name: { size: 24, text: true },
+    answer: { size: 24, fields: { line: [0, 8], steps: [8, 4], roots: [12, 4], state: [16, 1], refusal: [17, 1] } },
+    why: { size: 32, fields: { answer: [0, "answer"], length: [24, 8] } },
 };
 
 // Each call: its name in the header behind `capcheck_`, what it answers, and what it takes.
@@ -73,21 +75,9 @@ function library(bytes) {
         throw new Error("This browser's WebAssembly has no 64-bit memory (memory64), which the module needs.");
     }
     const { exports } = new WebAssembly.Instance(new WebAssembly.Module(bytes));
-    const scratch = Number(grown(exports.memory)) * 65536;
+    const scratch = grown(exports.memory, 1);
     const view = () => new DataView(exports.memory.buffer);
-
-    const read = (kind, at) => {
-        const { size, fields, text } = LAYOUT[kind];
-        if (text) {
-            const found = new Uint8Array(exports.memory.buffer, at, size);
-            return String.fromCharCode(...found.subarray(0, found.indexOf(0)));
-        }
-        const made = {};
-        for (const [name, [offset, width]] of Object.entries(fields)) {
-            made[name] = typeof width === "string" ? read(width, at + offset) : number(view(), at + offset, width);
-        }
-        return kind === "wide" ? made.high << 64n | made.low : made;
-    };
+    const read = (kind, at) => readStruct(exports.memory, kind, at);
     const write = (kind, at, value) => {
         for (const [name, [offset, width]] of Object.entries(LAYOUT[kind].fields)) {
             if (typeof width === "string") write(width, at + offset, value[name]);
@@ -128,13 +118,32 @@ function library(bytes) {
     return made;
 }
 
-// Scratch memory for the calls. Older engines take and answer a number here.
-function grown(memory) {
-    try {
-        return memory.grow(1n);
-    } catch {
-        return memory.grow(1);
+/** A struct, or a text, that lies in the module's memory. */
+function readStruct(memory, kind, at) {
+    const { size, fields, text } = LAYOUT[kind];
+    if (text) {
+        const found = new Uint8Array(memory.buffer, at, size);
+        return String.fromCharCode(...found.subarray(0, found.indexOf(0)));
     }
+    const made = {};
+    for (const [name, [offset, width]] of Object.entries(fields)) {
+        made[name] = typeof width === "string" ? readStruct(memory, width, at + offset)
+            : number(new DataView(memory.buffer), at + offset, width);
+    }
+    return kind === "wide" ? made.high << 64n | made.low : made;
+}
+
+/** Where new memory of a module begins that has so many bytes at least. Older engines take and answer a number. */
+function grown(memory, bytes) {
+    const pages = Math.ceil(bytes / 65536);
+    let before;
+    try {
+        before = memory.grow(BigInt(pages));
+    } catch (problem) {
+        if (!(problem instanceof TypeError)) throw problem;
+        before = memory.grow(pages);
+    }
+    return Number(before) * 65536;
 }
 
 function number(view, at, width) {

@@ -24,9 +24,11 @@ judged() {
     [ "$verdict" = "$1" ] && [ "$status" = "$2" ] || { echo "check.sh: wanted $1, status $2, and got status $status" >&2; exit 1; }
 }
 
-# The two libraries are built side by side.
+# The libraries are built side by side.
 (cd crates/capcheck_c && ${RT_LIB:-rt lib}) > "$work/built" 2>&1 &
 other=$!
+(cd crates/capcheck_freestanding && ${RT_LIB:-rt lib}) > "$work/built_freestanding" 2>&1 &
+freestanding=$!
 judge=${CAPCHECK:-}
 if [ -z "$judge" ]; then
     (cd crates/capcheck && quietly rt run -- judge ../../examples/moves.log)
@@ -39,8 +41,10 @@ if [ -z "$diagnosis" ]; then
 fi
 quietly sh judge/build.sh
 wait "$other" || { cat "$work/built" >&2; echo 'check.sh: failed: the library for C' >&2; exit 1; }
+wait "$freestanding" || { cat "$work/built_freestanding" >&2; echo 'check.sh: failed: the judge without a heap' >&2; exit 1; }
 library=crates/capcheck_c/out/libcapcheck_c.a
-libraries="judge/out/libcapcheck_judge.a $library"
+lent=crates/capcheck_freestanding/out/libcapcheck_freestanding.a
+libraries="judge/out/libcapcheck_judge.a $library $lent"
 strict='-Wall -Wextra -Werror -pedantic -O2 -Iinclude'
 quietly ${CC:-cc} -std=c99 $strict examples/emulator/emulator.c $library -o "$work/emulator"
 quietly ${CC:-cc} -std=c99 $strict examples/emulator/calls.c $library -o "$work/calls"
@@ -92,6 +96,24 @@ if command -v valgrind > "$work/found"; then
     quietly ${CC:-cc} -std=c99 $strict -Wconversion examples/emulator/judging.c $libraries -o "$work/judging"
     quietly valgrind -q --leak-check=full --error-exitcode=9 "$work/judging" $logs
 fi
+
+# The judge without a heap wants nothing of a C library but three functions, and prints of each log what the program does.
+${NM:-nm} -u "$lent" | sed -n 's/^ *U //p' | sort -u > "$work/wants"
+${NM:-nm} --defined-only "$lent" | sed -nE 's/^[0-9a-f]+ [A-Z] //p' | sort -u > "$work/has"
+[ "$(comm -23 "$work/wants" "$work/has" | tr '\n' ' ')" = 'memcpy memmove memset ' ] || { echo 'check.sh: the judge without a heap wants more' >&2; exit 1; }
+for origins in '' --origins; do
+    for log in $logs; do
+        # shellcheck disable=SC2086 # no word is no word
+        "$diagnosis" why $origins "$log" || [ $? = 1 ]
+    done > "$work/wanted"
+    for compiler in "${CC:-cc} -std=c99" "${CXX:-c++} -std=c++11 -x c++"; do
+        command -v "${compiler%% *}" > "$work/found" || continue
+        quietly $compiler $strict -Wconversion examples/emulator/lent.c -x none "$lent" -o "$work/lent"
+        # shellcheck disable=SC2086
+        "$work/lent" $origins $logs > "$work/got"
+        cmp "$work/wanted" "$work/got" || { echo "check.sh: lent, built by $compiler, prints otherwise" >&2; exit 1; }
+    done
+done
 
 # A program that gets the lines from a pipe stops at the line that the program names: there it has read no line more.
 quietly ${CC:-cc} -std=c99 $strict -Wconversion examples/emulator/stopping.c $libraries -o "$work/stopping"

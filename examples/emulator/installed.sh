@@ -13,7 +13,7 @@ LD_LIBRARY_PATH=$work/there/lib "$work/emulator" > "$work/log"
 [ "$("$work/there/bin/capcheck" judge "$work/log")" = 'yes 27 1' ] || { echo 'installed.sh: the installed program gives another verdict' >&2; exit 1; }
 # Builds the program that judges files, and compares what it prints of a log with what the installed program does.
 judging() {
-    ${CC:-cc} -std=c99 -Wall -Wextra -Werror -pedantic -O2 examples/emulator/judging.c $(pkg-config --cflags --libs capcheck_judge) -o "$work/judging"
+    ${CC:-cc} -std=c99 -Wall -Wextra -Werror -pedantic -O2 examples/emulator/judging.c $(pkg-config --cflags --libs capcheck_judge capcheck_freestanding) -o "$work/judging"
     [ "$(LD_LIBRARY_PATH=$work/there/lib "$work/judging" "$work/log")" = 'yes 27 1' ] || { echo 'installed.sh: the installed judge gives another verdict' >&2; exit 1; }
 }
 judging

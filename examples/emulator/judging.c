@@ -1,9 +1,10 @@
 /*
  * Judges logs: it prints for each file that is named the line that `capcheck judge` prints, and ends with status
  * 0 where each got a verdict, a yes or a no, by each of the calls of capcheck_judge.h. A log is judged in memory
- * by one call, line by line, by steps, and by both in turn: a prefix of its lines has to get the same verdict in each way.
- * It is C and C++.
+ * by one call, without a heap, line by line, by steps, and by both in turn: a prefix of its lines has to get the same
+ * verdict in each way, and the same report of a no. It is C and C++.
  */
+#include <capcheck_freestanding.h>
 #include <capcheck_judge.h>
 
 #include <stdio.h>
@@ -175,6 +176,27 @@ static bool alike(capcheck_judge *a, capcheck_judge *b) {
     return holds;
 }
 
+/* What is lent to the judge without a heap, and room for two reports. */
+enum { SLOTS = 1 << 12, ROOM = 1 << 12 };
+static capcheck_slot slots[SLOTS];
+static char report[ROOM + 1], wanted[ROOM + 1];
+
+/* The report of a judge that was handed these bytes is that of the bytes themselves, in a room that just holds it too; in
+ * a smaller one its length is answered. */
+static void reports(capcheck_judge *judge, bool at_fault, const uint8_t *bytes, size_t length) {
+    uint64_t size = capcheck_judge_report(judge, report, ROOM);
+    EXPECT(capcheck_judge_report(judge, report, 0) == size && size <= ROOM);
+    if (!at_fault) {
+        EXPECT(size == 0);
+        return;
+    }
+    capcheck_why why = capcheck_judge_why(false, bytes, length, slots, SLOTS, wanted, ROOM);
+    EXPECT(same(why.answer, capcheck_judge_answer(judge)) && size == why.length && size > 0);
+    memset(report, 0x55, sizeof report);
+    EXPECT(capcheck_judge_report(judge, report, size - 1) == size && report[size - 1] == 0x55);
+    EXPECT(capcheck_judge_report(judge, report, size) == size && memcmp(report, wanted, size) == 0 && report[size] == 0x55);
+}
+
 /* Hands the whole lines of a log over, as lines, as steps, and as both in turn, and compares with the verdicts on its
  * beginnings. */
 static void by_lines(const uint8_t *bytes, size_t length) {
@@ -205,6 +227,9 @@ static void by_lines(const uint8_t *bytes, size_t length) {
         at_fault = state == CAPCHECK_NO;
         capcheck_answer verdict = capcheck_judge_bytes(bytes, taken);
         EXPECT(same(capcheck_judge_end(&judge), verdict));
+        EXPECT(same(capcheck_judge_bytes_in(bytes, taken, slots, SLOTS), verdict));
+        reports(&judge, at_fault, bytes, taken);
+        reports(&stepped, at_fault, bytes, taken);
         EXPECT(alike(&judge, &stepped) && alike(&judge, &mixed));
         capcheck_answer answer = capcheck_judge_answer(&judge);
         EXPECT(at_fault ? same(answer, verdict) : is_state(answer, CAPCHECK_GOES_ON));
@@ -358,6 +383,8 @@ static void closed(void) {
         EXPECT(is_state(capcheck_judge_end(&judge), CAPCHECK_NO_JUDGE));
         EXPECT(capcheck_judge_register(&judge, 1).present == 0 && is_null(capcheck_judge_register(&judge, 1).cap));
         EXPECT(is_nothing(capcheck_judge_expected(&judge)) && is_null(capcheck_judge_expected(&judge).cap));
+        memset(report, 0x55, sizeof report);
+        EXPECT(capcheck_judge_report(&judge, report, ROOM) == 0 && report[0] == 0x55);
         EXPECT(capcheck_judge_granule(&judge, 16).present == 0 && is_null(capcheck_judge_granule(&judge, 16).cap));
         capcheck_judge_close(&judge);
         EXPECT(capcheck_judge_open(&judge) == CAPCHECK_GOES_ON);

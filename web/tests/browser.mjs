@@ -91,6 +91,8 @@ class Page {
         const again = new Promise((done) => (this.loaded = done));
         await this.send("Page.navigate", { url: address });
         await again;
+        // The page unpacks its modules first.
+        await this.run(() => (typeof started === "undefined" ? null : started)).catch(() => null);
     }
 
     size(width, height, touch = false) {

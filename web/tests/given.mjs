@@ -47,7 +47,7 @@ export const tools = () => {
 };
 
 export const hash = (fields) => `#${new URLSearchParams(fields)}`;
-export const capability = (word, more = {}) => hash({ show: "capability", word, order: "register", tag: "1", to: "", ...more });
+export const capability = (word, more = {}) => hash({ show: "capability", word, which: "0", order: "register", tag: "1", to: "", ...more });
 
 // States that together make every call, and show every kind of text.
 export const ALL = "ffff1ffffc018004";
@@ -117,7 +117,7 @@ print(json.dumps(drawn))`;
 /** The sizes and offsets of the header's structs, by the C compiler. */
 export function layoutOfHeader(layout) {
     const lines = [];
-    const names = { fields: "fields", optional: "optional_word", digits: "word_text" };
+    const names = { optional: "optional_word", digits: "word_text" };
     for (const [kind, { size, fields }] of Object.entries(layout)) {
         const struct = `capcheck_${names[kind] ?? kind}`;
         lines.push(`printf("%d\\n", sizeof(${struct}) == ${size});`);
@@ -126,7 +126,8 @@ export function layoutOfHeader(layout) {
             lines.push(`printf("%d\\n", offsetof(${struct}, ${field}) == ${offset} && sizeof(((${struct} *)0)->${field}) == ${bytes});`);
         }
     }
-    const program = `#include <capcheck.h>\n#include <stdio.h>\nint main(void) {\n${lines.join("\n")}\nreturn 0;\n}\n`;
+    const program = `#include <capcheck.h>\n#include <capcheck_freestanding.h>\n#include <stdio.h>\nint main(void) {\n${
+        lines.join("\n")}\nreturn 0;\n}\n`;
     const made = file("web/out/layout");
     execFileSync("cc", ["-Iinclude", "-x", "c", "-", "-o", made], { cwd: root, input: program });
     return execFileSync(made).toString().trim().split("\n");

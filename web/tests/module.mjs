@@ -1,5 +1,6 @@
 // That the numbers are the module's, and that nothing else is asked.
 import fs from "node:fs";
+import zlib from "node:zlib";
 import { pathToFileURL } from "node:url";
 
 import { file, built, address, check, same, tools, hash, STATES } from "./given.mjs";
@@ -14,7 +15,8 @@ export async function changedModules(page) {
         const other = Buffer.from(bytes);
         check(other[at] !== value, `byte ${at} is another`);
         other[at] = value;
-        fs.writeFileSync(changed, html.replace(/(<script id="module"[^>]*>)[^<]*/, (_, head) => head + other.toString("base64")));
+        fs.writeFileSync(changed,
+            html.replace(/(<script id="module"[^>]*>)[^<]*/, (_, head) => head + zlib.gzipSync(other).toString("base64")));
         await page.go(pathToFileURL(changed).href);
         await page.run(tools);
         return page.run((links) => links.map((link) => {
@@ -150,11 +152,12 @@ export async function nothingIsFetched(page) {
         }, link);
     same(page.requests.slice(before).filter((url) => !url.startsWith("data:")), [], "requests");
     const html = fs.readFileSync(built, "utf8");
-    check(!/(?:src|href)="(?!data:)|@import|url\(|https?:\/\/(?!www\.w3\.org\/2000\/svg)/.test(html), "no address in the page");
+    check(!/(?:src|href)="(?!data:|#|\.\.\/\.\.\/docs\/)|@import|url\(|https?:\/\/(?!www\.w3\.org\/2000\/svg)/.test(html),
+        "no address in the page");
     const stopped = await page.run(() => fetch("data:,x").then(() => "went through", () => "stopped"));
     same(stopped, "stopped", "a fetch from the page");
-    check(html.length <= 150 * 1024 && fs.statSync(built).size <= 150 * 1000, `size ${fs.statSync(built).size}`);
-    check(!/^@[a-z0-9./]+@$/m.test(html), "no place for a file is left");
+    check(fs.statSync(built).size <= 200 * 1000, `size ${fs.statSync(built).size}`);
+    check(!/^@[a-z0-9_./]+@$|@pages@/m.test(html), "no place for a file is left");
 }
 
 export async function withoutAnEngine(first) {

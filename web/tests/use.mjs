@@ -122,9 +122,10 @@ export async function usableByKeys(page) {
     for (const link of [STATES[0], STATES[8], STATES[11], STATES[15]]) {
         await page.go(address + link);
         await page.run(tools);
-        const wanted = await page.run(() => [...document.querySelectorAll("button, input, select, a[href], [tabindex='0']")]
+        const wanted = await page.run(() => [...document.querySelectorAll(
+            "button, input, textarea, select, summary, a[href], [tabindex='0']")]
                                                 .filter((it) => visible(it) && !it.disabled && !(it.type === "radio" && !it.checked))
-                                                .map((it) => it.id || it.dataset.view || it.name || it.textContent));
+                                                .map((it) => it.id || it.dataset.view || it.dataset.term || it.name || it.textContent));
         const reached = [];
         for (let k = 0; k < wanted.length; k++) {
             await page.key("Tab");
@@ -132,7 +133,7 @@ export async function usableByKeys(page) {
                 const it = document.activeElement;
                 const { outlineStyle, outlineWidth } = getComputedStyle(it);
                 return [
-                    it.id || it.dataset.view || it.name || it.textContent, outlineStyle, parseFloat(outlineWidth),
+                    it.id || it.dataset.view || it.dataset.term || it.name || it.textContent, outlineStyle, parseFloat(outlineWidth),
                     it.matches(":focus-visible")
                 ];
             });
@@ -154,7 +155,8 @@ export async function everythingHasAName(page) {
         const { nodes } = await page.send("Accessibility.getFullAXTree");
         const roles = nodes.filter((it) => !it.ignored).map((it) => [it.role?.value, it.name?.value ?? ""]);
         const named =
-            new Set(["textbox", "checkbox", "radio", "combobox", "button", "slider", "link", "image", "figure", "navigation", "region"]);
+            new Set(["textbox", "checkbox", "radio", "combobox", "button", "slider", "link", "image", "figure", "navigation", "region",
+                "listbox", "progressbar"]);
         for (const [role, name] of roles)
             if (named.has(role)) check(name.trim() !== "", `${role} without a name at ${link}`);
         for (const role of ["banner", "main", "contentinfo", "navigation", "heading"])
@@ -162,7 +164,8 @@ export async function everythingHasAName(page) {
     }
     await page.run(tools);
     const labels =
-        await page.run(() => [...document.querySelectorAll("input:not(#link), select")].map((it) => [it.id || it.value, it.labels.length]));
+        await page.run(() => [...document.querySelectorAll("input:not(#link):not(#file), textarea, select")].map(
+            (it) => [it.id || it.value, it.labels.length]));
     for (const [name, count] of labels) same(count, 1, `labels of ${name}`);
     check(await page.run(() => document.documentElement.lang === "en" && document.title !== ""), "language and title");
     check(await page.run(() => [...document.querySelectorAll("[aria-describedby]")].every(
@@ -171,7 +174,7 @@ export async function everythingHasAName(page) {
 }
 
 /** The contrast of every text with what it stands on, and of what is drawn with the paper. */
-const contrasts = () => {
+export const contrasts = () => {
     const parse = (colour) => colour.match(/[\d.]+/g).map(Number);
     const light = (colour) => {
         const [r, g, b] =
@@ -194,12 +197,12 @@ const contrasts = () => {
         if (!visible(it)) continue;
         const style = getComputedStyle(it);
         const own = [...it.childNodes].some((node) => node.nodeType === 3 && node.textContent.trim() !== "");
-        if (own || it.matches("input, select"))
+        if (own || it.matches("input, textarea, select"))
             found.push([
                 "text", it.tagName + (it.id || it.getAttribute("class") || ""),
                 ratio(it instanceof SVGElement ? style.fill : style.color, ground(it)), 4.5
             ]);
-        if (it.matches("input:not([type]), select, button"))
+        if (it.matches("input:not([type]), textarea, select, button:not(.term)"))
             found.push(["edge", it.id, ratio(style.borderTopColor, ground(it.parentElement)), 3]);
         if (it.placeholder) found.push(["placeholder", it.id, ratio(getComputedStyle(it, "::placeholder").color, ground(it)), 4.5]);
         const drawn = {
@@ -232,6 +235,24 @@ export async function contrastSuffices(page) {
     return `least contrast of a text ${least.toFixed(2)}`;
 }
 
+/** Whether the page is as wide as the screen, which texts of drawings lie outside, and which on another. */
+export const overlaps = () => {
+    const boxes = [...document.querySelectorAll("svg text")]
+                      .filter((it) => visible(it) && it.textContent)
+                      .map((it) => [it.textContent, it.getBoundingClientRect(), it.closest("svg").getBoundingClientRect(),
+                               it.closest("svg")]);
+    const lie = boxes
+                    .filter(([, box, frame]) =>
+                                box.left < frame.left - 1 || box.right > frame.right + 1 || box.bottom > frame.bottom + 1)
+                    .map(([name]) => name);
+    const over = [];
+    boxes.forEach(([name, a, , svg], k) => boxes.slice(k + 1).forEach(([other, b, , its]) => {
+        if (svg === its && a.left < b.right - 1 && b.left < a.right - 1 && a.top < b.bottom - 3 && b.top < a.bottom - 3)
+            over.push(`${name} on ${other}`);
+    }));
+    return [document.documentElement.scrollWidth <= innerWidth, lie, over];
+};
+
 /** No text of a drawing lies on another or outside, and the page isn't wider than the screen. */
 export async function fitsTheScreen(page) {
     const more = [
@@ -246,22 +267,7 @@ export async function fitsTheScreen(page) {
                  hash({ show: "request", base: "fffffffffffff000", length: "1000" })]) {
             await page.go(address + link);
             await page.run(tools);
-            const got = await page.run(() => {
-                const boxes = [...document.querySelectorAll("svg text")]
-                                  .filter((it) => visible(it) && it.textContent)
-                                  .map((it) => [it.textContent, it.getBoundingClientRect(), it.closest("svg").getBoundingClientRect(),
-                                           it.closest("svg")]);
-                const lie = boxes
-                                .filter(([, box, frame]) =>
-                                            box.left < frame.left - 1 || box.right > frame.right + 1 || box.bottom > frame.bottom + 1)
-                                .map(([name]) => name);
-                const over = [];
-                boxes.forEach(([name, a, , svg], k) => boxes.slice(k + 1).forEach(([other, b, , its]) => {
-                    if (svg === its && a.left < b.right - 1 && b.left < a.right - 1 && a.top < b.bottom - 3 && b.top < a.bottom - 3)
-                        over.push(`${name} on ${other}`);
-                }));
-                return [document.documentElement.scrollWidth <= innerWidth, lie, over];
-            });
+            const got = await page.run(overlaps);
             same(got, [true, [], []], `${width} pixels: ${link}`);
         }
     }

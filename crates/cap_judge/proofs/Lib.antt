@@ -16,3 +16,4 @@ mod ReachLemmas
 mod HeadLemmas
 mod ReadingLemmas
 mod EndingLemmas
+mod KeepingLemmas

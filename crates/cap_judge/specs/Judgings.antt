@@ -98,3 +98,10 @@ pub record JudgedBy {S : Type 0} (gave : S → S → List ℕ → Type 0) (ended
   pub judged : Judged gave ended old new result
   pub leads : IfOk result (LeadsAfter judged.given held)
   pub stops : IfOk result (StopsIn judged.given (ended new) held text)
+
+-- an answer on all the bytes of a log, with what the machine of the judge holds then, and the text of the line that was refused
+pub record JudgedAll (bytes : List ℕ) (result : Result Verdict JudgeFault) (held : Held) (text : List ℕ) : Type 0 where
+  pub answer : IsAnswerOf bytes true result
+  pub leads : IfOk result (LeadsAfter bytes held)
+  pub stops : IfOk result (StopsIn bytes true held text)
+  pub pulls_nothing : result ≢ Err Pull

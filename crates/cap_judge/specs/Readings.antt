@@ -183,3 +183,10 @@ pub record BeginsWhole (bytes : List ℕ) : Type 0 where
 abbrev pub Stands : List ℕ → Option Verdict → Type 0
 Stands bytes None = BeginsWhole bytes
 Stands bytes (Some verdict) = IsVerdictOf bytes false verdict
+
+-- how a log that begins with these bytes stands, and where: none of its lines so far is a fault; or one is, whatever bytes follow, whose
+-- text is this, and the machine holds what the lines before it lead to
+abbrev pub StandsIn : Held → List ℕ → Option faults.Fault → Type 0
+StandsIn held bytes None = BeginsWhole bytes
+StandsIn held bytes (Some fault) =
+    IsVerdictOf bytes false (No fault.line fault.refusal) × StopsBefore bytes false held fault.line (bytes_of fault.text)

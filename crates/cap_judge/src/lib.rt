@@ -10,6 +10,7 @@ mod beginning;
 mod expecting;
 mod fault_lines;
 mod faults;
+mod keeping;
 mod laws;
 mod lines;
 mod numbers;
@@ -19,11 +20,14 @@ mod reporting;
 mod results;
 mod steps;
 mod streams;
+mod telling;
 mod verdict;
 mod verdict_lines;
 
 pub use crate::beginning::{Judge, Stop, Taken};
 pub use crate::fault_lines::FaultLine;
+pub use crate::faults::Fault;
+pub use crate::keeping::judge_bytes_keeping;
 pub use crate::laws::{
     accepted_in_turn, escapes_are_named_exactly, logs_are_guarded, logs_clear_exactly, one_verdict,
     other_bytes_are_of_version_one, some_verdict,

@@ -144,7 +144,7 @@ fn take_pulled<M: TaggedStore>(judge: &mut Judge<M>, pulled: &mut Pulled) -> Sto
 }
 
 // A yes, or a no and its line.
-fn answered(end: Result<Verdict, Fault>) -> (Result<Verdict, JudgeFault>, FaultLine)
+pub(crate) fn answered(end: Result<Verdict, Fault>) -> (Result<Verdict, JudgeFault>, FaultLine)
     ensures { IsAnswered end result.0 (bytes_of result.1) }
 {
     match end {

@@ -1,19 +1,22 @@
 -- The report of a first fault: it is that of the place where the judge stopped.
-use Rattle.std.proofs.Common.{◌≡◌, ℕ, Bool, true, false, List, [], ◌++◌, refl, sym, ap, subst, Ok, Err, Result, OnOk, OnErr}
+use Rattle.std.proofs.Common.{◌≡◌, ℕ, Bool, true, false, List, [], ◌++◌, refl, sym, ap, subst, Ok, Err, Result, OnOk, OnErr, Some}
 use Rattle.std.specs.Bool.{if◌then◌else◌}
 use Rattle.cap_ops.specs.declared.refusal.Refusal.{Refusal}
 use Rattle.cap_machine.specs.Accounts.{Account}
 use Rattle.cap_machine.specs.Helds.{Held, account_of}
+use Rattle.cap_judge.specs.declared.faults.Fault.{Fault}
 use Rattle.cap_judge.specs.declared.verdict.Verdict.{Verdict}
 use Rattle.cap_judge.specs.declared.verdict.Verdict.TheVariants.{Yes, No}
 use Rattle.cap_judge.specs.Judgings.{IsVerdictOf, IsAnswerOf, LeadsAfter, StopsBefore, StopsIn}
+use Rattle.cap_judge.specs.FaultLines.{bytes_of}
+use Rattle.cap_judge.specs.Readings.{StandsIn}
 use Rattle.cap_judge.specs.Reports.{Tells}
 use Rattle.cap_judge.specs.OriginLists.{report_text}
 use Rattle.cap_judge.specs.VerdictLines.{verdict_line}
 use Rattle.cap_judge.proofs.FaultPlaces.{at_fault}
 use Rattle.cap_judge.proofs.ReportLemmas.{IsHeld, tells}
 use Rattle.cap_report.specs.FaultReports.{IsLineReport, IsReport}
-use Rattle.cap_report.specs.Whys.{Explains, IsWhyText}
+use Rattle.cap_report.specs.Whys.{Explains, ExplainsSoFar, IsWhyText}
 
 -- where a judge stopped, the report of that line is the report of the first fault, whatever bytes follow where the source has not ended
 pub reported : (given : List ℕ) (ended : Bool) (held : Held) (line : ℕ) (refusal : Refusal) (text report : List ℕ)
@@ -61,3 +64,12 @@ pub why_no : (origins : Bool) (held : Held) (text : List ℕ) (verdict : Verdict
     → IsLineReport (account_of held) text refusal report → IsWhyText origins held text verdict (verdict_line verdict ++ report)
 why_no origins held text verdict line refusal report is by =
     subst (λ (v : Verdict). IsWhyText origins held text v (verdict_line v ++ report)) (sym is) (report, by, refl)
+
+-- the text of a line at fault that a judge was handed
+pub so_far : (bytes : List ℕ) (held : Held) (fault : Fault) (report : List ℕ) → StandsIn held bytes (Some fault)
+    → IsLineReport (account_of held) (bytes_of fault.text) fault.refusal report
+    → ExplainsSoFar bytes (Some (No fault.line fault.refusal)) (verdict_line (No fault.line fault.refusal) ++ report)
+so_far bytes held fault report stands told = (
+  stands.0,
+  (report, reported bytes false held fault.line fault.refusal (bytes_of fault.text) report stands.0 stands.1 told, refl),
+)

@@ -1,9 +1,11 @@
 -- What a judge that explains a no writes (this profile's own).
-use Rattle.std.specs.Prelude.{◌≡◌, ℕ, Bool, true, List, [], ◌++◌, if◌then◌else◌}
+use Rattle.std.specs.Prelude.{◌≡◌, ℕ, Bool, true, false, List, [], ◌++◌, Option, None, Some, if◌then◌else◌}
 use Rattle.cap_judge.specs.declared.verdict.Verdict.{Verdict}
 use Rattle.cap_judge.specs.declared.verdict.Verdict.TheVariants.{Yes, No}
 use Rattle.cap_machine.specs.Helds.{Held, account_of}
+use Rattle.cap_judge.specs.Judgings.{IsVerdictOf}
 use Rattle.cap_judge.specs.OriginLists.{report_text}
+use Rattle.cap_judge.specs.Readings.{BeginsWhole}
 use Rattle.cap_report.specs.FaultReports.{IsLineReport, IsReport}
 use Rattle.cap_judge.specs.Reports.{Tells}
 use Rattle.cap_judge.specs.VerdictLines.{verdict_line}
@@ -22,3 +24,9 @@ IsWhyText origins held line (Yes steps roots) told =
     told ≡ (if origins then report_text held (Yes steps roots) else verdict_line (Yes steps roots))
 IsWhyText origins held line (No number refusal) told =
     (report : List ℕ) × IsLineReport (account_of held) line refusal report × (told ≡ verdict_line (No number refusal) ++ report)
+
+-- the text of how a log stands that begins with these bytes: none while no line of theirs is at fault, and otherwise that of a judge that
+-- explains the no, which stands whatever bytes follow
+abbrev pub ExplainsSoFar : List ℕ → Option Verdict → List ℕ → Type 0
+ExplainsSoFar bytes None text = BeginsWhole bytes × (text ≡ [])
+ExplainsSoFar bytes (Some verdict) text = IsVerdictOf bytes false verdict × Explains false bytes false verdict text

@@ -1,21 +1,23 @@
 //! The judge that explains a no: what the machine held before the line that was refused.
 
-ghost use Rattle.std.specs.Prelude.{◌≡◌, ◌≢◌, ℕ, List, ◌++◌, take, true, Err, IfOk, OnOk, OnErr};
+ghost use Rattle.std.specs.Prelude.{◌≡◌, ◌≢◌, ℕ, List, ◌++◌, take, true, Err, Option, IfOk, OnOk, OnErr};
 ghost use Rattle.std.specs.FinMap as map;
 ghost use Rattle.cap_log.specs.Streams.{next_count};
 ghost use Rattle.cap_machine.specs.Helds.{account_of, held_of};
 ghost use Rattle.cap_judge.specs.FaultLines.{bytes_of};
 ghost use Rattle.cap_report.specs.FaultReports.{IsLineReport};
-ghost use Rattle.cap_judge.specs.Reports.{Reported};
+ghost use Rattle.cap_judge.specs.Readings.{HasRead};
+ghost use Rattle.cap_judge.specs.Reports.{IsPushedFor, Reported};
 ghost use Rattle.cap_judge.specs.VerdictLines.{verdict_line};
 ghost use Rattle.cap_judge.specs.Verdicts.{NamesEscapes};
-ghost use Rattle.cap_report.specs.Whys.{Explains, IsWhyText};
+ghost use Rattle.cap_report.specs.Whys.{Explains, ExplainsSoFar, IsWhyText};
 ghost use Rattle.cap_judge.specs.declared.verdict.JudgeToFault.TheVariants.{Pull, Push};
+ghost use Rattle.cap_judge.specs.declared.verdict.Verdict.{Verdict};
 
 use crate::fault_reports::put_report;
 use cap_judge::{
-    FaultLine, JudgeToFault, Judging, Verdict, judge_keeping, push_report, push_verdict,
-    verdict_text,
+    FaultLine, Judge, JudgeToFault, Judging, Verdict, judge_bytes_keeping, judge_keeping,
+    push_report, push_verdict, verdict_text,
 };
 use cap_log::buffers::put;
 use cap_log::{PushFault, Sink, Source, push_all};
@@ -69,6 +71,60 @@ pub fn judge_why_in<S: Source, M: TaggedStore, K: Sink>(
     let verdict = answer?;
     push_why(&verdict, origins, &machine, &fault, sink)?;
     Ok(verdict)
+}
+
+/// Judges the bytes of a log as [`judge_why_in`] does those of a source, and takes no more of the stack than that they
+/// are judged line by line where they lie.
+pub fn judge_why_bytes<M: TaggedStore, K: Sink>(
+    origins: bool,
+    bytes: &[u8],
+    memory: M,
+    sink: &mut K,
+) -> Result<Verdict, JudgeToFault>
+    requires { map.len (M.contents memory) ≡ 0 }
+    ensures explained { IsPushedFor (Explains origins bytes.now true) bytes.now true (K.took sink.old sink.new) result }
+    ensures pulls_nothing { result ≢ Err Pull }
+    ensures escape { IfOk result NamesEscapes }
+    ensures sink_counted { result ≢ Err Push → K.faults sink.new ≡ K.faults sink.old }
+    ensures push_counted { result ≡ Err Push → K.faults sink.new ≡ next_count (K.faults sink.old) }
+{
+    let Judging {
+        answer,
+        machine,
+        fault,
+    } = judge_bytes_keeping(bytes, memory);
+    match answer {
+        Ok(verdict) => match push_why(&verdict, origins, &machine, &fault, sink) {
+            Ok(()) => Ok(verdict),
+            Err(PushFault) => Err(JudgeToFault::Push),
+        },
+        Err(_) => Err(JudgeToFault::NoMemory),
+    }
+}
+
+/// Pushes what belongs to the lines that a judge was handed: nothing while none of them is at fault, and otherwise the
+/// line of the no, and the report of the first fault. It is what [`judge_why`] pushes for these lines, whatever lines follow.
+pub fn push_refused<M: TaggedStore, K: Sink>(
+    judge: &Judge<M>,
+    sink: &mut K,
+) -> Result<(), PushFault>
+    ensures ok { OnOk result ((bytes : List ℕ) → HasRead M.contents judge.now bytes → (verdict : Option Verdict)
+        × (told : List ℕ) × ExplainsSoFar bytes verdict told × K.took sink.old sink.new told) }
+    ensures err { OnErr result ((bytes : List ℕ) → HasRead M.contents judge.now bytes → (verdict : Option Verdict)
+        × (told : List ℕ) × ExplainsSoFar bytes verdict told × (n : ℕ) × K.took sink.old sink.new (take n told)) }
+    ensures counted { OnOk result (K.faults sink.new ≡ K.faults sink.old) }
+    ensures fault_counted { OnErr result (K.faults sink.new ≡ next_count (K.faults sink.old)) }
+{
+    match judge.refused() {
+        Some(fault) => push_no(
+            &fault.verdict(),
+            judge.machine(),
+            &fault.text,
+            fault.refusal,
+            sink,
+        ),
+        None => Ok(()),
+    }
 }
 
 // Pushes the text of a verdict: after a yes with the origins where they are asked for, and after a no with

@@ -17,8 +17,10 @@ use Rattle.cap_judge.specs.Judgings.{account_before}
 use Rattle.cap_judge.specs.Logs.{MayLackMemory}
 use Rattle.cap_judge.specs.Readings.{BeginsWhole, HasRead, Known, Stands, known_of}
 use Rattle.cap_judge.specs.Verdicts.{IsVerdict, IsGuarded}
-use Rattle.capcheck_judge.specs.Answers.{numbers_of, without_verdict}
-use Rattle.capcheck_judge.specs.declared.answers.Answer.{Answer}
+use Rattle.cap_report.specs.Whys.{ExplainsSoFar}
+use Rattle.cap_answers.specs.Answers.{numbers_of, without_verdict}
+use Rattle.cap_answers.specs.Texts.{IsTold}
+use Rattle.cap_answers.specs.declared.answers.Answer.{Answer}
 use Rattle.capcheck_judge.specs.declared.handle.Handle.{Handle}
 use Rattle.capcheck_judge.specs.declared.answers.Given.{Given}
 
@@ -93,3 +95,10 @@ pub record AnswersExpected (bytes : List ℕ) (given : Given) : Type 0 where
   pub expected : Option Expected
   pub numbers : IsGiven expected given
   pub expects : Expects bytes expected
+
+-- C gets the text of how a log stands that begins with these bytes, where there is room for it: none while no line is at fault
+pub record AnswersReport (bytes old new : List ℕ) (count : ℕ) : Type 0 where
+  pub verdict : Option Verdict
+  pub text : List ℕ
+  pub explains : ExplainsSoFar bytes verdict text
+  pub told : IsTold 0 count text old new

@@ -1,45 +1,6 @@
-//! What the judge answers to C: structs of plain numbers.
-
-ghost use Rattle.std.specs.Prelude.{◌≡◌};
-ghost use Rattle.capcheck_judge.specs.Answers.{numbers_of, without_verdict};
+//! What a judge tells of the machine of a log: structs of plain numbers.
 
 use cap_halves::values::Capability;
-use cap_judge::Verdict;
-
-/// The state of lines of which none is at fault so far.
-pub(crate) const GOES_ON: u8 = 0;
-
-/// The state of an answer that is a yes.
-pub(crate) const YES: u8 = 1;
-
-/// The state of an answer that is a no.
-pub(crate) const NO: u8 = 2;
-
-/// The state of an answer without a verdict, for want of memory.
-pub(crate) const NO_MEMORY: u8 = 3;
-
-/// The state of an answer of a handle that holds no judge.
-pub(crate) const NO_JUDGE: u8 = 4;
-
-/// The state of bytes that are no line.
-pub(crate) const NO_LINE: u8 = 5;
-
-/// What a judge answers (in C `capcheck_answer`).
-#[repr(C)]
-#[derive(Debug, Clone, Copy, PartialEq, Eq)]
-pub struct Answer {
-    /// After a no the number of the first line at fault, from 1 on, else 0.
-    pub line: u64,
-    /// After a yes how many step lines the log has, else 0.
-    pub steps: u32,
-    /// After a yes how many root lines the log has, else 0.
-    pub roots: u32,
-    /// 1 for a yes, 2 for a no, 0 where no line is at fault so far, 3 where memory for a granule was refused, and 4
-    /// where there is no judge.
-    pub state: u8,
-    /// After a no the number of the refusal, 1 to 25, else 0.
-    pub refusal: u8,
-}
 
 /// A capability, or none (in C `capcheck_optional_cap`).
 #[repr(C)]
@@ -63,35 +24,4 @@ pub struct Given {
     pub size: u8,
     /// 1 where it is the capability, 2 where it is the number, and 0 where there is none.
     pub kind: u8,
-}
-
-/// A verdict as C gets it.
-pub(crate) fn numbers_of(verdict: Verdict) -> Answer
-    ensures { result ≡ numbers_of verdict }
-{
-    match verdict {
-        Verdict::Yes { steps, roots } => Answer {
-            steps,
-            roots,
-            ..without_verdict(YES)
-        },
-        Verdict::No { line, refusal } => Answer {
-            line,
-            refusal: refusal.number(),
-            ..without_verdict(NO)
-        },
-    }
-}
-
-/// An answer that is no verdict.
-pub(crate) fn without_verdict(state: u8) -> Answer
-    ensures { result ≡ without_verdict state }
-{
-    Answer {
-        line: 0,
-        steps: 0,
-        roots: 0,
-        state,
-        refusal: 0,
-    }
 }

@@ -13,4 +13,5 @@ mod lines;
 mod memory_steps;
 mod places;
 mod register_steps;
+mod reports;
 mod steps;

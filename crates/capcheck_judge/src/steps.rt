@@ -9,8 +9,8 @@ ghost use Rattle.cap_judge.specs.Logs.{MayLackMemory};
 ghost use Rattle.cap_judge.specs.Readings.{BeginsWhole, HasRead, known_of};
 ghost use Rattle.capcheck_judge.specs.Handles.{HandsOver, held_in};
 
-use crate::answers::{GOES_ON, NO, NO_JUDGE, NO_LINE, NO_MEMORY};
 use crate::handle::Handle;
+use cap_answers::answers::{GOES_ON, NO, NO_JUDGE, NO_LINE, NO_MEMORY};
 use cap_judge::{Judge, TakeFault};
 use cap_machine::Instruction;
 use std::alloc::Global;

@@ -10,7 +10,8 @@ ghost use Rattle.tagmem.specs.ListLaws.{AreStored-contents_of, few_entries};
 use crate::overwriting::overwrite;
 use crate::store::{NoMemory, TaggedStore};
 
-/// Memory for one granule, that is lent to a `LentStore`: 32 bytes.
+/// Memory for one granule, that is lent to a `LentStore`: 32 bytes, from C too.
+#[repr(C)]
 #[derive(Clone, Copy)]
 pub struct Slot {
     granule: u64,

@@ -1,18 +1,21 @@
 //! The reports on a no.
 
 use crate::pieces::empty_list;
-use cap_judge::{JudgeToFault, judge_bytes, judge_origins};
+use cap_judge::{Judge, JudgeToFault, Stop, judge_bytes, judge_origins};
 use cap_log::{FailingSink, FailingSource, SliceSink, SliceSource};
-use cap_report::{judge_why, judge_why_in};
+use cap_report::{judge_why, judge_why_bytes, judge_why_in, push_refused};
 use std::alloc::{AllocError, Global};
 
 /// Whether a judge that explains a no tells this text of a log, in one piece and in pieces of one byte, with its
-/// granules in a list too, and with each pull and each push failing in turn.
+/// granules in a list too, of the bytes where they lie, by a judge that took its lines, and with each pull and each push
+/// failing in turn.
 pub fn report_holds(alloc: Global, log: &[u8], text: &[u8]) -> Result<bool, AllocError> {
     Ok(
         is_told(alloc, log, 512, text)?
             && is_told(alloc, log, 1, text)?
             && is_told_over_a_list(alloc, log, text)
+            && is_told_of_bytes(alloc, log, text)
+            && is_told_by_lines(alloc, log, text)
             && each_pull(alloc, log, text)?
             && each_push(alloc, log, text),
     )
@@ -36,6 +39,26 @@ fn is_told_over_a_list(alloc: Global, log: &[u8], text: &[u8]) -> bool {
     let answer = judge_why_in(false, &mut source, empty_list(alloc), &mut sink);
     let taken = sink.taken();
     answer.is_ok() && taken == text.len() && room.starts_with(text)
+}
+
+fn is_told_of_bytes(alloc: Global, log: &[u8], text: &[u8]) -> bool {
+    let mut room = [b'.'; 2304];
+    let mut sink = SliceSink::new(&mut room);
+    let answer = judge_why_bytes(false, log, empty_list(alloc), &mut sink);
+    let taken = sink.taken();
+    answer.ok() == judge_bytes(alloc, log).ok() && taken == text.len() && room.starts_with(text)
+}
+
+// Where a line is at fault it is told, and where the last one is cut nothing.
+fn is_told_by_lines(alloc: Global, log: &[u8], text: &[u8]) -> bool {
+    let mut judge = Judge::over_pages(alloc);
+    let is_at_fault = judge.take(log).stop == Stop::Fault;
+    let wanted = if is_at_fault { text } else { &[] };
+    let mut room = [b'.'; 2304];
+    let mut sink = SliceSink::new(&mut room);
+    let told = push_refused(&judge, &mut sink);
+    let taken = sink.taken();
+    told.is_ok() && taken == wanted.len() && room.starts_with(wanted)
 }
 
 // Where a pull fails nothing is told, and the source has pulled as often as for a judge that explains nothing.

@@ -1,0 +1,46 @@
+//! Judging bytes in memory where the machine of the judge is kept.
+
+ghost use Rattle.std.specs.Prelude.{◌≡◌, []};
+ghost use Rattle.std.specs.FinMap as map;
+ghost use Rattle.cap_machine.specs.Helds.{held_of};
+ghost use Rattle.cap_judge.specs.FaultLines.{bytes_of};
+ghost use Rattle.cap_judge.specs.Judgings.{JudgedAll};
+ghost use Rattle.cap_judge.specs.Readings.{HasRead};
+
+use crate::beginning::{Judge, Stop};
+use crate::fault_lines::FaultLine;
+use crate::streams::{Judging, answered};
+use crate::verdict::{JudgeFault, Verdict};
+use tagmem::TaggedStore;
+
+/// Judges the bytes of a log as [`judge_bytes`](crate::judge_bytes) does, with the granules in a store that is empty, and
+/// gives the machine with the answer, as [`judge_keeping`](crate::judge_keeping) does.
+pub fn judge_bytes_keeping<M: TaggedStore>(bytes: &[u8], memory: M) -> Judging<M>
+    requires { map.len (M.contents memory) ≡ 0 }
+    ensures judged { JudgedAll bytes.now result.answer (held_of M.contents result.machine) (bytes_of result.fault) }
+{
+    let mut judge = Judge::new(memory);
+    let (answer, fault) = judge_all(&mut judge, bytes);
+    let Judge { machine, stage: _ } = judge;
+    Judging {
+        answer,
+        machine,
+        fault,
+    }
+}
+
+// Hands over all the bytes of a log: the answer, and after a no the line at fault.
+fn judge_all<M: TaggedStore>(
+    judge: &mut Judge<M>,
+    bytes: &[u8],
+) -> (Result<Verdict, JudgeFault>, FaultLine)
+    requires begun { HasRead M.contents judge.old [] }
+    ensures judged { JudgedAll bytes.now result.0 (held_of M.contents judge.new.machine) (bytes_of result.1) }
+{
+    let taken = judge.take(bytes);
+    match taken.stop {
+        Stop::Cut => answered(judge.ending(&bytes[taken.count..])),
+        Stop::Fault => answered(judge.ending(&[])),
+        Stop::NoMemory => (Err(JudgeFault::NoMemory), FaultLine::new()),
+    }
+}

@@ -1,0 +1,21 @@
+//! The judge of a log that lies in memory.
+
+ghost use Rattle.cap_answers.specs.Answers.{AnswersBytes, NamesEscapesIn};
+
+use cap_answers::answers::{Answer, NO_MEMORY, numbers_of, without_verdict};
+use cap_judge::judge_bytes_keeping;
+use tagmem::{LentStore, Slot};
+
+/// Judges the bytes of a log, as `capcheck judge` does: it is a yes exactly for a log whose steps have a run from
+/// its roots, and otherwise a no with the first fault. The granules that its lines name are kept in the slots, one
+/// in each. What the slots hold before doesn't matter.
+#[unsafe(no_mangle)]
+pub extern "C" fn capcheck_judge_bytes_in(bytes: &[u8], slots: &mut [Slot]) -> Answer
+    ensures answer { AnswersBytes bytes.now result }
+    ensures escape { NamesEscapesIn result }
+{
+    match judge_bytes_keeping(bytes, LentStore::new(slots)).answer {
+        Ok(verdict) => numbers_of(verdict),
+        Err(_) => without_verdict(NO_MEMORY),
+    }
+}

@@ -1,0 +1,46 @@
+//! What an open judge tells of the line at fault.
+
+ghost use Rattle.std.specs.Prelude.{◌≡◌, ℕ, List, None};
+ghost use Rattle.cap_judge.specs.Readings.{HasRead};
+ghost use Rattle.capcheck_judge.specs.Handles.{AnswersReport, Holds, held_in};
+
+use crate::handle::Handle;
+use cap_answers::texts::TextSink;
+use cap_judge::Judge;
+use cap_log::PushFault;
+use cap_report::push_refused;
+use std::alloc::Global;
+use tagmem::{PageStore, TaggedStore};
+
+/// Writes what `capdiag why` prints of the lines so far, where one of them is at fault: the line of the no, and the
+/// report of the first fault. It answers how many bytes the text has: none where no line is at fault, or where the handle
+/// holds no judge. The text stands at the front of its room where it fits. Where it doesn't, the room holds anything, and
+/// the answer says what is needed: 2^64 - 1 for as many and more.
+#[unsafe(no_mangle)]
+pub extern "C" fn capcheck_judge_report(alloc: Global, judge: &mut Handle, text: &mut [u8]) -> u64
+    ensures report { (bytes : List ℕ) → Holds (held_in judge.old) bytes → AnswersReport bytes text.old text.new result }
+    ensures none { held_in judge.old ≡ None → result ≡ 0 }
+    ensures nothing_written { held_in judge.old ≡ None → text.new ≡ text.old }
+    ensures kept { held_in judge.new ≡ held_in judge.old }
+{
+    match judge.take(alloc) {
+        Some(held) => {
+            let length = write_report(&held, text);
+            judge.put(held);
+            length
+        }
+        None => 0,
+    }
+}
+
+// Writes the report of a judge's line at fault, and answers its length.
+fn write_report(judge: &Judge<PageStore>, text: &mut [u8]) -> u64
+    ensures { (bytes : List ℕ) → HasRead ⟦<PageStore as TaggedStore>⟧.contents judge.now bytes
+        → AnswersReport bytes text.old text.new result }
+{
+    let mut sink = TextSink::new(text);
+    match push_refused(judge, &mut sink) {
+        Ok(()) => sink.length(),
+        Err(PushFault) => 0,
+    }
+}
