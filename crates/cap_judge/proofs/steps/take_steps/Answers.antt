@@ -1,4 +1,4 @@
-use Rattle.std.proofs.Common.{◌++◌, ◌∷◌, [], ℕ, List, Bor, Option, IfSome, ap, append_assoc, sym, ◌∙◌, refl, subst}
+use Rattle.std.proofs.Common.{◌≡◌, ◌++◌, ◌∷◌, [], ℕ, List, Bor, Option, IfNone, IfSome, ap, append_assoc, sym, ◌∙◌, refl, subst}
 use Rattle.cap_log.specs.Lines.{spelling}
 use Rattle.cap_log.specs.declared.lines.Line.TheVariants.{Step}
 use Rattle.cap_machine.specs.Helds.{held_of}
@@ -32,3 +32,37 @@ steps-preserved g c =
         steps_more first middle new on.0 at behind on.2 taken,
       );
     }
+
+pub returns-in-Some-clause-taken : goal.returns-in-Some-clause-taken
+returns-in-Some-clause-taken g c =
+    let contents = g.M.TaggedStore.contents in
+    let first = held_of contents c.args.machine.now in
+    let old = held_of contents c.steps.machine in
+    let middle = held_of contents c.take_usual-end.new.machine in
+    let so_far = c.steps.invariant.taken in
+    let usual = c.take_usual-end.ensures.taken in
+    steps_on first old middle c.args.bytes.now so_far.0 c.steps.rest.now usual.0 c.take_usual-end.result.0.now so_far.1 so_far.2 usual.1 usual.2
+
+pub returns-in-Ok-None-clause-taken : goal.returns-in-Ok-None-clause-taken
+returns-in-Ok-None-clause-taken g c =
+    let contents = g.M.TaggedStore.contents in
+    let first = held_of contents c.args.machine.now in
+    let old = held_of contents c.steps.machine in
+    let middle = held_of contents c.take_usual-end.new.machine in
+    let so_far = c.steps.invariant.taken in
+    let usual = c.take_usual-end.ensures.taken in
+    let same = subst (λ (t : Option (Bor (List ℕ))). IfNone t (c.take_rare.new.machine ≡ c.take_usual-end.new.machine))
+    c.in-Ok-None.field-0-is c.in-Ok-None.ensures.none in
+    rw same
+    (steps_on first old middle c.args.bytes.now so_far.0 c.steps.rest.now usual.0 c.take_usual-end.result.0.now so_far.1 so_far.2 usual.1 usual.2)
+
+pub returns-in-Err-clause-taken : goal.returns-in-Err-clause-taken
+returns-in-Err-clause-taken g c =
+    let contents = g.M.TaggedStore.contents in
+    let first = held_of contents c.args.machine.now in
+    let old = held_of contents c.steps.machine in
+    let middle = held_of contents c.take_usual-end.new.machine in
+    let so_far = c.steps.invariant.taken in
+    let usual = c.take_usual-end.ensures.taken in
+    rw c.in-Err.ensures.same
+    (steps_on first old middle c.args.bytes.now so_far.0 c.steps.rest.now usual.0 c.take_usual-end.result.0.now so_far.1 so_far.2 usual.1 usual.2)
