@@ -40,6 +40,7 @@ pub struct Rounded {
 }
 
 /// The top that a request asks for.
+#[inline(always)]
 pub(crate) fn requested_top(base: u64, length: u64) -> u128
     ensures value { result ≡ base + length }
     ensures small { result < 2 ^ 65 }
@@ -48,6 +49,7 @@ pub(crate) fn requested_top(base: u64, length: u64) -> u128
 }
 
 /// An address in units of 2^(e + 3), rounded down.
+#[inline(always)]
 fn units_down(address: u64, e: u32) -> u64
     requires { e ≤ 52 }
     ensures { result ≡ address / 2 ^ (e + 3) }
@@ -56,6 +58,7 @@ fn units_down(address: u64, e: u32) -> u64
 }
 
 /// A top in units of 2^(e + 3), rounded up.
+#[inline(always)]
 fn units_up(top: u128, e: u32) -> u128
     requires top_fits { top < 2 ^ 65 }
     requires e_fits { e ≤ 52 }
@@ -66,6 +69,7 @@ fn units_up(top: u128, e: u32) -> u128
 
 /// The least exponent of a long request. Counting leading zeros gives one that is too small by one at
 /// most.
+#[inline(always)]
 fn least_exponent(base: u64, length: u64) -> u32
     requires { 4096 ≤ length }
     ensures { IsLeastExponent base length result }
@@ -80,6 +84,7 @@ fn least_exponent(base: u64, length: u64) -> u32
 }
 
 /// An end in units of 2^(e + 3), as a mantissa: in units of 2^e, modulo 2^14.
+#[inline(always)]
 fn mantissa_from(units: u128) -> u16
     ensures value { result ≡ 8 * units % 2 ^ 14 }
     ensures aligned { result % 8 ≡ 0 }
@@ -89,6 +94,7 @@ fn mantissa_from(units: u128) -> u16
 }
 
 /// Rounds a short request: it is kept.
+#[inline(always)]
 fn round_short(base: u64, length: u64) -> Rounded
     requires { length < 4096 }
     ensures base { result.base ≡ rounded_base base length }
@@ -112,6 +118,7 @@ fn round_short(base: u64, length: u64) -> Rounded
 }
 
 /// Rounds a long request.
+#[inline(always)]
 fn round_long(base: u64, length: u64) -> Rounded
     requires { 4096 ≤ length }
     ensures base { result.base ≡ rounded_base base length }
@@ -143,6 +150,7 @@ fn round_long(base: u64, length: u64) -> Rounded
 /// Rounds a request for `length` addresses from `base` on (Sail CHERI-RISC-V: `setCapBounds`). This is
 /// for every base and length: where their sum passes 2^64 the fields follow the same rule, and a word
 /// with them has other bounds.
+#[inline(always)]
 pub fn round(base: u64, length: u64) -> Rounded
     ensures base { result.base ≡ rounded_base base length }
     ensures top { result.top ≡ rounded_top base length }
@@ -174,6 +182,7 @@ pub fn round(base: u64, length: u64) -> Rounded
 
 /// Replaces the fields that bounds are made of. It stands apart from [`with_bounds`], whose other clauses are
 /// proved from these.
+#[inline(always)]
 fn replace_bounds(word: Word, rounded: &Rounded, address: u64) -> Word
     ensures word { result.0 ≡ bounded_word word.0 rounded.now.ie rounded.now.e rounded.now.b rounded.now.t address }
     ensures kept { result.0 / 2 ^ 91 ≡ word.0 / 2 ^ 91 }
@@ -196,6 +205,7 @@ fn replace_bounds(word: Word, rounded: &Rounded, address: u64) -> Word
 ///
 /// Where the rounding is that of a request that ends at or below 2^64, and the address is its base, the
 /// word has exactly the rounded bounds, and is sound.
+#[inline(always)]
 pub fn with_bounds(word: Word, rounded: &Rounded, address: u64) -> Word
     ensures word { result.0 ≡ bounded_word word.0 rounded.now.ie rounded.now.e rounded.now.b rounded.now.t address }
     ensures kept { result.0 / 2 ^ 91 ≡ word.0 / 2 ^ 91 }

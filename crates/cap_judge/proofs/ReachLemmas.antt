@@ -1,5 +1,5 @@
 -- What lines lead a machine to, step by step and root by root.
-use Rattle.std.proofs.Common.{◌≡◌, ℕ, true, List, [], ◌∷◌, ◌++◌, refl, sym, ap, subst, ◌∙◌, arith, None, append_assoc, append-nil}
+use Rattle.std.proofs.Common.{◌≡◌, ℕ, true, List, [], ◌∷◌, ◌++◌, map, refl, sym, ap, subst, ◌∙◌, arith, None, append_assoc, append-nil}
 use Rattle.std.proofs.lemmas.List.{map-append}
 use Rattle.cap_log.specs.declared.lines.Line.TheVariants.{Step}
 use Rattle.cap_log.specs.declared.lines.Step as steps_module
@@ -14,7 +14,7 @@ use Rattle.cap_machine.specs.States.{DeclaredRoot}
 use Rattle.cap_machine.specs.Accounts.{Account, no_account, with_step, step_tests}
 use Rattle.cap_machine.specs.Helds.{Held, Makes, EndsStep, account_of}
 use Rattle.cap_machine.proofs.AccountLemmas.{account_after-grows, after_roots}
-use Rattle.cap_judge.specs.Logs.{has_form, RunsBy, account_after}
+use Rattle.cap_judge.specs.Logs.{has_form, RunsBy, account_after, text_of}
 use Rattle.cap_judge.specs.Readings.{Reaches, EndsFor, EndsStepAt, TakesStep, TakesSteps}
 use Rattle.cap_judge.proofs.LogLemmas.{after_steps-push, step_runs}
 use Rattle.std.proofs.lemmas.Grind.{flat_map-append}
@@ -78,6 +78,28 @@ steps_none held = record {
   bytes_are = refl;
   leads = λ rules_are roots steps reaches. subst (Reaches held rules_are roots) (sym (append-nil steps)) reaches;
 }
+
+pub steps_joined : (first old new : Held) (front more : List ℕ) → TakesSteps first front old → TakesSteps old more new
+    → TakesSteps first (front ++ more) new
+steps_joined first old new front more so_far next = record {
+  made = so_far.made ++ next.made;
+  bytes_are =
+      ap (λ (t : List ℕ). t ++ more) so_far.bytes_are ∙ ap (λ (t : List ℕ). text_of (map Step so_far.made) ++ t) next.bytes_are
+      ∙ simp (map-append, flat_map-append);
+  leads = λ rules_are roots steps reaches.
+      subst (Reaches new rules_are roots) (append_assoc steps so_far.made next.made)
+      (next.leads rules_are roots (steps ++ so_far.made) (so_far.leads rules_are roots steps reaches));
+}
+
+-- the same of bytes that go on
+pub steps_on : (first old new : Held) (bytes front rest more behind : List ℕ) → bytes ≡ front ++ rest → TakesSteps first front old
+    → rest ≡ more ++ behind → TakesSteps old more new
+    → (fronts : List ℕ) × (bytes ≡ fronts ++ behind) × TakesSteps first fronts new
+steps_on first old new bytes front rest more behind is so_far is_more next = (
+  front ++ more,
+  is ∙ ap (λ (r : List ℕ). front ++ r) is_more ∙ sym (append_assoc front more behind),
+  steps_joined first old new front more so_far next,
+)
 
 pub steps_more : (first old new : Held) (front bytes rest : List ℕ) → TakesSteps first front old → (taken : TakesStep old bytes new rest)
     → TakesSteps first (front ++ (spelling (Step taken.0) ++ 10 ∷ [])) new

@@ -5,7 +5,7 @@ ghost use Rattle.cap_word.specs.Memory.{low_bytes};
 ghost use Rattle.cap_log.specs.Lines.{IsDataSize, IsDataValue, IsOffset, IsTarget};
 ghost use Rattle.cap_log.specs.declared.lines.Step.TheVariants as steps;
 ghost use Rattle.cap_ops.specs.Sizes.{size_fits};
-ghost use Rattle.cap_machine.specs.Changes.{EndsPut, ReachesAddress, code_for, is_past_limits};
+ghost use Rattle.cap_machine.specs.Changes.{EndsPut, ReachesAddress, is_past_limits};
 ghost use Rattle.cap_machine.specs.Changes.{with_cap_put, with_value_put};
 ghost use Rattle.cap_machine.specs.Helds.{AnswersStep, code_in, held_of, state_of};
 ghost use Rattle.cap_machine.specs.Parents.{IsSoundCap};
@@ -13,7 +13,7 @@ ghost use Rattle.cap_machine.specs.Places.{IsCoded};
 ghost use Rattle.cap_machine.specs.States.{granule_key};
 
 use crate::ends::StepEnd;
-use crate::granules::{number_in, put_capability, put_number};
+use crate::granules::{capability_with_code, number_in, put_capability, put_number};
 use crate::instructions::Instruction;
 use crate::machine::{MOST_STEPS, Machine};
 use cap_log::{Load, LoadCap, Store, StoreCap};
@@ -35,13 +35,14 @@ impl<M: TaggedStore> Machine<M> {
         may_access_soundly(self.register(authority), access)
     }
 
-    // The code of a granule's origin, looked up only for a tag.
+    // What a granule holds, and the code of its origin.
     #[inline(always)]
-    fn granule_code(&self, tag: bool, granule: u64) -> u64
+    fn granule_with_code(&self, granule: u64) -> (Cap, u64)
         requires { granule < 2 ^ 60 }
-        ensures { result ≡ code_for tag (code_in (held_of M.contents self.now) (granule_key granule)) }
+        ensures holds { result.0 ≡ state_of (held_of M.contents self.now) (granule_key granule) }
+        ensures code { result.1 ≡ code_in (held_of M.contents self.now) (granule_key granule) }
     {
-        if tag { self.memory.code(granule) } else { 0 }
+        capability_with_code(&self.memory, granule)
     }
 
     // Whether one step more that names a granule passes a limit.
@@ -102,9 +103,8 @@ impl Instruction for LoadCap {
     #[inline(always)]
     fn perform<M: TaggedStore>(self, machine: &mut Machine<M>) -> Result<(), StepEnd> {
         let address = machine.reach(self.authority, Kind::LoadCap, self.offset, 16)?;
-        let granule = machine.granule(address / 16);
+        let (granule, code) = machine.granule_with_code(address / 16);
         let derived = loaded(machine.register(self.authority), granule);
-        let code = machine.granule_code(derived.tag, address / 16);
         machine.conclude(self, self.target, Ok(derived), self.result, code)
     }
 }

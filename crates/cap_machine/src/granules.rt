@@ -2,7 +2,7 @@
 
 ghost use Rattle.std.specs.Prelude.{◌≡◌, ◌+◌, ◌*◌, ◌/◌, ◌%◌, ◌^◌, ◌<◌, ◌≤◌, length, None, OnOk, OnErr};
 ghost use Rattle.std.specs.FinMap as map;
-ghost use Rattle.tagmem.specs.Granules.{HasRoom, IsCodeFor, bytes_at, with_bytes, with_cap};
+ghost use Rattle.tagmem.specs.Granules.{HasRoom, IsCodeFor, bytes_at, code_at, with_bytes, with_cap};
 ghost use Rattle.cap_word.specs.Memory.{low_bytes, memory_of};
 ghost use Rattle.cap_machine.specs.Helds.{granule_cap};
 ghost use Rattle.cap_machine.specs.Values.{number_at};
@@ -26,6 +26,31 @@ pub fn capability_at<M: TaggedStore>(memory: &M, granule: u64) -> Cap
             tag: false,
             word: null(),
         },
+    }
+}
+
+/// The capability that a granule holds, and the code of its origin: NULL without a tag, and 0, where it was never put.
+#[inline(always)]
+pub fn capability_with_code<M: TaggedStore>(memory: &M, granule: u64) -> (Cap, u64)
+    requires { granule < 2 ^ 60 }
+    ensures cap { result.0 ≡ granule_cap (M.contents memory.now) granule }
+    ensures code { result.1 ≡ code_at (M.contents memory.now) granule }
+{
+    match memory.entry(granule) {
+        Some(entry) => {
+            let cap = Cap {
+                tag: entry.0,
+                word: from_memory(&entry.1),
+            };
+            (cap, entry.2)
+        }
+        None => {
+            let cap = Cap {
+                tag: false,
+                word: null(),
+            };
+            (cap, 0)
+        }
     }
 }
 

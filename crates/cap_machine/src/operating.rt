@@ -94,7 +94,9 @@ impl Instruction for Unseal {
     }
 }
 
-#[inline(never)]
+// Of each of these the path by strict rules stands where the step is made; the one in clear mode is called.
+
+#[inline(always)]
 fn set_bounds_by(rules: Rules, source: Cap, length: u64, exact: bool) -> Result<Cap, OpFault>
     ensures { EndsBy rules (ops.set_bounds_tests source length exact) (ops.set_bounds_result source length) result }
 {
@@ -104,7 +106,6 @@ fn set_bounds_by(rules: Rules, source: Cap, length: u64, exact: bool) -> Result<
     }
 }
 
-// Its path by strict rules stands in the loop over a log's lines; the one in clear mode is called.
 #[inline(always)]
 fn set_addr_by(rules: Rules, source: Cap, address: u64) -> Result<Cap, OpFault>
     ensures { EndsBy rules (ops.set_addr_tests source address) (ops.set_addr_result source address) result }
@@ -115,7 +116,6 @@ fn set_addr_by(rules: Rules, source: Cap, address: u64) -> Result<Cap, OpFault>
     }
 }
 
-// Its path by strict rules stands in the loop over a log's lines; the one in clear mode is called.
 #[inline(always)]
 fn and_perm_by(rules: Rules, source: Cap, mask: u64) -> Result<Cap, OpFault>
     ensures { EndsBy rules (ops.and_perm_tests source) (ops.and_perm_result source mask) result }
@@ -126,7 +126,7 @@ fn and_perm_by(rules: Rules, source: Cap, mask: u64) -> Result<Cap, OpFault>
     }
 }
 
-#[inline(never)]
+#[inline(always)]
 fn seal_by(rules: Rules, source: Cap, authority: Cap) -> Result<Cap, OpFault>
     ensures { EndsBy rules (ops.seal_tests source authority) (ops.seal_result source authority) result }
 {
@@ -136,7 +136,7 @@ fn seal_by(rules: Rules, source: Cap, authority: Cap) -> Result<Cap, OpFault>
     }
 }
 
-#[inline(never)]
+#[inline(always)]
 fn unseal_by(rules: Rules, source: Cap, authority: Cap) -> Result<Cap, OpFault>
     ensures { EndsBy rules (ops.unseal_tests source authority) (ops.unseal_result source authority) result }
 {

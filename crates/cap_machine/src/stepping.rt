@@ -222,13 +222,18 @@ impl<M: TaggedStore> Machine<M> {
         if self.steps >= MOST_STEPS {
             return Err(StepEnd::Refused(Refusal::LimitPassed));
         }
-        // Field by field: a copy of the whole would move the bytes between the fields too.
-        self.registers[target as usize] = Cap {
-            tag: recorded.tag,
-            word: recorded.word,
-        };
+        overwrite(&mut self.registers[target as usize], recorded);
         self.codes[target as usize] = if derived.tag { code } else { 0 };
         self.steps += 1;
         Ok(())
     }
+}
+
+// Writes a capability over another, field by field: a copy of the whole would move the bytes between the fields too.
+#[inline(always)]
+fn overwrite(place: &mut Cap, cap: Cap)
+    ensures { place.new ≡ cap }
+{
+    place.tag = cap.tag;
+    place.word = cap.word;
 }

@@ -32,6 +32,8 @@ fn or_cleared(outcome: Result<Cap, OpFault>, unchecked: Cap) -> Cap
 /// [`set_bounds`] in clear mode. The source's bounds become the length from its address on, rounded; of a
 /// tagged source the result loses its tag where it is sealed, where the rounded bounds do not lie inside
 /// its own, and with `exact` where they were rounded.
+// Never inlined, so that the path by strict rules stands alone where a judge makes a step.
+#[inline(never)]
 pub fn set_bounds_clear(source: Cap, length: u64, exact: bool) -> Cap
     ensures result_is { result ≡ clear_result (set_bounds_tests source length exact) (set_bounds_result source length) }
     ensures strict { IsStrictWhereTagged (set_bounds_tests source length exact) (set_bounds_result source length) result }
@@ -45,7 +47,7 @@ pub fn set_bounds_clear(source: Cap, length: u64, exact: bool) -> Cap
 
 /// [`set_addr`] in clear mode. The source gets another address; a tagged one loses its tag where it is
 /// sealed, and where the address does not keep its bounds.
-// Never inlined, so that the path by strict rules stands alone in a judge's loop.
+// Never inlined, for the same reason.
 #[inline(never)]
 pub fn set_addr_clear(source: Cap, address: u64) -> Cap
     ensures result_is { result ≡ clear_result (set_addr_tests source address) (set_addr_result source address) }
@@ -69,6 +71,8 @@ pub fn and_perm_clear(source: Cap, mask: u64) -> Cap
 
 /// [`seal`] in clear mode. The source gets the low 18 bits of the authority's address as its object type,
 /// whatever the authority is, and loses its tag where a test of sealing holds.
+// Never inlined, for the same reason.
+#[inline(never)]
 pub fn seal_clear(source: Cap, authority: Cap) -> Cap
     ensures result_is { result ≡ clear_result (seal_tests source authority) (seal_result source authority) }
     ensures strict { IsStrictWhereTagged (seal_tests source authority) (seal_result source authority) result }
@@ -82,6 +86,8 @@ pub fn seal_clear(source: Cap, authority: Cap) -> Cap
 
 /// [`unseal`] in clear mode. The source becomes unsealed, Global only where the authority, tagged or not,
 /// is so too, and loses its tag where a test of unsealing holds.
+// Never inlined, for the same reason.
+#[inline(never)]
 pub fn unseal_clear(source: Cap, authority: Cap) -> Cap
     ensures result_is { result ≡ clear_result (unseal_tests source authority) (unseal_result source authority) }
     ensures strict { IsStrictWhereTagged (unseal_tests source authority) (unseal_result source authority) result }

@@ -17,6 +17,7 @@ use cap_word::{Cap, Word};
 
 /// Whether rounded bounds lie inside a word's.
 #[tactic(auto, unfolding(crate::specs::Operations::covers))]
+#[inline(always)]
 fn covers_rounded(word: Word, rounded: &Rounded) -> bool
     ensures { result ≡ covers word.0 rounded.now.base rounded.now.top }
 {
@@ -24,6 +25,7 @@ fn covers_rounded(word: Word, rounded: &Rounded) -> bool
 }
 
 /// The rounding of the length from a word's address on.
+#[inline(always)]
 fn rounding_of(word: Word, length: u64) -> Rounded
     ensures base { result.base ≡ rounded_base (address_of word.0) length }
     ensures top { result.top ≡ rounded_top (address_of word.0) length }
@@ -35,6 +37,7 @@ fn rounding_of(word: Word, length: u64) -> Rounded
 
 /// The rounding of the length from the source's address on, or the first test that refuses it.
 #[tactic(auto, unfolding(crate::specs::Operations::set_bounds_tests))]
+#[inline(always)]
 fn permitted(source: Cap, length: u64, exact: bool) -> Result<Rounded, OpFault>
     ensures { MatchResult result
         (λ rounded. (first_of (set_bounds_tests source length exact) ≡ None)
@@ -61,6 +64,7 @@ fn permitted(source: Cap, length: u64, exact: bool) -> Result<Rounded, OpFault>
 /// A tagged source is refused where it is sealed, then where the rounded bounds do not lie inside its own,
 /// then where they are to be exact and are not. For a sound source the second test is that of the
 /// instruction: the requested bounds do not lie inside its own.
+#[inline(always)]
 pub fn set_bounds(source: Cap, length: u64, exact: bool) -> Result<Cap, OpFault>
     ensures outcome { MatchResult result
         (λ cap. (first_of (set_bounds_tests source length exact) ≡ None) × (cap ≡ set_bounds_result source length))

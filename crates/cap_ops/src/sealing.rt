@@ -91,6 +91,7 @@ pub(crate) fn with_authority_type(source: Cap, authority: Cap) -> Cap
 ///
 /// The tests come in this order: the authority is tagged, unsealed, has Seal, holds its own address in its
 /// bounds, and that address is at most `0x3fffb`; the source is tagged and unsealed.
+#[inline(always)]
 pub fn seal(source: Cap, authority: Cap) -> Result<Cap, OpFault>
     ensures outcome { MatchResult result
         (λ cap. (first_of (seal_tests source authority) ≡ None) × (cap ≡ seal_result source authority))
@@ -156,6 +157,7 @@ pub(crate) fn without_type(source: Cap, authority: Cap) -> Cap
 ///
 /// The tests come in this order: the authority is tagged, unsealed, has Unseal, and holds its own address
 /// in its bounds; the source is tagged, and its object type is that address and not reserved.
+#[inline(always)]
 pub fn unseal(source: Cap, authority: Cap) -> Result<Cap, OpFault>
     ensures outcome { MatchResult result
         (λ cap. (first_of (unseal_tests source authority) ≡ None) × (cap ≡ unseal_result source authority))

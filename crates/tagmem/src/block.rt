@@ -47,6 +47,19 @@ impl Block {
         }
     }
 
+    // The tag, the bytes and the code of a granule.
+    #[inline(always)]
+    pub(crate) fn entry(&self, slot: u8) -> Option<(bool, [u8; 16], u64)>
+        requires { slot < 16 }
+        ensures { result ≡ slice_index_or (slots_of self.now) slot None }
+    {
+        let place = slot as usize;
+        match self.tags[place] {
+            Some(tag) => Some((tag, self.rows[place], self.codes[place])),
+            None => None,
+        }
+    }
+
     // The code of a granule, and 0 where it was never put.
     #[inline(always)]
     pub(crate) fn code(&self, slot: u8) -> u64

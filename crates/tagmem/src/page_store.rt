@@ -234,6 +234,14 @@ impl TaggedStore for PageStore {
         }
     }
 
+    #[inline(always)]
+    fn entry(&self, granule: u64) -> Option<(bool, [u8; 16], u64)> {
+        match self.index_of(granule / 16) {
+            Some(index) => self.blocks[index].entry((granule % 16) as u8),
+            None => None,
+        }
+    }
+
     fn next_put(&self, granule: u64) -> Option<u64> {
         match self.first_in(granule / 16, (granule % 16) as u8) {
             Some(next) => Some(next),

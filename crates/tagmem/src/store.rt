@@ -29,6 +29,21 @@ pub trait TaggedStore: Drop {
         requires { granule < 2 ^ 60 }
         ensures value { result ≡ code_at (contents self.now) granule };
 
+    /// The tag, the bytes and the code of the origin of a granule, or `None` where it was never put: what `get`
+    /// and `code` tell, found at once.
+    fn entry(&self, granule: u64) -> Option<(bool, [u8; 16], u64)>
+        requires { granule < 2 ^ 60 }
+        ensures value { result ≡ map.get (contents self.now) granule }
+    {
+        match self.get(granule) {
+            Some(shown) => {
+                let bytes = shown.1;
+                Some((shown.0, bytes, self.code(granule)))
+            }
+            None => None,
+        }
+    }
+
     /// The least granule at or above a number that was put, or `None` where there is none. Any number
     /// does, also one that is no granule's.
     fn next_put(&self, granule: u64) -> Option<u64>

@@ -7,7 +7,7 @@ use Rattle.cap_judge.proofs.steps.run.Goals as goal
 pub returns-in-Ok-clause-some : goal.returns-in-Ok-clause-some
 returns-in-Ok-clause-some g c =
     let old = held_of g.M.TaggedStore.contents c.args.machine.now in
-    let new = held_of g.M.TaggedStore.contents c.perform.new.machine in
+    let new = held_of g.M.TaggedStore.contents c.perform_by.new.machine in
     let bytes = head_spelling g.I.Operands.head ++ 32 ∷ c.args.operands.now in
     let read = c.in-Some in
     let makes : Makes old (g.I.Operands.step read.instruction) new = search rules in
@@ -17,7 +17,7 @@ returns-in-Ok-clause-some g c =
 pub returns-in-Err-clause-err : goal.returns-in-Err-clause-err
 returns-in-Err-clause-err g c =
     let old = held_of g.M.TaggedStore.contents c.args.machine.now in
-    let new = held_of g.M.TaggedStore.contents c.perform.new.machine in
+    let new = held_of g.M.TaggedStore.contents c.perform_by.new.machine in
     let bytes = head_spelling g.I.Operands.head ++ 32 ∷ c.args.operands.now in
     let read = c.in-Some in
     let ends : EndsStep old (g.I.Operands.step read.instruction) c.in-Err.end new = search rules in

@@ -8,7 +8,7 @@ use Rattle.cap_judge.proofs.steps.run_alone.Goals as goal
 pub returns-in-Ok-clause-ok : goal.returns-in-Ok-clause-ok
 returns-in-Ok-clause-ok g c =
     let old = held_of g.M.TaggedStore.contents c.args.machine.now in
-    let new = held_of g.M.TaggedStore.contents c.perform.new.machine in
+    let new = held_of g.M.TaggedStore.contents c.perform_by.new.machine in
     let bytes = head_spelling g.I.Operands.head ++ 32 ∷ c.args.operands.now in
     let read = c.in-Some in
     let behind = c.goes_on.ensures c.if-goes_on.false in
@@ -20,7 +20,7 @@ returns-in-Ok-clause-ok g c =
 pub returns-in-Err-clause-err : goal.returns-in-Err-clause-err
 returns-in-Err-clause-err g c =
     let old = held_of g.M.TaggedStore.contents c.args.machine.now in
-    let new = held_of g.M.TaggedStore.contents c.perform.new.machine in
+    let new = held_of g.M.TaggedStore.contents c.perform_by.new.machine in
     let bytes = head_spelling g.I.Operands.head ++ 32 ∷ c.args.operands.now in
     let read = c.in-Some in
     let behind = c.goes_on.ensures c.if-goes_on.false in

@@ -1,9 +1,9 @@
-use Rattle.std.proofs.Common.{◌++◌, ◌∷◌, [], ℕ, List, Bor, Option, IfSome, ap, append_assoc, sym, ◌∙◌, refl, subst}
+use Rattle.std.proofs.Common.{◌≡◌, ◌++◌, ◌∷◌, [], ℕ, List, Bor, Option, IfNone, IfSome, ap, append_assoc, sym, ◌∙◌, refl, subst}
 use Rattle.cap_log.specs.Lines.{spelling}
 use Rattle.cap_log.specs.declared.lines.Line.TheVariants.{Step}
 use Rattle.cap_machine.specs.Helds.{held_of}
 use Rattle.cap_judge.specs.Readings.{TakesStep}
-use Rattle.cap_judge.proofs.ReachLemmas.{steps_more, steps_none}
+use Rattle.cap_judge.proofs.ReachLemmas.{steps_more, steps_none, steps_on}
 use Rattle.cap_judge.proofs.steps.take_steps.Goals as goal
 
 pub steps-init : goal.steps-init
@@ -11,19 +11,58 @@ steps-init g c = record { taken = ([], refl, steps_none (held_of g.M.TaggedStore
 
 pub steps-preserved : goal.steps-preserved
 steps-preserved g c =
-    let first = held_of g.M.TaggedStore.contents c.args.machine.now in
-    let old = held_of g.M.TaggedStore.contents c.steps.machine in
-    let new = held_of g.M.TaggedStore.contents c.take_step.new.machine in
+    let contents = g.M.TaggedStore.contents in
+    let first = held_of contents c.args.machine.now in
+    let old = held_of contents c.steps.machine in
+    let middle = held_of contents c.take_usual-end.new.machine in
+    let new = held_of contents c.take_rare.new.machine in
     let so_far = c.steps.invariant.taken in
-    let taken = subst (λ (t : Option (Bor (List ℕ))). IfSome t (λ rest. TakesStep old c.steps.rest.now new rest.now))
+    let usual = c.take_usual-end.ensures.taken in
+    let at = c.take_usual-end.result.0.now in
+    let on = steps_on first old middle c.args.bytes.now so_far.0 c.steps.rest.now usual.0 at so_far.1 so_far.2 usual.1 usual.2 in
+    let taken = subst (λ (t : Option (Bor (List ℕ))). IfSome t (λ rest. TakesStep middle at new rest.now))
     c.in-Ok-Some.field-0-is c.in-Ok-Some.ensures.some in
     let line = spelling (Step taken.0) ++ 10 ∷ [] in
     let behind = c.in-Ok-Some.behind.now in
     record {
       taken = (
-        so_far.0 ++ line,
-        so_far.1 ∙ ap (λ (r : List ℕ). so_far.0 ++ r) (taken.1.1 ∙ sym (append_assoc (spelling (Step taken.0)) (10 ∷ []) behind))
-            ∙ sym (append_assoc so_far.0 line behind),
-        steps_more first old new so_far.0 c.steps.rest.now behind so_far.2 taken,
+        on.0 ++ line,
+        on.1 ∙ ap (λ (r : List ℕ). on.0 ++ r) (taken.1.1 ∙ sym (append_assoc (spelling (Step taken.0)) (10 ∷ []) behind))
+            ∙ sym (append_assoc on.0 line behind),
+        steps_more first middle new on.0 at behind on.2 taken,
       );
     }
+
+pub returns-in-Some-clause-taken : goal.returns-in-Some-clause-taken
+returns-in-Some-clause-taken g c =
+    let contents = g.M.TaggedStore.contents in
+    let first = held_of contents c.args.machine.now in
+    let old = held_of contents c.steps.machine in
+    let middle = held_of contents c.take_usual-end.new.machine in
+    let so_far = c.steps.invariant.taken in
+    let usual = c.take_usual-end.ensures.taken in
+    steps_on first old middle c.args.bytes.now so_far.0 c.steps.rest.now usual.0 c.take_usual-end.result.0.now so_far.1 so_far.2 usual.1 usual.2
+
+pub returns-in-Ok-None-clause-taken : goal.returns-in-Ok-None-clause-taken
+returns-in-Ok-None-clause-taken g c =
+    let contents = g.M.TaggedStore.contents in
+    let first = held_of contents c.args.machine.now in
+    let old = held_of contents c.steps.machine in
+    let middle = held_of contents c.take_usual-end.new.machine in
+    let so_far = c.steps.invariant.taken in
+    let usual = c.take_usual-end.ensures.taken in
+    let same = subst (λ (t : Option (Bor (List ℕ))). IfNone t (c.take_rare.new.machine ≡ c.take_usual-end.new.machine))
+    c.in-Ok-None.field-0-is c.in-Ok-None.ensures.none in
+    rw same
+    (steps_on first old middle c.args.bytes.now so_far.0 c.steps.rest.now usual.0 c.take_usual-end.result.0.now so_far.1 so_far.2 usual.1 usual.2)
+
+pub returns-in-Err-clause-taken : goal.returns-in-Err-clause-taken
+returns-in-Err-clause-taken g c =
+    let contents = g.M.TaggedStore.contents in
+    let first = held_of contents c.args.machine.now in
+    let old = held_of contents c.steps.machine in
+    let middle = held_of contents c.take_usual-end.new.machine in
+    let so_far = c.steps.invariant.taken in
+    let usual = c.take_usual-end.ensures.taken in
+    rw c.in-Err.ensures.same
+    (steps_on first old middle c.args.bytes.now so_far.0 c.steps.rest.now usual.0 c.take_usual-end.result.0.now so_far.1 so_far.2 usual.1 usual.2)

@@ -10,6 +10,6 @@ invariant-steps g l = record {
       × TakesSteps (held_of g.M.TaggedStore.contents l.fn.machine) front (held_of g.M.TaggedStore.contents l.machine);
 }
 
--- each step shortens the rest
+-- each step of a rare kind shortens the rest
 abbrev pub decreases-steps : goal.decreases-steps
 decreases-steps g l = length l.rest

@@ -1,7 +1,6 @@
-use Rattle.std.proofs.Common.{ℕ, ◌/◌, Bool, refl, rules, sym, ap, ◌∙◌, Ok, Err, Result, Some, false}
+use Rattle.std.proofs.Common.{ℕ, ◌/◌, refl, rules, sym, ap, ◌∙◌, Ok, Err, Some}
 use Rattle.cap_word.specs.declared.word.Cap.{Cap}
 use Rattle.cap_log.specs.declared.lines.Step.TheVariants as steps
-use Rattle.cap_ops.specs.declared.faults.OpFault.{OpFault}
 use Rattle.cap_ops.specs.declared.kinds.Kind.TheVariants as kinds
 use Rattle.cap_ops.specs.Accesses.{loaded_result}
 use Rattle.std.proofs.lemmas.Result.{err_from_is_err_and}
@@ -9,7 +8,6 @@ use Rattle.cap_ops.specs.Refusals.{refusal_of}
 use Rattle.cap_machine.specs.States.{granule_key}
 use Rattle.cap_machine.specs.Changes.{ReachesAddress}
 use Rattle.cap_machine.specs.Helds.{code_in, held_of, state_of}
-use Rattle.cap_machine.specs.Changes.{code_for}
 use Rattle.cap_machine.proofs.MadeLemmas.{faulted_as, passed}
 use Rattle.cap_machine.proofs.accessing.LoadCapInstruction.perform.Goals as goal
 
@@ -21,8 +19,8 @@ conclude-requires-clause-derives g c =
     c.args.self.offset (search rules) c.in_ok-address.ensures.outcome in
     let same = ap (λ (a : ℕ). state (granule_key (a / 16))) out.1 in (
       out.0,
-      c.loaded-derived.ensures.result_is ∙ ap (λ (a : Cap). loaded_result a c.granule-granule.result) c.register.ensures.holds
-          ∙ ap (loaded_result (state authority)) (c.granule-granule.ensures.holds ∙ same),
+      c.loaded-derived.ensures.result_is ∙ ap (λ (a : Cap). loaded_result a c.granule_with_code-code.result.0) c.register.ensures.holds
+          ∙ ap (loaded_result (state authority)) (c.granule_with_code-code.ensures.holds ∙ same),
     )
 
 pub conclude-requires-clause-code : goal.conclude-requires-clause-code
@@ -30,11 +28,8 @@ conclude-requires-clause-code g c =
     let old = held_of g.M.TaggedStore.contents c.args.machine.now in
     let out = passed (λ o. ReachesAddress (state_of old) c.args.self.authority kinds.LoadCap o 16 (Ok c.in_ok-address.address))
     c.args.self.offset (search rules) c.in_ok-address.ensures.outcome in
-    let code = code_in old (granule_key (c.in_ok-address.address / 16)) in
-    λ derived is held.
-    let tagged = ap (λ (r : Result Cap OpFault). elim r as (λ _. Bool) [ Ok cap ↦ cap.tag | Err fault ↦ false ]) is ∙ held in
-    ap (λ (a : ℕ). Some (code_in old (granule_key (a / 16)))) (sym out.1)
-    ∙ ap (λ (n : ℕ). Some n) (sym (c.granule_code-code.ensures ∙ ap (λ (b : Bool). code_for b code) tagged))
+    λ derived is held. ap (λ (a : ℕ). Some (code_in old (granule_key (a / 16)))) (sym out.1)
+    ∙ ap (λ (n : ℕ). Some n) (sym c.granule_with_code-code.ensures.code)
 
 pub returns-in_err-address : goal.returns-in_err-address
 returns-in_err-address g c =

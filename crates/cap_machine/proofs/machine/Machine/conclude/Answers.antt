@@ -64,13 +64,13 @@ invariant_of-self g c =
     let sound = subst IsSoundCap same (result_sound (state_of old) parent _ derived machine.sound within) in
     let coded = subst (IsCoded derived.tag) (sym code_is)
     (result_coded (state_of old) (code_in old) parent _ derived c.args.code machine.coded within (parents derived refl)) in
-    record {
+    rw c.overwrite.ensures (record {
       zero = zero_register machine.registers target recorded c.requires.target.0 machine.zero;
       sound = sound_register machine.registers memory target recorded (search rules) c.requires.target.1 machine.sound sound;
       coded = coded_register machine.registers machine.codes memory target recorded c.if-derived.self
           (search rules) (search rules)
           c.requires.target.1 machine.coded (subst (λ (cap : Cap). IsCoded cap.tag c.if-derived.self) same coded);
-    }
+    })
 
 pub returns : goal.returns
 returns g c =
@@ -89,7 +89,7 @@ returns g c =
       | then-derived w ↦ w.self-is ∙ sym (ap (λ (b : Bool). code_for b c.args.code) w.if-derived.true)
       | else-derived w ↦ w.self-is ∙ sym (ap (λ (b : Bool). code_for b c.args.code) w.if-derived.false)
     ] in
-    subst (λ (code : ℕ). Makes old step (record old {
+    rw c.overwrite.ensures (subst (λ (code : ℕ). Makes old step (record old {
       registers = slice_set old.registers target recorded;
       codes = slice_set old.codes target code;
       steps = old.steps + 1;
@@ -100,4 +100,4 @@ returns g c =
       steps = old.steps + 1;
     })) same
     (concluded_made old step target recorded derived c.args.code is (search rules) (search rules) c.requires.target.1 parents like
-    c.if-self-ge-MOST_STEPS.false))
+    c.if-self-ge-MOST_STEPS.false)))

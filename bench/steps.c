@@ -1,0 +1,89 @@
+/*
+ * Hands one step over to a judge that is linked in, again and again, by its numbers:
+ *
+ *     steps KIND COUNT
+ *
+ * bench/steps.sh counts by it how many instructions a step of each kind takes. Each step is one that the rules allow; of a
+ * judge that finds a fault the program complains.
+ */
+#include <capcheck_judge.h>
+
+#include <stdio.h>
+#include <stdlib.h>
+#include <string.h>
+
+/* The root has all permissions over all of memory, and the same at another address is AT(address). */
+#define ALL 0xffff1ffffc018004u
+#define AT(address) CAP(1, ALL, address)
+#define CAP(tag, high, low) ((capcheck_cap){{(high), (low)}, (tag)})
+
+static capcheck_judge judge = CAPCHECK_NO_JUDGE_YET;
+
+static void stop(const char *why) {
+    fprintf(stderr, "steps: %s\n", why);
+    exit(2);
+}
+
+static void must_go_on(uint8_t state) {
+    if (state != CAPCHECK_GOES_ON)
+        stop("a step is refused");
+}
+
+/* The lines before the first step, and the steps that give each kind what it works on. */
+static void begin(void) {
+    static const char first[] = "capcheck 1\n", root[] = "root c1 ffff1ffffc0180040000000000000000\n";
+    must_go_on(capcheck_judge_open(&judge));
+    must_go_on(capcheck_judge_line(&judge, first, sizeof first - 1));
+    must_go_on(capcheck_judge_line(&judge, root, sizeof root - 1));
+    must_go_on(capcheck_judge_setaddr(&judge, 2, 1, 0x1000, AT(0x1000)));
+    must_go_on(capcheck_judge_setaddr(&judge, 3, 1, 5, AT(5)));
+    must_go_on(capcheck_judge_seal(&judge, 4, 2, 3, CAP(1, 0xffff00002c018004u, 0x1000)));
+    must_go_on(capcheck_judge_sc(&judge, 1, 2, 0));
+    must_go_on(capcheck_judge_store(&judge, 2, 16, 8, 0x0123456789abcdefu));
+}
+
+#define AGAIN(call)                          \
+    for (unsigned long i = 0; i < count; i++) \
+        must_go_on(call);
+
+int main(int argc, char **argv) {
+    if (argc != 3)
+        stop("steps KIND COUNT");
+    const char *kind = argv[1];
+    unsigned long count = strtoul(argv[2], NULL, 10);
+    begin();
+    if (strcmp(kind, "move") == 0)
+        AGAIN(capcheck_judge_move(&judge, 9, 1, AT(0)))
+    else if (strcmp(kind, "cleartag") == 0)
+        AGAIN(capcheck_judge_cleartag(&judge, 9, 2, CAP(0, ALL, 0x1000)))
+    else if (strcmp(kind, "setbounds") == 0)
+        AGAIN(capcheck_judge_setbounds(&judge, 9, 2, 64, CAP(1, 0xffff1ffff8101000u, 0x1000)))
+    else if (strcmp(kind, "setbounds-long") == 0)
+        AGAIN(capcheck_judge_setbounds(&judge, 9, 2, 0x18700, CAP(1, 0xffff1ffffe5c0104u, 0x1000)))
+    else if (strcmp(kind, "setboundsexact") == 0)
+        AGAIN(capcheck_judge_setboundsexact(&judge, 9, 2, 64, CAP(1, 0xffff1ffff8101000u, 0x1000)))
+    else if (strcmp(kind, "setboundsexact-long") == 0)
+        AGAIN(capcheck_judge_setboundsexact(&judge, 9, 2, 0x18700, CAP(1, 0xffff1ffffe5c0104u, 0x1000)))
+    else if (strcmp(kind, "setaddr") == 0)
+        AGAIN(capcheck_judge_setaddr(&judge, 9, 1, 0x2000, AT(0x2000)))
+    else if (strcmp(kind, "andperm") == 0)
+        AGAIN(capcheck_judge_andperm(&judge, 9, 2, 0x3d, CAP(1, 0x003d1ffffc018004u, 0x1000)))
+    else if (strcmp(kind, "seal") == 0)
+        AGAIN(capcheck_judge_seal(&judge, 9, 2, 3, CAP(1, 0xffff00002c018004u, 0x1000)))
+    else if (strcmp(kind, "unseal") == 0)
+        AGAIN(capcheck_judge_unseal(&judge, 9, 4, 3, AT(0x1000)))
+    else if (strcmp(kind, "lc") == 0)
+        AGAIN(capcheck_judge_lc(&judge, 9, 2, 0, AT(0)))
+    else if (strcmp(kind, "sc") == 0)
+        AGAIN(capcheck_judge_sc(&judge, 1, 2, 0))
+    else if (strcmp(kind, "load") == 0)
+        AGAIN(capcheck_judge_load(&judge, 2, 16, 8, 0x0123456789abcdefu))
+    else if (strcmp(kind, "load-byte") == 0)
+        AGAIN(capcheck_judge_load(&judge, 2, 16, 1, 0xef))
+    else if (strcmp(kind, "store") == 0)
+        AGAIN(capcheck_judge_store(&judge, 2, 16, 8, 0x0123456789abcdefu))
+    else
+        stop("no such kind");
+    capcheck_judge_close(&judge);
+    return 0;
+}

@@ -1,0 +1,29 @@
+use Rattle.std.proofs.Common.{◌++◌, ◌∷◌, [], ℕ, List, Bor, Option, IfSome, ap, append_assoc, sym, ◌∙◌, refl, subst}
+use Rattle.cap_log.specs.Lines.{spelling}
+use Rattle.cap_log.specs.declared.lines.Line.TheVariants.{Step}
+use Rattle.cap_machine.specs.Helds.{held_of}
+use Rattle.cap_judge.specs.Readings.{TakesStep}
+use Rattle.cap_judge.proofs.ReachLemmas.{steps_more, steps_none}
+use Rattle.cap_judge.proofs.steps.take_usual.Goals as goal
+
+pub steps-init : goal.steps-init
+steps-init g c = record { taken = ([], refl, steps_none (held_of g.M.TaggedStore.contents c.args.machine.now)) }
+
+pub steps-preserved : goal.steps-preserved
+steps-preserved g c =
+    let first = held_of g.M.TaggedStore.contents c.args.machine.now in
+    let old = held_of g.M.TaggedStore.contents c.steps.machine in
+    let new = held_of g.M.TaggedStore.contents c.take_step.new.machine in
+    let so_far = c.steps.invariant.taken in
+    let taken = subst (λ (t : Option (Bor (List ℕ))). IfSome t (λ rest. TakesStep old c.steps.rest.now new rest.now))
+    c.in-Ok-Some.field-0-is c.in-Ok-Some.ensures.some in
+    let line = spelling (Step taken.0) ++ 10 ∷ [] in
+    let behind = c.in-Ok-Some.behind.now in
+    record {
+      taken = (
+        so_far.0 ++ line,
+        so_far.1 ∙ ap (λ (r : List ℕ). so_far.0 ++ r) (taken.1.1 ∙ sym (append_assoc (spelling (Step taken.0)) (10 ∷ []) behind))
+            ∙ sym (append_assoc so_far.0 line behind),
+        steps_more first old new so_far.0 c.steps.rest.now behind so_far.2 taken,
+      );
+    }
