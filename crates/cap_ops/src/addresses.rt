@@ -60,7 +60,6 @@ pub(crate) fn moved(source: Cap, address: u64) -> Cap
 ///
 /// A tagged source is refused where it is sealed, and then where the address does not keep its bounds:
 /// exactly outside its representable range, and so never from its base to its top.
-#[inline(always)]
 pub fn set_addr(source: Cap, address: u64) -> Result<Cap, OpFault>
     ensures outcome { MatchResult result
         (λ cap. (first_of (set_addr_tests source address) ≡ None) × (cap ≡ set_addr_result source address))

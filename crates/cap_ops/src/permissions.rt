@@ -66,7 +66,6 @@ pub(crate) fn masked(source: Cap, mask: u64) -> Cap
 /// for no permission have no effect.
 ///
 /// A tagged source that is sealed is refused, as `SourceSealed`.
-#[inline(always)]
 pub fn and_perm(source: Cap, mask: u64) -> Result<Cap, OpFault>
     ensures outcome { MatchResult result
         (λ cap. (first_of (and_perm_tests source) ≡ None) × (cap ≡ and_perm_result source mask))
