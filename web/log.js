@@ -210,7 +210,7 @@ function stepTo(wanted) {
 
 function showStep() {
     const { at, judged } = log;
-    if (!at) return;
+    if (!at || !judged) return;
     byId("count").textContent = `of ${decimal(judged.count)}`;
     const texts = [...at.texts];
     if (judged.line > judged.count && at.from + texts.length === judged.line) texts.push("");

@@ -215,17 +215,20 @@ export async function putRight(page) {
                                          document.getElementById("take").disabled]);
     same(untouched, ["", 0, true], "an address that wasn't touched says nothing");
     const back = await page.run(async () => {
-        const paused = () => new Promise((done) => setTimeout(done, 120));
-        const seenNow = [];
-        const went = async (act) => { act(); await paused(); seenNow.push([view, document.getElementById("word").value.slice(-4)]); };
-        await went(() => document.querySelector("[data-view=request]").click());
-        await went(() => document.querySelector("[data-view=operation]").click());
-        await went(() => document.querySelector("#outcomes a").click());
-        await went(() => history.back());
-        await went(() => history.back());
-        await went(() => history.back());
-        await went(() => history.forward());
-        return seenNow.map(([name]) => name);
+        const went = [];
+        const go = async (wanted, act) => {
+            act();
+            for (let k = 0; k < 300 && view !== wanted; k++) await new Promise((done) => setTimeout(done, 10));
+            went.push(view);
+        };
+        await go("request", () => document.querySelector("[data-view=request]").click());
+        await go("operation", () => document.querySelector("[data-view=operation]").click());
+        await go("capability", () => document.querySelector("#outcomes a").click());
+        await go("operation", () => history.back());
+        await go("request", () => history.back());
+        await go("capability", () => history.back());
+        await go("request", () => history.forward());
+        return went;
     });
     same(back, ["request", "operation", "capability", "operation", "request", "capability", "request"], "back and forward");
     for (const [name, wanted] of [["setbounds", ["source", "request", "rounded", "result"]], ["setaddr", ["source", "range", "result"]],
