@@ -1,7 +1,7 @@
 "use strict";
 // A log: how it is opened, and what is shown of what the judge beside the page says.
 
-const SMALL = 4000; // as many letters of a log stand in a link, and in the field
+const SMALL = 4000; // as many letters of a log stand in a link
 const AROUND = 6; // lines shown on either side of one
 const FEW = 500; // origins shown
 
@@ -73,7 +73,7 @@ function tellWork(what, read) {
 function toldOfLog(told) {
     if (told.read !== undefined) return tellWork(told.read < log.size ? "Reading" : "Judging", told.read);
     tellWork(null);
-    if (told.problem) return failed(new Error(told.problem));
+    if (told.problem) return failed(new Error(told.problem), "There is no verdict");
     log.judged = told.judged;
     const asked = Number(byId("line").value);
     stepTo(asked || log.judged.line || log.judged.count);

@@ -391,6 +391,7 @@ const controlsOf = (name) => (name === "order" ? [...document.querySelectorAll("
 function valueOf(name) {
     if (name in chosen) return chosen[name];
     const control = controlsOf(name).find((it) => it.type !== "radio" || it.checked);
+    if (name === "text" && control.value.length > SMALL) return "";
     return control.type === "checkbox" ? String(Number(control.checked)) : control.value;
 }
 
@@ -447,9 +448,9 @@ function show() {
     }
 }
 
-/** Where the module fails, nothing is shown that isn't its. */
-function failed(problem) {
-    byId("fault").textContent = `The module failed, and so nothing is shown: ${problem.message}`;
+/** Where a module fails, nothing is shown that isn't its. */
+function failed(problem, says = "The module failed, and so nothing is shown") {
+    byId("fault").textContent = `${says}: ${problem.message}`;
     byId("fault").hidden = false;
     for (const results of document.querySelectorAll(".results")) results.hidden = true;
 }

@@ -224,6 +224,43 @@ export async function shortLogsAreJudged(page) {
     return `${shorter} short logs, none for ${none}; a long one ${lines} lines in ${Math.round(took)} ms`;
 }
 
+/** What is copied and saved. */
+export async function logsAreKept(page) {
+    const folder = fs.mkdtempSync(path.join(os.tmpdir(), "capcheck-saved-"));
+    try {
+        await page.browser.send("Browser.setDownloadBehavior", { behavior: "allow", downloadPath: folder });
+        await at(page, state("wrong_result"));
+        const kept = await page.run(async () => {
+            const copied = [];
+            Object.defineProperty(navigator, "clipboard", { value: { writeText: async (it) => copied.push(it) }, configurable: true });
+            byId("copy-report").click();
+            byId("find-shortest").click();
+            while (!log.made) await new Promise((done) => setTimeout(done, 5));
+            byId("copy-shortest").click();
+            byId("save-shortest").click();
+            await new Promise((done) => setTimeout(done, 20));
+            return [...copied, seen("said")];
+        });
+        const report = printed(CAPDIAG, ["why"], text("examples/wrong_result.log"));
+        same(kept, [report, text("examples/wrong_result.log"), "Log copied."], "the report and the short log are copied");
+        const saved = path.join(folder, "shortest.log");
+        for (let k = 0; k < 200 && !fs.existsSync(saved); k++) await new Promise((done) => setTimeout(done, 20));
+        same(fs.readFileSync(saved, "utf8"), text("examples/wrong_result.log"), "the short log is saved");
+        await at(page, state("origins"));
+        const origins = await page.run(async () => {
+            const copied = [];
+            Object.defineProperty(navigator, "clipboard", { value: { writeText: async (it) => copied.push(it) }, configurable: true });
+            byId("origins").open = true;
+            while (!log.origins) await new Promise((done) => setTimeout(done, 5));
+            byId("copy-origins").click();
+            return copied;
+        });
+        same(origins, [printed(CAPCHECK, ["judge", "--origins"], text("examples/origins.log"))], "the origins are copied");
+    } finally {
+        fs.rmSync(folder, { recursive: true });
+    }
+}
+
 /** All of it by keys, with names, contrast and on narrow and wide screens in light and dark. */
 export async function logsAreUsable(page) {
     await at(page, state("wrong_result"));
