@@ -30,10 +30,10 @@ function exactly(digits, wanted) {
 
 /** The word that a text has in the register's order: its digits alone, or as others print it; of several lines the one
  * that is chosen. With it what was told besides: a tag, a register, what the word can't have. */
-function foundIn(text) {
+function foundIn(text, which = 0) {
     if (text.trim() === "") throw new Refused("Type 32 hexadecimal digits.");
     const all = pasted(text);
-    const it = all[Number(chosen.which)] ?? all[0];
+    const it = all[which] ?? all[0];
     if (!it) return { all, word: read(exactly(digitsOf(text), 32)), tag: null, says: "" };
     if (it.parts) return { all, ...it, ...madeOf(c, it.parts) };
     return { all, says: "", ...it, word: read(it.digits) };
@@ -57,10 +57,9 @@ function bytesOf(text) {
     return exactly(hexadecimal(digits.join("")), 32);
 }
 
-function wordOf(text, order) {
+function fromMemory(text) {
     if (text.trim() === "") throw new Refused("Type 32 hexadecimal digits.");
-    if (order === "memory") return c.fromMemory(Uint8Array.from(bytesOf(text).match(/../g), (byte) => parseInt(byte, 16)));
-    return read(exactly(digitsOf(text), 32));
+    return c.fromMemory(Uint8Array.from(bytesOf(text).match(/../g), (byte) => parseInt(byte, 16)));
 }
 
 function numberOf(text) {
@@ -134,7 +133,8 @@ const shown = { facts: null, domain: null, tried: null };
 
 function showCapability() {
     const order = document.querySelector("[name=order]:checked").value;
-    const reading = (text) => (order === "memory" ? { all: [], word: wordOf(text, order), says: "" } : foundIn(text));
+    const which = Number(chosen.which);
+    const reading = (text) => (order === "memory" ? { all: [], word: fromMemory(text), says: "" } : foundIn(text, which));
     const found = taken("word", reading);
     byId("capability").querySelector(".results").hidden = found === null;
     shown.facts = null;
@@ -319,7 +319,7 @@ function showOperation() {
     const value = takes.find((name) => ["length", "address", "mask"].includes(name));
     if (value) document.querySelector("label[for=value]").textContent = `${value[0].toUpperCase()}${value.slice(1)}, hexadecimal`;
     const cap = (id) => {
-        const word = taken(id, (text) => wordOf(text, "register"));
+        const word = taken(id, (text) => foundIn(text).word);
         return word && { word, tag: Number(byId(`${id}tag`).checked) };
     };
     const given = {};
@@ -543,14 +543,19 @@ function listen() {
         button.addEventListener("click", () => { if (view !== button.dataset.view) turnTo(button.dataset.view); });
     }
     // A tag that stands in the text is that of the capability, until it is changed.
-    const takeTag = () => {
-        const [all, order] = [pasted(byId("word").value), valueOf("order")];
-        const tag = order === "register" ? (all[Number(chosen.which)] ?? all[0])?.tag : null;
-        if (tag !== null && tag !== undefined) byId("tag").checked = tag === 1;
+    const takeTag = (id, tag, which) => {
+        const all = tag === "tag" && valueOf("order") === "memory" ? [] : pasted(byId(id).value);
+        const found = (all[which] ?? all[0])?.tag ?? null;
+        if (found !== null) byId(tag).checked = found === 1;
         changed();
     };
-    byId("word").addEventListener("input", () => { chosen.which = "0"; takeTag(); });
-    byId("which").addEventListener("input", () => { chosen.which = byId("which").value; takeTag(); });
+    const takeChoice = (which) => {
+        chosen.which = which;
+        takeTag("word", "tag", Number(which));
+    };
+    byId("word").addEventListener("input", () => takeChoice("0"));
+    byId("which").addEventListener("input", () => takeChoice(byId("which").value));
+    for (const id of ["source", "authority"]) byId(id).addEventListener("input", () => takeTag(id, `${id}tag`, 0));
     byId("make").addEventListener("click", makeWord);
     byId("copy-link").addEventListener("click", () => copy(location.href.split("#")[0] + linkTo(), "Link"));
     byId("copy-text").addEventListener("click", () =>

@@ -58,14 +58,15 @@ const PARTS = [
 ];
 
 export async function pastedIsTaken(page) {
-    const shown = (texts) => texts.map((text) => {
+    // The tag stands the other way before.
+    const shown = (forms) => forms.map(([text, , tag]) => {
         turn("capability");
         order("register");
-        tick("tag", text.length % 2 === 0);
+        tick("tag", tag === null ? text.length % 2 === 0 : tag === 0);
         type("word", text);
         return [error("word"), rows("lines").word, Number(document.getElementById("tag").checked), seen("taken")];
     });
-    const got = await page.run(shown, FORMS.map(([text]) => text));
+    const got = await page.run(shown, FORMS);
     FORMS.forEach(([text, word, tag, name], k) => {
         const [problem, found, tagged, says] = got[k];
         same([problem, found, tagged], ["", word, tag ?? Number(text.length % 2 === 0)], `pasted “${text}”`);
@@ -83,6 +84,14 @@ export async function pastedIsTaken(page) {
         check(parts[k][3].includes("made by the library"), `pasted “${text}”: ${parts[k][3]}`);
         check(parts[k][3].includes("these are rounded") === text.includes("5002"), `rounded “${text}”: ${parts[k][3]}`);
     });
+    const refused = await page.run((texts) => texts.map((text) => {
+        type("word", text);
+        return [error("word") !== "", results()];
+    }), [
+        "[rwRW,0x2000-0x1000]", "[rwRW,0x10000000000000000-0x10000000000000001]", "v:1 s:0 p:0 b:-1 l:5", "v:1 b:0 l:10000000000000001",
+        "v:1 p:100000000 b:0 l:5", "v:1 b:0 l:5 t:40000", "[rwRW,0x1000]", `2 ${WORD}`, `c3: ${WORD}0`, "0x1:0x2:0x3",
+    ]);
+    same(refused, Array(10).fill([true, 0]), "what has no form, or a number out of range");
     const dump = `c1: 0x1 0x${HIGH} 0x${LOW}\nnothing here\nc2 0 ffff1fffdc0180040000000000000000\n\ncsp 0x1800 [rwRW,0x1000-0x2000]\n`;
     const list = await page.run(async (text) => {
         type("word", text);
@@ -106,6 +115,18 @@ export async function pastedIsTaken(page) {
     await page.go(list.link);
     await page.run(tools);
     same(await page.run(() => [rows("lines").word.slice(16), valueOf("which")]), ["0000000000001800", "2"], "the link of a choice");
+    const operands = await page.run((forms) => {
+        turn("operation");
+        type("do", "seal");
+        return forms.map(([text]) => ["source", "authority"].map((id) => {
+            type(id, text);
+            const found = foundIn(document.getElementById(id).value);
+            return [error(id), c.textOf(found.word), document.getElementById(`${id}tag`).checked];
+        }));
+    }, FORMS.filter(([, , tag]) => tag !== null));
+    FORMS.filter(([, , tag]) => tag !== null).forEach(([text, word, tag], k) => {
+        same(operands[k], Array(2).fill(["", word, tag === 1]), `as an operand: “${text}”`);
+    });
     await memoryIsOffered(page);
     await wordIsMade(page);
     await capabilityIsSaid(page);
@@ -113,6 +134,7 @@ export async function pastedIsTaken(page) {
 
 async function memoryIsOffered(page) {
     const got = await page.run((memory, turned, sound) => {
+        turn("capability");
         const offers = [memory, turned, sound, "f".repeat(32)].map((text) => {
             order("register");
             type("word", text);

@@ -105,7 +105,7 @@ export async function logsAreOpened(page) {
 /** What the page says that registers and granules hold before a line, beside what the program says of it. */
 export async function linesAreStepped(page) {
     await page.run(settled);
-    const drawn = await page.run(drawnLogs, 60, examples.map((name) => text(`examples/${name}`)));
+    const drawn = await drawnLogs(page, 60);
     const logs = [...examples.map((name) => text(`examples/${name}`)), ...drawn];
     const NULL = `0 00001ffffc018004${"0".repeat(16)}`;
     let registers = 0;
@@ -184,7 +184,7 @@ export async function linesAreStepped(page) {
 
 export async function shortLogsAreJudged(page) {
     await page.run(settled);
-    const drawn = await page.run(drawnLogs, 120, examples.map((name) => text(`examples/${name}`)));
+    const drawn = await drawnLogs(page, 120);
     let shorter = 0;
     let none = 0;
     for (const log of [...examples.map((name) => text(`examples/${name}`)), ...drawn]) {
