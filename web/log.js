@@ -84,8 +84,8 @@ function showLog() {
     const typed = byId("text").value;
     if (typed !== (log.text ?? "")) {
         if (typed !== "") return judgeLog(new Blob([typed]), "", typed);
-        log.beside.end();
-        Object.assign(log, { text: null, judged: null });
+        log.beside?.end();
+        Object.assign(log, closed);
     }
     byId("log").querySelector(".results").hidden = log.judged === null;
     if (log.judged === null) return;
@@ -147,7 +147,7 @@ function capabilityCard(name, cap, differs, cleared) {
     const mark = (field) => (both && differs.includes(field) ? { class: "differs" } : {});
     const [base, top] = cap.bounds;
     const word = make("a", { href: linkOf(cap.word, cap.tag), class: "mono" }, cap.word);
-    const bound = ["base", "top"].find((it) => differs.includes(it));
+    const bound = ["ie", "e", "b", "t"].find((it) => differs.includes(it));
     const lines = [
         make("span", mark("tag"), cap.tag === "1" ? "tag 1" : "no tag"),
         word,
@@ -348,7 +348,7 @@ function listenToLog() {
         openLog(new Blob([text.endsWith("\n") ? text : `${text}\n`]), "");
     });
     byId("stop").addEventListener("click", () => {
-        log.beside.end();
+        log.beside?.end();
         tellWork(null);
     });
     byId("copy-report").addEventListener("click", () => copy(log.judged.text, "Report"));

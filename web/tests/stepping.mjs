@@ -179,6 +179,20 @@ export async function linesAreStepped(page) {
             check(found.length === 1 && line.split(" ").includes(found[0]), `${name}: marked ${found} of ${line}`);
         else same(found, wanted ?? [line], `${name}: marked`);
     }
+    const rounded = "capcheck 1\nroot c1 ffff1ffffc0180040000000000000000\n"
+        + "setaddr c2 c1 0000000000001000 = 1 ffff1ffffc0180040000000000001000\n"
+        + "setbounds c4 c2 0000000000001001 = 1 ffff1ffffc0010000000000000001000\nend 2\n";
+    for (const [log, wanted] of [
+             [text("examples/wrong_result.log"), ["permissions 0x00078ffe", "permissions 0x00078fff", "differs: perms"]],
+             [text("examples/kept_tag.log"), ["no tag", "tag cleared: 11 BoundsEscape", "tag 1", "differs: tag"]],
+             [rounded, ["bounds 0x1000 up to 0x2008", "bounds 0x1000 up to 0x2000", "differs: t"]],
+         ]) {
+        const red = await page.run(async (given) => {
+            await dropped(bytesOf8(given), "given.log");
+            return [...document.querySelectorAll(".card .differs")].map((it) => it.textContent);
+        }, log);
+        same(red, wanted, "what differs is red");
+    }
     return `${registers} registers and ${granules} granules`;
 }
 
