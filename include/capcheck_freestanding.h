@@ -17,7 +17,7 @@
  *           anything before.
  *   During the call nothing else reads or writes the slots and the text, nothing writes the bytes, and none of the three
  *   overlaps another.
- *   stack   @STACK@
+ *   stack   some 10 KB for capcheck_judge_bytes_in, and some 15 KB for capcheck_judge_why.
  */
 #ifndef CAPCHECK_FREESTANDING_H
 #define CAPCHECK_FREESTANDING_H

@@ -17,7 +17,7 @@
  *                 it left it (for capcheck_judge_open too), and doesn't overlap the line or the text. Of an open one and
  *                 its copies only one is used. It is used by the thread that opened it, by
  *                 one call at a time.
- *   stack         some 40 KB for capcheck_judge_bytes, and some 10 KB for the other calls.
+ *   stack         some 10 KB.
  *   malloc and realloc, or what stands in their place, give blocks that are aligned to 16 bytes, or to the greatest power of two below that
  *   divides the size. No function is called from a signal handler, or in a forked child of a process with
  *   threads.

@@ -7,7 +7,7 @@ use Rattle.capcheck_judge.proofs.judging.capcheck_judge_bytes.Goals as goal
 pub returns-in-Ok-clause-answer : goal.returns-in-Ok-clause-answer
 returns-in-Ok-clause-answer c = record {
   verdict = Some c.in-Ok.verdict;
-  numbers = c.numbers_of.ensures;
+  numbers = c.numbers_of.ensures.value;
   is_verdict = c.in-Ok.ensures.verdict;
   authority = guarded c.args.bytes.now;
   no_memory = tt;

@@ -10,7 +10,7 @@ returns-in-Some-answer-clause-answer c = λ bytes holds.
     let taken = held_taken c.args.judge.now.judge bytes holds c.deref.result.now is in
     record {
       verdict = Some c.in-Some-answer.no;
-      numbers = c.numbers_of.ensures;
+      numbers = c.numbers_of.ensures.value;
       stands = c.in-Some-answer.ensures.stands bytes taken;
       none = c.in-Some-answer.ensures.none bytes taken;
     }

@@ -12,7 +12,7 @@ returns-in-Some-clause-verdict c = λ bytes holds.
     let taken = held_taken c.args.judge.now.judge bytes holds c.deref.result.now is in
     record {
       verdict = c.end-verdict.result;
-      numbers = c.numbers_of.ensures;
+      numbers = c.numbers_of.ensures.value;
       is_verdict = subst (λ (b : List ℕ). IsVerdict b c.end-verdict.result) (append-nil bytes)
           (c.end-verdict.ensures.verdict bytes taken (omega arith, All-nil (λ b. b ≢ 10)));
       authority = subst IsGuarded (append-nil bytes)
