@@ -147,6 +147,13 @@ function showCapability() {
     byId("means").textContent = sentenceOf(c, facts);
     byId("perms").replaceChildren(permissionsOf(facts));
     byId("type").textContent = `Object type ${ox(facts.fields.otype)}, ${facts.kind}.`;
+    showTried(facts);
+    showGrid(facts);
+    showLines(facts);
+}
+
+/** The lines of `capcheck explain`, and the length; names that are terms open their texts. */
+function showLines(facts) {
     fill("lines", explained(facts));
     for (const it of byId("lines").tBodies[0].rows) {
         const [{ textContent: name }] = it.cells;
@@ -155,11 +162,13 @@ function showCapability() {
         it.cells[0].replaceChildren(button);
         it.cells[1].append(...meaning);
     }
-    if (facts.sound) {
-        const length = ["length", `${ox(facts.length)}, ${counted(facts.length, "byte")}`, "no line of it, but the top less the base"];
-        byId("lines").tBodies[0].rows[13].after(row(length));
-    }
-    showTried(facts);
+    if (!facts.sound) return;
+    const length = ["length", `${ox(facts.length)}, ${counted(facts.length, "byte")}`, "no line of it, but the top less the base"];
+    byId("lines").tBodies[0].rows[13].after(row(length));
+}
+
+/** Where bounds can lie, and both of them magnified. */
+function showGrid(facts) {
     const { fields, scale, range } = facts;
     byId("range-says").replaceChildren(...(range.every
         ? ["Every address keeps these bounds: the ", ...term("range", "representable range"), " is the whole address space."]

@@ -120,6 +120,8 @@ export const drawing = () => {
         () => `lc c3 c2 ${among([-2048, 1, 2032])} = 0 ${anything}`, () => "load c0 0 8 = 0000000000000000",
         () => `setboundsexact c3 c1 0000000000100001 = 1 ${anything}`, () => `seal c3 c1 c0 = 1 ${anything}`,
         () => `unseal c3 c1 c1 = 1 ${anything}`, () => `sc c1 c2 ${among([8, 0, 2047])}`, () => `root c9 ${anything}`,
+        () => "load c1 1 8 = 0000000000000000", () => `seal c3 c0 c1 = 0 ${anything}`,
+        () => `setaddr c3 c2 ${digits(1n << 40n)} = 1 ${anything}`,
     ];
     const roots = ["root c9 ffff1ffffc01a0030000000000000000", `root c9 ${anything}`];
     const CHANGES = [
@@ -135,6 +137,7 @@ export const drawing = () => {
         (log) => log.replace(/end \d+/, among(last)()),
         (log) => log.replace(/root c1 .*/, (it) => `${it}\n${among([it, ...roots])}`),
         (log) => log.replace(/(= [01]) (\w{4})(?=\w{28}\nend)/, (it, tag, perms) => `${tag} ${perms === "ffff" ? "fffe" : "ffff"}`),
+        (log) => log.replace(/end \d+/, among(last)()),
         (log) => log.replace(/end \d+/, among(last)()),
     ];
 
