@@ -330,20 +330,26 @@ function listenToLog() {
     for (const button of document.querySelectorAll("[data-log]")) {
         button.addEventListener("click", () => openLog(new Blob([byId(button.dataset.log).textContent.trimStart()]), ""));
     }
-    addEventListener("dragover", (event) => { event.preventDefault(); byId("drop").classList.add("over"); });
+    // Text that is dropped into a field, or pasted there, is a log only where it begins as one.
+    const isLog = (text) => /^capcheck [12]\r?\n/.test(text);
+    addEventListener("dragover", (event) => {
+        if (event.target.matches?.("input, textarea") && !event.dataTransfer.types.includes("Files")) return;
+        event.preventDefault();
+        byId("drop").classList.add("over");
+    });
     addEventListener("dragleave", () => byId("drop").classList.remove("over"));
     addEventListener("drop", (event) => {
-        event.preventDefault();
         byId("drop").classList.remove("over");
         const [file] = event.dataTransfer.files;
         const text = event.dataTransfer.getData("text");
-        if (file) openLog(file, file.name);
-        else if (text) openLog(new Blob([text]), "");
+        if (!file && !isLog(text)) return;
+        event.preventDefault();
+        openLog(file ?? new Blob([text]), file?.name ?? "");
     });
     // What is copied from a screen may lack its last line feed.
     addEventListener("paste", (event) => {
         const text = event.clipboardData.getData("text").replace(/\r\n/g, "\n");
-        if (!text.startsWith("capcheck ")) return;
+        if (!isLog(text)) return;
         event.preventDefault();
         openLog(new Blob([text.endsWith("\n") ? text : `${text}\n`]), "");
     });

@@ -70,7 +70,14 @@ function pastedLine(text) {
         const found = digitsIn(rest.replace(TAG, " ").replace(/[[\]()]/g, " ").trim());
         if (found) return { name, ...found, tag: told ? Number(told[1]) : found.tag };
     }
-    return null;
+    return wordAmong(text);
+}
+
+/** The last word of a line with other words in it, as a line of a log, of a report or of `capcheck explain`. */
+function wordAmong(text) {
+    const found = [...text.matchAll(/(?:\b([01])\s+)?\b(?:0x)?([0-9a-f]{32})\b/gi)].at(-1);
+    if (!found || !/[g-z]/i.test(text.replace(/0x/gi, "")) || /^memory\b/.test(text)) return null;
+    return { name: "", digits: found[2].toLowerCase(), tag: found[1] === undefined ? null : Number(found[1]) };
 }
 
 /** All that a text has, line by line. */

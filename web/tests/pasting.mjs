@@ -31,6 +31,10 @@ const FORMS = [
     [`$c5: 0x${HIGH.toUpperCase()} 0x${LOW}`, WORD, null, "$c5"],
     [`pcc ${HIGH}_${LOW}`, WORD, null, "pcc"],
     [`(1, 0x${HIGH}, 0x${LOW})`, WORD, 1],
+    [`setaddr c2 c1 ${LOW} = 1 ${WORD}`, WORD, 1],
+    [`root c1 ${WORD}`, WORD, null],
+    [`recorded c4 0 ${WORD}`, WORD, 0],
+    [`word ${WORD}`, WORD, null],
 ];
 
 // Bounds and permissions in place of digits: what the word that the library makes of them has.
@@ -89,9 +93,9 @@ export async function pastedIsTaken(page) {
         return [error("word") !== "", results()];
     }), [
         "[rwRW,0x2000-0x1000]", "[rwRW,0x10000000000000000-0x10000000000000001]", "v:1 s:0 p:0 b:-1 l:5", "v:1 b:0 l:10000000000000001",
-        "v:1 p:100000000 b:0 l:5", "v:1 b:0 l:5 t:40000", "[rwRW,0x1000]", `2 ${WORD}`, `c3: ${WORD}0`, "0x1:0x2:0x3",
+        "v:1 p:100000000 b:0 l:5", "v:1 b:0 l:5 t:40000", "[rwRW,0x1000]", `2 ${WORD}`, `c3: ${WORD}0`, "0x1:0x2:0x3", `memory ${WORD}`,
     ]);
-    same(refused, Array(10).fill([true, 0]), "what has no form, or a number out of range");
+    same(refused, Array(11).fill([true, 0]), "what has no form, or a number out of range");
     const dump = `c1: 0x1 0x${HIGH} 0x${LOW}\nnothing here\nc2 0 ffff1fffdc0180040000000000000000\n\ncsp 0x1800 [rwRW,0x1000-0x2000]\n`;
     const list = await page.run(async (text) => {
         type("word", text);
@@ -236,7 +240,9 @@ export async function putRight(page) {
     const untouched = await page.run(() => [seen("to-says"), document.querySelectorAll("#range .tried.number").length,
                                          document.getElementById("take").disabled]);
     same(untouched, ["", 0, true], "an address that wasn't touched says nothing");
-    const back = await page.run(async () => {
+    // A browser that has fifty entries in a page's history drops such as no person made.
+    const fresh = await page.browser.open(address + capability("003d1ffffc1a13910000000000013c08"));
+    const back = await fresh.run(async () => {
         const went = [];
         const go = async (wanted, act) => {
             act();
@@ -253,6 +259,7 @@ export async function putRight(page) {
         return went;
     });
     same(back, ["request", "operation", "capability", "operation", "request", "capability", "request"], "back and forward");
+    await fresh.close();
     for (const [name, wanted] of [["setbounds", ["source", "request", "rounded", "result"]], ["setaddr", ["source", "range", "result"]],
              ["seal", ["source", "authority", "result"]], ["load", ["authority", "access"]], ["sc", ["source", "authority", "access"]]]) {
         const drawn = await page.run((part) => {
