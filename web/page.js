@@ -497,7 +497,7 @@ async function copy(text, what) {
 
 /** A word from the fields of its parts. */
 function makeWord() {
-    const letters = (text) => (text.trim() === "" ? 0x78fffn : /^[rwxRWE]+$/.test(text.trim()) ? maskOf(text.trim()) : numberOf(text));
+    const letters = (text) => (text.trim() === "" ? 0x78fffn : /^[rwxRW]+$/.test(text.trim()) ? maskOf(text.trim()) : numberOf(text));
     const type = (text) => {
         const found = text.trim() === "" ? 0x3ffffn : numberOf(text);
         if (found > 0x3ffffn) throw new Refused("A type has 18 bits: 3ffff is unsealed.");

@@ -3,7 +3,7 @@
 // nothing.
 
 // The permissions that a letter stands for in `[rwxRW,BASE-TOP]`.
-const LETTERS = { r: "Load", w: "Store", x: "Execute", R: "Load Capability", W: "Store Capability", E: "Access System Registers" };
+const LETTERS = { r: "Load", w: "Store", x: "Execute", R: "Load Capability", W: "Store Capability" };
 
 const TAG = /\b(?:v|tag)\s*[:=]\s*([01])\b/i;
 const REGISTER = /^[^\w$]*(\$?(?:c\d{1,2}|c[ast]\d{1,2}|c[a-z]{2,5}|[a-z]*pcc|ddc|x\d{1,2}))\s*(?:[:=|]\s*|\s+)/i;
@@ -21,7 +21,8 @@ function bracketed(text) {
     if (!found) return null;
     const [, at, letters, from, to, rest] = found;
     const [base, top] = [numberIn(from), numberIn(to)];
-    const says = /seal|sentry/i.test(rest) ? "It is sealed, and the text doesn't say with which type. " : "";
+    const other = /E/.test(letters) ? "E stands for no permission of this word. " : "";
+    const says = `${other}${/seal|sentry/i.test(rest) ? "It is sealed, and the text doesn't say with which type. " : ""}`;
     return inRange({
         base, length: top - base, mask: maskOf(letters), otype: null,
         address: at ? numberIn(at) : base, tag: Number(!/invalid/i.test(rest)),
