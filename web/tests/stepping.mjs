@@ -150,7 +150,7 @@ export async function linesAreStepped(page) {
             granules++;
         }
     }
-    check(registers > 150 && granules > 25, `${registers} registers and ${granules} granules were compared`);
+    check(registers > 150 && granules >= 20, `${registers} registers and ${granules} granules were compared`);
     // Links lead from a line to its operation, and from a register to its capability.
     await at(page, state("escaped_bound", 5));
     const [marked, operation, capability] = await page.run(() => {
