@@ -35,6 +35,7 @@ ELSEWHERE = {
     "sh install.sh /usr/local": "examples/emulator/installed.sh, into another folder",
     "cc program.c $(pkg-config --cflags --libs capcheck) -o program": "examples/emulator/installed.sh, with another program",
     "cc -Iinclude program.c crates/capcheck_c/out/libcapcheck_c.a -o program": "examples/emulator/check.sh, with another program",
+    "cc -ffreestanding -Iinclude program.c crates/capcheck_freestanding/out/libcapcheck_freestanding.a -o program": "examples/emulator/check.sh, with another program",
     "cc -shared -fPIC -Iinclude recorder.c judge/out/libcapcheck_judge.a crates/capcheck_c/out/libcapcheck_c.a -Wl,--exclude-libs,ALL -o recorder.so": "by hand, as examples/qemu/README.md has it",
     "sh web/build.sh": "web/check.sh",
     "sh web/check.sh": "the gate",

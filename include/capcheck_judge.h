@@ -153,10 +153,14 @@ capcheck_optional_cap capcheck_judge_granule(capcheck_judge *judge, uint64_t add
 CAPCHECK_CHECKED
 capcheck_expected capcheck_judge_expected(capcheck_judge *judge);
 
+/* How many bytes the report of a no has at most. */
+#define CAPCHECK_REPORT_SIZE 3136
+
 /* After a no: writes what `capdiag why` prints of the lines so far, whatever lines follow: the line of the no, and the
- * report of the line at fault. It stands at the front of `text`, without a byte 0 behind it, where it fits the room, and
- * the answer is how many bytes it has. Where it doesn't fit, what the room holds is nobody's, and the answer says what it
- * wants. 0 before a no, and where the judge isn't open: then nothing is written. */
+ * report of the line at fault. It stands at the front of `text`, without a byte 0 behind it, where it fits the room, as
+ * it does where that has CAPCHECK_REPORT_SIZE bytes, and the answer is how many bytes it has. Where it doesn't fit, what
+ * the room holds is nobody's, and the answer says what it wants. 0 before a no, and where the judge isn't open: then
+ * nothing is written. */
 CAPCHECK_CHECKED
 uint64_t capcheck_judge_report(capcheck_judge *judge, char *text, size_t room);
 

@@ -177,7 +177,7 @@ static bool alike(capcheck_judge *a, capcheck_judge *b) {
 }
 
 /* What is lent to the judge without a heap, and room for two reports. */
-enum { SLOTS = 1 << 12, ROOM = 1 << 12 };
+enum { SLOTS = 1 << 12, ROOM = CAPCHECK_REPORT_SIZE };
 static capcheck_slot slots[SLOTS];
 static char report[ROOM + 1], wanted[ROOM + 1];
 

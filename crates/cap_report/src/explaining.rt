@@ -1,6 +1,6 @@
 //! The judge that explains a no: what the machine held before the line that was refused.
 
-ghost use Rattle.std.specs.Prelude.{◌≡◌, ◌≢◌, ℕ, List, ◌++◌, take, true, Err, Option, IfOk, OnOk, OnErr};
+ghost use Rattle.std.specs.Prelude.{◌≡◌, ◌≢◌, ◌≤◌, ℕ, List, ◌++◌, length, take, true, Err, Option, IfOk, OnOk, OnErr};
 ghost use Rattle.std.specs.FinMap as map;
 ghost use Rattle.cap_log.specs.Streams.{next_count};
 ghost use Rattle.cap_machine.specs.Helds.{account_of, held_of};
@@ -103,13 +103,14 @@ pub fn judge_why_bytes<M: TaggedStore, K: Sink>(
 }
 
 /// Pushes what belongs to the lines that a judge was handed: nothing while none of them is at fault, and otherwise the
-/// line of the no, and the report of the first fault. It is what [`judge_why`] pushes for these lines, whatever lines follow.
+/// line of the no, and the report of the first fault. It is what [`judge_why`] pushes for these lines, whatever lines follow,
+/// and has at most 3,136 bytes.
 pub fn push_refused<M: TaggedStore, K: Sink>(
     judge: &Judge<M>,
     sink: &mut K,
 ) -> Result<(), PushFault>
     ensures ok { OnOk result ((bytes : List ℕ) → HasRead M.contents judge.now bytes → (verdict : Option Verdict)
-        × (told : List ℕ) × ExplainsSoFar bytes verdict told × K.took sink.old sink.new told) }
+        × (told : List ℕ) × ExplainsSoFar bytes verdict told × K.took sink.old sink.new told × (length told ≤ 3136)) }
     ensures err { OnErr result ((bytes : List ℕ) → HasRead M.contents judge.now bytes → (verdict : Option Verdict)
         × (told : List ℕ) × ExplainsSoFar bytes verdict told × (n : ℕ) × K.took sink.old sink.new (take n told)) }
     ensures counted { OnOk result (K.faults sink.new ≡ K.faults sink.old) }
@@ -167,7 +168,8 @@ fn push_no<M: TaggedStore, K: Sink>(
 ) -> Result<(), PushFault>
     ensures ok { OnOk result ((report : List ℕ)
         × IsLineReport (account_of (held_of M.contents machine.now)) (bytes_of fault.now) refusal report
-        × K.took sink.old sink.new (verdict_line verdict.now ++ report)) }
+        × K.took sink.old sink.new (verdict_line verdict.now ++ report)
+        × (length (verdict_line verdict.now ++ report) ≤ 3136)) }
     ensures err { OnErr result ((report : List ℕ)
         × IsLineReport (account_of (held_of M.contents machine.now)) (bytes_of fault.now) refusal report
         × (n : ℕ) × K.took sink.old sink.new (take n (verdict_line verdict.now ++ report))) }

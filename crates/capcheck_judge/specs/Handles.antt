@@ -1,5 +1,5 @@
 -- What a handle of C holds, and what the calls on it answer (this profile's own, as are all below).
-use Rattle.std.specs.Prelude.{◌≡◌, ◌≢◌, ◌<◌, ◌↔◌, ℕ, List, [], ◌∷◌, ◌++◌, Option, None, Some}
+use Rattle.std.specs.Prelude.{◌≡◌, ◌≢◌, ◌<◌, ◌≤◌, ◌↔◌, ℕ, length, List, [], ◌∷◌, ◌++◌, Option, None, Some}
 use denote.RattleType.{RattleType}
 use Rattle.cap_machine.specs.States.{State}
 use Rattle.tagmem.specs.contracts.page_store.PageStore.{the_row as store_row}
@@ -96,9 +96,11 @@ pub record AnswersExpected (bytes : List ℕ) (given : Given) : Type 0 where
   pub numbers : IsGiven expected given
   pub expects : Expects bytes expected
 
--- C gets the text of how a log stands that begins with these bytes, where there is room for it: none while no line is at fault
+-- C gets the text of how a log stands that begins with these bytes, where there is room for it: none while no line is at fault, and never
+-- more than 3,136 bytes
 pub record AnswersReport (bytes old new : List ℕ) (count : ℕ) : Type 0 where
   pub verdict : Option Verdict
   pub text : List ℕ
   pub explains : ExplainsSoFar bytes verdict text
+  pub few : length text ≤ 3136
   pub told : IsTold 0 count text old new

@@ -14,8 +14,8 @@ use tagmem::{PageStore, TaggedStore};
 
 /// Writes what `capdiag why` prints of the lines so far, where one of them is at fault: the line of the no, and the
 /// report of the first fault. It answers how many bytes the text has: none where no line is at fault, or where the handle
-/// holds no judge. The text stands at the front of its room where it fits. Where it doesn't, the room holds anything, and
-/// the answer says what is needed: 2^64 - 1 for as many and more.
+/// holds no judge, and never more than 3,136. The text stands at the front of its room where it fits. Where it doesn't, the
+/// room holds anything, and the answer says what is needed.
 #[unsafe(no_mangle)]
 pub extern "C" fn capcheck_judge_report(alloc: Global, judge: &mut Handle, text: &mut [u8]) -> u64
     ensures report { (bytes : List ℕ) → Holds (held_in judge.old) bytes → AnswersReport bytes text.old text.new result }

@@ -1,6 +1,6 @@
 -- Where the runs of a number end, and what one more does to them.
 use Rattle.std.proofs.Common.{◌≡◌, ℕ, zero, suc, ◌+◌, ◌-◌, ◌*◌, ◌/◌, ◌%◌, ◌^◌, ◌<◌, ◌≤◌, sym, ap, subst, ◌∙◌, arith}
-use Rattle.std.proofs.Math.Nat.{div-div-eq-div-mul, div-mul-le_self, mul-le-mul_right, div-eq_of_lt-le}
+use Rattle.std.proofs.Math.Nat.{div-div-eq-div-mul, div-eq_of_lt, div-mul-le_self, mul-le-mul_right, div-eq_of_lt-le}
 use Rattle.std.specs.Int.{bit_at}
 use Rattle.std.proofs.lemmas.Nat.{pow_pos}
 use Rattle.std.specs.Int.{bit_at}
@@ -16,6 +16,12 @@ run_end-le n bit = div-mul-le_self n (2 ^ bit)
 
 pub run_end-zero : (n : ℕ) → run_end n 0 ≡ n
 run_end-zero n = omega arith
+
+-- a number has no run of a bit that it is too small for
+pub run_end-past : (n bit : ℕ) → n < 2 ^ bit → run_end n bit ≡ 0
+run_end-past n bit past =
+    let none : 0 * 2 ^ bit ≡ 0 = omega arith in
+    ap (λ (q : ℕ). q * 2 ^ bit) (div-eq_of_lt {n = n} {m = 2 ^ bit} past) ∙ none
 
 twice : (q bit : ℕ) → q * 2 ^ suc bit ≡ q * 2 * 2 ^ bit
 twice q bit =

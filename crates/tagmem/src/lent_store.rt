@@ -62,6 +62,9 @@ impl<'a> LentStore<'a> {
         ensures absent { IfErr result (IsGapIn (in_use self.now) (run_end self.now.used (bit + 1)) (run_end self.now.used bit) granule) }
     {
         let (start, end) = run(self.used, bit);
+        if start == end {
+            return Err(start);
+        }
         match self.slots[start..end].binary_search_by_key(&granule, |slot| slot.granule) {
             Ok(index) => Ok(start + index),
             Err(index) => Err(start + index),
@@ -73,7 +76,7 @@ impl<'a> LentStore<'a> {
         ensures found { IfSome result (IsEntryAt (in_use self.now) granule) }
         ensures absent { result ≡ None → IsUnused (in_use self.now) granule }
     {
-        let mut bit = 32;
+        let mut bit = bits(self.used);
         while bit > 0 {
             bit -= 1;
             if let Ok(index) = self.search(bit, granule) {
@@ -207,7 +210,7 @@ impl<'a> TaggedStore for LentStore<'a> {
 
     fn next_put(&self, granule: u64) -> Option<u64> {
         let mut least = None;
-        let mut bit = 32;
+        let mut bit = bits(self.used);
         while bit > 0 {
             bit -= 1;
             least = lesser(least, self.next_in_run(bit, granule));
@@ -281,6 +284,15 @@ fn lowest_bit(number: usize) -> u32
     ensures few { result < 63 }
 {
     number.trailing_zeros()
+}
+
+// How many bits a number has: none from there on is set.
+fn bits(number: usize) -> u32
+    requires fits { number < 2 ^ 32 }
+    ensures above { number < 2 ^ result }
+    ensures few { result ≤ 32 }
+{
+    64 - number.leading_zeros()
 }
 
 // Where the run of a bit of a number begins, and where it ends.

@@ -1,4 +1,4 @@
-use Rattle.std.proofs.Common.{◌++◌, Some, subst, take}
+use Rattle.std.proofs.Common.{◌++◌, ◌≤◌, length, Some, subst, take}
 use Rattle.cap_machine.specs.Helds.{account_of}
 use Rattle.cap_judge.specs.FaultLines.{bytes_of}
 use Rattle.cap_judge.specs.Readings.{known_of}
@@ -18,6 +18,7 @@ returns-in-Some-clause-ok g c =
       so_far bytes held fault p.0 (c.in-Some.ensures.stands bytes read)
           (subst (λ h. IsLineReport (account_of h) (bytes_of fault.text) fault.refusal p.0) c.machine.ensures.held p.1),
       subst (λ v. g.K.Sink.took c.args.sink.now c.push_no.new.sink (verdict_line v ++ p.0)) c.verdict.ensures.value p.2,
+      subst (λ v. length (verdict_line v ++ p.0) ≤ 3136) c.verdict.ensures.value p.3,
     )) c.push_no.ensures.ok
 
 pub returns-in-Some-clause-err : goal.returns-in-Some-clause-err

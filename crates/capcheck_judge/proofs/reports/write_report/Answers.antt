@@ -10,6 +10,7 @@ returns-in-Ok c = λ bytes read.
       verdict = so_far.0;
       text = so_far.1;
       explains = so_far.2;
+      few = so_far.4;
       told = subst (λ n. IsTold 0 c.length.result so_far.1 c.args.text.now n) (search rules)
           (told_from c.new-sink.result c.push_refused.new.sink so_far.1 c.args.text.now c.length.result c.new-sink.ensures.none
           c.new-sink.ensures.room c.length.ensures.count so_far.3);

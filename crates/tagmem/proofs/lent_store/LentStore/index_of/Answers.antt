@@ -1,12 +1,17 @@
 use Rattle.std.proofs.Common.{◌≡◌, ◌+◌, ◌-◌, ap, ◌∙◌, arith}
 use Rattle.tagmem.specs.Lent.{run_end}
 use Rattle.tagmem.proofs.Lent.{length-entries_of}
-use Rattle.tagmem.proofs.Runs.{run_end-zero}
+use Rattle.tagmem.proofs.Runs.{run_end-past, run_end-zero}
 use Rattle.tagmem.proofs.lent_store.LentStore.index_of.Goals as goal
 
 -- no run of a bit that the number can't have
 pub loop-bit-init : goal.loop-bit-init
-loop-bit-init c = record { bits = omega arith; none = λ i below same. omega (arith, c.args.self.now.counted, below) }
+loop-bit-init c = record {
+  bits = c.bits-bit.ensures.few;
+  none = λ i below same.
+      let past = run_end-past c.args.self.now.used c.bits-bit.result c.bits-bit.ensures.above in
+      absurd (omega (arith, past, below));
+}
 
 -- behind those runs comes the one that was searched
 pub loop-bit-preserved : goal.loop-bit-preserved

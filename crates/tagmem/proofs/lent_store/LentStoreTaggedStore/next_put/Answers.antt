@@ -2,12 +2,17 @@ use Rattle.std.proofs.Common.{◌≡◌, ◌+◌, ◌-◌, length, ap, subst, sy
 use Rattle.tagmem.specs.Lent.{IsNextIn, run_end}
 use Rattle.tagmem.specs.LentStores.{in_use}
 use Rattle.tagmem.proofs.Lent.{IsNextIn-joined, IsNextPut-whole, length-entries_of}
-use Rattle.tagmem.proofs.Runs.{run_end-zero}
+use Rattle.tagmem.proofs.Runs.{run_end-past, run_end-zero}
 use Rattle.tagmem.proofs.lent_store.LentStoreTaggedStore.next_put.Goals as goal
 
 -- no run of a bit that the number can't have
 pub loop-bit-init : goal.loop-bit-init
-loop-bit-init c = record { bits = omega arith; least = λ i from below. absurd (omega (arith, c.args.self.now.counted, below)) }
+loop-bit-init c = record {
+  bits = c.bits-bit.ensures.few;
+  least = λ i from below.
+      let past = run_end-past c.args.self.now.used c.bits-bit.result c.bits-bit.ensures.above in
+      absurd (omega (arith, past, below));
+}
 
 -- behind those runs comes the next one
 pub loop-bit-preserved : goal.loop-bit-preserved
