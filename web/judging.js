@@ -4,7 +4,7 @@
 // log, or of its beginning with another line behind it. What a register holds stands in the line that wrote it, which
 // the module found right.
 
-const SLOT = 32; // bytes of a slot for a granule
+const SLOT = LAYOUT.slot.size; // for a granule
 const GRANULES = 2 ** 20; // as many as a log may name
 const SHORTEST = "sc c1 c1 0\n".length; // of the lines that name one
 const LONGEST = "origin @0000000000000010 @0000000000000010\n".length;

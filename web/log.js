@@ -1,7 +1,7 @@
 "use strict";
 // A log: how it is opened, and what is shown of what the judge beside the page says.
 
-const SMALL = 4000; // as many letters of a log stand in a link, and in the field
+const SMALL = 4000; // as many letters of a log stand in a link
 const AROUND = 6; // lines shown on either side of one
 const FEW = 500; // origins shown
 
@@ -73,7 +73,7 @@ function tellWork(what, read) {
 function toldOfLog(told) {
     if (told.read !== undefined) return tellWork(told.read < log.size ? "Reading" : "Judging", told.read);
     tellWork(null);
-    if (told.problem) return failed(new Error(told.problem));
+    if (told.problem) return failed(new Error(told.problem), "There is no verdict");
     log.judged = told.judged;
     const asked = Number(byId("line").value);
     stepTo(asked || log.judged.line || log.judged.count);
@@ -84,8 +84,8 @@ function showLog() {
     const typed = byId("text").value;
     if (typed !== (log.text ?? "")) {
         if (typed !== "") return judgeLog(new Blob([typed]), "", typed);
-        log.beside.end();
-        Object.assign(log, { text: null, judged: null });
+        log.beside?.end();
+        Object.assign(log, closed);
     }
     byId("log").querySelector(".results").hidden = log.judged === null;
     if (log.judged === null) return;
@@ -147,7 +147,7 @@ function capabilityCard(name, cap, differs, cleared) {
     const mark = (field) => (both && differs.includes(field) ? { class: "differs" } : {});
     const [base, top] = cap.bounds;
     const word = make("a", { href: linkOf(cap.word, cap.tag), class: "mono" }, cap.word);
-    const bound = ["base", "top"].find((it) => differs.includes(it));
+    const bound = ["ie", "e", "b", "t"].find((it) => differs.includes(it));
     const lines = [
         make("span", mark("tag"), cap.tag === "1" ? "tag 1" : "no tag"),
         word,
@@ -210,7 +210,7 @@ function stepTo(wanted) {
 
 function showStep() {
     const { at, judged } = log;
-    if (!at) return;
+    if (!at || !judged) return;
     byId("count").textContent = `of ${decimal(judged.count)}`;
     const texts = [...at.texts];
     if (judged.line > judged.count && at.from + texts.length === judged.line) texts.push("");
@@ -330,25 +330,31 @@ function listenToLog() {
     for (const button of document.querySelectorAll("[data-log]")) {
         button.addEventListener("click", () => openLog(new Blob([byId(button.dataset.log).textContent.trimStart()]), ""));
     }
-    addEventListener("dragover", (event) => { event.preventDefault(); byId("drop").classList.add("over"); });
+    // Text that is dropped into a field, or pasted there, is a log only where it begins as one.
+    const isLog = (text) => /^capcheck [12]\r?\n/.test(text);
+    addEventListener("dragover", (event) => {
+        if (event.target.matches?.("input, textarea") && !event.dataTransfer.types.includes("Files")) return;
+        event.preventDefault();
+        byId("drop").classList.add("over");
+    });
     addEventListener("dragleave", () => byId("drop").classList.remove("over"));
     addEventListener("drop", (event) => {
-        event.preventDefault();
         byId("drop").classList.remove("over");
         const [file] = event.dataTransfer.files;
         const text = event.dataTransfer.getData("text");
-        if (file) openLog(file, file.name);
-        else if (text) openLog(new Blob([text]), "");
+        if (!file && !isLog(text)) return;
+        event.preventDefault();
+        openLog(file ?? new Blob([text]), file?.name ?? "");
     });
     // What is copied from a screen may lack its last line feed.
     addEventListener("paste", (event) => {
         const text = event.clipboardData.getData("text").replace(/\r\n/g, "\n");
-        if (!text.startsWith("capcheck ")) return;
+        if (!isLog(text)) return;
         event.preventDefault();
         openLog(new Blob([text.endsWith("\n") ? text : `${text}\n`]), "");
     });
     byId("stop").addEventListener("click", () => {
-        log.beside.end();
+        log.beside?.end();
         tellWork(null);
     });
     byId("copy-report").addEventListener("click", () => copy(log.judged.text, "Report"));

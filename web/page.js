@@ -30,10 +30,10 @@ function exactly(digits, wanted) {
 
 /** The word that a text has in the register's order: its digits alone, or as others print it; of several lines the one
  * that is chosen. With it what was told besides: a tag, a register, what the word can't have. */
-function foundIn(text) {
+function foundIn(text, which = 0) {
     if (text.trim() === "") throw new Refused("Type 32 hexadecimal digits.");
     const all = pasted(text);
-    const it = all[Number(chosen.which)] ?? all[0];
+    const it = all[which] ?? all[0];
     if (!it) return { all, word: read(exactly(digitsOf(text), 32)), tag: null, says: "" };
     if (it.parts) return { all, ...it, ...madeOf(c, it.parts) };
     return { all, says: "", ...it, word: read(it.digits) };
@@ -57,10 +57,9 @@ function bytesOf(text) {
     return exactly(hexadecimal(digits.join("")), 32);
 }
 
-function wordOf(text, order) {
+function fromMemory(text) {
     if (text.trim() === "") throw new Refused("Type 32 hexadecimal digits.");
-    if (order === "memory") return c.fromMemory(Uint8Array.from(bytesOf(text).match(/../g), (byte) => parseInt(byte, 16)));
-    return read(exactly(digitsOf(text), 32));
+    return c.fromMemory(Uint8Array.from(bytesOf(text).match(/../g), (byte) => parseInt(byte, 16)));
 }
 
 function numberOf(text) {
@@ -134,7 +133,8 @@ const shown = { facts: null, domain: null, tried: null };
 
 function showCapability() {
     const order = document.querySelector("[name=order]:checked").value;
-    const reading = (text) => (order === "memory" ? { all: [], word: wordOf(text, order), says: "" } : foundIn(text));
+    const which = Number(chosen.which);
+    const reading = (text) => (order === "memory" ? { all: [], word: fromMemory(text), says: "" } : foundIn(text, which));
     const found = taken("word", reading);
     byId("capability").querySelector(".results").hidden = found === null;
     shown.facts = null;
@@ -147,6 +147,13 @@ function showCapability() {
     byId("means").textContent = sentenceOf(c, facts);
     byId("perms").replaceChildren(permissionsOf(facts));
     byId("type").textContent = `Object type ${ox(facts.fields.otype)}, ${facts.kind}.`;
+    showTried(facts);
+    showGrid(facts);
+    showLines(facts);
+}
+
+/** The lines of `capcheck explain`, and the length; names that are terms open their texts. */
+function showLines(facts) {
     fill("lines", explained(facts));
     for (const it of byId("lines").tBodies[0].rows) {
         const [{ textContent: name }] = it.cells;
@@ -155,11 +162,13 @@ function showCapability() {
         it.cells[0].replaceChildren(button);
         it.cells[1].append(...meaning);
     }
-    if (facts.sound) {
-        const length = ["length", `${ox(facts.length)}, ${counted(facts.length, "byte")}`, "no line of it, but the top less the base"];
-        byId("lines").tBodies[0].rows[13].after(row(length));
-    }
-    showTried(facts);
+    if (!facts.sound) return;
+    const length = ["length", `${ox(facts.length)}, ${counted(facts.length, "byte")}`, "no line of it, but the top less the base"];
+    byId("lines").tBodies[0].rows[13].after(row(length));
+}
+
+/** Where bounds can lie, and both of them magnified. */
+function showGrid(facts) {
     const { fields, scale, range } = facts;
     byId("range-says").replaceChildren(...(range.every
         ? ["Every address keeps these bounds: the ", ...term("range", "representable range"), " is the whole address space."]
@@ -319,7 +328,7 @@ function showOperation() {
     const value = takes.find((name) => ["length", "address", "mask"].includes(name));
     if (value) document.querySelector("label[for=value]").textContent = `${value[0].toUpperCase()}${value.slice(1)}, hexadecimal`;
     const cap = (id) => {
-        const word = taken(id, (text) => wordOf(text, "register"));
+        const word = taken(id, (text) => foundIn(text).word);
         return word && { word, tag: Number(byId(`${id}tag`).checked) };
     };
     const given = {};
@@ -391,6 +400,7 @@ const controlsOf = (name) => (name === "order" ? [...document.querySelectorAll("
 function valueOf(name) {
     if (name in chosen) return chosen[name];
     const control = controlsOf(name).find((it) => it.type !== "radio" || it.checked);
+    if (name === "text" && control.value.length > SMALL) return "";
     return control.type === "checkbox" ? String(Number(control.checked)) : control.value;
 }
 
@@ -447,9 +457,9 @@ function show() {
     }
 }
 
-/** Where the module fails, nothing is shown that isn't its. */
-function failed(problem) {
-    byId("fault").textContent = `The module failed, and so nothing is shown: ${problem.message}`;
+/** Where a module fails, nothing is shown that isn't its. */
+function failed(problem, says = "The module failed, and so nothing is shown") {
+    byId("fault").textContent = `${says}: ${problem.message}`;
     byId("fault").hidden = false;
     for (const results of document.querySelectorAll(".results")) results.hidden = true;
 }
@@ -487,7 +497,7 @@ async function copy(text, what) {
 
 /** A word from the fields of its parts. */
 function makeWord() {
-    const letters = (text) => (text.trim() === "" ? 0x78fffn : /^[rwxRWE]+$/.test(text.trim()) ? maskOf(text.trim()) : numberOf(text));
+    const letters = (text) => (text.trim() === "" ? 0x78fffn : /^[rwxRW]+$/.test(text.trim()) ? maskOf(text.trim()) : numberOf(text));
     const type = (text) => {
         const found = text.trim() === "" ? 0x3ffffn : numberOf(text);
         if (found > 0x3ffffn) throw new Refused("A type has 18 bits: 3ffff is unsealed.");
@@ -542,14 +552,19 @@ function listen() {
         button.addEventListener("click", () => { if (view !== button.dataset.view) turnTo(button.dataset.view); });
     }
     // A tag that stands in the text is that of the capability, until it is changed.
-    const takeTag = () => {
-        const [all, order] = [pasted(byId("word").value), valueOf("order")];
-        const tag = order === "register" ? (all[Number(chosen.which)] ?? all[0])?.tag : null;
-        if (tag !== null && tag !== undefined) byId("tag").checked = tag === 1;
+    const takeTag = (id, tag, which) => {
+        const all = tag === "tag" && valueOf("order") === "memory" ? [] : pasted(byId(id).value);
+        const found = (all[which] ?? all[0])?.tag ?? null;
+        if (found !== null) byId(tag).checked = found === 1;
         changed();
     };
-    byId("word").addEventListener("input", () => { chosen.which = "0"; takeTag(); });
-    byId("which").addEventListener("input", () => { chosen.which = byId("which").value; takeTag(); });
+    const takeChoice = (which) => {
+        chosen.which = which;
+        takeTag("word", "tag", Number(which));
+    };
+    byId("word").addEventListener("input", () => takeChoice("0"));
+    byId("which").addEventListener("input", () => takeChoice(byId("which").value));
+    for (const id of ["source", "authority"]) byId(id).addEventListener("input", () => takeTag(id, `${id}tag`, 0));
     byId("make").addEventListener("click", makeWord);
     byId("copy-link").addEventListener("click", () => copy(location.href.split("#")[0] + linkTo(), "Link"));
     byId("copy-text").addEventListener("click", () =>

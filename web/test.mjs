@@ -24,6 +24,7 @@ const GROUPS = {
     logsAreOpened: stepping.logsAreOpened,
     linesAreStepped: stepping.linesAreStepped,
     shortLogsAreJudged: stepping.shortLogsAreJudged,
+    logsAreKept: stepping.logsAreKept,
     logsAreUsable: stepping.logsAreUsable,
     changedJudges: stepping.changedJudges,
     pastedIsTaken: pasting.pastedIsTaken,

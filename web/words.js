@@ -25,6 +25,7 @@ const LAYOUT = {
     digits: { size: 33, text: true },
     name: { size: 24, text: true },
     answer: { size: 24, fields: { line: [0, 8], steps: [8, 4], roots: [12, 4], state: [16, 1], refusal: [17, 1] } },
+    slot: { size: 32 },
     why: { size: 32, fields: { answer: [0, "answer"], length: [24, 8] } },
 };
 

@@ -126,6 +126,8 @@ export async function wordsAreExplained(page) {
 export async function layoutIsTheHeaders(page) {
     const said = layoutOfHeader(await page.run(() => LAYOUT));
     said.forEach((it, k) => same(it, "1", `layout, line ${k}`));
+    const why = "capcheck_why capcheck_judge_why(bool origins, const uint8_t *bytes, size_t length, capcheck_slot *slots, size_t count,";
+    check(text("include/capcheck_freestanding.h").includes(why), "the header has the judge's call");
     const declared = text("include/capcheck.h");
     for (const [name] of await page.run(() => Object.values(CALLS)))
         check(declared.includes(` capcheck_${name}(`), `the header has ${name}`);

@@ -4,6 +4,7 @@ import fs from "node:fs";
 import os from "node:os";
 import path from "node:path";
 
+import { drawing } from "./drawn.mjs";
 import { check, file, root, same, text } from "./given.mjs";
 
 export const CAPCHECK = process.env.CAPCHECK ?? file("crates/capcheck/out/capcheck");
@@ -22,6 +23,12 @@ const wantedOf = (log) => ({
     report: printed(CAPDIAG, ["why"], log),
     origins: printed(CAPCHECK, ["judge", "--origins"], log),
 });
+
+/** Logs at random, the same ones each time. */
+export async function drawnLogs(page, count) {
+    await page.run(drawing);
+    return page.run((most, others) => drawnLogs(most, others), count, examples.map((name) => text(`examples/${name}`)));
+}
 
 /** Waits until a log is judged and its line is shown. */
 export const settled = () => {
@@ -67,7 +74,7 @@ function sentenceOf(verdict) {
 
 export async function logsAreJudged(page) {
     await page.run(settled);
-    const drawn = await page.run(drawnLogs, 200, examples.map((name) => text(`examples/${name}`)));
+    const drawn = await drawnLogs(page, 200);
     const logs = [...examples.map((name) => text(`examples/${name}`)), ...drawn];
     const shown = await page.run(said, logs);
     const kinds = {};
@@ -88,150 +95,6 @@ export async function logsAreJudged(page) {
     check(Object.keys(kinds).length >= 15, `verdicts of the logs: ${Object.keys(kinds)}`);
     return Object.entries(kinds).map(([kind, count]) => `${kind} ${count}`).join(", ");
 }
-
-/** Logs at random, made in the page: roots, steps with the results that the library gives, and in most of them a
- * change somewhere. What is right of them, the programs say. */
-export const drawnLogs = (count, others) => {
-    let seed = 5;
-    const random = (below) => {
-        seed = (seed + 0x6d2b79f5) | 0;
-        let mixed = Math.imul(seed ^ (seed >>> 15), 1 | seed);
-        mixed = (mixed + Math.imul(mixed ^ (mixed >>> 7), 61 | mixed)) ^ mixed;
-        return ((mixed ^ (mixed >>> 14)) >>> 0) % below;
-    };
-    const among = (list) => list[random(list.length)];
-    const whole = read("ffff1ffffc0180040000000000000000");
-    const digits = (number) => hex(BigInt.asUintN(64, number), 16);
-    const made = () => {
-        const mode = random(3);
-        const lines = mode ? ["capcheck 2", `mode ${mode === 1 ? "strict" : "clear"}`] : ["capcheck 1"];
-        const none = { word: c.nothing(), tag: 0 };
-        const registers = Array(32).fill(none);
-        const memory = new Map();
-        const root = (number, cap) => {
-            registers[number] = { ...cap, tag: 1 };
-            lines.push(`root c${number} ${c.textOf(cap.word)}`);
-        };
-        root(1, { word: whole, tag: 1 });
-        if (random(2))
-            root(2, c.setBoundsClear(
-                        c.setAddrClear({ word: whole, tag: 1 }, BigInt(random(1 << 20) * 16)), BigInt(random(1 << 12) * 16), 0));
-        let steps = 0;
-        const step = (kind, target, words, got) => {
-            registers[target] = got;
-            lines.push(`${kind} c${target} ${words} = ${got.tag} ${c.textOf(got.word)}`);
-            steps++;
-        };
-        for (let left = random(40); left > 0; left--) {
-            const [target, from, by] = [1 + random(8), random(9), random(9)];
-            const [source, authority] = [registers[from], registers[by]];
-            const kind = among([
-                "move", "cleartag", "setbounds", "setboundsexact", "setaddr", "andperm", "seal", "unseal", "lc", "sc", "load",
-                "store"
-            ]);
-            const near = c.split(source.word).address;
-            const number = among([
-                BigInt(random(256) * 16), near + BigInt(random(64)), BigInt(random(0x7fffffff)), 0x7ffffn, BigInt(random(1 << 19))
-            ]);
-            const pick = (strict, clear, ...given) => {
-                if (mode === 2) return clear(...given);
-                const got = strict(...given);
-                return got.refusal ? null : got.cap;
-            };
-            let got = null;
-            if (kind === "move") step(kind, target, `c${from}`, source);
-            else if (kind === "cleartag") step(kind, target, `c${from}`, c.clearTag(source));
-            else if (kind.startsWith("setbounds")) {
-                const exact = Number(kind === "setboundsexact");
-                got = pick(c.setBounds, c.setBoundsClear, source, number, exact);
-                if (got) step(kind, target, `c${from} ${digits(number)}`, got);
-            } else if (kind === "setaddr") {
-                got = pick(c.setAddr, c.setAddrClear, source, BigInt.asUintN(64, number));
-                if (got) step(kind, target, `c${from} ${digits(number)}`, got);
-            } else if (kind === "andperm") {
-                got = pick(c.andPerm, c.andPermClear, source, number);
-                if (got) step(kind, target, `c${from} ${digits(number)}`, got);
-            } else if (kind === "seal" || kind === "unseal") {
-                got = kind === "seal" ? pick(c.seal, c.sealClear, source, authority) : pick(c.unseal, c.unsealClear, source, authority);
-                if (got) step(kind, target, `c${from} c${by}`, got);
-            } else {
-                const size = BigInt(among([1, 2, 4, 8]));
-                const offset = BigInt(random(40) - 20) * (kind === "lc" || kind === "sc" ? 16n : size);
-                const asked = { lc: c.mayLoadCap, sc: c.mayStoreCap, load: c.mayLoad, store: c.mayStore }[kind];
-                const { address, refusal } = asked(authority, offset, ...(kind === "sc" ? [source] : kind === "lc" ? [] : [size]));
-                if (refusal) continue;
-                const place = address >> 4n;
-                const held = memory.get(place) ?? { tag: 0, bytes: new Uint8Array(16) };
-                const at = Number(address & 15n);
-                if (kind === "lc")
-                    step(
-                        kind, target, `c${by} ${offset}`, c.loaded(authority, { word: c.fromMemory(held.bytes), tag: held.tag }));
-                else {
-                    steps++;
-                    if (kind === "sc") memory.set(place, { tag: source.tag, bytes: c.toMemory(source.word) });
-                    const part = kind === "load" ? held.bytes.slice(at, at + Number(size))
-                                                 : Uint8Array.from({ length: Number(size) }, () => random(256));
-                    const value = [...part].reverse().map((it) => hex(it, 2)).join("");
-                    if (kind === "store") {
-                        const bytes = held.bytes.slice();
-                        bytes.set(part, at);
-                        memory.set(place, { tag: 0, bytes });
-                    }
-                    lines.push({
-                        sc: `sc c${from} c${by} ${offset}`,
-                        load: `load c${by} ${offset} ${size} = ${value}`,
-                        store: `store c${by} ${offset} ${size} ${value}`
-                    }[kind]);
-                }
-            }
-        }
-        return [...lines, `end ${steps}`, ""].join("\n");
-    };
-    const all = `root c9 ${c.textOf(whole)}`;
-    const changes = [
-        (log) => log,
-        (log) => {
-            const at = random(log.length);
-            return log.slice(0, at) + String.fromCharCode(random(256)) + log.slice(at + 1);
-        },
-        (log) => {
-            const at = random(log.length);
-            return log.slice(0, at) + among([..."0123456789abcdef"]) + log.slice(at + 1);
-        },
-        (log) => log.replace(/= 1(?=.*\nend)/, "= 0"),
-        (log) => {
-            const lines = log.split("\n");
-            lines.splice(1 + random(lines.length - 1), 1);
-            return lines.join("\n");
-        },
-        (log) => {
-            const lines = log.split("\n");
-            lines.splice(1 + random(lines.length - 1), 0, among(lines));
-            return lines.join("\n");
-        },
-        (log) => log.slice(0, random(log.length)),
-        (log) => log + among(["x", "end 0\n", "\n"]),
-        (log) => log.replace(/end \d+/, "x".repeat(95 + random(4))),
-        (log) => log.replace(/end \d+/, among([
-            `setbounds c3 c2 00000000ffffffff = 1 ${c.textOf(whole)}`,
-            `setaddr c3 c2 7fffffffffffffff = 1 ${c.textOf(whole)}`,
-            `lc c3 c2 ${among([-2048, 1, 2032])} = 0 ${c.textOf(whole)}`,
-            "load c0 0 8 = 0000000000000000",
-            `setboundsexact c3 c1 0000000000100001 = 1 ${c.textOf(whole)}`,
-            `seal c3 c1 c0 = 1 ${c.textOf(whole)}`,
-            `unseal c3 c1 c1 = 1 ${c.textOf(whole)}`,
-            `sc c1 c2 ${among([8, 0, 2047])}`,
-            all,
-        ])),
-        (log) => log.replace(/root c1 .*/, (it) => `${it}\n${among([it, "root c9 ffff1ffffc01a0030000000000000000", all])}`),
-        (log) => log.replace(/(=? ?[01]) (\w{4})(\w{28}\n)(?=end)/,
-            (it, tag, perms, rest) => `${tag} ${perms === "ffff" ? "fffe" : "ffff"}${rest}`),
-    ];
-    return Array.from({ length: count }, (it, k) => {
-        const log = k % 10 === 9 ? among(others) : made();
-        return changes[k % changes.length](log);
-    });
-};
 
 /** A file of the disk is opened by the page's button: what it takes, and the longest time in which the page did nothing. */
 export async function opened(page, name) {

@@ -31,6 +31,10 @@ const FORMS = [
     [`$c5: 0x${HIGH.toUpperCase()} 0x${LOW}`, WORD, null, "$c5"],
     [`pcc ${HIGH}_${LOW}`, WORD, null, "pcc"],
     [`(1, 0x${HIGH}, 0x${LOW})`, WORD, 1],
+    [`setaddr c2 c1 ${LOW} = 1 ${WORD}`, WORD, 1],
+    [`root c1 ${WORD}`, WORD, null],
+    [`recorded c4 0 ${WORD}`, WORD, 0],
+    [`word ${WORD}`, WORD, null],
 ];
 
 // Bounds and permissions in place of digits: what the word that the library makes of them has.
@@ -41,6 +45,7 @@ const PARTS = [
         "c4: 0x40001234 [rxR,0x40000000-0x40010000] (sentry)",
         { base: 0x40000000n, top: 0x40010000n, view: 0x16, address: 0x40001234n, otype: 0x3ffff }, 1
     ],
+    ["0x1000 [rwxRWE,0x1000-0x1fff]", { base: 0x1000n, top: 0x1fffn, view: 0x3e, address: 0x1000n, otype: 0x3ffff }, 1],
     ["0x1000 [,0x1000-0x1fff] (invalid)", { base: 0x1000n, top: 0x1fffn, view: 0, address: 0x1000n, otype: 0x3ffff }, 0],
     ["0x1001 [rw,0x1001-0x5002]", { base: 0x1000n, top: 0x5020n, view: 0xc, address: 0x1001n, otype: 0x3ffff }, 1],
     [
@@ -58,14 +63,15 @@ const PARTS = [
 ];
 
 export async function pastedIsTaken(page) {
-    const shown = (texts) => texts.map((text) => {
+    // The tag stands the other way before.
+    const shown = (forms) => forms.map(([text, , tag]) => {
         turn("capability");
         order("register");
-        tick("tag", text.length % 2 === 0);
+        tick("tag", tag === null ? text.length % 2 === 0 : tag === 0);
         type("word", text);
         return [error("word"), rows("lines").word, Number(document.getElementById("tag").checked), seen("taken")];
     });
-    const got = await page.run(shown, FORMS.map(([text]) => text));
+    const got = await page.run(shown, FORMS);
     FORMS.forEach(([text, word, tag, name], k) => {
         const [problem, found, tagged, says] = got[k];
         same([problem, found, tagged], ["", word, tag ?? Number(text.length % 2 === 0)], `pasted “${text}”`);
@@ -83,6 +89,14 @@ export async function pastedIsTaken(page) {
         check(parts[k][3].includes("made by the library"), `pasted “${text}”: ${parts[k][3]}`);
         check(parts[k][3].includes("these are rounded") === text.includes("5002"), `rounded “${text}”: ${parts[k][3]}`);
     });
+    const refused = await page.run((texts) => texts.map((text) => {
+        type("word", text);
+        return [error("word") !== "", results()];
+    }), [
+        "[rwRW,0x2000-0x1000]", "[rwRW,0x10000000000000000-0x10000000000000001]", "v:1 s:0 p:0 b:-1 l:5", "v:1 b:0 l:10000000000000001",
+        "v:1 p:100000000 b:0 l:5", "v:1 b:0 l:5 t:40000", "[rwRW,0x1000]", `2 ${WORD}`, `c3: ${WORD}0`, "0x1:0x2:0x3", `memory ${WORD}`,
+    ]);
+    same(refused, Array(11).fill([true, 0]), "what has no form, or a number out of range");
     const dump = `c1: 0x1 0x${HIGH} 0x${LOW}\nnothing here\nc2 0 ffff1fffdc0180040000000000000000\n\ncsp 0x1800 [rwRW,0x1000-0x2000]\n`;
     const list = await page.run(async (text) => {
         type("word", text);
@@ -106,6 +120,18 @@ export async function pastedIsTaken(page) {
     await page.go(list.link);
     await page.run(tools);
     same(await page.run(() => [rows("lines").word.slice(16), valueOf("which")]), ["0000000000001800", "2"], "the link of a choice");
+    const operands = await page.run((forms) => {
+        turn("operation");
+        type("do", "seal");
+        return forms.map(([text]) => ["source", "authority"].map((id) => {
+            type(id, text);
+            const found = foundIn(document.getElementById(id).value);
+            return [error(id), c.textOf(found.word), document.getElementById(`${id}tag`).checked];
+        }));
+    }, FORMS.filter(([, , tag]) => tag !== null));
+    FORMS.filter(([, , tag]) => tag !== null).forEach(([text, word, tag], k) => {
+        same(operands[k], Array(2).fill(["", word, tag === 1]), `as an operand: “${text}”`);
+    });
     await memoryIsOffered(page);
     await wordIsMade(page);
     await capabilityIsSaid(page);
@@ -113,6 +139,7 @@ export async function pastedIsTaken(page) {
 
 async function memoryIsOffered(page) {
     const got = await page.run((memory, turned, sound) => {
+        turn("capability");
         const offers = [memory, turned, sound, "f".repeat(32)].map((text) => {
             order("register");
             type("word", text);
@@ -214,20 +241,26 @@ export async function putRight(page) {
     const untouched = await page.run(() => [seen("to-says"), document.querySelectorAll("#range .tried.number").length,
                                          document.getElementById("take").disabled]);
     same(untouched, ["", 0, true], "an address that wasn't touched says nothing");
-    const back = await page.run(async () => {
-        const paused = () => new Promise((done) => setTimeout(done, 120));
-        const seenNow = [];
-        const went = async (act) => { act(); await paused(); seenNow.push([view, document.getElementById("word").value.slice(-4)]); };
-        await went(() => document.querySelector("[data-view=request]").click());
-        await went(() => document.querySelector("[data-view=operation]").click());
-        await went(() => document.querySelector("#outcomes a").click());
-        await went(() => history.back());
-        await went(() => history.back());
-        await went(() => history.back());
-        await went(() => history.forward());
-        return seenNow.map(([name]) => name);
+    // A browser that has fifty entries in a page's history drops such as no person made.
+    const fresh = await page.browser.open(address + capability("003d1ffffc1a13910000000000013c08"));
+    const back = await fresh.run(async () => {
+        const went = [];
+        const go = async (wanted, act) => {
+            act();
+            for (let k = 0; k < 300 && view !== wanted; k++) await new Promise((done) => setTimeout(done, 10));
+            went.push(view);
+        };
+        await go("request", () => document.querySelector("[data-view=request]").click());
+        await go("operation", () => document.querySelector("[data-view=operation]").click());
+        await go("capability", () => document.querySelector("#outcomes a").click());
+        await go("operation", () => history.back());
+        await go("request", () => history.back());
+        await go("capability", () => history.back());
+        await go("request", () => history.forward());
+        return went;
     });
     same(back, ["request", "operation", "capability", "operation", "request", "capability", "request"], "back and forward");
+    await fresh.close();
     for (const [name, wanted] of [["setbounds", ["source", "request", "rounded", "result"]], ["setaddr", ["source", "range", "result"]],
              ["seal", ["source", "authority", "result"]], ["load", ["authority", "access"]], ["sc", ["source", "authority", "access"]]]) {
         const drawn = await page.run((part) => {

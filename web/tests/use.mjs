@@ -261,7 +261,7 @@ export async function fitsTheScreen(page) {
         "ffff1ffffc01b002c000000000000000", "ffff1ffffc0210000000000000001000", "00001ffff8000000ffffffffffffffff",
         "ffffffffffffffffffffffffffffffff"
     ];
-    for (const [width, height] of [[360, 800], [600, 800], [1000, 1200], [1600, 1200]]) {
+    for (const [width, height] of [[360, 800], [600, 800], [1000, 1200], [1280, 1000], [1600, 1200]]) {
         await page.size(width, height, width === 360);
         for (const link of [...STATES, ...more.map((word) => capability(word)), capability("g".repeat(300)),
                  hash({ show: "request", base: "fffffffffffff000", length: "1000" })]) {
