@@ -1,10 +1,10 @@
 /*
- * Hands one step over to a judge that is linked in, again and again, by its numbers:
+ * Hands one step over to a judge that is linked in, again and again, by its numbers, or by the line that it writes each time:
  *
- *     steps KIND COUNT
+ *     steps KIND COUNT step|line
  *
- * bench/steps.sh counts by it how many instructions a step of each kind takes. Each step is one that the rules allow; of a
- * judge that finds a fault the program complains.
+ * bench/steps.sh counts by it how many instructions that takes. Each step is one that the rules allow; it complains where the
+ * judge finds a fault.
  */
 #include <capcheck_judge.h>
 
@@ -42,48 +42,56 @@ static void begin(void) {
     must_go_on(capcheck_judge_store(&judge, 2, 16, 8, 0x0123456789abcdefu));
 }
 
-#define AGAIN(call)                          \
-    for (unsigned long i = 0; i < count; i++) \
-        must_go_on(call);
+/* A kind of step with its operands, again and again. */
+#define AGAIN(kind, ...)                                                                                         \
+    if (by_lines)                                                                                                \
+        for (unsigned long i = 0; i < count; i++)                                                                \
+            must_go_on(capcheck_judge_line(&judge, line, capcheck_line_##kind(line, __VA_ARGS__)));               \
+    else                                                                                                         \
+        for (unsigned long i = 0; i < count; i++)                                                                \
+            must_go_on(capcheck_judge_##kind(&judge, __VA_ARGS__));
 
 int main(int argc, char **argv) {
-    if (argc != 3)
-        stop("steps KIND COUNT");
+    if (argc != 4)
+        stop("steps KIND COUNT step|line");
     const char *kind = argv[1];
     unsigned long count = strtoul(argv[2], NULL, 10);
+    bool by_lines = strcmp(argv[3], "line") == 0;
+    char line[CAPCHECK_LINE_SIZE];
     begin();
-    if (strcmp(kind, "move") == 0)
-        AGAIN(capcheck_judge_move(&judge, 9, 1, AT(0)))
-    else if (strcmp(kind, "cleartag") == 0)
-        AGAIN(capcheck_judge_cleartag(&judge, 9, 2, CAP(0, ALL, 0x1000)))
-    else if (strcmp(kind, "setbounds") == 0)
-        AGAIN(capcheck_judge_setbounds(&judge, 9, 2, 64, CAP(1, 0xffff1ffff8101000u, 0x1000)))
-    else if (strcmp(kind, "setbounds-long") == 0)
-        AGAIN(capcheck_judge_setbounds(&judge, 9, 2, 0x18700, CAP(1, 0xffff1ffffe5c0104u, 0x1000)))
-    else if (strcmp(kind, "setboundsexact") == 0)
-        AGAIN(capcheck_judge_setboundsexact(&judge, 9, 2, 64, CAP(1, 0xffff1ffff8101000u, 0x1000)))
-    else if (strcmp(kind, "setboundsexact-long") == 0)
-        AGAIN(capcheck_judge_setboundsexact(&judge, 9, 2, 0x18700, CAP(1, 0xffff1ffffe5c0104u, 0x1000)))
-    else if (strcmp(kind, "setaddr") == 0)
-        AGAIN(capcheck_judge_setaddr(&judge, 9, 1, 0x2000, AT(0x2000)))
-    else if (strcmp(kind, "andperm") == 0)
-        AGAIN(capcheck_judge_andperm(&judge, 9, 2, 0x3d, CAP(1, 0x003d1ffffc018004u, 0x1000)))
-    else if (strcmp(kind, "seal") == 0)
-        AGAIN(capcheck_judge_seal(&judge, 9, 2, 3, CAP(1, 0xffff00002c018004u, 0x1000)))
-    else if (strcmp(kind, "unseal") == 0)
-        AGAIN(capcheck_judge_unseal(&judge, 9, 4, 3, AT(0x1000)))
-    else if (strcmp(kind, "lc") == 0)
-        AGAIN(capcheck_judge_lc(&judge, 9, 2, 0, AT(0)))
-    else if (strcmp(kind, "sc") == 0)
-        AGAIN(capcheck_judge_sc(&judge, 1, 2, 0))
-    else if (strcmp(kind, "load") == 0)
-        AGAIN(capcheck_judge_load(&judge, 2, 16, 8, 0x0123456789abcdefu))
-    else if (strcmp(kind, "load-byte") == 0)
-        AGAIN(capcheck_judge_load(&judge, 2, 16, 1, 0xef))
-    else if (strcmp(kind, "store") == 0)
-        AGAIN(capcheck_judge_store(&judge, 2, 16, 8, 0x0123456789abcdefu))
-    else
+    if (strcmp(kind, "move") == 0) {
+        AGAIN(move, 9, 1, AT(0))
+    } else if (strcmp(kind, "cleartag") == 0) {
+        AGAIN(cleartag, 9, 2, CAP(0, ALL, 0x1000))
+    } else if (strcmp(kind, "setbounds") == 0) {
+        AGAIN(setbounds, 9, 2, 64, CAP(1, 0xffff1ffff8101000u, 0x1000))
+    } else if (strcmp(kind, "setbounds-long") == 0) {
+        AGAIN(setbounds, 9, 2, 0x18700, CAP(1, 0xffff1ffffe5c0104u, 0x1000))
+    } else if (strcmp(kind, "setboundsexact") == 0) {
+        AGAIN(setboundsexact, 9, 2, 64, CAP(1, 0xffff1ffff8101000u, 0x1000))
+    } else if (strcmp(kind, "setboundsexact-long") == 0) {
+        AGAIN(setboundsexact, 9, 2, 0x18700, CAP(1, 0xffff1ffffe5c0104u, 0x1000))
+    } else if (strcmp(kind, "setaddr") == 0) {
+        AGAIN(setaddr, 9, 1, 0x2000, AT(0x2000))
+    } else if (strcmp(kind, "andperm") == 0) {
+        AGAIN(andperm, 9, 2, 0x3d, CAP(1, 0x003d1ffffc018004u, 0x1000))
+    } else if (strcmp(kind, "seal") == 0) {
+        AGAIN(seal, 9, 2, 3, CAP(1, 0xffff00002c018004u, 0x1000))
+    } else if (strcmp(kind, "unseal") == 0) {
+        AGAIN(unseal, 9, 4, 3, AT(0x1000))
+    } else if (strcmp(kind, "lc") == 0) {
+        AGAIN(lc, 9, 2, 0, AT(0))
+    } else if (strcmp(kind, "sc") == 0) {
+        AGAIN(sc, 1, 2, 0)
+    } else if (strcmp(kind, "load") == 0) {
+        AGAIN(load, 2, 16, 8, 0x0123456789abcdefu)
+    } else if (strcmp(kind, "load-byte") == 0) {
+        AGAIN(load, 2, 16, 1, 0xef)
+    } else if (strcmp(kind, "store") == 0) {
+        AGAIN(store, 2, 16, 8, 0x0123456789abcdefu)
+    } else {
         stop("no such kind");
+    }
     capcheck_judge_close(&judge);
     return 0;
 }

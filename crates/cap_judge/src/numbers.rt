@@ -30,7 +30,11 @@ impl<M: TaggedStore> Judge<M> {
         if let Stage::Body = self.stage {
             return match step.perform(&mut self.machine) {
                 Ok(()) => Ok(()),
-                Err(_) => self.take_written(step),
+                Err(_) => {
+                    // A copy, so that the step itself goes through no memory where it is made.
+                    let refused = step;
+                    self.take_written(refused)
+                }
             };
         }
         self.take_written(step)

@@ -24,6 +24,7 @@ pub(crate) const PERMIT_SEAL: u32 = 7;
 pub(crate) const PERMIT_UNSEAL: u32 = 9;
 
 /// Whether a word has an architectural permission.
+#[inline(always)]
 pub(crate) fn permits(word: Word, permission: u32) -> bool
     requires { permission < 12 }
     ensures { result ≡ has_permission word.0 permission }
@@ -32,6 +33,7 @@ pub(crate) fn permits(word: Word, permission: u32) -> bool
 }
 
 /// The word with another field of permissions.
+#[inline(always)]
 pub(crate) fn replace_permissions(word: Word, permissions: u16) -> Word
     ensures { result.0 ≡ with_perms word.0 permissions }
 {
@@ -39,6 +41,7 @@ pub(crate) fn replace_permissions(word: Word, permissions: u16) -> Word
 }
 
 /// The word with another object type, of 18 bits.
+#[inline(always)]
 pub(crate) fn replace_type(word: Word, object_type: u32) -> Word
     requires { object_type < 2 ^ 18 }
     ensures { result.0 ≡ with_type word.0 object_type }

@@ -31,6 +31,7 @@ pub fn sealed(word: Word) -> bool
 
 /// Whether an address lies in a word's bounds.
 #[tactic(auto, unfolding(crate::specs::Operations::covers))]
+#[inline(always)]
 fn holds(word: Word, address: u64) -> bool
     ensures { result ≡ covers word.0 address (address + 1) }
 {
@@ -38,6 +39,7 @@ fn holds(word: Word, address: u64) -> bool
 }
 
 /// The first test that refuses an authority for object types.
+#[inline(always)]
 fn authority_fault(authority: Cap, permission: u32) -> Option<OpFault>
     requires { permission < 12 }
     ensures { option_map refusal_of result ≡ first_of (type_authority_tests authority permission) }
@@ -58,6 +60,7 @@ fn authority_fault(authority: Cap, permission: u32) -> Option<OpFault>
 
 /// The first test that refuses a sealing.
 #[tactic(auto, unfolding(crate::specs::Operations::seal_tests))]
+#[inline(always)]
 fn seal_fault(source: Cap, authority: Cap) -> Option<OpFault>
     ensures { option_map refusal_of result ≡ first_of (seal_tests source authority) }
 {
@@ -77,6 +80,7 @@ fn seal_fault(source: Cap, authority: Cap) -> Option<OpFault>
 
 /// The source with the low 18 bits of the authority's address as its object type.
 #[tactic(auto, unfolding(crate::specs::Operations::seal_result))]
+#[inline(always)]
 pub(crate) fn with_authority_type(source: Cap, authority: Cap) -> Cap
     ensures { result ≡ seal_result source authority }
 {
@@ -107,6 +111,7 @@ pub fn seal(source: Cap, authority: Cap) -> Result<Cap, OpFault>
 }
 
 /// Whether a word is sealed with an object type that is not reserved.
+#[inline(always)]
 fn sealed_with(word: Word, address: u64) -> bool
     ensures { result ≡ (otype_of word.0 == address && nat_le (otype_of word.0) greatest_type) }
 {
@@ -116,6 +121,7 @@ fn sealed_with(word: Word, address: u64) -> bool
 
 /// The first test that refuses an unsealing.
 #[tactic(auto, unfolding(crate::specs::Operations::unseal_tests))]
+#[inline(always)]
 fn unseal_fault(source: Cap, authority: Cap) -> Option<OpFault>
     ensures { option_map refusal_of result ≡ first_of (unseal_tests source authority) }
 {
@@ -132,6 +138,7 @@ fn unseal_fault(source: Cap, authority: Cap) -> Option<OpFault>
 }
 
 /// The permissions of a word, Global only where another word has it too.
+#[inline(always)]
 fn with_common_global(word: Word, other: Word) -> u16
     ensures { result ≡ perms_with_common_global word.0 other.0 }
 {
@@ -141,6 +148,7 @@ fn with_common_global(word: Word, other: Word) -> u16
 
 /// The source unsealed, and global only where the authority is.
 #[tactic(auto, unfolding(crate::specs::Operations::unseal_result))]
+#[inline(always)]
 pub(crate) fn without_type(source: Cap, authority: Cap) -> Cap
     ensures { result ≡ unseal_result source authority }
 {
