@@ -1,4 +1,4 @@
-use Rattle.std.proofs.Common.{◌≡◌, ◌≤◌, ◌-◌, arith, drop, length, take}
+use Rattle.std.proofs.Common.{◌≤◌, ◌-◌, arith, drop, length, take}
 use Rattle.std.proofs.lemmas.List.{length-drop, take_all}
 use Rattle.cap_judge.specs.FaultLines.{bytes_of}
 use Rattle.cap_judge.specs.Readings.{known_of}
