@@ -58,6 +58,9 @@ fn slots_that_are_full(rt: HostRuntime) {
     assert_eq!(rt; store.put_bytes(4, 15, &[8]), Ok(()));
     assert_eq!(rt; (store.code(9), store.code(4), store.code(6)), (9, 0, 6));
     assert_eq!(rt; (store.count(), store.get(5)), (3, None));
-    assert_eq!(rt; (store.entry(9), store.entry(5)), (Some((true, [7; 16], 9)), None));
+    assert_eq!(rt;
+        (store.entry(9), store.entry(5)),
+        (Some((true, [7; 16], 9)), None)
+    );
     assert_eq!(rt; (store.next_put(5), store.next_put(10)), (Some(6), None));
 }
