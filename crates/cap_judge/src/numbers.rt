@@ -30,11 +30,7 @@ impl<M: TaggedStore> Judge<M> {
         if let Stage::Body = self.stage {
             return match step.perform(&mut self.machine) {
                 Ok(()) => Ok(()),
-                Err(_) => {
-                    // A copy, so that the step itself goes through no memory where it is made.
-                    let refused = step;
-                    self.take_written(refused)
-                }
+                Err(_) => self.take_written(step),
             };
         }
         self.take_written(step)
