@@ -1,9 +1,7 @@
 -- What stands in slots that are in runs.
-use Rattle.std.proofs.Common.{◌≡◌, ℕ, ◌+◌, ◌-◌, ◌^◌, ◌<◌, ◌≤◌, List, [], length, map, get_or, take, drop, Some, None, Err, Equal}
+use Rattle.std.proofs.Common.{◌≡◌, ℕ, ◌+◌, ◌-◌, ◌^◌, ◌<◌, ◌≤◌, List, [], length, get_or, take, drop, Some, None}
 use Rattle.std.proofs.Common.{min, All, unwrap_or, Bool, true, false, not, ◌==◌, Option, ◌⊎◌, ⊎_elim, sym, refl, ap, subst, ◌∙◌, arith}
 use Rattle.std.specs.FinMap as finite
-use Rattle.std.specs.List.Sorted.{IsBinarySearchResult}
-use Rattle.std.specs.Ordering.{nat_cmp}
 use Rattle.std.proofs.lemmas.List.{get_or-map, get_or-take, get_or-drop, length-map, length-take-le, length-drop}
 use Rattle.std.proofs.lemmas.Map.Keys.{below_from_sorted, sorted_from_strictly_increasing}
 use Rattle.tagmem.specs.declared.list_store.Listed.{Listed}
@@ -16,11 +14,11 @@ use Rattle.tagmem.specs.ListLaws.{NoneBefore, found_absent, get-contents_of, gra
 use Rattle.std.proofs.lemmas.Bool.Decides.{nat_tests}
 use Rattle.std.proofs.lemmas.Option.{none-some}
 use Rattle.tagmem.proofs.Listed.{found_present}
-use Rattle.tagmem.proofs.Indexes.{nothing, number_found, numbers_parted}
-use Rattle.tagmem.proofs.Runs.{run_end-le, run_end-rises}
+use Rattle.tagmem.proofs.Indexes.{nothing}
+use Rattle.tagmem.proofs.Runs.{run_end-le}
 
 -- a slot to stand for one that is not there
-pub no_slot : Slot
+abbrev pub no_slot : Slot
 no_slot = record { granule = 0; code = 0; bytes = [] }
 
 -- the granule of a slot
@@ -31,13 +29,13 @@ pub length-entries_of : (used : ℕ) (slots : List Slot) → used ≤ length slo
 length-entries_of used slots fits = length-map (take used slots) listed_of ∙ length-take-le used slots fits
 
 -- granules rise within a run
-pub run_rises : (entries : List Listed) → AreRuns entries → (bit i j : ℕ) → run_end (length entries) (bit + 1) ≤ i → i < j
-    → j < run_end (length entries) bit → granule_at entries i < granule_at entries j
-run_rises entries runs bit i j above lt below =
-    let from = run_end (length entries) (bit + 1) in
-    let to = run_end (length entries) bit in
+pub run_rises : (entries : List Listed) → AreRuns entries → (level i j : ℕ) → run_end (length entries) (level + 1) ≤ i → i < j
+    → j < run_end (length entries) level → granule_at entries i < granule_at entries j
+run_rises entries runs level i j above lt below =
+    let from = run_end (length entries) (level + 1) in
+    let to = run_end (length entries) level in
     let run = part from to (granules_of entries) in
-    let inside = run_end-le (length entries) bit in
+    let inside = run_end-le (length entries) level in
     let long : length run ≡ to - from = length-take-le (to - from) (drop from (granules_of entries)) (omega (
       arith,
       length-drop {A = ℕ},
@@ -47,7 +45,7 @@ run_rises entries runs bit i j above lt below =
     let is : from + (q - from) ≡ q = omega arith in
     get_or-take (to - from) (drop from (granules_of entries)) (q - from) 0 (omega arith) ∙ get_or-drop from (granules_of entries) (q - from) 0
     ∙ ap (granule_at entries) is in
-    let up = below_from_sorted run (i - from) (j - from) 0 (sorted_from_strictly_increasing run (runs.rising bit)) (omega arith) (omega arith) in
+    let up = below_from_sorted run (i - from) (j - from) 0 (sorted_from_strictly_increasing run (runs.rising level)) (omega arith) (omega arith) in
     omega (arith, there i above (omega arith), there j (omega arith) below, up)
 
 module _ (used : ℕ) (slots : List Slot) (fits : used ≤ length slots) where
@@ -63,66 +61,17 @@ module _ (used : ℕ) (slots : List Slot) (fits : used ≤ length slots) where
       get_or-map (λ listed. listed.granule) (entries_of used slots) i nothing 0 (omega (arith, length-entries_of used slots fits))
       ∙ ap (λ (listed : Listed). listed.granule) (entry_in i d nothing in_use)
 
-  -- the run of a bit
-  module _ (bit from to : ℕ) (is_from : from ≡ run_end used (bit + 1)) (is_to : to ≡ run_end used bit) where
-    ordered : from ≤ to
-    ordered = omega (arith, is_from, is_to, run_end-rises used bit)
-
+  -- the run of a digit
+  module _ (level from to : ℕ) (is_from : from ≡ run_end used (level + 1)) (is_to : to ≡ run_end used level) where
     inside : to ≤ used
-    inside = omega (arith, is_to, run_end-le used bit)
-
-    length-part : length (part from to slots) ≡ to - from
-    length-part = length-take-le (to - from) (drop from slots) (omega (arith, length-drop {A = Slot}, fits, ordered, inside))
-
-    -- a slot of a part is one of the whole
-    granule_in_part : (i : ℕ) → i < to - from → get_or (map granule_of (part from to slots)) i 0 ≡ granule_at (entries_of used slots) (from + i)
-    granule_in_part i lt =
-        get_or-map granule_of (part from to slots) i no_slot 0 (omega (arith, length-part))
-        ∙ ap granule_of (get_or-take (to - from) (drop from slots) i no_slot lt ∙ get_or-drop from slots i no_slot)
-        ∙ sym (granule_in (from + i) no_slot (omega (arith, ordered, inside)))
+    inside = omega (arith, is_to, run_end-le used level)
 
     module _ (runs : AreRuns (entries_of used slots)) (k : ℕ) where
       rises : (i j : ℕ) → from ≤ i → i < j → j < to → granule_at (entries_of used slots) i < granule_at (entries_of used slots) j
       rises i j above lt below =
           let long = length-entries_of used slots fits in
-          run_rises (entries_of used slots) runs bit i j (omega (arith, above, is_from, ap (λ (n : ℕ). run_end n (bit + 1)) long)) lt
-          (omega (arith, below, is_to, ap (λ (n : ℕ). run_end n bit) long))
-
-      part_rises : (i j : ℕ) → i < j → j < length (part from to slots)
-          → get_or (map granule_of (part from to slots)) i 0 < get_or (map granule_of (part from to slots)) j 0
-      part_rises i j lt in_range =
-          let short : j < to - from = omega (arith, length-part) in
-          omega (
-            arith,
-            granule_in_part i (omega arith),
-            granule_in_part j short,
-            rises (from + i) (from + j) (omega arith) (omega arith) (omega arith),
-          )
-
-      -- a search of it finds the granule's slot
-      pub found_in_part : (index : ℕ) → index < length (part from to slots)
-          → ((d : Slot) → nat_cmp (get_or (part from to slots) index d).granule k ≡ Equal) → IsEntryAt (entries_of used slots) k (from + index)
-      found_in_part index lt equal =
-          let short : index < to - from = omega (arith, length-part) in record {
-            in_range = omega (arith, length-entries_of used slots fits, ordered, inside);
-            has_granule = sym (granule_in_part index short) ∙ number_found granule_of no_slot (part from to slots) k part_rises index lt equal;
-          }
-
-      -- or the gap where it would stand
-      pub gap_in_part : (index : ℕ) → index ≤ length (part from to slots)
-          → IsBinarySearchResult (λ slot. nat_cmp slot.granule k) (part from to slots) (Err index)
-          → IsGapIn (entries_of used slots) from to k (from + index)
-      gap_in_part index le parted =
-          let sides = numbers_parted granule_of no_slot (part from to slots) k part_rises index le parted in
-          let moved : (i : ℕ) → from ≤ i → i < to → granule_at (entries_of used slots) i ≡ get_or (map granule_of (part from to slots)) (i - from) 0 =
-          λ i above below.
-          let is : from + (i - from) ≡ i = omega arith in
-          sym (granule_in_part (i - from) (omega arith) ∙ ap (granule_at (entries_of used slots)) is) in record {
-            in_range = (omega arith, omega (arith, length-part, ordered));
-            lower_before = λ i above below. omega (arith, moved i above (omega (arith, length-part, ordered)), sides.lower (i - from) (omega arith));
-            higher_after = λ i above below.
-                omega (arith, moved i (omega arith) below, sides.higher (i - from) (omega arith) (omega (arith, length-part, ordered)));
-          }
+          run_rises (entries_of used slots) runs level i j (omega (arith, above, is_from, ap (λ (n : ℕ). run_end n (level + 1)) long)) lt
+          (omega (arith, below, is_to, ap (λ (n : ℕ). run_end n level) long))
 
       -- the slot behind a gap has the next granule of the run
       pub next_in_gap : (index : ℕ) → IsGapIn (entries_of used slots) from to k index → index < to

@@ -4,14 +4,17 @@ mod Blocks
 mod Chained
 mod Directories
 mod Indexes
+mod Joining
 mod Lent
 mod Listed
+mod Merging
 mod NextPut
 mod Pages
 mod Permuted
 mod Relent
 mod Rooms
 mod Runs
+mod Searching
 mod Slots
 mod Sorting
 mod Writes

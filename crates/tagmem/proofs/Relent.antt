@@ -28,9 +28,9 @@ AreRuns-granules : (old new : List Listed) → length new ≡ length old → gra
 AreRuns-granules old new long same stored runs = record {
   apart = λ i j lt in_range.
       subst (λ granules. get_or granules i 0 ≡ get_or granules j 0 → ⊥) (sym same) (runs.apart i j lt (omega (arith, long)));
-  rising = λ bit.
-      let at : (n : ℕ) → n ≡ length old → IsStrictlyIncreasing (part (run_end n (bit + 1)) (run_end n bit) (granules_of new)) = λ n is.
-      rw (is, same) (runs.rising bit) in
+  rising = λ level.
+      let at : (n : ℕ) → n ≡ length old → IsStrictlyIncreasing (part (run_end n (level + 1)) (run_end n level) (granules_of new)) = λ n is.
+      rw (is, same) (runs.rising level) in
       at (length new) long;
   stored = stored;
 }

@@ -1,25 +1,28 @@
 -- Where the runs of a number end, and what one more does to them.
-use Rattle.std.proofs.Common.{◌≡◌, ℕ, zero, suc, ◌+◌, ◌-◌, ◌*◌, ◌/◌, ◌%◌, ◌^◌, ◌<◌, ◌≤◌, sym, ap, subst, ◌∙◌, arith}
+use Rattle.std.proofs.Common.{◌≡◌, ℕ, zero, suc, ◌+◌, ◌-◌, ◌*◌, ◌/◌, ◌%◌, ◌^◌, ◌<◌, ◌≤◌, sym, ap, ◌∙◌, arith, mod-lt, div-add-mod'}
 use Rattle.std.proofs.Math.Nat.{div-div-eq-div-mul, div-eq_of_lt, div-mul-le_self, mul-le-mul_right, div-eq_of_lt-le}
 use Rattle.std.specs.Int.{bit_at}
 use Rattle.std.proofs.lemmas.Nat.{pow_pos}
-use Rattle.std.specs.Int.{bit_at}
 use Rattle.tagmem.specs.Lent.{run_end}
 
+-- a number without its lowest bits
+abbrev bit_end : ℕ → ℕ → ℕ
+bit_end n bit = n / 2 ^ bit * 2 ^ bit
+
 -- a shift by one more halves
-pub halved : (n bit : ℕ) → n / 2 ^ suc bit ≡ n / 2 ^ bit / 2
+halved : (n bit : ℕ) → n / 2 ^ suc bit ≡ n / 2 ^ bit / 2
 halved n bit = sym (div-div-eq-div-mul n (2 ^ bit) 2 ∙ ap (λ (d : ℕ). n / d) (omega arith))
 
--- no run ends behind the number, and they end later the lower their bit is
-pub run_end-le : (n bit : ℕ) → run_end n bit ≤ n
-run_end-le n bit = div-mul-le_self n (2 ^ bit)
+-- it is no greater, and the greater the fewer they are
+bit_end-le : (n bit : ℕ) → bit_end n bit ≤ n
+bit_end-le n bit = div-mul-le_self n (2 ^ bit)
 
-pub run_end-zero : (n : ℕ) → run_end n 0 ≡ n
-run_end-zero n = omega arith
+bit_end-zero : (n : ℕ) → bit_end n 0 ≡ n
+bit_end-zero n = omega arith
 
--- a number has no run of a bit that it is too small for
-pub run_end-past : (n bit : ℕ) → n < 2 ^ bit → run_end n bit ≡ 0
-run_end-past n bit past =
+-- nothing is left of a number that is too small
+bit_end-past : (n bit : ℕ) → n < 2 ^ bit → bit_end n bit ≡ 0
+bit_end-past n bit past =
     let none : 0 * 2 ^ bit ≡ 0 = omega arith in
     ap (λ (q : ℕ). q * 2 ^ bit) (div-eq_of_lt {n = n} {m = 2 ^ bit} past) ∙ none
 
@@ -30,48 +33,83 @@ twice q bit =
     let moved : q * (power * 2) ≡ q * 2 * power = omega arith in
     ap (λ (d : ℕ). q * d) doubled ∙ moved
 
-run_end-halved : (n bit : ℕ) → run_end n (suc bit) ≡ n / 2 ^ bit / 2 * 2 * 2 ^ bit
-run_end-halved n bit = ap (λ (q : ℕ). q * 2 ^ suc bit) (halved n bit) ∙ twice (n / 2 ^ bit / 2) bit
+bit_end-halved : (n bit : ℕ) → bit_end n (suc bit) ≡ n / 2 ^ bit / 2 * 2 * 2 ^ bit
+bit_end-halved n bit = ap (λ (q : ℕ). q * 2 ^ suc bit) (halved n bit) ∙ twice (n / 2 ^ bit / 2) bit
 
-pub run_end-rises : (n bit : ℕ) → run_end n (bit + 1) ≤ run_end n bit
-run_end-rises n bit =
-    let next : run_end n (bit + 1) ≡ run_end n (suc bit) = ap (run_end n) (omega arith) in
+bit_end-rises : (n bit : ℕ) → bit_end n (bit + 1) ≤ bit_end n bit
+bit_end-rises n bit =
+    let next : bit_end n (bit + 1) ≡ bit_end n (suc bit) = ap (bit_end n) (omega arith) in
     let less : n / 2 ^ bit / 2 * 2 ≤ n / 2 ^ bit = omega arith in
     let scaled = mul-le-mul_right (2 ^ bit) less in
-    omega (arith, next, run_end-halved n bit, scaled)
+    omega (arith, next, bit_end-halved n bit, scaled)
 
--- a run of a bit that isn't set is empty
-run_end-unset : (n bit : ℕ) → n / 2 ^ bit % 2 ≡ 0 → run_end n (suc bit) ≡ run_end n bit
-run_end-unset n bit unset =
+bit_end-far : (n bit more : ℕ) → bit_end n (bit + more) ≤ bit_end n bit
+bit_end-far n bit zero = omega (arith, ap (bit_end n) {x = bit + 0} {y = bit} (omega arith))
+bit_end-far n bit (suc more) =
+    let is : bit_end n (bit + suc more) ≡ bit_end n (bit + more + 1) = ap (bit_end n) (omega arith) in
+    omega (arith, is, bit_end-rises n (bit + more), bit_end-far n bit more)
+
+-- a bit that isn't set leaves the number
+bit_end-unset : (n bit : ℕ) → n / 2 ^ bit % 2 ≡ 0 → bit_end n (suc bit) ≡ bit_end n bit
+bit_end-unset n bit unset =
     let even : n / 2 ^ bit / 2 * 2 ≡ n / 2 ^ bit = omega (arith, unset) in
-    run_end-halved n bit ∙ ap (λ (q : ℕ). q * 2 ^ bit) even
+    bit_end-halved n bit ∙ ap (λ (q : ℕ). q * 2 ^ bit) even
 
--- one more than a number, whose lowest bit that is set is a given one
-module _ (n lowest : ℕ) (unset : (bit : ℕ) → bit < lowest → bit_at (n + 1) bit ≡ 0) (set : bit_at (n + 1) lowest ≡ 1) where
-  -- the runs of lower bits are empty, and that of the lowest ends last
-  pub run_end-low : (bit : ℕ) → bit ≤ lowest → run_end (n + 1) bit ≡ n + 1
-  run_end-low zero le = run_end-zero (n + 1)
-  run_end-low (suc bit) le = run_end-unset (n + 1) bit (unset bit (omega arith)) ∙ run_end-low bit (omega arith)
+-- a number whose lowest bit that is set is a given one
+module _ (n lowest : ℕ) (unset : (bit : ℕ) → bit < lowest → bit_at n bit ≡ 0) (set : bit_at n lowest ≡ 1) where
+  bit_end-low : (bit : ℕ) → bit ≤ lowest → bit_end n bit ≡ n
+  bit_end-low zero le = bit_end-zero n
+  bit_end-low (suc bit) le = bit_end-unset n bit (unset bit (omega arith)) ∙ bit_end-low bit (omega arith)
 
-  quotients : (more : ℕ) → (n + 1) / 2 ^ (suc lowest + more) ≡ n / 2 ^ (suc lowest + more)
-  quotients zero =
+  bit_end-next : bit_end n (suc lowest) < n
+  bit_end-next =
       let power = 2 ^ lowest in
-      let half = (n + 1) / power / 2 in
+      let half = n / power / 2 in
       let some : 0 < power = pow_pos lowest in
-      let odd : (n + 1) / power ≡ half * 2 + 1 = omega (arith, set) in
-      let all : (half * 2 + 1) * power ≡ n + 1 = ap (λ (q : ℕ). q * power) (sym odd) ∙ run_end-low lowest (omega arith) in
-      let before : half * 2 ^ suc lowest ≤ n = omega (arith, all, some, twice half lowest) in
-      let behind : n < (half + 1) * 2 ^ suc lowest = omega (arith, all, some, twice (half + 1) lowest) in
-      let is : suc lowest ≡ suc lowest + 0 = omega arith in
-      subst (λ (bit : ℕ). (n + 1) / 2 ^ bit ≡ n / 2 ^ bit) is (halved (n + 1) lowest ∙ sym (div-eq_of_lt-le (2 ^ suc lowest) before behind))
-  quotients (suc more) =
-      let is : suc (suc lowest + more) ≡ suc lowest + suc more = omega arith in
-      subst (λ (bit : ℕ). (n + 1) / 2 ^ bit ≡ n / 2 ^ bit) is
-      (halved (n + 1) (suc lowest + more) ∙ ap (λ (q : ℕ). q / 2) (quotients more) ∙ sym (halved n (suc lowest + more)))
+      let odd : n / power ≡ half * 2 + 1 = omega (arith, set) in
+      let all : (half * 2 + 1) * power ≡ n = ap (λ (q : ℕ). q * power) (sym odd) ∙ bit_end-low lowest (omega arith) in
+      omega (arith, all, some, bit_end-halved n lowest)
 
-  -- those of higher ones end where they did
-  pub run_end-high : (bit : ℕ) → lowest < bit → run_end (n + 1) bit ≡ run_end n bit
-  run_end-high bit above =
-      let is : suc lowest + (bit - suc lowest) ≡ bit = omega arith in
-      subst (λ (b : ℕ). run_end (n + 1) b ≡ run_end n b) is
-      (ap (λ (q : ℕ). q * 2 ^ (suc lowest + (bit - suc lowest))) (quotients (bit - suc lowest)))
+  -- has its lowest digit there
+  pub run_end-lowest : (run_end n (lowest / 4) ≡ n) × (run_end n (lowest / 4 + 1) < n)
+  run_end-lowest =
+      let level = lowest / 4 in
+      let is : suc lowest + (4 * (level + 1) - suc lowest) ≡ 4 * (level + 1) = omega arith in (
+        bit_end-low (4 * level) (omega arith),
+        omega (arith, bit_end-next, bit_end-far n (suc lowest) (4 * (level + 1) - suc lowest), ap (bit_end n) is),
+      )
+
+-- no run ends behind the number, and they end later the lower their digit is
+pub run_end-le : (n level : ℕ) → run_end n level ≤ n
+run_end-le n level = bit_end-le n (4 * level)
+
+pub run_end-zero : (n : ℕ) → run_end n 0 ≡ n
+run_end-zero n = bit_end-zero n
+
+pub run_end-past : (n level : ℕ) → n < 2 ^ (4 * level) → run_end n level ≡ 0
+run_end-past n level past = bit_end-past n (4 * level) past
+
+pub run_end-far : (n level more : ℕ) → run_end n (level + more) ≤ run_end n level
+run_end-far n level more =
+    let is : run_end n (level + more) ≡ bit_end n (4 * level + 4 * more) = ap (bit_end n) (omega arith) in
+    omega (arith, is, bit_end-far n (4 * level) (4 * more))
+
+pub run_end-rises : (n level : ℕ) → run_end n (level + 1) ≤ run_end n level
+run_end-rises n level = run_end-far n level 1
+
+-- where the run of a digit ends behind all, those of lower ones do
+pub run_end-last : (n level lower : ℕ) → lower ≤ level → run_end n level ≡ n → run_end n lower ≡ n
+run_end-last n level lower le last =
+    let is : run_end n (lower + (level - lower)) ≡ run_end n level = ap (run_end n) (omega arith) in
+    omega (arith, is, last, run_end-le n lower, run_end-far n lower (level - lower))
+
+-- and one that doesn't end behind one more ends where it did
+pub run_end-stays : (n level : ℕ) → run_end (n + 1) level < n + 1 → run_end (n + 1) level ≡ run_end n level
+run_end-stays n level lt =
+    let power = 2 ^ (4 * level) in
+    let quotient = (n + 1) / power in
+    let some : 0 < power = pow_pos (4 * level) in
+    let before : quotient * power ≤ n = omega arith in
+    let left : (n + 1) % power < power = mod-lt (n + 1) some in
+    let behind : n < (quotient + 1) * power = omega (arith, div-add-mod' (n + 1) power, left) in
+    ap (λ (q : ℕ). q * power) (sym (div-eq_of_lt-le power before behind))

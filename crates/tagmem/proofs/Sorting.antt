@@ -1,8 +1,7 @@
 -- What one slot more, and the sort of the run that ends behind it, do to slots in runs.
-use Rattle.std.proofs.Common.{◌≡◌, ℕ, zero, suc, ◌+◌, ◌-◌, ◌<◌, ◌≤◌, ◌⊎◌, ⊎_elim, List, [], ◌∷◌, ◌++◌, length, get_or, set}
+use Rattle.std.proofs.Common.{◌≡◌, ℕ, ◌+◌, ◌-◌, ◌<◌, ◌≤◌, ◌⊎◌, ⊎_elim, List, [], ◌∷◌, ◌++◌, length, get_or, set}
 use Rattle.std.proofs.Common.{take, drop, sym, ap, subst, ◌∙◌, arith}
 use Rattle.std.specs.FinMap as finite
-use Rattle.std.specs.Int.{bit_at}
 use Rattle.std.specs.List.{insert}
 use Rattle.std.specs.List.Sorted.{IsNonDecreasingBy, IsPermutation, IsStrictlyIncreasing}
 use Rattle.std.proofs.Math.Seq.{get_or-append_seam, take-add, take-length, drop-length, take-set-le}
@@ -20,7 +19,7 @@ use Rattle.tagmem.proofs.Indexes.{granule_at-get_or, nothing}
 use Rattle.tagmem.proofs.Lent.{granule_in, length-entries_of, run_rises}
 use Rattle.tagmem.proofs.Listed.{contents_of-put, found-insert}
 use Rattle.tagmem.proofs.Permuted.{AreApart-permuted, contents_of-permuted}
-use Rattle.tagmem.proofs.Runs.{run_end-high, run_end-le, run_end-low, run_end-rises}
+use Rattle.tagmem.proofs.Runs.{run_end-far, run_end-last, run_end-le, run_end-stays}
 
 -- an entry more, of a granule that has none
 module _ (entries : List Listed) (x : Listed) (unused : IsUnused entries x.granule) where
@@ -66,16 +65,9 @@ alone : (slots : List Slot) (slot : Slot) → 0 < length slots → get_or slots 
 alone [] slot some is = absurd (omega (arith, some))
 alone (x ∷ slots) slot some is = ap (λ (s : Slot). s ∷ []) is
 
--- runs of higher bits end before those of lower ones
-run_end-far : (n bit more : ℕ) → run_end n (bit + more) ≤ run_end n bit
-run_end-far n bit zero = omega (arith, ap (run_end n) {x = bit + 0} {y = bit} (omega arith))
-run_end-far n bit (suc more) =
-    let is : run_end n (bit + suc more) ≡ run_end n (bit + more + 1) = ap (run_end n) (omega arith) in
-    omega (arith, is, run_end-rises n (bit + more), run_end-far n bit more)
-
 module _ (n : ℕ) (slots after : List Slot) (slot : Slot) (start count lowest : ℕ) (sorted : List Slot) (free : n < length slots)
     (as_many : length after ≡ length slots)
-    (unset : (bit : ℕ) → bit < lowest → bit_at (n + 1) bit ≡ 0) (is_set : bit_at (n + 1) lowest ≡ 1)
+    (ends : run_end (n + 1) lowest ≡ n + 1) (before_end : run_end (n + 1) (lowest + 1) < n + 1)
     (begins : start ≡ run_end (n + 1) (lowest + 1)) (inside : start ≤ n) (counted : start + count ≡ n + 1)
     (permuted : IsPermutation (take count (drop start (set slots n slot))) sorted)
     (rises : IsNonDecreasingBy (λ slot. slot.granule) sorted)
@@ -143,47 +135,48 @@ module _ (n : ℕ) (slots after : List Slot) (slot : Slot) (start count lowest :
       in_new q lt ∙ ap (λ (s : Slot). s.granule) (get_or-append_right (take start with_slot) sorted start q slot begin_long above)
 
   -- the granules of each run rise from each to the next
-  rises_at : (bit i : ℕ) → run_end (n + 1) (bit + 1) ≤ i → i + 1 < run_end (n + 1) bit → granule_at new i < granule_at new (i + 1)
-  rises_at bit i above below = ⊎_elim
-      (λ (lower : bit < lowest). absurd (omega (
+  rises_at : (level i : ℕ) → run_end (n + 1) (level + 1) ≤ i → i + 1 < run_end (n + 1) level → granule_at new i < granule_at new (i + 1)
+  rises_at level i above below = ⊎_elim
+      (λ (lower : level < lowest). absurd (omega (
         arith,
         above,
         below,
-        run_end-le (n + 1) bit,
-        run_end-low n lowest unset is_set (bit + 1) (omega arith),
+        run_end-le (n + 1) level,
+        run_end-last (n + 1) lowest (level + 1) (omega arith) ends,
       )))
       (⊎_elim
-      (λ (same : bit ≡ lowest).
+      (λ (same : level ≡ lowest).
       let from : start ≤ i = omega (arith, begins, above, ap (λ (b : ℕ). run_end (n + 1) (b + 1)) same) in
-      let last : i + 1 < n + 1 = omega (arith, below, run_end-le (n + 1) bit) in
+      let last : i + 1 < n + 1 = omega (arith, below, run_end-le (n + 1) level) in
       let long = length_permutation _ _ permuted in
       let many : length (take count (drop start with_slot)) ≡ count = length-take-le count (drop start with_slot)
       (omega (arith, free, counted, length-drop {A = Slot} start with_slot, length-set slots n slot)) in
       let up = rises (i - start) (i + 1 - start) slot (omega arith) (omega (arith, long, many, last, inside, counted)) in
       let differ = apart i (i + 1) (omega arith) (omega (arith, last, length-entries_of (n + 1) after (omega (arith, as_many, free)))) in
       grind (arith, up, differ, in_run i from (omega arith), in_run (i + 1) (omega arith) last))
-      (λ (higher : lowest < bit).
-      let to = run_end-high n lowest unset is_set bit higher in
-      let from = run_end-high n lowest unset is_set (bit + 1) (omega arith) in
-      let past : run_end (n + 1) bit ≤ start = omega (
+      (λ (higher : lowest < level).
+      let short : (more : ℕ) → run_end (n + 1) (lowest + 1 + more) < n + 1 = λ more. omega (arith, before_end, run_end-far (n + 1) (lowest + 1) more) in
+      let to = run_end-stays n level (subst (λ (l : ℕ). run_end (n + 1) l < n + 1) {x = lowest + 1 + (level - (lowest + 1))} (omega arith) (short (level - (lowest + 1)))) in
+      let from = run_end-stays n (level + 1) (subst (λ (l : ℕ). run_end (n + 1) l < n + 1) {x = lowest + 1 + (level - lowest)} (omega arith) (short (level - lowest))) in
+      let past : run_end (n + 1) level ≤ start = omega (
         arith,
         begins,
-        run_end-far (n + 1) (lowest + 1) (bit - (lowest + 1)),
-        ap (run_end (n + 1)) {x = lowest + 1 + (bit - (lowest + 1))} {y = bit} (omega arith),
+        run_end-far (n + 1) (lowest + 1) (level - (lowest + 1)),
+        ap (run_end (n + 1)) {x = lowest + 1 + (level - (lowest + 1))} {y = level} (omega arith),
       ) in
       let long = length-entries_of n slots (omega (arith, free)) in
-      let up = run_rises old runs bit i (i + 1) (omega (arith, above, from, ap (λ (m : ℕ). run_end m (bit + 1)) long)) (omega arith)
-      (omega (arith, below, to, ap (λ (m : ℕ). run_end m bit) long)) in
+      let up = run_rises old runs level i (i + 1) (omega (arith, above, from, ap (λ (m : ℕ). run_end m (level + 1)) long)) (omega arith)
+      (omega (arith, below, to, ap (λ (m : ℕ). run_end m level) long)) in
       omega (arith, up, in_begin i (omega arith), in_begin (i + 1) (omega arith))))
-      (order bit lowest)
+      (order level lowest)
 
   AreRuns-sorted : AreRuns new
   AreRuns-sorted =
       let long = length-entries_of (n + 1) after (omega (arith, as_many, free)) in record {
         apart = apart;
-        rising = λ bit. rising_from new (run_end (length new) (bit + 1)) (run_end (length new) bit) (run_end-le (length new) bit)
-            (λ i from to. rises_at bit i (omega (arith, from, ap (λ (m : ℕ). run_end m (bit + 1)) long))
-            (omega (arith, to, ap (λ (m : ℕ). run_end m bit) long)));
+        rising = λ level. rising_from new (run_end (length new) (level + 1)) (run_end (length new) level) (run_end-le (length new) level)
+            (λ i from to. rises_at level i (omega (arith, from, ap (λ (m : ℕ). run_end m (level + 1)) long))
+            (omega (arith, to, ap (λ (m : ℕ). run_end m level) long)));
         stored = All-permutation (λ (x : Listed). IsStored x.granule (entry_of x)) pushed new moved
             (All-push (λ (x : Listed). IsStored x.granule (entry_of x)) old (listed_of slot) runs.stored stored);
       }

@@ -1,5 +1,5 @@
 -- The slots that a `LentStore` keeps, and how they stand. All of it is this profile's own.
-use Rattle.std.specs.Prelude.{◌≡◌, ◌≢◌, ℕ, ◌+◌, ◌-◌, ◌*◌, ◌/◌, ◌^◌, ◌<◌, ◌≤◌, not, ◌==◌, List, length, map, take, drop, min, slice_index}
+use Rattle.std.specs.Prelude.{◌≡◌, ◌≢◌, ℕ, ◌+◌, ◌-◌, ◌*◌, ◌/◌, ◌^◌, ◌<◌, ◌≤◌, not, ◌==◌, List, length, map, take, drop, min, slice_index, slice_index_or}
 use Rattle.std.specs.Prelude.{Option, Some, None}
 use Rattle.std.specs.List.Sorted.{IsStrictlyIncreasing}
 use Rattle.tagmem.specs.declared.list_store.Listed.{Listed}
@@ -14,9 +14,9 @@ listed_of slot = record { granule = slot.granule; tag = not (slot.code == 0); by
 abbrev pub entries_of : ℕ → List Slot → List Listed
 entries_of used slots = map listed_of (take used slots)
 
--- where the run of a bit of a number ends, and that of the bit below begins
+-- where the run of a digit of a number in base 16 ends, and that of the digit below begins
 abbrev pub run_end : ℕ → ℕ → ℕ
-run_end number bit = number / 2 ^ bit * 2 ^ bit
+run_end number level = number / 2 ^ (4 * level) * 2 ^ (4 * level)
 
 -- the part of a list from an index to another
 abbrev pub part : {X : Type 0} → ℕ → ℕ → List X → List X
@@ -30,7 +30,7 @@ AreApart entries =
 -- entries in runs: no granule stands twice, the granules of each run rise, and each entry is a granule's
 pub record AreRuns (entries : List Listed) : Type 0 where
   pub apart : AreApart entries
-  pub rising : (bit : ℕ) → IsStrictlyIncreasing (part (run_end (length entries) (bit + 1)) (run_end (length entries) bit) (granules_of entries))
+  pub rising : (level : ℕ) → IsStrictlyIncreasing (part (run_end (length entries) (level + 1)) (run_end (length entries) level) (granules_of entries))
   pub stored : AllStored entries
 
 -- no entry is the granule's
@@ -42,6 +42,12 @@ pub record IsGapIn (entries : List Listed) (from to granule index : ℕ) : Type 
   pub in_range : (from ≤ index) × (index ≤ to)
   pub lower_before : (i : ℕ) → from ≤ i → i < index → slice_index (granules_of entries) i < granule
   pub higher_after : (i : ℕ) → index ≤ i → i < to → granule < slice_index (granules_of entries) i
+
+-- the index in a run of the last granule that isn't above a number, or 0 where all of them are
+pub record IsLastAtMost (run : List Slot) (granule index : ℕ) : Type 0 where
+  pub in_range : index < length run
+  pub at_most : (d : Slot) → 0 < index → (slice_index_or run index d).granule ≤ granule
+  pub higher_after : (i : ℕ) (d : Slot) → index < i → i < length run → granule < (slice_index_or run i d).granule
 
 -- an entry's granule that is the least at or above a number in a part, where the part has one
 abbrev pub IsNextIn : List Listed → ℕ → ℕ → ℕ → Option ℕ → Type 0

@@ -1,9 +1,9 @@
 //! A store in memory that is lent to it.
-ghost use Rattle.std.specs.Prelude.{◌≡◌, ℕ, ◌^◌, ◌<◌, ◌+◌, ◌≤◌, length, take, None, IsErr, ◌↔◌, OnOk, OnErr, IfOk, IfErr, IfSome};
+ghost use Rattle.std.specs.Prelude.{◌≡◌, ℕ, ◌^◌, ◌<◌, ◌*◌, ◌+◌, ◌-◌, ◌≤◌, length, take, None, IsErr, ◌↔◌, OnOk, OnErr, IfOk, IfErr, IfSome, if◌then◌else◌};
 ghost use Rattle.std.specs.FinMap as map;
-ghost use Rattle.std.specs.Int.{bit_at};
+ghost use Rattle.std.specs.List.Sorted.{IsNonDecreasingBy, IsPermutation};
 ghost use Rattle.tagmem.specs.Granules.{with_bytes, with_cap, with_write, HasRoom, IsCodeFor, IsStored};
-ghost use Rattle.tagmem.specs.Lent.{AreRuns, IsGapIn, IsLesser, IsNextIn, IsUnused, entries_of, listed_of, run_end};
+ghost use Rattle.tagmem.specs.Lent.{AreRuns, IsGapIn, IsLastAtMost, IsLesser, IsNextIn, IsUnused, entries_of, listed_of, part, run_end};
 ghost use Rattle.tagmem.specs.Listed.{IsEntryAt, contents_of, entry_of};
 ghost use Rattle.tagmem.specs.ListLaws.{AreStored-contents_of, few_entries};
 
@@ -32,9 +32,9 @@ impl Slot {
 /// A store that keeps its entries in slots that are lent to it, and takes no memory: a granule that is put for the first
 /// time gets `NoMemory` exactly where all slots are in use.
 ///
-/// They stand in runs, each of them sorted: one of 2^k slots for each bit k of their number. A new one is sorted together
-/// with the runs that its carry joins. So a granule is found by a search in each run, and a put moves, over all, each slot
-/// as many times as the number of slots has bits, whatever the order in which granules come.
+/// They stand in runs, each of them sorted: one for each digit of their number in base 16, of as many slots as the digit is
+/// worth. A new slot is merged with the runs that its carry joins. So a granule is found by a search in each run, and puts
+/// move, over all, each slot some 8 times for each digit, whatever the order in which granules come.
 #[derive(Drop)]
 pub struct LentStore<'a> {
     slots: &'a mut [Slot],
@@ -55,46 +55,49 @@ impl<'a> LentStore<'a> {
         LentStore { slots, used: 0 }
     }
 
-    // Where a granule stands in the run of a bit of the number of slots in use, or where it would.
-    fn search(&self, bit: u32, granule: u64) -> Result<usize, usize>
-        requires few { bit < 32 }
+    // Where a granule stands in the run of a digit of the number of slots in use, or where it would.
+    fn search(&self, level: u32, granule: u64) -> Result<usize, usize>
+        requires few { level < 8 }
         ensures found { IfOk result (IsEntryAt (in_use self.now) granule) }
-        ensures absent { IfErr result (IsGapIn (in_use self.now) (run_end self.now.used (bit + 1)) (run_end self.now.used bit) granule) }
+        ensures absent { IfErr result (IsGapIn (in_use self.now) (run_end self.now.used (level + 1)) (run_end self.now.used level) granule) }
     {
-        let (start, end) = run(self.used, bit);
+        let (start, end) = run(self.used, level);
         if start == end {
             return Err(start);
         }
-        match self.slots[start..end].binary_search_by_key(&granule, |slot| slot.granule) {
-            Ok(index) => Ok(start + index),
-            Err(index) => Err(start + index),
+        let index = start + last_at_most(&self.slots[start..end], granule);
+        let found = self.slots[index].granule;
+        if found == granule {
+            Ok(index)
+        } else {
+            Err(index + (found < granule) as usize)
         }
     }
 
-    // The index of a granule's slot. The run of the greatest bit, which has half of the slots or more, comes first.
+    // The index of a granule's slot. The run of the highest digit, which has half of the slots or more, comes first.
     fn index_of(&self, granule: u64) -> Option<usize>
         ensures found { IfSome result (IsEntryAt (in_use self.now) granule) }
         ensures absent { result ≡ None → IsUnused (in_use self.now) granule }
     {
-        let mut bit = bits(self.used);
-        while bit > 0 {
-            bit -= 1;
-            if let Ok(index) = self.search(bit, granule) {
+        let mut level = levels(self.used);
+        while level > 0 {
+            level -= 1;
+            if let Ok(index) = self.search(level, granule) {
                 return Some(index);
             }
         }
         None
     }
 
-    // The least granule at or above a number in the run of a bit.
-    fn next_in_run(&self, bit: u32, granule: u64) -> Option<u64>
-        requires few { bit < 32 }
-        ensures least { IsNextIn (in_use self.now) (run_end self.now.used (bit + 1)) (run_end self.now.used bit) granule result }
+    // The least granule at or above a number in the run of a digit.
+    fn next_in_run(&self, level: u32, granule: u64) -> Option<u64>
+        requires few { level < 8 }
+        ensures least { IsNextIn (in_use self.now) (run_end self.now.used (level + 1)) (run_end self.now.used level) granule result }
     {
-        match self.search(bit, granule) {
+        match self.search(level, granule) {
             Ok(_) => Some(granule),
             Err(index) => {
-                if index == run(self.used, bit).1 {
+                if index == run(self.used, level).1 {
                     None
                 } else {
                     Some(self.slots[index].granule)
@@ -210,10 +213,10 @@ impl<'a> TaggedStore for LentStore<'a> {
 
     fn next_put(&self, granule: u64) -> Option<u64> {
         let mut least = None;
-        let mut bit = bits(self.used);
-        while bit > 0 {
-            bit -= 1;
-            least = lesser(least, self.next_in_run(bit, granule));
+        let mut level = levels(self.used);
+        while level > 0 {
+            level -= 1;
+            least = lesser(least, self.next_in_run(level, granule));
         }
         least
     }
@@ -258,6 +261,36 @@ impl<'a> TaggedStore for LentStore<'a> {
     }
 }
 
+// Where the last granule is that isn't above a number, or the first one. No processor can foretell in which quarter of
+// the slots that is, so the quarters are counted, without a branch.
+fn last_at_most(run: &[Slot], granule: u64) -> usize
+    requires some { 0 < length run.now }
+    requires fits { length run.now < 2 ^ 32 }
+    requires rises { IsNonDecreasingBy (λ slot. slot.granule) run.now }
+    ensures { IsLastAtMost run.now granule result }
+{
+    // The windows of 2^turns slots at both ends cover the run.
+    let mut turns = 63 - run.len().leading_zeros();
+    let last = run.len() - (1 << turns);
+    let mut start = if run[last].granule <= granule {
+        last
+    } else {
+        0
+    };
+    while turns > 1 {
+        turns -= 2;
+        let quarter = 1 << turns;
+        let second = run[start + quarter].granule <= granule;
+        let third = run[start + 2 * quarter].granule <= granule;
+        let fourth = run[start + 3 * quarter].granule <= granule;
+        start += (second as usize + third as usize + fourth as usize) << turns;
+    }
+    if turns == 1 && run[start + 1].granule <= granule {
+        start += 1;
+    }
+    start
+}
+
 // Puts a slot of a granule that has none behind those in use, and sorts the run that ends there now.
 fn append(slots: &mut [Slot], used: usize, slot: Slot)
     requires free { used < length slots.old }
@@ -271,39 +304,92 @@ fn append(slots: &mut [Slot], used: usize, slot: Slot)
         ≡ map.insert (contents_of (entries_of used slots.old)) slot.granule (entry_of (listed_of slot)) }
 {
     slots[used] = slot;
-    let (start, end) = run(used + 1, lowest_bit(used + 1));
-    slots[start..end].sort_unstable_by_key(|slot| slot.granule);
+    let end = used + 1;
+    let mut start = used;
+    for level in 0..lowest_level(end) + 1 {
+        let from = run(used, level).0;
+        merge(&mut slots[from..], start - from, end - from);
+        start = from;
+    }
 }
 
-// The lowest bit of a number that is set.
-fn lowest_bit(number: usize) -> u32
+// Makes one run of the two at the front of slots. The slots behind them are overwritten.
+fn merge(slots: &mut [Slot], middle: usize, end: usize)
+    requires ordered { middle ≤ end }
+    requires inside { end ≤ length slots.old }
+    requires left { IsNonDecreasingBy (λ slot. slot.granule) (take middle slots.old) }
+    requires right { IsNonDecreasingBy (λ slot. slot.granule) (part middle end slots.old) }
+    ensures len { length slots.new ≡ length slots.old }
+    ensures permuted { IsPermutation (take end slots.old) (take end slots.new) }
+    ensures rises { IsNonDecreasingBy (λ slot. slot.granule) (take end slots.new) }
+{
+    if slots.len() - end < end - middle {
+        slots[..end].sort_unstable_by_key(|slot| slot.granule);
+    } else {
+        merge_down(slots, middle, end);
+    }
+}
+
+// Merges two runs from their ends on. The second goes behind them first, so that the place of the next slot is free.
+fn merge_down(slots: &mut [Slot], middle: usize, end: usize)
+    requires ordered { middle ≤ end }
+    requires room { end + (end - middle) ≤ length slots.old }
+    requires left { IsNonDecreasingBy (λ slot. slot.granule) (take middle slots.old) }
+    requires right { IsNonDecreasingBy (λ slot. slot.granule) (part middle end slots.old) }
+    ensures len { length slots.new ≡ length slots.old }
+    ensures permuted { IsPermutation (take end slots.old) (take end slots.new) }
+    ensures rises { IsNonDecreasingBy (λ slot. slot.granule) (take end slots.new) }
+{
+    slots.copy_within(middle..end, end);
+    let mut left = middle;
+    let mut right = end - middle;
+    while left > 0 && right > 0 {
+        let is_left = slots[end + right - 1].granule < slots[left - 1].granule;
+        slots[left + right - 1] = slots[pick(is_left, left - 1, end + right - 1)];
+        left -= is_left as usize;
+        right -= !is_left as usize;
+    }
+    slots.copy_within(end..end + right, left);
+}
+
+// One of two indexes, without a branch.
+fn pick(is_first: bool, first: usize, second: usize) -> usize
+    ensures { result ≡ (if is_first then first else second) }
+{
+    if is_first { first } else { second }
+}
+
+// The lowest digit of a number that isn't 0: all runs up to it end where the number does, and its own is not empty.
+fn lowest_level(number: usize) -> u32
     requires some { 0 < number }
-    requires fits { number < 2 ^ 63 }
-    ensures unset { (bit : ℕ) → bit < result → bit_at number bit ≡ 0 }
-    ensures is_set { bit_at number result ≡ 1 }
-    ensures few { result < 63 }
+    requires fits { number < 2 ^ 60 }
+    ensures ends { run_end number result ≡ number }
+    ensures begins { run_end number (result + 1) < number }
+    ensures few { result < 15 }
 {
-    number.trailing_zeros()
+    number.trailing_zeros() / 4
 }
 
-// How many bits a number has: none from there on is set.
-fn bits(number: usize) -> u32
+// How many digits a number has in base 16.
+fn levels(number: usize) -> u32
     requires fits { number < 2 ^ 32 }
-    ensures above { number < 2 ^ result }
-    ensures few { result ≤ 32 }
+    ensures above { number < 2 ^ (4 * result) }
+    ensures few { result ≤ 8 }
 {
-    64 - number.leading_zeros()
+    (67 - number.leading_zeros()) / 4
 }
 
-// Where the run of a bit of a number begins, and where it ends.
-fn run(number: usize, bit: u32) -> (usize, usize)
-    requires few { bit < 63 }
-    ensures from { result.0 ≡ run_end number (bit + 1) }
-    ensures to { result.1 ≡ run_end number bit }
+// Where the run of a digit of a number begins, and where it ends.
+fn run(number: usize, level: u32) -> (usize, usize)
+    requires few { level < 15 }
+    ensures from { result.0 ≡ run_end number (level + 1) }
+    ensures to { result.1 ≡ run_end number level }
     ensures ordered { result.0 ≤ result.1 }
     ensures inside { result.1 ≤ number }
 {
-    (number >> (bit + 1) << (bit + 1), number >> bit << bit)
+    let low = 4 * level;
+    let high = 4 * (level + 1);
+    (number >> high << high, number >> low << low)
 }
 
 // The lesser of two numbers that may be missing.

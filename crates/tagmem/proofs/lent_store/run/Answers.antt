@@ -5,8 +5,8 @@ use Rattle.tagmem.proofs.lent_store.run.Goals as goal
 -- no shift loses a bit
 pub returns : goal.returns
 returns c =
-    let below = run_end-le c.args.number c.args.bit in
-    let rises = run_end-rises c.args.number c.args.bit in record {
+    let below = run_end-le c.args.number c.args.level in
+    let rises = run_end-rises c.args.number c.args.level in record {
       from = omega (arith, below, rises, c.ranges.number.fits);
       to = omega (arith, below, c.ranges.number.fits);
       ordered = omega (arith, below, rises, c.ranges.number.fits);

@@ -4,33 +4,33 @@ use Rattle.tagmem.proofs.Lent.{length-entries_of}
 use Rattle.tagmem.proofs.Runs.{run_end-past, run_end-zero}
 use Rattle.tagmem.proofs.lent_store.LentStore.index_of.Goals as goal
 
--- no run of a bit that the number can't have
-pub loop-bit-init : goal.loop-bit-init
-loop-bit-init c = record {
-  bits = c.bits-bit.ensures.few;
+-- no run of a digit that the number can't have
+pub loop-level-init : goal.loop-level-init
+loop-level-init c = record {
+  levels = c.levels-level.ensures.few;
   none = λ i below same.
-      let past = run_end-past c.args.self.now.used c.bits-bit.result c.bits-bit.ensures.above in
+      let past = run_end-past c.args.self.now.used c.levels-level.result c.levels-level.ensures.above in
       absurd (omega (arith, past, below));
 }
 
 -- behind those runs comes the one that was searched
-pub loop-bit-preserved : goal.loop-bit-preserved
-loop-bit-preserved c = record {
-  bits = omega (arith, c.loop-bit.invariant.bits);
+pub loop-level-preserved : goal.loop-level-preserved
+loop-level-preserved c = record {
+  levels = omega (arith, c.loop-level.invariant.levels);
   none = λ i below same.
       let gap = c.in_default.ensures.absent in
-      let from : run_end c.args.self.now.used (c.loop-bit.bit - 1 + 1) ≡ run_end c.args.self.now.used c.loop-bit.bit =
-      ap (run_end c.args.self.now.used) (omega (arith, c.loop-bit-test.true)) in
-      grind (arith, from, same, below, c.loop-bit.invariant.none i, gap.lower_before i, gap.higher_after i);
+      let from : run_end c.args.self.now.used (c.loop-level.level - 1 + 1) ≡ run_end c.args.self.now.used c.loop-level.level =
+      ap (run_end c.args.self.now.used) (omega (arith, c.loop-level-test.true)) in
+      grind (arith, from, same, below, c.loop-level.invariant.none i, gap.lower_before i, gap.higher_after i);
 }
 
--- the run of bit 0 ends last
+-- the run of digit 0 ends last
 pub returns : goal.returns
 returns c = record {
   found = tt;
   absent = λ none i in_use.
       let s = c.args.self.now in
-      let zero : c.loop-bit.bit ≡ 0 = omega (arith, c.loop-bit-test.false) in
-      let last : run_end s.used c.loop-bit.bit ≡ s.used = ap (run_end s.used) zero ∙ run_end-zero s.used in
-      c.loop-bit.invariant.none i (omega (arith, last, length-entries_of s.used s.slots.now s.fits, in_use));
+      let zero : c.loop-level.level ≡ 0 = omega (arith, c.loop-level-test.false) in
+      let last : run_end s.used c.loop-level.level ≡ s.used = ap (run_end s.used) zero ∙ run_end-zero s.used in
+      c.loop-level.invariant.none i (omega (arith, last, length-entries_of s.used s.slots.now s.fits, in_use));
 }

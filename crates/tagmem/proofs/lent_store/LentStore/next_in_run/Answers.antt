@@ -22,8 +22,8 @@ returns-else-index-run c = record {
   least =
       let s = c.args.self.now in
       let gap = c.in-Err.ensures.absent in
-      let below : c.in-Err.index < run_end s.used c.args.bit = grind (arith, gap.in_range.1, c.if-index-run.false, c.run.ensures.to) in
-      subst (λ granule. IsNextIn (in_use s) (run_end s.used (c.args.bit + 1)) (run_end s.used c.args.bit) c.args.granule (Some granule))
+      let below : c.in-Err.index < run_end s.used c.args.level = grind (arith, gap.in_range.1, c.if-index-run.false, c.run.ensures.to) in
+      subst (λ granule. IsNextIn (in_use s) (run_end s.used (c.args.level + 1)) (run_end s.used c.args.level) c.args.granule (Some granule))
       (granule_in s.used s.slots.now s.fits c.in-Err.index _ (omega (arith, below, c.run.ensures.to, c.run.ensures.inside)))
-      (next_in_gap s.used s.slots.now s.fits c.args.bit _ _ refl refl s.runs c.args.granule c.in-Err.index gap below);
+      (next_in_gap s.used s.slots.now s.fits c.args.level _ _ refl refl s.runs c.args.granule c.in-Err.index gap below);
 }

@@ -1,22 +1,26 @@
-use Rattle.std.proofs.Common.{rules}
-use Rattle.std.proofs.lemmas.List.Sorted.{answers_always}
-use Rattle.tagmem.specs.declared.lent_store.Slot.{Slot}
-use Rattle.tagmem.proofs.Lent.{found_in_part, gap_in_part}
+use Rattle.std.proofs.Common.{refl}
+use Rattle.tagmem.proofs.Joining.{run_slots_rise}
+use Rattle.tagmem.proofs.Searching.{IsEntryAt-found, IsGapIn-found}
 use Rattle.tagmem.proofs.lent_store.LentStore.search.Goals as goal
 
--- the closure gives a slot's granule, and the slice is the run
-pub returns-in-Ok-clause-found : goal.returns-in-Ok-clause-found
-returns-in-Ok-clause-found c =
+pub last_at_most-requires-clause-rises : goal.last_at_most-requires-clause-rises
+last_at_most-requires-clause-rises c =
     let s = c.args.self.now in
     let run = c.run-start in
-    let by_granule = c.in-Ok.ensures.position (λ (slot : Slot). slot.granule) (answers_always _ _ _ (λ f a r g called. search rules)) in
-    found_in_part s.used s.slots.now s.fits c.args.bit run.result.0 run.result.1 run.ensures.from run.ensures.to s.runs c.args.granule
-    c.in-Ok.index c.in-Ok.ensures.bound by_granule
+    run_slots_rise s.used s.slots.now s.fits s.runs c.args.level run.result.0 run.result.1 run.ensures.from run.ensures.to
 
-pub returns-in-Err-clause-absent : goal.returns-in-Err-clause-absent
-returns-in-Err-clause-absent c =
+-- the slot that was found is the granule's
+pub returns-then-found-granule-clause-found : goal.returns-then-found-granule-clause-found
+returns-then-found-granule-clause-found c =
     let s = c.args.self.now in
     let run = c.run-start in
-    let by_granule = c.in-Err.ensures.position (λ (slot : Slot). slot.granule) (answers_always _ _ _ (λ f a r g called. search rules)) in
-    rw (← run.ensures.from, ← run.ensures.to) (gap_in_part s.used s.slots.now s.fits c.args.bit run.result.0 run.result.1
-    run.ensures.from run.ensures.to s.runs c.args.granule c.in-Err.index c.in-Err.ensures.bound by_granule)
+    IsEntryAt-found s.used s.slots.now s.fits c.args.level run.result.0 run.result.1 run.ensures.from run.ensures.to s.runs c.args.granule
+    c.last_at_most.result c.last_at_most.ensures c.if-found-granule.true
+
+-- or it is beside the gap
+pub returns-else-found-granule-clause-absent : goal.returns-else-found-granule-clause-absent
+returns-else-found-granule-clause-absent c =
+    let s = c.args.self.now in
+    let run = c.run-start in
+    rw (← run.ensures.from, ← run.ensures.to) (IsGapIn-found s.used s.slots.now s.fits c.args.level run.result.0 run.result.1 run.ensures.from
+    run.ensures.to s.runs c.args.granule c.last_at_most.result c.last_at_most.ensures _ refl c.if-found-granule.false)

@@ -1,8 +1,8 @@
-use Rattle.std.proofs.Common.{◌≡◌, ℕ, ◌*◌, ◌+◌, ◌-◌, ◌<◌, ◌≤◌, ◌^◌, ⊎_elim, arith, subst}
+use Rattle.std.proofs.Common.{◌≡◌, ℕ, ◌*◌, ◌/◌, ◌+◌, ◌-◌, ◌<◌, ◌≤◌, ◌^◌, ⊎_elim, arith}
 use Rattle.std.proofs.Math.Nat.{pow-le-pow_right}
 use Rattle.std.proofs.lemmas.Nat.{leading_length}
 use Rattle.tagmem.proofs.Sorting.{order}
-use Rattle.tagmem.proofs.lent_store.bits.Goals as goal
+use Rattle.tagmem.proofs.lent_store.levels.Goals as goal
 
 -- a number of so many bits isn't below half of what so many bits hold
 few : (number bits : ℕ) → number < 2 ^ 32 → 2 ^ bits ≤ 2 * number + 1 → bits ≤ 32
@@ -13,12 +13,11 @@ few number bits fits most =
     ⊎_elim (λ (lt : bits < 33). omega arith) (⊎_elim (λ (same : bits ≡ 33). past (omega arith)) (λ (above : 33 < bits). past (omega arith))) (order bits 33)
 
 so_many : (number zeros bits : ℕ) → number < 2 ^ 32 → zeros + bits ≡ 64 → number < 2 ^ bits → 2 ^ bits ≤ 2 * number + 1
-    → (number < 2 ^ (64 - zeros)) × (64 - zeros ≤ 32)
+    → (number < 2 ^ (4 * ((67 - zeros) / 4))) × ((67 - zeros) / 4 ≤ 8)
 so_many number zeros bits fits split above most =
-    let is : bits ≡ 64 - zeros = omega arith in (
-      subst (λ (b : ℕ). number < 2 ^ b) is above,
-      subst (λ (b : ℕ). b ≤ 32) is (few number bits fits most),
-    )
+    let most_bits = few number bits fits most in
+    let wide : 2 ^ bits ≤ 2 ^ (4 * ((67 - zeros) / 4)) = pow-le-pow_right (omega arith) (omega arith) in
+    (omega (arith, above, wide), omega arith)
 
 pub returns : goal.returns
 returns c =
