@@ -4,9 +4,9 @@ use Rattle.std.proofs.Math.Nat.{mul-le-mul_right, mul-div_cancel, mod-eq_of_lt, 
 use Rattle.std.proofs.lemmas.Nat.{pow_pos}
 use Rattle.std.proofs.lemmas.Bool.{cases_lt}
 use Rattle.std.proofs.lemmas.Bool.Decides.{nat_tests}
-use Rattle.cap_bounds.specs.Rounding.{div_up, IsLeastExponent, rounded_ie, rounded_exponent}
+use Rattle.cap_bounds.specs.Rounding.{div_up, IsExact, IsLeastExponent, rounded_ie, rounded_exponent}
 use Rattle.cap_bounds.specs.Rounding.{rounded_base, rounded_top, rounded_b, rounded_t}
-use Rattle.cap_bounds.proofs.Units.{div_up-ge, div_up-le, down-le}
+use Rattle.cap_bounds.proofs.Units.{div_up-ge, div_up-le, down-le, down-whole, whole-down, up-whole, whole-up, behind-whole}
 use Rattle.cap_bounds.proofs.LeastExponents.{IsLeastExponent-rounded, IsLeastExponent-unique, rounded_exponent-short, rounded_exponent-le}
 use Rattle.cap_bounds.proofs.Powers.{pow_split, grain_is}
 
@@ -112,6 +112,23 @@ module _ (b l e lo hi : ℕ) (long : 4096 ≤ l) (b_fits : b < 2 ^ 64) (l_fits :
       ≡ 8 * hi = ap (λ (x : ℕ). rounded_top b l / 2 ^ x) (exponent_is b l e long l_fits least) ∙ ap (λ (x : ℕ). x / 2 ^ e) (sym up)
       ∙ in_units hi e in
       ap (λ (x : ℕ). x % 2 ^ 14) (sym units)
+
+-- a long request needs no rounding exactly where its base and its length are multiples of the unit
+module _ (b l e : ℕ) (long : 4096 ≤ l) (fits : l < 2 ^ 64) (least : IsLeastExponent b l e) where
+  pub whole-exact : b % 2 ^ (e + 3) ≡ 0 → l % 2 ^ (e + 3) ≡ 0 → IsExact b l
+  whole-exact base length = (
+    rounded_base_is b l e long fits least ∙ down-whole b (2 ^ (e + 3)) base,
+    rounded_top_is b l e long fits least
+        ∙ up-whole (b + l) (2 ^ (e + 3)) (pow_pos (e + 3)) (behind-whole b l (2 ^ (e + 3)) base ∙ length),
+  )
+
+  pub exact-whole : IsExact b l → (b % 2 ^ (e + 3) ≡ 0) × (l % 2 ^ (e + 3) ≡ 0)
+  exact-whole exact =
+      let base = whole-down b (2 ^ (e + 3)) (sym (rounded_base_is b l e long fits least) ∙ exact.0) in (
+        base,
+        sym (behind-whole b l (2 ^ (e + 3)) base)
+            ∙ whole-up (b + l) (2 ^ (e + 3)) (sym (rounded_top_is b l e long fits least) ∙ exact.1),
+      )
 
 -- and of a short one
 pub short_b : (b l : ℕ) → l < 4096 → b % 2 ^ 14 ≡ rounded_b b l

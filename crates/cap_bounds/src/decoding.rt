@@ -212,6 +212,15 @@ pub fn sound_word_holds(word: Word, address: u64, count: u8) -> bool
     requires some { 0 < count }
     ensures inside { IsTrue result ↔ IsInside address (address + count) (base_of word.0) (top_of word.0) }
 {
+    sound_word_holds_more(word, address, u64::from(count - 1))
+}
+
+/// Whether an address, and so many more behind it, lie in the bounds of a sound word, by numbers of 64 bits alone.
+#[inline(always)]
+pub fn sound_word_holds_more(word: Word, address: u64, more: u64) -> bool
+    requires sound { IsSound word.0 }
+    ensures inside { IsTrue result ↔ IsInside address (address + (more + 1)) (base_of word.0) (top_of word.0) }
+{
     let Scale {
         cut_exponent,
         b,
@@ -220,13 +229,13 @@ pub fn sound_word_holds(word: Word, address: u64, count: u8) -> bool
     if span == 0 {
         return false;
     }
-    // How far the first of the bytes and the last byte in bounds lie above the base.
+    // How far the first address and the last one in bounds lie above the base.
     let first = address.wrapping_sub(base_from(cut_exponent, b, word.address()));
     let last = (span << cut_exponent).wrapping_sub(1);
     if first > last {
         return false;
     }
-    last - first >= u64::from(count - 1)
+    last - first >= more
 }
 
 /// Whether a word is sound: its top is its base plus its length, and is at most 2^64.

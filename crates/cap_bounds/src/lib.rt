@@ -7,7 +7,9 @@ mod lengths;
 mod range;
 mod rounding;
 
-pub use crate::decoding::{Interval, bounds, bounds_are_unique, mantissa, sound, sound_word_holds};
+pub use crate::decoding::{
+    Interval, bounds, bounds_are_unique, mantissa, sound, sound_word_holds, sound_word_holds_more,
+};
 pub use crate::lengths::{align_mask, least_law, round_length};
 pub use crate::range::{keeps_bounds, reach};
-pub use crate::rounding::{Rounded, round, with_bounds};
+pub use crate::rounding::{Rounded, round, round_inside, with_bounds};

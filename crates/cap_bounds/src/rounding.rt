@@ -3,7 +3,7 @@
 ghost use Rattle.std.specs.Prelude.{◌≡◌, ◌<◌, ◌≤◌, ◌+◌, ◌*◌, ◌/◌, ◌%◌, ◌^◌, ◌↔◌, ℕ, IsTrue, true, false};
 ghost use Rattle.cap_word.specs.Fields.{address_of, b_of, e_of, ie_of, t_of};
 ghost use Rattle.cap_bounds.specs.Bounds.{IsSound, base_of, top_of};
-ghost use Rattle.cap_bounds.specs.Rounding.{HasRounding, bounded_word, IsExact, IsLeastExponent, div_up};
+ghost use Rattle.cap_bounds.specs.Rounding.{HasRounding, bounded_word, IsExact, IsLeastExponent, div_up, units_of};
 ghost use Rattle.cap_bounds.specs.Rounding.{rounded_b, rounded_base, rounded_exponent, rounded_ie};
 ghost use Rattle.cap_bounds.specs.Rounding.{rounded_t, rounded_top};
 ghost use Rattle.cap_bounds.specs.SailRounding.{sail_b, sail_exact, sail_exponent, sail_ie, sail_t};
@@ -180,6 +180,90 @@ pub fn round(base: u64, length: u64) -> Rounded
     }
 }
 
+/// The exponent that counting leading zeros gives a long request.
+#[inline(always)]
+fn first_exponent(length: u64) -> u32
+    requires { 4096 ≤ length }
+    ensures within { result ≤ 51 }
+    ensures low { 2 ^ (result + 12) ≤ length }
+    ensures high { length < 2 ^ (result + 13) }
+{
+    51 - length.leading_zeros()
+}
+
+/// Whether a long request that ends at or below 2^64 covers less than 1024 units of 2^(e + 3).
+#[inline(always)]
+fn covers_few(base: u64, length: u64, e: u32) -> bool
+    requires long { 4096 ≤ length }
+    requires ends { base + length ≤ 2 ^ 64 }
+    requires e_fits { e ≤ 52 }
+    ensures { IsTrue result ↔ (units_of base length e < 1024) }
+{
+    units_down(base + (length - 1), e) - units_down(base, e) < 1023
+}
+
+/// Whether the base and the length of a request are multiples of 2^(e + 3).
+#[inline(always)]
+fn are_multiples(base: u64, length: u64, e: u32) -> bool
+    requires { e ≤ 52 }
+    ensures { IsTrue result ↔ (base % 2 ^ (e + 3) ≡ 0) × (length % 2 ^ (e + 3) ≡ 0) }
+{
+    let unit = 1 << (e + 3);
+    base % unit == 0 && length % unit == 0
+}
+
+/// Rounds a long request that ends at or below 2^64, with its least exponent.
+#[inline(always)]
+fn round_with(base: u64, length: u64, e: u32) -> Rounded
+    requires long { 4096 ≤ length }
+    requires ends { base + length ≤ 2 ^ 64 }
+    requires least { IsLeastExponent base length e }
+    ensures base { result.base ≡ rounded_base base length }
+    ensures top { result.top ≡ rounded_top base length }
+    ensures ie { result.ie ≡ rounded_ie length }
+    ensures e { result.e ≡ rounded_exponent base length }
+    ensures b { result.b ≡ rounded_b base length }
+    ensures t { result.t ≡ rounded_t base length }
+    ensures exact { IsTrue result.exact ↔ IsExact base length }
+{
+    let low = units_down(base, e);
+    let high = units_down(base + (length - 1), e) + 1;
+    Rounded {
+        base: low << (e + 3),
+        top: u128::from(high) << (e + 3),
+        ie: true,
+        e: e as u8,
+        b: mantissa_from(u128::from(low)),
+        t: mantissa_from(u128::from(high)),
+        exact: are_multiples(base, length, e),
+    }
+}
+
+/// Rounds a request for some addresses that ends at or below 2^64. It says what [`round`] says, by numbers of 64 bits
+/// alone.
+#[inline(always)]
+pub fn round_inside(base: u64, length: u64) -> Rounded
+    requires some { 0 < length }
+    requires ends { base + length ≤ 2 ^ 64 }
+    ensures base { result.base ≡ rounded_base base length }
+    ensures top { result.top ≡ rounded_top base length }
+    ensures ie { result.ie ≡ rounded_ie length }
+    ensures e { result.e ≡ rounded_exponent base length }
+    ensures b { result.b ≡ rounded_b base length }
+    ensures t { result.t ≡ rounded_t base length }
+    ensures exact { IsTrue result.exact ↔ IsExact base length }
+{
+    if length < FIRST_LONG {
+        return round_short(base, length);
+    }
+    let e = first_exponent(length);
+    if covers_few(base, length, e) {
+        round_with(base, length, e)
+    } else {
+        round_with(base, length, e + 1)
+    }
+}
+
 /// Replaces the fields that bounds are made of. It stands apart from [`with_bounds`], whose other clauses are
 /// proved from these.
 #[inline(always)]
@@ -188,16 +272,12 @@ fn replace_bounds(word: Word, rounded: &Rounded, address: u64) -> Word
     ensures kept { result.0 / 2 ^ 91 ≡ word.0 / 2 ^ 91 }
     ensures address { address_of result.0 ≡ address }
 {
-    let e = u128::from(rounded.e);
-    let high = (word.0 >> 91) << 91;
-    let t_field = u128::from(rounded.t & 0xfff) + (e >> 3);
-    let b_field = u128::from(rounded.b) + (e & 7);
-    Word(
-        high + (u128::from(rounded.ie) << 90)
-            + (t_field << 78)
-            + (b_field << 64)
-            + u128::from(address),
-    )
+    let e = u64::from(rounded.e);
+    let high = ((word.0 >> 91) as u64) << 27;
+    let t_field = u64::from(rounded.t & 0xfff) + (e >> 3);
+    let b_field = u64::from(rounded.b) + (e & 7);
+    let upper = high + (u64::from(rounded.ie) << 26) + (t_field << 14) + b_field;
+    Word((u128::from(upper) << 64) + u128::from(address))
 }
 
 /// A word with the bounds of a rounding and an address. Its other fields stay as they are, the reserved

@@ -9,7 +9,7 @@ ghost use Rattle.cap_judge.specs.declared.verdict.TakeFault.TheVariants.{NoLine,
 
 use crate::beginning::{Judge, Stage};
 use crate::verdict::TakeFault;
-use cap_log::write_step;
+use cap_log::{Line, Operands, Step, write_line};
 use cap_machine::Instruction;
 use tagmem::TaggedStore;
 
@@ -30,15 +30,15 @@ impl<M: TaggedStore> Judge<M> {
         if let Stage::Body = self.stage {
             return match step.perform(&mut self.machine) {
                 Ok(()) => Ok(()),
-                Err(_) => self.take_written(step),
+                Err(_) => self.take_unmade(step),
             };
         }
-        self.take_written(step)
+        self.take_unmade(step)
     }
 
-    // Takes a step by its line.
-    #[inline(never)]
-    fn take_written<I: Instruction>(&mut self, step: I) -> Result<(), TakeFault>
+    // Takes a step that was not made. The call gets a value of its own: so a step needn't stand in memory where it is made.
+    #[inline(always)]
+    fn take_unmade<I: Instruction>(&mut self, step: I) -> Result<(), TakeFault>
         requires { IsStepInRange (I.step step) }
         ensures taken { OnOk result ((bytes : List ℕ) → HasRead M.contents self.old bytes
             → HasRead M.contents self.new (bytes ++ (spelling (lines.Step (I.step step)) ++ 10 ∷ []))) }
@@ -47,8 +47,22 @@ impl<M: TaggedStore> Judge<M> {
         ensures no_memory { result ≡ Err NoMemory → (bytes : List ℕ) → HasRead M.contents self.old bytes
             → MayLackMemory (bytes ++ (spelling (lines.Step (I.step step)) ++ 10 ∷ [])) [] }
     {
+        self.take_written(step.into_step())
+    }
+
+    // Takes a step by its line.
+    #[inline(never)]
+    fn take_written(&mut self, step: Step) -> Result<(), TakeFault>
+        requires { IsStepInRange step }
+        ensures taken { OnOk result ((bytes : List ℕ) → HasRead M.contents self.old bytes
+            → HasRead M.contents self.new (bytes ++ (spelling (lines.Step step) ++ 10 ∷ []))) }
+        ensures unchanged { IfErr result (λ _. known_of M.contents self.new ≡ known_of M.contents self.old) }
+        ensures line { result ≢ Err NoLine }
+        ensures no_memory { result ≡ Err NoMemory → (bytes : List ℕ) → HasRead M.contents self.old bytes
+            → MayLackMemory (bytes ++ (spelling (lines.Step step) ++ 10 ∷ [])) [] }
+    {
         let mut buffer = [0; 96];
-        let length = write_step(step, &mut buffer);
+        let length = write_line(&Line::Step(step), &mut buffer);
         self.take_line(&buffer[..length])
     }
 }

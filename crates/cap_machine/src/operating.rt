@@ -1,8 +1,9 @@
 //! Steps that are operations on registers.
 
-ghost use Rattle.std.specs.Prelude.{◌≤◌, Ok};
+ghost use Rattle.std.specs.Prelude.{◌≡◌, ◌≤◌, Ok};
 ghost use Rattle.cap_ops.specs.Operations as ops;
 ghost use Rattle.cap_machine.specs.Helds.{EndsBy};
+ghost use Rattle.cap_machine.specs.Parents.{IsSoundCap};
 
 use crate::ends::StepEnd;
 use crate::instructions::Instruction;
@@ -11,7 +12,7 @@ use crate::rules::Rules;
 use cap_log::{AndPerm, ClearTag, Move, Seal, SetAddr, SetBounds, SetBoundsExact, Unseal};
 use cap_ops::{
     OpFault, and_perm, and_perm_clear, clear_tag, seal, seal_clear, set_addr, set_addr_clear,
-    set_bounds, set_bounds_clear, unseal, unseal_clear,
+    set_bounds_clear, set_bounds_soundly, unseal, unseal_clear,
 };
 use cap_word::Cap;
 use tagmem::TaggedStore;
@@ -98,12 +99,25 @@ impl Instruction for Unseal {
 
 #[inline(always)]
 fn set_bounds_by(rules: Rules, source: Cap, length: u64, exact: bool) -> Result<Cap, OpFault>
+    requires { IsSoundCap source }
     ensures { EndsBy rules (ops.set_bounds_tests source length exact) (ops.set_bounds_result source length) result }
 {
     match rules {
-        Rules::TwoClear => Ok(set_bounds_clear(source, length, exact)),
-        Rules::One | Rules::TwoStrict => set_bounds(source, length, exact),
+        Rules::TwoClear => Ok(set_bounds_cleared(source, length, exact)),
+        Rules::One | Rules::TwoStrict => set_bounds_soundly(source, length, exact),
     }
+}
+
+// The path in clear mode. The call gets a value of its own: so the source needn't stand in memory where it isn't made.
+#[inline(always)]
+fn set_bounds_cleared(source: Cap, length: u64, exact: bool) -> Cap
+    ensures { result ≡ ops.clear_result (ops.set_bounds_tests source length exact) (ops.set_bounds_result source length) }
+{
+    let called = Cap {
+        tag: source.tag,
+        word: source.word,
+    };
+    set_bounds_clear(called, length, exact)
 }
 
 #[inline(always)]

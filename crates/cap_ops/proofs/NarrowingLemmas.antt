@@ -53,6 +53,16 @@ no_more_rounded w base length base_fits length_fits inside sound =
       IsSound-rounded_word w base length base_fits length_fits ends,
     )
 
+-- rounded bounds lie inside a sound word's exactly where the requested ones do
+pub covers-requested : (w base length : ℕ) → length < 2 ^ 64 → IsSound w → IsInside base (base + length) (base_of w) (top_of w)
+    → covers w (rounded_base base length) (rounded_top base length) ≡ true
+covers-requested w base length fits sound inside = covers-inside w _ _ (IsInside-rounded w base length fits sound inside)
+
+pub covers-escaping : (w base length : ℕ) → (IsInside base (base + length) (base_of w) (top_of w) → ⊥)
+    → covers w (rounded_base base length) (rounded_top base length) ≡ false
+covers-escaping w base length outside = false_from_ne_true (covers w (rounded_base base length) (rounded_top base length))
+    (λ h. outside (IsInside-requested base length (base_of w) (top_of w) (IsInside-covers w _ _ h)))
+
 -- new bounds that no test refuses leave the source's authority
 pub StaysWithin-set_bounds : (source : Cap) (length : ℕ) (exact : Bool) → length < 2 ^ 64
     → first_of (set_bounds_tests source length exact) ≡ None → StaysWithin (set_bounds_result source length) source

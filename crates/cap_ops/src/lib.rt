@@ -24,7 +24,7 @@ pub use crate::clearing::{
 };
 pub use crate::faults::OpFault;
 pub use crate::kinds::Kind;
-pub use crate::narrowing::set_bounds;
+pub use crate::narrowing::{set_bounds, set_bounds_soundly};
 pub use crate::permissions::{and_perm, clear_tag, perm_view};
 pub use crate::refusal::Refusal;
 pub use crate::roots::root_word;

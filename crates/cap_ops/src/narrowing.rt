@@ -1,6 +1,6 @@
 //! New bounds, inside those of a source.
 
-ghost use Rattle.std.specs.Prelude.{◌≡◌, ◌+◌, ◌↔◌, None, Some, MatchResult, IfOk, IsFalse, IsTrue};
+ghost use Rattle.std.specs.Prelude.{◌≡◌, ◌<◌, ◌+◌, ◌↔◌, None, Some, MatchResult, IfOk, IfNone, IfSome, IsFalse, IsTrue, true, false};
 ghost use Rattle.cap_word.specs.Fields.{address_of};
 ghost use Rattle.cap_bounds.specs.Bounds.{IsInside, IsSound, base_of, top_of};
 ghost use Rattle.cap_bounds.specs.Rounding.{HasRounding, rounded_base, rounded_top};
@@ -12,7 +12,7 @@ ghost use Rattle.cap_ops.specs.Tests.{first_of};
 
 use crate::faults::OpFault;
 use crate::sealing::sealed;
-use cap_bounds::{Rounded, bounds, round, with_bounds};
+use cap_bounds::{Rounded, bounds, round, round_inside, sound_word_holds_more, with_bounds};
 use cap_word::{Cap, Word};
 
 /// Whether rounded bounds lie inside a word's.
@@ -58,6 +58,75 @@ fn permitted(source: Cap, length: u64, exact: bool) -> Result<Rounded, OpFault>
     }
 }
 
+/// The rounding of the length from a sound word's address on, where it lies inside the word's bounds.
+#[inline(always)]
+fn rounding_inside(word: Word, length: u64) -> Option<Rounded>
+    requires sound { IsSound word.0 }
+    requires some { 0 < length }
+    ensures covered { IfSome result (λ _. covers word.0 (rounded_base (address_of word.0) length)
+        (rounded_top (address_of word.0) length) ≡ true) }
+    ensures fields { IfSome result (λ rounded. HasRounding rounded.ie rounded.e rounded.b rounded.t (address_of word.0) length) }
+    ensures exact { IfSome result (λ rounded. rounded.exact ≡ is_exact (address_of word.0) length) }
+    ensures none { IfNone result (covers word.0 (rounded_base (address_of word.0) length)
+        (rounded_top (address_of word.0) length) ≡ false) }
+{
+    let address = word.address();
+    if sound_word_holds_more(word, address, length - 1) {
+        Some(round_inside(address, length))
+    } else {
+        None
+    }
+}
+
+/// The same for a tagged source whose word is sound, and some addresses, by numbers of 64 bits alone.
+#[tactic(auto, unfolding(crate::specs::Operations::set_bounds_tests))]
+#[inline(always)]
+fn permitted_soundly(source: Cap, length: u64, exact: bool) -> Result<Rounded, OpFault>
+    requires tagged { IsTrue source.tag }
+    requires sound { IsSound source.word.0 }
+    requires some { 0 < length }
+    ensures { MatchResult result
+        (λ rounded. (first_of (set_bounds_tests source length exact) ≡ None)
+        × HasRounding rounded.ie rounded.e rounded.b rounded.t (address_of source.word.0) length)
+        (λ fault. first_of (set_bounds_tests source length exact) ≡ Some (refusal_of fault)) }
+{
+    if sealed(source.word) {
+        return Err(OpFault::SourceSealed);
+    }
+    match rounding_inside(source.word, length) {
+        None => Err(OpFault::BoundsEscape),
+        Some(rounded) => {
+            if exact && !rounded.exact {
+                Err(OpFault::NotExact)
+            } else {
+                Ok(rounded)
+            }
+        }
+    }
+}
+
+/// The answer to both.
+#[inline(always)]
+fn permitted_by<const SOUND: bool>(
+    source: Cap,
+    length: u64,
+    exact: bool,
+) -> Result<Rounded, OpFault>
+    requires tagged { SOUND ≡ true → IsTrue source.tag }
+    requires sound { SOUND ≡ true → IsSound source.word.0 }
+    requires some { SOUND ≡ true → 0 < length }
+    ensures { MatchResult result
+        (λ rounded. (first_of (set_bounds_tests source length exact) ≡ None)
+        × HasRounding rounded.ie rounded.e rounded.b rounded.t (address_of source.word.0) length)
+        (λ fault. first_of (set_bounds_tests source length exact) ≡ Some (refusal_of fault)) }
+{
+    if SOUND {
+        permitted_soundly(source, length, exact)
+    } else {
+        permitted(source, length, exact)
+    }
+}
+
 /// Narrows the source's bounds to the length from its address on, rounded (CSetBounds; with `exact`,
 /// CSetBoundsExact).
 ///
@@ -74,7 +143,76 @@ pub fn set_bounds(source: Cap, length: u64, exact: bool) -> Result<Cap, OpFault>
         → (result ≡ Err OpFault.BoundsEscape) ↔ (¬ IsInside (address_of source.word.0)
         (address_of source.word.0 + length) (base_of source.word.0) (top_of source.word.0)) }
 {
-    match permitted(source, length, exact) {
+    narrowed_by::<false>(source, length, exact)
+}
+
+/// Answers as [`set_bounds`] does for a source whose word is sound where it is tagged, as each that a machine holds is:
+/// of a tagged one, and a length that is not 0, by numbers of 64 bits alone.
+#[inline(always)]
+pub fn set_bounds_soundly(source: Cap, length: u64, exact: bool) -> Result<Cap, OpFault>
+    requires sound { IsTrue source.tag → IsSound source.word.0 }
+    ensures outcome { MatchResult result
+        (λ cap. (first_of (set_bounds_tests source length exact) ≡ None) × (cap ≡ set_bounds_result source length))
+        (λ fault. first_of (set_bounds_tests source length exact) ≡ Some (refusal_of fault)) }
+    ensures stays_within { IfOk result (λ cap. StaysWithin cap source) }
+    ensures escape { IsTrue source.tag → IsFalse (is_sealed source.word.0) → IsSound source.word.0
+        → (result ≡ Err OpFault.BoundsEscape) ↔ (¬ IsInside (address_of source.word.0)
+        (address_of source.word.0 + length) (base_of source.word.0) (top_of source.word.0)) }
+{
+    if source.tag && length > 0 {
+        narrowed_by::<true>(source, length, exact)
+    } else {
+        set_bounds_apart(source, length, exact)
+    }
+}
+
+/// [`set_bounds`], by a call. That gets a value of its own: so the source needn't stand in memory where it isn't made.
+#[inline(always)]
+fn set_bounds_apart(source: Cap, length: u64, exact: bool) -> Result<Cap, OpFault>
+    ensures outcome { MatchResult result
+        (λ cap. (first_of (set_bounds_tests source length exact) ≡ None) × (cap ≡ set_bounds_result source length))
+        (λ fault. first_of (set_bounds_tests source length exact) ≡ Some (refusal_of fault)) }
+    ensures stays_within { IfOk result (λ cap. StaysWithin cap source) }
+    ensures escape { IsTrue source.tag → IsFalse (is_sealed source.word.0) → IsSound source.word.0
+        → (result ≡ Err OpFault.BoundsEscape) ↔ (¬ IsInside (address_of source.word.0)
+        (address_of source.word.0 + length) (base_of source.word.0) (top_of source.word.0)) }
+{
+    let called = Cap {
+        tag: source.tag,
+        word: source.word,
+    };
+    set_bounds_called(called, length, exact)
+}
+
+/// [`set_bounds`], in a function of its own.
+#[inline(never)]
+fn set_bounds_called(source: Cap, length: u64, exact: bool) -> Result<Cap, OpFault>
+    ensures outcome { MatchResult result
+        (λ cap. (first_of (set_bounds_tests source length exact) ≡ None) × (cap ≡ set_bounds_result source length))
+        (λ fault. first_of (set_bounds_tests source length exact) ≡ Some (refusal_of fault)) }
+    ensures stays_within { IfOk result (λ cap. StaysWithin cap source) }
+    ensures escape { IsTrue source.tag → IsFalse (is_sealed source.word.0) → IsSound source.word.0
+        → (result ≡ Err OpFault.BoundsEscape) ↔ (¬ IsInside (address_of source.word.0)
+        (address_of source.word.0 + length) (base_of source.word.0) (top_of source.word.0)) }
+{
+    set_bounds(source, length, exact)
+}
+
+/// The answer to both, for a tagged source that is known to be sound and a length that is not 0, or for any.
+#[inline(always)]
+fn narrowed_by<const SOUND: bool>(source: Cap, length: u64, exact: bool) -> Result<Cap, OpFault>
+    requires tagged { SOUND ≡ true → IsTrue source.tag }
+    requires sound { SOUND ≡ true → IsSound source.word.0 }
+    requires some { SOUND ≡ true → 0 < length }
+    ensures outcome { MatchResult result
+        (λ cap. (first_of (set_bounds_tests source length exact) ≡ None) × (cap ≡ set_bounds_result source length))
+        (λ fault. first_of (set_bounds_tests source length exact) ≡ Some (refusal_of fault)) }
+    ensures stays_within { IfOk result (λ cap. StaysWithin cap source) }
+    ensures escape { IsTrue source.tag → IsFalse (is_sealed source.word.0) → IsSound source.word.0
+        → (result ≡ Err OpFault.BoundsEscape) ↔ (¬ IsInside (address_of source.word.0)
+        (address_of source.word.0 + length) (base_of source.word.0) (top_of source.word.0)) }
+{
+    match permitted_by::<SOUND>(source, length, exact) {
         Err(fault) => Err(fault),
         Ok(rounded) => Ok(Cap {
             tag: source.tag,

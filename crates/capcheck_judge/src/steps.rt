@@ -23,20 +23,23 @@ pub(crate) fn hand_over<I: Instruction>(alloc: Global, judge: &mut Handle, made:
     requires { IfSome made (λ step. IsStepInRange (I.step step)) }
     ensures { (step : Step) → IsStepOf I.step step made → HandsOver (line.Step step) (held_in judge.old) (held_in judge.new) result }
 {
-    match judge.take(alloc) {
-        Some(held) => match made {
-            Some(step) => {
+    match made {
+        Some(step) => match judge.take(alloc) {
+            Some(held) => {
                 let mut held = held;
                 let state = take_step(&mut held, step);
                 judge.put(held);
                 state
             }
-            None => {
+            None => NO_JUDGE,
+        },
+        None => match judge.take(alloc) {
+            Some(held) => {
                 judge.put(held);
                 NO_LINE
             }
+            None => NO_JUDGE,
         },
-        None => NO_JUDGE,
     }
 }
 

@@ -6,14 +6,14 @@ use Rattle.cap_halves.specs.Passed.{IsStepOf}
 use Rattle.capcheck_judge.proofs.HandleLemmas.{Stepped, handed}
 use Rattle.capcheck_judge.proofs.steps.hand_over.Goals as goal
 
-pub returns-in-Some-made : goal.returns-in-Some-made
-returns-in-Some-made g c = λ step made.
-    let of = subst (IsStepOf g.I.Operands.step step) c.in-Some-made.is made in
-    let is : c.args.judge.now.judge ≡ Some c.deref_mut.result.now = c.in-Some.ensures.taken ∙ ap Some (sym c.deref_mut.ensures.value) in
+pub returns-in-Some-take : goal.returns-in-Some-take
+returns-in-Some-take g c = λ step made.
+    let of = subst (IsStepOf g.I.Operands.step step) c.in-Some.is made in
+    let is : c.args.judge.now.judge ≡ Some c.deref_mut.result.now = c.in-Some-take.ensures.taken ∙ ap Some (sym c.deref_mut.ensures.value) in
     let old = c.deref_mut.result.now in
     let new = c.take_step-state.new.judge in
     let state = c.take_step-state.result in
-    let stepped : Stepped (line.Step (g.I.Operands.step c.in-Some-made.step)) old new state = record {
+    let stepped : Stepped (line.Step (g.I.Operands.step c.in-Some.step)) old new state = record {
       answers = c.take_step-state.ensures.answers;
       taken = c.take_step-state.ensures.taken;
       goes_on = c.take_step-state.ensures.goes_on;

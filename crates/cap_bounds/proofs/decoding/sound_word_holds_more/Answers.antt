@@ -6,7 +6,7 @@ use Rattle.cap_word.specs.Fields.{address_of}
 use Rattle.cap_bounds.specs.Bounds.{base_of, length_of, top_of, raw_base_at}
 use Rattle.cap_bounds.proofs.Decoded.{decoded_base, decoded_length}
 use Rattle.cap_bounds.proofs.WrappedBounds.{in_bounds, bounds_in}
-use Rattle.cap_bounds.proofs.decoding.sound_word_holds.Goals as goal
+use Rattle.cap_bounds.proofs.decoding.sound_word_holds_more.Goals as goal
 
 pub returns-then-span-eq0 : goal.returns-then-span-eq0
 returns-then-span-eq0 c =
@@ -21,7 +21,7 @@ returns-then-span-eq0 c =
     record {
       inside = (
         λ is. absurd (false≢true is),
-        λ inside. absurd (omega (arith, length, none, c.requires.sound.0, c.requires.some, inside.0, inside.1)),
+        λ inside. absurd (omega (arith, length, none, c.requires.sound.0, inside.0, inside.1)),
       );
     }
 
@@ -38,9 +38,9 @@ returns-then-first-last c =
     s.ensures.cut_exponent s.ensures.b s.ensures.span c.address.ensures.value refl in
     let first = (c.args.address + (2 ^ 64 - c.base_from.result)) % 2 ^ 64 in
     let last = (s.result.span * 2 ^ s.result.cut_exponent % 2 ^ 64 + (2 ^ 64 - 1)) % 2 ^ 64 in
-    let within = bounds_in (base_of w) (length_of w) (top_of w) c.args.address c.args.count first last c.requires.sound.0
+    let within = bounds_in (base_of w) (length_of w) (top_of w) c.args.address (c.args.more + 1) first last c.requires.sound.0
     c.requires.sound.1 (omega arith)
-    c.requires.some (ap (λ x. (c.args.address + (2 ^ 64 - x)) % 2 ^ 64) base) (ap (λ x. (x % 2 ^ 64 + (2 ^ 64 - 1)) % 2 ^ 64) length) in
+    (omega arith) (ap (λ x. (c.args.address + (2 ^ 64 - x)) % 2 ^ 64) base) (ap (λ x. (x % 2 ^ 64 + (2 ^ 64 - 1)) % 2 ^ 64) length) in
     record {
       inside = (λ is. absurd (false≢true is), λ inside. absurd (omega (arith, (within inside.0 inside.1).0, c.if-first-last.true)));
     }
@@ -62,14 +62,14 @@ returns c =
     let last = (s.result.span * 2 ^ s.result.cut_exponent % 2 ^ 64 + (2 ^ 64 - 1)) % 2 ^ 64 in
     let first_is = ap (λ x. (c.args.address + (2 ^ 64 - x)) % 2 ^ 64) base in
     let last_is = ap (λ x. (x % 2 ^ 64 + (2 ^ 64 - 1)) % 2 ^ 64) length in
-    let to = in_bounds (base_of w) (length_of w) (top_of w) c.args.address c.args.count first last c.requires.sound.0
+    let to = in_bounds (base_of w) (length_of w) (top_of w) c.args.address (c.args.more + 1) first last c.requires.sound.0
     c.requires.sound.1 (omega arith)
-    c.requires.some (omega (arith, some, length, c.if-span-eq0.false)) first_is last_is c.if-first-last.false in
-    let from = bounds_in (base_of w) (length_of w) (top_of w) c.args.address c.args.count first last c.requires.sound.0
+    (omega arith) (omega (arith, some, length, c.if-span-eq0.false)) first_is last_is c.if-first-last.false in
+    let from = bounds_in (base_of w) (length_of w) (top_of w) c.args.address (c.args.more + 1) first last c.requires.sound.0
     c.requires.sound.1 (omega arith)
-    c.requires.some first_is last_is in record {
+    (omega arith) first_is last_is in record {
       inside = (
-        λ is. to (omega (arith, leb-true _ _ is, c.from.ensures)),
-        λ inside. le-leb _ _ (omega (arith, (from inside.0 inside.1).1, c.from.ensures)),
+        λ is. to (omega (arith, leb-true _ _ is)),
+        λ inside. le-leb _ _ (omega (arith, (from inside.0 inside.1).1)),
       );
     }
