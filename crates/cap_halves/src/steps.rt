@@ -17,7 +17,7 @@ use cap_log::{
 #[inline(always)]
 pub fn move_of(target: u64, source: u64, recorded: Capability) -> Option<Move>
     ensures range { IfSome result (λ made. IsStepInRange (⟦<Move as Operands>⟧.step made)) }
-    ensures step { IsStepOf ⟦<Move as Operands>⟧.step (steps.Move target source (cap_of recorded)) result }
+    ensures step { IsStepOf ⟦<Move as Operands>⟧.step (steps.Move (record { target = target; source = source; result = cap_of recorded })) result }
 {
     let Some(target) = target_of(target) else {
         return None;
@@ -36,7 +36,8 @@ pub fn move_of(target: u64, source: u64, recorded: Capability) -> Option<Move>
 #[inline(always)]
 pub fn cleartag_of(target: u64, source: u64, recorded: Capability) -> Option<ClearTag>
     ensures range { IfSome result (λ made. IsStepInRange (⟦<ClearTag as Operands>⟧.step made)) }
-    ensures step { IsStepOf ⟦<ClearTag as Operands>⟧.step (steps.ClearTag target source (cap_of recorded)) result }
+    ensures step { IsStepOf ⟦<ClearTag as Operands>⟧.step
+        (steps.ClearTag (record { target = target; source = source; result = cap_of recorded })) result }
 {
     let Some(target) = target_of(target) else {
         return None;
@@ -60,7 +61,8 @@ pub fn setbounds_of(
     recorded: Capability,
 ) -> Option<SetBounds>
     ensures range { IfSome result (λ made. IsStepInRange (⟦<SetBounds as Operands>⟧.step made)) }
-    ensures step { IsStepOf ⟦<SetBounds as Operands>⟧.step (steps.SetBounds target source length (cap_of recorded)) result }
+    ensures step { IsStepOf ⟦<SetBounds as Operands>⟧.step
+        (steps.SetBounds (record { target = target; source = source; length = length; result = cap_of recorded })) result }
 {
     let Some(target) = target_of(target) else {
         return None;
@@ -85,7 +87,8 @@ pub fn setboundsexact_of(
     recorded: Capability,
 ) -> Option<SetBoundsExact>
     ensures range { IfSome result (λ made. IsStepInRange (⟦<SetBoundsExact as Operands>⟧.step made)) }
-    ensures step { IsStepOf ⟦<SetBoundsExact as Operands>⟧.step (steps.SetBoundsExact target source length (cap_of recorded)) result }
+    ensures step { IsStepOf ⟦<SetBoundsExact as Operands>⟧.step
+        (steps.SetBoundsExact (record { target = target; source = source; length = length; result = cap_of recorded })) result }
 {
     let Some(target) = target_of(target) else {
         return None;
@@ -105,7 +108,8 @@ pub fn setboundsexact_of(
 #[inline(always)]
 pub fn setaddr_of(target: u64, source: u64, address: u64, recorded: Capability) -> Option<SetAddr>
     ensures range { IfSome result (λ made. IsStepInRange (⟦<SetAddr as Operands>⟧.step made)) }
-    ensures step { IsStepOf ⟦<SetAddr as Operands>⟧.step (steps.SetAddr target source address (cap_of recorded)) result }
+    ensures step { IsStepOf ⟦<SetAddr as Operands>⟧.step
+        (steps.SetAddr (record { target = target; source = source; address = address; result = cap_of recorded })) result }
 {
     let Some(target) = target_of(target) else {
         return None;
@@ -125,7 +129,8 @@ pub fn setaddr_of(target: u64, source: u64, address: u64, recorded: Capability) 
 #[inline(always)]
 pub fn andperm_of(target: u64, source: u64, mask: u64, recorded: Capability) -> Option<AndPerm>
     ensures range { IfSome result (λ made. IsStepInRange (⟦<AndPerm as Operands>⟧.step made)) }
-    ensures step { IsStepOf ⟦<AndPerm as Operands>⟧.step (steps.AndPerm target source mask (cap_of recorded)) result }
+    ensures step { IsStepOf ⟦<AndPerm as Operands>⟧.step
+        (steps.AndPerm (record { target = target; source = source; mask = mask; result = cap_of recorded })) result }
 {
     let Some(target) = target_of(target) else {
         return None;
@@ -145,7 +150,8 @@ pub fn andperm_of(target: u64, source: u64, mask: u64, recorded: Capability) -> 
 #[inline(always)]
 pub fn seal_of(target: u64, source: u64, authority: u64, recorded: Capability) -> Option<Seal>
     ensures range { IfSome result (λ made. IsStepInRange (⟦<Seal as Operands>⟧.step made)) }
-    ensures step { IsStepOf ⟦<Seal as Operands>⟧.step (steps.Seal target source authority (cap_of recorded)) result }
+    ensures step { IsStepOf ⟦<Seal as Operands>⟧.step
+        (steps.Seal (record { target = target; source = source; authority = authority; result = cap_of recorded })) result }
 {
     let Some(target) = target_of(target) else {
         return None;
@@ -168,7 +174,8 @@ pub fn seal_of(target: u64, source: u64, authority: u64, recorded: Capability) -
 #[inline(always)]
 pub fn unseal_of(target: u64, source: u64, authority: u64, recorded: Capability) -> Option<Unseal>
     ensures range { IfSome result (λ made. IsStepInRange (⟦<Unseal as Operands>⟧.step made)) }
-    ensures step { IsStepOf ⟦<Unseal as Operands>⟧.step (steps.Unseal target source authority (cap_of recorded)) result }
+    ensures step { IsStepOf ⟦<Unseal as Operands>⟧.step
+        (steps.Unseal (record { target = target; source = source; authority = authority; result = cap_of recorded })) result }
 {
     let Some(target) = target_of(target) else {
         return None;
@@ -191,7 +198,8 @@ pub fn unseal_of(target: u64, source: u64, authority: u64, recorded: Capability)
 #[inline(always)]
 pub fn lc_of(target: u64, authority: u64, offset: i64, recorded: Capability) -> Option<LoadCap>
     ensures range { IfSome result (λ made. IsStepInRange (⟦<LoadCap as Operands>⟧.step made)) }
-    ensures step { IsStepOf ⟦<LoadCap as Operands>⟧.step (steps.LoadCap target authority offset (cap_of recorded)) result }
+    ensures step { IsStepOf ⟦<LoadCap as Operands>⟧.step
+        (steps.LoadCap (record { target = target; authority = authority; offset = offset; result = cap_of recorded })) result }
 {
     let Some(target) = target_of(target) else {
         return None;
@@ -214,7 +222,8 @@ pub fn lc_of(target: u64, authority: u64, offset: i64, recorded: Capability) -> 
 #[inline(always)]
 pub fn sc_of(source: u64, authority: u64, offset: i64) -> Option<StoreCap>
     ensures range { IfSome result (λ made. IsStepInRange (⟦<StoreCap as Operands>⟧.step made)) }
-    ensures step { IsStepOf ⟦<StoreCap as Operands>⟧.step (steps.StoreCap source authority offset) result }
+    ensures step { IsStepOf ⟦<StoreCap as Operands>⟧.step
+        (steps.StoreCap (record { source = source; authority = authority; offset = offset })) result }
 {
     let Some(source) = register_of(source) else {
         return None;
@@ -236,7 +245,8 @@ pub fn sc_of(source: u64, authority: u64, offset: i64) -> Option<StoreCap>
 #[inline(always)]
 pub fn load_of(authority: u64, offset: i64, size: u64, value: u64) -> Option<Load>
     ensures range { IfSome result (λ made. IsStepInRange (⟦<Load as Operands>⟧.step made)) }
-    ensures step { IsStepOf ⟦<Load as Operands>⟧.step (steps.Load authority offset size value) result }
+    ensures step { IsStepOf ⟦<Load as Operands>⟧.step
+        (steps.Load (record { authority = authority; offset = offset; size = size; value = value })) result }
 {
     let Some(authority) = register_of(authority) else {
         return None;
@@ -259,7 +269,8 @@ pub fn load_of(authority: u64, offset: i64, size: u64, value: u64) -> Option<Loa
 #[inline(always)]
 pub fn store_of(authority: u64, offset: i64, size: u64, value: u64) -> Option<Store>
     ensures range { IfSome result (λ made. IsStepInRange (⟦<Store as Operands>⟧.step made)) }
-    ensures step { IsStepOf ⟦<Store as Operands>⟧.step (steps.Store authority offset size value) result }
+    ensures step { IsStepOf ⟦<Store as Operands>⟧.step
+        (steps.Store (record { authority = authority; offset = offset; size = size; value = value })) result }
 {
     let Some(authority) = register_of(authority) else {
         return None;

@@ -11,6 +11,9 @@ use Rattle.cap_log.specs.declared.lines.Line.TheVariants as lines
 use Rattle.cap_log.specs.declared.lines.Place.{Place}
 use Rattle.cap_log.specs.declared.lines.Step.{Step}
 use Rattle.cap_log.specs.declared.lines.Step.TheVariants as steps
+use Rattle.cap_log.specs.declared.operands.accesses.Load.{Load}
+use Rattle.cap_log.specs.declared.operands.accesses.Store.{Store}
+use Rattle.cap_log.specs.declared.operands.accesses.StoreCap.{StoreCap}
 use Rattle.cap_log.specs.Front.{IsCut, IsLine}
 use Rattle.std.proofs.lemmas.List.Elements.{All-nil}
 use Rattle.cap_log.proofs.SpellingLemmas.{one_spelling}
@@ -103,30 +106,29 @@ operated account step recorded given is h =
 
 -- what the rules give for a step that writes a register
 abbrev pub IsNoStore : Step → Type 0
-IsNoStore (steps.StoreCap source authority offset) = ⊥
-IsNoStore (steps.Store authority offset size value) = ⊥
-IsNoStore (steps.Load authority offset size value) = ⊥
+IsNoStore (steps.StoreCap step) = ⊥
+IsNoStore (steps.Store step) = ⊥
+IsNoStore (steps.Load step) = ⊥
 IsNoStore step = Unit {0}
 
-pub no_store : (step : Step) → ((source authority : ℕ) (offset : ℤ) → step ≡ steps.StoreCap source authority offset → ⊥)
-    → ((authority : ℕ) (offset : ℤ) (size value : ℕ) → step ≡ steps.Load authority offset size value → ⊥)
-    → ((authority : ℕ) (offset : ℤ) (size value : ℕ) → step ≡ steps.Store authority offset size value → ⊥) → IsNoStore step
-no_store (steps.StoreCap source authority offset) a b c = a source authority offset refl
-no_store (steps.Load authority offset size value) a b c = b authority offset size value refl
-no_store (steps.Store authority offset size value) a b c = c authority offset size value refl
+pub no_store : (step : Step) → ((store : StoreCap) → step ≡ steps.StoreCap store → ⊥) → ((load : Load) → step ≡ steps.Load load → ⊥)
+    → ((store : Store) → step ≡ steps.Store store → ⊥) → IsNoStore step
+no_store (steps.StoreCap step) a b c = a step refl
+no_store (steps.Load step) a b c = b step refl
+no_store (steps.Store step) a b c = c step refl
 no_store step a b c = tt
 
 -- it records a capability
 records_one : (state : State) (step : Step) → IsNoStore step → (recorded : Cap) × ((row_of state step).records ≡ Written recorded)
-records_one state (steps.Move target source recorded) kind = (recorded, refl)
-records_one state (steps.ClearTag target source recorded) kind = (recorded, refl)
-records_one state (steps.SetBounds target source size recorded) kind = (recorded, refl)
-records_one state (steps.SetBoundsExact target source size recorded) kind = (recorded, refl)
-records_one state (steps.SetAddr target source address recorded) kind = (recorded, refl)
-records_one state (steps.AndPerm target source mask recorded) kind = (recorded, refl)
-records_one state (steps.Seal target source authority recorded) kind = (recorded, refl)
-records_one state (steps.Unseal target source authority recorded) kind = (recorded, refl)
-records_one state (steps.LoadCap target authority offset recorded) kind = (recorded, refl)
+records_one state (steps.Move step) kind = (step.result, refl)
+records_one state (steps.ClearTag step) kind = (step.result, refl)
+records_one state (steps.SetBounds step) kind = (step.result, refl)
+records_one state (steps.SetBoundsExact step) kind = (step.result, refl)
+records_one state (steps.SetAddr step) kind = (step.result, refl)
+records_one state (steps.AndPerm step) kind = (step.result, refl)
+records_one state (steps.Seal step) kind = (step.result, refl)
+records_one state (steps.Unseal step) kind = (step.result, refl)
+records_one state (steps.LoadCap step) kind = (step.result, refl)
 records_one state step kind = absurd kind
 
 pub gives_capability : (account : Account) (step : Step) (given : Cap) (fault : Option Refusal) → IsNoStore step
@@ -151,17 +153,15 @@ nothing_recorded account step known is none =
     (λ h. false≢true (sym (wrong account known h).1 ∙ stores account.rules (row_of account.state known) none))
 
 -- a load
-load_tests : (rules_are : Rules) (state : State) (authority : ℕ) (offset : ℤ) (size value : ℕ)
-    → (row_by rules_are (row_of state (steps.Load authority offset size value))).tests ≡ access_tests (state authority) LoadData offset size
-load_tests One state authority offset size value = refl
-load_tests rules_are state authority offset size value = refl
+load_tests : (rules_are : Rules) (state : State) (load : Load)
+    → (row_by rules_are (row_of state (steps.Load load))).tests ≡ access_tests (state load.authority) LoadData load.offset load.size
+load_tests One state load = refl
+load_tests rules_are state load = refl
 
-pub load_allowed : (account : Account) (authority : ℕ) (offset : ℤ) (size value : ℕ)
-    → first_of (step_tests account (steps.Load authority offset size value)) ≡ Some WrongResult
-    → first_of (access_tests (account.state authority) LoadData offset size) ≡ None
-load_allowed account authority offset size value h =
-    ap first_of (sym (load_tests account.rules account.state authority offset size value))
-    ∙ (wrong account (steps.Load authority offset size value) h).0
+pub load_allowed : (account : Account) (load : Load) → first_of (step_tests account (steps.Load load)) ≡ Some WrongResult
+    → first_of (access_tests (account.state load.authority) LoadData load.offset load.size) ≡ None
+load_allowed account load h =
+    ap first_of (sym (load_tests account.rules account.state load)) ∙ (wrong account (steps.Load load) h).0
 
 -- which step a text spells
 abbrev OfLine : Account → Line → Option Expected → Type 0

@@ -1,14 +1,14 @@
 //! What the rules give for a step whose line records another result.
 
 ghost use Rattle.std.specs.Prelude.{◌≡◌, ◌≤◌, Some, None};
-ghost use Rattle.cap_log.specs.Lines.{IsDataSize, IsDataValue, IsOffset, IsStepInRange};
+ghost use Rattle.cap_log.specs.Lines.{IsStepInRange};
 ghost use Rattle.cap_log.specs.declared.lines.Step.TheVariants as steps;
 ghost use Rattle.cap_machine.specs.Helds.{account_of, held_of};
 ghost use Rattle.cap_judge.specs.Expectations.{GivesFor, GivesForText};
 
 use crate::results::given_by;
 use crate::verdict::Expected;
-use cap_log::{Line, Step, read_line};
+use cap_log::{Line, Load, Step, read_line};
 use cap_machine::Machine;
 use cap_ops::{Access, Kind, may_access};
 use tagmem::TaggedStore;
@@ -33,40 +33,27 @@ fn expected_of<M: TaggedStore>(machine: &Machine<M>, step: &Step) -> Option<Expe
     ensures { GivesFor (account_of (held_of M.contents machine.now)) step.now result }
 {
     match *step {
-        Step::Load {
-            authority,
-            offset,
-            size,
-            value,
-        } => loaded_by(machine, authority, offset, size, value),
-        Step::StoreCap { .. } => None,
-        Step::Store { .. } => None,
+        Step::Load(step) => loaded_by(machine, step),
+        Step::StoreCap(_) => None,
+        Step::Store(_) => None,
         _ => Some(Expected::Capability(given_by(machine, step).cap)),
     }
 }
 
 // What the rules give for a load that records a value.
-fn loaded_by<M: TaggedStore>(
-    machine: &Machine<M>,
-    authority: u8,
-    offset: i16,
-    size: u8,
-    value: u64,
-) -> Option<Expected>
-    requires authority { authority ≤ 31 }
-    requires offset { IsOffset offset }
-    requires size { IsDataSize size }
-    ensures { GivesFor (account_of (held_of M.contents machine.now)) (steps.Load authority offset size value) result }
+fn loaded_by<M: TaggedStore>(machine: &Machine<M>, load: Load) -> Option<Expected>
+    requires { IsStepInRange (steps.Load load) }
+    ensures { GivesFor (account_of (held_of M.contents machine.now)) (steps.Load load) result }
 {
     let access = Access {
         kind: Kind::LoadData,
-        offset,
-        size,
+        offset: load.offset,
+        size: load.size,
     };
-    match may_access(machine.register(authority), access) {
+    match may_access(machine.register(load.authority), access) {
         Ok(address) => Some(Expected::Number {
-            value: machine.value(address, size),
-            size,
+            value: machine.value(address, load.size),
+            size: load.size,
         }),
         Err(_) => None,
     }

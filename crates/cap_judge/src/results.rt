@@ -38,37 +38,23 @@ pub fn given_by<M: TaggedStore>(machine: &Machine<M>, step: &Step) -> Given
         UnlessWritten row.records ((result.cap ≡ untagged_null) × (result.fault ≡ None)) }
 {
     match *step {
-        Step::Move { source, .. } => untested(machine.register(source)),
-        Step::ClearTag { source, .. } => untested(clear_tag(machine.register(source))),
-        Step::SetBounds { source, length, .. } => bounded(machine.register(source), length, false),
-        Step::SetBoundsExact { source, length, .. } => bounded(
-            machine.register(source),
-            length,
-            true,
+        Step::Move(step) => untested(machine.register(step.source)),
+        Step::ClearTag(step) => untested(clear_tag(machine.register(step.source))),
+        Step::SetBounds(step) => bounded(machine.register(step.source), step.length, false),
+        Step::SetBoundsExact(step) => bounded(machine.register(step.source), step.length, true),
+        Step::SetAddr(step) => moved(machine.register(step.source), step.address),
+        Step::AndPerm(step) => permitted(machine.register(step.source), step.mask),
+        Step::Seal(step) => sealed(
+            machine.register(step.source),
+            machine.register(step.authority),
         ),
-        Step::SetAddr {
-            source,
-            address,
-            ..
-        } => moved(machine.register(source), address),
-        Step::AndPerm { source, mask, .. } => permitted(machine.register(source), mask),
-        Step::Seal {
-            source,
-            authority,
-            ..
-        } => sealed(machine.register(source), machine.register(authority)),
-        Step::Unseal {
-            source,
-            authority,
-            ..
-        } => unsealed(machine.register(source), machine.register(authority)),
-        Step::LoadCap {
-            authority,
-            offset,
-            ..
-        } => {
-            let granule = reached(machine, authority, offset) / 16;
-            untested(loaded(machine.register(authority), machine.granule(granule)))
+        Step::Unseal(step) => unsealed(
+            machine.register(step.source),
+            machine.register(step.authority),
+        ),
+        Step::LoadCap(step) => {
+            let granule = reached(machine, step.authority, step.offset) / 16;
+            untested(loaded(machine.register(step.authority), machine.granule(granule)))
         }
         _ => untested(Cap {
             tag: false,

@@ -164,6 +164,44 @@ places P decided =
     alike (a_place P) (λ h. by_place P h.0 h.1 h.2)
     (either (targets _ (λ n. decided (Register n))) (below (2 ^ 60) _ (λ n. decided (Granule n))))
 
+-- Steps from their parts
+
+abbrev a_move : ℕ → ℕ → Cap → Step
+a_move target source result = Move (record { target = target; source = source; result = result })
+
+abbrev a_cleartag : ℕ → ℕ → Cap → Step
+a_cleartag target source result = ClearTag (record { target = target; source = source; result = result })
+
+abbrev a_setbounds : ℕ → ℕ → ℕ → Cap → Step
+a_setbounds target source length result = SetBounds (record { target = target; source = source; length = length; result = result })
+
+abbrev a_setboundsexact : ℕ → ℕ → ℕ → Cap → Step
+a_setboundsexact target source length result = SetBoundsExact (record { target = target; source = source; length = length; result = result })
+
+abbrev a_setaddr : ℕ → ℕ → ℕ → Cap → Step
+a_setaddr target source address result = SetAddr (record { target = target; source = source; address = address; result = result })
+
+abbrev an_andperm : ℕ → ℕ → ℕ → Cap → Step
+an_andperm target source mask result = AndPerm (record { target = target; source = source; mask = mask; result = result })
+
+abbrev a_seal : ℕ → ℕ → ℕ → Cap → Step
+a_seal target source authority result = Seal (record { target = target; source = source; authority = authority; result = result })
+
+abbrev an_unseal : ℕ → ℕ → ℕ → Cap → Step
+an_unseal target source authority result = Unseal (record { target = target; source = source; authority = authority; result = result })
+
+abbrev an_lc : ℕ → ℕ → ℤ → Cap → Step
+an_lc target authority offset result = LoadCap (record { target = target; authority = authority; offset = offset; result = result })
+
+abbrev an_sc : ℕ → ℕ → ℤ → Step
+an_sc source authority offset = StoreCap (record { source = source; authority = authority; offset = offset })
+
+abbrev a_load : ℕ → ℤ → ℕ → ℕ → Step
+a_load authority offset size value = Load (record { authority = authority; offset = offset; size = size; value = value })
+
+abbrev a_store : ℕ → ℤ → ℕ → ℕ → Step
+a_store authority offset size value = Store (record { authority = authority; offset = offset; size = size; value = value })
+
 -- Steps, by the shapes of their operands
 
 abbrev Copied : (Step → Type 0) → (ℕ → ℕ → Cap → Step) → Type 0
@@ -183,10 +221,10 @@ numbered P make IsIn numbers decided =
 
 abbrev Loaded : (Step → Type 0) → Type 0
 Loaded P =
-    (t : ℕ) × IsTarget t × ((a : ℕ) × IsRegister a × ((o : ℤ) × IsOffset o × ((r : Cap) × IsWord r.word.0 × P (LoadCap t a o r))))
+    (t : ℕ) × IsTarget t × ((a : ℕ) × IsRegister a × ((o : ℤ) × IsOffset o × ((r : Cap) × IsWord r.word.0 × P (an_lc t a o r))))
 
 abbrev Stored : (Step → Type 0) → Type 0
-Stored P = (s : ℕ) × IsRegister s × ((a : ℕ) × IsRegister a × ((o : ℤ) × IsOffset o × P (StoreCap s a o)))
+Stored P = (s : ℕ) × IsRegister s × ((a : ℕ) × IsRegister a × ((o : ℤ) × IsOffset o × P (an_sc s a o)))
 
 abbrev Accessed : (Step → Type 0) → (ℕ → ℤ → ℕ → ℕ → Step) → Type 0
 Accessed P make =
@@ -198,55 +236,55 @@ accessed P make decided =
 
 abbrev AStep : (Step → Type 0) → Type 0
 AStep P =
-    Copied P Move ⊎ (Copied P ClearTag ⊎ (Numbered P SetBounds IsNumber ⊎ (Numbered P SetBoundsExact IsNumber
-    ⊎ (Numbered P SetAddr IsNumber ⊎ (Numbered P AndPerm IsNumber ⊎ (Numbered P Seal IsRegister ⊎ (Numbered P Unseal IsRegister
-    ⊎ (Loaded P ⊎ (Stored P ⊎ (Accessed P Load ⊎ Accessed P Store))))))))))
+    Copied P a_move ⊎ (Copied P a_cleartag ⊎ (Numbered P a_setbounds IsNumber ⊎ (Numbered P a_setboundsexact IsNumber
+    ⊎ (Numbered P a_setaddr IsNumber ⊎ (Numbered P an_andperm IsNumber ⊎ (Numbered P a_seal IsRegister ⊎ (Numbered P an_unseal IsRegister
+    ⊎ (Loaded P ⊎ (Stored P ⊎ (Accessed P a_load ⊎ Accessed P a_store))))))))))
 
 a_step : (P : Step → Type 0) → AStep P → (step : Step) × IsStepInRange step × P step
-a_step P (inl h) = (Move h.0 h.2.0 h.2.2.0, (h.1, h.2.1, h.2.2.1), h.2.2.2)
-a_step P (inr (inl h)) = (ClearTag h.0 h.2.0 h.2.2.0, (h.1, h.2.1, h.2.2.1), h.2.2.2)
-a_step P (inr (inr (inl h))) = (SetBounds h.0 h.2.0 h.2.2.0 h.2.2.2.0, (h.1, h.2.1, h.2.2.1, h.2.2.2.1), h.2.2.2.2)
-a_step P (inr (inr (inr (inl h)))) = (SetBoundsExact h.0 h.2.0 h.2.2.0 h.2.2.2.0, (h.1, h.2.1, h.2.2.1, h.2.2.2.1), h.2.2.2.2)
-a_step P (inr (inr (inr (inr (inl h))))) = (SetAddr h.0 h.2.0 h.2.2.0 h.2.2.2.0, (h.1, h.2.1, h.2.2.1, h.2.2.2.1), h.2.2.2.2)
-a_step P (inr (inr (inr (inr (inr (inl h)))))) = (AndPerm h.0 h.2.0 h.2.2.0 h.2.2.2.0, (h.1, h.2.1, h.2.2.1, h.2.2.2.1), h.2.2.2.2)
-a_step P (inr (inr (inr (inr (inr (inr (inl h))))))) = (Seal h.0 h.2.0 h.2.2.0 h.2.2.2.0, (h.1, h.2.1, h.2.2.1, h.2.2.2.1), h.2.2.2.2)
+a_step P (inl h) = (a_move h.0 h.2.0 h.2.2.0, (h.1, h.2.1, h.2.2.1), h.2.2.2)
+a_step P (inr (inl h)) = (a_cleartag h.0 h.2.0 h.2.2.0, (h.1, h.2.1, h.2.2.1), h.2.2.2)
+a_step P (inr (inr (inl h))) = (a_setbounds h.0 h.2.0 h.2.2.0 h.2.2.2.0, (h.1, h.2.1, h.2.2.1, h.2.2.2.1), h.2.2.2.2)
+a_step P (inr (inr (inr (inl h)))) = (a_setboundsexact h.0 h.2.0 h.2.2.0 h.2.2.2.0, (h.1, h.2.1, h.2.2.1, h.2.2.2.1), h.2.2.2.2)
+a_step P (inr (inr (inr (inr (inl h))))) = (a_setaddr h.0 h.2.0 h.2.2.0 h.2.2.2.0, (h.1, h.2.1, h.2.2.1, h.2.2.2.1), h.2.2.2.2)
+a_step P (inr (inr (inr (inr (inr (inl h)))))) = (an_andperm h.0 h.2.0 h.2.2.0 h.2.2.2.0, (h.1, h.2.1, h.2.2.1, h.2.2.2.1), h.2.2.2.2)
+a_step P (inr (inr (inr (inr (inr (inr (inl h))))))) = (a_seal h.0 h.2.0 h.2.2.0 h.2.2.2.0, (h.1, h.2.1, h.2.2.1, h.2.2.2.1), h.2.2.2.2)
 a_step P (inr (inr (inr (inr (inr (inr (inr (inl h)))))))) =
-    (Unseal h.0 h.2.0 h.2.2.0 h.2.2.2.0, (h.1, h.2.1, h.2.2.1, h.2.2.2.1), h.2.2.2.2)
+    (an_unseal h.0 h.2.0 h.2.2.0 h.2.2.2.0, (h.1, h.2.1, h.2.2.1, h.2.2.2.1), h.2.2.2.2)
 a_step P (inr (inr (inr (inr (inr (inr (inr (inr (inl h))))))))) =
-    (LoadCap h.0 h.2.0 h.2.2.0 h.2.2.2.0, (h.1, h.2.1, h.2.2.1, h.2.2.2.1), h.2.2.2.2)
-a_step P (inr (inr (inr (inr (inr (inr (inr (inr (inr (inl h)))))))))) = (StoreCap h.0 h.2.0 h.2.2.0, (h.1, h.2.1, h.2.2.1), h.2.2.2)
+    (an_lc h.0 h.2.0 h.2.2.0 h.2.2.2.0, (h.1, h.2.1, h.2.2.1, h.2.2.2.1), h.2.2.2.2)
+a_step P (inr (inr (inr (inr (inr (inr (inr (inr (inr (inl h)))))))))) = (an_sc h.0 h.2.0 h.2.2.0, (h.1, h.2.1, h.2.2.1), h.2.2.2)
 a_step P (inr (inr (inr (inr (inr (inr (inr (inr (inr (inr (inl h))))))))))) =
-    (Load h.0 h.2.0 h.2.2.0 h.2.2.2.0, (h.1, h.2.1, h.2.2.1, h.2.2.2.1), h.2.2.2.2)
+    (a_load h.0 h.2.0 h.2.2.0 h.2.2.2.0, (h.1, h.2.1, h.2.2.1, h.2.2.2.1), h.2.2.2.2)
 a_step P (inr (inr (inr (inr (inr (inr (inr (inr (inr (inr (inr h))))))))))) =
-    (Store h.0 h.2.0 h.2.2.0 h.2.2.2.0, (h.1, h.2.1, h.2.2.1, h.2.2.2.1), h.2.2.2.2)
+    (a_store h.0 h.2.0 h.2.2.0 h.2.2.2.0, (h.1, h.2.1, h.2.2.1, h.2.2.2.1), h.2.2.2.2)
 
 by_step : (P : Step → Type 0) (step : Step) → IsStepInRange step → P step → AStep P
-by_step P (Move t s r) range p = inl (t, range.0, (s, range.1, (r, range.2, p)))
-by_step P (ClearTag t s r) range p = inr (inl (t, range.0, (s, range.1, (r, range.2, p))))
-by_step P (SetBounds t s n r) range p = inr (inr (inl (t, range.0, (s, range.1, (n, range.2, (r, range.3, p))))))
-by_step P (SetBoundsExact t s n r) range p = inr (inr (inr (inl (t, range.0, (s, range.1, (n, range.2, (r, range.3, p)))))))
-by_step P (SetAddr t s n r) range p = inr (inr (inr (inr (inl (t, range.0, (s, range.1, (n, range.2, (r, range.3, p))))))))
-by_step P (AndPerm t s n r) range p = inr (inr (inr (inr (inr (inl (t, range.0, (s, range.1, (n, range.2, (r, range.3, p)))))))))
-by_step P (Seal t s n r) range p = inr (inr (inr (inr (inr (inr (inl (t, range.0, (s, range.1, (n, range.2, (r, range.3, p))))))))))
-by_step P (Unseal t s n r) range p = inr (inr (inr (inr (inr (inr (inr (inl (t, range.0, (s, range.1, (n, range.2, (r, range.3, p)))))))))))
-by_step P (LoadCap t a o r) range p =
-    inr (inr (inr (inr (inr (inr (inr (inr (inl (t, range.0, (a, range.1, (o, range.2, (r, range.3, p))))))))))))
-by_step P (StoreCap s a o) range p = inr (inr (inr (inr (inr (inr (inr (inr (inr (inl (s, range.0, (a, range.1, (o, range.2, p))))))))))))
-by_step P (Load a o n v) range p =
-    inr (inr (inr (inr (inr (inr (inr (inr (inr (inr (inl (a, range.0, (o, range.1, (n, range.2, (v, range.3, p))))))))))))))
-by_step P (Store a o n v) range p =
-    inr (inr (inr (inr (inr (inr (inr (inr (inr (inr (inr (a, range.0, (o, range.1, (n, range.2, (v, range.3, p))))))))))))))
+by_step P (Move step) range p = inl (step.target, range.0, (step.source, range.1, (step.result, range.2, p)))
+by_step P (ClearTag step) range p = inr (inl (step.target, range.0, (step.source, range.1, (step.result, range.2, p))))
+by_step P (SetBounds step) range p = inr (inr (inl (step.target, range.0, (step.source, range.1, (step.length, range.2, (step.result, range.3, p))))))
+by_step P (SetBoundsExact step) range p = inr (inr (inr (inl (step.target, range.0, (step.source, range.1, (step.length, range.2, (step.result, range.3, p)))))))
+by_step P (SetAddr step) range p = inr (inr (inr (inr (inl (step.target, range.0, (step.source, range.1, (step.address, range.2, (step.result, range.3, p))))))))
+by_step P (AndPerm step) range p = inr (inr (inr (inr (inr (inl (step.target, range.0, (step.source, range.1, (step.mask, range.2, (step.result, range.3, p)))))))))
+by_step P (Seal step) range p = inr (inr (inr (inr (inr (inr (inl (step.target, range.0, (step.source, range.1, (step.authority, range.2, (step.result, range.3, p))))))))))
+by_step P (Unseal step) range p = inr (inr (inr (inr (inr (inr (inr (inl (step.target, range.0, (step.source, range.1, (step.authority, range.2, (step.result, range.3, p)))))))))))
+by_step P (LoadCap step) range p =
+    inr (inr (inr (inr (inr (inr (inr (inr (inl (step.target, range.0, (step.authority, range.1, (step.offset, range.2, (step.result, range.3, p))))))))))))
+by_step P (StoreCap step) range p = inr (inr (inr (inr (inr (inr (inr (inr (inr (inl (step.source, range.0, (step.authority, range.1, (step.offset, range.2, p))))))))))))
+by_step P (Load step) range p =
+    inr (inr (inr (inr (inr (inr (inr (inr (inr (inr (inl (step.authority, range.0, (step.offset, range.1, (step.size, range.2, (step.value, range.3, p))))))))))))))
+by_step P (Store step) range p =
+    inr (inr (inr (inr (inr (inr (inr (inr (inr (inr (inr (step.authority, range.0, (step.offset, range.1, (step.size, range.2, (step.value, range.3, p))))))))))))))
 
 steps : Searched Step IsStepInRange
 steps P d =
     alike (a_step P) (λ h. by_step P h.0 h.1 h.2)
-    (either (copied P Move d) (either (copied P ClearTag d) (either (numbered P SetBounds IsNumber (below (2 ^ 64)) d)
-    (either (numbered P SetBoundsExact IsNumber (below (2 ^ 64)) d) (either (numbered P SetAddr IsNumber (below (2 ^ 64)) d)
-    (either (numbered P AndPerm IsNumber (below (2 ^ 64)) d) (either (numbered P Seal IsRegister registers d)
-    (either (numbered P Unseal IsRegister registers d)
-    (either (targets _ (λ t. registers _ (λ a. offsets _ (λ o. caps _ (λ r. d (LoadCap t a o r))))))
-    (either (registers _ (λ s. registers _ (λ a. offsets _ (λ o. d (StoreCap s a o)))))
-    (either (accessed P Load d) (accessed P Store d))))))))))))
+    (either (copied P a_move d) (either (copied P a_cleartag d) (either (numbered P a_setbounds IsNumber (below (2 ^ 64)) d)
+    (either (numbered P a_setboundsexact IsNumber (below (2 ^ 64)) d) (either (numbered P a_setaddr IsNumber (below (2 ^ 64)) d)
+    (either (numbered P an_andperm IsNumber (below (2 ^ 64)) d) (either (numbered P a_seal IsRegister registers d)
+    (either (numbered P an_unseal IsRegister registers d)
+    (either (targets _ (λ t. registers _ (λ a. offsets _ (λ o. caps _ (λ r. d (an_lc t a o r))))))
+    (either (registers _ (λ s. registers _ (λ a. offsets _ (λ o. d (an_sc s a o)))))
+    (either (accessed P a_load d) (accessed P a_store d))))))))))))
 
 -- Lines
 

@@ -214,18 +214,18 @@ abbrev pub made : (h : Head) → Operands h → Line
 made head.Version version = line.Version version
 made head.Mode mode = line.Mode mode
 made head.Root x = line.Root x.0 x.1
-made head.Move x = line.Step (step.Move x.0.0 x.1.0.0 x.1.1.0)
-made head.ClearTag x = line.Step (step.ClearTag x.0.0 x.1.0.0 x.1.1.0)
-made head.Seal x = line.Step (step.Seal x.0.0 x.1.0.0 x.1.1.0.0 x.1.1.1.0)
-made head.Unseal x = line.Step (step.Unseal x.0.0 x.1.0.0 x.1.1.0.0 x.1.1.1.0)
-made head.SetBounds x = line.Step (step.SetBounds x.0.0 x.1.0.0 x.1.1.0.0 x.1.1.1.0)
-made head.SetBoundsExact x = line.Step (step.SetBoundsExact x.0.0 x.1.0.0 x.1.1.0.0 x.1.1.1.0)
-made head.SetAddr x = line.Step (step.SetAddr x.0.0 x.1.0.0 x.1.1.0.0 x.1.1.1.0)
-made head.AndPerm x = line.Step (step.AndPerm x.0.0 x.1.0.0 x.1.1.0.0 x.1.1.1.0)
-made head.LoadCap x = line.Step (step.LoadCap x.0.0 x.1.0.0 x.1.1.0.0 x.1.1.1.0)
-made head.StoreCap x = line.Step (step.StoreCap x.0.0 x.1.0.0 x.1.1.0)
-made head.Load x = line.Step (step.Load x.0.0 x.1.0.0 x.1.1.size x.1.1.value)
-made head.Store x = line.Step (step.Store x.0.0 x.1.0.0 x.1.1.size x.1.1.value)
+made head.Move x = line.Step (step.Move (record { target = x.0.0; source = x.1.0.0; result = x.1.1.0 }))
+made head.ClearTag x = line.Step (step.ClearTag (record { target = x.0.0; source = x.1.0.0; result = x.1.1.0 }))
+made head.Seal x = line.Step (step.Seal (record { target = x.0.0; source = x.1.0.0; authority = x.1.1.0.0; result = x.1.1.1.0 }))
+made head.Unseal x = line.Step (step.Unseal (record { target = x.0.0; source = x.1.0.0; authority = x.1.1.0.0; result = x.1.1.1.0 }))
+made head.SetBounds x = line.Step (step.SetBounds (record { target = x.0.0; source = x.1.0.0; length = x.1.1.0.0; result = x.1.1.1.0 }))
+made head.SetBoundsExact x = line.Step (step.SetBoundsExact (record { target = x.0.0; source = x.1.0.0; length = x.1.1.0.0; result = x.1.1.1.0 }))
+made head.SetAddr x = line.Step (step.SetAddr (record { target = x.0.0; source = x.1.0.0; address = x.1.1.0.0; result = x.1.1.1.0 }))
+made head.AndPerm x = line.Step (step.AndPerm (record { target = x.0.0; source = x.1.0.0; mask = x.1.1.0.0; result = x.1.1.1.0 }))
+made head.LoadCap x = line.Step (step.LoadCap (record { target = x.0.0; authority = x.1.0.0; offset = x.1.1.0.0; result = x.1.1.1.0 }))
+made head.StoreCap x = line.Step (step.StoreCap (record { source = x.0.0; authority = x.1.0.0; offset = x.1.1.0 }))
+made head.Load x = line.Step (step.Load (record { authority = x.0.0; offset = x.1.0.0; size = x.1.1.size; value = x.1.1.value }))
+made head.Store x = line.Step (step.Store (record { authority = x.0.0; offset = x.1.0.0; size = x.1.1.size; value = x.1.1.value }))
 made head.End x = line.End x.0
 
 -- the head and the operands of a line
@@ -233,114 +233,114 @@ abbrev pub head_of : Line → Head
 head_of (line.Version version) = head.Version
 head_of (line.Mode mode) = head.Mode
 head_of (line.Root place word) = head.Root
-head_of (line.Step (step.Move target source result)) = head.Move
-head_of (line.Step (step.ClearTag target source result)) = head.ClearTag
-head_of (line.Step (step.Seal target source authority result)) = head.Seal
-head_of (line.Step (step.Unseal target source authority result)) = head.Unseal
-head_of (line.Step (step.SetBounds target source n result)) = head.SetBounds
-head_of (line.Step (step.SetBoundsExact target source n result)) = head.SetBoundsExact
-head_of (line.Step (step.SetAddr target source n result)) = head.SetAddr
-head_of (line.Step (step.AndPerm target source n result)) = head.AndPerm
-head_of (line.Step (step.LoadCap target authority offset result)) = head.LoadCap
-head_of (line.Step (step.StoreCap source authority offset)) = head.StoreCap
-head_of (line.Step (step.Load authority offset size value)) = head.Load
-head_of (line.Step (step.Store authority offset size value)) = head.Store
+head_of (line.Step (step.Move s)) = head.Move
+head_of (line.Step (step.ClearTag s)) = head.ClearTag
+head_of (line.Step (step.Seal s)) = head.Seal
+head_of (line.Step (step.Unseal s)) = head.Unseal
+head_of (line.Step (step.SetBounds s)) = head.SetBounds
+head_of (line.Step (step.SetBoundsExact s)) = head.SetBoundsExact
+head_of (line.Step (step.SetAddr s)) = head.SetAddr
+head_of (line.Step (step.AndPerm s)) = head.AndPerm
+head_of (line.Step (step.LoadCap s)) = head.LoadCap
+head_of (line.Step (step.StoreCap s)) = head.StoreCap
+head_of (line.Step (step.Load s)) = head.Load
+head_of (line.Step (step.Store s)) = head.Store
 head_of (line.End steps) = head.End
 
 abbrev pub operands_of : (l : Line) → Operands (head_of l)
 operands_of (line.Version version) = version
 operands_of (line.Mode mode) = mode
 operands_of (line.Root place word) = (place, word)
-operands_of (line.Step (step.Move target source result)) = (record { 0 = target }, (record { 0 = source }, record { 0 = result }))
-operands_of (line.Step (step.ClearTag target source result)) = (record { 0 = target }, (record { 0 = source }, record { 0 = result }))
-operands_of (line.Step (step.Seal target source authority result)) =
-    (record { 0 = target }, (record { 0 = source }, (record { 0 = authority }, record { 0 = result })))
-operands_of (line.Step (step.Unseal target source authority result)) =
-    (record { 0 = target }, (record { 0 = source }, (record { 0 = authority }, record { 0 = result })))
-operands_of (line.Step (step.SetBounds target source n result)) =
-    (record { 0 = target }, (record { 0 = source }, (record { 0 = n }, record { 0 = result })))
-operands_of (line.Step (step.SetBoundsExact target source n result)) =
-    (record { 0 = target }, (record { 0 = source }, (record { 0 = n }, record { 0 = result })))
-operands_of (line.Step (step.SetAddr target source n result)) =
-    (record { 0 = target }, (record { 0 = source }, (record { 0 = n }, record { 0 = result })))
-operands_of (line.Step (step.AndPerm target source n result)) =
-    (record { 0 = target }, (record { 0 = source }, (record { 0 = n }, record { 0 = result })))
-operands_of (line.Step (step.LoadCap target authority offset result)) =
-    (record { 0 = target }, (record { 0 = authority }, (record { 0 = offset }, record { 0 = result })))
-operands_of (line.Step (step.StoreCap source authority offset)) = (record { 0 = source }, (record { 0 = authority }, record { 0 = offset }))
-operands_of (line.Step (step.Load authority offset size value)) =
-    (record { 0 = authority }, (record { 0 = offset }, record { size = size; value = value }))
-operands_of (line.Step (step.Store authority offset size value)) =
-    (record { 0 = authority }, (record { 0 = offset }, record { size = size; value = value }))
+operands_of (line.Step (step.Move s)) = (record { 0 = s.target }, (record { 0 = s.source }, record { 0 = s.result }))
+operands_of (line.Step (step.ClearTag s)) = (record { 0 = s.target }, (record { 0 = s.source }, record { 0 = s.result }))
+operands_of (line.Step (step.Seal s)) =
+    (record { 0 = s.target }, (record { 0 = s.source }, (record { 0 = s.authority }, record { 0 = s.result })))
+operands_of (line.Step (step.Unseal s)) =
+    (record { 0 = s.target }, (record { 0 = s.source }, (record { 0 = s.authority }, record { 0 = s.result })))
+operands_of (line.Step (step.SetBounds s)) =
+    (record { 0 = s.target }, (record { 0 = s.source }, (record { 0 = s.length }, record { 0 = s.result })))
+operands_of (line.Step (step.SetBoundsExact s)) =
+    (record { 0 = s.target }, (record { 0 = s.source }, (record { 0 = s.length }, record { 0 = s.result })))
+operands_of (line.Step (step.SetAddr s)) =
+    (record { 0 = s.target }, (record { 0 = s.source }, (record { 0 = s.address }, record { 0 = s.result })))
+operands_of (line.Step (step.AndPerm s)) =
+    (record { 0 = s.target }, (record { 0 = s.source }, (record { 0 = s.mask }, record { 0 = s.result })))
+operands_of (line.Step (step.LoadCap s)) =
+    (record { 0 = s.target }, (record { 0 = s.authority }, (record { 0 = s.offset }, record { 0 = s.result })))
+operands_of (line.Step (step.StoreCap s)) = (record { 0 = s.source }, (record { 0 = s.authority }, record { 0 = s.offset }))
+operands_of (line.Step (step.Load s)) =
+    (record { 0 = s.authority }, (record { 0 = s.offset }, record { size = s.size; value = s.value }))
+operands_of (line.Step (step.Store s)) =
+    (record { 0 = s.authority }, (record { 0 = s.offset }, record { size = s.size; value = s.value }))
 operands_of (line.End steps) = record { 0 = steps }
 
 pub made-of : (l : Line) → made (head_of l) (operands_of l) ≡ l
 made-of (line.Version version) = refl
 made-of (line.Mode mode) = refl
 made-of (line.Root place word) = refl
-made-of (line.Step (step.Move target source result)) = refl
-made-of (line.Step (step.ClearTag target source result)) = refl
-made-of (line.Step (step.Seal target source authority result)) = refl
-made-of (line.Step (step.Unseal target source authority result)) = refl
-made-of (line.Step (step.SetBounds target source n result)) = refl
-made-of (line.Step (step.SetBoundsExact target source n result)) = refl
-made-of (line.Step (step.SetAddr target source n result)) = refl
-made-of (line.Step (step.AndPerm target source n result)) = refl
-made-of (line.Step (step.LoadCap target authority offset result)) = refl
-made-of (line.Step (step.StoreCap source authority offset)) = refl
-made-of (line.Step (step.Load authority offset size value)) = refl
-made-of (line.Step (step.Store authority offset size value)) = refl
+made-of (line.Step (step.Move s)) = refl
+made-of (line.Step (step.ClearTag s)) = refl
+made-of (line.Step (step.Seal s)) = refl
+made-of (line.Step (step.Unseal s)) = refl
+made-of (line.Step (step.SetBounds s)) = refl
+made-of (line.Step (step.SetBoundsExact s)) = refl
+made-of (line.Step (step.SetAddr s)) = refl
+made-of (line.Step (step.AndPerm s)) = refl
+made-of (line.Step (step.LoadCap s)) = refl
+made-of (line.Step (step.StoreCap s)) = refl
+made-of (line.Step (step.Load s)) = refl
+made-of (line.Step (step.Store s)) = refl
 made-of (line.End steps) = refl
 
 pub fits-of : (l : Line) → IsInRange l → Fits (head_of l) (operands_of l)
 fits-of (line.Version version) fits = fits
 fits-of (line.Mode mode) fits = fits
 fits-of (line.Root place word) fits = (fits.0, place-spaceless place fits.0, fits.1)
-fits-of (line.Step (step.Move target source result)) fits =
-    (fits.0, register-spaceless target fits.0.1, (fits.1, register-spaceless source fits.1, fits.2))
-fits-of (line.Step (step.ClearTag target source result)) fits =
-    (fits.0, register-spaceless target fits.0.1, (fits.1, register-spaceless source fits.1, fits.2))
-fits-of (line.Step (step.Seal target source authority result)) fits = (
+fits-of (line.Step (step.Move s)) fits =
+    (fits.0, register-spaceless s.target fits.0.1, (fits.1, register-spaceless s.source fits.1, fits.2))
+fits-of (line.Step (step.ClearTag s)) fits =
+    (fits.0, register-spaceless s.target fits.0.1, (fits.1, register-spaceless s.source fits.1, fits.2))
+fits-of (line.Step (step.Seal s)) fits = (
   fits.0,
-  register-spaceless target fits.0.1,
+  register-spaceless s.target fits.0.1,
   (
     fits.1,
-    register-spaceless source fits.1,
-    (fits.2, register-spaceless authority fits.2, fits.3),
+    register-spaceless s.source fits.1,
+    (fits.2, register-spaceless s.authority fits.2, fits.3),
   ),
 )
-fits-of (line.Step (step.Unseal target source authority result)) fits = (
+fits-of (line.Step (step.Unseal s)) fits = (
   fits.0,
-  register-spaceless target fits.0.1,
+  register-spaceless s.target fits.0.1,
   (
     fits.1,
-    register-spaceless source fits.1,
-    (fits.2, register-spaceless authority fits.2, fits.3),
+    register-spaceless s.source fits.1,
+    (fits.2, register-spaceless s.authority fits.2, fits.3),
   ),
 )
-fits-of (line.Step (step.SetBounds target source n result)) fits =
-    (fits.0, register-spaceless target fits.0.1, (fits.1, register-spaceless source fits.1, (fits.2, number-spaceless n, fits.3)))
-fits-of (line.Step (step.SetBoundsExact target source n result)) fits =
-    (fits.0, register-spaceless target fits.0.1, (fits.1, register-spaceless source fits.1, (fits.2, number-spaceless n, fits.3)))
-fits-of (line.Step (step.SetAddr target source n result)) fits =
-    (fits.0, register-spaceless target fits.0.1, (fits.1, register-spaceless source fits.1, (fits.2, number-spaceless n, fits.3)))
-fits-of (line.Step (step.AndPerm target source n result)) fits =
-    (fits.0, register-spaceless target fits.0.1, (fits.1, register-spaceless source fits.1, (fits.2, number-spaceless n, fits.3)))
-fits-of (line.Step (step.LoadCap target authority offset result)) fits = (
+fits-of (line.Step (step.SetBounds s)) fits =
+    (fits.0, register-spaceless s.target fits.0.1, (fits.1, register-spaceless s.source fits.1, (fits.2, number-spaceless s.length, fits.3)))
+fits-of (line.Step (step.SetBoundsExact s)) fits =
+    (fits.0, register-spaceless s.target fits.0.1, (fits.1, register-spaceless s.source fits.1, (fits.2, number-spaceless s.length, fits.3)))
+fits-of (line.Step (step.SetAddr s)) fits =
+    (fits.0, register-spaceless s.target fits.0.1, (fits.1, register-spaceless s.source fits.1, (fits.2, number-spaceless s.address, fits.3)))
+fits-of (line.Step (step.AndPerm s)) fits =
+    (fits.0, register-spaceless s.target fits.0.1, (fits.1, register-spaceless s.source fits.1, (fits.2, number-spaceless s.mask, fits.3)))
+fits-of (line.Step (step.LoadCap s)) fits = (
   fits.0,
-  register-spaceless target fits.0.1,
+  register-spaceless s.target fits.0.1,
   (
     fits.1,
-    register-spaceless authority fits.1,
-    (fits.2, offset-spaceless offset fits.2, fits.3),
+    register-spaceless s.authority fits.1,
+    (fits.2, offset-spaceless s.offset fits.2, fits.3),
   ),
 )
-fits-of (line.Step (step.StoreCap source authority offset)) fits =
-    (fits.0, register-spaceless source fits.0, (fits.1, register-spaceless authority fits.1, fits.2))
-fits-of (line.Step (step.Load authority offset size value)) fits =
-    (fits.0, register-spaceless authority fits.0, (fits.1, offset-spaceless offset fits.1, (fits.2, fits.3)))
-fits-of (line.Step (step.Store authority offset size value)) fits =
-    (fits.0, register-spaceless authority fits.0, (fits.1, offset-spaceless offset fits.1, (fits.2, fits.3)))
+fits-of (line.Step (step.StoreCap s)) fits =
+    (fits.0, register-spaceless s.source fits.0, (fits.1, register-spaceless s.authority fits.1, fits.2))
+fits-of (line.Step (step.Load s)) fits =
+    (fits.0, register-spaceless s.authority fits.0, (fits.1, offset-spaceless s.offset fits.1, (fits.2, fits.3)))
+fits-of (line.Step (step.Store s)) fits =
+    (fits.0, register-spaceless s.authority fits.0, (fits.1, offset-spaceless s.offset fits.1, (fits.2, fits.3)))
 fits-of (line.End steps) fits = fits
 
 in_range-made : (h : Head) (x : Operands h) → Fits h x → IsInRange (made h x)

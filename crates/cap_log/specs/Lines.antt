@@ -1,5 +1,5 @@
 -- The grammar of a log's lines: what each line is spelled as, and which lines have a spelling. All of it is this profile's own.
-use Rattle.std.specs.Prelude.{◌≡◌, ℕ, ◌+◌, ◌-◌, ◌*◌, ◌^◌, ◌<◌, ◌≤◌, ℤ, pos, negsuc, ◌≤ℤ◌, Bool, true, false, if◌then◌else◌, ◌⊎◌}
+use Rattle.std.specs.Prelude.{◌≡◌, ℕ, ◌+◌, ◌-◌, ◌*◌, ◌^◌, ◌<◌, ◌≤◌, ℤ, pos, negsuc, ◌≤ℤ◌, Bool, if◌then◌else◌, ◌⊎◌}
 use Rattle.std.specs.Prelude.{List, [], ◌∷◌, ◌++◌, codes, decimal, length, take, drop}
 use Rattle.std.specs.Fmt.{signed_decimal}
 use Rattle.std.specs.List.{join_with_byte}
@@ -80,22 +80,22 @@ register_words name target source more result = name ∷ register_spelling targe
 
 -- the words of a step
 abbrev pub step_words : Step → List (List ℕ)
-step_words (Move target source result) = register_words (codes "move") target source [] result
-step_words (ClearTag target source result) = register_words (codes "cleartag") target source [] result
-step_words (SetBounds target source length result) = register_words (codes "setbounds") target source (hex_digits 16 length ∷ []) result
-step_words (SetBoundsExact target source length result) =
-    register_words (codes "setboundsexact") target source (hex_digits 16 length ∷ []) result
-step_words (SetAddr target source address result) = register_words (codes "setaddr") target source (hex_digits 16 address ∷ []) result
-step_words (AndPerm target source mask result) = register_words (codes "andperm") target source (hex_digits 16 mask ∷ []) result
-step_words (Seal target source authority result) = register_words (codes "seal") target source (register_spelling authority ∷ []) result
-step_words (Unseal target source authority result) = register_words (codes "unseal") target source (register_spelling authority ∷ []) result
-step_words (LoadCap target authority offset result) = register_words (codes "lc") target authority (signed_decimal offset ∷ []) result
-step_words (StoreCap source authority offset) =
-    codes "sc" ∷ register_spelling source ∷ register_spelling authority ∷ signed_decimal offset ∷ []
-step_words (Load authority offset size value) =
-    codes "load" ∷ register_spelling authority ∷ signed_decimal offset ∷ decimal size ∷ codes "=" ∷ hex_digits (2 * size) value ∷ []
-step_words (Store authority offset size value) =
-    codes "store" ∷ register_spelling authority ∷ signed_decimal offset ∷ decimal size ∷ hex_digits (2 * size) value ∷ []
+step_words (Move step) = register_words (codes "move") step.target step.source [] step.result
+step_words (ClearTag step) = register_words (codes "cleartag") step.target step.source [] step.result
+step_words (SetBounds step) = register_words (codes "setbounds") step.target step.source (hex_digits 16 step.length ∷ []) step.result
+step_words (SetBoundsExact step) =
+    register_words (codes "setboundsexact") step.target step.source (hex_digits 16 step.length ∷ []) step.result
+step_words (SetAddr step) = register_words (codes "setaddr") step.target step.source (hex_digits 16 step.address ∷ []) step.result
+step_words (AndPerm step) = register_words (codes "andperm") step.target step.source (hex_digits 16 step.mask ∷ []) step.result
+step_words (Seal step) = register_words (codes "seal") step.target step.source (register_spelling step.authority ∷ []) step.result
+step_words (Unseal step) = register_words (codes "unseal") step.target step.source (register_spelling step.authority ∷ []) step.result
+step_words (LoadCap step) = register_words (codes "lc") step.target step.authority (signed_decimal step.offset ∷ []) step.result
+step_words (StoreCap step) =
+    codes "sc" ∷ register_spelling step.source ∷ register_spelling step.authority ∷ signed_decimal step.offset ∷ []
+step_words (Load step) =
+    codes "load" ∷ register_spelling step.authority ∷ signed_decimal step.offset ∷ decimal step.size ∷ codes "=" ∷ hex_digits (2 * step.size) step.value ∷ []
+step_words (Store step) =
+    codes "store" ∷ register_spelling step.authority ∷ signed_decimal step.offset ∷ decimal step.size ∷ hex_digits (2 * step.size) step.value ∷ []
 
 -- the words of a line
 abbrev pub line_words : Line → List (List ℕ)
@@ -111,18 +111,18 @@ spelling line = join_with_byte 32 (line_words line)
 
 -- the numbers of a step are such as a step has: what is written is a register but c0, what is read any
 abbrev pub IsStepInRange : Step → Type 0
-IsStepInRange (Move target source result) = IsTarget target × (source ≤ 31) × (result.word.0 < 2 ^ 128)
-IsStepInRange (ClearTag target source result) = IsTarget target × (source ≤ 31) × (result.word.0 < 2 ^ 128)
-IsStepInRange (SetBounds target source length result) = IsTarget target × (source ≤ 31) × (length < 2 ^ 64) × (result.word.0 < 2 ^ 128)
-IsStepInRange (SetBoundsExact target source length result) = IsTarget target × (source ≤ 31) × (length < 2 ^ 64) × (result.word.0 < 2 ^ 128)
-IsStepInRange (SetAddr target source address result) = IsTarget target × (source ≤ 31) × (address < 2 ^ 64) × (result.word.0 < 2 ^ 128)
-IsStepInRange (AndPerm target source mask result) = IsTarget target × (source ≤ 31) × (mask < 2 ^ 64) × (result.word.0 < 2 ^ 128)
-IsStepInRange (Seal target source authority result) = IsTarget target × (source ≤ 31) × (authority ≤ 31) × (result.word.0 < 2 ^ 128)
-IsStepInRange (Unseal target source authority result) = IsTarget target × (source ≤ 31) × (authority ≤ 31) × (result.word.0 < 2 ^ 128)
-IsStepInRange (LoadCap target authority offset result) = IsTarget target × (authority ≤ 31) × IsOffset offset × (result.word.0 < 2 ^ 128)
-IsStepInRange (StoreCap source authority offset) = (source ≤ 31) × (authority ≤ 31) × IsOffset offset
-IsStepInRange (Load authority offset size value) = (authority ≤ 31) × IsOffset offset × IsDataSize size × (value < 256 ^ size)
-IsStepInRange (Store authority offset size value) = (authority ≤ 31) × IsOffset offset × IsDataSize size × (value < 256 ^ size)
+IsStepInRange (Move step) = IsTarget step.target × (step.source ≤ 31) × (step.result.word.0 < 2 ^ 128)
+IsStepInRange (ClearTag step) = IsTarget step.target × (step.source ≤ 31) × (step.result.word.0 < 2 ^ 128)
+IsStepInRange (SetBounds step) = IsTarget step.target × (step.source ≤ 31) × (step.length < 2 ^ 64) × (step.result.word.0 < 2 ^ 128)
+IsStepInRange (SetBoundsExact step) = IsTarget step.target × (step.source ≤ 31) × (step.length < 2 ^ 64) × (step.result.word.0 < 2 ^ 128)
+IsStepInRange (SetAddr step) = IsTarget step.target × (step.source ≤ 31) × (step.address < 2 ^ 64) × (step.result.word.0 < 2 ^ 128)
+IsStepInRange (AndPerm step) = IsTarget step.target × (step.source ≤ 31) × (step.mask < 2 ^ 64) × (step.result.word.0 < 2 ^ 128)
+IsStepInRange (Seal step) = IsTarget step.target × (step.source ≤ 31) × (step.authority ≤ 31) × (step.result.word.0 < 2 ^ 128)
+IsStepInRange (Unseal step) = IsTarget step.target × (step.source ≤ 31) × (step.authority ≤ 31) × (step.result.word.0 < 2 ^ 128)
+IsStepInRange (LoadCap step) = IsTarget step.target × (step.authority ≤ 31) × IsOffset step.offset × (step.result.word.0 < 2 ^ 128)
+IsStepInRange (StoreCap step) = (step.source ≤ 31) × (step.authority ≤ 31) × IsOffset step.offset
+IsStepInRange (Load step) = (step.authority ≤ 31) × IsOffset step.offset × IsDataSize step.size × (step.value < 256 ^ step.size)
+IsStepInRange (Store step) = (step.authority ≤ 31) × IsOffset step.offset × IsDataSize step.size × (step.value < 256 ^ step.size)
 
 -- the numbers of a line are such as a line has
 abbrev pub IsInRange : Line → Type 0

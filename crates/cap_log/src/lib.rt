@@ -6,7 +6,8 @@
 //! [`write_line`] writes a line's one spelling. [`front`] finds the line that some bytes begin with.
 //!
 //! A line can also be taken in two steps: its [`Head`], and by [`take_operands`] what stands behind that.
-//! Each kind of step has a type of its own, as [`Move`], by which its [`Operands`] are taken alone.
+//! Each kind of step has a type of its own, as [`Move`], which a [`Step`] carries, and by which its
+//! [`Operands`] are taken alone.
 //!
 //! The parts of a line are [`Part`]s: each takes itself from the front of some bytes, with the byte
 //! that ends it, and two with a space between them are one.

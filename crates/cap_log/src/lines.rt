@@ -1,6 +1,9 @@
 //! The lines of a log: the version, the roots, the steps and the end.
 
-use cap_word::{Cap, Word};
+use crate::operands::accesses::{Load, LoadCap, Store, StoreCap};
+use crate::operands::numbers::{AndPerm, SetAddr, SetBounds, SetBoundsExact};
+use crate::operands::registers::{ClearTag, Move, Seal, Unseal};
+use cap_word::Word;
 
 /// Where a machine keeps a capability.
 #[derive(Clone, Copy, Debug, PartialEq, Eq)]
@@ -12,93 +15,32 @@ pub enum Place {
 }
 
 /// One step of the machine, with its operands and the result that the log records.
-///
-/// A `target` is a register that is written, 1 to 31. A `source` and an `authority` are registers
-/// that are read, 0 to 31. An `offset` is in -2048 to 2047. A `size` is 1, 2, 4 or 8 bytes, and a
-/// `value` is the number of so many bytes. A `result` is what the target holds then.
 #[derive(Clone, Copy, Debug, PartialEq, Eq)]
 pub enum Step {
-    /// `move`: the target gets the source.
-    Move {
-        target: u8,
-        source: u8,
-        result: Cap,
-    },
-    /// `cleartag`: the target gets the source without its tag.
-    ClearTag {
-        target: u8,
-        source: u8,
-        result: Cap,
-    },
-    /// `setbounds`: the source's address and this length become bounds, rounded.
-    SetBounds {
-        target: u8,
-        source: u8,
-        length: u64,
-        result: Cap,
-    },
-    /// `setboundsexact`: the same, where nothing is rounded.
-    SetBoundsExact {
-        target: u8,
-        source: u8,
-        length: u64,
-        result: Cap,
-    },
-    /// `setaddr`: the source at another address.
-    SetAddr {
-        target: u8,
-        source: u8,
-        address: u64,
-        result: Cap,
-    },
-    /// `andperm`: the source with the permissions that the mask has too.
-    AndPerm {
-        target: u8,
-        source: u8,
-        mask: u64,
-        result: Cap,
-    },
-    /// `seal`: the source, sealed with the authority's address as its type.
-    Seal {
-        target: u8,
-        source: u8,
-        authority: u8,
-        result: Cap,
-    },
-    /// `unseal`: the source, unsealed by the authority.
-    Unseal {
-        target: u8,
-        source: u8,
-        authority: u8,
-        result: Cap,
-    },
-    /// `lc`: the target gets a granule of memory.
-    LoadCap {
-        target: u8,
-        authority: u8,
-        offset: i16,
-        result: Cap,
-    },
-    /// `sc`: a granule of memory gets the source.
-    StoreCap {
-        source: u8,
-        authority: u8,
-        offset: i16,
-    },
-    /// `load`: the value of some bytes of memory.
-    Load {
-        authority: u8,
-        offset: i16,
-        size: u8,
-        value: u64,
-    },
-    /// `store`: some bytes of memory get a value.
-    Store {
-        authority: u8,
-        offset: i16,
-        size: u8,
-        value: u64,
-    },
+    /// `move`.
+    Move(Move),
+    /// `cleartag`.
+    ClearTag(ClearTag),
+    /// `setbounds`.
+    SetBounds(SetBounds),
+    /// `setboundsexact`.
+    SetBoundsExact(SetBoundsExact),
+    /// `setaddr`.
+    SetAddr(SetAddr),
+    /// `andperm`.
+    AndPerm(AndPerm),
+    /// `seal`.
+    Seal(Seal),
+    /// `unseal`.
+    Unseal(Unseal),
+    /// `lc`.
+    LoadCap(LoadCap),
+    /// `sc`.
+    StoreCap(StoreCap),
+    /// `load`.
+    Load(Load),
+    /// `store`.
+    Store(Store),
 }
 
 /// What a machine does where a test of an operation on registers holds.

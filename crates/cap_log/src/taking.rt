@@ -112,9 +112,9 @@ impl Lines {
     {
         loop {
             let found = front(self.pulled.as_slice());
-            if found != Front::Cut {
+            let Front::Cut = found else {
                 return Ok(found);
-            }
+            };
             match self.pulled.fill(source) {
                 Ok(0) => return Ok(Front::Cut),
                 Ok(_) => {}

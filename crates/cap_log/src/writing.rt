@@ -10,9 +10,6 @@ use crate::buffers::put;
 use crate::heads::Head;
 use crate::lines::{Line, Mode, Place, Step};
 use crate::operands::Operands;
-use crate::operands::accesses::{Load, LoadCap, Store, StoreCap};
-use crate::operands::numbers::{AndPerm, SetAddr, SetBounds, SetBoundsExact};
-use crate::operands::registers::{ClearTag, Move, Seal, Unseal};
 use crate::parts::Part;
 use crate::parts::decimals::Count;
 
@@ -95,167 +92,17 @@ fn write_any(step: Step, buffer: &mut [u8]) -> usize
     ensures { Writes 0 (spelling (line.Step step)) buffer.old buffer.new result }
 {
     match step {
-        Step::Move {
-            target,
-            source,
-            result,
-        } => {
-            let step = Move {
-                target,
-                source,
-                result,
-            };
-            step.write(buffer)
-        }
-        Step::ClearTag {
-            target,
-            source,
-            result,
-        } => {
-            let step = ClearTag {
-                target,
-                source,
-                result,
-            };
-            step.write(buffer)
-        }
-        Step::SetBounds {
-            target,
-            source,
-            length,
-            result,
-        } => {
-            let step = SetBounds {
-                target,
-                source,
-                length,
-                result,
-            };
-            step.write(buffer)
-        }
-        Step::SetBoundsExact {
-            target,
-            source,
-            length,
-            result,
-        } => {
-            let step = SetBoundsExact {
-                target,
-                source,
-                length,
-                result,
-            };
-            step.write(buffer)
-        }
-        Step::SetAddr {
-            target,
-            source,
-            address,
-            result,
-        } => {
-            let step = SetAddr {
-                target,
-                source,
-                address,
-                result,
-            };
-            step.write(buffer)
-        }
-        Step::AndPerm {
-            target,
-            source,
-            mask,
-            result,
-        } => {
-            let step = AndPerm {
-                target,
-                source,
-                mask,
-                result,
-            };
-            step.write(buffer)
-        }
-        Step::Seal {
-            target,
-            source,
-            authority,
-            result,
-        } => {
-            let step = Seal {
-                target,
-                source,
-                authority,
-                result,
-            };
-            step.write(buffer)
-        }
-        Step::Unseal {
-            target,
-            source,
-            authority,
-            result,
-        } => {
-            let step = Unseal {
-                target,
-                source,
-                authority,
-                result,
-            };
-            step.write(buffer)
-        }
-        Step::LoadCap {
-            target,
-            authority,
-            offset,
-            result,
-        } => {
-            let step = LoadCap {
-                target,
-                authority,
-                offset,
-                result,
-            };
-            step.write(buffer)
-        }
-        Step::StoreCap {
-            source,
-            authority,
-            offset,
-        } => {
-            let step = StoreCap {
-                source,
-                authority,
-                offset,
-            };
-            step.write(buffer)
-        }
-        Step::Load {
-            authority,
-            offset,
-            size,
-            value,
-        } => {
-            let step = Load {
-                authority,
-                offset,
-                size,
-                value,
-            };
-            step.write(buffer)
-        }
-        Step::Store {
-            authority,
-            offset,
-            size,
-            value,
-        } => {
-            let step = Store {
-                authority,
-                offset,
-                size,
-                value,
-            };
-            step.write(buffer)
-        }
+        Step::Move(step) => step.write(buffer),
+        Step::ClearTag(step) => step.write(buffer),
+        Step::SetBounds(step) => step.write(buffer),
+        Step::SetBoundsExact(step) => step.write(buffer),
+        Step::SetAddr(step) => step.write(buffer),
+        Step::AndPerm(step) => step.write(buffer),
+        Step::Seal(step) => step.write(buffer),
+        Step::Unseal(step) => step.write(buffer),
+        Step::LoadCap(step) => step.write(buffer),
+        Step::StoreCap(step) => step.write(buffer),
+        Step::Load(step) => step.write(buffer),
+        Step::Store(step) => step.write(buffer),
     }
 }

@@ -49,11 +49,11 @@ granted_to state register kind offset bytes access free is =
 
 pub granted : (state : State) (step : Step) (access : Access) → first_of (row_of state step).tests ≡ None
     → (row_of state step).access ≡ Some access → IsGranted state access
-granted state (LoadCap target register offset result) access free is = granted_to state register kinds.LoadCap offset 16 access free is
-granted state (StoreCap source register offset) access free is =
-    granted_to state register (kinds.StoreCap (state source)) offset 16 access free is
-granted state (Load register offset bytes value) access free is = granted_to state register kinds.LoadData offset bytes access free is
-granted state (Store register offset bytes value) access free is = granted_to state register kinds.StoreData offset bytes access free is
+granted state (LoadCap step) access free is = granted_to state step.authority kinds.LoadCap step.offset 16 access free is
+granted state (StoreCap step) access free is =
+    granted_to state step.authority (kinds.StoreCap (state step.source)) step.offset 16 access free is
+granted state (Load step) access free is = granted_to state step.authority kinds.LoadData step.offset step.size access free is
+granted state (Store step) access free is = granted_to state step.authority kinds.StoreData step.offset step.size access free is
 granted state step access free is = absurd (none-some access is)
 
 -- the step at a moment of a run leads from the state there

@@ -140,18 +140,18 @@ access_own authority (StoreCapability stored) offset size = refl
 -- so it is in each row
 row_own : (state : State) (step : Step) → all_own (is_some (asked_by step)) (row_of state step).tests ≡ true
 unfolding set_bounds_tests set_addr_tests and_perm_tests seal_tests unseal_tests
-row_own state (Move target source recorded) = refl
-row_own state (ClearTag target source recorded) = refl
-row_own state (SetBounds target source length recorded) = own_where true (state source).tag _ refl
-row_own state (SetBoundsExact target source length recorded) = own_where true (state source).tag _ refl
-row_own state (SetAddr target source address recorded) = own_where false (state source).tag _ refl
-row_own state (AndPerm target source mask recorded) = own_where false (state source).tag _ refl
-row_own state (Seal target source authority recorded) = refl
-row_own state (Unseal target source authority recorded) = refl
-row_own state (LoadCap target authority offset recorded) = access_own (state authority) LoadCapability offset 16
-row_own state (StoreCap source authority offset) = access_own (state authority) (StoreCapability (state source)) offset 16
-row_own state (Load authority offset size value) = access_own (state authority) LoadData offset size
-row_own state (Store authority offset size value) = access_own (state authority) StoreData offset size
+row_own state (Move step) = refl
+row_own state (ClearTag step) = refl
+row_own state (SetBounds step) = own_where true (state step.source).tag _ refl
+row_own state (SetBoundsExact step) = own_where true (state step.source).tag _ refl
+row_own state (SetAddr step) = own_where false (state step.source).tag _ refl
+row_own state (AndPerm step) = own_where false (state step.source).tag _ refl
+row_own state (Seal step) = refl
+row_own state (Unseal step) = refl
+row_own state (LoadCap step) = access_own (state step.authority) LoadCapability step.offset 16
+row_own state (StoreCap step) = access_own (state step.authority) (StoreCapability (state step.source)) step.offset 16
+row_own state (Load step) = access_own (state step.authority) LoadData step.offset step.size
+row_own state (Store step) = access_own (state step.authority) StoreData step.offset step.size
 
 own_by : (rules : Rules) (row : Row) (asks : Bool) → all_own asks row.tests ≡ true → all_own asks (row_by rules row).tests ≡ true
 own_by One row asks own = own
@@ -181,24 +181,24 @@ never account step none = (
 -- which steps are refused for their bounds, by the account before them
 pub escapes_first : (account : Account) (step : Step) → IsStepInRange step → IsSoundState account.state
     → (first_of (step_tests account step) ≡ Some BoundsEscape) ↔ Escapes account.rules account.state step
-escapes_first account (SetBounds target source length recorded) range sound =
-    narrowed account (SetBounds target source length recorded) source length false
-    (ap (λ (row : Row). row.tests) (row_by-written account.rules _ (Register target) _ (Some (Register source)) (Written recorded) None))
+escapes_first account (SetBounds step) range sound =
+    narrowed account (SetBounds step) step.source step.length false
+    (ap (λ (row : Row). row.tests) (row_by-written account.rules _ (Register step.target) _ (Some (Register step.source)) (Written step.result) None))
     range.2 sound
-escapes_first account (SetBoundsExact target source length recorded) range sound =
-    narrowed account (SetBoundsExact target source length recorded) source length true
-    (ap (λ (row : Row). row.tests) (row_by-written account.rules _ (Register target) _ (Some (Register source)) (Written recorded) None))
+escapes_first account (SetBoundsExact step) range sound =
+    narrowed account (SetBoundsExact step) step.source step.length true
+    (ap (λ (row : Row). row.tests) (row_by-written account.rules _ (Register step.target) _ (Some (Register step.source)) (Written step.result) None))
     range.2 sound
-escapes_first account (Move target source recorded) range sound = never account (Move target source recorded) refl
-escapes_first account (ClearTag target source recorded) range sound = never account (ClearTag target source recorded) refl
-escapes_first account (SetAddr target source address recorded) range sound = never account (SetAddr target source address recorded) refl
-escapes_first account (AndPerm target source mask recorded) range sound = never account (AndPerm target source mask recorded) refl
-escapes_first account (Seal target source authority recorded) range sound = never account (Seal target source authority recorded) refl
-escapes_first account (Unseal target source authority recorded) range sound = never account (Unseal target source authority recorded) refl
-escapes_first account (LoadCap target authority offset recorded) range sound = never account (LoadCap target authority offset recorded) refl
-escapes_first account (StoreCap source authority offset) range sound = never account (StoreCap source authority offset) refl
-escapes_first account (Load authority offset size value) range sound = never account (Load authority offset size value) refl
-escapes_first account (Store authority offset size value) range sound = never account (Store authority offset size value) refl
+escapes_first account (Move step) range sound = never account (Move step) refl
+escapes_first account (ClearTag step) range sound = never account (ClearTag step) refl
+escapes_first account (SetAddr step) range sound = never account (SetAddr step) refl
+escapes_first account (AndPerm step) range sound = never account (AndPerm step) refl
+escapes_first account (Seal step) range sound = never account (Seal step) refl
+escapes_first account (Unseal step) range sound = never account (Unseal step) refl
+escapes_first account (LoadCap step) range sound = never account (LoadCap step) refl
+escapes_first account (StoreCap step) range sound = never account (StoreCap step) refl
+escapes_first account (Load step) range sound = never account (Load step) refl
+escapes_first account (Store step) range sound = never account (Store step) refl
 
 -- a step's answer for its bounds
 pub escape_exact : (old new : Held) (step : Step) (result : Result (Unit {0}) StepEnd) → IsStepInRange step → IsSoundState (state_of old)
@@ -214,12 +214,12 @@ put_there state key cap = ap (λ (b : Bool). if b then cap else state key) (eq-e
 -- the tag of new bounds in clear mode
 pub clears : (rules : Rules) (old : State) (step : Step) (new : State) → IsStepInRange step → IsSoundState old → Leads rules old step new
     → ClearsBeyond rules old step new
-clears rules old (SetBounds target source length recorded) new range sound leads = λ mode held unsealed.
-    let row = row_of old (SetBounds target source length recorded) in
-    let made = clear_result (set_bounds_tests (old source) length false) (set_bounds_result (old source) length) in
-    let after : new ≡ put old target made = leads.after ∙ ap (λ (r : Rules). state_with old (row_by r row).writes) mode in
-    let is : new target ≡ made = ap (λ (s : State). s target) after ∙ put_there old target made in
-    untagged_where_beyond (old source) length false (new target) range.2 is refl held unsealed (sound source held)
+clears rules old (SetBounds step) new range sound leads = λ mode held unsealed.
+    let row = row_of old (SetBounds step) in
+    let made = clear_result (set_bounds_tests (old step.source) step.length false) (set_bounds_result (old step.source) step.length) in
+    let after : new ≡ put old step.target made = leads.after ∙ ap (λ (r : Rules). state_with old (row_by r row).writes) mode in
+    let is : new step.target ≡ made = ap (λ (s : State). s step.target) after ∙ put_there old step.target made in
+    untagged_where_beyond (old step.source) step.length false (new step.target) range.2 is refl held unsealed (sound step.source held)
 clears rules old step new range sound leads = tt
 
 pub clears_exactly : (old new : Held) (step : Step) (result : Result (Unit {0}) StepEnd) → IsStepInRange step → IsSoundState (state_of old)

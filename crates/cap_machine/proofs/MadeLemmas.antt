@@ -20,6 +20,9 @@ use Rattle.cap_log.specs.declared.lines.Place.{Place}
 use Rattle.cap_log.specs.declared.lines.Place.TheVariants.{Register, Granule}
 use Rattle.cap_log.specs.declared.lines.Step.{Step}
 use Rattle.cap_log.specs.declared.lines.Step.TheVariants as steps
+use Rattle.cap_log.specs.declared.operands.accesses.Load.{Load}
+use Rattle.cap_log.specs.declared.operands.accesses.Store.{Store}
+use Rattle.cap_log.specs.declared.operands.accesses.StoreCap.{StoreCap}
 use Rattle.cap_log.specs.Lines.{IsStepInRange}
 use Rattle.cap_ops.specs.declared.faults.OpFault.{OpFault}
 use Rattle.cap_ops.specs.Tests.{first_of}
@@ -319,19 +322,19 @@ put_finished old new step granule entry value code (Err end) named writes same h
     put_ended old new step granule end named same free put_is
 
 -- a stored capability
-pub stored : (old new : Held) (source authority : ℕ) (offset : ℤ) (result : Result (Unit {0}) StepEnd)
-    → (state_of old source).word.0 < 2 ^ 128
-    → source ≤ 31 → IsCoded (state_of old source).tag (code_in old source)
-    → first_of (row_of (state_of old) (steps.StoreCap source authority offset)).tests ≡ None
-    → EndsPutIn old (address_through (state_of old) authority offset / 16)
-    (with_cap_put old (address_through (state_of old) authority offset / 16) (state_of old source) (get_or old.codes source 0)) result new
-    → EndsIn old (steps.StoreCap source authority offset) result new
-stored old new source authority offset result fits low coded free put_is =
-    let cap_is = state_of old source in
-    let code = get_or old.codes source 0 in
-    let same = code-register old source low in
-    let row = same_row old (steps.StoreCap source authority offset) _ refl in
-    put_finished old new (steps.StoreCap source authority offset) (address_through (state_of old) authority offset / 16)
+pub stored : (old new : Held) (store : StoreCap) (result : Result (Unit {0}) StepEnd)
+    → (state_of old store.source).word.0 < 2 ^ 128
+    → store.source ≤ 31 → IsCoded (state_of old store.source).tag (code_in old store.source)
+    → first_of (row_of (state_of old) (steps.StoreCap store)).tests ≡ None
+    → EndsPutIn old (address_through (state_of old) store.authority store.offset / 16)
+    (with_cap_put old (address_through (state_of old) store.authority store.offset / 16) (state_of old store.source) (get_or old.codes store.source 0)) result new
+    → EndsIn old (steps.StoreCap store) result new
+stored old new store result fits low coded free put_is =
+    let cap_is = state_of old store.source in
+    let code = get_or old.codes store.source 0 in
+    let same = code-register old store.source low in
+    let row = same_row old (steps.StoreCap store) _ refl in
+    put_finished old new (steps.StoreCap store) (address_through (state_of old) store.authority store.offset / 16)
     (cap_is.tag, memory_of cap_is.word.0, code) cap_is code result
     (ap named_by row) (ap (λ (r : Row). r.writes) row) (ap is_recorded row)
     (ap (λ (n : ℕ). let c : Cap = record { tag = cap_is.tag; word = record { 0 = n } } in c) (stored_word-memory_of cap_is.word.0 fits))
@@ -359,29 +362,29 @@ granule_bytes held granule stored_all =
     ∙ memory_of-stored_word bytes sixteen (λ i. byte_small bytes i (bytes_at_fit held.memory stored_all granule))
 
 -- a stored value
-pub stored_value : (old new : Held) (authority : ℕ) (offset : ℤ) (size value : ℕ) (result : Result (Unit {0}) StepEnd)
+pub stored_value : (old new : Held) (store : Store) (result : Result (Unit {0}) StepEnd)
     → AreStored old.memory
-    → first_of (row_of (state_of old) (steps.Store authority offset size value)).tests ≡ None
-    → EndsPutIn old (address_through (state_of old) authority offset / 16)
-    (with_value_put old (address_through (state_of old) authority offset / 16)
-    (address_through (state_of old) authority offset % 16) size value) result new
-    → EndsIn old (steps.Store authority offset size value) result new
-stored_value old new authority offset size value result stored_all free put_is =
-    let a = address_through (state_of old) authority offset in
+    → first_of (row_of (state_of old) (steps.Store store)).tests ≡ None
+    → EndsPutIn old (address_through (state_of old) store.authority store.offset / 16)
+    (with_value_put old (address_through (state_of old) store.authority store.offset / 16)
+    (address_through (state_of old) store.authority store.offset % 16) store.size store.value) result new
+    → EndsIn old (steps.Store store) result new
+stored_value old new store result stored_all free put_is =
+    let a = address_through (state_of old) store.authority store.offset in
     let g = a / 16 in
     let cap_is = state_of old (granule_key g) in
-    let row = same_row old (steps.Store authority offset size value) _ refl in
-    put_finished old new (steps.Store authority offset size value) g (
+    let row = same_row old (steps.Store store) _ refl in
+    put_finished old new (steps.Store store) g (
       false,
-      overwritten (bytes_at old.memory g) (a % 16) (low_bytes size value),
+      overwritten (bytes_at old.memory g) (a % 16) (low_bytes store.size store.value),
       0,
-    ) (with_value cap_is (a % 16) size value) 0 result
+    ) (with_value cap_is (a % 16) store.size store.value) 0 result
     (ap named_by row) (ap (λ (r : Row). r.writes) row) (ap is_recorded row)
     (ap (λ (bytes : List ℕ). let c : Cap = record {
       tag = false;
       word = record {
         0 = stored_word
-            (overwritten bytes (a % 16) (low_bytes size value));
+            (overwritten bytes (a % 16) (low_bytes store.size store.value));
       };
     } in c) (sym (granule_bytes old g stored_all)))
     refl (λ held. absurd (false≢true held))
@@ -394,14 +397,14 @@ value_in held address size stored_all =
     ap (λ (bytes : List ℕ). number_of (take size (drop (address % 16) bytes))) (granule_bytes held (address / 16) stored_all)
 
 -- a load is made
-pub loaded_value : (old : Held) (authority : ℕ) (offset : ℤ) (size value : ℕ)
-    → first_of (row_of (state_of old) (steps.Load authority offset size value)).tests ≡ None
-    → value ≡ value_at (state_of old) (address_through (state_of old) authority offset) size → old.steps < most_steps
-    → Makes old (steps.Load authority offset size value) (record old { steps = old.steps + 1 })
-loaded_value old authority offset size value free same few =
-    let step = steps.Load authority offset size value in
+pub loaded_value : (old : Held) (load : Load)
+    → first_of (row_of (state_of old) (steps.Load load)).tests ≡ None
+    → load.value ≡ value_at (state_of old) (address_through (state_of old) load.authority load.offset) load.size → old.steps < most_steps
+    → Makes old (steps.Load load) (record old { steps = old.steps + 1 })
+loaded_value old load free same few =
+    let step = steps.Load load in
     let row = same_row old step _ refl in
-    let recorded = ap is_recorded row ∙ eq-eqb value _ same in
+    let recorded = ap is_recorded row ∙ eq-eqb load.value _ same in
     let allowed = ap (λ (r : Row). first_of r.tests) row ∙ free in
     let after = sym (ap (λ (r : Row). state_with (state_of old) r.writes) row) in
     record {
@@ -417,13 +420,13 @@ loaded_value old authority offset size value free same few =
     }
 
 -- a load is refused
-pub load_refused : (old : Held) (authority : ℕ) (offset : ℤ) (size value : ℕ) (recorded : Bool) (refusal : Refusal)
-    → first_of (row_of (state_of old) (steps.Load authority offset size value)).tests ≡ None
-    → is_recorded (row_of (state_of old) (steps.Load authority offset size value)) ≡ recorded
+pub load_refused : (old : Held) (load : Load) (recorded : Bool) (refusal : Refusal)
+    → first_of (row_of (state_of old) (steps.Load load)).tests ≡ None
+    → is_recorded (row_of (state_of old) (steps.Load load)) ≡ recorded
     → first_of (last_tests old recorded) ≡ Some refusal
-    → EndsStep old (steps.Load authority offset size value) (Refused refusal) old
-load_refused old authority offset size value recorded refusal free same found =
-    let step = steps.Load authority offset size value in
+    → EndsStep old (steps.Load load) (Refused refusal) old
+load_refused old load recorded refusal free same found =
+    let step = steps.Load load in
     let row = same_row old step _ refl in (
       step_tests-free old step (ap (λ (r : Row). first_of r.tests) row ∙ free)
           ∙ tail_unnamed old step recorded (ap named_by row) (ap is_recorded row ∙ same) ∙ found,

@@ -38,21 +38,21 @@ WritesWithin state (Some from) (Some write) = StaysWithin write.1 (state (key_of
 
 pub writes_within : (state : State) (step : Step) → IsStepInRange step → first_of (row_of state step).tests ≡ None
     → WritesWithin state (row_of state step).parent (row_of state step).writes
-writes_within state (Move target source result) range free = StaysWithin-refl (state source)
-writes_within state (ClearTag target source result) range free = StaysWithin-cleared (state source)
-writes_within state (SetBounds target source requested result) range free =
-    StaysWithin-set_bounds (state source) requested false range.2 free
-writes_within state (SetBoundsExact target source requested result) range free =
-    StaysWithin-set_bounds (state source) requested true range.2 free
-writes_within state (SetAddr target source address result) range free = StaysWithin-set_addr (state source) address range.2 free
-writes_within state (AndPerm target source mask result) range free = StaysWithin-and_perm (state source) mask
-writes_within state (Seal target source authority result) range free = StaysWithin-seal (state source) (state authority)
-writes_within state (Unseal target source authority result) range free = StaysWithin-unseal (state source) (state authority)
-writes_within state (LoadCap target authority offset result) range free =
-    StaysWithin-loaded (state authority) (state (granule_key (granule_through state authority offset)))
-writes_within state (StoreCap source authority offset) range free = StaysWithin-refl (state source)
-writes_within state (Load authority offset size value) range free = tt
-writes_within state (Store authority offset size value) range free = λ held. false≢true held
+writes_within state (Move step) range free = StaysWithin-refl (state step.source)
+writes_within state (ClearTag step) range free = StaysWithin-cleared (state step.source)
+writes_within state (SetBounds step) range free =
+    StaysWithin-set_bounds (state step.source) step.length false range.2 free
+writes_within state (SetBoundsExact step) range free =
+    StaysWithin-set_bounds (state step.source) step.length true range.2 free
+writes_within state (SetAddr step) range free = StaysWithin-set_addr (state step.source) step.address range.2 free
+writes_within state (AndPerm step) range free = StaysWithin-and_perm (state step.source) step.mask
+writes_within state (Seal step) range free = StaysWithin-seal (state step.source) (state step.authority)
+writes_within state (Unseal step) range free = StaysWithin-unseal (state step.source) (state step.authority)
+writes_within state (LoadCap step) range free =
+    StaysWithin-loaded (state step.authority) (state (granule_key (granule_through state step.authority step.offset)))
+writes_within state (StoreCap step) range free = StaysWithin-refl (state step.source)
+writes_within state (Load step) range free = tt
+writes_within state (Store step) range free = λ held. false≢true held
 
 -- what is written in clear mode
 abbrev clear_write : List (Bool × Refusal) → Option (Place × Cap) → Option (Place × Cap)

@@ -13,8 +13,8 @@ use Rattle.cap_machine.specs.Runs.{state_at}
 
 -- the register that a step takes new bounds from, and the length that it asks for
 abbrev pub asked_by : Step → Option (ℕ × ℕ)
-asked_by (SetBounds target source length result) = Some (source, length)
-asked_by (SetBoundsExact target source length result) = Some (source, length)
+asked_by (SetBounds step) = Some (step.source, step.length)
+asked_by (SetBoundsExact step) = Some (step.source, step.length)
 asked_by step = None
 
 -- the length from a capability's address on lies inside its bounds
@@ -33,9 +33,9 @@ Escapes rules state step = (rules ≢ TwoClear) × AsksBeyond state (asked_by st
 
 -- in clear mode, new bounds of a tagged, unsealed source that may be rounded lose its tag exactly where they do not lie inside the source's
 abbrev pub ClearsBeyond : Rules → State → Step → State → Type 0
-ClearsBeyond rules old (SetBounds target source length recorded) new =
-    rules ≡ TwoClear → IsTrue (old source).tag → IsFalse (is_sealed (old source).word.0)
-    → IsFalse (new target).tag ↔ (HasRoomFor (old source) length → ⊥)
+ClearsBeyond rules old (SetBounds step) new =
+    rules ≡ TwoClear → IsTrue (old step.source).tag → IsFalse (is_sealed (old step.source).word.0)
+    → IsFalse (new step.target).tag ↔ (HasRoomFor (old step.source) step.length → ⊥)
 ClearsBeyond rules old step new = Unit {0}
 
 -- the same of each step of a run, from the state at its moment to the next

@@ -76,36 +76,36 @@ with_value cap byte_index size value =
 
 -- the machine's table: the row of each step in a state. The result is the machine's own, whatever the line records
 abbrev pub row_of : State → Step → Row
-row_of state (Move target source recorded) = operation target source recorded [] (state source)
-row_of state (ClearTag target source recorded) = operation target source recorded [] (cleared (state source))
-row_of state (SetBounds target source length recorded) =
-    operation target source recorded (set_bounds_tests (state source) length false) (set_bounds_result (state source) length)
-row_of state (SetBoundsExact target source length recorded) =
-    operation target source recorded (set_bounds_tests (state source) length true) (set_bounds_result (state source) length)
-row_of state (SetAddr target source address recorded) =
-    operation target source recorded (set_addr_tests (state source) address) (set_addr_result (state source) address)
-row_of state (AndPerm target source mask recorded) =
-    operation target source recorded (and_perm_tests (state source)) (and_perm_result (state source) mask)
-row_of state (Seal target source authority recorded) =
-    operation target source recorded (seal_tests (state source) (state authority)) (seal_result (state source) (state authority))
-row_of state (Unseal target source authority recorded) =
-    operation target source recorded (unseal_tests (state source) (state authority)) (unseal_result (state source) (state authority))
-row_of state (LoadCap target authority offset recorded) =
-    let granule = address_through state authority offset / 16 in record (access_through state authority kinds.LoadCap offset 16) {
-      writes = Some (Register target, loaded_result (state authority) (state (key_of (Granule granule))));
+row_of state (Move step) = operation step.target step.source step.result [] (state step.source)
+row_of state (ClearTag step) = operation step.target step.source step.result [] (cleared (state step.source))
+row_of state (SetBounds step) =
+    operation step.target step.source step.result (set_bounds_tests (state step.source) step.length false) (set_bounds_result (state step.source) step.length)
+row_of state (SetBoundsExact step) =
+    operation step.target step.source step.result (set_bounds_tests (state step.source) step.length true) (set_bounds_result (state step.source) step.length)
+row_of state (SetAddr step) =
+    operation step.target step.source step.result (set_addr_tests (state step.source) step.address) (set_addr_result (state step.source) step.address)
+row_of state (AndPerm step) =
+    operation step.target step.source step.result (and_perm_tests (state step.source)) (and_perm_result (state step.source) step.mask)
+row_of state (Seal step) =
+    operation step.target step.source step.result (seal_tests (state step.source) (state step.authority)) (seal_result (state step.source) (state step.authority))
+row_of state (Unseal step) =
+    operation step.target step.source step.result (unseal_tests (state step.source) (state step.authority)) (unseal_result (state step.source) (state step.authority))
+row_of state (LoadCap step) =
+    let granule = address_through state step.authority step.offset / 16 in record (access_through state step.authority kinds.LoadCap step.offset 16) {
+      writes = Some (Register step.target, loaded_result (state step.authority) (state (key_of (Granule granule))));
       parent = Some (Granule granule);
-      records = Written recorded;
+      records = Written step.result;
     }
-row_of state (StoreCap source authority offset) = record (access_through state authority (kinds.StoreCap (state source)) offset 16) {
-  writes = Some (Granule (address_through state authority offset / 16), state source);
-  parent = Some (Register source);
+row_of state (StoreCap step) = record (access_through state step.authority (kinds.StoreCap (state step.source)) step.offset 16) {
+  writes = Some (Granule (address_through state step.authority step.offset / 16), state step.source);
+  parent = Some (Register step.source);
 }
-row_of state (Load authority offset size value) = record (access_through state authority kinds.LoadData offset size) {
-  records = Read value (value_at state (address_through state authority offset) size);
+row_of state (Load step) = record (access_through state step.authority kinds.LoadData step.offset step.size) {
+  records = Read step.value (value_at state (address_through state step.authority step.offset) step.size);
 }
-row_of state (Store authority offset size value) =
-    let granule = address_through state authority offset / 16 in record (access_through state authority kinds.StoreData offset size) {
-      writes = Some (Granule granule, with_value (state (key_of (Granule granule))) (address_through state authority offset % 16) size value);
+row_of state (Store step) =
+    let granule = address_through state step.authority step.offset / 16 in record (access_through state step.authority kinds.StoreData step.offset step.size) {
+      writes = Some (Granule granule, with_value (state (key_of (Granule granule))) (address_through state step.authority step.offset % 16) step.size step.value);
     }
 
 -- the granule that an access through a register reaches

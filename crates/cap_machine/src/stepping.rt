@@ -10,10 +10,7 @@ ghost use Rattle.cap_machine.specs.Parents.{StaysWithinParents};
 use crate::ends::StepEnd;
 use crate::instructions::Instruction;
 use crate::machine::{MOST_STEPS, Machine};
-use cap_log::{
-    AndPerm, ClearTag, Load, LoadCap, Move, Operands, Seal, SetAddr, SetBounds, SetBoundsExact,
-    Step, Store, StoreCap, Unseal,
-};
+use cap_log::{Operands, Step};
 use cap_ops::{OpFault, Refusal};
 use cap_word::Cap;
 use tagmem::TaggedStore;
@@ -56,144 +53,18 @@ impl<M: TaggedStore> Machine<M> {
         ensures { AnswersStep (held_of M.contents self.old) step.now result (held_of M.contents self.new) }
     {
         match *step {
-            Step::Move {
-                target,
-                source,
-                result,
-            } => Move {
-                target,
-                source,
-                result,
-            }
-            .perform(self),
-            Step::ClearTag {
-                target,
-                source,
-                result,
-            } => ClearTag {
-                target,
-                source,
-                result,
-            }
-            .perform(self),
-            Step::SetBounds {
-                target,
-                source,
-                length,
-                result,
-            } => SetBounds {
-                target,
-                source,
-                length,
-                result,
-            }
-            .perform(self),
-            Step::SetBoundsExact {
-                target,
-                source,
-                length,
-                result,
-            } => SetBoundsExact {
-                target,
-                source,
-                length,
-                result,
-            }
-            .perform(self),
-            Step::SetAddr {
-                target,
-                source,
-                address,
-                result,
-            } => SetAddr {
-                target,
-                source,
-                address,
-                result,
-            }
-            .perform(self),
-            Step::AndPerm {
-                target,
-                source,
-                mask,
-                result,
-            } => AndPerm {
-                target,
-                source,
-                mask,
-                result,
-            }
-            .perform(self),
-            Step::Seal {
-                target,
-                source,
-                authority,
-                result,
-            } => Seal {
-                target,
-                source,
-                authority,
-                result,
-            }
-            .perform(self),
-            Step::Unseal {
-                target,
-                source,
-                authority,
-                result,
-            } => Unseal {
-                target,
-                source,
-                authority,
-                result,
-            }
-            .perform(self),
-            Step::LoadCap {
-                target,
-                authority,
-                offset,
-                result,
-            } => LoadCap {
-                target,
-                authority,
-                offset,
-                result,
-            }
-            .perform(self),
-            Step::StoreCap {
-                source,
-                authority,
-                offset,
-            } => StoreCap {
-                source,
-                authority,
-                offset,
-            }
-            .perform(self),
-            Step::Load {
-                authority,
-                offset,
-                size,
-                value,
-            } => Load {
-                authority,
-                offset,
-                size,
-                value,
-            }
-            .perform(self),
-            Step::Store {
-                authority,
-                offset,
-                size,
-                value,
-            } => Store {
-                authority,
-                offset,
-                size,
-                value,
-            }
-            .perform(self),
+            Step::Move(step) => step.perform(self),
+            Step::ClearTag(step) => step.perform(self),
+            Step::SetBounds(step) => step.perform(self),
+            Step::SetBoundsExact(step) => step.perform(self),
+            Step::SetAddr(step) => step.perform(self),
+            Step::AndPerm(step) => step.perform(self),
+            Step::Seal(step) => step.perform(self),
+            Step::Unseal(step) => step.perform(self),
+            Step::LoadCap(step) => step.perform(self),
+            Step::StoreCap(step) => step.perform(self),
+            Step::Load(step) => step.perform(self),
+            Step::Store(step) => step.perform(self),
         }
     }
 

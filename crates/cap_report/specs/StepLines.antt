@@ -54,16 +54,16 @@ range_part w =
 
 -- the bounds at the address that a step asks for, and the range of the addresses that keep the source's
 abbrev pub moved_parts : State → Step → List Part
-moved_parts state (SetAddr target source address recorded) =
-    let held = (state source).word.0 in
-    let moved = with_address held address in
+moved_parts state (SetAddr step) =
+    let held = (state step.source).word.0 in
+    let moved = with_address held step.address in
     parts.Moved (base_of moved) (top_of moved) ∷ range_part held ∷ []
 moved_parts state step = []
 
 -- the register that is a step's authority over object types, and the permission that it needs
 abbrev pub type_authority_of : Step → Option (ℕ × ℕ)
-type_authority_of (Seal target source authority recorded) = Some (authority, permit_seal)
-type_authority_of (Unseal target source authority recorded) = Some (authority, permit_unseal)
+type_authority_of (Seal step) = Some (step.authority, permit_seal)
+type_authority_of (Unseal step) = Some (step.authority, permit_unseal)
 type_authority_of step = None
 
 -- an authority over object types
@@ -82,7 +82,7 @@ needs_to_store stored =
 
 -- the permissions that an access needs, in the view: that of its kind, and to store a capability those for what is stored
 abbrev pub needed_by : State → Step → Access → ℕ
-needed_by state (StoreCap source authority offset) access = needs_to_store (state source)
+needed_by state (StoreCap step) access = needs_to_store (state step.source)
 needed_by state step access = 2 ^ access.permission
 
 -- an access to memory and its authority

@@ -4,7 +4,7 @@
 ghost use Rattle.std.specs.Prelude.{◌≡◌, ℕ, take, drop, ◌+◌, ◌*◌, ◌<◌, ◌≤◌, ◌++◌, ◌∷◌, [], Some, None, length};
 ghost use Rattle.cap_bounds.specs.Bounds.{base_of, top_of};
 ghost use Rattle.cap_bounds.specs.Range.{with_address};
-ghost use Rattle.cap_log.specs.Lines.{IsDataSize, IsDataValue, IsOffset, IsStepInRange};
+ghost use Rattle.cap_log.specs.Lines.{IsOffset, IsStepInRange};
 ghost use Rattle.cap_log.specs.declared.lines.Place.TheVariants as places;
 ghost use Rattle.cap_log.specs.declared.lines.Step.TheVariants as steps;
 ghost use Rattle.cap_machine.specs.Helds.{account_of, held_of, state_of};
@@ -19,7 +19,7 @@ use crate::operands::{authority_in, granule_in, source_in};
 use crate::parts::{Part, put_parts};
 use cap_bounds::{Interval, bounds, reach, round};
 use cap_judge::{Given, given_by, reached};
-use cap_log::{Place, Step};
+use cap_log::{Load, Place, Step};
 use cap_machine::{Machine, Refusal};
 use cap_ops::{Access, Kind, may_access, perm_view};
 use cap_texts::text_lines::put_hex_line;
@@ -88,34 +88,20 @@ fn put_operands<M: TaggedStore>(
     ensures { IsWritten 768 at (lines_of_parts (operand_parts (account_of (held_of M.contents machine.now)) step.now)) buffer.old buffer.new result }
 {
     match *step {
-        Step::Move { source, .. } => put_parts(buffer, at, &[source_in(machine, source)]),
-        Step::ClearTag { source, .. } => put_parts(buffer, at, &[source_in(machine, source)]),
-        Step::AndPerm { source, .. } => put_parts(buffer, at, &[source_in(machine, source)]),
-        Step::StoreCap { source, .. } => put_parts(buffer, at, &[source_in(machine, source)]),
-        Step::LoadCap {
-            authority,
-            offset,
-            ..
-        } => put_parts(buffer, at, &[granule_in(machine, authority, offset)]),
-        Step::SetBounds { source, length, .. } => put_request(machine, source, length, buffer, at),
-        Step::SetBoundsExact { source, length, .. } => put_request(
-            machine, source, length, buffer, at,
+        Step::Move(step) => put_parts(buffer, at, &[source_in(machine, step.source)]),
+        Step::ClearTag(step) => put_parts(buffer, at, &[source_in(machine, step.source)]),
+        Step::AndPerm(step) => put_parts(buffer, at, &[source_in(machine, step.source)]),
+        Step::StoreCap(step) => put_parts(buffer, at, &[source_in(machine, step.source)]),
+        Step::LoadCap(step) => put_parts(
+            buffer,
+            at,
+            &[granule_in(machine, step.authority, step.offset)],
         ),
-        Step::SetAddr {
-            source,
-            address,
-            ..
-        } => put_moved(machine, source, address, buffer, at),
-        Step::Seal {
-            source,
-            authority,
-            ..
-        } => put_typing(machine, source, authority, SEAL, buffer, at),
-        Step::Unseal {
-            source,
-            authority,
-            ..
-        } => put_typing(machine, source, authority, UNSEAL, buffer, at),
+        Step::SetBounds(step) => put_request(machine, step.source, step.length, buffer, at),
+        Step::SetBoundsExact(step) => put_request(machine, step.source, step.length, buffer, at),
+        Step::SetAddr(step) => put_moved(machine, step.source, step.address, buffer, at),
+        Step::Seal(step) => put_typing(machine, step.source, step.authority, SEAL, buffer, at),
+        Step::Unseal(step) => put_typing(machine, step.source, step.authority, UNSEAL, buffer, at),
         _ => at,
     }
 }
@@ -132,31 +118,37 @@ fn put_access<M: TaggedStore>(
     ensures { IsWritten 768 at (lines_of_parts (reached_parts (account_of (held_of M.contents machine.now)) step.now)) buffer.old buffer.new result }
 {
     match *step {
-        Step::LoadCap {
-            authority,
-            offset,
-            ..
-        } => put_reached(machine, authority, offset, 16, LOAD, buffer, at),
-        Step::StoreCap {
-            source,
-            authority,
-            offset,
-        } => {
-            let needs = needs_to_store(machine.register(source));
-            put_reached(machine, authority, offset, 16, needs, buffer, at)
+        Step::LoadCap(step) => put_reached(
+            machine,
+            step.authority,
+            step.offset,
+            16,
+            LOAD,
+            buffer,
+            at,
+        ),
+        Step::StoreCap(step) => {
+            let needs = needs_to_store(machine.register(step.source));
+            put_reached(machine, step.authority, step.offset, 16, needs, buffer, at)
         }
-        Step::Load {
-            authority,
-            offset,
-            size,
-            ..
-        } => put_reached(machine, authority, offset, size, LOAD, buffer, at),
-        Step::Store {
-            authority,
-            offset,
-            size,
-            ..
-        } => put_reached(machine, authority, offset, size, STORE, buffer, at),
+        Step::Load(step) => put_reached(
+            machine,
+            step.authority,
+            step.offset,
+            step.size,
+            LOAD,
+            buffer,
+            at,
+        ),
+        Step::Store(step) => put_reached(
+            machine,
+            step.authority,
+            step.offset,
+            step.size,
+            STORE,
+            buffer,
+            at,
+        ),
         _ => at,
     }
 }
@@ -326,25 +318,18 @@ fn put_result<M: TaggedStore>(
 {
     let given = given_by(machine, step);
     match *step {
-        Step::Move { target, result, .. } => put_compared(buffer, at, target, given, result),
-        Step::ClearTag { target, result, .. } => put_compared(buffer, at, target, given, result),
-        Step::SetBounds { target, result, .. } => put_compared(buffer, at, target, given, result),
-        Step::SetBoundsExact { target, result, .. } => put_compared(
-            buffer, at, target, given, result,
-        ),
-        Step::SetAddr { target, result, .. } => put_compared(buffer, at, target, given, result),
-        Step::AndPerm { target, result, .. } => put_compared(buffer, at, target, given, result),
-        Step::Seal { target, result, .. } => put_compared(buffer, at, target, given, result),
-        Step::Unseal { target, result, .. } => put_compared(buffer, at, target, given, result),
-        Step::LoadCap { target, result, .. } => put_compared(buffer, at, target, given, result),
-        Step::Load {
-            authority,
-            offset,
-            size,
-            value,
-        } => put_values(machine, authority, offset, size, value, buffer, at),
-        Step::StoreCap { .. } => at,
-        Step::Store { .. } => at,
+        Step::Move(step) => put_compared(buffer, at, step.target, given, step.result),
+        Step::ClearTag(step) => put_compared(buffer, at, step.target, given, step.result),
+        Step::SetBounds(step) => put_compared(buffer, at, step.target, given, step.result),
+        Step::SetBoundsExact(step) => put_compared(buffer, at, step.target, given, step.result),
+        Step::SetAddr(step) => put_compared(buffer, at, step.target, given, step.result),
+        Step::AndPerm(step) => put_compared(buffer, at, step.target, given, step.result),
+        Step::Seal(step) => put_compared(buffer, at, step.target, given, step.result),
+        Step::Unseal(step) => put_compared(buffer, at, step.target, given, step.result),
+        Step::LoadCap(step) => put_compared(buffer, at, step.target, given, step.result),
+        Step::Load(step) => put_values(machine, step, buffer, at),
+        Step::StoreCap(_) => at,
+        Step::Store(_) => at,
     }
 }
 
@@ -372,35 +357,29 @@ fn put_compared(buffer: &mut [u8], at: usize, target: u8, given: Given, recorded
 // Writes the value in memory, and the recorded one, where no test refuses the access.
 fn put_values<M: TaggedStore>(
     machine: &Machine<M>,
-    authority: u8,
-    offset: i16,
-    size: u8,
-    value: u64,
+    load: Load,
     buffer: &mut [u8],
     at: usize,
 ) -> usize
-    requires authority { authority ≤ 31 }
-    requires offset { IsOffset offset }
-    requires size { IsDataSize size }
-    requires value { IsDataValue size value }
+    requires in_range { IsStepInRange (steps.Load load) }
     requires room { at + 1024 ≤ length buffer.old }
     ensures from { at ≤ result }
     ensures fits { result ≤ at + 1024 }
     ensures written { take result buffer.new ≡ take at buffer.old
-        ++ result_lines (state_of (held_of M.contents machine.now)) (steps.Load authority offset size value) }
+        ++ result_lines (state_of (held_of M.contents machine.now)) (steps.Load load) }
     ensures rest { (k : ℕ) → result ≤ k → drop k buffer.new ≡ drop k buffer.old }
 {
     let access = Access {
         kind: Kind::LoadData,
-        offset,
-        size,
+        offset: load.offset,
+        size: load.size,
     };
-    match may_access(machine.register(authority), access) {
+    match may_access(machine.register(load.authority), access) {
         Ok(address) => {
-            let digits = usize::from(2 * size);
-            let given = u128::from(machine.value(address, size));
+            let digits = usize::from(2 * load.size);
+            let given = u128::from(machine.value(address, load.size));
             let at = put_hex_line(buffer, at, b"gives", digits, given);
-            put_hex_line(buffer, at, b"recorded", digits, u128::from(value))
+            put_hex_line(buffer, at, b"recorded", digits, u128::from(load.value))
         }
         Err(_) => at,
     }

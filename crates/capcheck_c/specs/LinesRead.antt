@@ -33,18 +33,18 @@ ReadsAt kind target source authority offset size number cap read =
 
 -- what was read is this step
 abbrev pub IsStepRead : Step → LineRead → Type 0
-IsStepRead (steps.Move target source result) read = Reads 5 target source 0 0 result read
-IsStepRead (steps.ClearTag target source result) read = Reads 6 target source 0 0 result read
-IsStepRead (steps.SetBounds target source length result) read = Reads 7 target source 0 length result read
-IsStepRead (steps.SetBoundsExact target source length result) read = Reads 8 target source 0 length result read
-IsStepRead (steps.SetAddr target source address result) read = Reads 9 target source 0 address result read
-IsStepRead (steps.AndPerm target source mask result) read = Reads 10 target source 0 mask result read
-IsStepRead (steps.Seal target source authority result) read = Reads 11 target source authority 0 result read
-IsStepRead (steps.Unseal target source authority result) read = Reads 12 target source authority 0 result read
-IsStepRead (steps.LoadCap target authority offset result) read = ReadsAt 13 target 0 authority offset 0 0 result read
-IsStepRead (steps.StoreCap source authority offset) read = ReadsAt 14 0 source authority offset 0 0 no_cap read
-IsStepRead (steps.Load authority offset size value) read = ReadsAt 15 0 0 authority offset size value no_cap read
-IsStepRead (steps.Store authority offset size value) read = ReadsAt 16 0 0 authority offset size value no_cap read
+IsStepRead (steps.Move step) read = Reads 5 step.target step.source 0 0 step.result read
+IsStepRead (steps.ClearTag step) read = Reads 6 step.target step.source 0 0 step.result read
+IsStepRead (steps.SetBounds step) read = Reads 7 step.target step.source 0 step.length step.result read
+IsStepRead (steps.SetBoundsExact step) read = Reads 8 step.target step.source 0 step.length step.result read
+IsStepRead (steps.SetAddr step) read = Reads 9 step.target step.source 0 step.address step.result read
+IsStepRead (steps.AndPerm step) read = Reads 10 step.target step.source 0 step.mask step.result read
+IsStepRead (steps.Seal step) read = Reads 11 step.target step.source step.authority 0 step.result read
+IsStepRead (steps.Unseal step) read = Reads 12 step.target step.source step.authority 0 step.result read
+IsStepRead (steps.LoadCap step) read = ReadsAt 13 step.target 0 step.authority step.offset 0 0 step.result read
+IsStepRead (steps.StoreCap step) read = ReadsAt 14 0 step.source step.authority step.offset 0 0 no_cap read
+IsStepRead (steps.Load step) read = ReadsAt 15 0 0 step.authority step.offset step.size step.value no_cap read
+IsStepRead (steps.Store step) read = ReadsAt 16 0 0 step.authority step.offset step.size step.value no_cap read
 
 -- what was read is this line
 abbrev pub IsLineRead : Line → LineRead → Type 0

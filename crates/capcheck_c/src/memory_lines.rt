@@ -21,7 +21,8 @@ pub extern "C" fn capcheck_line_lc(
     offset: i64,
     recorded: Capability,
 ) -> usize
-    ensures line { AnswersLine (line.Step (step.LoadCap target authority offset (cap_of recorded))) buffer.old buffer.new result }
+    ensures line { AnswersLine (line.Step (step.LoadCap (record { target = target; authority = authority; offset = offset; result = cap_of recorded })))
+        buffer.old buffer.new result }
 {
     put_step(lc_of(target, authority, offset, recorded), buffer)
 }
@@ -34,7 +35,8 @@ pub extern "C" fn capcheck_line_sc(
     authority: u64,
     offset: i64,
 ) -> usize
-    ensures line { AnswersLine (line.Step (step.StoreCap source authority offset)) buffer.old buffer.new result }
+    ensures line { AnswersLine (line.Step (step.StoreCap (record { source = source; authority = authority; offset = offset })))
+        buffer.old buffer.new result }
 {
     put_step(sc_of(source, authority, offset), buffer)
 }
@@ -49,7 +51,8 @@ pub extern "C" fn capcheck_line_load(
     size: u64,
     value: u64,
 ) -> usize
-    ensures line { AnswersLine (line.Step (step.Load authority offset size value)) buffer.old buffer.new result }
+    ensures line { AnswersLine (line.Step (step.Load (record { authority = authority; offset = offset; size = size; value = value })))
+        buffer.old buffer.new result }
 {
     put_step(load_of(authority, offset, size, value), buffer)
 }
@@ -64,7 +67,8 @@ pub extern "C" fn capcheck_line_store(
     size: u64,
     value: u64,
 ) -> usize
-    ensures line { AnswersLine (line.Step (step.Store authority offset size value)) buffer.old buffer.new result }
+    ensures line { AnswersLine (line.Step (step.Store (record { authority = authority; offset = offset; size = size; value = value })))
+        buffer.old buffer.new result }
 {
     put_step(store_of(authority, offset, size, value), buffer)
 }

@@ -88,8 +88,11 @@ fn root_read(place: Place, word: Word, count: usize) -> LineRead
 {
     let cap = Cap { tag: true, word };
     match place {
-        Place::Register(register) => recorded(ROOT, register, 0, 0, 0, cap, count),
-        Place::Granule(granule) => recorded(ROOT_AT, 0, 0, 0, 16 * granule, cap, count),
+        Place::Register(register) => recorded(ROOT, register, 0, cap, count),
+        Place::Granule(granule) => LineRead {
+            number: 16 * granule,
+            ..recorded(ROOT_AT, 0, 0, cap, count)
+        },
     }
 }
 
@@ -100,118 +103,72 @@ fn step_read(step: Step, count: usize) -> LineRead
     ensures length { result.length ≡ count }
 {
     match step {
-        Step::Move {
-            target,
-            source,
-            result,
-        } => recorded(MOVE, target, source, 0, 0, result, count),
-        Step::ClearTag {
-            target,
-            source,
-            result,
-        } => recorded(CLEARTAG, target, source, 0, 0, result, count),
-        Step::SetBounds {
-            target,
-            source,
-            length,
-            result,
-        } => recorded(SETBOUNDS, target, source, 0, length, result, count),
-        Step::SetBoundsExact {
-            target,
-            source,
-            length,
-            result,
-        } => recorded(SETBOUNDSEXACT, target, source, 0, length, result, count),
-        Step::SetAddr {
-            target,
-            source,
-            address,
-            result,
-        } => recorded(SETADDR, target, source, 0, address, result, count),
-        Step::AndPerm {
-            target,
-            source,
-            mask,
-            result,
-        } => recorded(ANDPERM, target, source, 0, mask, result, count),
-        Step::Seal {
-            target,
-            source,
-            authority,
-            result,
-        } => recorded(SEAL, target, source, authority, 0, result, count),
-        Step::Unseal {
-            target,
-            source,
-            authority,
-            result,
-        } => recorded(UNSEAL, target, source, authority, 0, result, count),
-        Step::LoadCap {
-            target,
-            authority,
-            offset,
-            result,
-        } => LineRead {
-            offset,
-            ..recorded(LC, target, 0, authority, 0, result, count)
+        Step::Move(step) => recorded(MOVE, step.target, step.source, step.result, count),
+        Step::ClearTag(step) => recorded(CLEARTAG, step.target, step.source, step.result, count),
+        Step::SetBounds(step) => LineRead {
+            number: step.length,
+            ..recorded(SETBOUNDS, step.target, step.source, step.result, count)
         },
-        Step::StoreCap {
-            source,
-            authority,
-            offset,
-        } => LineRead {
-            source,
-            authority,
-            offset,
+        Step::SetBoundsExact(step) => LineRead {
+            number: step.length,
+            ..recorded(SETBOUNDSEXACT, step.target, step.source, step.result, count)
+        },
+        Step::SetAddr(step) => LineRead {
+            number: step.address,
+            ..recorded(SETADDR, step.target, step.source, step.result, count)
+        },
+        Step::AndPerm(step) => LineRead {
+            number: step.mask,
+            ..recorded(ANDPERM, step.target, step.source, step.result, count)
+        },
+        Step::Seal(step) => LineRead {
+            authority: step.authority,
+            ..recorded(SEAL, step.target, step.source, step.result, count)
+        },
+        Step::Unseal(step) => LineRead {
+            authority: step.authority,
+            ..recorded(UNSEAL, step.target, step.source, step.result, count)
+        },
+        Step::LoadCap(step) => LineRead {
+            authority: step.authority,
+            offset: step.offset,
+            ..recorded(LC, step.target, 0, step.result, count)
+        },
+        Step::StoreCap(step) => LineRead {
+            source: step.source,
+            authority: step.authority,
+            offset: step.offset,
             ..numbered(SC, 0, count)
         },
-        Step::Load {
-            authority,
-            offset,
-            size,
-            value,
-        } => LineRead {
-            authority,
-            offset,
-            size,
-            ..numbered(LOAD, value, count)
+        Step::Load(step) => LineRead {
+            authority: step.authority,
+            offset: step.offset,
+            size: step.size,
+            ..numbered(LOAD, step.value, count)
         },
-        Step::Store {
-            authority,
-            offset,
-            size,
-            value,
-        } => LineRead {
-            authority,
-            offset,
-            size,
-            ..numbered(STORE, value, count)
+        Step::Store(step) => LineRead {
+            authority: step.authority,
+            offset: step.offset,
+            size: step.size,
+            ..numbered(STORE, step.value, count)
         },
     }
 }
 
 // What is read of a line that records a capability, or a root's.
-fn recorded(
-    kind: u8,
-    target: u8,
-    source: u8,
-    authority: u8,
-    number: u64,
-    cap: Cap,
-    count: usize,
-) -> LineRead
-    ensures read { Reads kind target source authority number cap result }
+fn recorded(kind: u8, target: u8, source: u8, cap: Cap, count: usize) -> LineRead
+    ensures read { Reads kind target source 0 0 cap result }
     ensures length { result.length ≡ count }
 {
     LineRead {
         cap: given(cap),
-        number,
+        number: 0,
         length: count,
         offset: 0,
         kind,
         target,
         source,
-        authority,
+        authority: 0,
         size: 0,
     }
 }

@@ -23,7 +23,8 @@ pub extern "C" fn capcheck_line_move(
     source: u64,
     recorded: Capability,
 ) -> usize
-    ensures line { AnswersLine (line.Step (step.Move target source (cap_of recorded))) buffer.old buffer.new result }
+    ensures line { AnswersLine (line.Step (step.Move (record { target = target; source = source; result = cap_of recorded })))
+        buffer.old buffer.new result }
 {
     put_step(move_of(target, source, recorded), buffer)
 }
@@ -36,7 +37,8 @@ pub extern "C" fn capcheck_line_cleartag(
     source: u64,
     recorded: Capability,
 ) -> usize
-    ensures line { AnswersLine (line.Step (step.ClearTag target source (cap_of recorded))) buffer.old buffer.new result }
+    ensures line { AnswersLine (line.Step (step.ClearTag (record { target = target; source = source; result = cap_of recorded })))
+        buffer.old buffer.new result }
 {
     put_step(cleartag_of(target, source, recorded), buffer)
 }
@@ -50,7 +52,8 @@ pub extern "C" fn capcheck_line_setbounds(
     length: u64,
     recorded: Capability,
 ) -> usize
-    ensures line { AnswersLine (line.Step (step.SetBounds target source length (cap_of recorded))) buffer.old buffer.new result }
+    ensures line { AnswersLine (line.Step (step.SetBounds (record { target = target; source = source; length = length; result = cap_of recorded })))
+        buffer.old buffer.new result }
 {
     put_step(setbounds_of(target, source, length, recorded), buffer)
 }
@@ -64,7 +67,8 @@ pub extern "C" fn capcheck_line_setboundsexact(
     length: u64,
     recorded: Capability,
 ) -> usize
-    ensures line { AnswersLine (line.Step (step.SetBoundsExact target source length (cap_of recorded))) buffer.old buffer.new result }
+    ensures line { AnswersLine (line.Step (step.SetBoundsExact (record { target = target; source = source; length = length; result = cap_of recorded })))
+        buffer.old buffer.new result }
 {
     put_step(setboundsexact_of(target, source, length, recorded), buffer)
 }
@@ -78,7 +82,8 @@ pub extern "C" fn capcheck_line_setaddr(
     address: u64,
     recorded: Capability,
 ) -> usize
-    ensures line { AnswersLine (line.Step (step.SetAddr target source address (cap_of recorded))) buffer.old buffer.new result }
+    ensures line { AnswersLine (line.Step (step.SetAddr (record { target = target; source = source; address = address; result = cap_of recorded })))
+        buffer.old buffer.new result }
 {
     put_step(setaddr_of(target, source, address, recorded), buffer)
 }
@@ -92,7 +97,8 @@ pub extern "C" fn capcheck_line_andperm(
     mask: u64,
     recorded: Capability,
 ) -> usize
-    ensures line { AnswersLine (line.Step (step.AndPerm target source mask (cap_of recorded))) buffer.old buffer.new result }
+    ensures line { AnswersLine (line.Step (step.AndPerm (record { target = target; source = source; mask = mask; result = cap_of recorded })))
+        buffer.old buffer.new result }
 {
     put_step(andperm_of(target, source, mask, recorded), buffer)
 }
@@ -106,7 +112,8 @@ pub extern "C" fn capcheck_line_seal(
     authority: u64,
     recorded: Capability,
 ) -> usize
-    ensures line { AnswersLine (line.Step (step.Seal target source authority (cap_of recorded))) buffer.old buffer.new result }
+    ensures line { AnswersLine (line.Step (step.Seal (record { target = target; source = source; authority = authority; result = cap_of recorded })))
+        buffer.old buffer.new result }
 {
     put_step(seal_of(target, source, authority, recorded), buffer)
 }
@@ -120,7 +127,8 @@ pub extern "C" fn capcheck_line_unseal(
     authority: u64,
     recorded: Capability,
 ) -> usize
-    ensures line { AnswersLine (line.Step (step.Unseal target source authority (cap_of recorded))) buffer.old buffer.new result }
+    ensures line { AnswersLine (line.Step (step.Unseal (record { target = target; source = source; authority = authority; result = cap_of recorded })))
+        buffer.old buffer.new result }
 {
     put_step(unseal_of(target, source, authority, recorded), buffer)
 }

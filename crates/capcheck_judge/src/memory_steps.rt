@@ -24,7 +24,8 @@ pub extern "C" fn capcheck_judge_lc(
     offset: i64,
     recorded: Capability,
 ) -> u8
-    ensures step { HandsOver (line.Step (step.LoadCap target authority offset (cap_of recorded))) (held_in judge.old) (held_in judge.new) result }
+    ensures step { HandsOver (line.Step (step.LoadCap (record { target = target; authority = authority; offset = offset; result = cap_of recorded })))
+        (held_in judge.old) (held_in judge.new) result }
 {
     hand_over(alloc, judge, lc_of(target, authority, offset, recorded))
 }
@@ -38,7 +39,8 @@ pub extern "C" fn capcheck_judge_sc(
     authority: u64,
     offset: i64,
 ) -> u8
-    ensures step { HandsOver (line.Step (step.StoreCap source authority offset)) (held_in judge.old) (held_in judge.new) result }
+    ensures step { HandsOver (line.Step (step.StoreCap (record { source = source; authority = authority; offset = offset })))
+        (held_in judge.old) (held_in judge.new) result }
 {
     hand_over(alloc, judge, sc_of(source, authority, offset))
 }
@@ -53,7 +55,8 @@ pub extern "C" fn capcheck_judge_load(
     size: u64,
     value: u64,
 ) -> u8
-    ensures step { HandsOver (line.Step (step.Load authority offset size value)) (held_in judge.old) (held_in judge.new) result }
+    ensures step { HandsOver (line.Step (step.Load (record { authority = authority; offset = offset; size = size; value = value })))
+        (held_in judge.old) (held_in judge.new) result }
 {
     hand_over(alloc, judge, load_of(authority, offset, size, value))
 }
@@ -68,7 +71,8 @@ pub extern "C" fn capcheck_judge_store(
     size: u64,
     value: u64,
 ) -> u8
-    ensures step { HandsOver (line.Step (step.Store authority offset size value)) (held_in judge.old) (held_in judge.new) result }
+    ensures step { HandsOver (line.Step (step.Store (record { authority = authority; offset = offset; size = size; value = value })))
+        (held_in judge.old) (held_in judge.new) result }
 {
     hand_over(alloc, judge, store_of(authority, offset, size, value))
 }

@@ -26,7 +26,8 @@ pub extern "C" fn capcheck_judge_move(
     source: u64,
     recorded: Capability,
 ) -> u8
-    ensures step { HandsOver (line.Step (step.Move target source (cap_of recorded))) (held_in judge.old) (held_in judge.new) result }
+    ensures step { HandsOver (line.Step (step.Move (record { target = target; source = source; result = cap_of recorded })))
+        (held_in judge.old) (held_in judge.new) result }
 {
     hand_over(alloc, judge, move_of(target, source, recorded))
 }
@@ -40,7 +41,8 @@ pub extern "C" fn capcheck_judge_cleartag(
     source: u64,
     recorded: Capability,
 ) -> u8
-    ensures step { HandsOver (line.Step (step.ClearTag target source (cap_of recorded))) (held_in judge.old) (held_in judge.new) result }
+    ensures step { HandsOver (line.Step (step.ClearTag (record { target = target; source = source; result = cap_of recorded })))
+        (held_in judge.old) (held_in judge.new) result }
 {
     hand_over(alloc, judge, cleartag_of(target, source, recorded))
 }
@@ -55,7 +57,8 @@ pub extern "C" fn capcheck_judge_setbounds(
     length: u64,
     recorded: Capability,
 ) -> u8
-    ensures step { HandsOver (line.Step (step.SetBounds target source length (cap_of recorded))) (held_in judge.old) (held_in judge.new) result }
+    ensures step { HandsOver (line.Step (step.SetBounds (record { target = target; source = source; length = length; result = cap_of recorded })))
+        (held_in judge.old) (held_in judge.new) result }
 {
     hand_over(alloc, judge, setbounds_of(target, source, length, recorded))
 }
@@ -70,7 +73,8 @@ pub extern "C" fn capcheck_judge_setboundsexact(
     length: u64,
     recorded: Capability,
 ) -> u8
-    ensures step { HandsOver (line.Step (step.SetBoundsExact target source length (cap_of recorded))) (held_in judge.old) (held_in judge.new) result }
+    ensures step { HandsOver (line.Step (step.SetBoundsExact (record { target = target; source = source; length = length; result = cap_of recorded })))
+        (held_in judge.old) (held_in judge.new) result }
 {
     hand_over(
         alloc,
@@ -89,7 +93,8 @@ pub extern "C" fn capcheck_judge_setaddr(
     address: u64,
     recorded: Capability,
 ) -> u8
-    ensures step { HandsOver (line.Step (step.SetAddr target source address (cap_of recorded))) (held_in judge.old) (held_in judge.new) result }
+    ensures step { HandsOver (line.Step (step.SetAddr (record { target = target; source = source; address = address; result = cap_of recorded })))
+        (held_in judge.old) (held_in judge.new) result }
 {
     hand_over(alloc, judge, setaddr_of(target, source, address, recorded))
 }
@@ -104,7 +109,8 @@ pub extern "C" fn capcheck_judge_andperm(
     mask: u64,
     recorded: Capability,
 ) -> u8
-    ensures step { HandsOver (line.Step (step.AndPerm target source mask (cap_of recorded))) (held_in judge.old) (held_in judge.new) result }
+    ensures step { HandsOver (line.Step (step.AndPerm (record { target = target; source = source; mask = mask; result = cap_of recorded })))
+        (held_in judge.old) (held_in judge.new) result }
 {
     hand_over(alloc, judge, andperm_of(target, source, mask, recorded))
 }
@@ -119,7 +125,8 @@ pub extern "C" fn capcheck_judge_seal(
     authority: u64,
     recorded: Capability,
 ) -> u8
-    ensures step { HandsOver (line.Step (step.Seal target source authority (cap_of recorded))) (held_in judge.old) (held_in judge.new) result }
+    ensures step { HandsOver (line.Step (step.Seal (record { target = target; source = source; authority = authority; result = cap_of recorded })))
+        (held_in judge.old) (held_in judge.new) result }
 {
     hand_over(alloc, judge, seal_of(target, source, authority, recorded))
 }
@@ -134,7 +141,8 @@ pub extern "C" fn capcheck_judge_unseal(
     authority: u64,
     recorded: Capability,
 ) -> u8
-    ensures step { HandsOver (line.Step (step.Unseal target source authority (cap_of recorded))) (held_in judge.old) (held_in judge.new) result }
+    ensures step { HandsOver (line.Step (step.Unseal (record { target = target; source = source; authority = authority; result = cap_of recorded })))
+        (held_in judge.old) (held_in judge.new) result }
 {
     hand_over(alloc, judge, unseal_of(target, source, authority, recorded))
 }

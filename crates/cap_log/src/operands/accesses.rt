@@ -1,6 +1,4 @@
 //! Steps with an authority and an offset.
-//!
-//! The fields of each are those of the variant of [`Step`] that has its name, and in the same ranges.
 
 ghost use Rattle.cap_log.specs.declared.heads.Head.TheVariants as heads;
 ghost use Rattle.cap_log.specs.declared.lines.Step.TheVariants as steps;
@@ -28,18 +26,22 @@ type DataLoaded = (Register, (Offset, Loaded));
 type DataStored = (Register, (Offset, Stored));
 
 /// `lc`: the target gets a granule of memory.
-#[derive(Clone, Copy)]
+#[derive(Clone, Copy, Debug, PartialEq, Eq)]
 pub struct LoadCap {
+    /// The register that is written, 1 to 31.
     pub target: u8,
+    /// The register that the access goes through, 0 to 31.
     pub authority: u8,
+    /// What is added to the authority's address, -2048 to 2047.
     pub offset: i16,
+    /// What the target holds then.
     pub result: Cap,
 }
 
 impl Operands for LoadCap {
     ghost head = { heads.LoadCap };
 
-    ghost step = { λ step. steps.LoadCap step.target step.authority step.offset step.result };
+    ghost step = { steps.LoadCap };
 
     #[inline(always)]
     fn take(bytes: &[u8]) -> Option<(LoadCap, &[u8])> {
@@ -67,27 +69,25 @@ impl Operands for LoadCap {
 
     #[inline(always)]
     fn into_step(self) -> Step {
-        Step::LoadCap {
-            target: self.target,
-            authority: self.authority,
-            offset: self.offset,
-            result: self.result,
-        }
+        Step::LoadCap(self)
     }
 }
 
 /// `sc`: a granule of memory gets the source.
-#[derive(Clone, Copy)]
+#[derive(Clone, Copy, Debug, PartialEq, Eq)]
 pub struct StoreCap {
+    /// The register that is stored, 0 to 31.
     pub source: u8,
+    /// The register that the access goes through, 0 to 31.
     pub authority: u8,
+    /// What is added to the authority's address, -2048 to 2047.
     pub offset: i16,
 }
 
 impl Operands for StoreCap {
     ghost head = { heads.StoreCap };
 
-    ghost step = { λ step. steps.StoreCap step.source step.authority step.offset };
+    ghost step = { steps.StoreCap };
 
     #[inline(always)]
     fn take(bytes: &[u8]) -> Option<(StoreCap, &[u8])> {
@@ -111,27 +111,27 @@ impl Operands for StoreCap {
 
     #[inline(always)]
     fn into_step(self) -> Step {
-        Step::StoreCap {
-            source: self.source,
-            authority: self.authority,
-            offset: self.offset,
-        }
+        Step::StoreCap(self)
     }
 }
 
 /// `load`: the value of some bytes of memory.
-#[derive(Clone, Copy)]
+#[derive(Clone, Copy, Debug, PartialEq, Eq)]
 pub struct Load {
+    /// The register that the access goes through, 0 to 31.
     pub authority: u8,
+    /// What is added to the authority's address, -2048 to 2047.
     pub offset: i16,
+    /// The number of bytes: 1, 2, 4 or 8.
     pub size: u8,
+    /// The number that these bytes are.
     pub value: u64,
 }
 
 impl Operands for Load {
     ghost head = { heads.Load };
 
-    ghost step = { λ step. steps.Load step.authority step.offset step.size step.value };
+    ghost step = { steps.Load };
 
     #[inline(always)]
     fn take(bytes: &[u8]) -> Option<(Load, &[u8])> {
@@ -157,28 +157,27 @@ impl Operands for Load {
 
     #[inline(always)]
     fn into_step(self) -> Step {
-        Step::Load {
-            authority: self.authority,
-            offset: self.offset,
-            size: self.size,
-            value: self.value,
-        }
+        Step::Load(self)
     }
 }
 
 /// `store`: some bytes of memory get a value.
-#[derive(Clone, Copy)]
+#[derive(Clone, Copy, Debug, PartialEq, Eq)]
 pub struct Store {
+    /// The register that the access goes through, 0 to 31.
     pub authority: u8,
+    /// What is added to the authority's address, -2048 to 2047.
     pub offset: i16,
+    /// The number of bytes: 1, 2, 4 or 8.
     pub size: u8,
+    /// The number that these bytes become.
     pub value: u64,
 }
 
 impl Operands for Store {
     ghost head = { heads.Store };
 
-    ghost step = { λ step. steps.Store step.authority step.offset step.size step.value };
+    ghost step = { steps.Store };
 
     #[inline(always)]
     fn take(bytes: &[u8]) -> Option<(Store, &[u8])> {
@@ -204,11 +203,6 @@ impl Operands for Store {
 
     #[inline(always)]
     fn into_step(self) -> Step {
-        Step::Store {
-            authority: self.authority,
-            offset: self.offset,
-            size: self.size,
-            value: self.value,
-        }
+        Step::Store(self)
     }
 }

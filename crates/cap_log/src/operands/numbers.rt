@@ -1,6 +1,4 @@
 //! Steps whose operands are two registers and a number.
-//!
-//! The fields of each are those of the variant of [`Step`] that has its name, and in the same ranges.
 
 ghost use Rattle.cap_log.specs.declared.heads.Head.TheVariants as heads;
 ghost use Rattle.cap_log.specs.declared.lines.Step.TheVariants as steps;
@@ -18,18 +16,22 @@ use cap_word::Cap;
 type Numbered = (Target, (Register, (Number, Recorded)));
 
 /// `setbounds`: the source's address and this length become bounds, rounded.
-#[derive(Clone, Copy)]
+#[derive(Clone, Copy, Debug, PartialEq, Eq)]
 pub struct SetBounds {
+    /// The register that is written, 1 to 31.
     pub target: u8,
+    /// The register that is read, 0 to 31.
     pub source: u8,
+    /// The length that is asked for.
     pub length: u64,
+    /// What the target holds then.
     pub result: Cap,
 }
 
 impl Operands for SetBounds {
     ghost head = { heads.SetBounds };
 
-    ghost step = { λ step. steps.SetBounds step.target step.source step.length step.result };
+    ghost step = { steps.SetBounds };
 
     #[inline(always)]
     fn take(bytes: &[u8]) -> Option<(SetBounds, &[u8])> {
@@ -57,28 +59,27 @@ impl Operands for SetBounds {
 
     #[inline(always)]
     fn into_step(self) -> Step {
-        Step::SetBounds {
-            target: self.target,
-            source: self.source,
-            length: self.length,
-            result: self.result,
-        }
+        Step::SetBounds(self)
     }
 }
 
 /// `setboundsexact`: the same, where nothing is rounded.
-#[derive(Clone, Copy)]
+#[derive(Clone, Copy, Debug, PartialEq, Eq)]
 pub struct SetBoundsExact {
+    /// The register that is written, 1 to 31.
     pub target: u8,
+    /// The register that is read, 0 to 31.
     pub source: u8,
+    /// The length that is asked for.
     pub length: u64,
+    /// What the target holds then.
     pub result: Cap,
 }
 
 impl Operands for SetBoundsExact {
     ghost head = { heads.SetBoundsExact };
 
-    ghost step = { λ step. steps.SetBoundsExact step.target step.source step.length step.result };
+    ghost step = { steps.SetBoundsExact };
 
     #[inline(always)]
     fn take(bytes: &[u8]) -> Option<(SetBoundsExact, &[u8])> {
@@ -106,28 +107,27 @@ impl Operands for SetBoundsExact {
 
     #[inline(always)]
     fn into_step(self) -> Step {
-        Step::SetBoundsExact {
-            target: self.target,
-            source: self.source,
-            length: self.length,
-            result: self.result,
-        }
+        Step::SetBoundsExact(self)
     }
 }
 
 /// `setaddr`: the source at another address.
-#[derive(Clone, Copy)]
+#[derive(Clone, Copy, Debug, PartialEq, Eq)]
 pub struct SetAddr {
+    /// The register that is written, 1 to 31.
     pub target: u8,
+    /// The register that is read, 0 to 31.
     pub source: u8,
+    /// The new address.
     pub address: u64,
+    /// What the target holds then.
     pub result: Cap,
 }
 
 impl Operands for SetAddr {
     ghost head = { heads.SetAddr };
 
-    ghost step = { λ step. steps.SetAddr step.target step.source step.address step.result };
+    ghost step = { steps.SetAddr };
 
     #[inline(always)]
     fn take(bytes: &[u8]) -> Option<(SetAddr, &[u8])> {
@@ -155,28 +155,27 @@ impl Operands for SetAddr {
 
     #[inline(always)]
     fn into_step(self) -> Step {
-        Step::SetAddr {
-            target: self.target,
-            source: self.source,
-            address: self.address,
-            result: self.result,
-        }
+        Step::SetAddr(self)
     }
 }
 
 /// `andperm`: the source with the permissions that the mask has too.
-#[derive(Clone, Copy)]
+#[derive(Clone, Copy, Debug, PartialEq, Eq)]
 pub struct AndPerm {
+    /// The register that is written, 1 to 31.
     pub target: u8,
+    /// The register that is read, 0 to 31.
     pub source: u8,
+    /// A bit for each permission that stays.
     pub mask: u64,
+    /// What the target holds then.
     pub result: Cap,
 }
 
 impl Operands for AndPerm {
     ghost head = { heads.AndPerm };
 
-    ghost step = { λ step. steps.AndPerm step.target step.source step.mask step.result };
+    ghost step = { steps.AndPerm };
 
     #[inline(always)]
     fn take(bytes: &[u8]) -> Option<(AndPerm, &[u8])> {
@@ -204,11 +203,6 @@ impl Operands for AndPerm {
 
     #[inline(always)]
     fn into_step(self) -> Step {
-        Step::AndPerm {
-            target: self.target,
-            source: self.source,
-            mask: self.mask,
-            result: self.result,
-        }
+        Step::AndPerm(self)
     }
 }

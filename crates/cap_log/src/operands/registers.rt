@@ -1,6 +1,4 @@
 //! Steps whose operands are registers.
-//!
-//! The fields of each are those of the variant of [`Step`] that has its name, and in the same ranges.
 
 ghost use Rattle.cap_log.specs.declared.heads.Head.TheVariants as heads;
 ghost use Rattle.cap_log.specs.declared.lines.Step.TheVariants as steps;
@@ -20,17 +18,20 @@ type Copied = (Target, (Register, Recorded));
 type Sealed = (Target, (Register, (Register, Recorded)));
 
 /// `move`: the target gets the source.
-#[derive(Clone, Copy)]
+#[derive(Clone, Copy, Debug, PartialEq, Eq)]
 pub struct Move {
+    /// The register that is written, 1 to 31.
     pub target: u8,
+    /// The register that is read, 0 to 31.
     pub source: u8,
+    /// What the target holds then.
     pub result: Cap,
 }
 
 impl Operands for Move {
     ghost head = { heads.Move };
 
-    ghost step = { λ step. steps.Move step.target step.source step.result };
+    ghost step = { steps.Move };
 
     #[inline(always)]
     fn take(bytes: &[u8]) -> Option<(Move, &[u8])> {
@@ -54,26 +55,25 @@ impl Operands for Move {
 
     #[inline(always)]
     fn into_step(self) -> Step {
-        Step::Move {
-            target: self.target,
-            source: self.source,
-            result: self.result,
-        }
+        Step::Move(self)
     }
 }
 
 /// `cleartag`: the target gets the source without its tag.
-#[derive(Clone, Copy)]
+#[derive(Clone, Copy, Debug, PartialEq, Eq)]
 pub struct ClearTag {
+    /// The register that is written, 1 to 31.
     pub target: u8,
+    /// The register that is read, 0 to 31.
     pub source: u8,
+    /// What the target holds then.
     pub result: Cap,
 }
 
 impl Operands for ClearTag {
     ghost head = { heads.ClearTag };
 
-    ghost step = { λ step. steps.ClearTag step.target step.source step.result };
+    ghost step = { steps.ClearTag };
 
     #[inline(always)]
     fn take(bytes: &[u8]) -> Option<(ClearTag, &[u8])> {
@@ -97,27 +97,27 @@ impl Operands for ClearTag {
 
     #[inline(always)]
     fn into_step(self) -> Step {
-        Step::ClearTag {
-            target: self.target,
-            source: self.source,
-            result: self.result,
-        }
+        Step::ClearTag(self)
     }
 }
 
 /// `seal`: the source, sealed with the authority's address as its type.
-#[derive(Clone, Copy)]
+#[derive(Clone, Copy, Debug, PartialEq, Eq)]
 pub struct Seal {
+    /// The register that is written, 1 to 31.
     pub target: u8,
+    /// The register that is read, 0 to 31.
     pub source: u8,
+    /// The register whose address is the type, 0 to 31.
     pub authority: u8,
+    /// What the target holds then.
     pub result: Cap,
 }
 
 impl Operands for Seal {
     ghost head = { heads.Seal };
 
-    ghost step = { λ step. steps.Seal step.target step.source step.authority step.result };
+    ghost step = { steps.Seal };
 
     #[inline(always)]
     fn take(bytes: &[u8]) -> Option<(Seal, &[u8])> {
@@ -145,28 +145,27 @@ impl Operands for Seal {
 
     #[inline(always)]
     fn into_step(self) -> Step {
-        Step::Seal {
-            target: self.target,
-            source: self.source,
-            authority: self.authority,
-            result: self.result,
-        }
+        Step::Seal(self)
     }
 }
 
 /// `unseal`: the source, unsealed by the authority.
-#[derive(Clone, Copy)]
+#[derive(Clone, Copy, Debug, PartialEq, Eq)]
 pub struct Unseal {
+    /// The register that is written, 1 to 31.
     pub target: u8,
+    /// The register that is read, 0 to 31.
     pub source: u8,
+    /// The register whose address is the source's type, 0 to 31.
     pub authority: u8,
+    /// What the target holds then.
     pub result: Cap,
 }
 
 impl Operands for Unseal {
     ghost head = { heads.Unseal };
 
-    ghost step = { λ step. steps.Unseal step.target step.source step.authority step.result };
+    ghost step = { steps.Unseal };
 
     #[inline(always)]
     fn take(bytes: &[u8]) -> Option<(Unseal, &[u8])> {
@@ -194,11 +193,6 @@ impl Operands for Unseal {
 
     #[inline(always)]
     fn into_step(self) -> Step {
-        Step::Unseal {
-            target: self.target,
-            source: self.source,
-            authority: self.authority,
-            result: self.result,
-        }
+        Step::Unseal(self)
     }
 }

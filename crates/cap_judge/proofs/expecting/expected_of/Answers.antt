@@ -7,13 +7,13 @@ use Rattle.cap_judge.proofs.expecting.expected_of.Goals as goal
 pub returns-in-StoreCap : goal.returns-in-StoreCap
 returns-in-StoreCap g c =
     let account = account_of (held_of g.M.TaggedStore.contents c.args.machine.now) in
-    nothing_recorded account c.args.step.now (steps.StoreCap c.in-StoreCap.source c.in-StoreCap.authority c.in-StoreCap.offset)
+    nothing_recorded account c.args.step.now (steps.StoreCap c.in-StoreCap.field-0)
     c.in-StoreCap.is refl
 
 pub returns-in-Store : goal.returns-in-Store
 returns-in-Store g c =
     let account = account_of (held_of g.M.TaggedStore.contents c.args.machine.now) in
-    nothing_recorded account c.args.step.now (steps.Store c.in-Store.authority c.in-Store.offset c.in-Store.size c.in-Store.value)
+    nothing_recorded account c.args.step.now (steps.Store c.in-Store.field-0)
     c.in-Store.is refl
 
 pub returns-in_default : goal.returns-in_default

@@ -11,7 +11,7 @@ use Rattle.cap_judge.proofs.expecting.loaded_by.Goals as goal
 pub returns-in-Err : goal.returns-in-Err
 returns-in-Err g c = λ wrong.
     let account = account_of (held_of g.M.TaggedStore.contents c.args.machine.now) in
-    let none = load_allowed account c.args.authority c.args.offset c.args.size c.args.value wrong in
-    let found : first_of (access_tests (account.state c.args.authority) LoadData c.args.offset c.args.size) ≡ Some (refusal_of c.in-Err.field-0) =
+    let none = load_allowed account c.args.load wrong in
+    let found : first_of (access_tests (account.state c.args.load.authority) LoadData c.args.load.offset c.args.load.size) ≡ Some (refusal_of c.in-Err.field-0) =
     search rules in
     none-some _ (sym none ∙ found)

@@ -73,29 +73,29 @@ returns-in-ClearTag g c = rw c.in-ClearTag.is (record {
 
 pub returns-in-SetBounds : goal.returns-in-SetBounds
 returns-in-SetBounds g c = rw c.in-SetBounds.is (record {
-  gives = by_one (λ h. ops.set_bounds_tests h c.in-SetBounds.length false) (λ h. ops.set_bounds_result h c.in-SetBounds.length) _ _ _ _
+  gives = by_one (λ h. ops.set_bounds_tests h c.in-SetBounds.step.length false) (λ h. ops.set_bounds_result h c.in-SetBounds.step.length) _ _ _ _
       c.register-in-SetBounds.ensures.holds c.bounded.ensures.cap c.bounded.ensures.fault;
   others = tt;
 })
 
 pub returns-in-SetBoundsExact : goal.returns-in-SetBoundsExact
 returns-in-SetBoundsExact g c = rw c.in-SetBoundsExact.is (record {
-  gives = by_one (λ h. ops.set_bounds_tests h c.in-SetBoundsExact.length true)
-      (λ h. ops.set_bounds_result h c.in-SetBoundsExact.length) _ _ _ _
+  gives = by_one (λ h. ops.set_bounds_tests h c.in-SetBoundsExact.step.length true)
+      (λ h. ops.set_bounds_result h c.in-SetBoundsExact.step.length) _ _ _ _
       c.register-in-SetBoundsExact.ensures.holds c.bounded-in-SetBoundsExact.ensures.cap c.bounded-in-SetBoundsExact.ensures.fault;
   others = tt;
 })
 
 pub returns-in-SetAddr : goal.returns-in-SetAddr
 returns-in-SetAddr g c = rw c.in-SetAddr.is (record {
-  gives = by_one (λ h. ops.set_addr_tests h c.in-SetAddr.address) (λ h. ops.set_addr_result h c.in-SetAddr.address) _ _ _ _
+  gives = by_one (λ h. ops.set_addr_tests h c.in-SetAddr.step.address) (λ h. ops.set_addr_result h c.in-SetAddr.step.address) _ _ _ _
       c.register-in-SetAddr.ensures.holds c.moved.ensures.cap c.moved.ensures.fault;
   others = tt;
 })
 
 pub returns-in-AndPerm : goal.returns-in-AndPerm
 returns-in-AndPerm g c = rw c.in-AndPerm.is (record {
-  gives = by_one (λ h. ops.and_perm_tests h) (λ h. ops.and_perm_result h c.in-AndPerm.mask) _ _ _ _
+  gives = by_one (λ h. ops.and_perm_tests h) (λ h. ops.and_perm_result h c.in-AndPerm.step.mask) _ _ _ _
       c.register-in-AndPerm.ensures.holds c.permitted.ensures.cap c.permitted.ensures.fault;
   others = tt;
 })
@@ -117,10 +117,10 @@ returns-in-Unseal g c = rw c.in-Unseal.is (record {
 pub returns-in-LoadCap : goal.returns-in-LoadCap
 returns-in-LoadCap g c = record {
   gives = let state = state_of (held_of g.M.TaggedStore.contents c.args.machine.now) in
-      let step = c.in-LoadCap in
+      let step = c.in-LoadCap.step in
       let given = c.untested-in-LoadCap in
-      let range = subst IsStepInRange step.is c.requires in
-      subst (Gives state given.result.cap given.result.fault) (sym step.is) (
+      let range = subst IsStepInRange c.in-LoadCap.is c.requires in
+      subst (Gives state given.result.cap given.result.fault) (sym c.in-LoadCap.is) (
         loaded_by state step.authority step.offset c.register-in-LoadCap.result c.granule.result given.result.cap c.reached-granule.result
             range.2 c.register-in-LoadCap.ensures.holds c.reached-granule.ensures.value c.granule.ensures.holds
             (given.ensures.cap ∙ c.loaded.ensures.result_is),

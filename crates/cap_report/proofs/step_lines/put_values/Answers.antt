@@ -11,11 +11,11 @@ use Rattle.cap_report.proofs.step_lines.put_values.Goals as goal
 pub returns-in-Ok-clause-written : goal.returns-in-Ok-clause-written
 returns-in-Ok-clause-written g c =
     let state = state_of (held_of g.M.TaggedStore.contents c.args.machine.now) in
-    let there = address_through state c.args.authority c.args.offset in
-    let none : first_of (access_tests (state c.args.authority) kinds.LoadData c.args.offset c.args.size) ≡ None = search rules in
+    let there = address_through state c.args.load.authority c.args.load.offset in
+    let none : first_of (access_tests (state c.args.load.authority) kinds.LoadData c.args.load.offset c.args.load.size) ≡ None = search rules in
     let reached : c.in-Ok.address ≡ there = search rules in
-    let given = ap (λ (n : ℕ). value_at state n c.args.size) reached in
+    let given = ap (λ (n : ℕ). value_at state n c.args.load.size) reached in
     let shown = values_shown (take c.args.at c.args.buffer.now)
-    (record { authority = c.args.authority; address = there; size = c.args.size; permission = permission_for kinds.LoadData })
-    c.args.value (value_at state there c.args.size) _ none in
+    (record { authority = c.args.load.authority; address = there; size = c.args.load.size; permission = permission_for kinds.LoadData })
+    c.args.load.value (value_at state there c.args.load.size) _ none in
     cc

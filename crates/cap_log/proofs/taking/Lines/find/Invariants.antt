@@ -4,13 +4,13 @@ use Rattle.cap_log.specs.Takings.{kept}
 use Rattle.cap_log.proofs.taking.Lines.find.Given as goal
 
 -- what was given so far stands behind what was kept
-abbrev pub invariant-loop-found : goal.invariant-loop-found
-invariant-loop-found g l = record {
+abbrev pub invariant-loop-self : goal.invariant-loop-self
+invariant-loop-self g l = record {
   given : (more : List ℕ) × g.S.Source.gave l.fn.source l.source more × (kept l.self ≡ kept l.fn.self ++ more);
   counted : g.S.Source.faults l.source ≡ g.S.Source.faults l.fn.source;
   over : l.self.over ≡ l.fn.self.over;
   kept_first : (IsCut (kept l.fn.self) → ⊥) → l.source ≡ l.fn.source;
 }
 
-abbrev pub decreases-loop-found : goal.decreases-loop-found
-decreases-loop-found g l = 96 - length (kept l.self)
+abbrev pub decreases-loop-self : goal.decreases-loop-self
+decreases-loop-self g l = 96 - length (kept l.self)

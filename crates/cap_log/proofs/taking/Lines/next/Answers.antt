@@ -1,4 +1,4 @@
-use Rattle.std.proofs.Common.{◌≡◌, ◌≢◌, ℕ, ◌-◌, ◌≤◌, [], length, take, drop, true, refl, sym, ap, subst, ◌∙◌, rules, arith}
+use Rattle.std.proofs.Common.{◌≡◌, ◌≢◌, ℕ, ◌-◌, ◌≤◌, List, [], Ok, length, take, drop, true, refl, sym, ap, subst, ◌∙◌, rules, arith}
 use Rattle.cap_log.specs.Front.{IsFront}
 use Rattle.std.proofs.lemmas.List.{nil_from_length, length-take, length-drop}
 use Rattle.cap_log.specs.Pulled.{items}
@@ -37,7 +37,7 @@ pub returns-then-is_empty : goal.returns-then-is_empty
 returns-then-is_empty g c =
     let found = c.in-Ok-Cut in
     let none : items c.find.new.self.pulled ≡ [] = nil_from_length _ (ap length (sym c.as_slice.ensures.value) ∙ search rules) in
-    let end : g.S.Source.ended c.find.new.source ≡ true = search rules in (
+    let end : g.S.Source.ended c.find.new.source ≡ true = c.find.ensures.end (found.is ∙ ap Ok found.field-0-is) in (
       (
         refl,
         λ _. tt,
@@ -53,7 +53,7 @@ pub returns-else-is_empty : goal.returns-else-is_empty
 returns-else-is_empty g c =
     let found = c.in-Ok-Cut in
     let some : items c.find.new.self.pulled ≢ [] = search rules in
-    let end : g.S.Source.ended c.find.new.source ≡ true = search rules in (
+    let end : g.S.Source.ended c.find.new.source ≡ true = c.find.ensures.end (found.is ∙ ap Ok found.field-0-is) in (
       (
         refl,
         λ _. tt,
@@ -79,7 +79,9 @@ returns-in-Ok-Line g c =
     let front = subst (IsFront (items w)) found.field-0-is found.ensures.ok.front_is in
     let short : n ≤ w.end - w.start = omega (arith, front.0, length-take {A = ℕ}, length-drop {A = ℕ}) in
     let text : take n (items w) ≡ c.before-in-Ok-Line.result.now =
-    take_front n (w.end - w.start) (drop w.start w.bytes) short ∙ sym (search rules) in (
+    take_front n (w.end - w.start) (drop w.start w.bytes) short ∙ sym (c.before-in-Ok-Line.ensures.value
+    ∙ ap (λ (start : ℕ). take n (drop start c.consume.new.self.bytes)) c.start-start.ensures.value
+    ∙ ap (λ (bytes : List ℕ). take n (drop w.start bytes)) c.consume.ensures.bytes) in (
       (
         refl,
         λ _. tt,

@@ -37,7 +37,7 @@ returns-in_err-address g c =
     let old = held_of g.M.TaggedStore.contents c.args.machine.now in
     let is = err_from_is_err_and c.from_residual.result c.from_residual.ensures.1 in
     rw (is.1, is.2) (record {
-      outcome = faulted_as old (steps.LoadCap c.args.self.target c.args.self.authority c.args.self.offset c.args.self.result)
+      outcome = faulted_as old (steps.LoadCap c.args.self)
           _ fault (refusal_of fault) refl
           (passed (λ o. ReachesAddress (state_of old) c.args.self.authority kinds.LoadCap o 16 (Err fault)) c.args.self.offset
           (search rules)

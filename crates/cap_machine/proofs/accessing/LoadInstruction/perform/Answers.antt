@@ -20,7 +20,7 @@ returns-then-number_in-self g c =
     ∙ ap (λ (a : ℕ). value_at (state_of old) a c.args.self.size) out.1 in
     record {
       outcome =
-          load_refused old c.args.self.authority c.args.self.offset c.args.self.size c.args.self.value false _ out.0
+          load_refused old c.args.self false _ out.0
           (ne_eqb c.args.self.value _ (λ e. c.if-number_in-self.true (read ∙ sym e))) refl;
     }
 
@@ -34,7 +34,7 @@ returns-then-machine-ge-MOST_STEPS g c =
     ∙ ap (λ (a : ℕ). value_at (state_of old) a c.args.self.size) out.1 in
     record {
       outcome =
-          load_refused old c.args.self.authority c.args.self.offset c.args.self.size c.args.self.value true _ out.0
+          load_refused old c.args.self true _ out.0
           (eq-eqb c.args.self.value _ (sym c.if-number_in-self.false ∙ read)) (search rules);
     }
 
@@ -48,7 +48,7 @@ returns g c =
     ∙ ap (λ (a : ℕ). value_at (state_of old) a c.args.self.size) out.1 in
     record {
       outcome =
-          loaded_value old c.args.self.authority c.args.self.offset c.args.self.size c.args.self.value out.0
+          loaded_value old c.args.self out.0
           (sym c.if-number_in-self.false ∙ read) c.if-machine-ge-MOST_STEPS.false;
     }
 
@@ -58,7 +58,7 @@ returns-in_err-address g c =
     let old = held_of g.M.TaggedStore.contents c.args.machine.now in
     let is = err_from_is_err_and c.from_residual.result c.from_residual.ensures.1 in
     rw (is.1, is.2) (record {
-      outcome = faulted_as old (steps.Load c.args.self.authority c.args.self.offset c.args.self.size c.args.self.value)
+      outcome = faulted_as old (steps.Load c.args.self)
           _ fault (refusal_of fault) refl
           (passed (λ o. ReachesAddress (state_of old) c.args.self.authority kinds.LoadData o c.args.self.size (Err fault))
           c.args.self.offset

@@ -32,7 +32,7 @@ returns g c =
     c.put_counted.result new) out.1 put_there in
     record {
       outcome =
-          stored old new c.args.self.source c.args.self.authority c.args.self.offset c.put_counted.result
+          stored old new c.args.self c.put_counted.result
           (subst (λ (cap : Cap). cap.word.0 < 2 ^ 128) is (search rules))
           c.requires.0 (machine.coded c.args.self.source) out.0 put_through;
     }
@@ -48,7 +48,7 @@ returns-in_err-address g c =
     c.args.self.offset (search rules) c.in_err-address.ensures.outcome) in
     let is = err_from_is_err_and c.from_residual.result c.from_residual.ensures.1 in
     rw (is.1, is.2) (record {
-      outcome = faulted_as old (steps.StoreCap c.args.self.source c.args.self.authority c.args.self.offset) _ fault
+      outcome = faulted_as old (steps.StoreCap c.args.self) _ fault
           (refusal_of fault) refl found refl;
     })
 

@@ -20,7 +20,7 @@ returns g c =
     out.1 c.put_value_counted.ensures in
     record {
       outcome =
-          stored_value old new c.args.self.authority c.args.self.offset c.args.self.size c.args.self.value c.put_value_counted.result
+          stored_value old new c.args.self c.put_value_counted.result
           (g.met.M.TaggedStore.are_stored c.args.machine.now.memory) out.0 put_through;
     }
 
@@ -30,7 +30,7 @@ returns-in_err-address g c =
     let old = held_of g.M.TaggedStore.contents c.args.machine.now in
     let is = err_from_is_err_and c.from_residual.result c.from_residual.ensures.1 in
     rw (is.1, is.2) (record {
-      outcome = faulted_as old (steps.Store c.args.self.authority c.args.self.offset c.args.self.size c.args.self.value)
+      outcome = faulted_as old (steps.Store c.args.self)
           _ fault (refusal_of fault) refl
           (passed (λ o. ReachesAddress (state_of old) c.args.self.authority kinds.StoreData o c.args.self.size (Err fault))
           c.args.self.offset

@@ -4,10 +4,10 @@ use Rattle.cap_log.proofs.SpellingLemmas.{line_fits, line_room, line_written}
 use Rattle.cap_log.proofs.operands.registers.ClearTagOperands.write.Goals as goal
 
 pub write-requires-clause-in_range : goal.write-requires-clause-in_range
-write-requires-clause-in_range c = line_fits (line.Step (step.ClearTag c.args.self.target c.args.self.source c.args.self.result)) c.requires.in_range
+write-requires-clause-in_range c = line_fits (line.Step (step.ClearTag c.args.self)) c.requires.in_range
 
 pub write-requires-clause-room : goal.write-requires-clause-room
-write-requires-clause-room c = line_room (line.Step (step.ClearTag c.args.self.target c.args.self.source c.args.self.result)) c.requires.in_range _ c.requires.room
+write-requires-clause-room c = line_room (line.Step (step.ClearTag c.args.self)) c.requires.in_range _ c.requires.room
 
 pub returns : goal.returns
-returns c = record { written = line_written (line.Step (step.ClearTag c.args.self.target c.args.self.source c.args.self.result)) _ _ _ c.write.ensures.written }
+returns c = record { written = line_written (line.Step (step.ClearTag c.args.self)) _ _ _ c.write.ensures.written }
