@@ -71,6 +71,10 @@ pub step_stopped : (old new : Held) (bytes rest : List ℕ) (step : steps_module
     → Begins IsInRange spelling 10 bytes (Step step) rest → EndsStep old step end new → EndsStepAt old bytes rest end
 step_stopped old new bytes rest step end begins ends = (step, begins, step_ended old new step end ends)
 
+pub step_kept : (old new : Held) (step : steps_module.Step) (end : StepEnd) → EndsStep old step end new → new ≡ old
+step_kept old new step (Refused refusal) stopped = stopped.1
+step_kept old new step NoMemory stopped = stopped.2
+
 -- no step, and one step more
 pub steps_none : (held : Held) → TakesSteps held [] held
 steps_none held = record {

@@ -1,16 +1,12 @@
 //! Taking the steps at the front of some bytes, each by the type of its kind.
 
-ghost use Rattle.std.specs.Prelude.{◌≡◌, ℕ, List, [], ◌∷◌, ◌++◌, false, IfErr, IfOk, IfNone, IfSome, OnOk};
-ghost use Rattle.cap_log.specs.Heads.{head_spelling};
+ghost use Rattle.std.specs.Prelude.{◌≡◌, ℕ, List, [], ◌++◌, false, IfSome};
 ghost use Rattle.cap_log.specs.Lines.{IsStepInRange};
 ghost use Rattle.cap_machine.specs.Helds.{AnswersStep, held_of};
-ghost use Rattle.cap_judge.specs.Readings.{EndsStepAt, TakesStep, TakesSteps};
+ghost use Rattle.cap_judge.specs.Readings.{EndsStepAt, TakesAll, TakesOne, TakesSteps};
 
-use cap_log::{
-    AndPerm, ClearTag, Head, Load, LoadCap, Move, Part, Seal, SetAddr, SetBounds, SetBoundsExact,
-    Store, StoreCap, Unseal,
-};
-use cap_machine::{Instruction, Machine, StepEnd};
+use cap_log::{Head, Part};
+use cap_machine::{ByKind, Instruction, Machine, StepEnd, by_head};
 use tagmem::TaggedStore;
 
 // The most bytes that a line has, with its line feed.
@@ -44,7 +40,7 @@ pub(crate) fn take_steps<'a, M: TaggedStore>(
         if let Some(end) = end {
             return (rest, Some(end));
         }
-        match take_rare(machine, rest) {
+        match take_step::<M, true>(machine, rest) {
             Ok(Some(behind)) => rest = behind,
             Ok(None) => return (rest, None),
             Err(end) => return (rest, Some(end)),
@@ -64,7 +60,7 @@ fn take_usual<'a, M: TaggedStore>(
 {
     let mut rest = bytes;
     'steps: loop {
-        match take_step(machine, rest) {
+        match take_step::<M, false>(machine, rest) {
             Ok(Some(behind)) => rest = behind,
             Ok(None) => return (rest, None),
             Err(end) => return (rest, Some(end)),
@@ -72,57 +68,50 @@ fn take_usual<'a, M: TaggedStore>(
     }
 }
 
-// Takes the step at the front of some bytes, only where a line of any length has room: what comes behind its line
-// feed, or `None`, and nothing has changed. Each kind of step is read and made by its own type: so no step goes through
-// memory. Nothing else tests how many bytes are left. The three kinds that are rarest are left out, and bounds are
-// set in a function of their own: so the loop over steps is small enough for the compiler to make one function of it.
-#[inline(always)]
-fn take_step<'a, M: TaggedStore>(
-    machine: &mut Machine<M>,
-    bytes: &'a [u8],
-) -> Result<Option<&'a [u8]>, StepEnd>
-    ensures some { IfOk result (λ taken. IfSome taken (λ rest. TakesStep (held_of M.contents machine.old) bytes.now
-        (held_of M.contents machine.new) rest.now)) }
-    ensures none { IfOk result (λ taken. IfNone taken (machine.new ≡ machine.old)) }
-    ensures err { IfErr result (λ end. (behind : List ℕ) × EndsStepAt (held_of M.contents machine.old) bytes.now behind end) }
-    ensures same { IfErr result (λ _. held_of M.contents machine.new ≡ held_of M.contents machine.old) }
-{
-    if bytes.len() < MOST_BYTES {
-        return Ok(None);
+// The steps at the front of some bytes: of the rare kinds, or of the others.
+struct AtFront<const RARE: bool>;
+
+impl<'a, M: TaggedStore, const RARE: bool> ByKind<'a, Machine<M>> for AtFront<RARE> {
+    type Answer = Result<Option<&'a [u8]>, StepEnd>;
+
+    ghost does = { λ old bytes result new. TakesOne (held_of M.contents old) bytes result (held_of M.contents new) };
+
+    // Takes a step from behind its head. Where a line of any length had room, so many bytes are left that the first test
+    // never holds; the compiler sees by it that no later one does. It is inlined: by a call a move takes 27 instructions
+    // more.
+    #[inline(always)]
+    fn with_kind<I: Instruction>(
+        machine: &mut Machine<M>,
+        operands: &'a [u8],
+    ) -> Result<Option<&'a [u8]>, StepEnd> {
+        if I::IS_RARE != RARE || operands.len() < MOST_BYTES - MOST_HEAD_BYTES {
+            return Ok(None);
+        }
+        let Some((instruction, rest)) = I::take(operands) else {
+            return Ok(None);
+        };
+        match perform_by(machine, instruction) {
+            Ok(()) => Ok(Some(rest)),
+            Err(end) => Err(end),
+        }
     }
-    let Some((head, operands)) = Head::take(bytes, b' ') else {
-        return Ok(None);
-    };
-    match head {
-        Head::Move => run::<M, Move, false>(machine, operands),
-        Head::ClearTag => run::<M, ClearTag, false>(machine, operands),
-        Head::SetBounds => run::<M, SetBounds, true>(machine, operands),
-        Head::SetAddr => run::<M, SetAddr, false>(machine, operands),
-        Head::AndPerm => run::<M, AndPerm, false>(machine, operands),
-        Head::LoadCap => run::<M, LoadCap, false>(machine, operands),
-        Head::StoreCap => run::<M, StoreCap, false>(machine, operands),
-        Head::Load => run::<M, Load, false>(machine, operands),
-        Head::Store => run::<M, Store, false>(machine, operands),
-        Head::Version
-        | Head::Mode
-        | Head::Root
-        | Head::SetBoundsExact
-        | Head::Seal
-        | Head::Unseal
-        | Head::End => Ok(None),
+
+    #[inline(always)]
+    fn with_none(_machine: &mut Machine<M>) -> Result<Option<&'a [u8]>, StepEnd> {
+        Ok(None)
     }
 }
 
-// Takes a step of a rare kind at the front of some bytes, as `take_step` takes the others.
-fn take_rare<'a, M: TaggedStore>(
+// Takes the step at the front of some bytes, only where a line of any length has room: what comes behind its line
+// feed, or `None`, and nothing has changed. Each kind of step is read and made by its own type: so no step goes through
+// memory. Nothing else tests how many bytes are left. The kinds that are rare are left out of the loop over the others, and
+// large ones are made in a function of their own: so that loop is small enough for the compiler to make one function of it.
+#[inline(always)]
+fn take_step<'a, M: TaggedStore, const RARE: bool>(
     machine: &mut Machine<M>,
     bytes: &'a [u8],
 ) -> Result<Option<&'a [u8]>, StepEnd>
-    ensures some { IfOk result (λ taken. IfSome taken (λ rest. TakesStep (held_of M.contents machine.old) bytes.now
-        (held_of M.contents machine.new) rest.now)) }
-    ensures none { IfOk result (λ taken. IfNone taken (machine.new ≡ machine.old)) }
-    ensures err { IfErr result (λ end. (behind : List ℕ) × EndsStepAt (held_of M.contents machine.old) bytes.now behind end) }
-    ensures same { IfErr result (λ _. held_of M.contents machine.new ≡ held_of M.contents machine.old) }
+    ensures { TakesOne (held_of M.contents machine.old) bytes.now result (held_of M.contents machine.new) }
 {
     if bytes.len() < MOST_BYTES {
         return Ok(None);
@@ -130,108 +119,63 @@ fn take_rare<'a, M: TaggedStore>(
     let Some((head, operands)) = Head::take(bytes, b' ') else {
         return Ok(None);
     };
-    match head {
-        Head::SetBoundsExact => run::<M, SetBoundsExact, false>(machine, operands),
-        Head::Seal => run::<M, Seal, false>(machine, operands),
-        Head::Unseal => run::<M, Unseal, false>(machine, operands),
-        _ => Ok(None),
+    by_head::<Machine<M>, AtFront<RARE>>(machine, head, operands)
+}
+
+// A step whose line is all that stands there.
+struct Alone;
+
+impl<'a, M: TaggedStore> ByKind<'a, Machine<M>> for Alone {
+    type Answer = Option<Result<(), StepEnd>>;
+
+    ghost does = { λ old bytes result new. TakesAll (held_of M.contents old) bytes result (held_of M.contents new) };
+
+    #[inline(always)]
+    fn with_kind<I: Instruction>(
+        machine: &mut Machine<M>,
+        operands: &'a [u8],
+    ) -> Option<Result<(), StepEnd>> {
+        let Some((instruction, rest)) = I::take(operands) else {
+            return None;
+        };
+        if goes_on(rest) {
+            return None;
+        }
+        match perform_by(machine, instruction) {
+            Ok(()) => Some(Ok(())),
+            Err(end) => Some(Err(end)),
+        }
+    }
+
+    #[inline(always)]
+    fn with_none(_machine: &mut Machine<M>) -> Option<Result<(), StepEnd>> {
+        None
     }
 }
 
 /// Takes bytes that are the line of a step, with its line feed, and no more; `None`, and nothing has changed,
-/// where they are not. It has a match of its own: with two callers the compiler does not inline `take_step`
-/// into the loop over steps, which was 12 per cent slower then on moves.
+/// where they are not.
 #[inline(always)]
 pub(crate) fn take_alone<M: TaggedStore>(
     machine: &mut Machine<M>,
     line: &[u8],
 ) -> Option<Result<(), StepEnd>>
-    ensures ok { IfSome result (λ answer. OnOk answer (TakesStep (held_of M.contents machine.old) line.now
-        (held_of M.contents machine.new) [])) }
-    ensures none { IfNone result (machine.new ≡ machine.old) }
-    ensures err { IfSome result (λ answer. IfErr answer (EndsStepAt (held_of M.contents machine.old) line.now [])) }
-    ensures same { IfSome result (λ answer. IfErr answer (λ _. held_of M.contents machine.new ≡ held_of M.contents machine.old)) }
+    ensures { TakesAll (held_of M.contents machine.old) line.now result (held_of M.contents machine.new) }
 {
     let (head, operands) = Head::take(line, b' ')?;
-    match head {
-        Head::Move => run_alone::<M, Move, false>(machine, operands),
-        Head::ClearTag => run_alone::<M, ClearTag, false>(machine, operands),
-        Head::SetBounds => run_alone::<M, SetBounds, true>(machine, operands),
-        Head::SetBoundsExact => run_alone::<M, SetBoundsExact, true>(machine, operands),
-        Head::SetAddr => run_alone::<M, SetAddr, false>(machine, operands),
-        Head::AndPerm => run_alone::<M, AndPerm, false>(machine, operands),
-        Head::Seal => run_alone::<M, Seal, true>(machine, operands),
-        Head::Unseal => run_alone::<M, Unseal, true>(machine, operands),
-        Head::LoadCap => run_alone::<M, LoadCap, false>(machine, operands),
-        Head::StoreCap => run_alone::<M, StoreCap, false>(machine, operands),
-        Head::Load => run_alone::<M, Load, false>(machine, operands),
-        Head::Store => run_alone::<M, Store, false>(machine, operands),
-        Head::Version | Head::Mode | Head::Root | Head::End => None,
-    }
-}
-
-// Takes a step of one kind, from behind its head, and makes it there, or apart. Where a line of any length had room, so
-// many bytes are left that the first test never holds; the compiler sees by it that no later one does. It is inlined: by
-// a call a move takes 27 instructions more.
-#[inline(always)]
-fn run<'a, M: TaggedStore, I: Instruction, const APART: bool>(
-    machine: &mut Machine<M>,
-    operands: &'a [u8],
-) -> Result<Option<&'a [u8]>, StepEnd>
-    ensures some { IfOk result (λ taken. IfSome taken (λ rest. TakesStep (held_of M.contents machine.old)
-        (head_spelling I.head ++ 32 ∷ operands.now) (held_of M.contents machine.new) rest.now)) }
-    ensures none { IfOk result (λ taken. IfNone taken (machine.new ≡ machine.old)) }
-    ensures err { IfErr result (λ end. (behind : List ℕ)
-        × EndsStepAt (held_of M.contents machine.old) (head_spelling I.head ++ 32 ∷ operands.now) behind end) }
-    ensures same { IfErr result (λ _. held_of M.contents machine.new ≡ held_of M.contents machine.old) }
-{
-    if operands.len() < MOST_BYTES - MOST_HEAD_BYTES {
-        return Ok(None);
-    }
-    let Some((instruction, rest)) = I::take(operands) else {
-        return Ok(None);
-    };
-    match perform_by::<M, I, APART>(machine, instruction) {
-        Ok(()) => Ok(Some(rest)),
-        Err(end) => Err(end),
-    }
-}
-
-// Takes a step of one kind, from behind its head, where nothing comes behind its line, and makes it there, or apart.
-#[inline(always)]
-fn run_alone<M: TaggedStore, I: Instruction, const APART: bool>(
-    machine: &mut Machine<M>,
-    operands: &[u8],
-) -> Option<Result<(), StepEnd>>
-    ensures ok { IfSome result (λ answer. OnOk answer (TakesStep (held_of M.contents machine.old)
-        (head_spelling I.head ++ 32 ∷ operands.now) (held_of M.contents machine.new) [])) }
-    ensures none { IfNone result (machine.new ≡ machine.old) }
-    ensures err { IfSome result (λ answer. IfErr answer
-        (EndsStepAt (held_of M.contents machine.old) (head_spelling I.head ++ 32 ∷ operands.now) [])) }
-    ensures same { IfSome result (λ answer. IfErr answer (λ _. held_of M.contents machine.new ≡ held_of M.contents machine.old)) }
-{
-    let Some((instruction, rest)) = I::take(operands) else {
-        return None;
-    };
-    if goes_on(rest) {
-        return None;
-    }
-    match perform_by::<M, I, APART>(machine, instruction) {
-        Ok(()) => Some(Ok(())),
-        Err(end) => Some(Err(end)),
-    }
+    by_head::<Machine<M>, Alone>(machine, head, operands)
 }
 
 // Makes a step there, or apart.
 #[inline(always)]
-fn perform_by<M: TaggedStore, I: Instruction, const APART: bool>(
+fn perform_by<M: TaggedStore, I: Instruction>(
     machine: &mut Machine<M>,
     step: I,
 ) -> Result<(), StepEnd>
     requires { IsStepInRange (I.step step) }
     ensures { AnswersStep (held_of M.contents machine.old) (I.step step) result (held_of M.contents machine.new) }
 {
-    if APART {
+    if I::IS_LARGE {
         perform_apart(machine, step)
     } else {
         step.perform(machine)

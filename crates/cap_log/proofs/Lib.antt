@@ -8,6 +8,7 @@ mod OffsetLemmas
 mod OperandLemmas
 mod PartLemmas
 mod RegisterLemmas
+mod Searches
 mod Shapes
 mod SizedLemmas
 mod SliceLemmas

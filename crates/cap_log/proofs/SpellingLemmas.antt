@@ -6,40 +6,41 @@ use Rattle.std.proofs.lemmas.List.Elements.{All-append, All-cons}
 use Rattle.cap_log.specs.Front.{HasNoFeed, IsLine}
 use Rattle.cap_log.specs.Lines.{IsInRange, IsLineAt, Spells, spelling}
 use Rattle.cap_log.specs.Heads.{IsHead, head_spelling}
-use Rattle.cap_log.specs.Parts.{Begins, BeginsWithNone, FitsBoth, Writes}
+use Rattle.cap_log.specs.Parts.{Begins, BeginsWithNone, FitBoth, Writes}
 use Rattle.cap_log.specs.declared.heads.Head.{Head}
 use Rattle.cap_log.specs.declared.lines.Line.{Line}
 use Rattle.cap_log.specs.declared.lines.Line.TheVariants.{Version}
 use Rattle.cap_log.specs.Spaceless.{head-spaceless}
 use Rattle.cap_log.proofs.Cuts.{same_cut}
 use Rattle.cap_log.proofs.WriteLemmas.{front_and_byte, length-Writes}
-use Rattle.cap_log.proofs.Shapes.{Fits, Operands, fits-of, head-operand, head_of, made, made-of, operands_of, shape, spelled, spelling-of}
+use Rattle.cap_log.proofs.Shapes.{Fits, Value, fits-of, head-operand, head_of, made, made-of, operands_of, row, row-short, spelling-of, text}
 
 -- lines with one spelling are one
-same_made : (h k : Head) → h ≡ k → (x : Operands h) (y : Operands k) → Fits h x → Fits k y → spelled h x ≡ spelled k y → made h x ≡ made k y
-same_made h k e x = subst (λ k. (y : Operands k) → Fits h x → Fits k y → spelled h x ≡ spelled k y → made h x ≡ made k y) e
-    (λ y fits fits' same. ap (made h) ((shape h).one x y fits fits' same))
+same_made : (h k : Head) → h ≡ k → (x : Value h) (y : Value k) → Fits h x → Fits k y → text h x ≡ text k y → made h x ≡ made k y
+same_made h k e x = subst (λ k. (y : Value k) → Fits h x → Fits k y → text h x ≡ text k y → made h x ≡ made k y) e
+    (λ y fits fits' same. ap (made h) ((row h).operand.one x y fits fits' same))
 
 pub one_spelling : (bytes : List ℕ) (a b : Line) → Spells bytes a → Spells bytes b → a ≡ b
 one_spelling bytes a b spells spells' =
-    let parts = same_cut 32 (head_spelling (head_of a)) (head_spelling (head_of b)) (spelled (head_of a) (operands_of a))
-    (spelled (head_of b) (operands_of b))
+    let parts = same_cut 32 (head_spelling (head_of a)) (head_spelling (head_of b)) (text (head_of a) (operands_of a))
+    (text (head_of b) (operands_of b))
     (head-spaceless (head_of a)) (head-spaceless (head_of b)) (sym (spelling-of a) ∙ (sym spells.1 ∙ (spells'.1 ∙ spelling-of b))) in
     sym (made-of a) ∙ same_made (head_of a) (head_of b) (head-operand.one (head_of a) (head_of b) tt tt parts.0) (operands_of a)
     (operands_of b) (fits-of a spells.0) (fits-of b spells'.0) parts.1 ∙ made-of b
 
 -- a spelling has no line feed and at most 95 bytes
 pub spelling-plain : (l : Line) → IsInRange l → HasNoFeed (spelling l)
-spelling-plain l fits = rw (spelling-of l) (All-append (λ b. b ≢ 10) (head_spelling (head_of l)) (32 ∷ spelled (head_of l) (operands_of l))
+spelling-plain l fits = rw (spelling-of l) (All-append (λ b. b ≢ 10) (head_spelling (head_of l)) (32 ∷ text (head_of l) (operands_of l))
     (head-operand.plain (head_of l) tt)
-    (All-cons (λ b. b ≢ 10) 32 (spelled (head_of l) (operands_of l)) (omega arith)
-    ((shape (head_of l)).plain (operands_of l) (fits-of l fits))))
+    (All-cons (λ b. b ≢ 10) 32 (text (head_of l) (operands_of l)) (omega arith)
+    ((row (head_of l)).operand.plain (operands_of l) (fits-of l fits))))
 
 pub spelling-short : (l : Line) → IsInRange l → length (spelling l) ≤ 95
 spelling-short l fits =
-    let long = ap length (spelling-of l) ∙ length-append (head_spelling (head_of l)) (32 ∷ spelled (head_of l) (operands_of l)) in
+    let long = ap length (spelling-of l) ∙ length-append (head_spelling (head_of l)) (32 ∷ text (head_of l) (operands_of l)) in
     let first = head-operand.short (head_of l) tt in
-    let second = (shape (head_of l)).short (operands_of l) (fits-of l fits) in
+    let second = (row (head_of l)).operand.short (operands_of l) (fits-of l fits) in
+    let most = row-short (head_of l) in
     omega arith
 
 -- so a spelling and a line feed are the line at the front of any bytes
@@ -47,18 +48,18 @@ pub IsLine-spelling : (l : Line) → IsInRange l → (rest : List ℕ) → IsLin
 IsLine-spelling l fits rest = record { whole = refl; one = spelling-plain l fits; short = spelling-short l fits }
 
 -- a line as its head and its operands
-pub line_fits : (l : Line) → IsInRange l → FitsBoth IsHead head_spelling (Fits (head_of l)) (head_of l, operands_of l)
-line_fits l fits = (tt, head-spaceless (head_of l), fits-of l fits)
+pub line_fits : (l : Line) → IsInRange l → FitBoth IsHead (Fits (head_of l)) (head_of l, operands_of l)
+line_fits l fits = (tt, fits-of l fits)
 
 pub line_room : (l : Line) → IsInRange l → (n : ℕ) → 95 ≤ n → 0 + length
-    (head_spelling (head_of l) ++ 32 ∷ spelled (head_of l) (operands_of l)) ≤ n
+    (head_spelling (head_of l) ++ 32 ∷ text (head_of l) (operands_of l)) ≤ n
 line_room l fits n room =
     let short = spelling-short l fits in
     let same = ap length (spelling-of l) in
     omega arith
 
 pub line_written : (l : Line) (old new : List ℕ) (end : ℕ) → Writes 0 (head_spelling (head_of l) ++ 32
-    ∷ spelled (head_of l) (operands_of l)) old new end → Writes 0 (spelling l) old new end
+    ∷ text (head_of l) (operands_of l)) old new end → Writes 0 (spelling l) old new end
 line_written l old new end written = subst (λ (text : List ℕ). Writes 0 text old new end) (sym (spelling-of l)) written
 
 -- a version's number is one digit

@@ -3,7 +3,7 @@ use Rattle.std.proofs.Common.{◌≡◌, ℕ, ◌+◌, ◌<◌, ◌≤◌, Bool,
 use Rattle.std.proofs.lemmas.List.{append_assoc, drop_more, get_or_at, length-append, take-append-drop, take_at}
 use Rattle.cap_word.specs.Digits.{hex_digits}
 use Rattle.cap_log.specs.Lines.{tag_spelling}
-use Rattle.cap_log.specs.Parts.{Begins, BeginsWithNone, FitsBoth, HasNoSpace, IsCutAt, Lacks, spaced}
+use Rattle.cap_log.specs.Parts.{Begins, BeginsWithNone, FitBoth, HasNoSpace, IsCutAt, Lacks, spaced}
 use Rattle.cap_log.proofs.Cuts.{no_cut, same_cut, same_word}
 
 -- a word that was read, in front of the byte that ends it
@@ -62,27 +62,26 @@ result_in_front tag end n (a ∷ b ∷ x ∷ d ∷ rest) long ended first second
     ∙ ap (λ (bs : List ℕ). 61 ∷ 32 ∷ (tag_spelling tag ++ 32 ∷ bs)) word
     ∙ ap (λ (bs : List ℕ). 61 ∷ 32 ∷ bs) (sym (append_assoc (tag_spelling tag) (32 ∷ hex_digits 32 n) (end ∷ drop 33 rest)))
 
--- two parts
+-- two parts, of which the first is one word
 module _ {A B : Type 0} (P : A → Type 0) (first : A → List ℕ) (Q : B → Type 0) (second : B → List ℕ) (end : ℕ) (bytes : List ℕ) where
   -- their bytes, cut behind the first
-  both_cut : (pair : A × B) (rest : List ℕ) → Begins (FitsBoth P first Q) (spaced first second) end bytes pair rest
+  both_cut : (pair : A × B) (rest : List ℕ) → Begins (FitBoth P Q) (spaced first second) end bytes pair rest
       → bytes ≡ first pair.0 ++ 32 ∷ (second pair.1 ++ end ∷ rest)
   both_cut pair rest begins = begins.1 ∙ append_assoc (first pair.0) (32 ∷ second pair.1) (end ∷ rest)
 
-  pub both : (a : A) (b : B) (middle rest : List ℕ) → HasNoSpace (first a) → Begins P first 32 bytes a middle
-      → Begins Q second end middle b rest
-      → Begins (FitsBoth P first Q) (spaced first second) end bytes (a, b) rest
-  both a b middle rest one x y = (
-    (x.0, one, y.0),
+  pub both : (a : A) (b : B) (middle rest : List ℕ) → Begins P first 32 bytes a middle → Begins Q second end middle b rest
+      → Begins (FitBoth P Q) (spaced first second) end bytes (a, b) rest
+  both a b middle rest x y = (
+    (x.0, y.0),
     x.1 ∙ ap (λ (m : List ℕ). first a ++ 32 ∷ m) y.1 ∙ sym (append_assoc (first a) (32 ∷ second b) (end ∷ rest)),
   )
 
-  pub no_first : BeginsWithNone P first 32 bytes → BeginsWithNone (FitsBoth P first Q) (spaced first second) end bytes
+  pub no_first : BeginsWithNone P first 32 bytes → BeginsWithNone (FitBoth P Q) (spaced first second) end bytes
   no_first none pair rest begins = none pair.0 (second pair.1 ++ end ∷ rest) (begins.0.0, both_cut pair rest begins)
 
-  pub no_second : (a : A) (middle : List ℕ) → HasNoSpace (first a) → Begins P first 32 bytes a middle → BeginsWithNone Q second end middle
-      → BeginsWithNone (FitsBoth P first Q) (spaced first second) end bytes
-  no_second a middle one x none pair rest begins =
-      let same = same_cut 32 (first a) (first pair.0) middle (second pair.1 ++ end ∷ rest) one begins.0.1
+  pub no_second : ((a : A) → P a → HasNoSpace (first a)) → (a : A) (middle : List ℕ) → Begins P first 32 bytes a middle
+      → BeginsWithNone Q second end middle → BeginsWithNone (FitBoth P Q) (spaced first second) end bytes
+  no_second spaceless a middle x none pair rest begins =
+      let same = same_cut 32 (first a) (first pair.0) middle (second pair.1 ++ end ∷ rest) (spaceless a x.0) (spaceless pair.0 begins.0.0)
       (sym x.1 ∙ both_cut pair rest begins) in
-      none pair.1 rest (begins.0.2, same.1)
+      none pair.1 rest (begins.0.1, same.1)

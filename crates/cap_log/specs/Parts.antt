@@ -41,9 +41,9 @@ BeginsWithNone {A} Fits spelled end bytes = (value : A) (rest : List ℕ) → Be
 abbrev pub BeginsWithout : List ℕ → ℕ → List ℕ → Type 0
 BeginsWithout text end bytes = (rest : List ℕ) → bytes ≡ text ++ end ∷ rest → ⊥
 
--- two parts, of which the first is one word, with a space between them
-abbrev pub FitsBoth : {A B : Type 0} → (A → Type 0) → (A → List ℕ) → (B → Type 0) → A × B → Type 0
-FitsBoth P first Q pair = P pair.0 × HasNoSpace (first pair.0) × Q pair.1
+-- two parts, each in range
+abbrev pub FitBoth : {A B : Type 0} → (A → Type 0) → (B → Type 0) → A × B → Type 0
+FitBoth P Q pair = P pair.0 × Q pair.1
 
 -- their spelling: the first, a space, the second
 abbrev pub spaced : {A B : Type 0} → (A → List ℕ) → (B → List ℕ) → A × B → List ℕ

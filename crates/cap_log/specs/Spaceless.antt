@@ -1,6 +1,6 @@
 -- Laws of spellings: which bytes they lack.
 use Rattle.std.proofs.Common.{◌≡◌, ◌≢◌, ℕ, zero, suc, ◌*◌, ◌/◌, ◌%◌, ◌^◌, ◌<◌, ◌≤◌, ℤ, pos, negsuc, true, not, eqb, nat_lt}
-use Rattle.std.proofs.Common.{List, [], ◌∷◌, refl, arith, codes, decimal}
+use Rattle.std.proofs.Common.{List, [], ◌∷◌, length, refl, lit≤, arith, codes, decimal}
 use Rattle.std.specs.Fmt.{signed_decimal}
 use Rattle.std.specs.List.{list_all}
 use Rattle.std.proofs.lemmas.Bool.{and_parts, not-true, eqb-false, ltb-true}
@@ -81,27 +81,27 @@ Lacks-signed c (negsuc n) low fits =
 pub offset-spaceless : (z : ℤ) → IsOffset z → HasNoSpace (signed_decimal z)
 offset-spaceless z fits = Lacks-signed 32 z (omega arith) fits
 
--- heads
-above : (h : Head) → list_all (λ b. nat_lt 32 b) (head_spelling h) ≡ true
-above head.Version = refl
-above head.Mode = refl
-above head.Root = refl
-above head.Move = refl
-above head.ClearTag = refl
-above head.Seal = refl
-above head.Unseal = refl
-above head.SetBounds = refl
-above head.SetBoundsExact = refl
-above head.SetAddr = refl
-above head.AndPerm = refl
-above head.LoadCap = refl
-above head.StoreCap = refl
-above head.Load = refl
-above head.Store = refl
-above head.End = refl
+-- a head has few bytes, all above a space
+pub head-plain : (h : Head) → (list_all (λ b. nat_lt 32 b) (head_spelling h) ≡ true) × (length (head_spelling h) ≤ 14)
+head-plain head.Version = (refl, lit≤ tt)
+head-plain head.Mode = (refl, lit≤ tt)
+head-plain head.Root = (refl, lit≤ tt)
+head-plain head.Move = (refl, lit≤ tt)
+head-plain head.ClearTag = (refl, lit≤ tt)
+head-plain head.Seal = (refl, lit≤ tt)
+head-plain head.Unseal = (refl, lit≤ tt)
+head-plain head.SetBounds = (refl, lit≤ tt)
+head-plain head.SetBoundsExact = (refl, lit≤ tt)
+head-plain head.SetAddr = (refl, lit≤ tt)
+head-plain head.AndPerm = (refl, lit≤ tt)
+head-plain head.LoadCap = (refl, lit≤ tt)
+head-plain head.StoreCap = (refl, lit≤ tt)
+head-plain head.Load = (refl, lit≤ tt)
+head-plain head.Store = (refl, lit≤ tt)
+head-plain head.End = (refl, lit≤ tt)
 
 pub Lacks-head : (c : ℕ) (h : Head) → c ≤ 32 → Lacks c (head_spelling h)
-Lacks-head c h low = Lacks-by_above c (head_spelling h) low (above h)
+Lacks-head c h low = Lacks-by_above c (head_spelling h) low (head-plain h).0
 
 pub head-spaceless : (h : Head) → HasNoSpace (head_spelling h)
 head-spaceless h = Lacks-head 32 h (omega arith)

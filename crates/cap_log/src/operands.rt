@@ -19,7 +19,6 @@ use crate::operands::numbers::{AndPerm, SetAddr, SetBounds, SetBoundsExact};
 use crate::operands::registers::{ClearTag, Move, Seal, Unseal};
 use crate::parts::Part;
 use crate::parts::cutting::split_end;
-use crate::parts::decimals::Count;
 use cap_word::Word;
 
 /// The operands of one kind of step, and what its line records.
@@ -82,8 +81,8 @@ pub fn take_operands(head: Head, bytes: &[u8]) -> Option<(Line, &[u8])>
         Head::Load => take_step::<Load>(bytes),
         Head::Store => take_step::<Store>(bytes),
         Head::End => {
-            let (count, rest) = Count::take(bytes, b'\n')?;
-            Some((Line::End(count.0), rest))
+            let (count, rest) = u32::take(bytes, b'\n')?;
+            Some((Line::End(count), rest))
         }
     }
 }

@@ -1,7 +1,7 @@
 //! The parts of a line: each takes itself from the front of some bytes, with the byte that ends it.
 
 ghost use Rattle.std.specs.Prelude.{ℕ, List, ◌+◌, ◌≤◌, length, IfSome, IfNone};
-ghost use Rattle.cap_log.specs.Parts.{Begins, BeginsWithNone, FitsBoth, HasNoSpace, IsEnd, Writes, spaced};
+ghost use Rattle.cap_log.specs.Parts.{Begins, BeginsWithNone, FitBoth, HasNoSpace, IsEnd, Writes, spaced};
 
 pub mod cutting;
 pub mod decimals;
@@ -42,7 +42,7 @@ pub trait Single: Part {
 
 /// A word, a space, and another part.
 impl<A: Single, B: Part> Part for (A, B) {
-    ghost fits = { FitsBoth A.Part.fits A.Part.spelled B.fits };
+    ghost fits = { FitBoth A.Part.fits B.fits };
 
     ghost spelled = { spaced A.Part.spelled B.spelled };
 

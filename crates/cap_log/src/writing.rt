@@ -11,7 +11,6 @@ use crate::heads::Head;
 use crate::lines::{Line, Mode, Place, Step};
 use crate::operands::Operands;
 use crate::parts::Part;
-use crate::parts::decimals::Count;
 
 /// Writes a line and its line feed at the front of the buffer, and answers how many bytes they are.
 /// The line's numbers have to be in their ranges. The rest of the buffer stays as it was, and
@@ -57,7 +56,7 @@ fn write_words(line: &Line, buffer: &mut [u8]) -> usize
         Line::Mode(mode) => write_mode(mode, buffer),
         Line::Root(place, word) => (Head::Root, (place, word)).write(buffer, 0),
         Line::Step(step) => write_any(step, buffer),
-        Line::End(steps) => (Head::End, Count(steps)).write(buffer, 0),
+        Line::End(steps) => (Head::End, steps).write(buffer, 0),
     }
 }
 

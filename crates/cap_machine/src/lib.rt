@@ -22,7 +22,7 @@ mod rules;
 mod stepping;
 
 pub use crate::ends::StepEnd;
-pub use crate::instructions::Instruction;
+pub use crate::instructions::{ByKind, Instruction, by_head};
 pub use crate::laws::{
     accesses_lie_inside, authority_never_grows, origins_are_roots, origins_follow_descent,
     runs_end_in_accounts, steps_stay_within,

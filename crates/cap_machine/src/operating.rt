@@ -36,6 +36,8 @@ impl Instruction for ClearTag {
 }
 
 impl Instruction for SetBounds {
+    const IS_LARGE: bool = true;
+
     #[inline(always)]
     fn perform<M: TaggedStore>(self, machine: &mut Machine<M>) -> Result<(), StepEnd> {
         let source = machine.register(self.source);
@@ -46,6 +48,10 @@ impl Instruction for SetBounds {
 }
 
 impl Instruction for SetBoundsExact {
+    const IS_RARE: bool = true;
+
+    const IS_LARGE: bool = true;
+
     #[inline(always)]
     fn perform<M: TaggedStore>(self, machine: &mut Machine<M>) -> Result<(), StepEnd> {
         let source = machine.register(self.source);
@@ -74,6 +80,10 @@ impl Instruction for AndPerm {
 }
 
 impl Instruction for Seal {
+    const IS_RARE: bool = true;
+
+    const IS_LARGE: bool = true;
+
     #[inline(always)]
     fn perform<M: TaggedStore>(self, machine: &mut Machine<M>) -> Result<(), StepEnd> {
         let source = machine.register(self.source);
@@ -85,6 +95,10 @@ impl Instruction for Seal {
 }
 
 impl Instruction for Unseal {
+    const IS_RARE: bool = true;
+
+    const IS_LARGE: bool = true;
+
     #[inline(always)]
     fn perform<M: TaggedStore>(self, machine: &mut Machine<M>) -> Result<(), StepEnd> {
         let source = machine.register(self.source);

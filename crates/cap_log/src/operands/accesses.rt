@@ -9,12 +9,11 @@ use crate::operands::Operands;
 use crate::parts::Part;
 use crate::parts::offsets::Offset;
 use crate::parts::registers::{Register, Target};
-use crate::parts::results::Recorded;
 use crate::parts::sized::{Loaded, Stored};
 use cap_word::Cap;
 
 /// A target, an authority, an offset and a result.
-type CapLoaded = (Target, (Register, (Offset, Recorded)));
+type CapLoaded = (Target, (Register, (Offset, Cap)));
 
 /// A source, an authority and an offset.
 type CapStored = (Register, (Register, Offset));
@@ -45,12 +44,12 @@ impl Operands for LoadCap {
 
     #[inline(always)]
     fn take(bytes: &[u8]) -> Option<(LoadCap, &[u8])> {
-        let ((target, (authority, (offset, recorded))), rest) = CapLoaded::take(bytes, b'\n')?;
+        let ((target, (authority, (offset, result))), rest) = CapLoaded::take(bytes, b'\n')?;
         let step = LoadCap {
             target: target.0,
             authority: authority.0,
             offset: offset.0,
-            result: recorded.0,
+            result,
         };
         Some((step, rest))
     }
@@ -59,10 +58,7 @@ impl Operands for LoadCap {
     fn write(self, buffer: &mut [u8]) -> usize {
         let operands = (
             Target(self.target),
-            (
-                Register(self.authority),
-                (Offset(self.offset), Recorded(self.result)),
-            ),
+            (Register(self.authority), (Offset(self.offset), self.result)),
         );
         (Head::LoadCap, operands).write(buffer, 0)
     }

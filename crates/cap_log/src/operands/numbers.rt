@@ -7,13 +7,11 @@ use crate::heads::Head;
 use crate::lines::Step;
 use crate::operands::Operands;
 use crate::parts::Part;
-use crate::parts::hexadecimals::Number;
 use crate::parts::registers::{Register, Target};
-use crate::parts::results::Recorded;
 use cap_word::Cap;
 
 /// A target, a source, a number and a result.
-type Numbered = (Target, (Register, (Number, Recorded)));
+type Numbered = (Target, (Register, (u64, Cap)));
 
 /// `setbounds`: the source's address and this length become bounds, rounded.
 #[derive(Clone, Copy, Debug, PartialEq, Eq)]
@@ -35,12 +33,12 @@ impl Operands for SetBounds {
 
     #[inline(always)]
     fn take(bytes: &[u8]) -> Option<(SetBounds, &[u8])> {
-        let ((target, (source, (length, recorded))), rest) = Numbered::take(bytes, b'\n')?;
+        let ((target, (source, (length, result))), rest) = Numbered::take(bytes, b'\n')?;
         let step = SetBounds {
             target: target.0,
             source: source.0,
-            length: length.0,
-            result: recorded.0,
+            length,
+            result,
         };
         Some((step, rest))
     }
@@ -49,10 +47,7 @@ impl Operands for SetBounds {
     fn write(self, buffer: &mut [u8]) -> usize {
         let operands = (
             Target(self.target),
-            (
-                Register(self.source),
-                (Number(self.length), Recorded(self.result)),
-            ),
+            (Register(self.source), (self.length, self.result)),
         );
         (Head::SetBounds, operands).write(buffer, 0)
     }
@@ -83,12 +78,12 @@ impl Operands for SetBoundsExact {
 
     #[inline(always)]
     fn take(bytes: &[u8]) -> Option<(SetBoundsExact, &[u8])> {
-        let ((target, (source, (length, recorded))), rest) = Numbered::take(bytes, b'\n')?;
+        let ((target, (source, (length, result))), rest) = Numbered::take(bytes, b'\n')?;
         let step = SetBoundsExact {
             target: target.0,
             source: source.0,
-            length: length.0,
-            result: recorded.0,
+            length,
+            result,
         };
         Some((step, rest))
     }
@@ -97,10 +92,7 @@ impl Operands for SetBoundsExact {
     fn write(self, buffer: &mut [u8]) -> usize {
         let operands = (
             Target(self.target),
-            (
-                Register(self.source),
-                (Number(self.length), Recorded(self.result)),
-            ),
+            (Register(self.source), (self.length, self.result)),
         );
         (Head::SetBoundsExact, operands).write(buffer, 0)
     }
@@ -131,12 +123,12 @@ impl Operands for SetAddr {
 
     #[inline(always)]
     fn take(bytes: &[u8]) -> Option<(SetAddr, &[u8])> {
-        let ((target, (source, (address, recorded))), rest) = Numbered::take(bytes, b'\n')?;
+        let ((target, (source, (address, result))), rest) = Numbered::take(bytes, b'\n')?;
         let step = SetAddr {
             target: target.0,
             source: source.0,
-            address: address.0,
-            result: recorded.0,
+            address,
+            result,
         };
         Some((step, rest))
     }
@@ -145,10 +137,7 @@ impl Operands for SetAddr {
     fn write(self, buffer: &mut [u8]) -> usize {
         let operands = (
             Target(self.target),
-            (
-                Register(self.source),
-                (Number(self.address), Recorded(self.result)),
-            ),
+            (Register(self.source), (self.address, self.result)),
         );
         (Head::SetAddr, operands).write(buffer, 0)
     }
@@ -179,12 +168,12 @@ impl Operands for AndPerm {
 
     #[inline(always)]
     fn take(bytes: &[u8]) -> Option<(AndPerm, &[u8])> {
-        let ((target, (source, (mask, recorded))), rest) = Numbered::take(bytes, b'\n')?;
+        let ((target, (source, (mask, result))), rest) = Numbered::take(bytes, b'\n')?;
         let step = AndPerm {
             target: target.0,
             source: source.0,
-            mask: mask.0,
-            result: recorded.0,
+            mask,
+            result,
         };
         Some((step, rest))
     }
@@ -193,10 +182,7 @@ impl Operands for AndPerm {
     fn write(self, buffer: &mut [u8]) -> usize {
         let operands = (
             Target(self.target),
-            (
-                Register(self.source),
-                (Number(self.mask), Recorded(self.result)),
-            ),
+            (Register(self.source), (self.mask, self.result)),
         );
         (Head::AndPerm, operands).write(buffer, 0)
     }

@@ -8,14 +8,13 @@ use crate::lines::Step;
 use crate::operands::Operands;
 use crate::parts::Part;
 use crate::parts::registers::{Register, Target};
-use crate::parts::results::Recorded;
 use cap_word::Cap;
 
 /// A target, a source and a result.
-type Copied = (Target, (Register, Recorded));
+type Copied = (Target, (Register, Cap));
 
 /// A target, a source, an authority and a result.
-type Sealed = (Target, (Register, (Register, Recorded)));
+type Sealed = (Target, (Register, (Register, Cap)));
 
 /// `move`: the target gets the source.
 #[derive(Clone, Copy, Debug, PartialEq, Eq)]
@@ -35,21 +34,18 @@ impl Operands for Move {
 
     #[inline(always)]
     fn take(bytes: &[u8]) -> Option<(Move, &[u8])> {
-        let ((target, (source, recorded)), rest) = Copied::take(bytes, b'\n')?;
+        let ((target, (source, result)), rest) = Copied::take(bytes, b'\n')?;
         let step = Move {
             target: target.0,
             source: source.0,
-            result: recorded.0,
+            result,
         };
         Some((step, rest))
     }
 
     #[inline(always)]
     fn write(self, buffer: &mut [u8]) -> usize {
-        let operands = (
-            Target(self.target),
-            (Register(self.source), Recorded(self.result)),
-        );
+        let operands = (Target(self.target), (Register(self.source), self.result));
         (Head::Move, operands).write(buffer, 0)
     }
 
@@ -77,21 +73,18 @@ impl Operands for ClearTag {
 
     #[inline(always)]
     fn take(bytes: &[u8]) -> Option<(ClearTag, &[u8])> {
-        let ((target, (source, recorded)), rest) = Copied::take(bytes, b'\n')?;
+        let ((target, (source, result)), rest) = Copied::take(bytes, b'\n')?;
         let step = ClearTag {
             target: target.0,
             source: source.0,
-            result: recorded.0,
+            result,
         };
         Some((step, rest))
     }
 
     #[inline(always)]
     fn write(self, buffer: &mut [u8]) -> usize {
-        let operands = (
-            Target(self.target),
-            (Register(self.source), Recorded(self.result)),
-        );
+        let operands = (Target(self.target), (Register(self.source), self.result));
         (Head::ClearTag, operands).write(buffer, 0)
     }
 
@@ -121,12 +114,12 @@ impl Operands for Seal {
 
     #[inline(always)]
     fn take(bytes: &[u8]) -> Option<(Seal, &[u8])> {
-        let ((target, (source, (authority, recorded))), rest) = Sealed::take(bytes, b'\n')?;
+        let ((target, (source, (authority, result))), rest) = Sealed::take(bytes, b'\n')?;
         let step = Seal {
             target: target.0,
             source: source.0,
             authority: authority.0,
-            result: recorded.0,
+            result,
         };
         Some((step, rest))
     }
@@ -137,7 +130,7 @@ impl Operands for Seal {
             Target(self.target),
             (
                 Register(self.source),
-                (Register(self.authority), Recorded(self.result)),
+                (Register(self.authority), self.result),
             ),
         );
         (Head::Seal, operands).write(buffer, 0)
@@ -169,12 +162,12 @@ impl Operands for Unseal {
 
     #[inline(always)]
     fn take(bytes: &[u8]) -> Option<(Unseal, &[u8])> {
-        let ((target, (source, (authority, recorded))), rest) = Sealed::take(bytes, b'\n')?;
+        let ((target, (source, (authority, result))), rest) = Sealed::take(bytes, b'\n')?;
         let step = Unseal {
             target: target.0,
             source: source.0,
             authority: authority.0,
-            result: recorded.0,
+            result,
         };
         Some((step, rest))
     }
@@ -185,7 +178,7 @@ impl Operands for Unseal {
             Target(self.target),
             (
                 Register(self.source),
-                (Register(self.authority), Recorded(self.result)),
+                (Register(self.authority), self.result),
             ),
         );
         (Head::Unseal, operands).write(buffer, 0)

@@ -13,28 +13,24 @@ const COUNT_DIGITS: usize = 10;
 /// A count is below this.
 const COUNT_BOUND: u64 = 1 << 32;
 
-/// A decimal number, with no sign and no leading zero.
-#[derive(Clone, Copy)]
-pub struct Count(pub u32);
+/// A count: a decimal number, with no sign and no leading zero.
+impl Part for u32 {
+    ghost fits = { IsCount };
 
-impl Part for Count {
-    ghost fits = { λ count. IsCount count.0 };
-
-    ghost spelled = { λ count. decimal count.0 };
+    ghost spelled = { decimal };
 
     #[inline(always)]
-    fn take(bytes: &[u8], end: u8) -> Option<(Count, &[u8])> {
-        let (number, rest) = take_decimal(bytes, COUNT_DIGITS, 0, COUNT_BOUND, end)?;
-        Some((Count(number), rest))
+    fn take(bytes: &[u8], end: u8) -> Option<(u32, &[u8])> {
+        take_decimal(bytes, COUNT_DIGITS, 0, COUNT_BOUND, end)
     }
 
     fn write(&self, buffer: &mut [u8], at: usize) -> usize {
-        put_decimal(buffer, at, u64::from(self.0))
+        put_decimal(buffer, at, u64::from(*self))
     }
 }
 
-impl Single for Count {
-    ghost spaceless = { λ count fits. decimal-spaceless count.0 fits };
+impl Single for u32 {
+    ghost spaceless = { decimal-spaceless };
 }
 
 /// Takes a decimal number from a least one on and below a bound, which leaves it so many digits at most, with

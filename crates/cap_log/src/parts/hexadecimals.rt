@@ -14,31 +14,28 @@ use cap_word::{number_text, read_u64};
 const NUMBER_DIGITS: usize = 16;
 
 /// A length, an address or a mask: sixteen hexadecimal digits.
-#[derive(Clone, Copy)]
-pub struct Number(pub u64);
+impl Part for u64 {
+    ghost fits = { IsNumber };
 
-impl Part for Number {
-    ghost fits = { λ number. IsNumber number.0 };
-
-    ghost spelled = { λ number. hex_digits 16 number.0 };
+    ghost spelled = { hex_digits 16 };
 
     #[inline(always)]
-    fn take(bytes: &[u8], end: u8) -> Option<(Number, &[u8])> {
+    fn take(bytes: &[u8], end: u8) -> Option<(u64, &[u8])> {
         if bytes.len() <= NUMBER_DIGITS || bytes[NUMBER_DIGITS] != end {
             return None;
         }
         let number = read_u64(&bytes[..NUMBER_DIGITS])?;
-        Some((Number(number), &bytes[NUMBER_DIGITS + 1..]))
+        Some((number, &bytes[NUMBER_DIGITS + 1..]))
     }
 
     #[inline(always)]
     fn write(&self, buffer: &mut [u8], at: usize) -> usize {
-        write_number(buffer, at, self.0)
+        write_number(buffer, at, *self)
     }
 }
 
-impl Single for Number {
-    ghost spaceless = { λ number fits. number-spaceless number.0 };
+impl Single for u64 {
+    ghost spaceless = { λ number fits. number-spaceless number };
 }
 
 /// Writes a number in sixteen hexadecimal digits.

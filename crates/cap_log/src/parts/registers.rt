@@ -7,7 +7,7 @@ ghost use Rattle.cap_log.specs.Spaceless.{place-spaceless, register-spaceless};
 
 use crate::buffers::{put, put_few};
 use crate::lines::Place;
-use crate::parts::hexadecimals::{Number, write_number};
+use crate::parts::hexadecimals::write_number;
 use crate::parts::{Part, Single};
 
 /// The greatest register.
@@ -104,9 +104,9 @@ impl Part for Place {
     #[inline(always)]
     fn take(bytes: &[u8], end: u8) -> Option<(Place, &[u8])> {
         if let Some(digits) = bytes.strip_prefix(b"@") {
-            let (address, rest) = Number::take(digits, end)?;
-            if address.0 % 16 == 0 {
-                return Some((Place::Granule(address.0 / 16), rest));
+            let (address, rest) = u64::take(digits, end)?;
+            if address % 16 == 0 {
+                return Some((Place::Granule(address / 16), rest));
             }
             return None;
         }

@@ -44,16 +44,13 @@ impl Single for Word {
 }
 
 /// The result that a step records, at its end: `= `, a tag and a word.
-#[derive(Clone, Copy)]
-pub struct Recorded(pub Cap);
+impl Part for Cap {
+    ghost fits = { λ cap. IsWord cap.word.0 };
 
-impl Part for Recorded {
-    ghost fits = { λ recorded. IsWord recorded.0.word.0 };
-
-    ghost spelled = { λ recorded. result_spelling recorded.0 };
+    ghost spelled = { result_spelling };
 
     #[inline(always)]
-    fn take(bytes: &[u8], end: u8) -> Option<(Recorded, &[u8])> {
+    fn take(bytes: &[u8], end: u8) -> Option<(Cap, &[u8])> {
         if bytes.len() <= RESULT_LENGTH || bytes[RESULT_LENGTH] != end {
             return None;
         }
@@ -63,17 +60,17 @@ impl Part for Recorded {
             _ => return None,
         };
         let word = read_word(&bytes[WORD_START..RESULT_LENGTH])?;
-        Some((Recorded(Cap { tag, word }), &bytes[RESULT_LENGTH + 1..]))
+        Some((Cap { tag, word }, &bytes[RESULT_LENGTH + 1..]))
     }
 
     #[inline(always)]
     fn write(&self, buffer: &mut [u8], at: usize) -> usize {
-        if self.0.tag {
+        if self.tag {
             let digits = put(buffer, at, b"= 1 ");
-            put(buffer, digits, &word_text(self.0.word))
+            put(buffer, digits, &word_text(self.word))
         } else {
             let digits = put(buffer, at, b"= 0 ");
-            put(buffer, digits, &word_text(self.0.word))
+            put(buffer, digits, &word_text(self.word))
         }
     }
 }

@@ -1,8 +1,8 @@
-use Rattle.std.proofs.Common.{◌≡◌, ◌++◌, ◌∷◌, [], ℕ, List, Bor, Option, IfNone, IfSome, ap, append_assoc, sym, ◌∙◌, refl, subst}
+use Rattle.std.proofs.Common.{◌++◌, ◌∷◌, [], ℕ, List, Bor, Option, Ok, ap, append_assoc, sym, ◌∙◌, refl, subst}
 use Rattle.cap_log.specs.Lines.{spelling}
 use Rattle.cap_log.specs.declared.lines.Line.TheVariants.{Step}
 use Rattle.cap_machine.specs.Helds.{held_of}
-use Rattle.cap_judge.specs.Readings.{TakesStep}
+use Rattle.cap_judge.specs.Readings.{TakesOne}
 use Rattle.cap_judge.proofs.ReachLemmas.{steps_more, steps_none, steps_on}
 use Rattle.cap_judge.proofs.steps.take_steps.Goals as goal
 
@@ -15,13 +15,12 @@ steps-preserved g c =
     let first = held_of contents c.args.machine.now in
     let old = held_of contents c.steps.machine in
     let middle = held_of contents c.take_usual-end.new.machine in
-    let new = held_of contents c.take_rare.new.machine in
+    let new = held_of contents c.take_step.new.machine in
     let so_far = c.steps.invariant.taken in
     let usual = c.take_usual-end.ensures.taken in
     let at = c.take_usual-end.result.0.now in
     let on = steps_on first old middle c.args.bytes.now so_far.0 c.steps.rest.now usual.0 at so_far.1 so_far.2 usual.1 usual.2 in
-    let taken = subst (λ (t : Option (Bor (List ℕ))). IfSome t (λ rest. TakesStep middle at new rest.now))
-    c.in-Ok-Some.field-0-is c.in-Ok-Some.ensures.some in
+    let taken = subst (λ (t : Option (Bor (List ℕ))). TakesOne middle at (Ok t) new) c.in-Ok-Some.field-0-is c.in-Ok-Some.ensures in
     let line = spelling (Step taken.0) ++ 10 ∷ [] in
     let behind = c.in-Ok-Some.behind.now in
     record {
@@ -51,8 +50,9 @@ returns-in-Ok-None-clause-taken g c =
     let middle = held_of contents c.take_usual-end.new.machine in
     let so_far = c.steps.invariant.taken in
     let usual = c.take_usual-end.ensures.taken in
-    let same = subst (λ (t : Option (Bor (List ℕ))). IfNone t (c.take_rare.new.machine ≡ c.take_usual-end.new.machine))
-    c.in-Ok-None.field-0-is c.in-Ok-None.ensures.none in
+    let new = held_of contents c.take_step.new.machine in
+    let same = subst (λ (t : Option (Bor (List ℕ))). TakesOne middle c.take_usual-end.result.0.now (Ok t) new) c.in-Ok-None.field-0-is
+    c.in-Ok-None.ensures in
     rw same
     (steps_on first old middle c.args.bytes.now so_far.0 c.steps.rest.now usual.0 c.take_usual-end.result.0.now so_far.1 so_far.2 usual.1 usual.2)
 
@@ -64,5 +64,5 @@ returns-in-Err-clause-taken g c =
     let middle = held_of contents c.take_usual-end.new.machine in
     let so_far = c.steps.invariant.taken in
     let usual = c.take_usual-end.ensures.taken in
-    rw c.in-Err.ensures.same
+    rw c.in-Err.ensures.1
     (steps_on first old middle c.args.bytes.now so_far.0 c.steps.rest.now usual.0 c.take_usual-end.result.0.now so_far.1 so_far.2 usual.1 usual.2)

@@ -1,8 +1,8 @@
-use Rattle.std.proofs.Common.{◌++◌, ◌∷◌, [], ℕ, List, Bor, Option, IfSome, ap, append_assoc, sym, ◌∙◌, refl, subst}
+use Rattle.std.proofs.Common.{◌++◌, ◌∷◌, [], ℕ, List, Bor, Option, Ok, ap, append_assoc, sym, ◌∙◌, refl, subst}
 use Rattle.cap_log.specs.Lines.{spelling}
 use Rattle.cap_log.specs.declared.lines.Line.TheVariants.{Step}
 use Rattle.cap_machine.specs.Helds.{held_of}
-use Rattle.cap_judge.specs.Readings.{TakesStep}
+use Rattle.cap_judge.specs.Readings.{TakesOne}
 use Rattle.cap_judge.proofs.ReachLemmas.{steps_more, steps_none}
 use Rattle.cap_judge.proofs.steps.take_usual.Goals as goal
 
@@ -15,8 +15,7 @@ steps-preserved g c =
     let old = held_of g.M.TaggedStore.contents c.steps.machine in
     let new = held_of g.M.TaggedStore.contents c.take_step.new.machine in
     let so_far = c.steps.invariant.taken in
-    let taken = subst (λ (t : Option (Bor (List ℕ))). IfSome t (λ rest. TakesStep old c.steps.rest.now new rest.now))
-    c.in-Ok-Some.field-0-is c.in-Ok-Some.ensures.some in
+    let taken = subst (λ (t : Option (Bor (List ℕ))). TakesOne old c.steps.rest.now (Ok t) new) c.in-Ok-Some.field-0-is c.in-Ok-Some.ensures in
     let line = spelling (Step taken.0) ++ 10 ∷ [] in
     let behind = c.in-Ok-Some.behind.now in
     record {

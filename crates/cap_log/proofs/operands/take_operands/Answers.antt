@@ -1,5 +1,5 @@
 use Rattle.cap_log.specs.declared.heads.Head.TheVariants as head
-use Rattle.cap_log.proofs.Shapes.{mode-operand, no_operands, takes-made, version-operand}
+use Rattle.cap_log.proofs.Shapes.{mode-operand, no_operands, takes_made, version-operand}
 use Rattle.std.proofs.Common.{decimal}
 use Rattle.cap_log.specs.Lines.{IsVersion, mode_spelling}
 use Rattle.cap_log.specs.Parts.{IsMode}
@@ -15,11 +15,11 @@ returns-in_err-count-in-End-clause-none c =
     rw (c.from_residual-in_err-count-in-End.ensures, c.in-End.is) (no_operands head.End c.args.bytes.now c.in_err-count-in-End.ensures.none)
 
 pub returns-in_ok-place-in-Root-clause-some : goal.returns-in_ok-place-in-Root-clause-some
-returns-in_ok-place-in-Root-clause-some c = rw c.in-Root.is (takes-made head.Root (c.in_ok-place-in-Root.place, c.in_ok-place-in-Root.word)
+returns-in_ok-place-in-Root-clause-some c = rw c.in-Root.is (takes_made head.Root (c.in_ok-place-in-Root.place, c.in_ok-place-in-Root.word)
     c.args.bytes.now c.in_ok-place-in-Root.rest.now c.in_ok-place-in-Root.ensures.some)
 
 pub returns-in_ok-count-in-End-clause-some : goal.returns-in_ok-count-in-End-clause-some
-returns-in_ok-count-in-End-clause-some c = rw c.in-End.is (takes-made head.End c.in_ok-count-in-End.count c.args.bytes.now
+returns-in_ok-count-in-End-clause-some c = rw c.in-End.is (takes_made head.End c.in_ok-count-in-End.count c.args.bytes.now
     c.in_ok-count-in-End.rest.now c.in_ok-count-in-End.ensures.some)
 
 pub returns-in_err-word-in-Version-clause-none : goal.returns-in_err-word-in-Version-clause-none
@@ -36,7 +36,7 @@ returns-in_err-version-in-Version-clause-none c =
 pub returns-in_ok-version-in-Version-clause-some : goal.returns-in_ok-version-in-Version-clause-some
 returns-in_ok-version-in-Version-clause-some c =
     let cut = c.in_ok-word-in-Version in
-    rw c.in-Version.is (takes-made head.Version c.in_ok-version-in-Version.version c.args.bytes.now cut.rest.now
+    rw c.in-Version.is (takes_made head.Version c.in_ok-version-in-Version.version c.args.bytes.now cut.rest.now
     (taken IsVersion decimal 10 c.args.bytes.now cut.word.now cut.rest.now _ cut.ensures.some.whole c.in_ok-version-in-Version.ensures))
 
 pub returns-in_err-word-in-Mode-clause-none : goal.returns-in_err-word-in-Mode-clause-none
@@ -53,5 +53,5 @@ returns-in_err-mode-in-Mode-clause-none c =
 pub returns-in_ok-mode-in-Mode-clause-some : goal.returns-in_ok-mode-in-Mode-clause-some
 returns-in_ok-mode-in-Mode-clause-some c =
     let cut = c.in_ok-word-in-Mode in
-    rw c.in-Mode.is (takes-made head.Mode c.in_ok-mode-in-Mode.mode c.args.bytes.now cut.rest.now
+    rw c.in-Mode.is (takes_made head.Mode c.in_ok-mode-in-Mode.mode c.args.bytes.now cut.rest.now
     (taken IsMode mode_spelling 10 c.args.bytes.now cut.word.now cut.rest.now _ cut.ensures.some.whole c.in_ok-mode-in-Mode.ensures))

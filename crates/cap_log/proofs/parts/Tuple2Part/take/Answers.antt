@@ -8,14 +8,12 @@ returns-in_err-first-clause-none g c =
 
 pub returns-in_err-second-clause-none : goal.returns-in_err-second-clause-none
 returns-in_err-second-clause-none g c =
-    let one = g.met.A.Single.spaceless c.in_ok-first.first c.in_ok-first.ensures.some.0 in
-    rw c.from_residual-in_err-second.ensures (no_second g.A.Part.fits g.A.Part.spelled g.B.Part.fits
-    g.B.Part.spelled c.args.end c.args.bytes.now
-    c.in_ok-first.first c.in_ok-first.rest.now one c.in_ok-first.ensures.some c.in_err-second.ensures.none)
+    rw c.from_residual-in_err-second.ensures (no_second g.A.Part.fits g.A.Part.spelled g.B.Part.fits g.B.Part.spelled c.args.end
+    c.args.bytes.now g.met.A.Single.spaceless c.in_ok-first.first c.in_ok-first.rest.now c.in_ok-first.ensures.some
+    c.in_err-second.ensures.none)
 
 pub returns-clause-some : goal.returns-clause-some
 returns-clause-some g c =
-    let one = g.met.A.Single.spaceless c.in_ok-first.first c.in_ok-first.ensures.some.0 in
     both g.A.Part.fits g.A.Part.spelled g.B.Part.fits g.B.Part.spelled c.args.end c.args.bytes.now
-    c.in_ok-first.first c.in_ok-second.second c.in_ok-first.rest.now c.in_ok-second.rest.now one
+    c.in_ok-first.first c.in_ok-second.second c.in_ok-first.rest.now c.in_ok-second.rest.now
     c.in_ok-first.ensures.some c.in_ok-second.ensures.some

@@ -1,6 +1,6 @@
 use Rattle.cap_log.specs.declared.heads.Head.TheVariants as head
 use Rattle.cap_log.proofs.OffsetLemmas.{offset-bits}
-use Rattle.cap_log.proofs.Shapes.{no_operands, takes-made}
+use Rattle.cap_log.proofs.Shapes.{no_operands, takes_made}
 use Rattle.cap_log.proofs.operands.accesses.LoadCapOperands.take.Goals as goal
 
 pub returns-in_err-target-clause-none : goal.returns-in_err-target-clause-none
@@ -8,6 +8,6 @@ returns-in_err-target-clause-none c = rw c.from_residual.ensures (no_operands he
 
 pub returns-clause-some : goal.returns-clause-some
 returns-clause-some c =
-    rw (offset-bits c.in_ok-target.offset.0 c.in_ok-target.ensures.some.0.2.2.0) (takes-made head.LoadCap
-    (c.in_ok-target.target, (c.in_ok-target.authority, (c.in_ok-target.offset, c.in_ok-target.recorded))) c.args.bytes.now
+    rw (offset-bits c.in_ok-target.offset.0 c.in_ok-target.ensures.some.0.1.1.0) (takes_made head.LoadCap
+    (c.in_ok-target.target, (c.in_ok-target.authority, (c.in_ok-target.offset, c.in_ok-target.result))) c.args.bytes.now
     c.in_ok-target.rest.now c.in_ok-target.ensures.some)

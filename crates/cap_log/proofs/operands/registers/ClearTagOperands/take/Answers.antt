@@ -1,5 +1,5 @@
 use Rattle.cap_log.specs.declared.heads.Head.TheVariants as head
-use Rattle.cap_log.proofs.Shapes.{no_operands, takes-made}
+use Rattle.cap_log.proofs.Shapes.{no_operands, takes_made}
 use Rattle.cap_log.proofs.operands.registers.ClearTagOperands.take.Goals as goal
 
 pub returns-in_err-target-clause-none : goal.returns-in_err-target-clause-none
@@ -7,5 +7,5 @@ returns-in_err-target-clause-none c = rw c.from_residual.ensures (no_operands he
 
 pub returns-clause-some : goal.returns-clause-some
 returns-clause-some c =
-    takes-made head.ClearTag (c.in_ok-target.target, (c.in_ok-target.source, c.in_ok-target.recorded)) c.args.bytes.now
+    takes_made head.ClearTag (c.in_ok-target.target, (c.in_ok-target.source, c.in_ok-target.result)) c.args.bytes.now
     c.in_ok-target.rest.now c.in_ok-target.ensures.some

@@ -9,13 +9,13 @@ pub returns-in_err-address-clause-none : goal.returns-in_err-address-clause-none
 returns-in_err-address-clause-none c =
     let strip = c.in-Some.ensures.cases in
     rw c.from_residual.ensures (subst (BeginsWithNone IsPlace place_spelling c.args.end) (sym (stripped 64 _ _ strip.0 strip.1))
-    (no_address c.args.end c.in-Some.digits.now (λ n rest begins. c.in_err-address.ensures.none (record { 0 = n }) rest begins)))
+    (no_address c.args.end c.in-Some.digits.now c.in_err-address.ensures.none))
 
 pub returns-in-Some-clause-none : goal.returns-in-Some-clause-none
 returns-in-Some-clause-none c =
     let strip = c.in-Some.ensures.cases in
     subst (BeginsWithNone IsPlace place_spelling c.args.end) (sym (stripped 64 _ _ strip.0 strip.1))
-    (no_granule c.args.end c.in_ok-address.address.0 c.in-Some.digits.now c.in_ok-address.rest.now
+    (no_granule c.args.end c.in_ok-address.address c.in-Some.digits.now c.in_ok-address.rest.now
     c.in_ok-address.ensures.some c.if-address-eq0.false)
 
 pub returns-in_err-target-clause-none : goal.returns-in_err-target-clause-none

@@ -1,5 +1,5 @@
 use Rattle.cap_log.proofs.WriteLemmas.{Writes-then}
-use Rattle.cap_log.proofs.parts.results.RecordedPart.write.Goals as goal
+use Rattle.cap_log.proofs.parts.results.CapPart.write.Goals as goal
 
 pub returns-then-self : goal.returns-then-self
 returns-then-self c =

@@ -2,28 +2,28 @@ use Rattle.std.proofs.Common.{◌≡◌, ℕ, List, [], ◌∷◌, take, drop, g
 use Rattle.std.proofs.lemmas.List.{take_rest, take_at}
 use Rattle.cap_word.specs.Digits.{hex_digits}
 use Rattle.cap_word.proofs.DigitLemmas.{length-hex_digits}
-use Rattle.cap_log.specs.Lines.{tag_spelling}
+use Rattle.cap_log.specs.Lines.{IsWord, tag_spelling}
+use Rattle.cap_log.specs.Parts.{result_spelling}
 use Rattle.cap_log.proofs.PartLemmas.{drop_result, length-result}
-use Rattle.cap_log.proofs.Shapes.{FitsRecorded, recorded_text}
 use Rattle.cap_log.proofs.TakeLemmas.{none_ended_so, none_short, result_in_front}
-use Rattle.cap_log.proofs.parts.results.RecordedPart.take.Goals as goal
-use Rattle.cap_log.proofs.parts.results.RecordedPart.take.Goals.{in-61, in-61-2}
-use Rattle.cap_log.proofs.parts.results.RecordedPart.take.Goals.{then-bytes-le-RESULT_LENGTH-via-then-bytes-le-RESULT_LENGTH}
-use Rattle.cap_log.proofs.parts.results.RecordedPart.take.Goals.{then-bytes-le-RESULT_LENGTH-via-else-bytes-le-RESULT_LENGTH+then-bytes-end}
+use Rattle.cap_log.proofs.parts.results.CapPart.take.Goals as goal
+use Rattle.cap_log.proofs.parts.results.CapPart.take.Goals.{in-61, in-61-2}
+use Rattle.cap_log.proofs.parts.results.CapPart.take.Goals.{then-bytes-le-RESULT_LENGTH-via-then-bytes-le-RESULT_LENGTH}
+use Rattle.cap_log.proofs.parts.results.CapPart.take.Goals.{then-bytes-le-RESULT_LENGTH-via-else-bytes-le-RESULT_LENGTH+then-bytes-end}
 
 pub returns-then-bytes-le-RESULT_LENGTH-clause-none : goal.returns-then-bytes-le-RESULT_LENGTH-clause-none
 returns-then-bytes-le-RESULT_LENGTH-clause-none c = elim c.then-bytes-le-RESULT_LENGTH.branch [
   | then-bytes-le-RESULT_LENGTH-via-then-bytes-le-RESULT_LENGTH w ↦
-      none_short FitsRecorded recorded_text c.args.end 36 (λ a fits. length-result a.0) c.args.bytes.now w.if-bytes-le-RESULT_LENGTH.true
+      none_short (λ a. IsWord a.word.0) result_spelling c.args.end 36 (λ a fits. length-result a) c.args.bytes.now w.if-bytes-le-RESULT_LENGTH.true
   | then-bytes-le-RESULT_LENGTH-via-else-bytes-le-RESULT_LENGTH+then-bytes-end w ↦
-      none_ended_so FitsRecorded recorded_text c.args.end 36 (λ a fits. length-result a.0) c.args.bytes.now w.if-bytes-end.true
+      none_ended_so (λ a. IsWord a.word.0) result_spelling c.args.end 36 (λ a fits. length-result a) c.args.bytes.now w.if-bytes-end.true
 ]
 
 pub returns-in_err-word-clause-none : goal.returns-in_err-word-clause-none
 returns-in_err-word-clause-none c = rw c.from_residual.ensures (λ a rest begins.
-    c.in_err-word.ensures.none a.0.word.0 begins.0
-    (ap (λ (bs : List ℕ). take 32 (drop 4 bs)) begins.1 ∙ ap (take 32) (drop_result a.0.tag (hex_digits 32 a.0.word.0) (c.args.end ∷ rest))
-    ∙ take_at (hex_digits 32 a.0.word.0) (c.args.end ∷ rest) 32 (length-hex_digits 32 a.0.word.0)))
+    c.in_err-word.ensures.none a.word.0 begins.0
+    (ap (λ (bs : List ℕ). take 32 (drop 4 bs)) begins.1 ∙ ap (take 32) (drop_result a.tag (hex_digits 32 a.word.0) (c.args.end ∷ rest))
+    ∙ take_at (hex_digits 32 a.word.0) (c.args.end ∷ rest) 32 (length-hex_digits 32 a.word.0)))
 
 pub returns-clause-some : goal.returns-clause-some
 returns-clause-some c =

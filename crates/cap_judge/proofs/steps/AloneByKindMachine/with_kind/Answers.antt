@@ -2,23 +2,25 @@ use Rattle.std.proofs.Common.{◌≡◌, ℕ, List, [], ◌∷◌, ◌++◌, rul
 use Rattle.cap_log.specs.Heads.{head_spelling}
 use Rattle.cap_machine.specs.Helds.{EndsStep, Makes, held_of}
 use Rattle.cap_judge.specs.Readings.{EndsStepAt, TakesStep}
-use Rattle.cap_judge.proofs.ReachLemmas.{step_stopped, step_taken}
-use Rattle.cap_judge.proofs.steps.run_alone.Goals as goal
+use Rattle.cap_judge.proofs.ReachLemmas.{step_kept, step_stopped, step_taken}
+use Rattle.cap_judge.proofs.steps.AloneByKindMachine.with_kind.Goals as goal
 
-pub returns-in-Ok-clause-ok : goal.returns-in-Ok-clause-ok
-returns-in-Ok-clause-ok g c =
+pub returns-in-Ok : goal.returns-in-Ok
+returns-in-Ok g c =
     let old = held_of g.M.TaggedStore.contents c.args.machine.now in
     let new = held_of g.M.TaggedStore.contents c.perform_by.new.machine in
     let bytes = head_spelling g.I.Operands.head ++ 32 ∷ c.args.operands.now in
     let read = c.in-Some in
-    let behind = c.goes_on.ensures c.if-goes_on.false in
     let makes : Makes old (g.I.Operands.step read.instruction) new = search rules in
+    let behind = c.goes_on.ensures c.if-goes_on.false in
     let none : read.rest.now ≡ [] = search rules in
-    subst (λ (r : List ℕ). TakesStep old bytes new r) none
-    (step_taken old new bytes read.rest.now (g.I.Operands.step read.instruction) read.ensures.some makes)
+    record {
+      done = subst (λ (r : List ℕ). TakesStep old bytes new r) none
+          (step_taken old new bytes read.rest.now (g.I.Operands.step read.instruction) read.ensures.some makes);
+    }
 
-pub returns-in-Err-clause-err : goal.returns-in-Err-clause-err
-returns-in-Err-clause-err g c =
+pub returns-in-Err : goal.returns-in-Err
+returns-in-Err g c =
     let old = held_of g.M.TaggedStore.contents c.args.machine.now in
     let new = held_of g.M.TaggedStore.contents c.perform_by.new.machine in
     let bytes = head_spelling g.I.Operands.head ++ 32 ∷ c.args.operands.now in
@@ -26,5 +28,10 @@ returns-in-Err-clause-err g c =
     let behind = c.goes_on.ensures c.if-goes_on.false in
     let ends : EndsStep old (g.I.Operands.step read.instruction) c.in-Err.end new = search rules in
     let none : read.rest.now ≡ [] = search rules in
-    subst (λ (r : List ℕ). EndsStepAt old bytes r c.in-Err.end) none
-    (step_stopped old new bytes read.rest.now (g.I.Operands.step read.instruction) c.in-Err.end read.ensures.some ends)
+    record {
+      done = (
+        subst (λ (r : List ℕ). EndsStepAt old bytes r c.in-Err.end) none
+            (step_stopped old new bytes read.rest.now (g.I.Operands.step read.instruction) c.in-Err.end read.ensures.some ends),
+        step_kept old new (g.I.Operands.step read.instruction) c.in-Err.end ends,
+      );
+    }
