@@ -95,9 +95,9 @@ export const vectors = fs.readdirSync(file("examples/vectors"))
 /** Words at random and all that bench/vectors.py's plain definitions say of them. */
 export function drawnWords() {
     const program = `
-import json, random
-source = open("bench/vectors.py").read()
-exec(source[:source.rindex("main()")])
+import json, random, sys
+sys.path.insert(0, "bench")
+from vectors import NULL, SPACE, bounds, fields, mantissa, window, word_of
 draw = random.Random(7)
 drawn = []
 for k in range(400):
