@@ -8,7 +8,7 @@ ghost use Rattle.capcheck_freestanding.specs.Whys.{AnswersWhy, IsWhyOf};
 use cap_answers::answers::{Answer, NO_MEMORY, numbers_of, without_verdict};
 use cap_answers::texts::TextSink;
 use cap_report::judge_why_bytes;
-use tagmem::{LentStore, Slot};
+use tagmem_lent::{LentStore, Slot};
 
 /// What a judge answers that explains it (in C `capcheck_why`).
 #[repr(C)]

@@ -4,7 +4,7 @@ ghost use Rattle.cap_answers.specs.Answers.{AnswersBytes, NamesEscapesIn};
 
 use cap_answers::answers::{Answer, NO_MEMORY, numbers_of, without_verdict};
 use cap_judge::judge_bytes_keeping;
-use tagmem::{LentStore, Slot};
+use tagmem_lent::{LentStore, Slot};
 
 /// Judges the bytes of a log, as `capcheck judge` does: it is a yes exactly for a log whose steps have a run from
 /// its roots, and otherwise a no with the first fault. The granules that its lines name are kept in the slots, one

@@ -1,7 +1,8 @@
 //! What stores take of memory. `rt try --test --fail-alloc N` refuses the Nth growth of each test.
 
 use std::process::Abort;
-use tagmem::{LentStore, ListStore, NoMemory, PageStore, Slot, TaggedStore};
+use tagmem::{ListStore, NoMemory, PageStore, TaggedStore};
+use tagmem_lent::{LentStore, Slot};
 
 // Puts granules of a page each. A put whose memory is refused leaves the store as it was, and is made when it is tried
 // again.

@@ -1,20 +1,12 @@
 pub mod Granules
+pub mod Indexes
+pub mod Listed
 mod Added
 mod Blocks
 mod Chained
 mod Directories
-mod Indexes
-mod Joining
-mod Lent
-mod Listed
-mod Merging
 mod NextPut
 mod Pages
-mod Permuted
-mod Relent
 mod Rooms
-mod Runs
-mod Searching
 mod Slots
-mod Sorting
 mod Writes

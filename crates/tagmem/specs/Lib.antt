@@ -2,8 +2,6 @@ pub mod Blocks
 pub mod Chains
 pub mod Directories
 pub mod Granules
-pub mod Lent
-pub mod LentStores
 pub mod Listed
 pub mod ListLaws
 pub mod Pages

@@ -1,5 +1,5 @@
 -- Why the map that a list of entries is keeps the laws of a store.
-use Rattle.std.proofs.Common.{◌≡◌, ℕ, suc, ◌+◌, ◌^◌, ◌<◌, ◌≢◌, true, false, cond, eqb, List, [], ◌∷◌, map, length, take, get_or, Option, Some}
+use Rattle.std.proofs.Common.{◌≡◌, ℕ, suc, ◌+◌, ◌^◌, ◌<◌, ◌≢◌, true, false, cond, eqb, List, [], ◌∷◌, map, length, get_or, Option, Some}
 use Rattle.std.proofs.Common.{None, is_some, sym, refl, ap, subst, ◌∙◌, arith}
 use Rattle.std.specs.Ordering.{nat_cmp}
 use Rattle.std.specs.Cmp.{nat_cmp_total, unsigned_tied}
@@ -7,15 +7,13 @@ use Rattle.std.specs.FinMap as map
 use Rattle.std.specs.FinMap.{find, get-from_entries}
 use Rattle.std.proofs.lemmas.Bool.{eqb-true}
 use Rattle.std.proofs.lemmas.Bool.Decides.{nat_tests}
-use Rattle.std.proofs.lemmas.List.{length-map, length-take}
+use Rattle.std.proofs.lemmas.List.{length-map}
 use Rattle.std.proofs.lemmas.List.Elements.{All-head, All-tail}
 use Rattle.std.proofs.lemmas.Map.Keys.{below_from_sorted, sorted_from_strictly_increasing}
 use Rattle.std.proofs.lemmas.Option.{none-some, same_Some}
 use Rattle.tagmem.specs.declared.list_store.Listed.{Listed}
 use Rattle.tagmem.specs.Granules.{Entry, IsStored, AreStored}
-use Rattle.tagmem.specs.declared.lent_store.Slot.{Slot}
-use Rattle.tagmem.specs.Lent.{AreApart, entries_of, listed_of}
-use Rattle.tagmem.specs.Listed.{entry_of, keyed, contents_of, granules_of, IsRising, AllStored}
+use Rattle.tagmem.specs.Listed.{entry_of, keyed, contents_of, granules_of, AreApart, IsRising, AllStored}
 
 -- the granule of the entry at an index
 abbrev pub granule_at : List Listed → ℕ → ℕ
@@ -94,8 +92,3 @@ len-contents_of l rising = len-apart l (apart_far l (rises_far l rising))
 -- and a short one has a map whose count fits
 pub len_fits : (l : List Listed) → IsRising l → length l < 2 ^ 32 → map.len (contents_of l) < 2 ^ 32
 len_fits l rising short = omega (arith, len-contents_of l rising)
-
--- of few slots too
-pub few_entries : (used : ℕ) (slots : List Slot) → AreApart (entries_of used slots) → used < 2 ^ 32
-    → map.len (contents_of (entries_of used slots)) < 2 ^ 32
-few_entries used slots apart few = omega (arith, len-apart (entries_of used slots) apart, length-map (take used slots) listed_of, length-take used slots)

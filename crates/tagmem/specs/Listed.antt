@@ -1,5 +1,5 @@
 -- The entries that a `ListStore` keeps, and the map that they are. All of it is this profile's own.
-use Rattle.std.specs.Prelude.{◌≡◌, ℕ, ◌<◌, ◌≤◌, List, length, map, All, slice_index}
+use Rattle.std.specs.Prelude.{◌≡◌, ◌≢◌, ℕ, ◌<◌, ◌≤◌, List, length, map, All, slice_index}
 use Rattle.std.specs.List.Sorted.{IsStrictlyIncreasing}
 use Rattle.std.specs.FinMap.{from_entries}
 use Rattle.tagmem.specs.declared.list_store.Listed.{Listed}
@@ -20,6 +20,11 @@ contents_of entries = from_entries (map keyed entries)
 -- the granules of the entries, in their order
 abbrev pub granules_of : List Listed → List ℕ
 granules_of entries = map (λ listed. listed.granule) entries
+
+-- no granule stands twice
+abbrev pub AreApart : List Listed → Type 0
+AreApart entries =
+    (i j : ℕ) → i < j → j < length entries → slice_index (granules_of entries) i ≢ slice_index (granules_of entries) j
 
 -- the granules rise, so that none stands twice
 abbrev pub IsRising : List Listed → Type 0

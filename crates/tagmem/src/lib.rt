@@ -4,7 +4,6 @@
 mod block;
 mod chains;
 mod directory;
-mod lent_store;
 mod linking;
 mod list_store;
 mod overwriting;
@@ -13,7 +12,7 @@ mod page_store;
 mod room;
 mod store;
 
-pub use crate::lent_store::{LentStore, Slot};
 pub use crate::list_store::ListStore;
+pub use crate::overwriting::overwrite;
 pub use crate::page_store::PageStore;
 pub use crate::store::{NoMemory, TaggedStore};

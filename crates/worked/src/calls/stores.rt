@@ -2,7 +2,8 @@
 
 use crate::calls::answers::{none, number};
 use std::alloc::{AllocError, Global};
-use tagmem::{LentStore, ListStore, PageStore, Slot, TaggedStore};
+use tagmem::{ListStore, PageStore, TaggedStore};
+use tagmem_lent::{LentStore, Slot};
 
 // How many granules there are.
 const GRANULES: u64 = 1 << 60;

@@ -19,4 +19,4 @@ returns-clause-slots c =
     ∙ bytes-slot_with _ _ _ (λ none. (block.blank c.args.slot (omega (arith, block.each_has_tag, c.ranges.slot.fits)) none).0)) in
     slots_with-set block.tags block.rows block.codes c.args.slot (Some c.args.tag) c.overwrite.new.granule c.args.code
     ∙ ap (λ bytes. set (slots_of block) c.args.slot (Some (c.args.tag, bytes, c.args.code)))
-    (c.overwrite.ensures ∙ ap (λ bytes. overwritten bytes c.args.byte_index c.args.bytes.now) was)
+    (c.overwrite.ensures.written ∙ ap (λ bytes. overwritten bytes c.args.byte_index c.args.bytes.now) was)

@@ -18,14 +18,14 @@ replace-requires-clause-stored c =
     (λ i lt. (c.type_inv.bytes i).fits) in
     let stored : IsStored listed.granule (entry_of listed) = subst (λ (x : Listed). IsStored x.granule (entry_of x)) (sym c.index.ensures)
     (s.stored c.in-Ok.index listed c.in-Ok.ensures.found.in_range) in
-    rw c.overwrite.ensures (IsStored-overwritten listed.granule (entry_of listed)
+    rw c.overwrite.ensures.written (IsStored-overwritten listed.granule (entry_of listed)
     c.args.tag c.args.byte_index c.args.bytes.now c.args.code stored c.requires.inside fits (omega arith) c.requires.coded)
 
 pub insert-requires-clause-stored : goal.insert-requires-clause-stored
 insert-requires-clause-stored c =
     let fits : All (λ byte. byte < 256) c.args.bytes.now = All-from_get_or (λ byte. byte < 256) c.args.bytes.now 0
     (λ i lt. (c.type_inv.bytes i).fits) in
-    rw c.overwrite-in-Err.ensures (IsStored-overwritten c.args.granule blank c.args.tag c.args.byte_index c.args.bytes.now c.args.code
+    rw c.overwrite-in-Err.ensures.written (IsStored-overwritten c.args.granule blank c.args.tag c.args.byte_index c.args.bytes.now c.args.code
     (IsStored-blank c.args.granule c.requires.in_memory) c.requires.inside fits (omega arith) c.requires.coded)
 
 -- a granule that is not there finds room
@@ -45,7 +45,7 @@ returns-in-Ok-clause-ok c =
     c.replace.ensures
     ∙ ap (λ granule. map.insert old granule (c.args.tag, c.overwrite.new.granule, c.args.code)) read.granule_is
     ∙ ap (λ bytes. map.insert old c.args.granule (c.args.tag, bytes, c.args.code))
-    (c.overwrite.ensures ∙ ap (λ bytes. overwritten bytes c.args.byte_index c.args.bytes.now) (sym bytes_are))
+    (c.overwrite.ensures.written ∙ ap (λ bytes. overwritten bytes c.args.byte_index c.args.bytes.now) (sym bytes_are))
 
 -- nothing stood in it, so the new bytes are over zeros
 pub returns-in-Err-clause-ok : goal.returns-in-Err-clause-ok
@@ -55,7 +55,7 @@ returns-in-Err-clause-ok c =
     let new = get_in_gap s.entries.items c.args.granule c.in-Err.index c.in-Err.ensures.absent in
     let bytes_are : bytes_at old c.args.granule ≡ blank.1 = ap (λ o. (unwrap_or o blank).1) new in
     let written : c.overwrite-in-Err.new.granule ≡ overwritten (bytes_at old c.args.granule) c.args.byte_index c.args.bytes.now =
-    c.overwrite-in-Err.ensures ∙ ap (λ bytes. overwritten bytes c.args.byte_index c.args.bytes.now) (sym bytes_are) in
+    c.overwrite-in-Err.ensures.written ∙ ap (λ bytes. overwritten bytes c.args.byte_index c.args.bytes.now) (sym bytes_are) in
     rw written at c.insert.ensures.ok
 
 pub returns-in-Err-clause-only_new : goal.returns-in-Err-clause-only_new

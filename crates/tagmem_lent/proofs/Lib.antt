@@ -1,0 +1,8 @@
+mod Joining
+mod Lent
+mod Merging
+mod Permuted
+mod Relent
+mod Runs
+mod Searching
+mod Sorting

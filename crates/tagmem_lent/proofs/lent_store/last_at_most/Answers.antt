@@ -1,0 +1,68 @@
+use Rattle.std.proofs.Common.{◌≡◌, ℕ, ◌+◌, ◌-◌, ◌*◌, ◌%◌, ◌^◌, List, length, refl, sym, subst, arith}
+use Rattle.std.specs.Int.Count.{count_leading_zeros}
+use Rattle.std.proofs.lemmas.Nat.{pow_pos}
+use Rattle.tagmem_lent.specs.declared.lent_store.Slot.{Slot}
+use Rattle.tagmem_lent.proofs.Searching.{IsWindow, IsWindow-first, IsWindow-last, IsWindow-turn, highest, quarters_inside}
+use Rattle.tagmem_lent.proofs.lent_store.last_at_most.Goals.{then-run-last, else-run-last}
+use Rattle.tagmem_lent.proofs.lent_store.last_at_most.Goals as goal
+
+pub overflow_sub-last : goal.overflow_sub-last
+overflow_sub-last c =
+    let has = highest (length c.args.run.now) c.requires.some c.requires.fits in
+    omega (arith, has.le, has.fits)
+
+pub loop-turns-init : goal.loop-turns-init
+loop-turns-init c =
+    let run : List Slot = c.args.run.now in
+    let has = highest (length run) c.requires.some c.requires.fits in
+    let turns : ℕ = 63 - count_leading_zeros 64 (length run) in
+    let last : ℕ = length run - 1 * 2 ^ turns % 2 ^ 64 in
+    let whole : last + 2 ^ turns ≡ length run = omega (arith, has.le, has.fits) in record {
+      few = has.few;
+      window = elim c.if-run-last.branch [
+        | then-run-last w ↦ subst (λ (n : ℕ). IsWindow run c.args.granule n turns) (sym w.start-is)
+            (IsWindow-last run c.args.granule c.requires.rises turns last whole w.if-run-last.true)
+        | else-run-last w ↦ subst (λ (n : ℕ). IsWindow run c.args.granule n turns) (sym w.start-is)
+            (IsWindow-first run c.args.granule c.requires.rises turns last whole has.lt w.if-run-last.false)
+      ];
+    }
+
+pub bounds-run-start : goal.bounds-run-start
+bounds-run-start c =
+    let inside = quarters_inside c.args.run.now c.args.granule c.requires.rises c.loop-turns.start c.loop-turns.turns c.loop-turns.invariant.window c.loop-turns-test.true in
+    omega (arith, inside, pow_pos (c.loop-turns.turns - 2), c.requires.fits)
+
+pub bounds-run-start-in-loop-turns : goal.bounds-run-start-in-loop-turns
+bounds-run-start-in-loop-turns c =
+    let inside = quarters_inside c.args.run.now c.args.granule c.requires.rises c.loop-turns.start c.loop-turns.turns c.loop-turns.invariant.window c.loop-turns-test.true in
+    omega (arith, inside, pow_pos (c.loop-turns.turns - 2), c.requires.fits)
+
+pub bounds-run-start-in-loop-turns-2 : goal.bounds-run-start-in-loop-turns-2
+bounds-run-start-in-loop-turns-2 c =
+    let inside = quarters_inside c.args.run.now c.args.granule c.requires.rises c.loop-turns.start c.loop-turns.turns c.loop-turns.invariant.window c.loop-turns-test.true in
+    omega (arith, inside, pow_pos (c.loop-turns.turns - 2), c.requires.fits)
+
+pub overflow_add-start-in-loop-turns-2 : goal.overflow_add-start-in-loop-turns-2
+overflow_add-start-in-loop-turns-2 c =
+    let start : ℕ = c.loop-turns.start in
+    let turns : ℕ = c.loop-turns.turns in
+    let window = c.loop-turns.invariant.window in
+    let inside = quarters_inside c.args.run.now c.args.granule c.requires.rises start turns window c.loop-turns-test.true in
+    let next = IsWindow-turn c.args.run.now c.args.granule c.requires.rises start turns window c.loop-turns-test.true
+    (start + 1 * 2 ^ (turns - 2) % 2 ^ 64) (start + 2 * (1 * 2 ^ (turns - 2) % 2 ^ 64)) (start + 3 * (1 * 2 ^ (turns - 2) % 2 ^ 64))
+    (omega (arith, inside, c.requires.fits)) (omega (arith, inside, c.requires.fits)) (omega (arith, inside, c.requires.fits))
+    c.requires.fits _ _ _ refl refl refl in
+    omega (arith, next.inside, c.requires.fits)
+
+pub loop-turns-preserved : goal.loop-turns-preserved
+loop-turns-preserved c =
+    let start : ℕ = c.loop-turns.start in
+    let turns : ℕ = c.loop-turns.turns in
+    let window = c.loop-turns.invariant.window in
+    let inside = quarters_inside c.args.run.now c.args.granule c.requires.rises start turns window c.loop-turns-test.true in record {
+      few = omega (arith, c.loop-turns.invariant.few);
+      window = IsWindow-turn c.args.run.now c.args.granule c.requires.rises start turns window c.loop-turns-test.true
+          (start + 1 * 2 ^ (turns - 2) % 2 ^ 64) (start + 2 * (1 * 2 ^ (turns - 2) % 2 ^ 64)) (start + 3 * (1 * 2 ^ (turns - 2) % 2 ^ 64))
+          (omega (arith, inside, c.requires.fits)) (omega (arith, inside, c.requires.fits)) (omega (arith, inside, c.requires.fits))
+          c.requires.fits _ _ _ refl refl refl;
+    }
