@@ -212,6 +212,11 @@ module _ (blocks : List Block) (directory : ℕ → Option ℕ) (known : IsDirec
       → map.get (contents_of blocks) q ≡ get_or (slots_of (get_or blocks index d)) (q % 16) None
   get_present q index d at = get-contents_of blocks q ∙ found_present blocks q index d at (λ i lt is. one_index _ index i at lt is)
 
+  -- read there
+  pub get_read : (q index : ℕ) (block : Block) → IsBlockAt blocks (q / 16) index → block ≡ get_or blocks index block
+      → map.get (contents_of blocks) q ≡ get_or (slots_of block) (q % 16) None
+  get_read q index block at read = get_present q index block at ∙ ap (λ (b : Block). get_or (slots_of b) (q % 16) None) (sym read)
+
   -- a put in its block changes that granule alone
   pub contents_of-set : (new d : Block) (index g : ℕ) (entry : Entry) → IsBlockAt blocks (g / 16) index → new.number ≡ g / 16
       → slots_of new ≡ set (slots_of (get_or blocks index d)) (g % 16) (Some entry)

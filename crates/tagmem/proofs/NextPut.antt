@@ -8,7 +8,7 @@ use Rattle.std.proofs.Math.ListN.{get_or-eq_default}
 use Rattle.tagmem.specs.declared.block.Block.{Block}
 use Rattle.tagmem.specs.Granules.{Entry, Granules, AreStored, NonePut, IsNextPut}
 use Rattle.tagmem.specs.Blocks.{slots_of, contents_of, IsFirstFrom, IsUsed, EachUsed, IsBlockAt, IsAbsent, IsNextBlock, IsDirectory}
-use Rattle.tagmem.proofs.Blocks.{length-slots_of, get_present, get_absent}
+use Rattle.tagmem.proofs.Blocks.{length-slots_of, get_read, get_present, get_absent}
 
 -- a granule that was put is below 2^60
 pub put_below : (m : Granules) → AreStored m → (q : ℕ) → map.get m q ≢ None → q < 2 ^ 60
@@ -29,9 +29,7 @@ module _ (blocks : List Block) where
   module _ (directory : ℕ → Option ℕ) (known : IsDirectory blocks directory) (n slot index : ℕ) (block : Block)
       (at : IsBlockAt blocks n index) (read : block ≡ get_or blocks index block) where
     get_own : (q : ℕ) → q / 16 ≡ n → map.get (contents_of blocks) q ≡ get_or (slots_of block) (q % 16) None
-    get_own q own =
-        get_present blocks directory known q index block (subst (λ m. IsBlockAt blocks m index) (sym own) at)
-        ∙ ap (λ (b : Block). get_or (slots_of b) (q % 16) None) (sym read)
+    get_own q own = get_read blocks directory known q index block (subst (λ m. IsBlockAt blocks m index) (sym own) at) read
 
     -- a block of which no slot from one on was put
     pub none_put-block : IsFirstFrom (slots_of block) slot None → NonePut (contents_of blocks) (16 * n + slot) (16 * n + 16)

@@ -5,14 +5,13 @@ use Rattle.std.proofs.Common.{Option, Some, None, sym, refl, ap, ◌∙◌, arit
 use Rattle.std.specs.Prelude.{MatchOption}
 use Rattle.std.specs.Ordering.{nat_cmp}
 use Rattle.std.specs.Cmp.{unsigned_tied}
-use Rattle.std.specs.Map.{lookup}
 use Rattle.std.specs.BTreeMap as tree
 use Rattle.std.specs.BTreeMap.{BTreeMap, Updates}
 use Rattle.std.proofs.lemmas.Bool.{eqb-true}
 use Rattle.std.proofs.lemmas.Bool.Decides.{nat_tests}
 use Rattle.std.proofs.lemmas.List.{get_or-map, get_or-set_same, get_or-set_other, get_or_push, get_or_append_left, length-append}
 use Rattle.std.proofs.lemmas.List.{length-map, map-append, map-set}
-use Rattle.std.proofs.lemmas.List.Elements.{All-append, All-cons, All-get_or, All-nil, All-set}
+use Rattle.std.proofs.lemmas.List.Elements.{All-append, All-cons, All-get_or, All-nil}
 use Rattle.std.proofs.lemmas.Option.{none-some, same_Some}
 use Rattle.std.proofs.Math.ListN.{length-set, get_or-eq_default}
 use Rattle.tagmem.specs.declared.page.Page.{Page}
@@ -43,21 +42,6 @@ first_small page place first found = grind (arith, found.1, past page first)
 -- one in which a block is found has a block
 HasBlock-with : (page : Page) (place index : ℕ) → index_in page place ≡ Some index → HasBlock page
 HasBlock-with page place index own none = none-some index (sym (none place) ∙ own)
-
--- trees with the same entries
-module _ (pages : List Page) (old new : BTreeMap ℕ ℕ) (same : new.entries ≡ old.entries) where
-  alike : (q : ℕ) → tree.get nat_cmp new q ≡ tree.get nat_cmp old q
-  alike q = ap (lookup (tree.is_at (nat_cmp q))) same
-
-  pub index_of-same : (number : ℕ) → index_of pages new number ≡ index_of pages old number
-  index_of-same number = ap (λ o. index_at pages o (number % 16)) (alike (number / 16))
-
-  pub AreApart-same : AreApart pages old → AreApart pages new
-  AreApart-same known = record {
-    in_range = λ n at gets. known.in_range n at (sym (alike n) ∙ gets);
-    apart = λ n m at gets gets'. known.apart n m at (sym (alike n) ∙ gets) (sym (alike m) ∙ gets');
-    small = λ n at gets. known.small n at (sym (alike n) ∙ gets);
-  }
 
 -- a page that stands
 module _ (pages : List Page) (by_number : BTreeMap ℕ ℕ) (n at : ℕ) (page : Page)
@@ -147,16 +131,6 @@ module _ (pages : List Page) (by_number : BTreeMap ℕ ℕ) (known : AreApart pa
     ap (λ o. index_at (set pages at new) o (number % 16)) stands ∙ index_at-set (number % 16) ∙ own,
     λ q differs. other_block q differs (tree.get nat_cmp by_number (q / 16)) refl,
   )
-
-  pub AreApart-set : AreApart (set pages at new) by_number
-  AreApart-set = record {
-    in_range = λ n r gets. let long = length-set pages at new in let lt = known.in_range n r gets in omega arith;
-    apart = known.apart;
-    small = known.small;
-  }
-
-  pub EachHasBlock-set : EachHasBlock pages → EachHasBlock (set pages at new)
-  EachHasBlock-set used = All-set HasBlock pages at new (HasBlock-with new (number % 16) index own) used
 
 -- a page more, in which one block is found
 module _ (pages : List Page) (old new : BTreeMap ℕ ℕ) (known : AreApart pages old) (number at index : ℕ) (page : Page)

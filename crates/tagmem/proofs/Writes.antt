@@ -12,7 +12,7 @@ use Rattle.tagmem.specs.Granules.{Entry, Granules, blank, entry_at, bytes_at, ov
 use Rattle.tagmem.specs.Granules.{AreStored}
 use Rattle.tagmem.specs.Blocks.{slots_of, bytes_in_slot, contents_of, numbers_of, IsUsed, EachUsed, IsBlockAt, IsDirectory}
 use Rattle.tagmem.proofs.Granules.{get-put, len-put, IsStored-overwritten, IsStored-entry_at}
-use Rattle.tagmem.proofs.Blocks.{length-slots_of, get_present, contents_of-set}
+use Rattle.tagmem.proofs.Blocks.{length-slots_of, get_read as get_block, contents_of-set}
 use Rattle.tagmem.proofs.Directories.{numbers_of-set, IsDirectory-set}
 
 -- a put keeps each entry a granule's
@@ -57,9 +57,7 @@ module _ (blocks : List Block) (directory : ℕ → Option ℕ) (index g : ℕ) 
     (read : IsRead blocks directory index g first) where
   -- what stood in the granule
   get_read : map.get (contents_of blocks) g ≡ get_or (slots_of first) (g % 16) None
-  get_read =
-      get_present blocks directory read.known g index first read.found
-      ∙ ap (λ (b : Block). get_or (slots_of b) (g % 16) None) (sym read.is)
+  get_read = get_block blocks directory read.known g index first read.found read.is
 
   number_read : first.number ≡ g / 16
   number_read =

@@ -1,5 +1,5 @@
 -- A search of a run by windows.
-use Rattle.std.proofs.Common.{◌≡◌, ◌≢◌, ℕ, zero, suc, nat_lt, ◌⊎◌, ⊎_elim, leb, true, false, Bool, ◌+◌, ◌-◌, ◌*◌, ◌%◌, ◌^◌, ◌<◌, ◌≤◌, List, length, get_or, drop, sym, ap, subst, ◌∙◌, arith}
+use Rattle.std.proofs.Common.{◌≡◌, ◌≢◌, ℕ, zero, suc, nat_lt, leb, true, false, Bool, ◌+◌, ◌-◌, ◌*◌, ◌%◌, ◌^◌, ◌<◌, ◌≤◌, List, length, get_or, drop, sym, ap, subst, ◌∙◌, arith}
 use mir.Val.{bool_byte}
 use Rattle.std.specs.List.Sorted.{IsNonDecreasingBy}
 use Rattle.std.proofs.Math.Nat.{mod-eq_of_lt, pow-le-pow_right, two-pow-succ}
@@ -15,135 +15,89 @@ use Rattle.tagmem.specs.ListLaws.{granule_at}
 use Rattle.tagmem_lent.proofs.Joining.{run_slots_rise}
 use Rattle.tagmem_lent.proofs.Lent.{granule_in, granule_of, length-entries_of, no_slot}
 use Rattle.tagmem_lent.proofs.Runs.{run_end-le, run_end-rises}
-use Rattle.tagmem_lent.proofs.Sorting.{order}
 
--- a window of 2^turns slots in which the last granule is that isn't above a number
+-- a window of 2^turns slots: the first isn't above a number, and the one behind them is
 pub record IsWindow (run : List Slot) (granule start turns : ℕ) : Type 0 where
   pub inside : start + 2 ^ turns ≤ length run
-  pub at_most : (d : Slot) → 0 < start → (get_or run start d).granule ≤ granule
-  pub higher_after : (i : ℕ) (d : Slot) → start + 2 ^ turns ≤ i → i < length run → granule < (get_or run i d).granule
+  pub at_most : 0 < start → (get_or run start no_slot).granule ≤ granule
+  pub higher : start + 2 ^ turns < length run → granule < (get_or run (start + 2 ^ turns) no_slot).granule
 
 module _ (run : List Slot) (granule : ℕ) (rises : IsNonDecreasingBy granule_of run) where
-  granule_of_default : (i : ℕ) (d : Slot) → i < length run → (get_or run i d).granule ≡ (get_or run i no_slot).granule
-  granule_of_default i d below = ap granule_of (get_or_default run i d no_slot below)
-
-  -- where one is above the number, all behind it are
-  higher : (i j : ℕ) → i ≤ j → j < length run → granule < (get_or run i no_slot).granule → (d : Slot) → granule < (get_or run j d).granule
-  higher i j le below above d = omega (arith, above, granule_of_default i d (omega arith), rises i j d le below)
-
   -- the window at the end, or that at the front
   pub IsWindow-last : (turns last : ℕ) → last + 2 ^ turns ≡ length run → (get_or run last no_slot).granule ≤ granule → IsWindow run granule last turns
-  IsWindow-last turns last whole le = record {
-    inside = omega (arith, whole);
-    at_most = λ d some. omega (arith, le, granule_of_default last d (omega (arith, whole, pow_pos turns)));
-    higher_after = λ i d above below. absurd (omega (arith, whole, above, below));
-  }
+  IsWindow-last turns last whole le =
+      record { inside = omega (arith, whole); at_most = λ some. le; higher = λ lt. absurd (omega (arith, whole, lt)) }
 
   pub IsWindow-first : (turns last : ℕ) → last + 2 ^ turns ≡ length run → length run < 2 * 2 ^ turns → granule < (get_or run last no_slot).granule
       → IsWindow run granule 0 turns
   IsWindow-first turns last whole short above = record {
     inside = omega (arith, whole);
-    at_most = λ d some. absurd (omega (arith, some));
-    higher_after = λ i d from below. higher last i (omega (arith, whole, short, from)) below above d;
+    at_most = λ some. absurd (omega (arith, some));
+    higher = λ lt. omega (arith, above, rises last (0 + 2 ^ turns) no_slot (omega (arith, whole, short)) lt);
   }
-
-  halves : (turns : ℕ) → 0 < turns → 2 ^ turns ≡ 2 ^ (turns - 1) + 2 ^ (turns - 1)
-  halves turns some = ap (λ (n : ℕ). 2 ^ n) {y = suc (turns - 1)} (omega arith) ∙ two-pow-succ (turns - 1)
-
-  -- a half of it
-  pub IsWindow-upper : (start turns at : ℕ) → IsWindow run granule start turns → 0 < turns → at ≡ start + 2 ^ (turns - 1)
-      → (get_or run at no_slot).granule ≤ granule → IsWindow run granule at (turns - 1)
-  IsWindow-upper start turns at window some is le =
-      let twice = halves turns some in record {
-        inside = omega (arith, twice, window.inside);
-        at_most = λ d some'. omega (arith, le, granule_of_default at d (omega (arith, twice, window.inside, pow_pos (turns - 1))));
-        higher_after = λ i d above below. window.higher_after i d (omega (arith, twice)) below;
-      }
-
-  pub IsWindow-lower : (start turns at : ℕ) → IsWindow run granule start turns → 0 < turns → at ≡ start + 2 ^ (turns - 1)
-      → granule < (get_or run at no_slot).granule → IsWindow run granule start (turns - 1)
-  IsWindow-lower start turns at window some is lt =
-      let twice = halves turns some in record {
-        inside = omega (arith, twice, window.inside);
-        at_most = window.at_most;
-        higher_after = λ i d above below. higher at i (omega arith) below lt d;
-      }
 
   module _ (start turns : ℕ) (window : IsWindow run granule start turns) (some : 1 < turns) where
     abbrev quarter : ℕ
     quarter = 2 ^ (turns - 2)
 
-    quarter_is : 2 ^ (turns - 1 - 1) ≡ quarter
-    quarter_is = ap (λ (n : ℕ). 2 ^ n) (omega arith)
-
-    half_is : 2 ^ (turns - 1) ≡ quarter + quarter
-    half_is = omega (arith, halves (turns - 1) (omega arith), quarter_is)
+    whole : 2 ^ turns ≡ quarter + quarter + (quarter + quarter)
+    whole = ap (λ (n : ℕ). 2 ^ n) {y = suc (suc (turns - 2))} (omega arith) ∙ omega (arith, two-pow-succ (suc (turns - 2)), two-pow-succ (turns - 2))
 
     pub quarters_inside : start + (quarter + quarter + (quarter + quarter)) ≤ length run
-    quarters_inside = omega (arith, halves turns (omega arith), half_is, window.inside)
+    quarters_inside = omega (arith, whole, window.inside)
 
     module _ (one two three : ℕ) (is_one : one ≡ start + quarter) (is_two : two ≡ start + (quarter + quarter))
-        (is_three : three ≡ start + (quarter + quarter + quarter)) where
+        (is_three : three ≡ start + (quarter + quarter + quarter)) (short : length run < 2 ^ 32) where
+      -- the quarter from one index to another, if those say so
+      quarter_from : (from to at : ℕ) → to ≡ from + quarter → to ≤ length run → from ≡ at → (0 < from → (get_or run from no_slot).granule ≤ granule)
+          → (to < length run → granule < (get_or run to no_slot).granule) → IsWindow run granule at (turns - 2)
+      quarter_from from to at is_to inside is_from first behind =
+          subst (λ (n : ℕ). IsWindow run granule n (turns - 2)) is_from (record {
+            inside = omega (arith, is_to, inside);
+            at_most = first;
+            higher = subst (λ (n : ℕ). n < length run → granule < (get_or run n no_slot).granule) is_to behind;
+          })
+
+      rising : (i j : ℕ) → i ≤ j → j < length run → (get_or run i no_slot).granule ≤ (get_or run j no_slot).granule
+      rising i j = rises i j no_slot
+
       -- as many quarters as are reached
-      pub IsWindow-quarters : (second third fourth : Bool) → leb (get_or run one no_slot).granule granule ≡ second
+      reached : (second third fourth : Bool) → leb (get_or run one no_slot).granule granule ≡ second
           → leb (get_or run two no_slot).granule granule ≡ third → leb (get_or run three no_slot).granule granule ≡ fourth
           → IsWindow run granule (start + (bool_byte second + bool_byte third + bool_byte fourth) * quarter) (turns - 2)
-      IsWindow-quarters second third fourth at_one at_two at_three =
-          by_case second third fourth at_one at_two at_three
-        where
-          upper : (get_or run two no_slot).granule ≤ granule → IsWindow run granule two (turns - 1)
-          upper le = IsWindow-upper start turns two window (omega arith) (omega (arith, half_is)) le
-
-          lower : granule < (get_or run two no_slot).granule → IsWindow run granule start (turns - 1)
-          lower lt = IsWindow-lower start turns two window (omega arith) (omega (arith, half_is)) lt
-
-          placed : (from to : ℕ) → from ≡ to → IsWindow run granule from (turns - 1 - 1) → IsWindow run granule to (turns - 2)
-          placed from to is w = subst (λ (n : ℕ). IsWindow run granule n (turns - 2)) is (subst (IsWindow run granule from) (omega arith) w)
-
-          rising : (one ≤ two) → (get_or run one no_slot).granule ≤ (get_or run two no_slot).granule
-          rising le = rises one two no_slot le (omega (arith, pow_pos (turns - 2), quarters_inside))
-
-          rising' : (two ≤ three) → (get_or run two no_slot).granule ≤ (get_or run three no_slot).granule
-          rising' le = rises two three no_slot le (omega (arith, pow_pos (turns - 2), quarters_inside))
-
-          by_case : (second third fourth : Bool) → leb (get_or run one no_slot).granule granule ≡ second
-              → leb (get_or run two no_slot).granule granule ≡ third → leb (get_or run three no_slot).granule granule ≡ fourth
-              → IsWindow run granule (start + (bool_byte second + bool_byte third + bool_byte fourth) * quarter) (turns - 2)
-          by_case true true true at_one at_two at_three =
-              placed three _ (omega arith) (IsWindow-upper two (turns - 1) three (upper (grind (arith, nat_tests))) (omega arith)
-              (omega (arith, quarter_is)) (grind (arith, nat_tests)))
-          by_case true true false at_one at_two at_three =
-              placed two _ (omega arith) (IsWindow-lower two (turns - 1) three (upper (grind (arith, nat_tests))) (omega arith)
-              (omega (arith, quarter_is)) (grind (arith, nat_tests)))
-          by_case true false false at_one at_two at_three =
-              placed one _ (omega arith) (IsWindow-upper start (turns - 1) one (lower (grind (arith, nat_tests))) (omega arith)
-              (omega (arith, quarter_is)) (grind (arith, nat_tests)))
-          by_case false false false at_one at_two at_three =
-              placed start _ (omega arith) (IsWindow-lower start (turns - 1) one (lower (grind (arith, nat_tests))) (omega arith)
-              (omega (arith, quarter_is)) (grind (arith, nat_tests)))
-          by_case false true fourth at_one at_two at_three =
-              let up = rising (omega arith) in
-              absurd (grind (arith, nat_tests))
-          by_case second false true at_one at_two at_three =
-              let up = rising' (omega arith) in
-              absurd (grind (arith, nat_tests))
+      reached true true true at_one at_two at_three =
+          quarter_from three (start + 2 ^ turns) _ (omega (arith, whole)) window.inside (omega arith) (λ _. grind (arith, nat_tests)) window.higher
+      reached true true false at_one at_two at_three =
+          quarter_from two three _ (omega arith) (omega (arith, quarters_inside)) (omega arith) (λ _. grind (arith, nat_tests)) (λ _. grind (arith, nat_tests))
+      reached true false false at_one at_two at_three =
+          quarter_from one two _ (omega arith) (omega (arith, quarters_inside)) (omega arith) (λ _. grind (arith, nat_tests)) (λ _. grind (arith, nat_tests))
+      reached false false false at_one at_two at_three =
+          quarter_from start one _ (omega arith) (omega (arith, quarters_inside)) (omega arith) window.at_most (λ _. grind (arith, nat_tests))
+      reached false true fourth at_one at_two at_three =
+          let up = rising one two (omega arith) (omega (arith, pow_pos (turns - 2), quarters_inside)) in
+          absurd (grind (arith, nat_tests))
+      reached second false true at_one at_two at_three =
+          let up = rising two three (omega arith) (omega (arith, pow_pos (turns - 2), quarters_inside)) in
+          absurd (grind (arith, nat_tests))
 
       -- and the number of slots in them fits
-      pub IsWindow-turn : length run < 2 ^ 32 → (second third fourth : Bool) → leb (get_or run one no_slot).granule granule ≡ second
+      pub IsWindow-turn : (second third fourth : Bool) → leb (get_or run one no_slot).granule granule ≡ second
           → leb (get_or run two no_slot).granule granule ≡ third → leb (get_or run three no_slot).granule granule ≡ fourth
           → IsWindow run granule (start + (bool_byte second + bool_byte third + bool_byte fourth) * quarter % 2 ^ 64) (turns - 2)
-      IsWindow-turn short second third fourth at_one at_two at_three =
-          let window = IsWindow-quarters second third fourth at_one at_two at_three in
-          let fits : (bool_byte second + bool_byte third + bool_byte fourth) * quarter < 2 ^ 64 = omega (arith, window.inside, short) in
-          subst (λ (n : ℕ). IsWindow run granule (start + n) (turns - 2)) (sym (mod-eq_of_lt fits)) window
+      IsWindow-turn second third fourth at_one at_two at_three =
+          let next = reached second third fourth at_one at_two at_three in
+          let fits : (bool_byte second + bool_byte third + bool_byte fourth) * quarter < 2 ^ 64 = omega (arith, next.inside, short) in
+          subst (λ (n : ℕ). IsWindow run granule (start + n) (turns - 2)) (sym (mod-eq_of_lt fits)) next
 
--- at the end it is one slot
-pub IsLastAtMost-window : (run : List Slot) (granule start : ℕ) → IsWindow run granule start 0 → IsLastAtMost run granule start
-IsLastAtMost-window run granule start window = record {
-  in_range = omega (arith, window.inside);
-  at_most = window.at_most;
-  higher_after = λ i d above below. window.higher_after i d (omega arith) below;
-}
+  -- a slot that isn't above the number, before one that is
+  pub IsLastAtMost-here : (start : ℕ) → start < length run → (0 < start → (get_or run start no_slot).granule ≤ granule)
+      → (start + 1 < length run → granule < (get_or run (start + 1) no_slot).granule) → IsLastAtMost run granule start
+  IsLastAtMost-here start inside le behind = record {
+    in_range = inside;
+    at_most = λ d some. omega (arith, le some, ap granule_of (get_or_default run start d no_slot inside));
+    higher_after = λ i d lt below.
+        omega (arith, behind (omega arith), rises (start + 1) i d (omega arith) below, ap granule_of (get_or_default run (start + 1) d no_slot (omega arith)));
+  }
 
 -- a number of slots is at least as many as its highest bit, and fewer than twice as many
 pub highest : (count : ℕ) → 0 < count → count < 2 ^ 32 → record {
@@ -167,7 +121,7 @@ highest count some short =
         let is : turns ≡ 63 - none_set = omega arith in
         let twice = two-pow-succ turns in
         let le : 2 ^ turns ≤ count = omega (arith, most, twice) in
-        let few : turns < 32 = ⊎_elim (λ (lt : turns < 32). lt) (⊎_elim (λ (same : turns ≡ 32). past (omega arith)) (λ (above : 32 < turns). past (omega arith))) (order turns 32) in
+        let few : turns < 32 = grind (arith, past) in
         subst (λ (n : ℕ). record { few : n < 32; le : 2 ^ n ≤ count; lt : count < 2 * 2 ^ n; fits : 2 ^ n < 2 ^ 64 }) is (record {
           few = few;
           le = le;
@@ -242,9 +196,6 @@ module _ (used : ℕ) (slots : List Slot) (fits : used ≤ length slots) (level 
         in_range = (omega arith, omega (arith, is.in_range, many));
         lower_before = λ i above below. absurd (omega (arith, first, above, below));
         higher_after = λ i above below.
-            ⊎_elim (λ (at : i ≡ from + last). omega (arith, ap (granule_at entries) at, found_is, greater))
-            (λ (past : from + last < i). behind i past below) (here_or_later i (omega arith));
+            let at : i ≡ from + last → granule_at entries i ≡ granule_at entries (from + last) = ap (granule_at entries) in
+            grind (arith, at, found_is, greater, behind i, below);
       }
-    where
-      here_or_later : (i : ℕ) → from + last ≤ i → (i ≡ from + last) ⊎ (from + last < i)
-      here_or_later i le = grind arith

@@ -1,9 +1,11 @@
-use Rattle.std.proofs.Common.{◌≡◌, ℕ, ◌+◌, ◌-◌, ◌*◌, ◌%◌, ◌^◌, List, length, refl, sym, subst, arith}
+use Rattle.std.proofs.Common.{◌≡◌, ℕ, ◌+◌, ◌-◌, ◌*◌, ◌%◌, ◌^◌, ◌<◌, List, get_or, length, refl, sym, ap, subst, ◌∙◌, arith}
 use Rattle.std.specs.Int.Count.{count_leading_zeros}
 use Rattle.std.proofs.lemmas.Nat.{pow_pos}
 use Rattle.tagmem_lent.specs.declared.lent_store.Slot.{Slot}
-use Rattle.tagmem_lent.proofs.Searching.{IsWindow, IsWindow-first, IsWindow-last, IsWindow-turn, highest, quarters_inside}
+use Rattle.tagmem_lent.proofs.Lent.{no_slot}
+use Rattle.tagmem_lent.proofs.Searching.{IsLastAtMost-here, IsWindow, IsWindow-first, IsWindow-last, IsWindow-turn, highest, quarters_inside}
 use Rattle.tagmem_lent.proofs.lent_store.last_at_most.Goals.{then-run-last, else-run-last}
+use Rattle.tagmem_lent.proofs.lent_store.last_at_most.Goals.{else-turns-eq1-via-then-turns-eq1+else-run-start, else-turns-eq1-via-else-turns-eq1}
 use Rattle.tagmem_lent.proofs.lent_store.last_at_most.Goals as goal
 
 pub overflow_sub-last : goal.overflow_sub-last
@@ -29,18 +31,33 @@ loop-turns-init c =
 
 pub bounds-run-start : goal.bounds-run-start
 bounds-run-start c =
-    let inside = quarters_inside c.args.run.now c.args.granule c.requires.rises c.loop-turns.start c.loop-turns.turns c.loop-turns.invariant.window c.loop-turns-test.true in
-    omega (arith, inside, pow_pos (c.loop-turns.turns - 2), c.requires.fits)
+    omega (
+      arith,
+      quarters_inside c.args.run.now c.args.granule c.requires.rises c.loop-turns.start c.loop-turns.turns
+          c.loop-turns.invariant.window c.loop-turns-test.true,
+      pow_pos (c.loop-turns.turns - 2),
+      c.requires.fits,
+    )
 
 pub bounds-run-start-in-loop-turns : goal.bounds-run-start-in-loop-turns
 bounds-run-start-in-loop-turns c =
-    let inside = quarters_inside c.args.run.now c.args.granule c.requires.rises c.loop-turns.start c.loop-turns.turns c.loop-turns.invariant.window c.loop-turns-test.true in
-    omega (arith, inside, pow_pos (c.loop-turns.turns - 2), c.requires.fits)
+    omega (
+      arith,
+      quarters_inside c.args.run.now c.args.granule c.requires.rises c.loop-turns.start c.loop-turns.turns
+          c.loop-turns.invariant.window c.loop-turns-test.true,
+      pow_pos (c.loop-turns.turns - 2),
+      c.requires.fits,
+    )
 
 pub bounds-run-start-in-loop-turns-2 : goal.bounds-run-start-in-loop-turns-2
 bounds-run-start-in-loop-turns-2 c =
-    let inside = quarters_inside c.args.run.now c.args.granule c.requires.rises c.loop-turns.start c.loop-turns.turns c.loop-turns.invariant.window c.loop-turns-test.true in
-    omega (arith, inside, pow_pos (c.loop-turns.turns - 2), c.requires.fits)
+    omega (
+      arith,
+      quarters_inside c.args.run.now c.args.granule c.requires.rises c.loop-turns.start c.loop-turns.turns
+          c.loop-turns.invariant.window c.loop-turns-test.true,
+      pow_pos (c.loop-turns.turns - 2),
+      c.requires.fits,
+    )
 
 pub overflow_add-start-in-loop-turns-2 : goal.overflow_add-start-in-loop-turns-2
 overflow_add-start-in-loop-turns-2 c =
@@ -66,3 +83,27 @@ loop-turns-preserved c =
           (omega (arith, inside, c.requires.fits)) (omega (arith, inside, c.requires.fits)) (omega (arith, inside, c.requires.fits))
           c.requires.fits _ _ _ refl refl refl;
     }
+
+-- of two slots the second, or the first
+pub returns-then-run-start : goal.returns-then-run-start
+returns-then-run-start c =
+    let run : List Slot = c.args.run.now in
+    let start : ℕ = c.loop-turns.start in
+    let window = c.loop-turns.invariant.window in
+    let to : start + 2 ^ c.loop-turns.turns ≡ start + 1 + 1 = ap (λ (n : ℕ). start + 2 ^ n) c.if-turns-eq1.true ∙ omega arith in
+    IsLastAtMost-here run c.args.granule c.requires.rises (start + 1) (omega (arith, to, window.inside)) (λ _. c.if-run-start.true)
+    (subst (λ (n : ℕ). n < length run → c.args.granule < (get_or run n no_slot).granule) to window.higher)
+
+pub returns-else-turns-eq1 : goal.returns-else-turns-eq1
+returns-else-turns-eq1 c =
+    let run : List Slot = c.args.run.now in
+    let start : ℕ = c.loop-turns.start in
+    let turns : ℕ = c.loop-turns.turns in
+    let window = c.loop-turns.invariant.window in
+    IsLastAtMost-here run c.args.granule c.requires.rises start (omega (arith, window.inside, pow_pos turns)) window.at_most
+    (elim c.else-turns-eq1.branch [
+      | else-turns-eq1-via-then-turns-eq1+else-run-start w ↦ λ lt. w.if-run-start.false
+      | else-turns-eq1-via-else-turns-eq1 w ↦
+          let to : start + 2 ^ turns ≡ start + 1 = ap (λ (n : ℕ). start + 2 ^ n) {y = 0} (omega (arith, c.loop-turns-test.false, w.if-turns-eq1.false)) in
+          subst (λ (n : ℕ). n < length run → c.args.granule < (get_or run n no_slot).granule) to window.higher
+    ])

@@ -1,7 +1,6 @@
-use Rattle.std.proofs.Common.{◌≡◌, ℕ, ◌*◌, ◌/◌, ◌+◌, ◌-◌, ◌<◌, ◌≤◌, ◌^◌, ⊎_elim, arith}
+use Rattle.std.proofs.Common.{◌≡◌, ℕ, ◌*◌, ◌/◌, ◌+◌, ◌-◌, ◌<◌, ◌≤◌, ◌^◌, arith}
 use Rattle.std.proofs.Math.Nat.{pow-le-pow_right}
 use Rattle.std.proofs.lemmas.Nat.{leading_length}
-use Rattle.tagmem_lent.proofs.Sorting.{order}
 use Rattle.tagmem_lent.proofs.lent_store.levels.Goals as goal
 
 -- a number of so many bits isn't below half of what so many bits hold
@@ -10,7 +9,7 @@ few number bits fits most =
     let past : 33 ≤ bits → bits ≤ 32 = λ far.
     let less : 2 ^ 33 ≤ 2 ^ bits = pow-le-pow_right (omega arith) far in
     absurd (omega (arith, fits, most, less)) in
-    ⊎_elim (λ (lt : bits < 33). omega arith) (⊎_elim (λ (same : bits ≡ 33). past (omega arith)) (λ (above : 33 < bits). past (omega arith))) (order bits 33)
+    grind (arith, past)
 
 so_many : (number zeros bits : ℕ) → number < 2 ^ 32 → zeros + bits ≡ 64 → number < 2 ^ bits → 2 ^ bits ≤ 2 * number + 1
     → (number < 2 ^ (4 * ((67 - zeros) / 4))) × ((67 - zeros) / 4 ≤ 8)

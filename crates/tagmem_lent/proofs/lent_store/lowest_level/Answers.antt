@@ -1,9 +1,8 @@
-use Rattle.std.proofs.Common.{◌≡◌, ℕ, ◌%◌, ◌<◌, ◌≤◌, ◌^◌, ⊎_elim, ap, arith}
+use Rattle.std.proofs.Common.{◌≡◌, ℕ, ◌%◌, ◌<◌, ◌≤◌, ◌^◌, ap, arith}
 use Rattle.std.proofs.Math.Nat.{div-eq_of_lt, pow-le-pow_right}
 use Rattle.std.specs.Int.{bit_at, w64}
 use Rattle.std.proofs.lemmas.Nat.Bits.{bit_at-trailing_zeros}
 use Rattle.tagmem_lent.proofs.Runs.{run_end-lowest}
-use Rattle.tagmem_lent.proofs.Sorting.{order}
 use Rattle.tagmem_lent.proofs.lent_store.lowest_level.Goals as goal
 
 -- no bit from 60 on is set in a number that is less
@@ -13,7 +12,7 @@ few number bit fits is =
     let less : 2 ^ 60 ≤ 2 ^ bit = pow-le-pow_right (omega arith) far in
     let none = div-eq_of_lt {n = number} {m = 2 ^ bit} (omega (arith, fits, less)) in
     absurd (omega (arith, is, ap (λ (q : ℕ). q % 2) none)) in
-    ⊎_elim (λ (lt : bit < 60). lt) (⊎_elim (λ (same : bit ≡ 60). past (omega arith)) (λ (above : 60 < bit). past (omega arith))) (order bit 60)
+    grind (arith, past)
 
 pub returns : goal.returns
 returns c =

@@ -1,9 +1,7 @@
-use Rattle.std.proofs.Common.{◌%◌, unwrap_or, sym, ap, ◌∙◌}
-use Rattle.tagmem.specs.Directories.{found_in}
-use Rattle.tagmem.specs.declared.block.Block.{Block}
+use Rattle.std.proofs.Common.{unwrap_or, sym, ap, ◌∙◌}
 use Rattle.tagmem.specs.Granules.{blank}
-use Rattle.tagmem.specs.Blocks.{slots_of, code_in_slot}
-use Rattle.tagmem.proofs.Blocks.{get_present, get_absent}
+use Rattle.tagmem.specs.Directories.{found_in}
+use Rattle.tagmem.proofs.Blocks.{get_read, get_absent}
 use Rattle.tagmem.proofs.page_store.PageStoreTaggedStore.code.Goals as goal
 
 -- the granule's block is there
@@ -11,15 +9,9 @@ pub returns-in-Some : goal.returns-in-Some
 returns-in-Some c = record {
   value =
       let s = c.args.self.now in
-      let says = λ (block : Block). code_in_slot (slots_of block) (c.args.granule % 16) in
-      let stands = get_present s.blocks.items (found_in s.directory) s.known c.args.granule c.in-Some.index
-      c.index.result.now c.in-Some.ensures in
-      c.code.ensures ∙ ap says c.index.ensures ∙ sym (ap (λ o. (unwrap_or o blank).2) stands);
+      c.code.ensures ∙ sym (ap (λ o. (unwrap_or o blank).2) (get_read s.blocks.items (found_in s.directory) s.known c.args.granule c.in-Some.index c.index.result.now c.in-Some.ensures c.index.ensures));
 }
 
 -- or it is absent
 pub returns-in-None : goal.returns-in-None
-returns-in-None c = record {
-  value =
-      sym (ap (λ o. (unwrap_or o blank).2) (get_absent c.args.self.now.blocks.items c.args.granule c.in-None.ensures));
-}
+returns-in-None c = record { value = sym (ap (λ o. (unwrap_or o blank).2) (get_absent c.args.self.now.blocks.items c.args.granule c.in-None.ensures)) }
