@@ -43,11 +43,23 @@ module _ (run : List Slot) (granule : ℕ) (rises : IsNonDecreasingBy granule_of
     whole : 2 ^ turns ≡ quarter + quarter + (quarter + quarter)
     whole = ap (λ (n : ℕ). 2 ^ n) {y = suc (suc (turns - 2))} (omega arith) ∙ omega (arith, two-pow-succ (suc (turns - 2)), two-pow-succ (turns - 2))
 
-    pub quarters_inside : start + (quarter + quarter + (quarter + quarter)) ≤ length run
-    quarters_inside = omega (arith, whole, window.inside)
+    pub quarters_inside : (start + (quarter + quarter + (quarter + quarter)) ≤ length run) × (0 < quarter)
+    quarters_inside = (omega (arith, whole, window.inside), pow_pos (turns - 2))
 
-    module _ (one two three : ℕ) (is_one : one ≡ start + quarter) (is_two : two ≡ start + (quarter + quarter))
-        (is_three : three ≡ start + (quarter + quarter + quarter)) (short : length run < 2 ^ 32) where
+    module _ (short : length run < 2 ^ 32) where
+      -- where the quarters begin, in words of 64 bits
+      abbrev one : ℕ
+      one = start + 1 * quarter % 2 ^ 64
+
+      abbrev two : ℕ
+      two = start + 2 * (1 * quarter % 2 ^ 64)
+
+      abbrev three : ℕ
+      three = start + 3 * (1 * quarter % 2 ^ 64)
+
+      step : 1 * quarter % 2 ^ 64 ≡ quarter
+      step = omega (arith, quarters_inside.0, short)
+
       -- the quarter from one index to another, if those say so
       quarter_from : (from to at : ℕ) → to ≡ from + quarter → to ≤ length run → from ≡ at → (0 < from → (get_or run from no_slot).granule ≤ granule)
           → (to < length run → granule < (get_or run to no_slot).granule) → IsWindow run granule at (turns - 2)
@@ -58,26 +70,23 @@ module _ (run : List Slot) (granule : ℕ) (rises : IsNonDecreasingBy granule_of
             higher = subst (λ (n : ℕ). n < length run → granule < (get_or run n no_slot).granule) is_to behind;
           })
 
-      rising : (i j : ℕ) → i ≤ j → j < length run → (get_or run i no_slot).granule ≤ (get_or run j no_slot).granule
-      rising i j = rises i j no_slot
-
       -- as many quarters as are reached
       reached : (second third fourth : Bool) → leb (get_or run one no_slot).granule granule ≡ second
           → leb (get_or run two no_slot).granule granule ≡ third → leb (get_or run three no_slot).granule granule ≡ fourth
           → IsWindow run granule (start + (bool_byte second + bool_byte third + bool_byte fourth) * quarter) (turns - 2)
       reached true true true at_one at_two at_three =
-          quarter_from three (start + 2 ^ turns) _ (omega (arith, whole)) window.inside (omega arith) (λ _. grind (arith, nat_tests)) window.higher
+          quarter_from three (start + 2 ^ turns) _ (omega (arith, whole, step)) window.inside (omega (arith, step)) (λ _. grind (arith, nat_tests)) window.higher
       reached true true false at_one at_two at_three =
-          quarter_from two three _ (omega arith) (omega (arith, quarters_inside)) (omega arith) (λ _. grind (arith, nat_tests)) (λ _. grind (arith, nat_tests))
+          quarter_from two three _ (omega (arith, step)) (omega (arith, step, quarters_inside.0)) (omega (arith, step)) (λ _. grind (arith, nat_tests)) (λ _. grind (arith, nat_tests))
       reached true false false at_one at_two at_three =
-          quarter_from one two _ (omega arith) (omega (arith, quarters_inside)) (omega arith) (λ _. grind (arith, nat_tests)) (λ _. grind (arith, nat_tests))
+          quarter_from one two _ (omega (arith, step)) (omega (arith, step, quarters_inside.0)) (omega (arith, step)) (λ _. grind (arith, nat_tests)) (λ _. grind (arith, nat_tests))
       reached false false false at_one at_two at_three =
-          quarter_from start one _ (omega arith) (omega (arith, quarters_inside)) (omega arith) window.at_most (λ _. grind (arith, nat_tests))
+          quarter_from start one _ (omega (arith, step)) (omega (arith, step, quarters_inside.0)) (omega (arith, step)) window.at_most (λ _. grind (arith, nat_tests))
       reached false true fourth at_one at_two at_three =
-          let up = rising one two (omega arith) (omega (arith, pow_pos (turns - 2), quarters_inside)) in
+          let up = rises one two no_slot (omega arith) (omega (arith, step, quarters_inside.0, quarters_inside.1)) in
           absurd (grind (arith, nat_tests))
       reached second false true at_one at_two at_three =
-          let up = rising two three (omega arith) (omega (arith, pow_pos (turns - 2), quarters_inside)) in
+          let up = rises two three no_slot (omega arith) (omega (arith, step, quarters_inside.0, quarters_inside.1)) in
           absurd (grind (arith, nat_tests))
 
       -- and the number of slots in them fits

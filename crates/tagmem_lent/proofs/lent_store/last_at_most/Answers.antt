@@ -31,58 +31,31 @@ loop-turns-init c =
 
 pub bounds-run-start : goal.bounds-run-start
 bounds-run-start c =
-    omega (
-      arith,
-      quarters_inside c.args.run.now c.args.granule c.requires.rises c.loop-turns.start c.loop-turns.turns
-          c.loop-turns.invariant.window c.loop-turns-test.true,
-      pow_pos (c.loop-turns.turns - 2),
-      c.requires.fits,
-    )
+    let inside = quarters_inside c.args.run.now c.args.granule c.requires.rises _ _ c.loop-turns.invariant.window c.loop-turns-test.true in
+    omega (arith, inside.0, inside.1, c.requires.fits)
 
 pub bounds-run-start-in-loop-turns : goal.bounds-run-start-in-loop-turns
 bounds-run-start-in-loop-turns c =
-    omega (
-      arith,
-      quarters_inside c.args.run.now c.args.granule c.requires.rises c.loop-turns.start c.loop-turns.turns
-          c.loop-turns.invariant.window c.loop-turns-test.true,
-      pow_pos (c.loop-turns.turns - 2),
-      c.requires.fits,
-    )
+    let inside = quarters_inside c.args.run.now c.args.granule c.requires.rises _ _ c.loop-turns.invariant.window c.loop-turns-test.true in
+    omega (arith, inside.0, inside.1, c.requires.fits)
 
 pub bounds-run-start-in-loop-turns-2 : goal.bounds-run-start-in-loop-turns-2
 bounds-run-start-in-loop-turns-2 c =
-    omega (
-      arith,
-      quarters_inside c.args.run.now c.args.granule c.requires.rises c.loop-turns.start c.loop-turns.turns
-          c.loop-turns.invariant.window c.loop-turns-test.true,
-      pow_pos (c.loop-turns.turns - 2),
-      c.requires.fits,
-    )
+    let inside = quarters_inside c.args.run.now c.args.granule c.requires.rises _ _ c.loop-turns.invariant.window c.loop-turns-test.true in
+    omega (arith, inside.0, inside.1, c.requires.fits)
 
 pub overflow_add-start-in-loop-turns-2 : goal.overflow_add-start-in-loop-turns-2
 overflow_add-start-in-loop-turns-2 c =
-    let start : ℕ = c.loop-turns.start in
-    let turns : ℕ = c.loop-turns.turns in
-    let window = c.loop-turns.invariant.window in
-    let inside = quarters_inside c.args.run.now c.args.granule c.requires.rises start turns window c.loop-turns-test.true in
-    let next = IsWindow-turn c.args.run.now c.args.granule c.requires.rises start turns window c.loop-turns-test.true
-    (start + 1 * 2 ^ (turns - 2) % 2 ^ 64) (start + 2 * (1 * 2 ^ (turns - 2) % 2 ^ 64)) (start + 3 * (1 * 2 ^ (turns - 2) % 2 ^ 64))
-    (omega (arith, inside, c.requires.fits)) (omega (arith, inside, c.requires.fits)) (omega (arith, inside, c.requires.fits))
-    c.requires.fits _ _ _ refl refl refl in
+    let next = IsWindow-turn c.args.run.now c.args.granule c.requires.rises _ _ c.loop-turns.invariant.window c.loop-turns-test.true c.requires.fits
+    _ _ _ refl refl refl in
     omega (arith, next.inside, c.requires.fits)
 
 pub loop-turns-preserved : goal.loop-turns-preserved
-loop-turns-preserved c =
-    let start : ℕ = c.loop-turns.start in
-    let turns : ℕ = c.loop-turns.turns in
-    let window = c.loop-turns.invariant.window in
-    let inside = quarters_inside c.args.run.now c.args.granule c.requires.rises start turns window c.loop-turns-test.true in record {
-      few = omega (arith, c.loop-turns.invariant.few);
-      window = IsWindow-turn c.args.run.now c.args.granule c.requires.rises start turns window c.loop-turns-test.true
-          (start + 1 * 2 ^ (turns - 2) % 2 ^ 64) (start + 2 * (1 * 2 ^ (turns - 2) % 2 ^ 64)) (start + 3 * (1 * 2 ^ (turns - 2) % 2 ^ 64))
-          (omega (arith, inside, c.requires.fits)) (omega (arith, inside, c.requires.fits)) (omega (arith, inside, c.requires.fits))
-          c.requires.fits _ _ _ refl refl refl;
-    }
+loop-turns-preserved c = record {
+  few = omega (arith, c.loop-turns.invariant.few);
+  window = IsWindow-turn c.args.run.now c.args.granule c.requires.rises _ _ c.loop-turns.invariant.window c.loop-turns-test.true c.requires.fits
+      _ _ _ refl refl refl;
+}
 
 -- of two slots the second, or the first
 pub returns-then-run-start : goal.returns-then-run-start
