@@ -137,6 +137,5 @@ module _ (used : ℕ) (old after : List Slot) (slot : Slot) (level start lowest 
       let whole : take (used + 1) after ≡ take start (set old used slot) ++ part start (used + 1) after =
       ap (λ (n : ℕ). take n after) (sym counted) ∙ take-add start count after
       ∙ ap (λ (l : List Slot). l ++ part start (used + 1) after) is.before in
-      let so = sorted_so used old after slot start count lowest (part start (used + 1) after) free (is.len ∙ length-set old used slot) ends before_end
-      begins inside counted is.permuted is.rises whole runs unused stored in
-      record { runs = so.runs; contents = so.contents }
+      sorted_so used old after slot start count lowest (part start (used + 1) after) free (is.len ∙ length-set old used slot) ends before_end
+      begins inside counted is.permuted is.rises whole runs unused stored

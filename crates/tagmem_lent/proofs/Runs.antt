@@ -2,7 +2,7 @@
 use Rattle.std.proofs.Common.{◌≡◌, ℕ, zero, suc, ◌+◌, ◌-◌, ◌*◌, ◌/◌, ◌%◌, ◌^◌, ◌<◌, ◌≤◌, sym, ap, ◌∙◌, arith, mod-lt, div-add-mod'}
 use Rattle.std.proofs.Math.Nat.{div-div-eq-div-mul, div-eq_of_lt, div-mul-le_self, mul-le-mul_right, div-eq_of_lt-le}
 use Rattle.std.specs.Int.{bit_at}
-use Rattle.std.proofs.lemmas.Nat.{pow_pos}
+use Rattle.std.proofs.lemmas.Nat.{pow-add, pow_pos}
 use Rattle.tagmem_lent.specs.Lent.{run_end}
 
 -- a number without its lowest bits
@@ -36,18 +36,15 @@ twice q bit =
 bit_end-halved : (n bit : ℕ) → bit_end n (suc bit) ≡ n / 2 ^ bit / 2 * 2 * 2 ^ bit
 bit_end-halved n bit = ap (λ (q : ℕ). q * 2 ^ suc bit) (halved n bit) ∙ twice (n / 2 ^ bit / 2) bit
 
-bit_end-rises : (n bit : ℕ) → bit_end n (bit + 1) ≤ bit_end n bit
-bit_end-rises n bit =
-    let next : bit_end n (bit + 1) ≡ bit_end n (suc bit) = ap (bit_end n) (omega arith) in
-    let less : n / 2 ^ bit / 2 * 2 ≤ n / 2 ^ bit = omega arith in
-    let scaled = mul-le-mul_right (2 ^ bit) less in
-    omega (arith, next, bit_end-halved n bit, scaled)
-
 bit_end-far : (n bit more : ℕ) → bit_end n (bit + more) ≤ bit_end n bit
-bit_end-far n bit zero = omega (arith, ap (bit_end n) {x = bit + 0} {y = bit} (omega arith))
-bit_end-far n bit (suc more) =
-    let is : bit_end n (bit + suc more) ≡ bit_end n (bit + more + 1) = ap (bit_end n) (omega arith) in
-    omega (arith, is, bit_end-rises n (bit + more), bit_end-far n bit more)
+bit_end-far n bit more =
+    let low = 2 ^ bit in
+    let high = 2 ^ more in
+    let quotient = n / low / high in
+    let is : bit_end n (bit + more) ≡ quotient * (low * high) =
+    ap (λ (d : ℕ). n / d * d) (pow-add 2 bit more) ∙ ap (λ (q : ℕ). q * (low * high)) (sym (div-div-eq-div-mul n low high)) in
+    let moved : quotient * (low * high) ≡ quotient * high * low = omega arith in
+    omega (arith, is, moved, mul-le-mul_right low (div-mul-le_self (n / low) high))
 
 -- a bit that isn't set leaves the number
 bit_end-unset : (n bit : ℕ) → n / 2 ^ bit % 2 ≡ 0 → bit_end n (suc bit) ≡ bit_end n bit

@@ -1,10 +1,10 @@
 -- What one slot more, and the sort of the run that ends behind it, do to slots in runs.
-use Rattle.std.proofs.Common.{◌≡◌, ℕ, ◌+◌, ◌-◌, ◌<◌, ◌≤◌, ◌⊎◌, ⊎_elim, List, [], ◌∷◌, ◌++◌, length, get_or, set}
+use Rattle.std.proofs.Common.{◌≡◌, ℕ, suc, ◌+◌, ◌-◌, ◌<◌, ◌≤◌, ◌⊎◌, ⊎_elim, List, [], ◌∷◌, ◌++◌, length, get_or, set}
 use Rattle.std.proofs.Common.{take, drop, sym, ap, subst, ◌∙◌, arith}
 use Rattle.std.specs.FinMap as finite
 use Rattle.std.specs.List.{insert}
 use Rattle.std.specs.List.Sorted.{IsNonDecreasingBy, IsPermutation, IsStrictlyIncreasing}
-use Rattle.std.proofs.Math.Seq.{get_or-append_seam, take-add, take-length, drop-length, take-set-le}
+use Rattle.std.proofs.Math.Seq.{get_or-append_seam, take-add, take-length, take-suc, drop-length, take-set-le}
 use Rattle.std.proofs.lemmas.List.{get_or-append_right, get_or-drop, get_or-set_same, get_or-take, get_or_append_left, length-append}
 use Rattle.std.proofs.lemmas.List.{length-drop, length-set, length-take, length-take-le, map-append, take-set}
 use Rattle.std.proofs.lemmas.List.Elements.{All-push}
@@ -60,11 +60,6 @@ rising_from entries from to inside rises i lt =
 pub order : (a b : ℕ) → (a < b) ⊎ ((a ≡ b) ⊎ (b < a))
 order a b = grind arith
 
--- the first of some slots
-alone : (slots : List Slot) (slot : Slot) → 0 < length slots → get_or slots 0 slot ≡ slot → take 1 slots ≡ slot ∷ []
-alone [] slot some is = absurd (omega (arith, some))
-alone (x ∷ slots) slot some is = ap (λ (s : Slot). s ∷ []) is
-
 module _ (n : ℕ) (slots after : List Slot) (slot : Slot) (start count lowest : ℕ) (sorted : List Slot) (free : n < length slots)
     (as_many : length after ≡ length slots)
     (ends : run_end (n + 1) lowest ≡ n + 1) (before_end : run_end (n + 1) (lowest + 1) < n + 1)
@@ -89,11 +84,9 @@ module _ (n : ℕ) (slots after : List Slot) (slot : Slot) (start count lowest :
   -- the slots in use before the sort are those before and the new one
   before : take (n + 1) with_slot ≡ take n slots ++ slot ∷ []
   before =
-      let last : get_or (drop n with_slot) 0 slot ≡ slot =
-      get_or-drop n with_slot 0 slot ∙ ap (λ (i : ℕ). get_or with_slot i slot) (omega arith) ∙ get_or-set_same slots n slot slot free in
-      take-add n 1 with_slot ∙ ap (λ (l : List Slot). l ++ take 1 (drop n with_slot)) (take-set slots n slot)
-      ∙ ap (λ (l : List Slot). take n slots ++ l) (alone (drop n with_slot) slot
-      (omega (arith, free, length-drop {A = Slot} n with_slot, length-set slots n slot)) last)
+      ap (λ (i : ℕ). take i with_slot) {y = suc n} (omega arith) ∙ take-suc with_slot n slot (omega (arith, free, length-set slots n slot))
+      ∙ ap (λ (l : List Slot). l ++ get_or with_slot n slot ∷ []) (take-set slots n slot)
+      ∙ ap (λ (s : Slot). take n slots ++ s ∷ []) (get_or-set_same slots n slot slot free)
 
   -- in another order these are the slots in use
   moved : IsPermutation pushed new
@@ -109,10 +102,6 @@ module _ (n : ℕ) (slots after : List Slot) (slot : Slot) (start count lowest :
 
   apart : AreApart new
   apart = AreApart-permuted pushed new moved (AreApart-pushed old (listed_of slot) unused runs.apart)
-
-  contents_of-sorted : contents_of new ≡ finite.insert (contents_of old) slot.granule (entry_of (listed_of slot))
-  contents_of-sorted = sym (contents_of-permuted pushed new moved (AreApart-pushed old (listed_of slot) unused runs.apart))
-      ∙ contents_of-pushed old (listed_of slot) unused
 
   -- a slot before the run is as it was, and one of it is one of those that were sorted
   in_new : (q : ℕ) → q < n + 1 → granule_at new q ≡ (get_or (take start with_slot ++ sorted) q slot).granule
@@ -170,19 +159,20 @@ module _ (n : ℕ) (slots after : List Slot) (slot : Slot) (start count lowest :
       omega (arith, up, in_begin i (omega arith), in_begin (i + 1) (omega arith))))
       (order level lowest)
 
-  AreRuns-sorted : AreRuns new
-  AreRuns-sorted =
-      let long = length-entries_of (n + 1) after (omega (arith, as_many, free)) in record {
-        apart = apart;
-        rising = λ level. rising_from new (run_end (length new) (level + 1)) (run_end (length new) level) (run_end-le (length new) level)
-            (λ i from to. rises_at level i (omega (arith, from, ap (λ (m : ℕ). run_end m (level + 1)) long))
-            (omega (arith, to, ap (λ (m : ℕ). run_end m level) long)));
-        stored = All-permutation (λ (x : Listed). IsStored x.granule (entry_of x)) pushed new moved
-            (All-push (λ (x : Listed). IsStored x.granule (entry_of x)) old (listed_of slot) runs.stored stored);
-      }
-
   pub sorted_so : record {
     runs : AreRuns (entries_of (n + 1) after);
     contents : contents_of (entries_of (n + 1) after) ≡ finite.insert (contents_of (entries_of n slots)) slot.granule (entry_of (listed_of slot));
   }
-  sorted_so = record { runs = AreRuns-sorted; contents = contents_of-sorted }
+  sorted_so =
+      let long = length-entries_of (n + 1) after (omega (arith, as_many, free)) in record {
+        runs = record {
+          apart = apart;
+          rising = λ level. rising_from new (run_end (length new) (level + 1)) (run_end (length new) level) (run_end-le (length new) level)
+              (λ i from to. rises_at level i (omega (arith, from, ap (λ (m : ℕ). run_end m (level + 1)) long))
+              (omega (arith, to, ap (λ (m : ℕ). run_end m level) long)));
+          stored = All-permutation (λ (x : Listed). IsStored x.granule (entry_of x)) pushed new moved
+              (All-push (λ (x : Listed). IsStored x.granule (entry_of x)) old (listed_of slot) runs.stored stored);
+        };
+        contents = sym (contents_of-permuted pushed new moved (AreApart-pushed old (listed_of slot) unused runs.apart))
+            ∙ contents_of-pushed old (listed_of slot) unused;
+      }
