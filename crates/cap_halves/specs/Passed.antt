@@ -4,7 +4,7 @@ use Rattle.std.specs.Prelude.{◌≡◌, ℕ, ◌+◌, ◌*◌, ◌^◌, Bool, f
 use Rattle.cap_word.specs.Word.{null_word}
 use Rattle.cap_word.specs.declared.word.Cap.{Cap}
 use Rattle.cap_log.specs.Lines.{IsStepInRange}
-use Rattle.cap_log.specs.declared.lines.Step.{Step}
+use Rattle.cap_log.specs.declared.kinds.Step.{Step}
 use Rattle.cap_halves.specs.declared.values.Halves.{Halves}
 use Rattle.cap_halves.specs.declared.values.Capability.{Capability}
 

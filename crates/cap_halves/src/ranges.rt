@@ -25,8 +25,32 @@ pub fn target_of(number: u64) -> Option<u8>
     }
 }
 
+/// A register that is written, and one that is read.
+#[inline(always)]
+pub(crate) fn pair_of(target: u64, source: u64) -> Option<(u8, u8)>
+    ensures { MatchOption result (¬ (IsTarget target × IsRegister source))
+        (λ pair. IsTarget target × IsRegister source × (pair.0 ≡ target) × (pair.1 ≡ source)) }
+{
+    match (target_of(target), register_of(source)) {
+        (Some(target), Some(source)) => Some((target, source)),
+        _ => None,
+    }
+}
+
+/// A register that an access goes through, and its offset.
+#[inline(always)]
+pub(crate) fn access_of(authority: u64, offset: i64) -> Option<(u8, i16)>
+    ensures { MatchOption result (¬ (IsRegister authority × IsOffset offset))
+        (λ access. IsRegister authority × IsOffset offset × (access.0 ≡ authority) × (access.1 ≡ offset)) }
+{
+    match (register_of(authority), offset_of(offset)) {
+        (Some(authority), Some(offset)) => Some((authority, offset)),
+        _ => None,
+    }
+}
+
 /// An offset: -2048 to 2047.
-pub(crate) fn offset_of(number: i64) -> Option<i16>
+fn offset_of(number: i64) -> Option<i16>
     ensures { MatchOption result (¬ IsOffset number) (λ offset. IsOffset number × (offset ≡ number)) }
 {
     if number >= -2048 && number <= 2047 {

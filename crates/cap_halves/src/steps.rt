@@ -2,27 +2,25 @@
 
 ghost use Rattle.std.specs.Prelude.{IfSome};
 ghost use Rattle.cap_log.specs.Lines.{IsStepInRange};
-ghost use Rattle.cap_log.specs.declared.lines.Step.TheVariants as steps;
-ghost use Rattle.cap_halves.specs.Passed.{IsStepOf, cap_of};
+ghost use Rattle.cap_halves.specs.Passed.{IsStepOf};
+ghost use Rattle.cap_halves.specs.PassedSteps as steps;
 
 use crate::halves::taken;
-use crate::ranges::{offset_of, register_of, size_of, target_of};
+use crate::ranges::{access_of, pair_of, register_of, size_of, target_of};
 use crate::values::Capability;
-use cap_log::{
-    AndPerm, ClearTag, Load, LoadCap, Move, Operands, Seal, SetAddr, SetBounds, SetBoundsExact,
-    Store, StoreCap, Unseal,
+use cap_log::Operands;
+use cap_log::kinds::{
+    AndPerm, ClearTag, Load, LoadCap, Move, Seal, SetAddr, SetBounds, SetBoundsExact, Store,
+    StoreCap, Unseal,
 };
 
 /// A step `move`, where its numbers are in range.
 #[inline(always)]
 pub fn move_of(target: u64, source: u64, recorded: Capability) -> Option<Move>
     ensures range { IfSome result (λ made. IsStepInRange (⟦<Move as Operands>⟧.step made)) }
-    ensures step { IsStepOf ⟦<Move as Operands>⟧.step (steps.Move (record { target = target; source = source; result = cap_of recorded })) result }
+    ensures step { IsStepOf ⟦<Move as Operands>⟧.step (steps.move_passed target source recorded) result }
 {
-    let Some(target) = target_of(target) else {
-        return None;
-    };
-    let Some(source) = register_of(source) else {
+    let Some((target, source)) = pair_of(target, source) else {
         return None;
     };
     Some(Move {
@@ -36,13 +34,9 @@ pub fn move_of(target: u64, source: u64, recorded: Capability) -> Option<Move>
 #[inline(always)]
 pub fn cleartag_of(target: u64, source: u64, recorded: Capability) -> Option<ClearTag>
     ensures range { IfSome result (λ made. IsStepInRange (⟦<ClearTag as Operands>⟧.step made)) }
-    ensures step { IsStepOf ⟦<ClearTag as Operands>⟧.step
-        (steps.ClearTag (record { target = target; source = source; result = cap_of recorded })) result }
+    ensures step { IsStepOf ⟦<ClearTag as Operands>⟧.step (steps.cleartag_passed target source recorded) result }
 {
-    let Some(target) = target_of(target) else {
-        return None;
-    };
-    let Some(source) = register_of(source) else {
+    let Some((target, source)) = pair_of(target, source) else {
         return None;
     };
     Some(ClearTag {
@@ -61,13 +55,9 @@ pub fn setbounds_of(
     recorded: Capability,
 ) -> Option<SetBounds>
     ensures range { IfSome result (λ made. IsStepInRange (⟦<SetBounds as Operands>⟧.step made)) }
-    ensures step { IsStepOf ⟦<SetBounds as Operands>⟧.step
-        (steps.SetBounds (record { target = target; source = source; length = length; result = cap_of recorded })) result }
+    ensures step { IsStepOf ⟦<SetBounds as Operands>⟧.step (steps.setbounds_passed target source length recorded) result }
 {
-    let Some(target) = target_of(target) else {
-        return None;
-    };
-    let Some(source) = register_of(source) else {
+    let Some((target, source)) = pair_of(target, source) else {
         return None;
     };
     Some(SetBounds {
@@ -87,13 +77,9 @@ pub fn setboundsexact_of(
     recorded: Capability,
 ) -> Option<SetBoundsExact>
     ensures range { IfSome result (λ made. IsStepInRange (⟦<SetBoundsExact as Operands>⟧.step made)) }
-    ensures step { IsStepOf ⟦<SetBoundsExact as Operands>⟧.step
-        (steps.SetBoundsExact (record { target = target; source = source; length = length; result = cap_of recorded })) result }
+    ensures step { IsStepOf ⟦<SetBoundsExact as Operands>⟧.step (steps.setboundsexact_passed target source length recorded) result }
 {
-    let Some(target) = target_of(target) else {
-        return None;
-    };
-    let Some(source) = register_of(source) else {
+    let Some((target, source)) = pair_of(target, source) else {
         return None;
     };
     Some(SetBoundsExact {
@@ -108,13 +94,9 @@ pub fn setboundsexact_of(
 #[inline(always)]
 pub fn setaddr_of(target: u64, source: u64, address: u64, recorded: Capability) -> Option<SetAddr>
     ensures range { IfSome result (λ made. IsStepInRange (⟦<SetAddr as Operands>⟧.step made)) }
-    ensures step { IsStepOf ⟦<SetAddr as Operands>⟧.step
-        (steps.SetAddr (record { target = target; source = source; address = address; result = cap_of recorded })) result }
+    ensures step { IsStepOf ⟦<SetAddr as Operands>⟧.step (steps.setaddr_passed target source address recorded) result }
 {
-    let Some(target) = target_of(target) else {
-        return None;
-    };
-    let Some(source) = register_of(source) else {
+    let Some((target, source)) = pair_of(target, source) else {
         return None;
     };
     Some(SetAddr {
@@ -129,13 +111,9 @@ pub fn setaddr_of(target: u64, source: u64, address: u64, recorded: Capability) 
 #[inline(always)]
 pub fn andperm_of(target: u64, source: u64, mask: u64, recorded: Capability) -> Option<AndPerm>
     ensures range { IfSome result (λ made. IsStepInRange (⟦<AndPerm as Operands>⟧.step made)) }
-    ensures step { IsStepOf ⟦<AndPerm as Operands>⟧.step
-        (steps.AndPerm (record { target = target; source = source; mask = mask; result = cap_of recorded })) result }
+    ensures step { IsStepOf ⟦<AndPerm as Operands>⟧.step (steps.andperm_passed target source mask recorded) result }
 {
-    let Some(target) = target_of(target) else {
-        return None;
-    };
-    let Some(source) = register_of(source) else {
+    let Some((target, source)) = pair_of(target, source) else {
         return None;
     };
     Some(AndPerm {
@@ -150,13 +128,9 @@ pub fn andperm_of(target: u64, source: u64, mask: u64, recorded: Capability) -> 
 #[inline(always)]
 pub fn seal_of(target: u64, source: u64, authority: u64, recorded: Capability) -> Option<Seal>
     ensures range { IfSome result (λ made. IsStepInRange (⟦<Seal as Operands>⟧.step made)) }
-    ensures step { IsStepOf ⟦<Seal as Operands>⟧.step
-        (steps.Seal (record { target = target; source = source; authority = authority; result = cap_of recorded })) result }
+    ensures step { IsStepOf ⟦<Seal as Operands>⟧.step (steps.seal_passed target source authority recorded) result }
 {
-    let Some(target) = target_of(target) else {
-        return None;
-    };
-    let Some(source) = register_of(source) else {
+    let Some((target, source)) = pair_of(target, source) else {
         return None;
     };
     let Some(authority) = register_of(authority) else {
@@ -174,13 +148,9 @@ pub fn seal_of(target: u64, source: u64, authority: u64, recorded: Capability) -
 #[inline(always)]
 pub fn unseal_of(target: u64, source: u64, authority: u64, recorded: Capability) -> Option<Unseal>
     ensures range { IfSome result (λ made. IsStepInRange (⟦<Unseal as Operands>⟧.step made)) }
-    ensures step { IsStepOf ⟦<Unseal as Operands>⟧.step
-        (steps.Unseal (record { target = target; source = source; authority = authority; result = cap_of recorded })) result }
+    ensures step { IsStepOf ⟦<Unseal as Operands>⟧.step (steps.unseal_passed target source authority recorded) result }
 {
-    let Some(target) = target_of(target) else {
-        return None;
-    };
-    let Some(source) = register_of(source) else {
+    let Some((target, source)) = pair_of(target, source) else {
         return None;
     };
     let Some(authority) = register_of(authority) else {
@@ -198,16 +168,12 @@ pub fn unseal_of(target: u64, source: u64, authority: u64, recorded: Capability)
 #[inline(always)]
 pub fn lc_of(target: u64, authority: u64, offset: i64, recorded: Capability) -> Option<LoadCap>
     ensures range { IfSome result (λ made. IsStepInRange (⟦<LoadCap as Operands>⟧.step made)) }
-    ensures step { IsStepOf ⟦<LoadCap as Operands>⟧.step
-        (steps.LoadCap (record { target = target; authority = authority; offset = offset; result = cap_of recorded })) result }
+    ensures step { IsStepOf ⟦<LoadCap as Operands>⟧.step (steps.lc_passed target authority offset recorded) result }
 {
     let Some(target) = target_of(target) else {
         return None;
     };
-    let Some(authority) = register_of(authority) else {
-        return None;
-    };
-    let Some(offset) = offset_of(offset) else {
+    let Some((authority, offset)) = access_of(authority, offset) else {
         return None;
     };
     Some(LoadCap {
@@ -222,16 +188,12 @@ pub fn lc_of(target: u64, authority: u64, offset: i64, recorded: Capability) -> 
 #[inline(always)]
 pub fn sc_of(source: u64, authority: u64, offset: i64) -> Option<StoreCap>
     ensures range { IfSome result (λ made. IsStepInRange (⟦<StoreCap as Operands>⟧.step made)) }
-    ensures step { IsStepOf ⟦<StoreCap as Operands>⟧.step
-        (steps.StoreCap (record { source = source; authority = authority; offset = offset })) result }
+    ensures step { IsStepOf ⟦<StoreCap as Operands>⟧.step (steps.sc_passed source authority offset) result }
 {
     let Some(source) = register_of(source) else {
         return None;
     };
-    let Some(authority) = register_of(authority) else {
-        return None;
-    };
-    let Some(offset) = offset_of(offset) else {
+    let Some((authority, offset)) = access_of(authority, offset) else {
         return None;
     };
     Some(StoreCap {
@@ -245,13 +207,9 @@ pub fn sc_of(source: u64, authority: u64, offset: i64) -> Option<StoreCap>
 #[inline(always)]
 pub fn load_of(authority: u64, offset: i64, size: u64, value: u64) -> Option<Load>
     ensures range { IfSome result (λ made. IsStepInRange (⟦<Load as Operands>⟧.step made)) }
-    ensures step { IsStepOf ⟦<Load as Operands>⟧.step
-        (steps.Load (record { authority = authority; offset = offset; size = size; value = value })) result }
+    ensures step { IsStepOf ⟦<Load as Operands>⟧.step (steps.load_passed authority offset size value) result }
 {
-    let Some(authority) = register_of(authority) else {
-        return None;
-    };
-    let Some(offset) = offset_of(offset) else {
+    let Some((authority, offset)) = access_of(authority, offset) else {
         return None;
     };
     let Some(size) = size_of(size, value) else {
@@ -269,13 +227,9 @@ pub fn load_of(authority: u64, offset: i64, size: u64, value: u64) -> Option<Loa
 #[inline(always)]
 pub fn store_of(authority: u64, offset: i64, size: u64, value: u64) -> Option<Store>
     ensures range { IfSome result (λ made. IsStepInRange (⟦<Store as Operands>⟧.step made)) }
-    ensures step { IsStepOf ⟦<Store as Operands>⟧.step
-        (steps.Store (record { authority = authority; offset = offset; size = size; value = value })) result }
+    ensures step { IsStepOf ⟦<Store as Operands>⟧.step (steps.store_passed authority offset size value) result }
 {
-    let Some(authority) = register_of(authority) else {
-        return None;
-    };
-    let Some(offset) = offset_of(offset) else {
+    let Some((authority, offset)) = access_of(authority, offset) else {
         return None;
     };
     let Some(size) = size_of(size, value) else {

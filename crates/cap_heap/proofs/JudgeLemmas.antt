@@ -7,8 +7,8 @@ use Rattle.std.proofs.lemmas.List.{length_push, length-map, length-append, take-
 use Rattle.cap_log.specs.Front.{IsLine, IsCut, IsTooLong}
 use Rattle.cap_log.specs.Takings.{IsNext, Answered, kept, over_of}
 use Rattle.cap_log.specs.declared.taking.Lines.{Lines}
-use Rattle.cap_log.specs.declared.nexts.Next.{Next}
-use Rattle.cap_log.specs.declared.nexts.Next.TheVariants.{Line, LineTooLong, Truncated, Finished}
+use Rattle.cap_log.specs.declared.taking.Next.{Next}
+use Rattle.cap_log.specs.declared.taking.Next.TheVariants.{Line, LineTooLong, Truncated, Finished}
 use Rattle.cap_log.specs.declared.sources.PullFault.{PullFault}
 use Rattle.cap_log.proofs.FrontLemmas.{IsLine-more, IsTooLong-more}
 use Rattle.cap_heap.specs.declared.events.EventEnd.{EventEnd}

@@ -6,7 +6,7 @@ use Rattle.std.proofs.lemmas.Bool.{false≢true}
 use Rattle.std.proofs.lemmas.List.{length-append, length-drop, length-map}
 use Rattle.cap_log.specs.declared.lines.Line.{Line}
 use Rattle.cap_log.specs.declared.lines.Line.TheVariants as lines
-use Rattle.cap_log.specs.declared.lines.Step.{Step}
+use Rattle.cap_log.specs.declared.kinds.Step.{Step}
 use Rattle.cap_log.specs.Lines.{IsInRange, spelling}
 use Rattle.cap_log.specs.Front.{IsCut, IsLine, IsTooLong}
 use Rattle.cap_machine.specs.Helds.{Held}

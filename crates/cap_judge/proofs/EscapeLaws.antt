@@ -5,7 +5,7 @@ use Rattle.std.proofs.lemmas.Bool.{false≢true}
 use Rattle.std.proofs.lemmas.Option.{same_Some}
 use Rattle.cap_log.specs.declared.lines.Line.{Line}
 use Rattle.cap_log.specs.declared.lines.Line.TheVariants as lines
-use Rattle.cap_log.specs.declared.lines.Step.{Step}
+use Rattle.cap_log.specs.declared.kinds.Step.{Step}
 use Rattle.cap_log.specs.Front.{FrontIs, IsLine}
 use Rattle.cap_log.proofs.FrontLemmas.{IsLine-same, IsLine-not_too_long, IsLine-not_cut}
 use Rattle.cap_log.proofs.SpellingLemmas.{one_spelling}

@@ -1,51 +1,46 @@
 -- What the rules give for a step that is refused for its result.
 use Rattle.std.proofs.Common.{◌≡◌, ◌≢◌, ℕ, ◌+◌, inl, inr, Bool, true, false, not, List, [], ◌∷◌, ◌++◌, length, refl, sym, ap, subst, ◌∙◌}
 use Rattle.std.proofs.Common.{Option, Some, None, append-nil, append_assoc, arith}
-use Rattle.std.specs.Prelude.{is_some, option_map}
-use Rattle.std.specs.Bool.{if◌then◌else◌}
 use Rattle.std.proofs.lemmas.Bool.{false≢true}
-use Rattle.std.proofs.lemmas.Option.{none-some, same_Some}
+use Rattle.std.proofs.lemmas.Option.{none-some}
 use Rattle.cap_word.specs.declared.word.Cap.{Cap}
 use Rattle.cap_log.specs.declared.lines.Line.{Line}
 use Rattle.cap_log.specs.declared.lines.Line.TheVariants as lines
 use Rattle.cap_log.specs.declared.lines.Place.{Place}
-use Rattle.cap_log.specs.declared.lines.Step.{Step}
-use Rattle.cap_log.specs.declared.lines.Step.TheVariants as steps
-use Rattle.cap_log.specs.declared.operands.accesses.Load.{Load}
-use Rattle.cap_log.specs.declared.operands.accesses.Store.{Store}
-use Rattle.cap_log.specs.declared.operands.accesses.StoreCap.{StoreCap}
+use Rattle.cap_log.specs.declared.kinds.Step.{Step}
+use Rattle.cap_log.specs.declared.kinds.Step.TheVariants as steps
 use Rattle.cap_log.specs.Front.{IsCut, IsLine}
 use Rattle.std.proofs.lemmas.List.Elements.{All-nil}
 use Rattle.cap_log.proofs.SpellingLemmas.{one_spelling}
 use Rattle.cap_log.specs.Lines.{Spells}
 use Rattle.cap_log.proofs.FrontLemmas.{IsLine-same, IsLine-not_too_long}
-use Rattle.cap_ops.specs.Operations.{cleared, clear_result}
-use Rattle.cap_ops.specs.Accesses.{access_tests}
-use Rattle.cap_ops.specs.declared.kinds.Kind.TheVariants.{LoadData}
+use Rattle.cap_ops.specs.Operations.{clear_result}
+use Rattle.cap_ops.proofs.ClearLemmas.{clear_result-none}
 use Rattle.cap_ops.specs.Tests.{first_of}
 use Rattle.cap_ops.proofs.TestLemmas.{first_of-append}
 use Rattle.cap_machine.proofs.EscapeLemmas.{never_wrong}
 use Rattle.cap_ops.specs.declared.refusal.Refusal.{Refusal}
 use Rattle.cap_ops.specs.declared.refusal.Refusal.TheVariants.{WrongResult, LimitPassed, Truncated}
 use Rattle.cap_machine.specs.declared.rules.Rules.{Rules}
-use Rattle.cap_machine.specs.declared.rules.Rules.TheVariants.{One, TwoClear}
+use Rattle.cap_machine.specs.declared.rules.Rules.TheVariants.{TwoClear}
 use Rattle.cap_machine.specs.States.{State, DeclaredRoot}
-use Rattle.cap_machine.specs.Steps.{Access, Recorded, Row, Nothing as Unrecorded, Written, agrees, clear_row, row_by, row_of}
+use Rattle.cap_machine.specs.Steps.{Access, Recorded, Row, Nothing as Unrecorded, Read, Written, clear_row, row_by, row_of}
 use Rattle.cap_machine.proofs.StepLemmas.{is_recorded}
+use Rattle.cap_machine.specs.Shown.{given_by, given_for as shown_for}
 use Rattle.cap_machine.specs.Accounts.{Account, row_in, step_tests}
 use Rattle.cap_machine.specs.Helds.{Held, account_of}
 use Rattle.cap_judge.specs.declared.verdict.Expected.{Expected}
-use Rattle.cap_judge.specs.declared.verdict.Expected.TheVariants.{Capability}
+use Rattle.cap_judge.specs.declared.verdict.Expected.TheVariants.{Capability, Number}
 use Rattle.cap_judge.specs.declared.verdict.Verdict.TheVariants.{Yes, No}
 use Rattle.cap_judge.specs.declared.faults.Fault.{Fault}
 use Rattle.cap_judge.specs.FaultLines.{bytes_of}
 use Rattle.cap_judge.specs.Logs.{Beginning, Nothing, NoMode, Body, Whole, IsFirstFault, Refuses, account_after, body_lines, IsAccepted}
 use Rattle.cap_judge.specs.Logs.{RunsBy, lines_of, text_of}
 use Rattle.cap_judge.specs.Judgings.{IsLastFront, account_before}
-use Rattle.cap_judge.specs.Expectations.{Expects, IsExpected, GivesFor, GivesForText, given_for, given_in, IfWritten, lost_for}
+use Rattle.cap_judge.specs.Expectations.{Expects, IsExpected, GivesFor, GivesForText, expected_of, given_in}
 use Rattle.cap_judge.specs.declared.beginning.Stage.{Stage}
 use Rattle.cap_judge.specs.declared.beginning.Stage.TheVariants as stages
-use Rattle.cap_judge.specs.Readings.{IsAtFault, IsFaultAt, IsRest, Known, Read}
+use Rattle.cap_judge.specs.Readings.{IsAtFault, IsFaultAt, IsRest, Known, Read as Reads}
 use Rattle.cap_judge.proofs.EscapeLaws.{is_of_step, is_step, never_front}
 use Rattle.cap_judge.proofs.OneVerdict.{one_verdict}
 use Rattle.cap_judge.proofs.JudgeLemmas.{IsUnended, fault_behind, front_refused, yes_of}
@@ -67,101 +62,70 @@ wrong account step h =
       | inr last ↦ (last.0, other_recorded _ _ last.1)
     ]
 
--- where no test holds, the result of clear mode is that of strict rules
-kept_result : (tests : List (Bool × Refusal)) (writes : Option (Place × Cap)) → first_of tests ≡ None
-    → option_map (λ write. (write.0, clear_result tests write.1)) writes ≡ writes
-kept_result tests None none = refl
-kept_result tests (Some (place, cap)) none = ap (λ (o : Option Refusal). Some (place, if is_some o then cleared cap else cap)) none
+-- a number is read through an access, and nothing written
+abbrev ReadsThrough : Option (Place × Cap) → Recorded → Option Access → Type 0
+ReadsThrough None (Read recorded in_memory) (Some access) = Unit {0}
+ReadsThrough writes (Read recorded in_memory) access = ⊥
+ReadsThrough writes records access = Unit {0}
 
-kept_writes : (access : Option Access) (row : Row) → first_of row.tests ≡ None → (clear_row access row).writes ≡ row.writes
-kept_writes None row none = kept_result row.tests row.writes none
-kept_writes (Some access) row none = refl
+reads_through : (state : State) (step : Step) → let row = row_of state step in ReadsThrough row.writes row.records row.access
+reads_through state (steps.Load step) = tt
+reads_through state step = tt
 
-kept_records : (access : Option Access) (row : Row) → (clear_row access row).records ≡ row.records
-kept_records None row = refl
-kept_records (Some access) row = refl
+-- what is shown of a row is what the rules give, where no test of it holds and its line records another result
+abbrev AreSame : Row → Row → Type 0
+AreSame shown by =
+    first_of by.tests ≡ None → is_recorded by ≡ false
+    → (expected : Expected) × (expected_of (given_by shown) ≡ Some expected) × (given_in by ≡ Some expected)
 
-written : (writes : Option (Place × Cap)) (records : Recorded) (access : Option Access) (recorded cap : Cap) → records ≡ Written recorded
-    → option_map (λ (write : Place × Cap). write.1) writes ≡ Some cap → given_for writes records access ≡ Some (Capability cap)
-written None records access recorded cap is h = absurd (none-some cap h)
-written (Some write) records access recorded cap is h =
-    ap (λ (r : Recorded). given_for (Some write) r access) is ∙ ap (λ (c : Cap). Some (Capability c)) (same_Some _ _ h)
+abbrev row_with : List (Bool × Refusal) → Option (Place × Cap) → Option Place → Recorded → Option Access → Row
+row_with tests_are write from recorded reached =
+    record { tests = tests_are; writes = write; parent = from; records = recorded; access = reached }
 
-by_rules : (rules_are : Rules) (row : Row) (recorded cap : Cap) → row.records ≡ Written recorded
-    → first_of (row_by rules_are row).tests ≡ None
-    → option_map (λ (write : Place × Cap). write.1) (clear_row row.access row).writes ≡ Some cap
-    → given_in (row_by rules_are row) ≡ Some (Capability cap)
-by_rules TwoClear row recorded cap is none h =
-    let cleared = clear_row row.access row in
-    written cleared.writes cleared.records cleared.access recorded cap (kept_records row.access row ∙ is) h
-by_rules rules_are row recorded cap is none h =
-    written row.writes row.records row.access recorded cap is (sym (ap (option_map (λ (write : Place × Cap). write.1))
-    (kept_writes row.access row none)) ∙ h)
+strictly : (tests : List (Bool × Refusal)) (writes : Option (Place × Cap)) (from : Option Place) (records : Recorded) (access : Option Access)
+    → ReadsThrough writes records access → AreSame (row_with tests writes from records access) (row_with tests writes from records access)
+strictly tests (Some write) from (Written recorded) None through free other =
+    (Capability write.1, ap (λ (cap : Cap). Some (Capability cap)) (clear_result-none tests write.1 free), refl)
+strictly tests (Some write) from (Written recorded) (Some access) through free other = (Capability write.1, refl, refl)
+strictly tests None from (Read recorded in_memory) (Some access) through free other = (
+  Number in_memory access.size,
+  ap (λ (fault : Option Refusal). expected_of (shown_for None (Read recorded in_memory) (Some access) fault None)) free,
+  refl,
+)
+strictly tests None from (Written recorded) access through free other = absurd (false≢true (sym other))
+strictly tests None from (Read recorded in_memory) None through free other = absurd through
+strictly tests (Some write) from (Read recorded in_memory) access through free other = absurd through
+strictly tests writes from Unrecorded access through free other = absurd (false≢true (sym other))
 
-operated : (account : Account) (step : Step) (recorded given : Cap) → (row_of account.state step).records ≡ Written recorded
-    → (let row = row_of account.state step in option_map (λ (write : Place × Cap). write.1) (clear_row row.access row).writes ≡ Some given)
-    → GivesFor account step (Some (Capability given))
-operated account step recorded given is h =
-    λ bad. by_rules account.rules (row_of account.state step) recorded given is (wrong account step bad).0 h
+in_clear_mode : (tests : List (Bool × Refusal)) (writes : Option (Place × Cap)) (from : Option Place) (records : Recorded)
+    → ReadsThrough writes records None → AreSame (row_with tests writes from records None) (clear_row None (row_with tests writes from records None))
+in_clear_mode tests (Some write) from (Written recorded) through free other = (Capability (clear_result tests write.1), refl, refl)
+in_clear_mode tests None from (Written recorded) through free other = absurd (false≢true (sym other))
+in_clear_mode tests None from (Read recorded in_memory) through free other = absurd through
+in_clear_mode tests (Some write) from (Read recorded in_memory) through free other = absurd through
+in_clear_mode tests writes from Unrecorded through free other = absurd (false≢true (sym other))
 
--- what the rules give for a step that writes a register
-abbrev pub IsNoStore : Step → Type 0
-IsNoStore (steps.StoreCap step) = ⊥
-IsNoStore (steps.Store step) = ⊥
-IsNoStore (steps.Load step) = ⊥
-IsNoStore step = Unit {0}
+by_rules : (rules_are : Rules) (tests : List (Bool × Refusal)) (writes : Option (Place × Cap)) (from : Option Place) (records : Recorded)
+    (access : Option Access) → ReadsThrough writes records access
+    → AreSame (row_with tests writes from records access) (row_by rules_are (row_with tests writes from records access))
+by_rules TwoClear tests writes from records None through = in_clear_mode tests writes from records through
+by_rules TwoClear tests writes from records (Some access) through = strictly tests writes from records (Some access) through
+by_rules rules_are tests writes from records access through = strictly tests writes from records access through
 
-pub no_store : (step : Step) → ((store : StoreCap) → step ≡ steps.StoreCap store → ⊥) → ((load : Load) → step ≡ steps.Load load → ⊥)
-    → ((store : Store) → step ≡ steps.Store store → ⊥) → IsNoStore step
-no_store (steps.StoreCap step) a b c = a step refl
-no_store (steps.Load step) a b c = b step refl
-no_store (steps.Store step) a b c = c step refl
-no_store step a b c = tt
+-- what a step shows is what the rules give, where it is refused for its result
+gives : (account : Account) (step : Step) (shown : Option Expected)
+    → (first_of (step_tests account step) ≡ Some WrongResult
+    → (expected : Expected) × (shown ≡ Some expected) × (given_in (row_in account step) ≡ Some expected))
+    → GivesFor account step shown
+gives account step None is = λ wrong_now. none-some _ (is wrong_now).1
+gives account step (Some expected) is = λ wrong_now. (is wrong_now).2 ∙ sym (is wrong_now).1
 
--- it records a capability
-records_one : (state : State) (step : Step) → IsNoStore step → (recorded : Cap) × ((row_of state step).records ≡ Written recorded)
-records_one state (steps.Move step) kind = (step.result, refl)
-records_one state (steps.ClearTag step) kind = (step.result, refl)
-records_one state (steps.SetBounds step) kind = (step.result, refl)
-records_one state (steps.SetBoundsExact step) kind = (step.result, refl)
-records_one state (steps.SetAddr step) kind = (step.result, refl)
-records_one state (steps.AndPerm step) kind = (step.result, refl)
-records_one state (steps.Seal step) kind = (step.result, refl)
-records_one state (steps.Unseal step) kind = (step.result, refl)
-records_one state (steps.LoadCap step) kind = (step.result, refl)
-records_one state step kind = absurd kind
-
-pub gives_capability : (account : Account) (step : Step) (given : Cap) (fault : Option Refusal) → IsNoStore step
-    → (let row = row_of account.state step in
-    let cleared_row = clear_row row.access row in
-    IfWritten row.records ((option_map (λ (write : Place × Cap). write.1) cleared_row.writes ≡ Some given)
-    × (lost_for row.access row ≡ fault)))
-    → GivesFor account step (Some (Capability given))
-gives_capability account step given fault kind is =
-    let one = records_one account.state step kind in operated account step one.0 given one.1 (rw one.1 at is).0
-
--- a store records nothing
-stores : (rules_are : Rules) (row : Row) → row.records ≡ Unrecorded → is_recorded (row_by rules_are row) ≡ true
-stores TwoClear row none =
-    let cleared_row = clear_row row.access row in ap (agrees cleared_row.writes) (kept_records row.access row ∙ none)
-stores rules_are row none = ap (agrees row.writes) none
-
-pub nothing_recorded : (account : Account) (step known : Step) → step ≡ known → (row_of account.state known).records ≡ Unrecorded
-    → GivesFor account step None
-nothing_recorded account step known is none =
-    subst (λ (s : Step). GivesFor account s None) (sym is)
-    (λ h. false≢true (sym (wrong account known h).1 ∙ stores account.rules (row_of account.state known) none))
-
--- a load
-load_tests : (rules_are : Rules) (state : State) (load : Load)
-    → (row_by rules_are (row_of state (steps.Load load))).tests ≡ access_tests (state load.authority) LoadData load.offset load.size
-load_tests One state load = refl
-load_tests rules_are state load = refl
-
-pub load_allowed : (account : Account) (load : Load) → first_of (step_tests account (steps.Load load)) ≡ Some WrongResult
-    → first_of (access_tests (account.state load.authority) LoadData load.offset load.size) ≡ None
-load_allowed account load h =
-    ap first_of (sym (load_tests account.rules account.state load)) ∙ (wrong account (steps.Load load) h).0
+pub gives_shown : (account : Account) (step : Step) → GivesFor account step (expected_of (given_by (row_of account.state step)))
+gives_shown account step =
+    let row = row_of account.state step in
+    gives account step (expected_of (given_by row))
+    (λ wrong_now. by_rules account.rules row.tests row.writes row.parent row.records row.access (reads_through account.state step)
+    (wrong account step wrong_now).0 (wrong account step wrong_now).1)
 
 -- which step a text spells
 abbrev OfLine : Account → Line → Option Expected → Type 0
@@ -195,13 +159,13 @@ nothing_wrong (Whole rules_are roots steps_are) accepted line fault =
     cc
 nothing_wrong beginning accepted line fault = cut_off beginning accepted tt line fault
 
-pub none_at_fault : (known : Known) (bytes : List ℕ) → (IsAtFault known.stage → ⊥) → Read known bytes → Expects bytes None
+pub none_at_fault : (known : Known) (bytes : List ℕ) → (IsAtFault known.stage → ⊥) → Reads known bytes → Expects bytes None
 none_at_fault known bytes clear read = λ line fault.
     nothing_wrong read.beginning read.behind.accepted line
     (subst (λ (b : List ℕ). IsFirstFault b line WrongResult) (all_read known bytes read clear) fault)
 
 pub other_fault : (known : Known) (fault : Fault) (bytes : List ℕ) → known.stage ≡ stages.Refused fault → (fault.refusal ≡ WrongResult → ⊥)
-    → Read known bytes → Expects bytes None
+    → Reads known bytes → Expects bytes None
 other_fault known fault bytes some other read = λ line wrong.
     let same = one_verdict bytes (No fault.line fault.refusal) (No line WrongResult) (fault_now known fault bytes some read) wrong in
     other cc
@@ -264,7 +228,7 @@ by_beginning held (Body rules_are roots steps_are) rest bytes text result accoun
     (subst (λ (a : Account). GivesForText a text result) account gives)
 
 pub wrong_result : (known : Known) (fault : Fault) (bytes : List ℕ) (result : Option Expected) → known.stage ≡ stages.Refused fault
-    → fault.refusal ≡ WrongResult → GivesForText (account_of known.held) (bytes_of fault.text) result → Read known bytes
+    → fault.refusal ≡ WrongResult → GivesForText (account_of known.held) (bytes_of fault.text) result → Reads known bytes
     → Expects bytes result
 wrong_result known fault bytes result some wrong gives read =
     let is : IsFaultAt read.beginning read.rest fault = subst (λ (s : Stage). IsRest s read.beginning read.rest) some read.rest_is in

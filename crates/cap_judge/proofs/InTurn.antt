@@ -4,7 +4,7 @@ use Rattle.std.proofs.Common.{true, not, nat_eq, ap, ◌∙◌, arith, eq-eqb, I
 use Rattle.std.specs.List.{AllByRecursion, IsDistinct}
 use Rattle.cap_log.specs.declared.lines.Line.{Line}
 use Rattle.cap_log.specs.declared.lines.Line.TheVariants.{Root, Step, End, Version, Mode}
-use Rattle.cap_log.specs.declared.lines.Step as steps_module
+use Rattle.cap_log.specs.declared.kinds.Step as steps_module
 use Rattle.cap_log.specs.Lines.{IsInRange}
 use Rattle.cap_ops.proofs.TestLemmas.{none_hold}
 use Rattle.cap_machine.specs.declared.rules.Rules.{Rules}

@@ -9,7 +9,7 @@ use Rattle.std.specs.Prelude.{Option, Some, None, IsTrue}
 use Rattle.cap_bounds.specs.Bounds.{IsSound, is_sound}
 use Rattle.cap_log.specs.declared.lines.Line.{Line}
 use Rattle.cap_log.specs.declared.lines.Line.TheVariants as lines
-use Rattle.cap_log.specs.declared.lines.Step.{Step}
+use Rattle.cap_log.specs.declared.kinds.Step.{Step}
 use Rattle.cap_log.specs.Lines.{spelling, IsInRange, IsStepInRange}
 use Rattle.cap_log.specs.Front.{FrontIs}
 use Rattle.cap_ops.specs.declared.refusal.Refusal.{Refusal}

@@ -7,7 +7,7 @@ use Rattle.std.proofs.lemmas.Bool.{or_parts, leb-false, not-false}
 use Rattle.cap_word.specs.declared.word.Cap.{Cap}
 use Rattle.cap_log.specs.declared.lines.Place.{Place}
 use Rattle.cap_log.specs.declared.lines.Line.TheVariants.{Root, Step, End}
-use Rattle.cap_log.specs.declared.lines.Step as steps_module
+use Rattle.cap_log.specs.declared.kinds.Step as steps_module
 use Rattle.cap_log.proofs.ElementLemmas.{AllByRecursion-append}
 use Rattle.cap_machine.specs.States.{State, DeclaredRoot, key_of, tagged, is_taken, start}
 use Rattle.cap_machine.specs.Steps.{Leads}

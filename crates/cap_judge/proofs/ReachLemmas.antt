@@ -2,7 +2,7 @@
 use Rattle.std.proofs.Common.{◌≡◌, ℕ, true, List, [], ◌∷◌, ◌++◌, map, refl, sym, ap, subst, ◌∙◌, arith, None, append_assoc, append-nil}
 use Rattle.std.proofs.lemmas.List.{map-append}
 use Rattle.cap_log.specs.declared.lines.Line.TheVariants.{Step}
-use Rattle.cap_log.specs.declared.lines.Step as steps_module
+use Rattle.cap_log.specs.declared.kinds.Step as steps_module
 use Rattle.cap_log.specs.Lines.{IsInRange, IsStepInRange, spelling}
 use Rattle.cap_log.specs.Parts.{Begins}
 use Rattle.cap_ops.specs.Tests.{first_of}

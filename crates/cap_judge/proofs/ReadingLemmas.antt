@@ -9,7 +9,7 @@ use Rattle.cap_log.specs.declared.lines.Line.{Line}
 use Rattle.cap_log.specs.declared.lines.Line.TheVariants as lines
 use Rattle.cap_log.specs.declared.lines.Mode.{Mode}
 use Rattle.cap_log.specs.declared.lines.Mode.TheVariants as modes
-use Rattle.cap_log.specs.declared.lines.Step.{Step}
+use Rattle.cap_log.specs.declared.kinds.Step.{Step}
 use Rattle.cap_log.specs.Lines.{IsInRange, Spells, spelling, IsPlace, IsStepInRange}
 use Rattle.cap_log.specs.Front.{IsCut, IsLine, IsTooLong}
 use Rattle.cap_log.proofs.FrontLemmas.{IsLine-more, IsLine-not_cut, IsTooLong-more}

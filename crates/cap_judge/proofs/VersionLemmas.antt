@@ -4,7 +4,7 @@ use Rattle.std.proofs.lemmas.Fmt.{decimal_digit}
 use Rattle.cap_log.specs.declared.lines.Line.{Line}
 use Rattle.cap_log.specs.declared.lines.Line.TheVariants.{Version, Mode, Root, Step, End}
 use Rattle.cap_log.specs.declared.lines.Mode.TheVariants.{Strict, Clear}
-use Rattle.cap_log.specs.declared.lines.Step as steps_module
+use Rattle.cap_log.specs.declared.kinds.Step as steps_module
 use Rattle.cap_log.specs.Lines.{Spells, spelling}
 use Rattle.cap_log.specs.Front.{IsLine}
 use Rattle.cap_ops.specs.declared.refusal.Refusal.{Refusal}

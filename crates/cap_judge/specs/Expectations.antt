@@ -3,12 +3,13 @@ use Rattle.std.specs.Prelude.{◌≡◌, ℕ, List, ◌∷◌, ◌++◌, Option,
 use Rattle.cap_word.specs.declared.word.Cap.{Cap}
 use Rattle.cap_log.specs.declared.lines.Line.TheVariants as lines
 use Rattle.cap_log.specs.declared.lines.Place.{Place}
-use Rattle.cap_log.specs.declared.lines.Step.{Step}
+use Rattle.cap_log.specs.declared.kinds.Step.{Step}
 use Rattle.cap_log.specs.Lines.{Spells}
-use Rattle.cap_ops.specs.declared.refusal.Refusal.{Refusal}
 use Rattle.cap_ops.specs.Tests.{first_of}
 use Rattle.cap_ops.specs.declared.refusal.Refusal.TheVariants.{WrongResult}
 use Rattle.cap_machine.specs.declared.rules.Rules.{Rules}
+use Rattle.cap_machine.specs.declared.shown.Given.{Given}
+use Rattle.cap_machine.specs.declared.shown.Given.TheVariants as givens
 use Rattle.cap_machine.specs.States.{DeclaredRoot}
 use Rattle.cap_machine.specs.Steps.{Access, Recorded, Row, Written, Read}
 use Rattle.cap_machine.specs.Accounts.{Account, row_in, step_tests}
@@ -55,17 +56,8 @@ GivesFor account step (Some expected) =
 abbrev pub GivesForText : Account → List ℕ → Option Expected → Type 0
 GivesForText account text result = (step : Step) → Spells text (lines.Step step) → GivesFor account step result
 
--- a fact where a line records what its step writes
-abbrev pub IfWritten : Recorded → Type 0 → Type 0
-IfWritten (Written cap) fact = fact
-IfWritten records fact = Unit {0}
-
--- a fact where it records nothing of the kind
-abbrev pub UnlessWritten : Recorded → Type 0 → Type 0
-UnlessWritten (Written cap) fact = Unit {0}
-UnlessWritten records fact = fact
-
--- the test for which the result of an operation on registers loses its tag in clear mode: an access has no such test
-abbrev pub lost_for : Option Access → Row → Option Refusal
-lost_for None row = first_of row.tests
-lost_for (Some access) row = None
+-- what the rules give, without the recorded result
+abbrev pub expected_of : Given → Option Expected
+expected_of (givens.Capability place cap fault recorded) = Some (Capability cap)
+expected_of (givens.Number value size recorded) = Some (Number value size)
+expected_of givens.Nothing = None

@@ -7,7 +7,7 @@ use Rattle.cap_log.specs.declared.lines.Line.{Line}
 use Rattle.cap_log.specs.declared.lines.Line.TheVariants.{Version, Mode, Root, Step, End}
 use Rattle.cap_log.specs.declared.lines.Mode as modes_module
 use Rattle.cap_log.specs.declared.lines.Mode.TheVariants.{Strict, Clear}
-use Rattle.cap_log.specs.declared.lines.Step as steps_module
+use Rattle.cap_log.specs.declared.kinds.Step as steps_module
 use Rattle.cap_log.specs.Lines.{spelling, IsInRange, Spells}
 use Rattle.cap_log.specs.Front.{FrontIs}
 use Rattle.cap_ops.specs.Tests.{first_of}

@@ -4,7 +4,7 @@ use Rattle.cap_machine.specs.declared.ends.StepEnd.{StepEnd}
 use Rattle.cap_machine.specs.declared.ends.StepEnd.TheVariants.{Refused}
 use Rattle.cap_machine.specs.declared.ends.StepEnd.TheVariants as ends
 use Rattle.cap_log.specs.declared.lines.Line.TheVariants.{Version, Step as Stepping}
-use Rattle.cap_log.specs.declared.lines.Step.{Step}
+use Rattle.cap_log.specs.declared.kinds.Step.{Step}
 use Rattle.cap_log.specs.Front.{FrontIs, IsLine}
 use Rattle.cap_log.specs.Lines.{Spells}
 use Rattle.cap_ops.specs.declared.refusal.Refusal.{Refusal}

@@ -1,16 +1,12 @@
 //! What the rules give for a step whose line records another result.
 
-ghost use Rattle.std.specs.Prelude.{◌≡◌, ◌≤◌, Some, None};
-ghost use Rattle.cap_log.specs.Lines.{IsStepInRange};
-ghost use Rattle.cap_log.specs.declared.lines.Step.TheVariants as steps;
+ghost use Rattle.std.specs.Prelude.{◌≡◌};
 ghost use Rattle.cap_machine.specs.Helds.{account_of, held_of};
-ghost use Rattle.cap_judge.specs.Expectations.{GivesFor, GivesForText};
+ghost use Rattle.cap_judge.specs.Expectations.{GivesForText, expected_of};
 
-use crate::results::given_by;
 use crate::verdict::Expected;
-use cap_log::{Line, Load, Step, read_line};
-use cap_machine::Machine;
-use cap_ops::{Access, Kind, may_access};
+use cap_log::{Line, read_line};
+use cap_machine::{Given, Machine};
 use tagmem::TaggedStore;
 
 /// What the rules give for the step that a text spells, where it is refused for its result. The machine is
@@ -20,41 +16,20 @@ pub fn expected_by<M: TaggedStore>(machine: &Machine<M>, text: &[u8]) -> Option<
 {
     match read_line(text) {
         Some(line) => match line {
-            Line::Step(step) => expected_of(machine, &step),
+            Line::Step(step) => expected_of(machine.shown(&step).given),
             _ => None,
         },
         None => None,
     }
 }
 
-// What the rules give for a step that is refused for its result.
-fn expected_of<M: TaggedStore>(machine: &Machine<M>, step: &Step) -> Option<Expected>
-    requires { IsStepInRange step.now }
-    ensures { GivesFor (account_of (held_of M.contents machine.now)) step.now result }
+// The result, without the recorded one.
+fn expected_of(given: Given) -> Option<Expected>
+    ensures { result ≡ expected_of given }
 {
-    match *step {
-        Step::Load(step) => loaded_by(machine, step),
-        Step::StoreCap(_) => None,
-        Step::Store(_) => None,
-        _ => Some(Expected::Capability(given_by(machine, step).cap)),
-    }
-}
-
-// What the rules give for a load that records a value.
-fn loaded_by<M: TaggedStore>(machine: &Machine<M>, load: Load) -> Option<Expected>
-    requires { IsStepInRange (steps.Load load) }
-    ensures { GivesFor (account_of (held_of M.contents machine.now)) (steps.Load load) result }
-{
-    let access = Access {
-        kind: Kind::LoadData,
-        offset: load.offset,
-        size: load.size,
-    };
-    match may_access(machine.register(load.authority), access) {
-        Ok(address) => Some(Expected::Number {
-            value: machine.value(address, load.size),
-            size: load.size,
-        }),
-        Err(_) => None,
+    match given {
+        Given::Nothing => None,
+        Given::Capability { cap, .. } => Some(Expected::Capability(cap)),
+        Given::Number { value, size, .. } => Some(Expected::Number { value, size }),
     }
 }

@@ -3,7 +3,7 @@
 ghost use Rattle.std.specs.Prelude.{◌≡◌, ◌↔◌, ℕ, List};
 ghost use Rattle.std.specs.List.{AllByRecursion};
 ghost use Rattle.cap_log.specs.Lines.{IsInRange};
-ghost use Rattle.cap_log.specs.declared.lines.Step.{Step};
+ghost use Rattle.cap_log.specs.declared.kinds.Step.{Step};
 ghost use Rattle.cap_machine.specs.declared.rules.Rules.{Rules};
 ghost use Rattle.cap_machine.specs.States.{DeclaredRoot, State, start};
 ghost use Rattle.cap_machine.specs.Runs.{IsRun};

@@ -17,7 +17,6 @@ mod numbers;
 mod origin_lines;
 mod origins;
 mod reporting;
-mod results;
 mod steps;
 mod streams;
 mod telling;
@@ -34,7 +33,6 @@ pub use crate::laws::{
 };
 pub use crate::origin_lines::origin_text;
 pub use crate::reporting::{judge_origins, judge_origins_in, judge_to, push_report, push_verdict};
-pub use crate::results::{Given, given_by, reached};
 pub use crate::streams::{Judging, judge, judge_bytes, judge_in, judge_keeping};
 pub use crate::verdict::{Expected, JudgeFault, JudgeToFault, TakeFault, Verdict};
 pub use crate::verdict_lines::verdict_text;

@@ -1,10 +1,10 @@
 -- Where some bytes are cut: at the first byte of a kind.
-use Rattle.std.proofs.Common.{◌≡◌, ◌≢◌, ℕ, true, eqb, List, [], ◌∷◌, ◌++◌, length, take, drop, get_or, sym, ap, ◌∙◌, refl, arith}
+use Rattle.std.proofs.Common.{◌≡◌, ◌≢◌, ℕ, true, eqb, List, [], ◌∷◌, ◌++◌, take, drop, sym, ap, ◌∙◌, refl}
 use Rattle.std.specs.Cmp.Lexicographic.{pointwise}
 use Rattle.std.proofs.lemmas.Bool.{and_parts, eqb-true, false≢true}
-use Rattle.std.proofs.lemmas.List.{get_or_at, length-append, take-append-drop}
+use Rattle.std.proofs.lemmas.List.{take-append-drop}
 use Rattle.std.proofs.lemmas.List.Elements.{All-head, All-tail}
-use Rattle.cap_log.specs.Parts.{Lacks, IsCutAt}
+use Rattle.cap_log.specs.Parts.{Lacks}
 pub use Rattle.cap_log.specs.Spaceless.{Lacks-by_test}
 
 -- two cuts of one list are one
@@ -17,18 +17,6 @@ same_cut c (d ∷ a) (f ∷ b) x y p q e =
     let first : d ≡ f = cc in
     let both = same_cut c a b x y (All-tail (λ b. b ≢ c) d a p) (All-tail (λ b. b ≢ c) f b q) rest in
     (cc (both.0, first), both.1)
-
--- a list without the byte has no cut
-pub no_cut : (c : ℕ) (bytes a x : List ℕ) → Lacks c bytes → bytes ≡ a ++ c ∷ x → ⊥
-no_cut c bytes a x lacks e =
-    let long = ap length e ∙ length-append a (c ∷ x) in
-    lacks (length a) 0 (omega arith) (ap (λ (bs : List ℕ). get_or bs (length a) 0) e ∙ get_or_at a c x 0 (length a) refl)
-
--- a word that is cut off, and any other cut of the same bytes
-pub same_word : {end : ℕ} {bytes word rest : List ℕ} → IsCutAt end bytes word rest → (word' rest' : List ℕ) → Lacks end word'
-    → bytes ≡ word' ++ end ∷ rest'
-    → (word ≡ word') × (rest ≡ rest')
-same_word {end} {bytes} {word} {rest} cut word' rest' lacks e = same_cut end word word' rest rest' cut.one lacks (sym cut.whole ∙ e)
 
 -- what stands behind a first byte
 pub stripped : (b : ℕ) (bytes rest : List ℕ) → pointwise eqb (take 1 bytes) (b ∷ []) ≡ true → rest ≡ drop 1 bytes → bytes ≡ b ∷ rest

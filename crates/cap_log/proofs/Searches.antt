@@ -9,6 +9,7 @@ use Rattle.cap_log.specs.declared.lines.Place.{Place}
 use Rattle.cap_log.specs.declared.lines.Place.TheVariants.{Register, Granule}
 use Rattle.cap_log.specs.declared.lines.Mode.{Mode}
 use Rattle.cap_log.specs.declared.lines.Mode.TheVariants.{Strict, Clear}
+use Rattle.cap_log.specs.declared.parts.headers.Version.{Version}
 use Rattle.cap_log.specs.declared.parts.offsets.Offset.{Offset}
 use Rattle.cap_log.specs.declared.parts.registers.Register.{Register as ARegister}
 use Rattle.cap_log.specs.declared.parts.registers.Target.{Target as ATarget}
@@ -182,8 +183,10 @@ a_version : (v : ℕ) → IsVersion v → v < 3
 a_version v (inl is) = omega arith
 a_version v (inr is) = omega arith
 
-pub versions : Searched ℕ IsVersion
-versions = narrowed (below 3) a_version (λ v. either (same v 1) (same v 2))
+pub versions : Searched Version (λ a. IsVersion a.0)
+versions P decided =
+    alike (λ h. (record { 0 = h.0 }, h.1, h.2)) (λ h. (h.0.0, h.1, h.2))
+    (narrowed (below 3) a_version (λ v. either (same v 1) (same v 2)) _ (λ n. decided (record { 0 = n })))
 
 a_mode : (P : Mode → Type 0) → P Strict ⊎ P Clear → (mode : Mode) × IsMode mode × P mode
 a_mode P (inl p) = (Strict, tt, p)

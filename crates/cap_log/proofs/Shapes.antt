@@ -1,5 +1,5 @@
 -- Lines by their heads: what stands behind each head, and the line that head and operands make.
-use Rattle.std.proofs.Common.{append_assoc, ◌≡◌, ◌≢◌, ℕ, ◌+◌, ◌<◌, ◌≤◌, ◌^◌, List, ◌∷◌, ◌++◌, length, sym, ap, subst, ◌∙◌, refl, arith}
+use Rattle.std.proofs.Common.{append_assoc, ◌≡◌, ℕ, ◌+◌, ◌≤◌, ◌^◌, List, ◌∷◌, ◌++◌, length, sym, ap, subst, ◌∙◌, refl, arith}
 use Rattle.std.proofs.Common.{inl, inr, decimal, codes, lit≤, if◌then◌else◌}
 use Rattle.std.specs.Fmt.{signed_decimal}
 use Rattle.std.proofs.lemmas.Fmt.{decimal_digit, decimal_injective, length-decimal-le}
@@ -11,16 +11,17 @@ use Rattle.cap_log.specs.Front.{HasNoFeed}
 use Rattle.cap_log.specs.Heads.{IsHead, head_spelling}
 use Rattle.cap_log.specs.Lines.{IsInRange, IsNumber, IsVersion, IsOffset, IsPlace, IsRegister, IsTarget, IsWord, mode_spelling}
 use Rattle.cap_log.specs.Lines.{place_spelling, register_spelling, spelling}
-use Rattle.cap_log.specs.Parts.{Begins, BeginsWithNone, FitBoth, IsCount, IsMode, IsSized, loaded_spelling, result_spelling, spaced}
+use Rattle.cap_log.specs.Parts.{Begins, BeginsWithNone, BeginsWithout, FitBoth, IsCount, IsMode, IsSized, StandsBehind, loaded_spelling}
+use Rattle.cap_log.specs.Parts.{result_spelling, spaced}
 use Rattle.cap_log.specs.Parts.{stored_spelling}
-use Rattle.cap_log.specs.declared.heads.Head.{Head}
-use Rattle.cap_log.specs.declared.heads.Head.TheVariants as head
-use Rattle.cap_log.specs.declared.lines.Place.{Place}
-use Rattle.cap_log.specs.declared.lines.Step.TheVariants as step
+use Rattle.cap_log.specs.declared.kinds.Head.{Head}
+use Rattle.cap_log.specs.declared.kinds.Head.TheVariants as head
+use Rattle.cap_log.specs.declared.kinds.Step.TheVariants as step
 use Rattle.cap_log.specs.declared.lines.Mode.{Mode}
 use Rattle.cap_log.specs.declared.lines.Mode.TheVariants as modes
 use Rattle.cap_log.specs.declared.lines.Line.{Line}
 use Rattle.cap_log.specs.declared.lines.Line.TheVariants as line
+use Rattle.cap_log.specs.declared.parts.headers.Version.{Version}
 use Rattle.cap_log.specs.declared.parts.offsets.Offset.{Offset}
 use Rattle.cap_log.specs.declared.parts.registers.Register.{Register}
 use Rattle.cap_log.specs.declared.parts.registers.Target.{Target}
@@ -43,117 +44,71 @@ pub record Shape : Type 1 where
   pub operand : IsOperand Fits_is text_is most
   pub searched : Searched Value_is Fits_is
 
+-- one of values in range, with their bytes
+abbrev part : {A : Type 0} (Fits : A → Type 0) (spelled : A → List ℕ) (n : ℕ) → IsOperand Fits spelled n → Searched A Fits → Shape
+part {A} Fits spelled n one_each search_for = record {
+  Value_is = A;
+  Fits_is = Fits;
+  text_is = spelled;
+  most = n;
+  operand = one_each;
+  searched = search_for;
+}
+
 -- the parts, as the code has them
 abbrev a_target : Shape
-a_target = record {
-  Value_is = Target;
-  Fits_is = λ a. IsTarget a.0;
-  text_is = λ a. register_spelling a.0;
-  most = 3;
-  operand = mapped IsTarget register_spelling 3 target-operand (λ a. a.0) (λ x. record { 0 = x }) (λ _. refl);
-  searched = targets;
-}
+a_target = part (λ (a : Target). IsTarget a.0) (λ a. register_spelling a.0) 3
+    (mapped IsTarget register_spelling 3 target-operand (λ a. a.0) (λ x. record { 0 = x }) (λ _. refl)) targets
 
 abbrev a_register : Shape
-a_register = record {
-  Value_is = Register;
-  Fits_is = λ a. IsRegister a.0;
-  text_is = λ a. register_spelling a.0;
-  most = 3;
-  operand = mapped IsRegister register_spelling 3 register-operand (λ a. a.0) (λ x. record { 0 = x }) (λ _. refl);
-  searched = registers;
-}
+a_register = part (λ (a : Register). IsRegister a.0) (λ a. register_spelling a.0) 3
+    (mapped IsRegister register_spelling 3 register-operand (λ a. a.0) (λ x. record { 0 = x }) (λ _. refl)) registers
 
 abbrev a_number : Shape
-a_number = record {
-  Value_is = ℕ;
-  Fits_is = IsNumber;
-  text_is = hex_digits 16;
-  most = 16;
-  operand = number-operand;
-  searched = below (2 ^ 64);
-}
+a_number = part IsNumber (hex_digits 16) 16
+    number-operand (below (2 ^ 64))
 
 abbrev an_offset : Shape
-an_offset = record {
-  Value_is = Offset;
-  Fits_is = λ a. IsOffset a.0;
-  text_is = λ a. signed_decimal a.0;
-  most = 5;
-  operand = mapped IsOffset signed_decimal 5 offset-operand (λ a. a.0) (λ x. record { 0 = x }) (λ _. refl);
-  searched = offsets;
-}
+an_offset = part (λ (a : Offset). IsOffset a.0) (λ a. signed_decimal a.0) 5
+    (mapped IsOffset signed_decimal 5 offset-operand (λ a. a.0) (λ x. record { 0 = x }) (λ _. refl)) offsets
 
 abbrev a_result : Shape
-a_result = record {
-  Value_is = Cap;
-  Fits_is = λ a. IsWord a.word.0;
-  text_is = result_spelling;
-  most = 36;
-  operand = result-operand;
-  searched = caps;
-}
+a_result = part (λ (a : Cap). IsWord a.word.0) result_spelling 36
+    result-operand caps
 
 abbrev a_load : Shape
-a_load = record {
-  Value_is = Loaded;
-  Fits_is = λ a. IsSized a.size a.value;
-  text_is = λ a. loaded_spelling a.size a.value;
-  most = 20;
-  operand = mapped (λ (x : ℕ × ℕ). IsSized x.0 x.1) (λ x. loaded_spelling x.0 x.1) 20 loaded-operand (λ a. (a.size, a.value))
-      (λ x. record { size = x.0; value = x.1 }) (λ _. refl);
-  searched = loads;
-}
+a_load = part (λ (a : Loaded). IsSized a.size a.value) (λ a. loaded_spelling a.size a.value) 20
+    (mapped (λ (x : ℕ × ℕ). IsSized x.0 x.1) (λ x. loaded_spelling x.0 x.1) 20 loaded-operand (λ a. (a.size, a.value)) (λ x. record { size = x.0; value = x.1 }) (λ _. refl)) loads
 
 abbrev a_store : Shape
-a_store = record {
-  Value_is = Stored;
-  Fits_is = λ a. IsSized a.size a.value;
-  text_is = λ a. stored_spelling a.size a.value;
-  most = 18;
-  operand = mapped (λ (x : ℕ × ℕ). IsSized x.0 x.1) (λ x. stored_spelling x.0 x.1) 18 stored-operand (λ a. (a.size, a.value))
-      (λ x. record { size = x.0; value = x.1 }) (λ _. refl);
-  searched = stores;
-}
+a_store = part (λ (a : Stored). IsSized a.size a.value) (λ a. stored_spelling a.size a.value) 18
+    (mapped (λ (x : ℕ × ℕ). IsSized x.0 x.1) (λ x. stored_spelling x.0 x.1) 18 stored-operand (λ a. (a.size, a.value)) (λ x. record { size = x.0; value = x.1 }) (λ _. refl)) stores
 
 abbrev a_count : Shape
-a_count = record {
-  Value_is = ℕ;
-  Fits_is = IsCount;
-  text_is = decimal;
-  most = 10;
-  operand = count-operand;
-  searched = below (2 ^ 32);
-}
+a_count = part IsCount decimal 10
+    count-operand (below (2 ^ 32))
 
 abbrev a_word : Shape
-a_word = record {
-  Value_is = Word;
-  Fits_is = λ a. IsWord a.0;
-  text_is = λ a. hex_digits 32 a.0;
-  most = 32;
-  operand = mapped IsWord (hex_digits 32) 32 word-operand (λ a. a.0) (λ x. record { 0 = x }) (λ _. refl);
-  searched = words;
-}
+a_word = part (λ (a : Word). IsWord a.0) (λ a. hex_digits 32 a.0) 32
+    (mapped IsWord (hex_digits 32) 32 word-operand (λ a. a.0) (λ x. record { 0 = x }) (λ _. refl)) words
 
 abbrev a_place : Shape
-a_place = record {
-  Value_is = Place;
-  Fits_is = IsPlace;
-  text_is = place_spelling;
-  most = 17;
-  operand = place-operand;
-  searched = places;
-}
+a_place = part IsPlace place_spelling 17
+    place-operand places
 
-pub version_two : (version : ℕ) → IsVersion version → version ≢ 1 → version ≡ 2
-version_two version (inl one) other = absurd (other one)
-version_two version (inr two) other = two
+-- the texts of the versions
+pub one_digit : decimal 1 ≡ codes "1"
+one_digit = decimal_digit 1 (omega arith)
 
-pub no_version : (rest : List ℕ) → (rest ≡ codes "1" → ⊥) → (rest ≡ codes "2" → ⊥) → (version : ℕ)
-    → IsVersion version → rest ≡ decimal version → ⊥
-no_version rest first second version (inl one) e = first (e ∙ ap decimal one ∙ decimal_digit 1 (omega arith))
-no_version rest first second version (inr two) e = second (e ∙ ap decimal two ∙ decimal_digit 2 (omega arith))
+pub two_digit : decimal 2 ≡ codes "2"
+two_digit = decimal_digit 2 (omega arith)
+
+pub no_version : (end : ℕ) (bytes : List ℕ) → BeginsWithout (codes "1") end bytes → BeginsWithout (codes "2") end bytes
+    → BeginsWithNone (λ (a : Version). IsVersion a.0) (λ a. decimal a.0) end bytes
+no_version end bytes first second version rest (inl one, e) =
+    first rest (e ∙ ap (λ (ds : List ℕ). ds ++ end ∷ rest) (ap decimal one ∙ one_digit))
+no_version end bytes first second version rest (inr two, e) =
+    second rest (e ∙ ap (λ (ds : List ℕ). ds ++ end ∷ rest) (ap decimal two ∙ two_digit))
 
 version-small : (n : ℕ) → IsVersion n → (1 ≤ n) × (n ≤ 2)
 version-small n (inl one) = (omega arith, omega arith)
@@ -184,24 +139,12 @@ pub mode-operand : IsOperand IsMode mode_spelling 6
 mode-operand = record { one = λ a b fits fits' e. one_mode a b e; plain = λ a fits. plain_mode a; short = λ a fits. short_mode a }
 
 abbrev a_version : Shape
-a_version = record {
-  Value_is = ℕ;
-  Fits_is = IsVersion;
-  text_is = decimal;
-  most = 1;
-  operand = version-operand;
-  searched = versions;
-}
+a_version = part (λ (a : Version). IsVersion a.0) (λ a. decimal a.0) 1
+    (mapped IsVersion decimal 1 version-operand (λ a. a.0) (λ x. record { 0 = x }) (λ _. refl)) versions
 
 abbrev a_mode : Shape
-a_mode = record {
-  Value_is = Mode;
-  Fits_is = IsMode;
-  text_is = mode_spelling;
-  most = 6;
-  operand = mode-operand;
-  searched = both_modes;
-}
+a_mode = part IsMode mode_spelling 6
+    mode-operand both_modes
 
 -- one of one word, a space, and another
 abbrev one_word : (first : Shape) → Spaceless first.Fits_is first.text_is → Shape → Shape
@@ -248,21 +191,7 @@ row head.End = a_count
 
 pub row-short : (h : Head) → (row h).most ≤ 80
 row-short head.Version = lit≤ tt
-row-short head.Mode = lit≤ tt
-row-short head.Root = lit≤ tt
-row-short head.Move = lit≤ tt
-row-short head.ClearTag = lit≤ tt
-row-short head.Seal = lit≤ tt
-row-short head.Unseal = lit≤ tt
-row-short head.SetBounds = lit≤ tt
-row-short head.SetBoundsExact = lit≤ tt
-row-short head.SetAddr = lit≤ tt
-row-short head.AndPerm = lit≤ tt
-row-short head.LoadCap = lit≤ tt
-row-short head.StoreCap = lit≤ tt
-row-short head.Load = lit≤ tt
-row-short head.Store = lit≤ tt
-row-short head.End = lit≤ tt
+row-short h = lit≤ tt
 
 abbrev pub Value : Head → Type 0
 Value h = (row h).Value_is
@@ -275,7 +204,7 @@ text h = (row h).text_is
 
 -- the line that they make
 abbrev pub made : (h : Head) → Value h → Line
-made head.Version version = line.Version version
+made head.Version version = line.Version version.0
 made head.Mode mode = line.Mode mode
 made head.Root x = line.Root x.0 x.1
 made head.Move x = line.Step (step.Move (record { target = x.0.0; source = x.1.0.0; result = x.1.1 }))
@@ -294,7 +223,7 @@ made head.End x = line.End x
 
 -- a line as its head and its operands
 abbrev lined : (l : Line) → (h : Head) × (x : Value h) × (made h x ≡ l)
-lined (line.Version version) = (head.Version, version, refl)
+lined (line.Version version) = (head.Version, record { 0 = version }, refl)
 lined (line.Mode mode) = (head.Mode, mode, refl)
 lined (line.Root place word) = (head.Root, (place, word), refl)
 lined (line.Step (step.Move s)) = (head.Move, (record { 0 = s.target }, (record { 0 = s.source }, s.result)), refl)
@@ -331,19 +260,11 @@ unfolding spelling
 is_made head.Version x = record { in_range = λ f. f; fits = λ f. f; spelling_is = refl }
 is_made head.Mode x = record { in_range = λ f. f; fits = λ f. f; spelling_is = refl }
 is_made head.Root x = record { in_range = λ f. f; fits = λ f. f; spelling_is = refl }
+is_made head.End x = record { in_range = λ f. f; fits = λ f. f; spelling_is = refl }
 is_made head.Move x = record { in_range = λ f. (f.0, f.1.0, f.1.1); fits = λ f. (f.0, (f.1, f.2)); spelling_is = refl }
 is_made head.ClearTag x = record { in_range = λ f. (f.0, f.1.0, f.1.1); fits = λ f. (f.0, (f.1, f.2)); spelling_is = refl }
-is_made head.Seal x = record { in_range = λ f. (f.0, f.1.0, f.1.1.0, f.1.1.1); fits = λ f. (f.0, (f.1, (f.2, f.3))); spelling_is = refl }
-is_made head.Unseal x = record { in_range = λ f. (f.0, f.1.0, f.1.1.0, f.1.1.1); fits = λ f. (f.0, (f.1, (f.2, f.3))); spelling_is = refl }
-is_made head.SetBounds x = record { in_range = λ f. (f.0, f.1.0, f.1.1.0, f.1.1.1); fits = λ f. (f.0, (f.1, (f.2, f.3))); spelling_is = refl }
-is_made head.SetBoundsExact x = record { in_range = λ f. (f.0, f.1.0, f.1.1.0, f.1.1.1); fits = λ f. (f.0, (f.1, (f.2, f.3))); spelling_is = refl }
-is_made head.SetAddr x = record { in_range = λ f. (f.0, f.1.0, f.1.1.0, f.1.1.1); fits = λ f. (f.0, (f.1, (f.2, f.3))); spelling_is = refl }
-is_made head.AndPerm x = record { in_range = λ f. (f.0, f.1.0, f.1.1.0, f.1.1.1); fits = λ f. (f.0, (f.1, (f.2, f.3))); spelling_is = refl }
-is_made head.LoadCap x = record { in_range = λ f. (f.0, f.1.0, f.1.1.0, f.1.1.1); fits = λ f. (f.0, (f.1, (f.2, f.3))); spelling_is = refl }
 is_made head.StoreCap x = record { in_range = λ f. (f.0, f.1.0, f.1.1); fits = λ f. (f.0, (f.1, f.2)); spelling_is = refl }
-is_made head.Load x = record { in_range = λ f. (f.0, f.1.0, f.1.1.0, f.1.1.1); fits = λ f. (f.0, (f.1, (f.2, f.3))); spelling_is = refl }
-is_made head.Store x = record { in_range = λ f. (f.0, f.1.0, f.1.1.0, f.1.1.1); fits = λ f. (f.0, (f.1, (f.2, f.3))); spelling_is = refl }
-is_made head.End x = record { in_range = λ f. f; fits = λ f. f; spelling_is = refl }
+is_made h x = record { in_range = λ f. (f.0, f.1.0, f.1.1.0, f.1.1.1); fits = λ f. (f.0, (f.1, (f.2, f.3))); spelling_is = refl }
 
 pub fits-of : (l : Line) → IsInRange l → Fits (head_of l) (operands_of l)
 fits-of l range = (is_made (head_of l) (operands_of l)).fits (subst IsInRange (sym (made-of l)) range)
@@ -374,21 +295,7 @@ named word =
 pub named-spelling : (h : Head) → named (head_spelling h) ≡ h
 unfolding named
 named-spelling head.Version = refl
-named-spelling head.Mode = refl
-named-spelling head.Root = refl
-named-spelling head.Move = refl
-named-spelling head.ClearTag = refl
-named-spelling head.Seal = refl
-named-spelling head.Unseal = refl
-named-spelling head.SetBounds = refl
-named-spelling head.SetBoundsExact = refl
-named-spelling head.SetAddr = refl
-named-spelling head.AndPerm = refl
-named-spelling head.LoadCap = refl
-named-spelling head.StoreCap = refl
-named-spelling head.Load = refl
-named-spelling head.Store = refl
-named-spelling head.End = refl
+named-spelling h = refl
 
 pub head-operand : IsOperand IsHead head_spelling 14
 head-operand = record {
@@ -417,13 +324,47 @@ head_cut l bytes rest e =
 pub no_head : (bytes : List ℕ) → BeginsWithNone IsHead head_spelling 32 bytes → BeginsWithNone IsInRange spelling 10 bytes
 no_head bytes none l rest begins = none (head_of l) (text (head_of l) (operands_of l) ++ 10 ∷ rest) (tt, head_cut l bytes rest begins.1)
 
--- nor do a head and no operands for it
+-- what stands behind a head is what its row says
+pub stands_behind : (h : Head) → StandsBehind h (Fits h) (text h)
+stands_behind h = record {
+  part_of = λ l behind range e.
+      let parts = same_cut 32 (head_spelling (head_of l)) (head_spelling h) (text (head_of l) (operands_of l)) behind
+      (head-spaceless (head_of l)) (head-spaceless h) (sym (spelling-of l) ∙ e) in
+      let same : head_of l ≡ h = head-operand.one (head_of l) h tt tt parts.0 in
+      subst (λ k. (x : Value k) × Fits k x × (behind ≡ text k x)) same (operands_of l, fits-of l range, sym parts.1);
+}
+
+-- where no such part stands behind it, no line does
+pub none_behind : {A : Type 0} (h : Head) (Fits : A → Type 0) (spelled : A → List ℕ) → StandsBehind h Fits spelled → (bytes : List ℕ)
+    → BeginsWithNone Fits spelled 10 bytes → BeginsWithNone IsInRange spelling 10 (head_spelling h ++ 32 ∷ bytes)
+none_behind h Fits spelled is bytes none l rest begins =
+    let words = text (head_of l) (operands_of l) in
+    let parts = same_cut 32 (head_spelling h) (head_spelling (head_of l)) bytes (words ++ 10 ∷ rest) (head-spaceless h)
+    (head-spaceless (head_of l)) (head_cut l (head_spelling h ++ 32 ∷ bytes) rest begins.1) in
+    let found = is.part_of l words begins.0 (spelling-of l ∙ ap (λ (bs : List ℕ). bs ++ 32 ∷ words) (sym parts.0)) in
+    none found.0 rest (found.1, parts.1 ∙ ap (λ (bs : List ℕ). bs ++ 10 ∷ rest) found.2)
+
 pub no_operands : (h : Head) (bytes : List ℕ) → BeginsWithNone (Fits h) (text h) 10 bytes
     → BeginsWithNone IsInRange spelling 10 (head_spelling h ++ 32 ∷ bytes)
-no_operands h bytes none l rest begins =
-    let behind = text (head_of l) (operands_of l) ++ 10 ∷ rest in
-    let parts = same_cut 32 (head_spelling h) (head_spelling (head_of l)) bytes behind (head-spaceless h) (head-spaceless (head_of l))
-    (head_cut l (head_spelling h ++ 32 ∷ bytes) rest begins.1) in
-    let same : h ≡ head_of l = head-operand.one h (head_of l) tt tt parts.0 in
-    subst (λ k. BeginsWithNone (Fits k) (text k) 10 bytes → ⊥) (sym same)
-    (λ none. none (operands_of l) rest (fits-of l begins.0, parts.1)) none
+no_operands h = none_behind h (Fits h) (text h) (stands_behind h)
+
+-- for each kind of step
+abbrev Behind : Head → Type 0
+Behind h = StandsBehind h (Fits h) (text h)
+
+pub kinds_of_steps : Behind head.Move × Behind head.ClearTag × Behind head.SetBounds × Behind head.SetBoundsExact × Behind head.SetAddr × Behind head.AndPerm
+    × Behind head.Seal × Behind head.Unseal × Behind head.LoadCap × Behind head.StoreCap × Behind head.Load × Behind head.Store
+kinds_of_steps = (
+  stands_behind head.Move,
+  stands_behind head.ClearTag,
+  stands_behind head.SetBounds,
+  stands_behind head.SetBoundsExact,
+  stands_behind head.SetAddr,
+  stands_behind head.AndPerm,
+  stands_behind head.Seal,
+  stands_behind head.Unseal,
+  stands_behind head.LoadCap,
+  stands_behind head.StoreCap,
+  stands_behind head.Load,
+  stands_behind head.Store,
+)

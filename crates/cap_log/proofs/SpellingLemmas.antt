@@ -1,15 +1,13 @@
 -- Spellings: bytes spell one line at most, and a spelling with its line feed is the line at the front of any bytes.
-use Rattle.std.proofs.Common.{◌≡◌, ◌≢◌, ℕ, ◌+◌, ◌<◌, ◌≤◌, List, [], ◌∷◌, ◌++◌, codes, length, sym, ap, subst, ◌∙◌, refl, arith}
-use Rattle.std.proofs.lemmas.Fmt.{decimal_digit}
+use Rattle.std.proofs.Common.{◌≡◌, ◌≢◌, ℕ, ◌+◌, ◌≤◌, List, [], ◌∷◌, ◌++◌, length, sym, ap, subst, ◌∙◌, refl, arith}
 use Rattle.std.proofs.lemmas.List.{append_cancel_right, length-append}
 use Rattle.std.proofs.lemmas.List.Elements.{All-append, All-cons}
 use Rattle.cap_log.specs.Front.{HasNoFeed, IsLine}
 use Rattle.cap_log.specs.Lines.{IsInRange, IsLineAt, Spells, spelling}
-use Rattle.cap_log.specs.Heads.{IsHead, head_spelling}
-use Rattle.cap_log.specs.Parts.{Begins, BeginsWithNone, FitBoth, Writes}
-use Rattle.cap_log.specs.declared.heads.Head.{Head}
+use Rattle.cap_log.specs.Heads.{head_spelling}
+use Rattle.cap_log.specs.Parts.{Begins, BeginsWithNone, Writes}
+use Rattle.cap_log.specs.declared.kinds.Head.{Head}
 use Rattle.cap_log.specs.declared.lines.Line.{Line}
-use Rattle.cap_log.specs.declared.lines.Line.TheVariants.{Version}
 use Rattle.cap_log.specs.Spaceless.{head-spaceless}
 use Rattle.cap_log.proofs.Cuts.{same_cut}
 use Rattle.cap_log.proofs.WriteLemmas.{front_and_byte, length-Writes}
@@ -48,26 +46,12 @@ pub IsLine-spelling : (l : Line) → IsInRange l → (rest : List ℕ) → IsLin
 IsLine-spelling l fits rest = record { whole = refl; one = spelling-plain l fits; short = spelling-short l fits }
 
 -- a line as its head and its operands
-pub line_fits : (l : Line) → IsInRange l → FitBoth IsHead (Fits (head_of l)) (head_of l, operands_of l)
-line_fits l fits = (tt, fits-of l fits)
-
 pub line_room : (l : Line) → IsInRange l → (n : ℕ) → 95 ≤ n → 0 + length
     (head_spelling (head_of l) ++ 32 ∷ text (head_of l) (operands_of l)) ≤ n
 line_room l fits n room =
     let short = spelling-short l fits in
     let same = ap length (spelling-of l) in
     omega arith
-
-pub line_written : (l : Line) (old new : List ℕ) (end : ℕ) → Writes 0 (head_spelling (head_of l) ++ 32
-    ∷ text (head_of l) (operands_of l)) old new end → Writes 0 (spelling l) old new end
-line_written l old new end written = subst (λ (text : List ℕ). Writes 0 text old new end) (sym (spelling-of l)) written
-
--- a version's number is one digit
-pub version_written : (version : ℕ) → version < 10 → (old new : List ℕ) (end : ℕ)
-    → Writes 0 (codes "capcheck " ++ (48 + version) ∷ []) old new end → Writes 0 (spelling (Version version)) old new end
-version_written version small old new end written =
-    line_written (Version version) old new end
-    (subst (λ (digits : List ℕ). Writes 0 (codes "capcheck " ++ digits) old new end) (sym (decimal_digit version small)) written)
 
 -- bytes with a line feed behind them: what stands at their front says what they spell
 pub fed_none : (bytes : List ℕ) → BeginsWithNone IsInRange spelling 10 (bytes ++ 10 ∷ []) → (l : Line) → Spells bytes l → ⊥

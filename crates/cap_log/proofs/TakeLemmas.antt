@@ -1,27 +1,12 @@
--- Parts at the front of some bytes: what a cut and a reading of the word say of them.
+-- Parts at the front of some bytes, with the byte that ends them.
 use Rattle.std.proofs.Common.{◌≡◌, ℕ, ◌+◌, ◌<◌, ◌≤◌, Bool, List, [], ◌∷◌, ◌++◌, length, take, drop, get_or, sym, ap, ◌∙◌, arith}
 use Rattle.std.proofs.lemmas.List.{append_assoc, drop_more, get_or_at, length-append, take-append-drop, take_at}
 use Rattle.cap_word.specs.Digits.{hex_digits}
 use Rattle.cap_log.specs.Lines.{tag_spelling}
-use Rattle.cap_log.specs.Parts.{Begins, BeginsWithNone, FitBoth, HasNoSpace, IsCutAt, Lacks, spaced}
-use Rattle.cap_log.proofs.Cuts.{no_cut, same_cut, same_word}
-
--- a word that was read, in front of the byte that ends it
-pub taken : {A : Type 0} (Fits : A → Type 0) (spelled : A → List ℕ) (end : ℕ) (bytes word rest : List ℕ)
-    (a : A) → bytes ≡ word ++ end ∷ rest
-    → Fits a × (word ≡ spelled a) → Begins Fits spelled end bytes a rest
-taken Fits spelled end bytes word rest a whole read = (read.0, whole ∙ ap (λ (w : List ℕ). w ++ end ∷ rest) read.1)
+use Rattle.cap_log.specs.Parts.{Begins, BeginsWithNone, FitBoth, HasNoSpace, spaced}
+use Rattle.cap_log.proofs.Cuts.{same_cut}
 
 module _ {A : Type 0} (Fits : A → Type 0) (spelled : A → List ℕ) (end : ℕ) where
-  -- bytes without the byte that ends it
-  pub none_ended : (bytes : List ℕ) → Lacks end bytes → BeginsWithNone Fits spelled end bytes
-  none_ended bytes lacks a rest begins = no_cut end bytes (spelled a) rest lacks begins.1
-
-  -- a word that is none, where no spelling has the byte that ends it
-  pub none_read : ((a : A) → Fits a → Lacks end (spelled a)) → {bytes word rest : List ℕ} → IsCutAt end bytes word rest
-      → ((a : A) → Fits a → word ≡ spelled a → ⊥) → BeginsWithNone Fits spelled end bytes
-  none_read lacks cut none a rest begins = none a begins.0 (same_word cut (spelled a) rest (lacks a begins.0) begins.1).0
-
   -- where all spellings have so many bytes: no more than these, another byte behind them, or bytes that are none
   pub none_short : (n : ℕ) → ((a : A) → Fits a → length (spelled a) ≡ n) → (bytes : List ℕ) → length bytes ≤ n
       → BeginsWithNone Fits spelled end bytes

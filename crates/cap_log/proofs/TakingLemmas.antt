@@ -4,13 +4,13 @@ use Rattle.std.proofs.Common.{append_assoc, append-nil}
 use Rattle.std.proofs.lemmas.List.{length-append, take_at}
 use Rattle.std.proofs.lemmas.List.Elements.{All-take}
 use Rattle.cap_log.specs.Front.{HasNoFeed, IsCut, IsFront}
-use Rattle.cap_log.specs.declared.fronts.Front.{Front}
-use Rattle.cap_log.specs.declared.fronts.Front.TheVariants.{Cut}
+use Rattle.cap_log.specs.declared.lines.Front.{Front}
+use Rattle.cap_log.specs.declared.lines.Front.TheVariants.{Cut}
 use Rattle.cap_log.specs.declared.sources.PullFault.{PullFault}
 use Rattle.cap_log.specs.declared.taking.Lines.{Lines}
 use Rattle.std.proofs.Common.{Result}
 use Rattle.std.proofs.lemmas.Option.{none-some}
-use Rattle.cap_log.specs.declared.nexts.Next.{Next}
+use Rattle.cap_log.specs.declared.taking.Next.{Next}
 use Rattle.cap_log.specs.Takings.{Found, Answered, Again, IsNext, kept, over_of}
 
 -- what was kept is cut, and nothing more came

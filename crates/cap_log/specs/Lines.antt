@@ -7,9 +7,9 @@ use Rattle.cap_word.specs.Digits.{hex_digits}
 use Rattle.cap_word.specs.declared.word.Cap.{Cap}
 use Rattle.cap_log.specs.declared.lines.Place.{Place}
 use Rattle.cap_log.specs.declared.lines.Place.TheVariants.{Register, Granule}
-use Rattle.cap_log.specs.declared.lines.Step.{Step}
-use Rattle.cap_log.specs.declared.lines.Step.TheVariants.{Move, ClearTag, SetBounds, SetBoundsExact, SetAddr, AndPerm, Seal, Unseal}
-use Rattle.cap_log.specs.declared.lines.Step.TheVariants.{LoadCap, StoreCap, Load, Store}
+use Rattle.cap_log.specs.declared.kinds.Step.{Step}
+use Rattle.cap_log.specs.declared.kinds.Step.TheVariants.{Move, ClearTag, SetBounds, SetBoundsExact, SetAddr, AndPerm, Seal, Unseal}
+use Rattle.cap_log.specs.declared.kinds.Step.TheVariants.{LoadCap, StoreCap, Load, Store}
 use Rattle.cap_log.specs.declared.lines.Mode.{Mode}
 use Rattle.cap_log.specs.declared.lines.Mode.TheVariants.{Strict, Clear}
 use Rattle.cap_log.specs.declared.lines.Line.{Line}

@@ -6,7 +6,10 @@ use Rattle.std.specs.Str.Parse.{AllDigits, digits_value}
 use Rattle.cap_word.specs.Digits.{hex_digits}
 use Rattle.cap_word.specs.declared.word.Cap.{Cap}
 use Rattle.cap_log.specs.declared.lines.Mode.{Mode}
-use Rattle.cap_log.specs.Lines.{IsDataSize, IsDataValue, result_words}
+use Rattle.cap_log.specs.declared.lines.Line.{Line}
+use Rattle.cap_log.specs.declared.kinds.Head.{Head}
+use Rattle.cap_log.specs.Heads.{head_spelling}
+use Rattle.cap_log.specs.Lines.{IsDataSize, IsDataValue, IsInRange, result_words, spelling}
 
 -- the value in range whose spelling the bytes are, or none where they are no such value's
 abbrev pub Reads : {A : Type 0} → (A → Type 0) → (A → List ℕ) → List ℕ → Option A → Type 0
@@ -37,6 +40,11 @@ Begins Fits spelled end bytes value rest = Fits value × (bytes ≡ spelled valu
 abbrev pub BeginsWithNone : {A : Type 0} → (A → Type 0) → (A → List ℕ) → ℕ → List ℕ → Type 0
 BeginsWithNone {A} Fits spelled end bytes = (value : A) (rest : List ℕ) → Begins Fits spelled end bytes value rest → ⊥
 
+-- behind a head and its space stands such a part, in each line that begins with them
+pub record StandsBehind {A : Type 0} (head : Head) (Fits : A → Type 0) (spelled : A → List ℕ) : Type 0 where
+  pub part_of : (line : Line) (text : List ℕ) → IsInRange line → spelling line ≡ head_spelling head ++ 32 ∷ text
+      → (value : A) × Fits value × (text ≡ spelled value)
+
 -- the bytes do not begin with this text and the byte that ends it
 abbrev pub BeginsWithout : List ℕ → ℕ → List ℕ → Type 0
 BeginsWithout text end bytes = (rest : List ℕ) → bytes ≡ text ++ end ∷ rest → ⊥
@@ -48,11 +56,6 @@ FitBoth P Q pair = P pair.0 × Q pair.1
 -- their spelling: the first, a space, the second
 abbrev pub spaced : {A B : Type 0} → (A → List ℕ) → (B → List ℕ) → A × B → List ℕ
 spaced first second pair = first pair.0 ++ 32 ∷ second pair.1
-
--- the bytes are a word, the first byte of a kind, and a rest
-pub record IsCutAt (end : ℕ) (bytes word rest : List ℕ) : Type 0 where
-  pub whole : bytes ≡ word ++ end ∷ rest
-  pub one : Lacks end word
 
 -- a number from a least one on, below a bound
 abbrev pub IsFrom : ℕ → ℕ → ℕ → Type 0

@@ -13,8 +13,8 @@ use Rattle.cap_word.specs.Digits.{hex_digit, hex_digits}
 use Rattle.cap_log.specs.Heads.{head_spelling}
 use Rattle.cap_log.specs.Lines.{IsOffset, IsPlace, IsRegister, place_spelling, register_spelling}
 use Rattle.cap_log.specs.Parts.{HasNoSpace, Lacks}
-use Rattle.cap_log.specs.declared.heads.Head.{Head}
-use Rattle.cap_log.specs.declared.heads.Head.TheVariants as head
+use Rattle.cap_log.specs.declared.kinds.Head.{Head}
+use Rattle.cap_log.specs.declared.kinds.Head.TheVariants as head
 use Rattle.cap_log.specs.declared.lines.Place.{Place}
 use Rattle.cap_log.specs.declared.lines.Place.TheVariants.{Register, Granule}
 

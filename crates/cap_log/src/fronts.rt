@@ -1,14 +1,26 @@
-//! The front of some bytes: what they begin with, as far as lines go.
+//! Where the line at the front of some bytes ends.
 
-pub mod finding;
+ghost use Rattle.cap_log.specs.Front.{IsFront};
 
-/// What some bytes begin with.
-#[derive(Clone, Copy, Debug, PartialEq, Eq)]
-pub enum Front {
-    /// A whole line: its length in bytes, before its line feed.
-    Line(usize),
-    /// More than 95 bytes before any line feed.
-    TooLong,
-    /// At most 95 bytes, and no line feed among them.
-    Cut,
+use crate::lines::Front;
+
+/// The most bytes that a line has before its line feed.
+pub const LINE_LIMIT: usize = 95;
+
+/// The front of some bytes: the line that they begin with, or that there is none. It looks at the
+/// first 96 bytes at most.
+pub fn front(bytes: &[u8]) -> Front
+    ensures found { IsFront bytes.now result }
+{
+    let window = bytes.len().min(LINE_LIMIT + 1);
+    for index in 0..window {
+        if bytes[index] == b'\n' {
+            return Front::Line(index);
+        }
+    }
+    if window > LINE_LIMIT {
+        Front::TooLong
+    } else {
+        Front::Cut
+    }
 }

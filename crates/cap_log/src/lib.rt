@@ -6,7 +6,7 @@
 //! [`write_line`] writes a line's one spelling. [`front`] finds the line that some bytes begin with.
 //!
 //! A line can also be taken in two steps: its [`Head`], and by [`take_operands`] what stands behind that.
-//! Each kind of step has a type of its own, as [`Move`], which a [`Step`] carries, and by which its
+//! Each kind of step has a type of its own, as [`Move`](kinds::Move), which a [`Step`] carries, and by which its
 //! [`Operands`] are taken alone.
 //!
 //! The parts of a line are [`Part`]s: each takes itself from the front of some bytes, with the byte
@@ -20,9 +20,8 @@
 
 pub mod buffers;
 mod fronts;
-mod heads;
+pub mod kinds;
 mod lines;
-mod nexts;
 mod operands;
 mod parts;
 mod pulled;
@@ -33,15 +32,10 @@ mod sources;
 mod taking;
 mod writing;
 
-pub use crate::fronts::Front;
-pub use crate::fronts::finding::front;
-pub use crate::heads::Head;
-pub use crate::lines::{Line, Mode, Place, Step};
-pub use crate::nexts::Next;
-pub use crate::operands::accesses::{Load, LoadCap, Store, StoreCap};
-pub use crate::operands::numbers::{AndPerm, SetAddr, SetBounds, SetBoundsExact};
-pub use crate::operands::registers::{ClearTag, Move, Seal, Unseal};
-pub use crate::operands::{Operands, take_operands};
+pub use crate::fronts::front;
+pub use crate::kinds::{Head, Step, take_operands};
+pub use crate::lines::{Front, Line, Mode, Place};
+pub use crate::operands::Operands;
 pub use crate::parts::Part;
 pub use crate::pulled::Pulled;
 pub use crate::pushing::push_all;
@@ -54,5 +48,5 @@ pub use crate::sources::failing::FailingSource;
 pub use crate::sources::reading::ReadSource;
 pub use crate::sources::slices::SliceSource;
 pub use crate::sources::{PullFault, Source};
-pub use crate::taking::Lines;
+pub use crate::taking::{Lines, Next};
 pub use crate::writing::{write_line, write_place, write_step};

@@ -1,8 +1,6 @@
-//! The lines of a log: the version, the roots, the steps and the end.
+//! The lines of a log: the version, the roots, the steps and the end; and what bytes begin with, as far as lines go.
 
-use crate::operands::accesses::{Load, LoadCap, Store, StoreCap};
-use crate::operands::numbers::{AndPerm, SetAddr, SetBounds, SetBoundsExact};
-use crate::operands::registers::{ClearTag, Move, Seal, Unseal};
+use crate::kinds::Step;
 use cap_word::Word;
 
 /// Where a machine keeps a capability.
@@ -12,35 +10,6 @@ pub enum Place {
     Register(u8),
     /// A granule of memory, below 2^60: the sixteen bytes from sixteen times this number on.
     Granule(u64),
-}
-
-/// One step of the machine, with its operands and the result that the log records.
-#[derive(Clone, Copy, Debug, PartialEq, Eq)]
-pub enum Step {
-    /// `move`.
-    Move(Move),
-    /// `cleartag`.
-    ClearTag(ClearTag),
-    /// `setbounds`.
-    SetBounds(SetBounds),
-    /// `setboundsexact`.
-    SetBoundsExact(SetBoundsExact),
-    /// `setaddr`.
-    SetAddr(SetAddr),
-    /// `andperm`.
-    AndPerm(AndPerm),
-    /// `seal`.
-    Seal(Seal),
-    /// `unseal`.
-    Unseal(Unseal),
-    /// `lc`.
-    LoadCap(LoadCap),
-    /// `sc`.
-    StoreCap(StoreCap),
-    /// `load`.
-    Load(Load),
-    /// `store`.
-    Store(Store),
 }
 
 /// What a machine does where a test of an operation on registers holds.
@@ -65,4 +34,15 @@ pub enum Line {
     Step(Step),
     /// `end`: the number of step lines.
     End(u32),
+}
+
+/// What some bytes begin with.
+#[derive(Clone, Copy, Debug, PartialEq, Eq)]
+pub enum Front {
+    /// A whole line: its length in bytes, before its line feed.
+    Line(usize),
+    /// More than 95 bytes before any line feed.
+    TooLong,
+    /// At most 95 bytes, and no line feed among them.
+    Cut,
 }

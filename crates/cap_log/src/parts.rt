@@ -5,6 +5,7 @@ ghost use Rattle.cap_log.specs.Parts.{Begins, BeginsWithNone, FitBoth, HasNoSpac
 
 pub mod cutting;
 pub mod decimals;
+pub mod headers;
 pub mod hexadecimals;
 pub mod offsets;
 pub mod registers;

@@ -7,10 +7,9 @@ ghost use Rattle.cap_log.specs.Parts.{Begins, BeginsWithNone};
 ghost use Rattle.cap_log.specs.declared.lines.Line.{Line};
 
 use crate::buffers::put;
-use crate::fronts::finding::LINE_LIMIT;
-use crate::heads::Head;
+use crate::fronts::LINE_LIMIT;
+use crate::kinds::{Head, take_operands};
 use crate::lines::Line;
-use crate::operands::take_operands;
 use crate::parts::Part;
 
 /// Takes a line and its line feed from the front of some bytes: the line, and what comes behind it.

@@ -3,14 +3,39 @@
 ghost use Rattle.std.specs.Prelude.{◌≡◌, ◌≢◌, ℕ, ◌+◌, ◌<◌, ◌≤◌, List, [], ◌++◌, length, take, drop, true, false, None, Ok, IfOk, OnErr, OnOk};
 ghost use Rattle.cap_log.specs.Front.{IsCut};
 ghost use Rattle.cap_log.specs.Streams.{next_count};
-ghost use Rattle.cap_log.specs.declared.fronts.Front.TheVariants.{Cut};
-ghost use Rattle.cap_log.specs.declared.nexts.Over.{Over};
+ghost use Rattle.cap_log.specs.declared.lines.Front.TheVariants.{Cut};
+ghost use Rattle.cap_log.specs.declared.taking.Over.{Over};
 
-use crate::fronts::Front;
-use crate::fronts::finding::front;
-use crate::nexts::{Next, Over};
+use crate::fronts::front;
+use crate::lines::Front;
 use crate::pulled::Pulled;
 use crate::sources::{PullFault, Source};
+
+/// What the next call answers.
+#[derive(Clone, Copy, Debug, PartialEq, Eq)]
+pub enum Next<'a> {
+    /// A line, without its line feed.
+    Line(&'a [u8]),
+    /// More than 95 bytes before any line feed.
+    LineTooLong,
+    /// The source ended in the middle of a line.
+    Truncated,
+    /// The source ended at a line's start.
+    Finished,
+}
+
+/// Why there are no more lines.
+#[derive(Clone, Copy, Debug, PartialEq, Eq)]
+pub enum Over {
+    /// The source failed.
+    Failed,
+    /// More than 95 bytes came before any line feed.
+    TooLong,
+    /// The source ended in the middle of a line.
+    Truncated,
+    /// The source ended at a line's start.
+    Finished,
+}
 
 /// The lines of a source's bytes. It holds what was pulled and not yet lent.
 #[derive(Drop)]

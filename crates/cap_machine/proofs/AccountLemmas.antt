@@ -7,7 +7,7 @@ use Rattle.std.proofs.lemmas.Bool.{false≢true, or_from, lt-leb}
 use Rattle.cap_word.specs.declared.word.Word.{Word}
 use Rattle.cap_bounds.specs.Bounds.{is_sound}
 use Rattle.cap_log.specs.declared.lines.Place.{Place}
-use Rattle.cap_log.specs.declared.lines.Step.{Step}
+use Rattle.cap_log.specs.declared.kinds.Step.{Step}
 use Rattle.cap_ops.specs.Tests.{first_of}
 use Rattle.cap_ops.proofs.TestLemmas.{NoneHold}
 use Rattle.cap_machine.specs.States.{State, DeclaredRoot, key_of}

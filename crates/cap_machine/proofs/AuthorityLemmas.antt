@@ -9,7 +9,7 @@ use Rattle.std.proofs.lemmas.Option.{same_Some}
 use Rattle.cap_word.specs.declared.word.Cap.{Cap}
 use Rattle.cap_bounds.specs.Bounds.{IsSound}
 use Rattle.cap_log.specs.declared.lines.Place.{Place}
-use Rattle.cap_log.specs.declared.lines.Step.{Step}
+use Rattle.cap_log.specs.declared.kinds.Step.{Step}
 use Rattle.cap_log.specs.Lines.{IsStepInRange}
 use Rattle.cap_ops.specs.Authority.{ReachesNoMore}
 use Rattle.cap_ops.proofs.ReachLemmas.{ReachesNoMore-refl, ReachesNoMore-trans}

@@ -10,7 +10,7 @@ use Rattle.std.specs.FinMap as map
 use Rattle.cap_word.specs.declared.word.Cap.{Cap}
 use Rattle.cap_log.specs.declared.lines.Place.{Place}
 use Rattle.cap_log.specs.declared.lines.Place.TheVariants.{Register, Granule}
-use Rattle.cap_log.specs.declared.lines.Step.{Step}
+use Rattle.cap_log.specs.declared.kinds.Step.{Step}
 use Rattle.cap_log.specs.Lines.{IsPlace}
 use Rattle.tagmem.specs.Granules.{Granules, Entry}
 use Rattle.cap_machine.specs.States.{State, key_of, put, granule_key, untagged_null}

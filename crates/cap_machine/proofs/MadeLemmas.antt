@@ -1,12 +1,9 @@
 -- A machine after a step was made, or refused.
-use Rattle.std.proofs.Common.{◌≡◌, ℕ, ℤ, ◌+◌, ◌/◌, ◌%◌, ◌^◌, ◌<◌, ◌≤◌, Bool, true, false, not, ◌||◌}
+use Rattle.std.proofs.Common.{◌≡◌, ℕ, ◌+◌, ◌/◌, ◌%◌, ◌^◌, ◌<◌, ◌≤◌, Bool, true, false, not, ◌||◌}
 use Rattle.std.proofs.Common.{nat_le, List, [], ◌∷◌, length, take, drop, get_or, refl, sym, ap, subst, ◌∙◌, arith, lit<}
 use Rattle.std.proofs.Common.{inl, inr, nat_lt, ◌-◌, Some, None, Option, option_map, Result, Ok, Err, MatchResult, All}
 use Rattle.std.specs.Bool.{if◌then◌else◌}
 use Rattle.std.specs.FinMap as fin
-use Rattle.std.specs.Prelude.{FitsSigned}
-use Rattle.std.specs.Int.{w16, cast_signed, cast_unsigned}
-use Rattle.std.proofs.lemmas.Int.{to_z-of_z}
 use Rattle.std.proofs.Math.ListN.{set}
 use Rattle.std.proofs.Math.Bool.{or-false}
 use Rattle.std.proofs.lemmas.Bool.{false≢true, cases_lt, le-ltb, eq-eqb, lt-leb}
@@ -18,11 +15,11 @@ use Rattle.cap_word.specs.Memory.{low_bytes, memory_of, number_of, stored_word}
 use Rattle.cap_word.proofs.Bytes.{stored_word-memory_of, memory_of-stored_word}
 use Rattle.cap_log.specs.declared.lines.Place.{Place}
 use Rattle.cap_log.specs.declared.lines.Place.TheVariants.{Register, Granule}
-use Rattle.cap_log.specs.declared.lines.Step.{Step}
-use Rattle.cap_log.specs.declared.lines.Step.TheVariants as steps
-use Rattle.cap_log.specs.declared.operands.accesses.Load.{Load}
-use Rattle.cap_log.specs.declared.operands.accesses.Store.{Store}
-use Rattle.cap_log.specs.declared.operands.accesses.StoreCap.{StoreCap}
+use Rattle.cap_log.specs.declared.kinds.Step.{Step}
+use Rattle.cap_log.specs.declared.kinds.Step.TheVariants as steps
+use Rattle.cap_log.specs.declared.kinds.Load.{Load}
+use Rattle.cap_log.specs.declared.kinds.Store.{Store}
+use Rattle.cap_log.specs.declared.kinds.StoreCap.{StoreCap}
 use Rattle.cap_log.specs.Lines.{IsStepInRange}
 use Rattle.cap_ops.specs.declared.faults.OpFault.{OpFault}
 use Rattle.cap_ops.specs.Tests.{first_of}
@@ -396,6 +393,14 @@ pub value_in : (held : Held) (address size : ℕ) → AreStored held.memory
 value_in held address size stored_all =
     ap (λ (bytes : List ℕ). number_of (take size (drop (address % 16) bytes))) (granule_bytes held (address / 16) stored_all)
 
+-- the number that is read at the address of a load is the value there
+pub value_read : (held : Held) (load : Load) (address read : ℕ) → AreStored held.memory
+    → address ≡ address_through (state_of held) load.authority load.offset
+    → read ≡ number_at (bytes_at held.memory (address / 16)) (address % 16) load.size
+    → read ≡ value_at (state_of held) (address_through (state_of held) load.authority load.offset) load.size
+value_read held load address read stored_all at is =
+    is ∙ sym (value_in held address load.size stored_all) ∙ ap (λ (a : ℕ). value_at (state_of held) a load.size) at
+
 -- a load is made
 pub loaded_value : (old : Held) (load : Load)
     → first_of (row_of (state_of old) (steps.Load load)).tests ≡ None
@@ -443,7 +448,3 @@ faulted_as old step access fault refusal accesses found is =
           ∙ ap (λ (r : Refusal). Some r) (sym is),
       refl,
     )
-
--- what an offset is, passed to a call
-pub passed : (P : ℤ → Type 0) (offset : ℤ) → FitsSigned w16 offset → P (cast_signed w16 (cast_unsigned w16 offset)) → P offset
-passed P offset fits h = subst P (to_z-of_z w16 offset fits) h

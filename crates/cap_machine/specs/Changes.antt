@@ -1,15 +1,15 @@
 -- What single parts of taking a root or making a step do, each for one private function (this profile's own).
 use Rattle.std.specs.Bool.{beq}
-use Rattle.std.specs.Prelude.{◌&&◌, ◌==◌, ◌≡◌, ℕ, ℤ, ◌+◌, Bool, true, false, not, ◌||◌, nat_le, if◌then◌else◌, List, [], ◌∷◌, slice_set, Option}
+use Rattle.std.specs.Prelude.{◌&&◌, ◌==◌, ◌≡◌, ℕ, ◌+◌, Bool, true, false, not, ◌||◌, nat_le, if◌then◌else◌, List, [], ◌∷◌, slice_set, Option}
 use Rattle.std.specs.Prelude.{Some, None, IsTrue, Result, Ok, MatchResult, option_map}
 use Rattle.cap_word.specs.declared.word.Word.{Word}
 use Rattle.cap_word.specs.declared.word.Cap.{Cap}
 use Rattle.cap_word.specs.Memory.{low_bytes, memory_of}
 use Rattle.cap_log.specs.declared.lines.Place.{Place}
 use Rattle.cap_log.specs.declared.lines.Place.TheVariants.{Register, Granule}
-use Rattle.cap_log.specs.declared.lines.Step.{Step}
+use Rattle.cap_log.specs.declared.kinds.Step.{Step}
 use Rattle.cap_ops.specs.declared.faults.OpFault.{OpFault}
-use Rattle.cap_ops.specs.declared.kinds.Kind.{Kind}
+use Rattle.cap_ops.specs.declared.access.Access.{Access as Reaching}
 use Rattle.cap_ops.specs.Accesses.{access_tests}
 use Rattle.cap_ops.specs.Refusals.{refusal_of}
 use Rattle.cap_ops.specs.Tests.{first_of}
@@ -21,7 +21,8 @@ use Rattle.cap_machine.specs.declared.rules.Rules.TheVariants.{TwoStrict}
 use Rattle.cap_machine.specs.declared.ends.StepEnd.{StepEnd}
 use Rattle.cap_machine.specs.declared.ends.StepEnd.TheVariants.{Refused, NoMemory}
 use Rattle.cap_machine.specs.States.{State, granule_key, key_of, tagged, untagged_null}
-use Rattle.cap_machine.specs.Steps.{Access, Written, address_through, row_of}
+use Rattle.cap_machine.specs.declared.operating.OperationParts.{OperationParts}
+use Rattle.cap_machine.specs.Steps.{Access, Row, Written, access_through, operation, row_of}
 use Rattle.cap_machine.specs.Accounts.{most_steps, is_new, passes_granule_limit}
 use Rattle.cap_machine.specs.Helds.{Held, EndsBy, code_in, state_of, account_of}
 
@@ -56,6 +57,15 @@ abbrev pub result_in : Option (Place × Cap) → Cap
 result_in None = untagged_null
 result_in (Some write) = write.1
 
+-- a row is that of an operation from a register to a register with these parts
+abbrev pub IsOperation : Row → OperationParts → Type 0
+IsOperation row parts = row ≡ operation parts.target parts.source parts.recorded row.tests (result_in row.writes)
+
+-- an operation gave its result where no test holds, and otherwise the first that does
+abbrev pub GivesByTests : List (Bool × Refusal) → Cap → Result Cap OpFault → Type 0
+GivesByTests tests result outcome =
+    MatchResult outcome (λ cap. (first_of tests ≡ None) × (cap ≡ result)) (λ fault. first_of tests ≡ Some (refusal_of fault))
+
 -- a step writes this register, and its line records this result
 abbrev pub WritesRegister : State → Step → ℕ → Cap → Type 0
 WritesRegister state step target recorded =
@@ -78,13 +88,16 @@ IsParentsCode held step outcome code =
     (derived : Cap) → outcome ≡ Ok derived → IsTrue derived.tag
     → option_map (λ place. code_in held (key_of place)) (row_of (state_of held) step).parent ≡ Some code
 
--- whether an access through a register is allowed: where it is, its address, and otherwise the first test that holds
-abbrev pub ReachesAddress : State → ℕ → Kind → ℤ → ℕ → Result ℕ OpFault → Type 0
-ReachesAddress state authority kind offset size result =
-    let tests = access_tests (state authority) kind offset size in
-    MatchResult result
-    (λ address. (first_of tests ≡ None) × (address ≡ address_through state authority offset))
-    (λ fault. first_of tests ≡ Some (refusal_of fault))
+-- a row is that of this access through a register
+abbrev pub IsAccess : Row → ℕ → Reaching → State → Type 0
+IsAccess row authority reaching state =
+    (row.tests ≡ access_tests (state authority) reaching.kind reaching.offset reaching.size)
+    × (row.access ≡ (let through = access_through state authority reaching.kind reaching.offset reaching.size in through.access))
+
+-- the address of an access
+abbrev pub address_in : Option Access → ℕ
+address_in None = 0
+address_in (Some access) = access.address
 
 -- the last tests of a step that names no granule: the log records another result than the machine's, or the limit on steps is passed
 abbrev pub last_tests : Held → Bool → List (Bool × Refusal)

@@ -3,8 +3,8 @@ use Rattle.std.specs.Prelude.{◌≡◌, ◌≢◌, ◌↔◌, ℕ, suc, ◌+◌
 use Rattle.cap_word.specs.declared.word.Cap.{Cap}
 use Rattle.cap_word.specs.Fields.{address_of}
 use Rattle.cap_bounds.specs.Bounds.{base_of, top_of, IsInside}
-use Rattle.cap_log.specs.declared.lines.Step.{Step}
-use Rattle.cap_log.specs.declared.lines.Step.TheVariants.{SetBounds, SetBoundsExact}
+use Rattle.cap_log.specs.declared.kinds.Step.{Step}
+use Rattle.cap_log.specs.declared.kinds.Step.TheVariants.{SetBounds, SetBoundsExact}
 use Rattle.cap_ops.specs.Permissions.{is_sealed}
 use Rattle.cap_machine.specs.declared.rules.Rules.{Rules}
 use Rattle.cap_machine.specs.declared.rules.Rules.TheVariants.{TwoClear}

@@ -4,7 +4,7 @@ use Rattle.std.specs.FinMap as map
 use Rattle.cap_word.specs.declared.word.Word.{Word}
 use Rattle.cap_word.specs.declared.word.Cap.{Cap}
 use Rattle.cap_log.specs.declared.lines.Place.{Place}
-use Rattle.cap_log.specs.declared.lines.Step.{Step}
+use Rattle.cap_log.specs.declared.kinds.Step.{Step}
 use Rattle.cap_ops.specs.declared.faults.OpFault.{OpFault}
 use Rattle.cap_ops.specs.Operations.{clear_result}
 use Rattle.cap_ops.specs.Refusals.{refusal_of}

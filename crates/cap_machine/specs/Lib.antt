@@ -10,3 +10,4 @@ pub mod Changes
 pub mod RunAccounts
 pub mod Escapes
 pub mod Origins
+pub mod Shown

@@ -1,6 +1,6 @@
 -- What a step leaves of authority: each tagged capability after it reaches no more than the one that it comes from.
 use Rattle.std.specs.Prelude.{◌≡◌, ℕ, Some, IsTrue}
-use Rattle.cap_log.specs.declared.lines.Step.{Step}
+use Rattle.cap_log.specs.declared.kinds.Step.{Step}
 use Rattle.cap_word.specs.declared.word.Cap.{Cap}
 use Rattle.cap_bounds.specs.Bounds.{IsSound}
 use Rattle.cap_ops.specs.Authority.{ReachesNoMore}

@@ -2,7 +2,7 @@
 use Rattle.std.specs.Prelude.{◌≡◌, false, ℕ, zero, suc, ◌+◌, ◌≤◌, ◌==◌, if◌then◌else◌, IsTrue, List, [], ◌∷◌, length, take, Option}
 use Rattle.std.specs.Prelude.{Some, None, option_map, Contains, slice_get}
 use Rattle.std.specs.Option.{option_map_or}
-use Rattle.cap_log.specs.declared.lines.Step.{Step}
+use Rattle.cap_log.specs.declared.kinds.Step.{Step}
 use Rattle.cap_bounds.specs.Bounds.{base_of, top_of, IsInside, IsSound}
 use Rattle.cap_ops.specs.Authority.{ReachesNoMore}
 use Rattle.cap_ops.specs.Permissions.{has_permission}

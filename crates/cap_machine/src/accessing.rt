@@ -1,43 +1,89 @@
 //! Steps that store and load.
 
-ghost use Rattle.std.specs.Prelude.{◌≡◌, ◌<◌, ◌≤◌, ◌^◌, ◌+◌, ◌%◌, ◌||◌, IfOk, IsTrue, MatchResult, None, Some, true, false};
-ghost use Rattle.cap_word.specs.Memory.{low_bytes};
-ghost use Rattle.cap_log.specs.Lines.{IsDataSize, IsDataValue, IsOffset, IsTarget};
-ghost use Rattle.cap_log.specs.declared.lines.Step.TheVariants as steps;
-ghost use Rattle.cap_ops.specs.Sizes.{size_fits};
-ghost use Rattle.cap_machine.specs.Changes.{EndsPut, ReachesAddress, is_past_limits};
+ghost use Rattle.std.specs.Prelude.{◌≡◌, ◌<◌, ◌≤◌, ◌^◌, ◌+◌, ◌%◌, ◌||◌, IfOk, MatchResult, None, false};
+ghost use Rattle.cap_log.specs.Lines.{IsDataSize, IsOffset};
+ghost use Rattle.cap_ops.specs.Tests.{first_of};
+ghost use Rattle.cap_machine.specs.Changes.{EndsPut, IsAccess, address_in, is_past_limits};
 ghost use Rattle.cap_machine.specs.Changes.{with_cap_put, with_value_put};
-ghost use Rattle.cap_machine.specs.Helds.{AnswersStep, code_in, held_of, state_of};
+ghost use Rattle.cap_machine.specs.Helds.{EndsStep, code_in, held_of, state_of};
 ghost use Rattle.cap_machine.specs.Parents.{IsSoundCap};
 ghost use Rattle.cap_machine.specs.Places.{IsCoded};
+ghost use Rattle.cap_machine.specs.Shown.{needs_to_store};
 ghost use Rattle.cap_machine.specs.States.{granule_key};
+ghost use Rattle.cap_machine.specs.Steps.{address_through, row_of};
 
 use crate::ends::StepEnd;
-use crate::granules::{capability_with_code, number_in, put_capability, put_number};
-use crate::instructions::Instruction;
+use crate::granules::{capability_with_code, put_capability, put_number};
 use crate::machine::{MOST_STEPS, Machine};
-use cap_log::{Load, LoadCap, Store, StoreCap};
-use cap_ops::{Access, Kind, OpFault, Refusal, loaded, may_access_soundly};
+use crate::shown::Reached;
+use cap_log::Operands;
+use cap_ops::{Access, Refusal, may_access_soundly, perm_view};
 use cap_word::Cap;
 use tagmem::TaggedStore;
 
+/// The permission that a load needs, as a bit of the view.
+pub const LOAD: u32 = 4;
+
+/// The permission that a store needs.
+pub const STORE: u32 = 8;
+
+// The bit that says that a capability is global, and the permissions that storing one needs.
+const GLOBAL: u32 = 1;
+
+const STORE_CAPABILITY: u32 = 32;
+
+const STORE_LOCAL_CAPABILITY: u32 = 64;
+
 impl<M: TaggedStore> Machine<M> {
-    // The address of an access through a register, where that allows it.
+    // The address of a step's access through a register, or how the step ends that this doesn't allow.
     #[inline(always)]
-    fn reach(&self, authority: u8, kind: Kind, offset: i16, size: u8) -> Result<u64, OpFault>
+    pub(crate) fn reach<O: Operands>(
+        &self,
+        step: O,
+        authority: u8,
+        access: Access,
+    ) -> Result<u64, StepEnd>
+        requires authority { authority ≤ 31 }
+        requires row { let state = state_of (held_of M.contents self.now) in
+            let row = row_of state (O.step step) in
+            IsAccess row authority access state }
+        ensures outcome { let held = held_of M.contents self.now in
+            MatchResult result
+            (λ address. let row = row_of (state_of held) (O.step step) in
+            (first_of row.tests ≡ None) × (address ≡ address_in row.access))
+            (λ end. EndsStep held (O.step step) end held) }
+        ensures in_one_granule { IfOk result (λ address. address % 16 + access.size ≤ 16) }
+    {
+        match may_access_soundly(self.register(authority), access) {
+            Ok(address) => Ok(address),
+            Err(fault) => Err(StepEnd::from(fault)),
+        }
+    }
+
+    // An access through a register, whether it is allowed or not.
+    #[tactic(auto, unfolding(cap_ops::specs::Accesses::access_address))]
+    pub(crate) fn reached(&self, authority: u8, offset: i16, size: u8, needs: u32) -> Reached
         requires authority { authority ≤ 31 }
         requires offset { IsOffset offset }
-        requires sized { IsTrue (size_fits kind size) }
-        ensures outcome { ReachesAddress (state_of (held_of M.contents self.now)) authority kind offset size result }
-        ensures in_one_granule { IfOk result (λ address. address % 16 + size ≤ 16) }
+        ensures value { result ≡ record {
+          authority = authority;
+          address = address_through (state_of (held_of M.contents self.now)) authority offset;
+          size = size;
+          needs = needs;
+        } }
     {
-        let access = Access { kind, offset, size };
-        may_access_soundly(self.register(authority), access)
+        let word = self.register(authority).word;
+        Reached {
+            authority,
+            address: word.address().wrapping_add_signed(i64::from(offset)),
+            size,
+            needs,
+        }
     }
 
     // What a granule holds, and the code of its origin.
     #[inline(always)]
-    fn granule_with_code(&self, granule: u64) -> (Cap, u64)
+    pub(crate) fn granule_with_code(&self, granule: u64) -> (Cap, u64)
         requires { granule < 2 ^ 60 }
         ensures holds { result.0 ≡ state_of (held_of M.contents self.now) (granule_key granule) }
         ensures code { result.1 ≡ code_in (held_of M.contents self.now) (granule_key granule) }
@@ -56,7 +102,12 @@ impl<M: TaggedStore> Machine<M> {
 
     // Puts a capability, and the code of its origin, into a granule and counts the step.
     #[inline(always)]
-    fn put_counted(&mut self, granule: u64, stored: Cap, code: u64) -> Result<(), StepEnd>
+    pub(crate) fn put_counted(
+        &mut self,
+        granule: u64,
+        stored: Cap,
+        code: u64,
+    ) -> Result<(), StepEnd>
         requires in_memory { granule < 2 ^ 60 }
         requires sound { IsSoundCap stored }
         requires coded { IsCoded stored.tag code }
@@ -75,7 +126,7 @@ impl<M: TaggedStore> Machine<M> {
 
     // Puts a value's bytes into a granule and counts the step.
     #[inline(always)]
-    fn put_value_counted(
+    pub(crate) fn put_value_counted(
         &mut self,
         granule: u64,
         byte_index: u8,
@@ -99,47 +150,16 @@ impl<M: TaggedStore> Machine<M> {
     }
 }
 
-impl Instruction for LoadCap {
-    #[inline(always)]
-    fn perform<M: TaggedStore>(self, machine: &mut Machine<M>) -> Result<(), StepEnd> {
-        let address = machine.reach(self.authority, Kind::LoadCap, self.offset, 16)?;
-        let (granule, code) = machine.granule_with_code(address / 16);
-        let derived = loaded(machine.register(self.authority), granule);
-        machine.conclude(self, self.target, Ok(derived), self.result, code)
-    }
-}
-
-impl Instruction for StoreCap {
-    #[inline(always)]
-    fn perform<M: TaggedStore>(self, machine: &mut Machine<M>) -> Result<(), StepEnd> {
-        let stored = machine.register(self.source);
-        let address = machine.reach(self.authority, Kind::StoreCap(stored), self.offset, 16)?;
-        let code = machine.codes[self.source as usize];
-        machine.put_counted(address / 16, stored, code)
-    }
-}
-
-impl Instruction for Store {
-    #[inline(always)]
-    fn perform<M: TaggedStore>(self, machine: &mut Machine<M>) -> Result<(), StepEnd> {
-        let address = machine.reach(self.authority, Kind::StoreData, self.offset, self.size)?;
-        let byte = (address % 16) as u8;
-        machine.put_value_counted(address / 16, byte, self.size, self.value)
-    }
-}
-
-impl Instruction for Load {
-    #[inline(always)]
-    fn perform<M: TaggedStore>(self, machine: &mut Machine<M>) -> Result<(), StepEnd> {
-        let address = machine.reach(self.authority, Kind::LoadData, self.offset, self.size)?;
-        let byte = (address % 16) as u8;
-        if number_in(&machine.memory, address / 16, byte, self.size) != self.value {
-            return Err(StepEnd::Refused(Refusal::WrongResult));
-        }
-        if machine.steps >= MOST_STEPS {
-            return Err(StepEnd::Refused(Refusal::LimitPassed));
-        }
-        machine.steps += 1;
-        Ok(())
+/// The permissions that storing a capability needs.
+#[tactic(auto, unfolding(cap_ops::specs::Permissions::has_permission))]
+pub fn needs_to_store(stored: Cap) -> u32
+    ensures value { result ≡ needs_to_store stored }
+{
+    if !stored.tag {
+        STORE
+    } else if perm_view(stored.word) & GLOBAL == 1 {
+        STORE + STORE_CAPABILITY
+    } else {
+        STORE + STORE_CAPABILITY + STORE_LOCAL_CAPABILITY
     }
 }

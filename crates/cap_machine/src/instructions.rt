@@ -1,17 +1,39 @@
-//! What each kind of step does to a machine, and what is done by the kind of a step.
+//! The kinds of steps: what each does to a machine and shows of it, and what is done by the kind of a step. No other
+//! place names them.
 
-ghost use Rattle.std.specs.Prelude.{List, ℕ, ◌∷◌, ◌++◌};
+ghost use Rattle.std.specs.Prelude.{◌≡◌, ◌≤◌, List, ℕ, ◌∷◌, ◌++◌};
 ghost use Rattle.cap_log.specs.Heads.{head_spelling};
-ghost use Rattle.cap_log.specs.Lines.{IsStepInRange};
-ghost use Rattle.cap_machine.specs.Helds.{AnswersStep, held_of};
+ghost use Rattle.cap_log.specs.Lines.{IsStepInRange, IsTarget};
+ghost use Rattle.cap_log.specs.declared.kinds.Step.{Step};
+ghost use Rattle.cap_machine.specs.Changes.{GivesByTests, IsOperation, result_in};
+ghost use Rattle.cap_machine.specs.Helds.{AnswersStep, held_of, state_of};
+ghost use Rattle.cap_machine.specs.Shown.{IsShown, request_of, shown_of};
+ghost use Rattle.cap_machine.specs.States.{State};
+ghost use Rattle.cap_machine.specs.Steps.{row_of};
+ghost use Rattle.cap_ops.specs.Operations.{clear_result};
 
+use crate::accessing::{LOAD, STORE, needs_to_store};
 use crate::ends::StepEnd;
-use crate::machine::Machine;
-use cap_log::{
-    AndPerm, ClearTag, Head, Load, LoadCap, Move, Operands, Seal, SetAddr, SetBounds,
-    SetBoundsExact, Store, StoreCap, Unseal,
+use crate::granules::number_in;
+use crate::machine::{MOST_STEPS, Machine};
+use crate::operating::{OperationParts, cleared_with_fault, outcome_of, set_bounds_cleared};
+use crate::shown::{Given, Request, Shown};
+use cap_log::kinds::{
+    AndPerm, ClearTag, Load, LoadCap, Move, Seal, SetAddr, SetBounds, SetBoundsExact, Store,
+    StoreCap, Unseal,
 };
+use cap_log::{Head, Operands, Place, Step};
+use cap_ops::{
+    Access, Kind, OpFault, Refusal, and_perm, and_perm_clear, clear_tag, loaded, may_access, seal,
+    seal_clear, set_addr, set_addr_clear, set_bounds_soundly, unseal, unseal_clear,
+};
+use cap_word::Cap;
 use tagmem::TaggedStore;
+
+// The permissions that an authority over object types needs, as bits of the view.
+const SEAL: u32 = 128;
+
+const UNSEAL: u32 = 512;
 
 /// A kind of step that a machine makes.
 pub trait Instruction: Operands {
@@ -25,6 +47,364 @@ pub trait Instruction: Operands {
     fn perform<M: TaggedStore>(self, machine: &mut Machine<M>) -> Result<(), StepEnd>
         requires { IsStepInRange (Self.step self) }
         ensures outcome { AnswersStep (held_of M.contents machine.old) (Self.step self) result (held_of M.contents machine.new) };
+
+    /// What the step shows of the machine before it, as [`Machine::shown`] does.
+    fn shown<M: TaggedStore>(self, machine: &Machine<M>) -> Shown
+        requires { IsStepInRange (Self.step self) }
+        ensures shown { result ≡ shown_of (state_of (held_of M.contents machine.now)) (Self.step self) }
+        ensures in_range { IsShown result };
+}
+
+/// A kind of step that is an operation from a register to a register.
+pub trait Operation: Operands {
+    /// Whether few lines of a log are of this kind.
+    const IS_RARE: bool = false;
+
+    /// Whether making such a step takes much code.
+    const IS_LARGE: bool = false;
+
+    /// Its registers, its request and its recorded result.
+    fn parts(self) -> OperationParts
+        requires { IsStepInRange (Self.step self) }
+        ensures target { IsTarget result.target }
+        ensures source { result.source ≤ 31 }
+        ensures request { result.request ≡ request_of (Self.step self) }
+        ensures row { (state : State) → IsOperation (row_of state (Self.step self)) result };
+
+    /// Its result, or the first test that holds.
+    fn strict<M: TaggedStore>(self, machine: &Machine<M>) -> Result<Cap, OpFault>
+        requires { IsStepInRange (Self.step self) }
+        ensures outcome { let row = row_of (state_of (held_of M.contents machine.now)) (Self.step self) in
+            GivesByTests row.tests (result_in row.writes) result };
+
+    /// Its result, without a tag where a test holds.
+    fn cleared<M: TaggedStore>(self, machine: &Machine<M>) -> Cap
+        requires { IsStepInRange (Self.step self) }
+        ensures value { let row = row_of (state_of (held_of M.contents machine.now)) (Self.step self) in
+            result ≡ clear_result row.tests (result_in row.writes) };
+}
+
+impl<O: Operation> Instruction for O {
+    const IS_RARE: bool = <O as Operation>::IS_RARE;
+
+    const IS_LARGE: bool = <O as Operation>::IS_LARGE;
+
+    #[inline(always)]
+    fn perform<M: TaggedStore>(self, machine: &mut Machine<M>) -> Result<(), StepEnd> {
+        let parts = self.parts();
+        let outcome = outcome_of(self, machine);
+        let code = machine.codes[parts.source as usize];
+        machine.conclude(self, parts.target, outcome, parts.recorded, code)
+    }
+
+    fn shown<M: TaggedStore>(self, machine: &Machine<M>) -> Shown {
+        let parts = self.parts();
+        let (cap, fault) = cleared_with_fault(self, machine);
+        Shown {
+            source: Some(Place::Register(parts.source)),
+            request: parts.request,
+            access: None,
+            given: Given::Capability {
+                place: Place::Register(parts.target),
+                cap,
+                fault,
+                recorded: parts.recorded,
+            },
+        }
+    }
+}
+
+impl Operation for Move {
+    #[inline(always)]
+    fn parts(self) -> OperationParts {
+        OperationParts::new(self.target, self.source, Request::Nothing, self.result)
+    }
+
+    #[inline(always)]
+    fn strict<M: TaggedStore>(self, machine: &Machine<M>) -> Result<Cap, OpFault> {
+        Ok(machine.register(self.source))
+    }
+
+    #[inline(always)]
+    fn cleared<M: TaggedStore>(self, machine: &Machine<M>) -> Cap {
+        machine.register(self.source)
+    }
+}
+
+impl Operation for ClearTag {
+    #[inline(always)]
+    fn parts(self) -> OperationParts {
+        OperationParts::new(self.target, self.source, Request::Nothing, self.result)
+    }
+
+    #[inline(always)]
+    fn strict<M: TaggedStore>(self, machine: &Machine<M>) -> Result<Cap, OpFault> {
+        Ok(clear_tag(machine.register(self.source)))
+    }
+
+    #[inline(always)]
+    fn cleared<M: TaggedStore>(self, machine: &Machine<M>) -> Cap {
+        clear_tag(machine.register(self.source))
+    }
+}
+
+impl Operation for SetBounds {
+    const IS_LARGE: bool = true;
+
+    #[inline(always)]
+    fn parts(self) -> OperationParts {
+        OperationParts::new(
+            self.target,
+            self.source,
+            Request::Length(self.length),
+            self.result,
+        )
+    }
+
+    #[inline(always)]
+    fn strict<M: TaggedStore>(self, machine: &Machine<M>) -> Result<Cap, OpFault> {
+        set_bounds_soundly(machine.register(self.source), self.length, false)
+    }
+
+    #[inline(always)]
+    fn cleared<M: TaggedStore>(self, machine: &Machine<M>) -> Cap {
+        set_bounds_cleared(machine.register(self.source), self.length, false)
+    }
+}
+
+impl Operation for SetBoundsExact {
+    const IS_RARE: bool = true;
+
+    const IS_LARGE: bool = true;
+
+    #[inline(always)]
+    fn parts(self) -> OperationParts {
+        OperationParts::new(
+            self.target,
+            self.source,
+            Request::Length(self.length),
+            self.result,
+        )
+    }
+
+    #[inline(always)]
+    fn strict<M: TaggedStore>(self, machine: &Machine<M>) -> Result<Cap, OpFault> {
+        set_bounds_soundly(machine.register(self.source), self.length, true)
+    }
+
+    #[inline(always)]
+    fn cleared<M: TaggedStore>(self, machine: &Machine<M>) -> Cap {
+        set_bounds_cleared(machine.register(self.source), self.length, true)
+    }
+}
+
+impl Operation for SetAddr {
+    #[inline(always)]
+    fn parts(self) -> OperationParts {
+        OperationParts::new(
+            self.target,
+            self.source,
+            Request::Address(self.address),
+            self.result,
+        )
+    }
+
+    #[inline(always)]
+    fn strict<M: TaggedStore>(self, machine: &Machine<M>) -> Result<Cap, OpFault> {
+        set_addr(machine.register(self.source), self.address)
+    }
+
+    #[inline(always)]
+    fn cleared<M: TaggedStore>(self, machine: &Machine<M>) -> Cap {
+        set_addr_clear(machine.register(self.source), self.address)
+    }
+}
+
+impl Operation for AndPerm {
+    #[inline(always)]
+    fn parts(self) -> OperationParts {
+        OperationParts::new(self.target, self.source, Request::Nothing, self.result)
+    }
+
+    #[inline(always)]
+    fn strict<M: TaggedStore>(self, machine: &Machine<M>) -> Result<Cap, OpFault> {
+        and_perm(machine.register(self.source), self.mask)
+    }
+
+    #[inline(always)]
+    fn cleared<M: TaggedStore>(self, machine: &Machine<M>) -> Cap {
+        and_perm_clear(machine.register(self.source), self.mask)
+    }
+}
+
+impl Operation for Seal {
+    const IS_RARE: bool = true;
+
+    const IS_LARGE: bool = true;
+
+    #[inline(always)]
+    fn parts(self) -> OperationParts {
+        OperationParts::new(
+            self.target,
+            self.source,
+            Request::Authority(self.authority, SEAL),
+            self.result,
+        )
+    }
+
+    #[inline(always)]
+    fn strict<M: TaggedStore>(self, machine: &Machine<M>) -> Result<Cap, OpFault> {
+        seal(
+            machine.register(self.source),
+            machine.register(self.authority),
+        )
+    }
+
+    #[inline(always)]
+    fn cleared<M: TaggedStore>(self, machine: &Machine<M>) -> Cap {
+        seal_clear(
+            machine.register(self.source),
+            machine.register(self.authority),
+        )
+    }
+}
+
+impl Operation for Unseal {
+    const IS_RARE: bool = true;
+
+    const IS_LARGE: bool = true;
+
+    #[inline(always)]
+    fn parts(self) -> OperationParts {
+        OperationParts::new(
+            self.target,
+            self.source,
+            Request::Authority(self.authority, UNSEAL),
+            self.result,
+        )
+    }
+
+    #[inline(always)]
+    fn strict<M: TaggedStore>(self, machine: &Machine<M>) -> Result<Cap, OpFault> {
+        unseal(
+            machine.register(self.source),
+            machine.register(self.authority),
+        )
+    }
+
+    #[inline(always)]
+    fn cleared<M: TaggedStore>(self, machine: &Machine<M>) -> Cap {
+        unseal_clear(
+            machine.register(self.source),
+            machine.register(self.authority),
+        )
+    }
+}
+
+impl Instruction for LoadCap {
+    #[inline(always)]
+    fn perform<M: TaggedStore>(self, machine: &mut Machine<M>) -> Result<(), StepEnd> {
+        let access = Access {
+            kind: Kind::LoadCap,
+            offset: self.offset,
+            size: 16,
+        };
+        let address = machine.reach(self, self.authority, access)?;
+        let (granule, code) = machine.granule_with_code(address / 16);
+        let derived = loaded(machine.register(self.authority), granule);
+        machine.conclude(self, self.target, Ok(derived), self.result, code)
+    }
+
+    fn shown<M: TaggedStore>(self, machine: &Machine<M>) -> Shown {
+        let reached = machine.reached(self.authority, self.offset, 16, LOAD);
+        let granule = reached.address / 16;
+        let given = Given::Capability {
+            place: Place::Register(self.target),
+            cap: loaded(machine.register(self.authority), machine.granule(granule)),
+            fault: None,
+            recorded: self.result,
+        };
+        Shown::of_access(Some(Place::Granule(granule)), reached, given)
+    }
+}
+
+impl Instruction for StoreCap {
+    #[inline(always)]
+    fn perform<M: TaggedStore>(self, machine: &mut Machine<M>) -> Result<(), StepEnd> {
+        let stored = machine.register(self.source);
+        let access = Access {
+            kind: Kind::StoreCap(stored),
+            offset: self.offset,
+            size: 16,
+        };
+        let address = machine.reach(self, self.authority, access)?;
+        let code = machine.codes[self.source as usize];
+        machine.put_counted(address / 16, stored, code)
+    }
+
+    fn shown<M: TaggedStore>(self, machine: &Machine<M>) -> Shown {
+        let needs = needs_to_store(machine.register(self.source));
+        let reached = machine.reached(self.authority, self.offset, 16, needs);
+        Shown::of_access(Some(Place::Register(self.source)), reached, Given::Nothing)
+    }
+}
+
+impl Instruction for Load {
+    #[inline(always)]
+    fn perform<M: TaggedStore>(self, machine: &mut Machine<M>) -> Result<(), StepEnd> {
+        let access = Access {
+            kind: Kind::LoadData,
+            offset: self.offset,
+            size: self.size,
+        };
+        let address = machine.reach(self, self.authority, access)?;
+        let byte = (address % 16) as u8;
+        if number_in(&machine.memory, address / 16, byte, self.size) != self.value {
+            return Err(StepEnd::Refused(Refusal::WrongResult));
+        }
+        if machine.steps >= MOST_STEPS {
+            return Err(StepEnd::Refused(Refusal::LimitPassed));
+        }
+        machine.steps += 1;
+        Ok(())
+    }
+
+    fn shown<M: TaggedStore>(self, machine: &Machine<M>) -> Shown {
+        let access = Access {
+            kind: Kind::LoadData,
+            offset: self.offset,
+            size: self.size,
+        };
+        let given = match may_access(machine.register(self.authority), access) {
+            Ok(address) => Given::Number {
+                value: machine.value(address, self.size),
+                size: self.size,
+                recorded: self.value,
+            },
+            Err(_) => Given::Nothing,
+        };
+        let reached = machine.reached(self.authority, self.offset, self.size, LOAD);
+        Shown::of_access(None, reached, given)
+    }
+}
+
+impl Instruction for Store {
+    #[inline(always)]
+    fn perform<M: TaggedStore>(self, machine: &mut Machine<M>) -> Result<(), StepEnd> {
+        let access = Access {
+            kind: Kind::StoreData,
+            offset: self.offset,
+            size: self.size,
+        };
+        let address = machine.reach(self, self.authority, access)?;
+        let byte = (address % 16) as u8;
+        machine.put_value_counted(address / 16, byte, self.size, self.value)
+    }
+
+    fn shown<M: TaggedStore>(self, machine: &Machine<M>) -> Shown {
+        let reached = machine.reached(self.authority, self.offset, self.size, STORE);
+        Shown::of_access(None, reached, Given::Nothing)
+    }
 }
 
 /// What is done with the operands of a step, whatever its kind, to something.
@@ -63,5 +443,41 @@ pub fn by_head<'a, T, K: ByKind<'a, T>>(on: &mut T, head: Head, operands: &'a [u
         Head::Load => K::with_kind::<Load>(on, operands),
         Head::Store => K::with_kind::<Store>(on, operands),
         Head::Version | Head::Mode | Head::Root | Head::End => K::with_none(on),
+    }
+}
+
+/// What is done with a step, whatever its kind, to something.
+pub trait Deed<T> {
+    /// What it answers.
+    type Answer;
+
+    // What it does.
+    ghost does: { T → Step → Self.Answer → T → Type 0 };
+
+    /// Does it with a step of one kind.
+    fn with_step<I: Instruction>(on: &mut T, step: I) -> Self::Answer
+        requires { IsStepInRange (I.step step) }
+        ensures done { does on.old (I.step step) result on.new };
+}
+
+/// Does it by the kind of a step.
+#[inline(always)]
+pub fn by_kind<T, D: Deed<T>>(on: &mut T, step: &Step) -> D::Answer
+    requires { IsStepInRange step.now }
+    ensures done { D.does on.old step.now result on.new }
+{
+    match *step {
+        Step::Move(step) => D::with_step(on, step),
+        Step::ClearTag(step) => D::with_step(on, step),
+        Step::SetBounds(step) => D::with_step(on, step),
+        Step::SetBoundsExact(step) => D::with_step(on, step),
+        Step::SetAddr(step) => D::with_step(on, step),
+        Step::AndPerm(step) => D::with_step(on, step),
+        Step::Seal(step) => D::with_step(on, step),
+        Step::Unseal(step) => D::with_step(on, step),
+        Step::LoadCap(step) => D::with_step(on, step),
+        Step::StoreCap(step) => D::with_step(on, step),
+        Step::Load(step) => D::with_step(on, step),
+        Step::Store(step) => D::with_step(on, step),
     }
 }

@@ -2,7 +2,7 @@
 
 ghost use Rattle.std.specs.Prelude.{◌≡◌, ℕ, List, map, nat_eq};
 ghost use Rattle.std.specs.List.{AllByRecursion, IsDistinct};
-ghost use Rattle.cap_log.specs.declared.lines.Step.{Step};
+ghost use Rattle.cap_log.specs.declared.kinds.Step.{Step};
 ghost use Rattle.cap_log.specs.Lines.{IsStepInRange};
 ghost use Rattle.cap_machine.specs.declared.rules.Rules.{Rules};
 ghost use Rattle.cap_machine.specs.States.{DeclaredRoot, State, key_of, start};

@@ -3,7 +3,8 @@
 //! A [`Machine`] takes roots by `declare` and steps by `step`, over any store of granules. Each does what
 //! its definition says, or is refused for the first test that holds, and then nothing has changed. Every
 //! tagged word that a machine holds is sound. Only a granule named for the first time takes memory. Beside
-//! each capability it keeps the place of the root that it comes from: its origin. The laws
+//! each capability it keeps the place of the root that it comes from: its origin. What a step shows of the state
+//! before it is told by `shown`, for reports. Each kind of step is an [`Instruction`]. The laws
 //! [`steps_stay_within`], [`authority_never_grows`], [`accesses_lie_inside`], [`runs_end_in_accounts`] and
 //! [`origins_are_roots`] are of single steps and of whole runs.
 #![tactic(auto)]
@@ -19,6 +20,7 @@ mod machine;
 mod operating;
 mod places;
 mod rules;
+mod shown;
 mod stepping;
 
 pub use crate::ends::StepEnd;
@@ -29,4 +31,5 @@ pub use crate::laws::{
 };
 pub use crate::machine::{MOST_ROOTS, MOST_STEPS, Machine};
 pub use crate::rules::Rules;
+pub use crate::shown::{Given, Reached, Request, Shown};
 pub use cap_ops::Refusal;

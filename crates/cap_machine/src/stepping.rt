@@ -1,19 +1,48 @@
 //! Making steps.
 
-ghost use Rattle.std.specs.Prelude.{◌≡◌, ◌↔◌, ◌<◌, ◌≤◌, ◌+◌, MatchResult, OnOk, IfOk, Ok, Err, None, Some, true, false};
+ghost use Rattle.std.specs.Prelude.{◌≡◌, ◌↔◌, ◌<◌, ◌≤◌, ◌+◌, OnOk, Ok, Err};
 ghost use Rattle.cap_log.specs.Lines.{IsStepInRange, IsTarget};
 ghost use Rattle.cap_machine.specs.Changes.{Derives, IsParentsCode, WritesRegister};
 ghost use Rattle.cap_machine.specs.Escapes.{ClearsBeyond, Escapes};
 ghost use Rattle.cap_machine.specs.Helds.{AnswersStep, held_of, state_of};
 ghost use Rattle.cap_machine.specs.Parents.{StaysWithinParents};
+ghost use Rattle.cap_machine.specs.Shown.{IsShown, shown_of};
 
 use crate::ends::StepEnd;
-use crate::instructions::Instruction;
+use crate::instructions::{Deed, Instruction, by_kind};
 use crate::machine::{MOST_STEPS, Machine};
+use crate::shown::Shown;
 use cap_log::{Operands, Step};
 use cap_ops::{OpFault, Refusal};
 use cap_word::Cap;
 use tagmem::TaggedStore;
+
+/// Makes a step.
+pub struct Making;
+
+impl<M: TaggedStore> Deed<Machine<M>> for Making {
+    type Answer = Result<(), StepEnd>;
+
+    ghost does = { λ old step result new. AnswersStep (held_of M.contents old) step result (held_of M.contents new) };
+
+    #[inline(always)]
+    fn with_step<I: Instruction>(machine: &mut Machine<M>, step: I) -> Result<(), StepEnd> {
+        step.perform(machine)
+    }
+}
+
+/// Tells what a step shows.
+pub struct Showing;
+
+impl<'a, M: TaggedStore> Deed<&'a Machine<M>> for Showing {
+    type Answer = Shown;
+
+    ghost does = { λ old step result new. (result ≡ shown_of (state_of (held_of M.contents old.now)) step) × IsShown result };
+
+    fn with_step<I: Instruction>(machine: &mut &'a Machine<M>, step: I) -> Shown {
+        step.shown(*machine)
+    }
+}
 
 impl<M: TaggedStore> Machine<M> {
     /// Makes a step and counts it. It is refused for the first of these that holds: the tests of its
@@ -47,25 +76,22 @@ impl<M: TaggedStore> Machine<M> {
         self.make(step)
     }
 
+    /// What a step shows of the machine, which is as it was before the step.
+    pub fn shown(&self, step: &Step) -> Shown
+        requires { IsStepInRange step.now }
+        ensures shown { result ≡ shown_of (state_of (held_of M.contents self.now)) step.now }
+        ensures in_range { IsShown result }
+    {
+        let mut machine = self;
+        by_kind::<&Machine<M>, Showing>(&mut machine, step)
+    }
+
     // Makes a step of any kind.
     fn make(&mut self, step: &Step) -> Result<(), StepEnd>
         requires { IsStepInRange step.now }
         ensures { AnswersStep (held_of M.contents self.old) step.now result (held_of M.contents self.new) }
     {
-        match *step {
-            Step::Move(step) => step.perform(self),
-            Step::ClearTag(step) => step.perform(self),
-            Step::SetBounds(step) => step.perform(self),
-            Step::SetBoundsExact(step) => step.perform(self),
-            Step::SetAddr(step) => step.perform(self),
-            Step::AndPerm(step) => step.perform(self),
-            Step::Seal(step) => step.perform(self),
-            Step::Unseal(step) => step.perform(self),
-            Step::LoadCap(step) => step.perform(self),
-            Step::StoreCap(step) => step.perform(self),
-            Step::Load(step) => step.perform(self),
-            Step::Store(step) => step.perform(self),
-        }
+        by_kind::<Machine<M>, Making>(self, step)
     }
 
     // Ends a step that writes a register, from what its operation or access gave: refuses it, or writes what

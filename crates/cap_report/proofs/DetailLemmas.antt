@@ -6,7 +6,7 @@ use Rattle.cap_bounds.specs.Bounds.{length_of}
 use Rattle.cap_log.specs.declared.lines.Line.{Line}
 use Rattle.cap_log.specs.declared.lines.Line.TheVariants as lines
 use Rattle.cap_log.specs.declared.lines.Place.{Place}
-use Rattle.cap_log.specs.declared.lines.Step.{Step}
+use Rattle.cap_log.specs.declared.kinds.Step.{Step}
 use Rattle.cap_log.specs.Lines.{Spells}
 use Rattle.cap_ops.specs.declared.refusal.Refusal.{Refusal}
 use Rattle.cap_ops.specs.declared.refusal.Refusal.TheVariants.{BadHeader, LineTooLong, BadLine, Misplaced, Truncated, WrongCount}

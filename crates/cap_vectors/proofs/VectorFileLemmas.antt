@@ -5,8 +5,8 @@ use Rattle.std.proofs.lemmas.Grind.{flat_map-append}
 use Rattle.cap_log.specs.Front.{IsLine, FrontIs}
 use Rattle.cap_log.specs.Takings.{IsNext, Answered, kept, over_of}
 use Rattle.cap_log.specs.declared.taking.Lines.{Lines}
-use Rattle.cap_log.specs.declared.nexts.Next.{Next}
-use Rattle.cap_log.specs.declared.nexts.Next.TheVariants.{Line, LineTooLong, Truncated, Finished}
+use Rattle.cap_log.specs.declared.taking.Next.{Next}
+use Rattle.cap_log.specs.declared.taking.Next.TheVariants.{Line, LineTooLong, Truncated, Finished}
 use Rattle.cap_log.specs.declared.sources.PullFault.{PullFault}
 use Rattle.cap_vectors.specs.declared.files.VectorVerdict.{VectorVerdict}
 use Rattle.cap_vectors.specs.declared.files.VectorVerdict.TheVariants.{Pass, Fail}

@@ -7,8 +7,8 @@ use Rattle.cap_log.specs.declared.lines.Line.{Line}
 use Rattle.cap_log.specs.declared.lines.Line.TheVariants as lines
 use Rattle.cap_log.specs.declared.lines.Mode.TheVariants.{Strict, Clear}
 use Rattle.cap_log.specs.declared.lines.Place.TheVariants.{Register, Granule}
-use Rattle.cap_log.specs.declared.lines.Step.{Step}
-use Rattle.cap_log.specs.declared.lines.Step.TheVariants as steps
+use Rattle.cap_log.specs.declared.kinds.Step.{Step}
+use Rattle.cap_log.specs.declared.kinds.Step.TheVariants as steps
 use Rattle.cap_halves.specs.Passed.{cap_of, no_cap}
 use Rattle.capcheck_c.specs.declared.values.LineRead.{LineRead}
 

@@ -1,6 +1,12 @@
 //! What passes between C and the library: structs of plain numbers.
 
+ghost use Rattle.std.specs.Prelude.{◌≡◌};
+ghost use Rattle.cap_halves.specs.Passed.{no_cap};
+ghost use Rattle.capcheck_c.specs.LinesRead.{Reads};
+
+use cap_halves::halves::{given, no_capability};
 use cap_halves::values::{Capability, Halves};
+use cap_word::Cap;
 
 /// The fields of a word (in C `capcheck_fields`).
 #[repr(C)]
@@ -137,4 +143,42 @@ pub struct LineRead {
     pub authority: u8,
     /// The size of a load or a store of data, else 0.
     pub size: u8,
+}
+
+impl LineRead {
+    /// What is read of a line that records a capability, or a root's.
+    pub(crate) fn recorded(kind: u8, target: u8, source: u8, cap: Cap, count: usize) -> LineRead
+        ensures read { Reads kind target source 0 0 cap result }
+        ensures length { result.length ≡ count }
+    {
+        LineRead {
+            cap: given(cap),
+            number: 0,
+            length: count,
+            offset: 0,
+            kind,
+            target,
+            source,
+            authority: 0,
+            size: 0,
+        }
+    }
+
+    /// What is read of a line that records no capability: its kind and one number.
+    pub(crate) fn numbered(kind: u8, number: u64, count: usize) -> LineRead
+        ensures read { Reads kind 0 0 0 number no_cap result }
+        ensures length { result.length ≡ count }
+    {
+        LineRead {
+            cap: no_capability(),
+            number,
+            length: count,
+            offset: 0,
+            kind,
+            target: 0,
+            source: 0,
+            authority: 0,
+            size: 0,
+        }
+    }
 }

@@ -10,8 +10,6 @@ mod handle;
 mod held;
 mod judging;
 mod lines;
-mod memory_steps;
 mod places;
-mod register_steps;
 mod reports;
 mod steps;

@@ -1,25 +1,215 @@
-//! A step handed over to a judge that C holds, of any kind.
+//! Steps handed over to a judge that C holds, without their lines.
+//!
+//! Each call answers as `capcheck_judge_line` does on the line that spells the step. Where a number is out of its range no
+//! line spells it: it answers 5, and nothing has changed.
 
 ghost use Rattle.std.specs.Prelude.{◌≡◌, ◌⊎◌, ◌<◌, ℕ, List, [], ◌∷◌, ◌++◌, IfSome};
 ghost use Rattle.cap_log.specs.Lines.{IsStepInRange, spelling};
 ghost use Rattle.cap_log.specs.declared.lines.Line.TheVariants as line;
-ghost use Rattle.cap_log.specs.declared.lines.Step.{Step};
+ghost use Rattle.cap_log.specs.declared.kinds.Step.{Step};
 ghost use Rattle.cap_halves.specs.Passed.{IsStepOf};
+ghost use Rattle.cap_halves.specs.PassedSteps as steps;
 ghost use Rattle.cap_judge.specs.Logs.{MayLackMemory};
 ghost use Rattle.cap_judge.specs.Readings.{BeginsWhole, HasRead, known_of};
 ghost use Rattle.capcheck_judge.specs.Handles.{HandsOver, held_in};
 
 use crate::handle::Handle;
 use cap_answers::answers::{GOES_ON, NO, NO_JUDGE, NO_LINE, NO_MEMORY};
+use cap_halves::steps::{
+    andperm_of, cleartag_of, lc_of, load_of, move_of, sc_of, seal_of, setaddr_of, setbounds_of,
+    setboundsexact_of, store_of, unseal_of,
+};
+use cap_halves::values::Capability;
 use cap_judge::{Judge, TakeFault};
 use cap_machine::Instruction;
 use std::alloc::Global;
 use tagmem::{PageStore, TaggedStore};
 
-/// Hands over the step that C's numbers make. Where they make none, it answers that they are no line, and nothing has
+/// Hands over a step `move`.
+#[unsafe(no_mangle)]
+pub extern "C" fn capcheck_judge_move(
+    alloc: Global,
+    judge: &mut Handle,
+    target: u64,
+    source: u64,
+    recorded: Capability,
+) -> u8
+    ensures step { HandsOver (line.Step (steps.move_passed target source recorded)) (held_in judge.old) (held_in judge.new) result }
+{
+    hand_over(alloc, judge, move_of(target, source, recorded))
+}
+
+/// Hands over a step `cleartag`.
+#[unsafe(no_mangle)]
+pub extern "C" fn capcheck_judge_cleartag(
+    alloc: Global,
+    judge: &mut Handle,
+    target: u64,
+    source: u64,
+    recorded: Capability,
+) -> u8
+    ensures step { HandsOver (line.Step (steps.cleartag_passed target source recorded)) (held_in judge.old) (held_in judge.new) result }
+{
+    hand_over(alloc, judge, cleartag_of(target, source, recorded))
+}
+
+/// Hands over a step `setbounds`.
+#[unsafe(no_mangle)]
+pub extern "C" fn capcheck_judge_setbounds(
+    alloc: Global,
+    judge: &mut Handle,
+    target: u64,
+    source: u64,
+    length: u64,
+    recorded: Capability,
+) -> u8
+    ensures step { HandsOver (line.Step (steps.setbounds_passed target source length recorded)) (held_in judge.old) (held_in judge.new) result }
+{
+    hand_over(alloc, judge, setbounds_of(target, source, length, recorded))
+}
+
+/// Hands over a step `setboundsexact`.
+#[unsafe(no_mangle)]
+pub extern "C" fn capcheck_judge_setboundsexact(
+    alloc: Global,
+    judge: &mut Handle,
+    target: u64,
+    source: u64,
+    length: u64,
+    recorded: Capability,
+) -> u8
+    ensures step { HandsOver (line.Step (steps.setboundsexact_passed target source length recorded)) (held_in judge.old) (held_in judge.new) result }
+{
+    hand_over(
+        alloc,
+        judge,
+        setboundsexact_of(target, source, length, recorded),
+    )
+}
+
+/// Hands over a step `setaddr`.
+#[unsafe(no_mangle)]
+pub extern "C" fn capcheck_judge_setaddr(
+    alloc: Global,
+    judge: &mut Handle,
+    target: u64,
+    source: u64,
+    address: u64,
+    recorded: Capability,
+) -> u8
+    ensures step { HandsOver (line.Step (steps.setaddr_passed target source address recorded)) (held_in judge.old) (held_in judge.new) result }
+{
+    hand_over(alloc, judge, setaddr_of(target, source, address, recorded))
+}
+
+/// Hands over a step `andperm`.
+#[unsafe(no_mangle)]
+pub extern "C" fn capcheck_judge_andperm(
+    alloc: Global,
+    judge: &mut Handle,
+    target: u64,
+    source: u64,
+    mask: u64,
+    recorded: Capability,
+) -> u8
+    ensures step { HandsOver (line.Step (steps.andperm_passed target source mask recorded)) (held_in judge.old) (held_in judge.new) result }
+{
+    hand_over(alloc, judge, andperm_of(target, source, mask, recorded))
+}
+
+/// Hands over a step `seal`.
+#[unsafe(no_mangle)]
+pub extern "C" fn capcheck_judge_seal(
+    alloc: Global,
+    judge: &mut Handle,
+    target: u64,
+    source: u64,
+    authority: u64,
+    recorded: Capability,
+) -> u8
+    ensures step { HandsOver (line.Step (steps.seal_passed target source authority recorded)) (held_in judge.old) (held_in judge.new) result }
+{
+    hand_over(alloc, judge, seal_of(target, source, authority, recorded))
+}
+
+/// Hands over a step `unseal`.
+#[unsafe(no_mangle)]
+pub extern "C" fn capcheck_judge_unseal(
+    alloc: Global,
+    judge: &mut Handle,
+    target: u64,
+    source: u64,
+    authority: u64,
+    recorded: Capability,
+) -> u8
+    ensures step { HandsOver (line.Step (steps.unseal_passed target source authority recorded)) (held_in judge.old) (held_in judge.new) result }
+{
+    hand_over(alloc, judge, unseal_of(target, source, authority, recorded))
+}
+
+/// Hands over a step `lc`.
+#[unsafe(no_mangle)]
+pub extern "C" fn capcheck_judge_lc(
+    alloc: Global,
+    judge: &mut Handle,
+    target: u64,
+    authority: u64,
+    offset: i64,
+    recorded: Capability,
+) -> u8
+    ensures step { HandsOver (line.Step (steps.lc_passed target authority offset recorded)) (held_in judge.old) (held_in judge.new) result }
+{
+    hand_over(alloc, judge, lc_of(target, authority, offset, recorded))
+}
+
+/// Hands over a step `sc`.
+#[unsafe(no_mangle)]
+pub extern "C" fn capcheck_judge_sc(
+    alloc: Global,
+    judge: &mut Handle,
+    source: u64,
+    authority: u64,
+    offset: i64,
+) -> u8
+    ensures step { HandsOver (line.Step (steps.sc_passed source authority offset)) (held_in judge.old) (held_in judge.new) result }
+{
+    hand_over(alloc, judge, sc_of(source, authority, offset))
+}
+
+/// Hands over a step `load`: `size` is 1, 2, 4 or 8, and `value` is below 256^size.
+#[unsafe(no_mangle)]
+pub extern "C" fn capcheck_judge_load(
+    alloc: Global,
+    judge: &mut Handle,
+    authority: u64,
+    offset: i64,
+    size: u64,
+    value: u64,
+) -> u8
+    ensures step { HandsOver (line.Step (steps.load_passed authority offset size value)) (held_in judge.old) (held_in judge.new) result }
+{
+    hand_over(alloc, judge, load_of(authority, offset, size, value))
+}
+
+/// Hands over a step `store`: `size` is 1, 2, 4 or 8, and `value` is below 256^size.
+#[unsafe(no_mangle)]
+pub extern "C" fn capcheck_judge_store(
+    alloc: Global,
+    judge: &mut Handle,
+    authority: u64,
+    offset: i64,
+    size: u64,
+    value: u64,
+) -> u8
+    ensures step { HandsOver (line.Step (steps.store_passed authority offset size value)) (held_in judge.old) (held_in judge.new) result }
+{
+    hand_over(alloc, judge, store_of(authority, offset, size, value))
+}
+
+// Hands over the step that C's numbers make. Where they make none, it answers that they are no line, and nothing has
 /// changed.
 #[inline(always)]
-pub(crate) fn hand_over<I: Instruction>(alloc: Global, judge: &mut Handle, made: Option<I>) -> u8
+fn hand_over<I: Instruction>(alloc: Global, judge: &mut Handle, made: Option<I>) -> u8
     requires { IfSome made (λ step. IsStepInRange (I.step step)) }
     ensures { (step : Step) → IsStepOf I.step step made → HandsOver (line.Step step) (held_in judge.old) (held_in judge.new) result }
 {
@@ -43,7 +233,7 @@ pub(crate) fn hand_over<I: Instruction>(alloc: Global, judge: &mut Handle, made:
     }
 }
 
-/// Hands a step to a judge: 0, 2 or 3, as `capcheck_judge_line` says of its line.
+// Hands a step to a judge: 0, 2 or 3, as `capcheck_judge_line` says of its line.
 #[inline(always)]
 fn take_step<I: Instruction>(judge: &mut Judge<PageStore>, step: I) -> u8
     requires { IsStepInRange (I.step step) }

@@ -1,20 +1,7 @@
 //! Words at the front of some bytes.
 
 ghost use Rattle.std.specs.Prelude.{◌≡◌, ◌∷◌, ◌++◌, IfNone, IfSome};
-ghost use Rattle.cap_log.specs.Parts.{BeginsWithout, IsCutAt, Lacks};
-
-/// Cuts some bytes at the first byte of a kind, or answers `None` where there is none.
-pub fn split_end(bytes: &[u8], end: u8) -> Option<(&[u8], &[u8])>
-    ensures some { IfSome result (λ parts. IsCutAt end bytes.now parts.0.now parts.1.now) }
-    ensures none { IfNone result (Lacks end bytes.now) }
-{
-    for index in 0..bytes.len() {
-        if bytes[index] == end {
-            return Some((&bytes[..index], &bytes[index + 1..]));
-        }
-    }
-    None
-}
+ghost use Rattle.cap_log.specs.Parts.{BeginsWithout};
 
 /// What stands behind a text at the front of some bytes and the byte that ends it, or `None` where they
 /// do not stand there.

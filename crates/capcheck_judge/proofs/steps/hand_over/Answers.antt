@@ -1,7 +1,7 @@
 use Rattle.std.proofs.Common.{◌≡◌, ◌∙◌, ap, subst, sym}
 use Rattle.std.specs.Prelude.{Some}
 use Rattle.cap_log.specs.declared.lines.Line.TheVariants as line
-use Rattle.cap_log.specs.declared.lines.Step.{Step}
+use Rattle.cap_log.specs.declared.kinds.Step.{Step}
 use Rattle.cap_halves.specs.Passed.{IsStepOf}
 use Rattle.capcheck_judge.proofs.HandleLemmas.{Stepped, handed}
 use Rattle.capcheck_judge.proofs.steps.hand_over.Goals as goal

@@ -1,0 +1,98 @@
+-- What a step shows of the state before it (this profile's own).
+use Rattle.std.specs.Prelude.{ℕ, ◌+◌, ◌≤◌, ◌<◌, ◌^◌, if◌then◌else◌, Option, Some, None, option_map, IfSome}
+use Rattle.cap_word.specs.declared.word.Cap.{Cap}
+use Rattle.cap_log.specs.declared.lines.Place.{Place}
+use Rattle.cap_log.specs.declared.lines.Place.TheVariants.{Register, Granule}
+use Rattle.cap_log.specs.declared.kinds.Step.{Step}
+use Rattle.cap_log.specs.declared.kinds.Step.TheVariants.{SetBounds, SetBoundsExact, SetAddr, Seal, Unseal, StoreCap}
+use Rattle.cap_log.specs.Lines.{IsDataSize}
+use Rattle.cap_ops.specs.Permissions.{has_permission, global, permit_store, permit_store_capability, permit_store_local_capability}
+use Rattle.cap_ops.specs.Permissions.{permit_seal, permit_unseal}
+use Rattle.cap_ops.specs.Tests.{first_of}
+use Rattle.cap_ops.specs.declared.refusal.Refusal.{Refusal}
+use Rattle.cap_machine.specs.declared.shown.Given.{Given}
+use Rattle.cap_machine.specs.declared.shown.Given.TheVariants as givens
+use Rattle.cap_machine.specs.declared.shown.Request.{Request}
+use Rattle.cap_machine.specs.declared.shown.Request.TheVariants as requests
+use Rattle.cap_machine.specs.declared.shown.Shown.{Shown}
+use Rattle.cap_machine.specs.States.{State}
+use Rattle.cap_machine.specs.Steps.{Access, Recorded, Written, Read, Row, row_of, clear_row}
+
+-- what an operation on registers asks for: bounds of a length, an address, or an authority over object types with a permission
+abbrev pub request_of : Step → Request
+request_of (SetBounds step) = requests.Length step.length
+request_of (SetBoundsExact step) = requests.Length step.length
+request_of (SetAddr step) = requests.Address step.address
+request_of (Seal step) = requests.Authority step.authority (2 ^ permit_seal)
+request_of (Unseal step) = requests.Authority step.authority (2 ^ permit_unseal)
+request_of step = requests.Nothing
+
+-- the permissions that storing a capability needs, in the view
+abbrev pub needs_to_store : Cap → ℕ
+needs_to_store stored =
+    if stored.tag
+    then (if has_permission stored.word.0 global
+    then 2 ^ permit_store + 2 ^ permit_store_capability
+    else 2 ^ permit_store + 2 ^ permit_store_capability + 2 ^ permit_store_local_capability)
+    else 2 ^ permit_store
+
+-- the permissions that an access needs, in the view: that of its kind, and to store a capability those for what is stored
+abbrev pub needed_by : State → Step → Access → ℕ
+needed_by state (StoreCap step) access = needs_to_store (state step.source)
+needed_by state step access = 2 ^ access.permission
+
+-- the test for which the result of an operation on registers has no tag in clear mode: an access has no such test
+abbrev pub lost_for : Option Access → Row → Option Refusal
+lost_for None row = first_of row.tests
+lost_for (Some access) row = None
+
+-- what the rules give where a line records a result: what is written in clear mode, which is that of strict rules where no test holds;
+-- or the number in memory, where no test refuses the access
+abbrev pub given_for : Option (Place × Cap) → Recorded → Option Access → Option Refusal → Option Refusal → Given
+given_for (Some write) (Written recorded) access fault lost = givens.Capability write.0 write.1 lost recorded
+given_for writes (Read recorded in_memory) (Some access) None lost = givens.Number in_memory access.size recorded
+given_for writes records access fault lost = givens.Nothing
+
+-- what the rules give in a row of the machine's table
+abbrev pub given_by : Row → Given
+given_by row =
+    let cleared = clear_row row.access row in
+    given_for cleared.writes row.records row.access (first_of row.tests) (lost_for row.access row)
+
+-- what a step shows
+abbrev pub shown_of : State → Step → Shown
+shown_of state step =
+    let row = row_of state step in
+    record {
+      source = row.parent;
+      request = request_of step;
+      access = option_map
+          (λ access. record {
+            authority = access.authority;
+            address = access.address;
+            size = access.size;
+            needs = needed_by state step access;
+          })
+          row.access;
+      given = given_by row;
+    }
+
+-- a place that a step reads: any register, or a granule
+abbrev pub IsRead : Place → Type 0
+IsRead (Register number) = number ≤ 31
+IsRead (Granule granule) = granule < 2 ^ 60
+
+-- an authority over object types is a register
+abbrev pub IsRequest : Request → Type 0
+IsRequest (requests.Authority register needs) = register ≤ 31
+IsRequest request = Unit {0}
+
+-- a number has 1, 2, 4 or 8 bytes
+abbrev pub IsGiven : Given → Type 0
+IsGiven (givens.Number value size recorded) = IsDataSize size
+IsGiven given = Unit {0}
+
+-- the places and the numbers that are shown are such as a machine has
+abbrev pub IsShown : Shown → Type 0
+IsShown shown =
+    IfSome shown.source IsRead × IsRequest shown.request × IfSome shown.access (λ access. access.authority ≤ 31) × IsGiven shown.given

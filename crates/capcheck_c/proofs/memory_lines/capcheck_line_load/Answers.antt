@@ -1,8 +1,0 @@
-use Rattle.std.proofs.Common.{w64}
-use Rattle.std.proofs.lemmas.Int.{to_z-of_z}
-use Rattle.capcheck_c.proofs.memory_lines.capcheck_line_load.Goals as goal
-
-pub returns : goal.returns
-returns c =
-    let same = to_z-of_z w64 c.args.offset c.ranges.offset in
-    record { line = c.put_step.ensures _ (rw same at c.load_of.ensures.step) }

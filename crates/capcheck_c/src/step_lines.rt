@@ -1,0 +1,290 @@
+//! The lines of steps: written from the numbers that C passes, and read as such.
+//!
+//! Each call answers how many bytes it wrote, the line feed with them, or 0 where a number is out of its
+//! range; then the buffer is as it was.
+
+ghost use Rattle.std.specs.Prelude.{◌≡◌, ◌≢◌, IfSome};
+ghost use Rattle.cap_log.specs.Lines.{IsStepInRange};
+ghost use Rattle.cap_log.specs.declared.lines.Line.TheVariants as line;
+ghost use Rattle.cap_log.specs.declared.kinds.Step.{Step};
+ghost use Rattle.cap_halves.specs.Passed.{IsStepOf};
+ghost use Rattle.cap_halves.specs.PassedSteps as steps;
+ghost use Rattle.capcheck_c.specs.LinesRead.{IsStepRead};
+ghost use Rattle.capcheck_c.specs.LinesWritten.{AnswersLine};
+
+use crate::values::LineRead;
+use cap_halves::steps::{
+    andperm_of, cleartag_of, lc_of, load_of, move_of, sc_of, seal_of, setaddr_of, setbounds_of,
+    setboundsexact_of, store_of, unseal_of,
+};
+use cap_halves::values::Capability;
+use cap_log::{Operands, Step, write_step};
+
+// The kinds of steps, as C has them.
+const MOVE: u8 = 5;
+
+const CLEARTAG: u8 = 6;
+
+const SETBOUNDS: u8 = 7;
+
+const SETBOUNDSEXACT: u8 = 8;
+
+const SETADDR: u8 = 9;
+
+const ANDPERM: u8 = 10;
+
+const SEAL: u8 = 11;
+
+const UNSEAL: u8 = 12;
+
+const LC: u8 = 13;
+
+const SC: u8 = 14;
+
+const LOAD: u8 = 15;
+
+const STORE: u8 = 16;
+
+/// Writes the line of a step `move` into the buffer.
+#[unsafe(no_mangle)]
+pub extern "C" fn capcheck_line_move(
+    buffer: &mut [u8; 96],
+    target: u64,
+    source: u64,
+    recorded: Capability,
+) -> usize
+    ensures line { AnswersLine (line.Step (steps.move_passed target source recorded)) buffer.old buffer.new result }
+{
+    put_step(move_of(target, source, recorded), buffer)
+}
+
+/// Writes the line of a step `cleartag` into the buffer.
+#[unsafe(no_mangle)]
+pub extern "C" fn capcheck_line_cleartag(
+    buffer: &mut [u8; 96],
+    target: u64,
+    source: u64,
+    recorded: Capability,
+) -> usize
+    ensures line { AnswersLine (line.Step (steps.cleartag_passed target source recorded)) buffer.old buffer.new result }
+{
+    put_step(cleartag_of(target, source, recorded), buffer)
+}
+
+/// Writes the line of a step `setbounds` into the buffer.
+#[unsafe(no_mangle)]
+pub extern "C" fn capcheck_line_setbounds(
+    buffer: &mut [u8; 96],
+    target: u64,
+    source: u64,
+    length: u64,
+    recorded: Capability,
+) -> usize
+    ensures line { AnswersLine (line.Step (steps.setbounds_passed target source length recorded)) buffer.old buffer.new result }
+{
+    put_step(setbounds_of(target, source, length, recorded), buffer)
+}
+
+/// Writes the line of a step `setboundsexact` into the buffer.
+#[unsafe(no_mangle)]
+pub extern "C" fn capcheck_line_setboundsexact(
+    buffer: &mut [u8; 96],
+    target: u64,
+    source: u64,
+    length: u64,
+    recorded: Capability,
+) -> usize
+    ensures line { AnswersLine (line.Step (steps.setboundsexact_passed target source length recorded)) buffer.old buffer.new result }
+{
+    put_step(setboundsexact_of(target, source, length, recorded), buffer)
+}
+
+/// Writes the line of a step `setaddr` into the buffer.
+#[unsafe(no_mangle)]
+pub extern "C" fn capcheck_line_setaddr(
+    buffer: &mut [u8; 96],
+    target: u64,
+    source: u64,
+    address: u64,
+    recorded: Capability,
+) -> usize
+    ensures line { AnswersLine (line.Step (steps.setaddr_passed target source address recorded)) buffer.old buffer.new result }
+{
+    put_step(setaddr_of(target, source, address, recorded), buffer)
+}
+
+/// Writes the line of a step `andperm` into the buffer.
+#[unsafe(no_mangle)]
+pub extern "C" fn capcheck_line_andperm(
+    buffer: &mut [u8; 96],
+    target: u64,
+    source: u64,
+    mask: u64,
+    recorded: Capability,
+) -> usize
+    ensures line { AnswersLine (line.Step (steps.andperm_passed target source mask recorded)) buffer.old buffer.new result }
+{
+    put_step(andperm_of(target, source, mask, recorded), buffer)
+}
+
+/// Writes the line of a step `seal` into the buffer.
+#[unsafe(no_mangle)]
+pub extern "C" fn capcheck_line_seal(
+    buffer: &mut [u8; 96],
+    target: u64,
+    source: u64,
+    authority: u64,
+    recorded: Capability,
+) -> usize
+    ensures line { AnswersLine (line.Step (steps.seal_passed target source authority recorded)) buffer.old buffer.new result }
+{
+    put_step(seal_of(target, source, authority, recorded), buffer)
+}
+
+/// Writes the line of a step `unseal` into the buffer.
+#[unsafe(no_mangle)]
+pub extern "C" fn capcheck_line_unseal(
+    buffer: &mut [u8; 96],
+    target: u64,
+    source: u64,
+    authority: u64,
+    recorded: Capability,
+) -> usize
+    ensures line { AnswersLine (line.Step (steps.unseal_passed target source authority recorded)) buffer.old buffer.new result }
+{
+    put_step(unseal_of(target, source, authority, recorded), buffer)
+}
+
+/// Writes the line of a step `lc` into the buffer.
+#[unsafe(no_mangle)]
+pub extern "C" fn capcheck_line_lc(
+    buffer: &mut [u8; 96],
+    target: u64,
+    authority: u64,
+    offset: i64,
+    recorded: Capability,
+) -> usize
+    ensures line { AnswersLine (line.Step (steps.lc_passed target authority offset recorded)) buffer.old buffer.new result }
+{
+    put_step(lc_of(target, authority, offset, recorded), buffer)
+}
+
+/// Writes the line of a step `sc` into the buffer.
+#[unsafe(no_mangle)]
+pub extern "C" fn capcheck_line_sc(
+    buffer: &mut [u8; 96],
+    source: u64,
+    authority: u64,
+    offset: i64,
+) -> usize
+    ensures line { AnswersLine (line.Step (steps.sc_passed source authority offset)) buffer.old buffer.new result }
+{
+    put_step(sc_of(source, authority, offset), buffer)
+}
+
+/// Writes the line of a step `load` into the buffer: `size` is 1, 2, 4 or 8, and `value` is below
+/// 256^size.
+#[unsafe(no_mangle)]
+pub extern "C" fn capcheck_line_load(
+    buffer: &mut [u8; 96],
+    authority: u64,
+    offset: i64,
+    size: u64,
+    value: u64,
+) -> usize
+    ensures line { AnswersLine (line.Step (steps.load_passed authority offset size value)) buffer.old buffer.new result }
+{
+    put_step(load_of(authority, offset, size, value), buffer)
+}
+
+/// Writes the line of a step `store` into the buffer: `size` is 1, 2, 4 or 8, and `value` is below
+/// 256^size.
+#[unsafe(no_mangle)]
+pub extern "C" fn capcheck_line_store(
+    buffer: &mut [u8; 96],
+    authority: u64,
+    offset: i64,
+    size: u64,
+    value: u64,
+) -> usize
+    ensures line { AnswersLine (line.Step (steps.store_passed authority offset size value)) buffer.old buffer.new result }
+{
+    put_step(store_of(authority, offset, size, value), buffer)
+}
+
+// Writes the line of the step that C's numbers make. Where they make none, it answers 0, and the buffer is as it was.
+#[inline(always)]
+fn put_step<O: Operands>(made: Option<O>, buffer: &mut [u8; 96]) -> usize
+    requires { IfSome made (λ step. IsStepInRange (O.step step)) }
+    ensures { (step : Step) → IsStepOf O.step step made → AnswersLine (line.Step step) buffer.old buffer.new result }
+{
+    match made {
+        Some(step) => write_step(step, buffer),
+        None => 0,
+    }
+}
+
+/// What is read of a step, by a line of so many bytes.
+pub(crate) fn step_read(step: Step, count: usize) -> LineRead
+    ensures read { IsStepRead step result }
+    ensures kind { result.kind ≢ 0 }
+    ensures length { result.length ≡ count }
+{
+    match step {
+        Step::Move(step) => LineRead::recorded(MOVE, step.target, step.source, step.result, count),
+        Step::ClearTag(step) => LineRead::recorded(
+            CLEARTAG,
+            step.target,
+            step.source,
+            step.result,
+            count,
+        ),
+        Step::SetBounds(step) => LineRead {
+            number: step.length,
+            ..LineRead::recorded(SETBOUNDS, step.target, step.source, step.result, count)
+        },
+        Step::SetBoundsExact(step) => LineRead {
+            number: step.length,
+            ..LineRead::recorded(SETBOUNDSEXACT, step.target, step.source, step.result, count)
+        },
+        Step::SetAddr(step) => LineRead {
+            number: step.address,
+            ..LineRead::recorded(SETADDR, step.target, step.source, step.result, count)
+        },
+        Step::AndPerm(step) => LineRead {
+            number: step.mask,
+            ..LineRead::recorded(ANDPERM, step.target, step.source, step.result, count)
+        },
+        Step::Seal(step) => LineRead {
+            authority: step.authority,
+            ..LineRead::recorded(SEAL, step.target, step.source, step.result, count)
+        },
+        Step::Unseal(step) => LineRead {
+            authority: step.authority,
+            ..LineRead::recorded(UNSEAL, step.target, step.source, step.result, count)
+        },
+        Step::LoadCap(step) => LineRead {
+            authority: step.authority,
+            offset: step.offset,
+            ..LineRead::recorded(LC, step.target, 0, step.result, count)
+        },
+        Step::StoreCap(step) => LineRead {
+            source: step.source,
+            authority: step.authority,
+            offset: step.offset,
+            ..LineRead::numbered(SC, 0, count)
+        },
+        Step::Load(step) => LineRead {
+            authority: step.authority,
+            offset: step.offset,
+            size: step.size,
+            ..LineRead::numbered(LOAD, step.value, count)
+        },
+        Step::Store(step) => LineRead {
+            authority: step.authority,
+            offset: step.offset,
+            size: step.size,
+            ..LineRead::numbered(STORE, step.value, count)
+        },
+    }
+}

@@ -1,8 +1,0 @@
-use Rattle.std.proofs.Common.{w64}
-use Rattle.std.proofs.lemmas.Int.{to_z-of_z}
-use Rattle.capcheck_judge.proofs.memory_steps.capcheck_judge_lc.Goals as goal
-
-pub returns : goal.returns
-returns c =
-    let same = to_z-of_z w64 c.args.offset c.ranges.offset in
-    record { step = c.hand_over.ensures _ (rw same at c.lc_of.ensures.step) }

@@ -1,0 +1,8 @@
+use Rattle.std.proofs.Common.{w64}
+use Rattle.std.proofs.lemmas.Int.{to_z-of_z}
+use Rattle.capcheck_judge.proofs.steps.capcheck_judge_store.Goals as goal
+
+pub returns : goal.returns
+returns c =
+    let same = to_z-of_z w64 c.args.offset c.ranges.offset in
+    record { step = c.hand_over.ensures _ (rw same at c.store_of.ensures.step) }
