@@ -130,3 +130,7 @@ named verdict bytes = escapes_exactly bytes verdict
 pub names_escapes : {E : Type 0} (result : Result Verdict E) → IfOk result NamesEscapes
 names_escapes (Ok verdict) = named verdict
 names_escapes (Err fault) = tt
+
+pub escapes_of : {E : Type 0} (bytes : List ℕ) (result : Result Verdict E) → IfOk result (EscapesExactly bytes)
+escapes_of bytes (Ok verdict) = escapes_exactly bytes verdict
+escapes_of bytes (Err fault) = tt

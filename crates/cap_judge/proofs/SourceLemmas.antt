@@ -11,7 +11,6 @@ use Rattle.cap_judge.specs.Verdicts.{IsVerdict, IsFault}
 use Rattle.cap_judge.specs.Judgings.{IsVerdictOf, BeginsLog, IsAnswerOf, JudgedBy, StopsBefore}
 use Rattle.cap_judge.proofs.JudgeLemmas.{guarded, no_lack}
 use Rattle.std.proofs.lemmas.Bool.{false≢true}
-use Rattle.std.proofs.lemmas.List.Elements.{All-nil}
 use Rattle.cap_log.specs.Front.{IsCut}
 use Rattle.cap_machine.specs.Helds.{Held}
 use Rattle.cap_judge.specs.declared.beginning.Stage.{Stage}
@@ -227,19 +226,6 @@ closer old new taken front kept more rest clear still was is split cut left some
 -- Bytes that are handed over at once
 
 module _ (old new : Known) (bytes : List ℕ) (count : ℕ) (begun : Read old []) where
-  pub bytes_cut : (shown : List ℕ) (verdict : Verdict) → StopsAt old (take count bytes) (drop count bytes) stops.Cut new
-      → shown ≡ drop count bytes → ((before : List ℕ) → Read new before → IsCut shown → IsVerdict (before ++ shown) verdict)
-      → IsVerdict bytes verdict
-  bytes_cut shown verdict stop same ends =
-      subst (λ (b : List ℕ). IsVerdict b verdict) (ap (λ (r : List ℕ). take count bytes ++ r) same ∙ take-append-drop count bytes)
-      (ends (take count bytes) (stop.0 [] begun).0 (subst IsCut (sym same) stop.1))
-
-  pub bytes_fault : (verdict : Verdict) → StopsAt old (take count bytes) (drop count bytes) stops.Fault new
-      → ((before : List ℕ) → Read new before → IsCut [] → IsVerdict (before ++ []) verdict) → IsVerdict bytes verdict
-  bytes_fault verdict stop ends =
-      subst (λ (b : List ℕ). IsVerdict b verdict) (append-nil _ ∙ take-append-drop count bytes)
-      (ends (take count bytes ++ drop count bytes) (stop.0 [] begun).0 (omega arith, All-nil (λ b. b ≢ 10)))
-
   pub bytes_lack : StopsAt old (take count bytes) (drop count bytes) stops.NoMemory new → IsFault bytes judge_faults.NoMemory
   bytes_lack stop =
       let lack = stop.1 [] begun in

@@ -113,14 +113,8 @@ impl<M: TaggedStore> Judge<M> {
     {
         match front(bytes) {
             Front::Cut => Stop::Cut,
-            Front::TooLong => {
-                self.refuse(self.refusal_of_long(), bytes);
-                Stop::Fault
-            }
-            Front::Line(_) => {
-                self.refuse(self.refusal_of_formless(), bytes);
-                Stop::Fault
-            }
+            Front::TooLong => self.stop(StepEnd::Refused(self.refusal_of_long()), bytes),
+            Front::Line(_) => self.stop(StepEnd::Refused(self.refusal_of_formless()), bytes),
         }
     }
 

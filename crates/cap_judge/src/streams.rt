@@ -15,6 +15,7 @@ ghost use Rattle.cap_judge.specs.declared.verdict.JudgeFault.TheVariants.{Pull};
 use crate::beginning::{Judge, Stop};
 use crate::fault_lines::FaultLine;
 use crate::faults::Fault;
+use crate::keeping::judge_bytes_keeping;
 use crate::verdict::{JudgeFault, Verdict};
 use cap_log::{PullFault, Pulled, Source};
 use cap_machine::Machine;
@@ -39,13 +40,7 @@ pub fn judge_bytes(alloc: Global, bytes: &[u8]) -> Result<Verdict, JudgeFault>
     ensures fault { IfErr result (IsFault bytes.now) }
     ensures answers { NamesNoGranules bytes.now → IsOk result }
 {
-    let mut judge = Judge::over_pages(alloc);
-    let taken = judge.take(bytes);
-    match taken.stop {
-        Stop::Cut => Ok(judge.end(&bytes[taken.count..])),
-        Stop::Fault => Ok(judge.end(&[])),
-        Stop::NoMemory => Err(JudgeFault::NoMemory),
-    }
+    judge_bytes_keeping(bytes, PageStore::new(alloc)).answer
 }
 
 /// Judges the bytes that a source gives, each line as soon as it is there. It is `Yes` exactly where they

@@ -1,6 +1,6 @@
 -- What single parts of taking a root or making a step do, each for one private function (this profile's own).
 use Rattle.std.specs.Bool.{beq}
-use Rattle.std.specs.Prelude.{◌&&◌, ◌==◌, ◌≡◌, ℕ, ◌+◌, Bool, true, false, not, ◌||◌, nat_le, if◌then◌else◌, List, [], ◌∷◌, slice_set, Option}
+use Rattle.std.specs.Prelude.{◌&&◌, ◌==◌, ◌≡◌, ℕ, ℤ, ◌+◌, Bool, true, false, not, ◌||◌, nat_le, if◌then◌else◌, List, [], ◌∷◌, slice_set, Option}
 use Rattle.std.specs.Prelude.{Some, None, IsTrue, Result, Ok, MatchResult, option_map}
 use Rattle.cap_word.specs.declared.word.Word.{Word}
 use Rattle.cap_word.specs.declared.word.Cap.{Cap}
@@ -9,7 +9,7 @@ use Rattle.cap_log.specs.declared.lines.Place.{Place}
 use Rattle.cap_log.specs.declared.lines.Place.TheVariants.{Register, Granule}
 use Rattle.cap_log.specs.declared.kinds.Step.{Step}
 use Rattle.cap_ops.specs.declared.faults.OpFault.{OpFault}
-use Rattle.cap_ops.specs.declared.access.Access.{Access as Reaching}
+use Rattle.cap_ops.specs.declared.kinds.Kind.{Kind}
 use Rattle.cap_ops.specs.Accesses.{access_tests}
 use Rattle.cap_ops.specs.Refusals.{refusal_of}
 use Rattle.cap_ops.specs.Tests.{first_of}
@@ -89,10 +89,10 @@ IsParentsCode held step outcome code =
     → option_map (λ place. code_in held (key_of place)) (row_of (state_of held) step).parent ≡ Some code
 
 -- a row is that of this access through a register
-abbrev pub IsAccess : Row → ℕ → Reaching → State → Type 0
-IsAccess row authority reaching state =
-    (row.tests ≡ access_tests (state authority) reaching.kind reaching.offset reaching.size)
-    × (row.access ≡ (let through = access_through state authority reaching.kind reaching.offset reaching.size in through.access))
+abbrev pub IsAccess : Row → ℕ → Kind → ℤ → ℕ → State → Type 0
+IsAccess row authority kind offset size state =
+    (row.tests ≡ access_tests (state authority) kind offset size)
+    × (row.access ≡ (let through = access_through state authority kind offset size in through.access))
 
 -- the address of an access
 abbrev pub address_in : Option Access → ℕ

@@ -1,7 +1,8 @@
 //! Steps that store and load.
 
-ghost use Rattle.std.specs.Prelude.{◌≡◌, ◌<◌, ◌≤◌, ◌^◌, ◌+◌, ◌%◌, ◌||◌, IfOk, MatchResult, None, false};
+ghost use Rattle.std.specs.Prelude.{◌≡◌, ◌<◌, ◌≤◌, ◌^◌, ◌+◌, ◌%◌, ◌||◌, IfOk, MatchResult, None, IsTrue, false};
 ghost use Rattle.cap_log.specs.Lines.{IsDataSize, IsOffset};
+ghost use Rattle.cap_ops.specs.Sizes.{size_fits};
 ghost use Rattle.cap_ops.specs.Tests.{first_of};
 ghost use Rattle.cap_machine.specs.Changes.{EndsPut, IsAccess, address_in, is_past_limits};
 ghost use Rattle.cap_machine.specs.Changes.{with_cap_put, with_value_put};
@@ -17,7 +18,7 @@ use crate::granules::{capability_with_code, put_capability, put_number};
 use crate::machine::{MOST_STEPS, Machine};
 use crate::shown::Reached;
 use cap_log::Operands;
-use cap_ops::{Access, Refusal, may_access_soundly, perm_view};
+use cap_ops::{Access, Kind, Refusal, may_access_soundly, perm_view};
 use cap_word::Cap;
 use tagmem::TaggedStore;
 
@@ -41,19 +42,23 @@ impl<M: TaggedStore> Machine<M> {
         &self,
         step: O,
         authority: u8,
-        access: Access,
+        kind: Kind,
+        offset: i16,
+        size: u8,
     ) -> Result<u64, StepEnd>
         requires authority { authority ≤ 31 }
+        requires offset { IsOffset offset }
+        requires size { IsTrue (size_fits kind size) }
         requires row { let state = state_of (held_of M.contents self.now) in
-            let row = row_of state (O.step step) in
-            IsAccess row authority access state }
+            IsAccess (row_of state (O.step step)) authority kind offset size state }
         ensures outcome { let held = held_of M.contents self.now in
             MatchResult result
             (λ address. let row = row_of (state_of held) (O.step step) in
             (first_of row.tests ≡ None) × (address ≡ address_in row.access))
             (λ end. EndsStep held (O.step step) end held) }
-        ensures in_one_granule { IfOk result (λ address. address % 16 + access.size ≤ 16) }
+        ensures in_one_granule { IfOk result (λ address. address % 16 + size ≤ 16) }
     {
+        let access = Access { kind, offset, size };
         match may_access_soundly(self.register(authority), access) {
             Ok(address) => Ok(address),
             Err(fault) => Err(StepEnd::from(fault)),

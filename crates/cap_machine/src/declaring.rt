@@ -40,23 +40,12 @@ impl<M: TaggedStore> Machine<M> {
         Ok(())
     }
 
-    // What a place holds.
-    fn at(&self, place: Place) -> Cap
-        requires { IsPlace place }
-        ensures { result ≡ state_of (held_of M.contents self.now) (key_of place) }
-    {
-        match place {
-            Place::Register(number) => self.register(number),
-            Place::Granule(granule) => self.granule(granule),
-        }
-    }
-
     // The first test that refuses a root.
     fn root_fault(&self, place: Place, word: Word) -> Option<Refusal>
         requires { IsPlace place }
         ensures { result ≡ first_of (root_tests (account_of (held_of M.contents self.now)) place word) }
     {
-        if self.at(place).tag {
+        if self.holds(place).tag {
             Some(Refusal::PlaceTaken)
         } else if !sound(word) {
             Some(Refusal::UnsoundRoot)

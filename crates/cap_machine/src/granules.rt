@@ -11,24 +11,6 @@ ghost use Rattle.cap_log.specs.Lines.{IsDataSize};
 use cap_word::{Cap, from_memory, null, to_memory};
 use tagmem::{NoMemory, TaggedStore};
 
-/// The capability that a granule holds: NULL without a tag where it was never put.
-#[inline(always)]
-pub fn capability_at<M: TaggedStore>(memory: &M, granule: u64) -> Cap
-    requires { granule < 2 ^ 60 }
-    ensures value { result ≡ granule_cap (M.contents memory.now) granule }
-{
-    match memory.get(granule) {
-        Some(entry) => Cap {
-            tag: entry.0,
-            word: from_memory(&entry.1),
-        },
-        None => Cap {
-            tag: false,
-            word: null(),
-        },
-    }
-}
-
 /// The capability that a granule holds, and the code of its origin: NULL without a tag, and 0, where it was never put.
 #[inline(always)]
 pub fn capability_with_code<M: TaggedStore>(memory: &M, granule: u64) -> (Cap, u64)

@@ -9,7 +9,7 @@ ghost use Rattle.cap_machine.specs.Accounts.{no_account};
 ghost use Rattle.cap_machine.specs.Parents.{IsSoundCap};
 ghost use Rattle.cap_machine.specs.Helds.{account_of, code_in, held_of, state_of};
 
-use crate::granules::{capability_at, number_in};
+use crate::granules::number_in;
 use crate::machine::Machine;
 use crate::places::place_at;
 use crate::rules::Rules;
@@ -121,7 +121,7 @@ impl<M: TaggedStore> Machine<M> {
         ensures holds { result ≡ state_of (held_of M.contents self.now) (granule_key granule) }
         ensures sound { IsSoundCap result }
     {
-        capability_at(&self.memory, granule)
+        self.granule_with_code(granule).0
     }
 
     /// The place of the root that what a place holds comes from, or `None`, exactly where that has no tag.

@@ -40,7 +40,7 @@ pub trait Instruction: Operands {
     /// Whether few lines of a log are of this kind.
     const IS_RARE: bool = false;
 
-    /// Whether making such a step takes much code.
+    /// Whether making such a step takes much code, though it isn't rare.
     const IS_LARGE: bool = false;
 
     /// Makes the step and counts it, or refuses it, as [`Machine::step`] does.
@@ -60,7 +60,7 @@ pub trait Operation: Operands {
     /// Whether few lines of a log are of this kind.
     const IS_RARE: bool = false;
 
-    /// Whether making such a step takes much code.
+    /// Whether making such a step takes much code, though it isn't rare.
     const IS_LARGE: bool = false;
 
     /// Its registers, its request and its recorded result.
@@ -153,12 +153,8 @@ impl Operation for SetBounds {
 
     #[inline(always)]
     fn parts(self) -> OperationParts {
-        OperationParts::new(
-            self.target,
-            self.source,
-            Request::Length(self.length),
-            self.result,
-        )
+        let request = Request::Length(self.length);
+        OperationParts::new(self.target, self.source, request, self.result)
     }
 
     #[inline(always)]
@@ -175,16 +171,10 @@ impl Operation for SetBounds {
 impl Operation for SetBoundsExact {
     const IS_RARE: bool = true;
 
-    const IS_LARGE: bool = true;
-
     #[inline(always)]
     fn parts(self) -> OperationParts {
-        OperationParts::new(
-            self.target,
-            self.source,
-            Request::Length(self.length),
-            self.result,
-        )
+        let request = Request::Length(self.length);
+        OperationParts::new(self.target, self.source, request, self.result)
     }
 
     #[inline(always)]
@@ -201,12 +191,8 @@ impl Operation for SetBoundsExact {
 impl Operation for SetAddr {
     #[inline(always)]
     fn parts(self) -> OperationParts {
-        OperationParts::new(
-            self.target,
-            self.source,
-            Request::Address(self.address),
-            self.result,
-        )
+        let request = Request::Address(self.address);
+        OperationParts::new(self.target, self.source, request, self.result)
     }
 
     #[inline(always)]
@@ -240,76 +226,51 @@ impl Operation for AndPerm {
 impl Operation for Seal {
     const IS_RARE: bool = true;
 
-    const IS_LARGE: bool = true;
-
     #[inline(always)]
     fn parts(self) -> OperationParts {
-        OperationParts::new(
-            self.target,
-            self.source,
-            Request::Authority(self.authority, SEAL),
-            self.result,
-        )
+        let request = Request::Authority(self.authority, SEAL);
+        OperationParts::new(self.target, self.source, request, self.result)
     }
 
     #[inline(always)]
     fn strict<M: TaggedStore>(self, machine: &Machine<M>) -> Result<Cap, OpFault> {
-        seal(
-            machine.register(self.source),
-            machine.register(self.authority),
-        )
+        let authority = machine.register(self.authority);
+        seal(machine.register(self.source), authority)
     }
 
     #[inline(always)]
     fn cleared<M: TaggedStore>(self, machine: &Machine<M>) -> Cap {
-        seal_clear(
-            machine.register(self.source),
-            machine.register(self.authority),
-        )
+        let authority = machine.register(self.authority);
+        seal_clear(machine.register(self.source), authority)
     }
 }
 
 impl Operation for Unseal {
     const IS_RARE: bool = true;
 
-    const IS_LARGE: bool = true;
-
     #[inline(always)]
     fn parts(self) -> OperationParts {
-        OperationParts::new(
-            self.target,
-            self.source,
-            Request::Authority(self.authority, UNSEAL),
-            self.result,
-        )
+        let request = Request::Authority(self.authority, UNSEAL);
+        OperationParts::new(self.target, self.source, request, self.result)
     }
 
     #[inline(always)]
     fn strict<M: TaggedStore>(self, machine: &Machine<M>) -> Result<Cap, OpFault> {
-        unseal(
-            machine.register(self.source),
-            machine.register(self.authority),
-        )
+        let authority = machine.register(self.authority);
+        unseal(machine.register(self.source), authority)
     }
 
     #[inline(always)]
     fn cleared<M: TaggedStore>(self, machine: &Machine<M>) -> Cap {
-        unseal_clear(
-            machine.register(self.source),
-            machine.register(self.authority),
-        )
+        let authority = machine.register(self.authority);
+        unseal_clear(machine.register(self.source), authority)
     }
 }
 
 impl Instruction for LoadCap {
     #[inline(always)]
     fn perform<M: TaggedStore>(self, machine: &mut Machine<M>) -> Result<(), StepEnd> {
-        let access = Access {
-            kind: Kind::LoadCap,
-            offset: self.offset,
-            size: 16,
-        };
-        let address = machine.reach(self, self.authority, access)?;
+        let address = machine.reach(self, self.authority, Kind::LoadCap, self.offset, 16)?;
         let (granule, code) = machine.granule_with_code(address / 16);
         let derived = loaded(machine.register(self.authority), granule);
         machine.conclude(self, self.target, Ok(derived), self.result, code)
@@ -332,12 +293,8 @@ impl Instruction for StoreCap {
     #[inline(always)]
     fn perform<M: TaggedStore>(self, machine: &mut Machine<M>) -> Result<(), StepEnd> {
         let stored = machine.register(self.source);
-        let access = Access {
-            kind: Kind::StoreCap(stored),
-            offset: self.offset,
-            size: 16,
-        };
-        let address = machine.reach(self, self.authority, access)?;
+        let kind = Kind::StoreCap(stored);
+        let address = machine.reach(self, self.authority, kind, self.offset, 16)?;
         let code = machine.codes[self.source as usize];
         machine.put_counted(address / 16, stored, code)
     }
@@ -352,12 +309,7 @@ impl Instruction for StoreCap {
 impl Instruction for Load {
     #[inline(always)]
     fn perform<M: TaggedStore>(self, machine: &mut Machine<M>) -> Result<(), StepEnd> {
-        let access = Access {
-            kind: Kind::LoadData,
-            offset: self.offset,
-            size: self.size,
-        };
-        let address = machine.reach(self, self.authority, access)?;
+        let address = machine.reach(self, self.authority, Kind::LoadData, self.offset, self.size)?;
         let byte = (address % 16) as u8;
         if number_in(&machine.memory, address / 16, byte, self.size) != self.value {
             return Err(StepEnd::Refused(Refusal::WrongResult));
@@ -391,12 +343,8 @@ impl Instruction for Load {
 impl Instruction for Store {
     #[inline(always)]
     fn perform<M: TaggedStore>(self, machine: &mut Machine<M>) -> Result<(), StepEnd> {
-        let access = Access {
-            kind: Kind::StoreData,
-            offset: self.offset,
-            size: self.size,
-        };
-        let address = machine.reach(self, self.authority, access)?;
+        let kind = Kind::StoreData;
+        let address = machine.reach(self, self.authority, kind, self.offset, self.size)?;
         let byte = (address % 16) as u8;
         machine.put_value_counted(address / 16, byte, self.size, self.value)
     }

@@ -73,7 +73,7 @@ impl<M: TaggedStore> Machine<M> {
             (ClearsBeyond (let held = held_of M.contents self.old in held.rules) (state_of (held_of M.contents self.old)) step.now
             (state_of (held_of M.contents self.new))) }
     {
-        self.make(step)
+        by_kind::<Machine<M>, Making>(self, step)
     }
 
     /// What a step shows of the machine, which is as it was before the step.
@@ -84,14 +84,6 @@ impl<M: TaggedStore> Machine<M> {
     {
         let mut machine = self;
         by_kind::<&Machine<M>, Showing>(&mut machine, step)
-    }
-
-    // Makes a step of any kind.
-    fn make(&mut self, step: &Step) -> Result<(), StepEnd>
-        requires { IsStepInRange step.now }
-        ensures { AnswersStep (held_of M.contents self.old) step.now result (held_of M.contents self.new) }
-    {
-        by_kind::<Machine<M>, Making>(self, step)
     }
 
     // Ends a step that writes a register, from what its operation or access gave: refuses it, or writes what

@@ -5,8 +5,8 @@ use Rattle.cap_judge.specs.Readings.{known_of}
 use Rattle.cap_judge.proofs.ReadingLemmas.{stays}
 use Rattle.cap_judge.proofs.beginning.Judge.stop_formless.Goals as goal
 
-pub refuse-requires-in-Line-clause-uncut : goal.refuse-requires-in-Line-clause-uncut
-refuse-requires-in-Line-clause-uncut g c =
+pub stop-requires-in-Line-clause-uncut : goal.stop-requires-in-Line-clause-uncut
+stop-requires-in-Line-clause-uncut g c =
     let found = subst (IsFront c.args.bytes.now) c.in-Line.is c.front.ensures.found in
     IsLine-not_cut c.args.bytes.now _ _ found.1
 

@@ -1,11 +1,21 @@
-use Rattle.std.proofs.Common.{refl}
+use Rattle.std.proofs.Common.{◌≡◌, ℤ, Some, refl, rules, subst}
+use Rattle.std.proofs.lemmas.Int.{to_z-of_z}
+use Rattle.std.specs.Prelude.{FitsSigned}
+use Rattle.std.specs.Int.{w16}
+use Rattle.cap_ops.specs.Accesses.{access_tests}
 use Rattle.cap_ops.specs.Refusals.{refusal_of}
-use Rattle.cap_machine.specs.Helds.{held_of}
+use Rattle.cap_ops.specs.Tests.{first_of}
+use Rattle.cap_machine.specs.Helds.{held_of, state_of}
 use Rattle.cap_machine.proofs.MadeLemmas.{faulted_as}
 use Rattle.cap_machine.proofs.machine.Machine.reach.Goals as goal
 
 pub returns-in-Err-clause-outcome : goal.returns-in-Err-clause-outcome
 returns-in-Err-clause-outcome g c =
-    rw c.from.ensures (faulted_as (held_of g.M.TaggedStore.contents c.args.self.now) (g.O.Operands.step c.args.step) _ c.in-Err.fault
-    (refusal_of c.in-Err.fault) c.requires.row.1
-    (rw (c.requires.row.0) (rw c.register.ensures.holds at c.in-Err.ensures.outcome)) refl)
+    let old = held_of g.M.TaggedStore.contents c.args.self.now in
+    let fault = c.in-Err.fault in
+    let fits : FitsSigned w16 c.args.offset = search rules in
+    let found : first_of (access_tests (state_of old c.args.authority) c.args.kind c.args.offset c.args.size) ≡ Some (refusal_of fault) =
+    subst (λ (z : ℤ). first_of (access_tests (state_of old c.args.authority) c.args.kind z c.args.size) ≡ Some (refusal_of fault))
+    (to_z-of_z w16 c.args.offset fits) (rw c.register.ensures.holds at c.in-Err.ensures.outcome) in
+    rw c.from.ensures (faulted_as old (g.O.Operands.step c.args.step) _ fault (refusal_of fault) c.requires.row.1
+    (rw (c.requires.row.0) found) refl)
