@@ -1,5 +1,5 @@
 -- What is told of a line for its refusal.
-use Rattle.std.proofs.Common.{◌≡◌, ◌⊎◌, ℕ, inl, inr, List, ◌++◌, length, take, min, Option, refl, sym, ap, subst, ◌∙◌, append_assoc, arith}
+use Rattle.std.proofs.Common.{◌≡◌, ◌⊎◌, ℕ, inl, inr, List, length, take, min, Option, refl, sym, ap, subst, ◌∙◌, arith}
 use Rattle.std.proofs.lemmas.Bool.{cases_lt}
 use Rattle.std.proofs.lemmas.List.{take_all}
 use Rattle.std.specs.Prelude.{IfNone, Some, None}
@@ -21,11 +21,6 @@ take_few text n is = elim (cases_lt 96 (length text)) [
   | inl more ↦ let same : n ≡ 96 = omega (arith, is) in ap (λ (m : ℕ). take m text) same
   | inr few ↦ take_all n text (omega (arith, is)) ∙ sym (take_all 96 text few)
 ]
-
--- three texts, one behind the other
-pub behind_each : (a b c d x y z : List ℕ) → d ≡ c ++ z → c ≡ b ++ y → b ≡ a ++ x → d ≡ a ++ (x ++ y ++ z)
-behind_each a b c d x y z third second first =
-    third ∙ ap (λ (l : List ℕ). l ++ z) (second ∙ ap (λ (l : List ℕ). l ++ y) first) ∙ simp append_assoc
 
 -- no event is spelled where neither kind is
 no_event : (text : List ℕ) → ((at size : ℕ) → Spells text (Happens (Malloc at size)) → ⊥) → ((at : ℕ) → Spells text (Happens (Free at)) → ⊥)

@@ -5,7 +5,7 @@ use Rattle.cap_bounds.specs.declared.decoding.Interval.{Interval}
 use Rattle.cap_bounds.specs.Rounding.{rounded_base, rounded_top, alignment_of}
 use Rattle.cap_log.specs.Front.{FrontIs}
 use Rattle.cap_texts.specs.CapLines.{bounds_line}
-use Rattle.cap_texts.specs.ShownBytes.{line_line}
+use Rattle.cap_texts.specs.ShownBytes.{shown_line}
 use Rattle.cap_texts.specs.TextLines.{text_line}
 use Rattle.cap_heap.specs.declared.events.Event.{Event}
 use Rattle.cap_heap.specs.declared.events.Event.TheVariants.{Malloc, Free}
@@ -81,4 +81,4 @@ pub record IsReport (bytes : List ℕ) (number : ℕ) (refusal : HeapRefusal) (r
   pub front : IsFrontText fault.4 text
   pub details : List ℕ
   pub are : AreDetails fault.0 fault.1 fault.3 text refusal details
-  pub report_is : report ≡ line_line text ++ details
+  pub report_is : report ≡ shown_line text ++ details

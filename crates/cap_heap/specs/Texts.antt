@@ -1,6 +1,6 @@
 -- The text of a verdict, by what its judge had read and the line that it refused (this profile's own).
 use Rattle.std.specs.Prelude.{◌≡◌, ℕ, Bool, true, false, List, ◌++◌}
-use Rattle.cap_texts.specs.ShownBytes.{line_line}
+use Rattle.cap_texts.specs.ShownBytes.{shown_line}
 use Rattle.cap_heap.specs.declared.progress.Progress.{Progress}
 use Rattle.cap_heap.specs.declared.refusal.HeapRefusal.{HeapRefusal}
 use Rattle.cap_heap.specs.declared.verdict.HeapVerdict.{HeapVerdict}
@@ -14,7 +14,7 @@ use Rattle.cap_heap.specs.VerdictLines.{heap_line}
 abbrev pub IsLineReport : Progress → List ℕ → HeapRefusal → List ℕ → Type 0
 IsLineReport progress line refusal report =
     (details : List ℕ) × ((beginning : Beginning) → StandsFor progress beginning → AreDetailsBehind beginning line refusal details)
-    × (report ≡ line_line line ++ details)
+    × (report ≡ shown_line line ++ details)
 
 -- the text of a verdict
 abbrev pub IsText : Bool → Bool → Progress → List ℕ → HeapVerdict → List ℕ → Type 0

@@ -2,11 +2,12 @@
 
 ghost use Rattle.std.specs.Prelude.{◌≡◌, ◌+◌, ◌-◌, ◌^◌, ◌<◌, ◌≤◌, min, length, take, drop, ◌++◌};
 ghost use Rattle.cap_bounds.specs.Rounding.{alignment_of};
+ghost use Rattle.cap_log.specs.Parts.{Writes};
 ghost use Rattle.cap_heap.specs.HeapReports.{capped, excess_of, gap_of, padding_of, report_lines};
 ghost use Rattle.cap_heap.specs.declared.events.Event.TheVariants.{Malloc};
 
 use cap_bounds::{align_mask, round, round_length};
-use cap_texts::text_lines::put_number_line;
+use cap_texts::text_lines::put_decimal_line;
 
 /// What the author of an allocator wants to know of a log with a yes. A sum that does not fit 64 bits is the
 /// greatest number of 64 bits.
@@ -62,17 +63,15 @@ impl HeapReport {
 #[tactic(auto, unfolding(crate::specs::HeapReports::report_lines))]
 pub fn put_report(report: &HeapReport, buffer: &mut [u8], at: usize) -> usize
     requires { at + 192 ≤ length buffer.old }
-    ensures from { at ≤ result }
+    ensures written { Writes at (report_lines report.now) buffer.old buffer.new result }
     ensures fits { result ≤ at + 192 }
-    ensures written { take result buffer.new ≡ take at buffer.old ++ report_lines report.now }
-    ensures rest { drop result buffer.new ≡ drop result buffer.old }
 {
-    let at = put_number_line(buffer, at, b"objects", report.objects);
-    let at = put_number_line(buffer, at, b"most", report.most);
-    let at = put_number_line(buffer, at, b"inexact", report.inexact);
-    let at = put_number_line(buffer, at, b"excess", report.excess);
-    let at = put_number_line(buffer, at, b"padding", report.padding);
-    put_number_line(buffer, at, b"gaps", report.gaps)
+    let at = put_decimal_line(buffer, at, b"objects", report.objects);
+    let at = put_decimal_line(buffer, at, b"most", report.most);
+    let at = put_decimal_line(buffer, at, b"inexact", report.inexact);
+    let at = put_decimal_line(buffer, at, b"excess", report.excess);
+    let at = put_decimal_line(buffer, at, b"padding", report.padding);
+    put_decimal_line(buffer, at, b"gaps", report.gaps)
 }
 
 // A sum as a number of 64 bits.

@@ -18,7 +18,7 @@ use crate::verdict_lines::heap_text;
 use crate::whys::put_details;
 use cap_log::buffers::put;
 use cap_log::{PushFault, Sink, Source, push_all};
-use cap_texts::shown_bytes::put_line_line;
+use cap_texts::shown_bytes::put_shown_line;
 use std::alloc::Global;
 
 /// Judges the log of an allocator that a source gives as [`judge_heap`] does, and pushes the line of the verdict.
@@ -155,7 +155,7 @@ fn push_no<K: Sink>(
     let mut front = [0u8; 64];
     let length = heap_text(verdict, &mut front);
     let at = put(&mut text, 0, &front[..length]);
-    let at = put_line_line(&mut text, at, line.as_slice());
+    let at = put_shown_line(&mut text, at, line.as_slice());
     let end = put_details(progress, line.as_slice(), refusal, &mut text, at);
     push_all(sink, &text[..end])
 }

@@ -1,8 +1,7 @@
 //! The report of a no: the line that was refused, and what its tests saw.
 
-ghost use Rattle.std.specs.Prelude.{◌≡◌, ℕ, List, ◌+◌, ◌≤◌, ◌++◌, codes, length, take, drop, [], Option, MatchOption, Some};
-ghost use Rattle.cap_bounds.specs.Rounding.{rounded_base, rounded_top};
-ghost use Rattle.cap_texts.specs.CapLines.{bounds_line};
+ghost use Rattle.std.specs.Prelude.{ℕ, List, ◌+◌, ◌≤◌, length};
+ghost use Rattle.cap_log.specs.Parts.{Writes};
 ghost use Rattle.cap_heap.specs.Heaps.{objects_in};
 ghost use Rattle.cap_heap.specs.Beginnings.{AreDetailsBehind, Beginning};
 ghost use Rattle.cap_heap.specs.HeapWhys.{AreEventDetails, count_line, live_lines, request_lines, right_lines};
@@ -18,7 +17,7 @@ use crate::report::alignment;
 use crate::stage::Stage;
 use cap_bounds::{Interval, round, round_length};
 use cap_texts::cap_lines::put_bounds_line;
-use cap_texts::text_lines::{put_hex_line, put_number_line};
+use cap_texts::text_lines::{put_decimal_line, put_hex_line};
 
 /// Writes what is told of a line that was refused at an index of the buffer, and answers the index behind it. The progress
 /// is as it was before the line.
@@ -33,7 +32,7 @@ pub(crate) fn put_details(
     ensures fits { result ≤ length buffer.old }
     ensures written { (details : List ℕ)
         × ((beginning : Beginning) → StandsFor progress.now beginning → AreDetailsBehind beginning text.now refusal details)
-        × (take result buffer.new ≡ take at buffer.old ++ details) }
+        × Writes at details buffer.old buffer.new result }
 {
     match refusal {
         HeapRefusal::BadHeader | HeapRefusal::LineTooLong | HeapRefusal::BadLine => at,
@@ -52,10 +51,10 @@ pub(crate) fn put_details(
 #[tactic(auto, unfolding(crate::specs::HeapWhys::count_line))]
 fn put_count_line(count: u32, buffer: &mut [u8], at: usize) -> usize
     requires room { at + 28 ≤ length buffer.old }
+    ensures written { Writes at (count_line count) buffer.old buffer.new result }
     ensures fits { result ≤ at + 28 }
-    ensures written { take result buffer.new ≡ take at buffer.old ++ count_line count }
 {
-    put_number_line(buffer, at, b"events", u64::from(count))
+    put_decimal_line(buffer, at, b"events", u64::from(count))
 }
 
 // Writes what is told of an event that was refused, where the text is one's line.
@@ -69,7 +68,7 @@ fn put_event_lines(
     requires room { at + 384 ≤ length buffer.old }
     ensures fits { result ≤ length buffer.old }
     ensures written { (details : List ℕ) × AreEventDetailsIn heap.now text.now refusal details
-        × (take result buffer.new ≡ take at buffer.old ++ details) }
+        × Writes at details buffer.old buffer.new result }
 {
     match read_event(text) {
         Some(Event::Malloc { address, length }) => {
@@ -93,7 +92,7 @@ fn put_malloc_lines(
     ensures fits { result ≤ length buffer.old }
     ensures written { (details : List ℕ)
         × AreEventDetails heap.now.bounds (objects_in heap.now) (Malloc address size) refusal details
-        × (take result buffer.new ≡ take at buffer.old ++ details) }
+        × Writes at details buffer.old buffer.new result }
 {
     let at = put_request_lines(buffer, at, b"", address, size);
     match refusal {
@@ -114,10 +113,8 @@ fn put_malloc_lines(
 fn put_request_lines(buffer: &mut [u8], at: usize, name: &[u8], address: u64, size: u64) -> usize
     requires name { length name.now ≤ 5 }
     requires room { at + 104 ≤ length buffer.old }
-    ensures from { at ≤ result }
+    ensures written { Writes at (request_lines name.now address size) buffer.old buffer.new result }
     ensures fits { result ≤ at + 104 }
-    ensures written { take result buffer.new ≡ take at buffer.old ++ request_lines name.now address size }
-    ensures rest { (k : ℕ) → result ≤ k → drop k buffer.new ≡ drop k buffer.old }
 {
     let end = u128::from(address) + u128::from(size);
     let at = put_bounds_line(buffer, at, name, b"request ", u128::from(address), end);
@@ -135,10 +132,8 @@ fn put_request_lines(buffer: &mut [u8], at: usize, name: &[u8], address: u64, si
 // Writes those of a live object, where there is one.
 fn put_live_lines(buffer: &mut [u8], at: usize, found: Option<(u64, u64)>) -> usize
     requires { at + 104 ≤ length buffer.old }
-    ensures from { at ≤ result }
+    ensures written { Writes at (live_lines found) buffer.old buffer.new result }
     ensures fits { result ≤ at + 104 }
-    ensures written { take result buffer.new ≡ take at buffer.old ++ live_lines found }
-    ensures rest { (k : ℕ) → result ≤ k → drop k buffer.new ≡ drop k buffer.old }
 {
     match found {
         Some((address, length)) => put_request_lines(buffer, at, b"live ", address, length),
@@ -150,10 +145,8 @@ fn put_live_lines(buffer: &mut [u8], at: usize, found: Option<(u64, u64)>) -> us
 #[tactic(auto, unfolding(crate::specs::HeapWhys::right_lines))]
 fn put_right_lines(buffer: &mut [u8], at: usize, size: u64) -> usize
     requires { at + 64 ≤ length buffer.old }
-    ensures from { at ≤ result }
+    ensures written { Writes at (right_lines size) buffer.old buffer.new result }
     ensures fits { result ≤ at + 64 }
-    ensures written { take result buffer.new ≡ take at buffer.old ++ right_lines size }
-    ensures rest { (k : ℕ) → result ≤ k → drop k buffer.new ≡ drop k buffer.old }
 {
     let at = put_hex_line(buffer, at, b"length", 17, round_length(size));
     put_hex_line(buffer, at, b"alignment", 17, alignment(size))

@@ -1,5 +1,5 @@
 -- What holds of each element of a list, and the length of a number in decimal.
-use Rattle.std.proofs.Common.{ℕ, ◌^◌, ◌<◌, ◌≤◌, List, [], ◌∷◌, ◌++◌, length, decimal, arith, lit<}
+use Rattle.std.proofs.Common.{ℕ, ◌^◌, ◌<◌, ◌≤◌, List, [], ◌∷◌, ◌++◌, length, decimal, arith, rules, lit<}
 use Rattle.std.specs.List.{AllByRecursion}
 use Rattle.std.proofs.lemmas.Fmt.{length-decimal-le}
 
@@ -12,3 +12,7 @@ AllByRecursion-append P (x ∷ xs) ys h k = (h.0, AllByRecursion-append P xs ys 
 -- a number of 64 bits has twenty digits at most
 pub short_decimal : (n : ℕ) → n < 2 ^ 64 → length (decimal n) ≤ 20
 short_decimal n small = length-decimal-le 20 n (lit< tt) (omega arith) small
+
+-- one below 1000 has three
+pub few_digits : (n : ℕ) → n < 1000 → length (decimal n) ≤ 3
+few_digits n small = length-decimal-le 3 n (lit< tt) small (search rules)

@@ -2,14 +2,7 @@
 use Rattle.std.proofs.Common.{◌≡◌, ℕ, ◌-◌, ◌≤◌, List, [], ◌∷◌, ◌++◌, length, take, drop, ap, ◌∙◌, arith}
 use Rattle.std.proofs.lemmas.List.{length-take-le, take_at}
 use Rattle.cap_log.specs.Parts.{Writes}
-pub use Rattle.cap_log.specs.Written.{whole, length-Writes, Writes-then}
-
--- three texts
-pub Writes-three : (at i j k : ℕ) (a b c old first second new : List ℕ) → Writes at a old first i
-    → Writes i b first second j → Writes j c second new k
-    → Writes at (a ++ (b ++ c)) old new k
-Writes-three at i j k a b c old first second new one two three =
-    Writes-then at i k a (b ++ c) old first new one (Writes-then i j k b c first second new two three)
+pub use Rattle.cap_log.specs.Written.{whole, length-Writes, ◌⨾◌}
 
 -- a text at the front of a buffer, and one byte behind it
 pub front_and_byte : (i j c : ℕ) (a old mid new : List ℕ) → Writes 0 a old mid i → Writes i (c ∷ []) mid new j → j ≤ length old
@@ -17,7 +10,7 @@ pub front_and_byte : (i j c : ℕ) (a old mid new : List ℕ) → Writes 0 a old
 front_and_byte i j c a old mid new first second room =
     let ends = first.ends in
     let ends' = second.ends in
-    let both = Writes-then 0 i j a (c ∷ []) old mid new first second in
+    let both = first ⨾ second in
     let same = length-Writes 0 i a old mid first (omega arith) in
     let last : j - 1 ≡ i = omega arith in
     let long : length (take i mid) ≡ i = length-take-le i mid (omega arith) in (

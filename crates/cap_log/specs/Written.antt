@@ -19,10 +19,9 @@ length-Writes at end text old new writes room =
     omega (arith, long, length-append text (drop end old), length-take-le at old (omega arith), length-drop end old)
 
 -- one text after another
-pub Writes-then :
-    (at i j : ℕ) (a b old mid new : List ℕ) → Writes at a old mid i → Writes i b mid new j
-    → Writes at (a ++ b) old new j
-Writes-then at i j a b old mid new first second =
+infixl 40 ◌⨾◌
+pub ◌⨾◌ : {at i j : ℕ} {a b old mid new : List ℕ} → Writes at a old mid i → Writes i b mid new j → Writes at (a ++ b) old new j
+◌⨾◌ {at} {i} {j} {a} {b} {old} {mid} {new} first second =
     let ends = first.ends in
     let ends' = second.ends in
     record {
@@ -31,6 +30,10 @@ Writes-then at i j a b old mid new first second =
       rest = λ k above. second.rest k above ∙ first.rest k (omega arith);
     }
 
+-- no text
+pub Writes-nothing : {at : ℕ} {old : List ℕ} → Writes at [] old old at
+Writes-nothing {at} {old} = record { ends = omega arith; written = sym (append-nil (take at old)); rest = λ k above. refl }
+
 -- a text written inside a buffer (this profile's own)
 pub record WritesInside (at end : ℕ) (text old new : List ℕ) : Type 0 where
   pub written : Writes at text old new end
@@ -38,16 +41,13 @@ pub record WritesInside (at end : ℕ) (text old new : List ℕ) : Type 0 where
 
 -- no text
 pub WritesInside-nothing : (at : ℕ) (old : List ℕ) → at ≤ length old → WritesInside at at [] old old
-WritesInside-nothing at old within = record {
-  written = record { ends = omega arith; written = sym (append-nil (take at old)); rest = λ k above. refl };
-  inside = within;
-}
+WritesInside-nothing at old within = record { written = Writes-nothing; inside = within }
 
 -- one text after another
 pub WritesInside-joined :
     (at i j : ℕ) (a b old mid new : List ℕ) → WritesInside at i a old mid → WritesInside i j b mid new
     → WritesInside at j (a ++ b) old new
 WritesInside-joined at i j a b old mid new first second = record {
-  written = Writes-then at i j a b old mid new first.written second.written;
+  written = first.written ⨾ second.written;
   inside = omega (arith, length-Writes at i a old mid first.written first.inside, second.inside);
 }

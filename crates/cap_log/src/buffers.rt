@@ -2,8 +2,10 @@
 
 ghost use Rattle.std.specs.Prelude.{◌≡◌, ◌+◌, ◌<◌, ◌≤◌, length, decimal};
 ghost use Rattle.cap_word.specs.Digits.{hex_digits};
+ghost use Rattle.cap_log.specs.Lines.{place_spelling};
 ghost use Rattle.cap_log.specs.Parts.{Writes};
 
+use crate::lines::Place;
 use cap_word::{Word, word_text};
 
 /// Writes a text at an index of the buffer, and answers the index behind it. Nothing else of the buffer
@@ -79,4 +81,24 @@ pub fn put_hex(buffer: &mut [u8], at: usize, digits: usize, number: u128) -> usi
     // The text of a word is the 32 digits of its number.
     let text = word_text(Word(number));
     put(buffer, at, &text[32 - digits..])
+}
+
+/// Writes a place as a log spells it at an index of the buffer, and answers the index behind it: any register,
+/// and any granule. Nothing else of the buffer changes.
+#[tactic(auto, using(crate::proofs::ElementLemmas::few_digits))]
+pub fn put_place(buffer: &mut [u8], at: usize, place: Place) -> usize
+    requires room { at + 17 ≤ length buffer.old }
+    ensures written { Writes at (place_spelling place) buffer.old buffer.new result }
+    ensures fits { result ≤ at + 17 }
+{
+    match place {
+        Place::Register(number) => {
+            let next = put(buffer, at, b"c");
+            put_few(buffer, next, u16::from(number))
+        }
+        Place::Granule(number) => {
+            let next = put(buffer, at, b"@");
+            put_hex(buffer, next, 16, 16 * u128::from(number))
+        }
+    }
 }

@@ -85,9 +85,6 @@ pub fn cleared_with_fault<M: TaggedStore, O: Operation>(
 pub fn set_bounds_cleared(source: Cap, length: u64, exact: bool) -> Cap
     ensures value { result ≡ ops.clear_result (ops.set_bounds_tests source length exact) (ops.set_bounds_result source length) }
 {
-    let called = Cap {
-        tag: source.tag,
-        word: source.word,
-    };
-    set_bounds_clear(called, length, exact)
+    let Cap { tag, word } = source;
+    set_bounds_clear(Cap { tag, word }, length, exact)
 }

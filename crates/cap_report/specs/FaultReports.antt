@@ -14,7 +14,7 @@ use Rattle.cap_machine.specs.States.{key_of, tagged}
 use Rattle.cap_judge.specs.Logs.{SpellsBy, IsFirstFault}
 use Rattle.cap_texts.specs.TextLines.{text_line}
 use Rattle.cap_judge.specs.FaultLines.{IsFrontText}
-use Rattle.cap_texts.specs.ShownBytes.{line_line}
+use Rattle.cap_texts.specs.ShownBytes.{shown_line}
 use Rattle.cap_texts.specs.CapLines.{cap_lines, operand_lines}
 use Rattle.cap_report.specs.StepLines.{step_lines}
 use Rattle.cap_judge.specs.Judgings.{account_before}
@@ -58,7 +58,7 @@ AreDetails account text refusal details =
 pub record IsLineReport (account : Account) (text : List ℕ) (refusal : Refusal) (report : List ℕ) : Type 0 where
   pub details : List ℕ
   pub are : AreDetails account text refusal details
-  pub report_is : report ≡ line_line text ++ details
+  pub report_is : report ≡ shown_line text ++ details
 
 -- the report of a first fault: of the line that follows what was accepted, by the account of that
 pub record IsReport (bytes : List ℕ) (number : ℕ) (refusal : Refusal) (report : List ℕ) : Type 0 where

@@ -1,5 +1,5 @@
 -- The parts of the report on a step, and their lines (this profile's own).
-use Rattle.std.specs.Prelude.{◌≡◌, ℕ, ◌+◌, ◌≤◌, Bool, ◌==◌, if◌then◌else◌, List, [], ◌++◌, flat_map, take, drop, codes, decimal}
+use Rattle.std.specs.Prelude.{ℕ, Bool, ◌==◌, if◌then◌else◌, List, [], ◌++◌, flat_map, codes, decimal}
 use Rattle.std.specs.Bool.{beq}
 use Rattle.cap_word.specs.Digits.{hex_digits}
 use Rattle.cap_word.specs.Fields.{address_of, perms_of, reserved_of, flag_of, otype_of, ie_of, e_of, b_of, t_of}
@@ -56,10 +56,3 @@ part_lines (Differs given recorded) = differs_line given recorded
 -- the lines of parts, one after another
 abbrev pub lines_of_parts : List Part → List ℕ
 lines_of_parts parts = flat_map part_lines parts
-
--- a text of at most so many bytes was written at an index of a buffer up to its end, and nothing behind that changed
-pub record IsWritten (most at : ℕ) (text old new : List ℕ) (end : ℕ) : Type 0 where
-  pub from : at ≤ end
-  pub fits : end ≤ at + most
-  pub written : take end new ≡ take at old ++ text
-  pub rest : (k : ℕ) → end ≤ k → drop k new ≡ drop k old

@@ -1,8 +1,9 @@
 //! The report of a first fault: the line, and what the machine held before it.
 
-ghost use Rattle.std.specs.Prelude.{◌≡◌, ℕ, List, ◌+◌, ◌≤◌, ◌++◌, length, take, drop};
+ghost use Rattle.std.specs.Prelude.{◌≡◌, ℕ, List, ◌+◌, ◌≤◌, length};
 ghost use Rattle.cap_machine.specs.Helds.{account_of, held_of};
 ghost use Rattle.cap_log.specs.Lines.{IsPlace};
+ghost use Rattle.cap_log.specs.Parts.{Writes};
 ghost use Rattle.cap_bounds.specs.Bounds.{length_of};
 ghost use Rattle.cap_judge.specs.FaultLines.{bytes_of};
 ghost use Rattle.cap_report.specs.FaultReports.{AreDetails, IsLineReport, count_lines, root_lines};
@@ -13,8 +14,8 @@ use cap_judge::FaultLine;
 use cap_log::{Line, Place, read_line};
 use cap_machine::{Machine, Refusal};
 use cap_texts::cap_lines::{put_cap_lines, put_operand_lines};
-use cap_texts::shown_bytes::put_line_line;
-use cap_texts::text_lines::{put_hex_line, put_number_line};
+use cap_texts::shown_bytes::put_shown_line;
+use cap_texts::text_lines::{put_decimal_line, put_hex_line};
 use cap_word::{Cap, Word, split};
 use tagmem::TaggedStore;
 
@@ -31,10 +32,10 @@ pub fn put_report<M: TaggedStore>(
     ensures fits { result ≤ length buffer.old }
     ensures report { (report : List ℕ)
         × IsLineReport (account_of (held_of M.contents machine.now)) (bytes_of line.now) refusal report
-        × (take result buffer.new ≡ take at buffer.old ++ report) }
+        × Writes at report buffer.old buffer.new result }
 {
     let text = line.as_slice();
-    let at = put_line_line(buffer, at, text);
+    let at = put_shown_line(buffer, at, text);
     put_details(machine, text, refusal, buffer, at)
 }
 
@@ -50,7 +51,7 @@ fn put_details<M: TaggedStore>(
     ensures fits { result ≤ at + 2560 }
     ensures written { (details : List ℕ)
         × AreDetails (account_of (held_of M.contents machine.now)) text.now refusal details
-        × (take result buffer.new ≡ take at buffer.old ++ details) }
+        × Writes at details buffer.old buffer.new result }
 {
     match refusal {
         Refusal::BadHeader | Refusal::LineTooLong | Refusal::BadLine | Refusal::BadMode => at,
@@ -73,16 +74,15 @@ fn put_details<M: TaggedStore>(
 }
 
 // Writes the counts of what was taken so far.
+#[tactic(auto, unfolding(crate::specs::FaultReports::count_lines))]
 fn put_count_lines<M: TaggedStore>(machine: &Machine<M>, buffer: &mut [u8], at: usize) -> usize
     requires room { at + 256 ≤ length buffer.old }
-    ensures from { at ≤ result }
+    ensures written { Writes at (count_lines (account_of (held_of M.contents machine.now))) buffer.old buffer.new result }
     ensures fits { result ≤ at + 128 }
-    ensures written { take result buffer.new ≡ take at buffer.old ++ count_lines (account_of (held_of M.contents machine.now)) }
-    ensures rest { (k : ℕ) → result ≤ k → drop k buffer.new ≡ drop k buffer.old }
 {
-    let at = put_number_line(buffer, at, b"roots", u64::from(machine.roots()));
-    let at = put_number_line(buffer, at, b"steps", u64::from(machine.steps()));
-    put_number_line(buffer, at, b"granules", u64::from(machine.granules()))
+    let at = put_decimal_line(buffer, at, b"roots", u64::from(machine.roots()));
+    let at = put_decimal_line(buffer, at, b"steps", u64::from(machine.steps()));
+    put_decimal_line(buffer, at, b"granules", u64::from(machine.granules()))
 }
 
 // Writes what is told of a root: what its place holds, or what its word stands for.
@@ -96,11 +96,8 @@ fn put_root_lines<M: TaggedStore>(
 ) -> usize
     requires place { IsPlace place }
     requires room { at + 512 ≤ length buffer.old }
-    ensures from { at ≤ result }
+    ensures written { Writes at (root_lines (account_of (held_of M.contents machine.now)) place word refusal) buffer.old buffer.new result }
     ensures fits { result ≤ at + 256 }
-    ensures written { take result buffer.new ≡ take at buffer.old
-        ++ root_lines (account_of (held_of M.contents machine.now)) place word refusal }
-    ensures rest { (k : ℕ) → result ≤ k → drop k buffer.new ≡ drop k buffer.old }
 {
     match refusal {
         Refusal::PlaceTaken => put_operand_lines(

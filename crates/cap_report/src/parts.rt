@@ -1,7 +1,8 @@
 //! The parts of the report on a step: each is a few lines that name a value.
 
-ghost use Rattle.std.specs.Prelude.{◌≡◌, ℕ, ◌+◌, ◌*◌, ◌≤◌, ◌++◌, length, take, drop};
-ghost use Rattle.cap_report.specs.Parts.{IsWritten, cleared_line, differs_line, lines_of_parts, part_lines};
+ghost use Rattle.std.specs.Prelude.{◌+◌, ◌*◌, ◌≤◌, length};
+ghost use Rattle.cap_log.specs.Parts.{Writes};
+ghost use Rattle.cap_report.specs.Parts.{cleared_line, differs_line, lines_of_parts, part_lines};
 ghost use Rattle.cap_report.specs.Parts.{where_different};
 
 use cap_log::Place;
@@ -45,7 +46,8 @@ pub enum Part {
 /// the buffer changes.
 pub fn put_parts(buffer: &mut [u8], at: usize, parts: &[Part]) -> usize
     requires { at + 256 * length parts.now ≤ length buffer.old }
-    ensures written { IsWritten (256 * length parts.now) at (lines_of_parts parts.now) buffer.old buffer.new result }
+    ensures written { Writes at (lines_of_parts parts.now) buffer.old buffer.new result }
+    ensures fits { result ≤ at + 256 * length parts.now }
 {
     let mut end = at;
     for index in 0..parts.len() {
@@ -57,7 +59,8 @@ pub fn put_parts(buffer: &mut [u8], at: usize, parts: &[Part]) -> usize
 // Writes the lines of a part.
 fn put_part(buffer: &mut [u8], at: usize, part: &Part) -> usize
     requires { at + 256 ≤ length buffer.old }
-    ensures { IsWritten 256 at (part_lines part.now) buffer.old buffer.new result }
+    ensures written { Writes at (part_lines part.now) buffer.old buffer.new result }
+    ensures fits { result ≤ at + 256 }
 {
     match *part {
         Part::Source(place, cap, root) => {
@@ -90,13 +93,11 @@ fn put_part(buffer: &mut [u8], at: usize, part: &Part) -> usize
 }
 
 // Writes the number and the name of a refusal.
-#[tactic(auto, using(cap_log::proofs::ElementLemmas::short_decimal))]
+#[tactic(auto, using(cap_log::proofs::ElementLemmas::short_decimal), unfolding(crate::specs::Parts::cleared_line))]
 fn put_cleared_line(buffer: &mut [u8], at: usize, refusal: Refusal) -> usize
     requires { at + 64 ≤ length buffer.old }
-    ensures from { at ≤ result }
+    ensures written { Writes at (cleared_line refusal) buffer.old buffer.new result }
     ensures fits { result ≤ at + 64 }
-    ensures written { take result buffer.new ≡ take at buffer.old ++ cleared_line refusal }
-    ensures rest { (k : ℕ) → result ≤ k → drop k buffer.new ≡ drop k buffer.old }
 {
     let at = put(buffer, at, b"cleared ");
     let at = put_decimal(buffer, at, u64::from(refusal.number()));
@@ -108,10 +109,8 @@ fn put_cleared_line(buffer: &mut [u8], at: usize, refusal: Refusal) -> usize
 // Writes the names of the fields in which two capabilities differ.
 fn put_differs_line(buffer: &mut [u8], at: usize, a: Cap, b: Cap) -> usize
     requires { at + 128 ≤ length buffer.old }
-    ensures from { at ≤ result }
+    ensures written { Writes at (differs_line a b) buffer.old buffer.new result }
     ensures fits { result ≤ at + 128 }
-    ensures written { take result buffer.new ≡ take at buffer.old ++ differs_line a b }
-    ensures rest { (k : ℕ) → result ≤ k → drop k buffer.new ≡ drop k buffer.old }
 {
     let (x, y) = (split(a.word), split(b.word));
     let at = put(buffer, at, b"differs");
@@ -132,10 +131,8 @@ fn put_differs_line(buffer: &mut [u8], at: usize, a: Cap, b: Cap) -> usize
 fn put_where(buffer: &mut [u8], at: usize, same: bool, name: &[u8]) -> usize
     requires short { length name.now ≤ 9 }
     requires room { at + 9 ≤ length buffer.old }
-    ensures from { at ≤ result }
+    ensures written { Writes at (where_different same name.now) buffer.old buffer.new result }
     ensures fits { result ≤ at + 9 }
-    ensures written { take result buffer.new ≡ take at buffer.old ++ where_different same name.now }
-    ensures rest { (k : ℕ) → result ≤ k → drop k buffer.new ≡ drop k buffer.old }
 {
     if same { at } else { put(buffer, at, name) }
 }

@@ -6,10 +6,11 @@ ghost use Rattle.cap_bounds.specs.Bounds.{base_of, top_of};
 ghost use Rattle.cap_bounds.specs.Range.{with_address};
 ghost use Rattle.cap_bounds.specs.Rounding.{rounded_base, rounded_top};
 ghost use Rattle.cap_log.specs.Lines.{IsStepInRange};
+ghost use Rattle.cap_log.specs.Parts.{Writes};
 ghost use Rattle.cap_machine.specs.Helds.{account_of, held_of};
 ghost use Rattle.cap_machine.specs.Shown.{IsGiven, IsRead, IsRequest, IsShown};
 ghost use Rattle.cap_machine.specs.declared.shown.Given.TheVariants as givens;
-ghost use Rattle.cap_report.specs.Parts.{IsWritten, lines_of_parts};
+ghost use Rattle.cap_report.specs.Parts.{lines_of_parts};
 ghost use Rattle.cap_report.specs.StepLines.{access_parts, asked_parts, given_lines};
 ghost use Rattle.cap_report.specs.StepLines.{operand_parts, range_part, request_parts, step_lines};
 ghost use Rattle.cap_report.specs.declared.parts.Part.TheVariants as parts;
@@ -34,7 +35,8 @@ pub fn put_step_lines<M: TaggedStore>(
 ) -> usize
     requires step { IsStepInRange step.now }
     requires room { at + 2560 ≤ length buffer.old }
-    ensures written { IsWritten 2560 at (step_lines (account_of (held_of M.contents machine.now)) step.now refusal) buffer.old buffer.new result }
+    ensures written { Writes at (step_lines (account_of (held_of M.contents machine.now)) step.now refusal) buffer.old buffer.new result }
+    ensures fits { result ≤ at + 2560 }
 {
     let shown = machine.shown(step);
     let at = put_asked(machine, &shown, buffer, at);
@@ -53,7 +55,8 @@ fn put_asked<M: TaggedStore>(
 ) -> usize
     requires in_range { IsShown shown.now }
     requires room { at + 1536 ≤ length buffer.old }
-    ensures { IsWritten 1536 at (lines_of_parts (asked_parts (account_of (held_of M.contents machine.now)) shown.now)) buffer.old buffer.new result }
+    ensures written { Writes at (lines_of_parts (asked_parts (account_of (held_of M.contents machine.now)) shown.now)) buffer.old buffer.new result }
+    ensures fits { result ≤ at + 1536 }
 {
     let at = put_operands(machine, shown.source, shown.request, buffer, at);
     put_access(machine, shown.access, buffer, at)
@@ -70,7 +73,8 @@ fn put_operands<M: TaggedStore>(
     requires source { IfSome source IsRead }
     requires request { IsRequest request }
     requires room { at + 768 ≤ length buffer.old }
-    ensures { IsWritten 768 at (lines_of_parts (operand_parts (account_of (held_of M.contents machine.now)) source request)) buffer.old buffer.new result }
+    ensures written { Writes at (lines_of_parts (operand_parts (account_of (held_of M.contents machine.now)) source request)) buffer.old buffer.new result }
+    ensures fits { result ≤ at + 768 }
 {
     match source {
         Some(place) => {
@@ -92,7 +96,8 @@ fn put_request<M: TaggedStore>(
 ) -> usize
     requires request { IsRequest request }
     requires room { at + 512 ≤ length buffer.old }
-    ensures { IsWritten 512 at (lines_of_parts (request_parts (account_of (held_of M.contents machine.now)) held.0 request)) buffer.old buffer.new result }
+    ensures written { Writes at (lines_of_parts (request_parts (account_of (held_of M.contents machine.now)) held.0 request)) buffer.old buffer.new result }
+    ensures fits { result ≤ at + 512 }
 {
     match request {
         Request::Length(length) => put_bounds(held.address(), length, buffer, at),
@@ -110,8 +115,9 @@ fn put_request<M: TaggedStore>(
 // Writes bounds that are asked for, and those to which they are rounded.
 fn put_bounds(base: u64, span: u64, buffer: &mut [u8], at: usize) -> usize
     requires { at + 512 ≤ length buffer.old }
-    ensures { IsWritten 512 at (lines_of_parts (parts.Request base (base + span)
+    ensures written { Writes at (lines_of_parts (parts.Request base (base + span)
         ∷ parts.Rounded (rounded_base base span) (rounded_top base span) ∷ [])) buffer.old buffer.new result }
+    ensures fits { result ≤ at + 512 }
 {
     let rounded = round(base, span);
     let top = u128::from(base) + u128::from(span);
@@ -150,7 +156,8 @@ fn put_access<M: TaggedStore>(
 ) -> usize
     requires authority { IfSome access (λ reached. reached.authority ≤ 31) }
     requires room { at + 768 ≤ length buffer.old }
-    ensures { IsWritten 768 at (lines_of_parts (access_parts (account_of (held_of M.contents machine.now)) access)) buffer.old buffer.new result }
+    ensures written { Writes at (lines_of_parts (access_parts (account_of (held_of M.contents machine.now)) access)) buffer.old buffer.new result }
+    ensures fits { result ≤ at + 768 }
 {
     match access {
         Some(access) => {
@@ -173,7 +180,8 @@ fn access_to(address: u64, size: u8) -> Part
 fn put_given(given: Given, buffer: &mut [u8], at: usize) -> usize
     requires given { IsGiven given }
     requires room { at + 1024 ≤ length buffer.old }
-    ensures { IsWritten 1024 at (given_lines given) buffer.old buffer.new result }
+    ensures written { Writes at (given_lines given) buffer.old buffer.new result }
+    ensures fits { result ≤ at + 1024 }
 {
     match given {
         Given::Capability {
@@ -206,7 +214,8 @@ fn put_compared(
     recorded: Cap,
 ) -> usize
     requires { at + 1024 ≤ length buffer.old }
-    ensures { IsWritten 1024 at (given_lines (givens.Capability place given fault recorded)) buffer.old buffer.new result }
+    ensures written { Writes at (given_lines (givens.Capability place given fault recorded)) buffer.old buffer.new result }
+    ensures fits { result ≤ at + 1024 }
 {
     let gives = Part::Gives(place, given);
     let differs = Part::Differs(given, recorded);

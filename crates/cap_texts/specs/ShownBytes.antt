@@ -16,5 +16,5 @@ abbrev pub shown : List ℕ → List ℕ
 shown bytes = flat_map shown_byte bytes
 
 -- a line of a log, shown behind its name
-unfoldable pub line_line : List ℕ → List ℕ
-line_line text = text_line (codes "line") (shown text)
+unfoldable pub shown_line : List ℕ → List ℕ
+shown_line text = text_line (codes "line") (shown text)

@@ -1,9 +1,9 @@
 //! The lines that show a capability of a report: its place, tag and word, what these stand for, and from
 //! which root it comes.
 
-ghost use Rattle.std.specs.Prelude.{◌≡◌, ℕ, ◌+◌, ◌≤◌, ◌++◌, codes, length, take, drop};
-ghost use Rattle.cap_word.specs.Digits.{hex_digits};
-ghost use Rattle.cap_log.specs.Lines.{place_spelling, tag_spelling};
+ghost use Rattle.std.specs.Prelude.{◌+◌, ◌≤◌, length};
+ghost use Rattle.cap_log.specs.Lines.{tag_spelling};
+ghost use Rattle.cap_log.specs.Parts.{Writes};
 ghost use Rattle.cap_texts.specs.CapLines.{bounds_line, cap_lines, cap_line, descent_line, descent_lines};
 ghost use Rattle.cap_texts.specs.CapLines.{operand_lines, perms_line, type_line};
 ghost use Rattle.cap_texts.specs.ExplainLines.{type_name};
@@ -11,13 +11,14 @@ ghost use Rattle.cap_texts.specs.ExplainLines.{type_name};
 use crate::explain_lines::type_name;
 use cap_bounds::{Interval, bounds};
 use cap_log::Place;
-use cap_log::buffers::{put, put_decimal, put_hex};
+use cap_log::buffers::{put, put_hex, put_place};
 use cap_ops::perm_view;
 use cap_word::{Cap, split};
 
 /// Writes the lines of an operand that has this name in a report, and answers the index behind them: the
 /// four of the capability that its place holds, and the place of the root that this descends from, where
 /// there is one. Nothing else of the buffer changes.
+#[tactic(auto, unfolding(crate::specs::CapLines::operand_lines))]
 pub fn put_operand_lines(
     buffer: &mut [u8],
     at: usize,
@@ -28,10 +29,8 @@ pub fn put_operand_lines(
 ) -> usize
     requires name { length name.now ≤ 9 }
     requires room { at + 256 ≤ length buffer.old }
-    ensures from { at ≤ result }
+    ensures written { Writes at (operand_lines name.now place cap root) buffer.old buffer.new result }
     ensures fits { result ≤ at + 256 }
-    ensures written { take result buffer.new ≡ take at buffer.old ++ operand_lines name.now place cap root }
-    ensures rest { (k : ℕ) → result ≤ k → drop k buffer.new ≡ drop k buffer.old }
 {
     let at = put_cap_lines(buffer, at, name, place, cap);
     put_descent_lines(buffer, at, name, root)
@@ -41,10 +40,8 @@ pub fn put_operand_lines(
 fn put_descent_lines(buffer: &mut [u8], at: usize, name: &[u8], root: Option<Place>) -> usize
     requires name { length name.now ≤ 9 }
     requires room { at + 64 ≤ length buffer.old }
-    ensures from { at ≤ result }
+    ensures written { Writes at (descent_lines name.now root) buffer.old buffer.new result }
     ensures fits { result ≤ at + 64 }
-    ensures written { take result buffer.new ≡ take at buffer.old ++ descent_lines name.now root }
-    ensures rest { (k : ℕ) → result ≤ k → drop k buffer.new ≡ drop k buffer.old }
 {
     match root {
         Some(root) => put_descent_line(buffer, at, name, root),
@@ -53,18 +50,16 @@ fn put_descent_lines(buffer: &mut [u8], at: usize, name: &[u8], root: Option<Pla
 }
 
 // Writes the place of a root.
-#[tactic(auto, using(cap_log::proofs::ElementLemmas::short_decimal))]
+#[tactic(auto, unfolding(crate::specs::CapLines::descent_line))]
 fn put_descent_line(buffer: &mut [u8], at: usize, name: &[u8], root: Place) -> usize
     requires name { length name.now ≤ 9 }
     requires room { at + 64 ≤ length buffer.old }
-    ensures from { at ≤ result }
+    ensures written { Writes at (descent_line name.now root) buffer.old buffer.new result }
     ensures fits { result ≤ at + 64 }
-    ensures written { take result buffer.new ≡ take at buffer.old ++ descent_line name.now root }
-    ensures rest { (k : ℕ) → result ≤ k → drop k buffer.new ≡ drop k buffer.old }
 {
     let at = put(buffer, at, name);
     let at = put(buffer, at, b" origin ");
-    let at = put_shown_place(buffer, at, root);
+    let at = put_place(buffer, at, root);
     put(buffer, at, b"\n")
 }
 
@@ -73,10 +68,8 @@ fn put_descent_line(buffer: &mut [u8], at: usize, name: &[u8], root: Place) -> u
 pub fn put_cap_lines(buffer: &mut [u8], at: usize, name: &[u8], place: Place, cap: Cap) -> usize
     requires name { length name.now ≤ 9 }
     requires room { at + 192 ≤ length buffer.old }
-    ensures from { at ≤ result }
+    ensures written { Writes at (cap_lines name.now place cap) buffer.old buffer.new result }
     ensures fits { result ≤ at + 192 }
-    ensures written { take result buffer.new ≡ take at buffer.old ++ cap_lines name.now place cap }
-    ensures rest { (k : ℕ) → result ≤ k → drop k buffer.new ≡ drop k buffer.old }
 {
     let Interval { base, top } = bounds(cap.word);
     let at = put_cap_line(buffer, at, name, place, cap);
@@ -86,18 +79,16 @@ pub fn put_cap_lines(buffer: &mut [u8], at: usize, name: &[u8], place: Place, ca
 }
 
 // Writes the place, the tag and the word.
-#[tactic(auto, using(cap_log::proofs::ElementLemmas::short_decimal))]
+#[tactic(auto, unfolding(crate::specs::CapLines::cap_line))]
 fn put_cap_line(buffer: &mut [u8], at: usize, name: &[u8], place: Place, cap: Cap) -> usize
     requires name { length name.now ≤ 9 }
     requires room { at + 96 ≤ length buffer.old }
-    ensures from { at ≤ result }
+    ensures written { Writes at (cap_line name.now place cap) buffer.old buffer.new result }
     ensures fits { result ≤ at + 63 }
-    ensures written { take result buffer.new ≡ take at buffer.old ++ cap_line name.now place cap }
-    ensures rest { (k : ℕ) → result ≤ k → drop k buffer.new ≡ drop k buffer.old }
 {
     let at = put(buffer, at, name);
     let at = put(buffer, at, b" ");
-    let at = put_shown_place(buffer, at, place);
+    let at = put_place(buffer, at, place);
     let at = put(buffer, at, b" ");
     let at = put_tag(buffer, at, cap.tag);
     let at = put(buffer, at, b" ");
@@ -108,46 +99,19 @@ fn put_cap_line(buffer: &mut [u8], at: usize, name: &[u8], place: Place, cap: Ca
 // Writes a tag.
 fn put_tag(buffer: &mut [u8], at: usize, tag: bool) -> usize
     requires { at + 1 ≤ length buffer.old }
-    ensures end { result ≡ at + 1 }
-    ensures written { take result buffer.new ≡ take at buffer.old ++ tag_spelling tag }
-    ensures rest { (k : ℕ) → result ≤ k → drop k buffer.new ≡ drop k buffer.old }
+    ensures written { Writes at (tag_spelling tag) buffer.old buffer.new result }
+    ensures fits { result ≤ at + 1 }
 {
-    if tag {
-        put(buffer, at, b"1")
-    } else {
-        put(buffer, at, b"0")
-    }
-}
-
-// Writes a place, c0 too.
-#[tactic(auto, using(cap_log::proofs::ElementLemmas::short_decimal))]
-fn put_shown_place(buffer: &mut [u8], at: usize, place: Place) -> usize
-    requires room { at + 21 ≤ length buffer.old }
-    ensures end { result ≡ at + length (place_spelling place) }
-    ensures fits { result ≤ at + 17 }
-    ensures written { take result buffer.new ≡ take at buffer.old ++ place_spelling place }
-    ensures rest { (k : ℕ) → result ≤ k → drop k buffer.new ≡ drop k buffer.old }
-{
-    match place {
-        Place::Register(number) => {
-            let at = put(buffer, at, b"c");
-            put_decimal(buffer, at, u64::from(number))
-        }
-        Place::Granule(number) => {
-            let at = put(buffer, at, b"@");
-            put_hex(buffer, at, 16, 16 * u128::from(number))
-        }
-    }
+    put(buffer, at, if tag { b"1" } else { b"0" })
 }
 
 // Writes the permissions.
+#[tactic(auto, unfolding(crate::specs::CapLines::perms_line))]
 fn put_perms_line(buffer: &mut [u8], at: usize, name: &[u8], view: u32) -> usize
     requires name { length name.now ≤ 9 }
     requires room { at + 25 ≤ length buffer.old }
-    ensures from { at ≤ result }
+    ensures written { Writes at (perms_line name.now view) buffer.old buffer.new result }
     ensures fits { result ≤ at + 25 }
-    ensures written { take result buffer.new ≡ take at buffer.old ++ perms_line name.now view }
-    ensures rest { (k : ℕ) → result ≤ k → drop k buffer.new ≡ drop k buffer.old }
 {
     let at = put(buffer, at, name);
     let at = put(buffer, at, b" perms ");
@@ -156,13 +120,12 @@ fn put_perms_line(buffer: &mut [u8], at: usize, name: &[u8], view: u32) -> usize
 }
 
 // Writes the object type, and what it stands for.
+#[tactic(auto, unfolding(crate::specs::CapLines::type_line))]
 fn put_type_line(buffer: &mut [u8], at: usize, name: &[u8], otype: u32) -> usize
     requires name { length name.now ≤ 9 }
     requires room { at + 31 ≤ length buffer.old }
-    ensures from { at ≤ result }
+    ensures written { Writes at (type_line name.now otype) buffer.old buffer.new result }
     ensures fits { result ≤ at + 31 }
-    ensures written { take result buffer.new ≡ take at buffer.old ++ type_line name.now otype }
-    ensures rest { (k : ℕ) → result ≤ k → drop k buffer.new ≡ drop k buffer.old }
 {
     let at = put(buffer, at, name);
     let at = put(buffer, at, b" otype ");
@@ -174,6 +137,7 @@ fn put_type_line(buffer: &mut [u8], at: usize, name: &[u8], otype: u32) -> usize
 
 /// Writes a line of two bounds behind a name and a word, and answers the index behind it. Nothing else of
 /// the buffer changes.
+#[tactic(auto, unfolding(crate::specs::CapLines::bounds_line))]
 pub fn put_bounds_line(
     buffer: &mut [u8],
     at: usize,
@@ -184,10 +148,8 @@ pub fn put_bounds_line(
 ) -> usize
     requires names { length name.now + length word.now ≤ 17 }
     requires room { at + 52 ≤ length buffer.old }
-    ensures from { at ≤ result }
+    ensures written { Writes at (bounds_line name.now word.now base top) buffer.old buffer.new result }
     ensures fits { result ≤ at + 52 }
-    ensures written { take result buffer.new ≡ take at buffer.old ++ bounds_line name.now word.now base top }
-    ensures rest { (k : ℕ) → result ≤ k → drop k buffer.new ≡ drop k buffer.old }
 {
     let at = put(buffer, at, name);
     let at = put(buffer, at, word);

@@ -1,8 +1,9 @@
 //! The text that explains a capability.
 
-ghost use Rattle.std.specs.Prelude.{◌≡◌, ℕ, ◌+◌, ◌<◌, ◌≤◌, ◌^◌, ◌++◌, codes, length, take, drop};
+ghost use Rattle.std.specs.Prelude.{◌≡◌, ◌+◌, ◌≤◌, ◌++◌, codes, length, take, drop};
 ghost use Rattle.cap_word.specs.Digits.{hex_digits};
 ghost use Rattle.cap_word.specs.Memory.{memory_of};
+ghost use Rattle.cap_log.specs.Parts.{Writes};
 ghost use Rattle.cap_texts.specs.ExplainLines.{bounds_lines, explain_lines, mantissa_lines, permission_lines, type_name, word_lines};
 ghost use Rattle.cap_texts.specs.TextLines.{bytes_text, text_line};
 
@@ -33,44 +34,41 @@ pub fn explain_text(word: Word, tag: bool, buffer: &mut [u8; 512]) -> usize
 }
 
 // Writes the word, its bytes in memory and the tag.
+#[tactic(auto, unfolding(crate::specs::ExplainLines::word_lines))]
 fn put_word_lines(buffer: &mut [u8], at: usize, word: Word, tag: bool) -> usize
     requires { at + 128 ≤ length buffer.old }
-    ensures from { at ≤ result }
+    ensures written { Writes at (word_lines word.0 tag) buffer.old buffer.new result }
     ensures fits { result ≤ at + 128 }
-    ensures written { take result buffer.new ≡ take at buffer.old ++ word_lines word.0 tag }
-    ensures rest { (k : ℕ) → result ≤ k → drop k buffer.new ≡ drop k buffer.old }
 {
     let at = put_line(buffer, at, b"word", &word_text(word));
     let at = put_line(buffer, at, b"memory", &memory_text(word));
-    put_decimal_line(buffer, at, b"tag", u8::from(tag))
+    put_decimal_line(buffer, at, b"tag", u64::from(tag))
 }
 
 // Writes the permissions, the object type, the flag and the reserved bits.
+#[tactic(auto, unfolding(crate::specs::ExplainLines::permission_lines))]
 fn put_permission_lines(buffer: &mut [u8], at: usize, word: Word) -> usize
     requires { at + 128 ≤ length buffer.old }
-    ensures from { at ≤ result }
+    ensures written { Writes at (permission_lines word.0) buffer.old buffer.new result }
     ensures fits { result ≤ at + 128 }
-    ensures written { take result buffer.new ≡ take at buffer.old ++ permission_lines word.0 }
-    ensures rest { (k : ℕ) → result ≤ k → drop k buffer.new ≡ drop k buffer.old }
 {
     let fields = split(word);
     let at = put_hex_line(buffer, at, b"perms", 8, u128::from(perm_view(word)));
     let at = put_type_line(buffer, at, fields.otype);
-    let at = put_decimal_line(buffer, at, b"flag", u8::from(fields.flag));
-    put_decimal_line(buffer, at, b"reserved", fields.reserved)
+    let at = put_decimal_line(buffer, at, b"flag", u64::from(fields.flag));
+    put_decimal_line(buffer, at, b"reserved", u64::from(fields.reserved))
 }
 
 // Writes the exponent bit, the exponent and the mantissas.
+#[tactic(auto, unfolding(crate::specs::ExplainLines::mantissa_lines))]
 fn put_mantissa_lines(buffer: &mut [u8], at: usize, word: Word) -> usize
     requires { at + 128 ≤ length buffer.old }
-    ensures from { at ≤ result }
+    ensures written { Writes at (mantissa_lines word.0) buffer.old buffer.new result }
     ensures fits { result ≤ at + 128 }
-    ensures written { take result buffer.new ≡ take at buffer.old ++ mantissa_lines word.0 }
-    ensures rest { (k : ℕ) → result ≤ k → drop k buffer.new ≡ drop k buffer.old }
 {
     let fields = split(word);
-    let at = put_decimal_line(buffer, at, b"ie", u8::from(fields.ie));
-    let at = put_decimal_line(buffer, at, b"e", fields.e);
+    let at = put_decimal_line(buffer, at, b"ie", u64::from(fields.ie));
+    let at = put_decimal_line(buffer, at, b"e", u64::from(fields.e));
     let at = put_hex_line(buffer, at, b"b", 4, u128::from(fields.b));
     put_hex_line(buffer, at, b"t", 4, u128::from(mantissa(&fields)))
 }
@@ -78,10 +76,8 @@ fn put_mantissa_lines(buffer: &mut [u8], at: usize, word: Word) -> usize
 // Writes the address, the bounds and whether they are sound.
 fn put_bounds_lines(buffer: &mut [u8], at: usize, word: Word) -> usize
     requires { at + 128 ≤ length buffer.old }
-    ensures from { at ≤ result }
+    ensures written { Writes at (bounds_lines word.0) buffer.old buffer.new result }
     ensures fits { result ≤ at + 128 }
-    ensures written { take result buffer.new ≡ take at buffer.old ++ bounds_lines word.0 }
-    ensures rest { (k : ℕ) → result ≤ k → drop k buffer.new ≡ drop k buffer.old }
 {
     let Interval { base, top } = bounds(word);
     let at = put_hex_line(buffer, at, b"address", 16, u128::from(split(word).address));
@@ -91,13 +87,11 @@ fn put_bounds_lines(buffer: &mut [u8], at: usize, word: Word) -> usize
 }
 
 // Writes an object type, and what it stands for.
+#[tactic(auto, unfolding(crate::specs::TextLines::text_line))]
 fn put_type_line(buffer: &mut [u8], at: usize, otype: u32) -> usize
     requires { at + 21 ≤ length buffer.old }
-    ensures from { at ≤ result }
+    ensures written { Writes at (text_line (codes "otype") (hex_digits 5 otype ++ codes " " ++ type_name otype)) buffer.old buffer.new result }
     ensures fits { result ≤ at + 21 }
-    ensures written { take result buffer.new ≡ take at buffer.old
-        ++ text_line (codes "otype") (hex_digits 5 otype ++ codes " " ++ type_name otype) }
-    ensures rest { (k : ℕ) → result ≤ k → drop k buffer.new ≡ drop k buffer.old }
 {
     let at = put(buffer, at, b"otype ");
     let at = put_hex(buffer, at, 5, u128::from(otype));

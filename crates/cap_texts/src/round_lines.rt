@@ -16,7 +16,7 @@ pub fn round_text(rounded: &Rounded, buffer: &mut [u8; 128]) -> usize
 {
     let at = put_hex_line(buffer, 0, b"base", 16, u128::from(rounded.base));
     let at = put_hex_line(buffer, at, b"top", 17, rounded.top);
-    let at = put_decimal_line(buffer, at, b"ie", u8::from(rounded.ie));
-    let at = put_decimal_line(buffer, at, b"e", rounded.e);
+    let at = put_decimal_line(buffer, at, b"ie", u64::from(rounded.ie));
+    let at = put_decimal_line(buffer, at, b"e", u64::from(rounded.e));
     put_answer_line(buffer, at, b"exact", rounded.exact)
 }

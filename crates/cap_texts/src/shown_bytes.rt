@@ -1,18 +1,18 @@
 //! Bytes as they are shown.
 
-ghost use Rattle.std.specs.Prelude.{◌≡◌, ℕ, ◌*◌, ◌+◌, ◌≤◌, ◌++◌, length, take, drop};
-ghost use Rattle.cap_texts.specs.ShownBytes.{line_line, shown, shown_byte};
+ghost use Rattle.std.specs.Prelude.{◌*◌, ◌+◌, ◌≤◌, length};
+ghost use Rattle.cap_log.specs.Parts.{Writes};
+ghost use Rattle.cap_texts.specs.ShownBytes.{shown, shown_byte, shown_line};
 
 use cap_log::buffers::{put, put_hex};
 
 /// Writes a line of a log so that it can be shown, behind its name, and answers the index behind it. Nothing
 /// else of the buffer changes.
-pub fn put_line_line(buffer: &mut [u8], at: usize, text: &[u8]) -> usize
+#[tactic(auto, unfolding(crate::specs::ShownBytes::shown_line, crate::specs::TextLines::text_line))]
+pub fn put_shown_line(buffer: &mut [u8], at: usize, text: &[u8]) -> usize
     requires { at + 4 * length text.now + 6 ≤ length buffer.old }
-    ensures from { at ≤ result }
+    ensures written { Writes at (shown_line text.now) buffer.old buffer.new result }
     ensures fits { result ≤ at + 4 * length text.now + 6 }
-    ensures written { take result buffer.new ≡ take at buffer.old ++ line_line text.now }
-    ensures rest { (k : ℕ) → result ≤ k → drop k buffer.new ≡ drop k buffer.old }
 {
     let at = put(buffer, at, b"line");
     let at = put(buffer, at, b" ");
@@ -25,10 +25,8 @@ pub fn put_line_line(buffer: &mut [u8], at: usize, text: &[u8]) -> usize
 /// Nothing else of the buffer changes.
 pub fn put_shown(buffer: &mut [u8], at: usize, bytes: &[u8]) -> usize
     requires { at + 4 * length bytes.now ≤ length buffer.old }
-    ensures from { at ≤ result }
+    ensures written { Writes at (shown bytes.now) buffer.old buffer.new result }
     ensures fits { result ≤ at + 4 * length bytes.now }
-    ensures written { take result buffer.new ≡ take at buffer.old ++ shown bytes.now }
-    ensures rest { (k : ℕ) → result ≤ k → drop k buffer.new ≡ drop k buffer.old }
 {
     let mut end = at;
     for index in 0..bytes.len() {
@@ -40,10 +38,8 @@ pub fn put_shown(buffer: &mut [u8], at: usize, bytes: &[u8]) -> usize
 // Writes one byte so.
 fn put_shown_byte(buffer: &mut [u8], at: usize, byte: u8) -> usize
     requires { at + 4 ≤ length buffer.old }
-    ensures from { at ≤ result }
+    ensures written { Writes at (shown_byte byte) buffer.old buffer.new result }
     ensures fits { result ≤ at + 4 }
-    ensures written { take result buffer.new ≡ take at buffer.old ++ shown_byte byte }
-    ensures rest { (k : ℕ) → result ≤ k → drop k buffer.new ≡ drop k buffer.old }
 {
     if byte >= 32 && byte <= 126 && byte != b'\\' {
         put(buffer, at, &[byte])

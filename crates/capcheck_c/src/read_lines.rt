@@ -45,10 +45,8 @@ fn line_read(line: Line, count: usize) -> LineRead
 {
     match line {
         Line::Version(version) => LineRead::numbered(VERSION, u64::from(version), count),
-        Line::Mode(mode) => match mode {
-            Mode::Strict => LineRead::numbered(MODE, 0, count),
-            Mode::Clear => LineRead::numbered(MODE, 1, count),
-        },
+        Line::Mode(Mode::Strict) => LineRead::numbered(MODE, 0, count),
+        Line::Mode(Mode::Clear) => LineRead::numbered(MODE, 1, count),
         Line::Root(place, word) => root_read(place, word, count),
         Line::Step(step) => step_read(step, count),
         Line::End(steps) => LineRead::numbered(END, u64::from(steps), count),

@@ -153,14 +153,9 @@ impl LineRead {
     {
         LineRead {
             cap: given(cap),
-            number: 0,
-            length: count,
-            offset: 0,
-            kind,
             target,
             source,
-            authority: 0,
-            size: 0,
+            ..LineRead::numbered(kind, 0, count)
         }
     }
 

@@ -1,7 +1,8 @@
-use Rattle.std.proofs.Common.{[], inl, inr, refl, sym, ap, subst, append-nil, arith}
+use Rattle.std.proofs.Common.{[], inl, inr, refl, sym, ap, subst, arith}
 use Rattle.cap_log.specs.declared.lines.Line.{Line}
 use Rattle.cap_log.specs.declared.lines.Line.TheVariants as lines
 use Rattle.cap_log.specs.Lines.{Spells}
+use Rattle.cap_log.specs.Written.{Writes-nothing}
 use Rattle.cap_machine.specs.Helds.{account_of, held_of}
 use Rattle.cap_report.specs.FaultReports.{known_lines, root_lines}
 use Rattle.cap_report.specs.StepLines.{step_lines}
@@ -19,7 +20,7 @@ returns-in-None g c =
             c.in_default.not-LineTooLong c.in_default.not-BadLine c.in_default.not-BadMode
             c.in_default.not-Misplaced c.in_default.not-Truncated
             c.in_default.not-WrongCount c.in_default.not-LimitPassed (inr (λ line by. c.in-None.ensures.none line by.0, refl)),
-        sym (append-nil _),
+        Writes-nothing,
       );
     }
 
@@ -36,7 +37,7 @@ returns-in-Version g c =
             c.in_default.not-WrongCount c.in_default.not-LimitPassed (nothing_told account c.args.text.now
             c.in-Some.line c.args.refusal _ refl
             c.in-Some.ensures.some (ap (λ (l : Line). known_lines account l c.args.refusal) (sym c.in-Version.is))),
-        sym (append-nil _),
+        Writes-nothing,
       );
     }
 
@@ -53,7 +54,7 @@ returns-in-Mode g c =
             c.in_default.not-WrongCount c.in_default.not-LimitPassed (nothing_told account c.args.text.now
             c.in-Some.line c.args.refusal _ refl
             c.in-Some.ensures.some (ap (λ (l : Line). known_lines account l c.args.refusal) (sym c.in-Mode.is))),
-        sym (append-nil _),
+        Writes-nothing,
       );
     }
 
@@ -70,7 +71,7 @@ returns-in-End g c =
             c.in_default.not-WrongCount c.in_default.not-LimitPassed (nothing_told account c.args.text.now
             c.in-Some.line c.args.refusal _ refl
             c.in-Some.ensures.some (ap (λ (l : Line). known_lines account l c.args.refusal) (sym c.in-End.is))),
-        sym (append-nil _),
+        Writes-nothing,
       );
     }
 
@@ -100,5 +101,5 @@ returns-in-Step-clause-written g c =
             (spells, step_form account.rules c.in-Step.step),
             refl,
           )),
-      c.put_step_lines.ensures.written.written,
+      c.put_step_lines.ensures.written,
     )

@@ -1,29 +1,20 @@
-use Rattle.std.proofs.Common.{◌==◌, take, codes}
-use Rattle.std.specs.Bool.{beq}
-use Rattle.cap_word.specs.Fields.{address_of, perms_of, reserved_of, flag_of, otype_of, ie_of, e_of, b_of, t_of}
-use Rattle.cap_texts.proofs.LineLemmas.{twelve_after}
-use Rattle.cap_report.specs.Parts.{differs_line, where_different}
+use Rattle.cap_log.specs.Written.{◌⨾◌}
+use Rattle.cap_report.specs.Parts.{differs_line}
 use Rattle.cap_report.proofs.parts.put_differs_line.Goals as goal
 
 pub returns-clause-written : goal.returns-clause-written
 unfolding differs_line
 returns-clause-written c =
-    let a = c.args.a in
-    let b = c.args.b in
-    let v = a.word.0 in
-    let w = b.word.0 in
-    let all = twelve_after (take c.args.at c.args.buffer.now) (codes "differs")
-    (where_different (beq a.tag b.tag) (codes " tag"))
-    (where_different (perms_of v == perms_of w) (codes " perms"))
-    (where_different (reserved_of v == reserved_of w) (codes " reserved"))
-    (where_different (beq (flag_of v) (flag_of w)) (codes " flag"))
-    (where_different (otype_of v == otype_of w) (codes " otype"))
-    (where_different (beq (ie_of v) (ie_of w)) (codes " ie"))
-    (where_different (e_of v == e_of w) (codes " e"))
-    (where_different (b_of v == b_of w) (codes " b"))
-    (where_different (t_of v == t_of w) (codes " t"))
-    (where_different (address_of v == address_of w) (codes " address"))
-    (codes "\n") in
-    let first = c.put-at.ensures.written.written in
-    let last = c.put.ensures.written.written in
-    cc
+    let x = c.split-x.ensures in
+    let y = c.split-y.ensures in
+    let perms = rw (x.perms, y.perms) at c.put_where-at-2.ensures.written in
+    let reserved = rw (x.reserved, y.reserved) at c.put_where-at-3.ensures.written in
+    let flag = rw (x.flag, y.flag) at c.put_where-at-4.ensures.written in
+    let otype = rw (x.otype, y.otype) at c.put_where-at-5.ensures.written in
+    let ie = rw (x.ie, y.ie) at c.put_where-at-6.ensures.written in
+    let e = rw (x.e, y.e) at c.put_where-at-7.ensures.written in
+    let b = rw (x.b, y.b) at c.put_where-at-8.ensures.written in
+    let t = rw (x.t, y.t) at c.put_where-at-9.ensures.written in
+    let address = rw (x.address, y.address) at c.put_where-at-10.ensures.written in
+    c.put-at.ensures.written ⨾ c.put_where-at.ensures.written ⨾ perms ⨾ reserved ⨾ flag ⨾ otype ⨾ ie ⨾ e ⨾ b ⨾ t ⨾ address
+    ⨾ c.put.ensures.written

@@ -1,6 +1,6 @@
 use Rattle.std.proofs.Common.{◌*◌, arith}
 use Rattle.cap_word.proofs.DigitLemmas.{length-hex_digits}
-use Rattle.cap_log.proofs.WriteLemmas.{Writes-then, length-Writes}
+use Rattle.cap_log.proofs.WriteLemmas.{◌⨾◌, length-Writes}
 use Rattle.cap_log.proofs.parts.registers.PlacePart.write.Goals as goal
 
 pub write_number-requires : goal.write_number-requires
@@ -12,5 +12,4 @@ write_number-requires c =
     omega arith
 
 pub returns-in-Granule : goal.returns-in-Granule
-returns-in-Granule c =
-    record { written = rw c.in-Granule.is (Writes-then _ _ _ _ _ _ _ _ c.put-next.ensures.written c.write_number.ensures.written) }
+returns-in-Granule c = record { written = rw c.in-Granule.is (c.put-next.ensures.written ⨾ c.write_number.ensures.written) }

@@ -1,5 +1,5 @@
 use Rattle.cap_log.proofs.SizedLemmas.{sized_room}
-use Rattle.cap_log.proofs.WriteLemmas.{Writes-three}
+use Rattle.cap_log.proofs.WriteLemmas.{◌⨾◌}
 use Rattle.cap_log.proofs.parts.sized.LoadedPart.write.Goals as goal
 
 pub put_value-requires-clause-room : goal.put_value-requires-clause-room
@@ -10,4 +10,4 @@ put_value-requires-clause-room c =
 pub returns : goal.returns
 returns c =
     let size = rw c.from.ensures at c.put_few-next.ensures in
-    record { written = Writes-three _ _ _ _ _ _ _ _ _ _ _ size c.put-digits.ensures.written c.put_value.ensures }
+    record { written = size ⨾ (c.put-digits.ensures.written ⨾ c.put_value.ensures) }

@@ -1,6 +1,0 @@
-use Rattle.std.proofs.Common.{take}
-use Rattle.cap_texts.proofs.LineLemmas.{line_after}
-use Rattle.cap_texts.proofs.text_lines.put_line.Goals as goal
-
-pub returns-clause-written : goal.returns-clause-written
-returns-clause-written c = let line = line_after (take c.args.at c.args.buffer.now) c.args.name.now c.args.value.now in cc
