@@ -1,5 +1,5 @@
 -- What lines lead a machine to, step by step and root by root.
-use Rattle.std.proofs.Common.{◌≡◌, ℕ, true, List, [], ◌∷◌, ◌++◌, map, refl, sym, ap, subst, ◌∙◌, arith, None, append_assoc, append-nil}
+use Rattle.std.proofs.Common.{◌≡◌, ℕ, true, List, [], ◌∷◌, ◌++◌, map, refl, sym, ap, subst, ◌∙◌, arith, None, Some, Ok, Err, Result, append_assoc, append-nil}
 use Rattle.std.proofs.lemmas.List.{map-append}
 use Rattle.cap_log.specs.declared.lines.Line.TheVariants.{Step}
 use Rattle.cap_log.specs.declared.kinds.Step as steps_module
@@ -12,10 +12,10 @@ use Rattle.cap_machine.specs.declared.rules.Rules.{Rules}
 use Rattle.cap_machine.specs.declared.rules.Rules.TheVariants.{One}
 use Rattle.cap_machine.specs.States.{DeclaredRoot}
 use Rattle.cap_machine.specs.Accounts.{Account, no_account, with_step, step_tests}
-use Rattle.cap_machine.specs.Helds.{Held, Makes, EndsStep, account_of}
+use Rattle.cap_machine.specs.Helds.{Held, AnswersStep, Makes, EndsStep, account_of}
 use Rattle.cap_machine.proofs.AccountLemmas.{account_after-grows, after_roots}
 use Rattle.cap_judge.specs.Logs.{has_form, RunsBy, account_after, text_of}
-use Rattle.cap_judge.specs.Readings.{Reaches, EndsFor, EndsStepAt, TakesStep, TakesSteps}
+use Rattle.cap_judge.specs.Readings.{Reaches, EndsFor, EndsStepAt, TakesAll, TakesStep, TakesSteps}
 use Rattle.cap_judge.proofs.LogLemmas.{after_steps-push, step_runs}
 use Rattle.std.proofs.lemmas.Grind.{flat_map-append}
 
@@ -74,6 +74,12 @@ step_stopped old new bytes rest step end begins ends = (step, begins, step_ended
 pub step_kept : (old new : Held) (step : steps_module.Step) (end : StepEnd) → EndsStep old step end new → new ≡ old
 step_kept old new step (Refused refusal) stopped = stopped.1
 step_kept old new step NoMemory stopped = stopped.2
+
+-- a step that is all of some bytes
+pub step_answered : (old new : Held) (bytes : List ℕ) (step : steps_module.Step) (result : Result (Unit {0}) StepEnd)
+    → Begins IsInRange spelling 10 bytes (Step step) [] → AnswersStep old step result new → TakesAll old bytes (Some result) new
+step_answered old new bytes step (Ok done) begins makes = step_taken old new bytes [] step begins makes
+step_answered old new bytes step (Err end) begins ends = (step_stopped old new bytes [] step end begins ends, step_kept old new step end ends)
 
 -- no step, and one step more
 pub steps_none : (held : Held) → TakesSteps held [] held

@@ -1,5 +1,5 @@
 -- What a judge has read of the bytes that it was handed (this profile's own, as are all below).
-use Rattle.std.specs.Prelude.{◌≡◌, ◌≢◌, ℕ, ◌+◌, Bool, true, false, IsTrue, List, [], ◌∷◌, ◌++◌, length, map, Option, None, Some, Result, Ok, Err}
+use Rattle.std.specs.Prelude.{◌≡◌, ◌≢◌, ℕ, ◌+◌, true, false, IsTrue, List, [], ◌∷◌, ◌++◌, length, map, Option, None, Some, Result, Ok, Err}
 use Rattle.std.specs.Borrow.{Bor}
 use Rattle.cap_log.specs.Front.{IsCut, IsLine, IsTooLong}
 use Rattle.cap_log.specs.Lines.{IsInRange, spelling}
@@ -163,12 +163,17 @@ abbrev pub EndsStepAt : Held → List ℕ → List ℕ → StepEnd → Type 0
 EndsStepAt held bytes rest end =
     (step : Step) × Begins IsInRange spelling 10 bytes (lines.Step step) rest × EndsFor held (lines.Step step) end
 
--- a step was taken from the front of the bytes; or none, and nothing has changed; or the one there isn't made, and nothing has changed.
--- One that is to stand alone has nothing behind it
-abbrev pub TakesOne : Bool → Held → List ℕ → Result (Option (Bor (List ℕ))) StepEnd → Held → Type 0
-TakesOne alone old bytes (Ok (Some rest)) new = TakesStep old bytes new rest.now × (alone ≡ true → rest.now ≡ [])
-TakesOne alone old bytes (Ok None) new = new ≡ old
-TakesOne alone old bytes (Err end) new = ((behind : List ℕ) × EndsStepAt old bytes behind end × (alone ≡ true → behind ≡ [])) × (new ≡ old)
+-- a step was taken from the front of the bytes; or none, and nothing has changed; or the one there isn't made, and nothing has changed
+abbrev pub TakesOne : Held → List ℕ → Result (Option (Bor (List ℕ))) StepEnd → Held → Type 0
+TakesOne old bytes (Ok (Some rest)) new = TakesStep old bytes new rest.now
+TakesOne old bytes (Ok None) new = new ≡ old
+TakesOne old bytes (Err end) new = ((behind : List ℕ) × EndsStepAt old bytes behind end) × (new ≡ old)
+
+-- the bytes are the line of a step, which was taken, or isn't made; or they are none
+abbrev pub TakesAll : Held → List ℕ → Option (Result (Unit {0}) StepEnd) → Held → Type 0
+TakesAll old bytes (Some (Ok done)) new = TakesStep old bytes new []
+TakesAll old bytes (Some (Err end)) new = EndsStepAt old bytes [] end × (new ≡ old)
+TakesAll old bytes None new = new ≡ old
 
 -- the bytes are lines of steps, by which whatever run has led to what a machine held goes on to what it holds
 pub record TakesSteps (old : Held) (bytes : List ℕ) (new : Held) : Type 0 where

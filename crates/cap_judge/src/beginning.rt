@@ -16,7 +16,7 @@ ghost use Rattle.cap_judge.specs.declared.verdict.TakeFault.TheVariants.{NoLine,
 
 use crate::expecting::expected_by;
 use crate::faults::Fault;
-use crate::steps::take_step;
+use crate::steps::take_alone;
 use crate::verdict::{Expected, TakeFault, Verdict};
 use cap_log::{Front, front};
 use cap_machine::{Machine, Refusal, StepEnd};
@@ -196,10 +196,10 @@ impl<M: TaggedStore> Judge<M> {
         ensures no_memory { result ≡ Err NoMemory → (bytes : List ℕ) → HasRead M.contents self.old bytes
             → MayLackMemory (bytes ++ line.now) [] }
     {
-        match take_step::<M, true, false>(&mut self.machine, line) {
-            Ok(Some(_)) => Ok(()),
-            Ok(None) => self.take_whole(line),
-            Err(end) => self.take_end(end, line),
+        match take_alone(&mut self.machine, line) {
+            Some(Ok(())) => Ok(()),
+            Some(Err(end)) => self.take_end(end, line),
+            None => self.take_whole(line),
         }
     }
 

@@ -1,9 +1,9 @@
 //! Taking the steps at the front of some bytes, each by the type of its kind.
 
-ghost use Rattle.std.specs.Prelude.{◌≡◌, ℕ, List, [], ◌++◌, true, false, IfSome};
+ghost use Rattle.std.specs.Prelude.{◌≡◌, ℕ, List, [], ◌++◌, false, IfSome};
 ghost use Rattle.cap_log.specs.Lines.{IsStepInRange};
 ghost use Rattle.cap_machine.specs.Helds.{AnswersStep, held_of};
-ghost use Rattle.cap_judge.specs.Readings.{EndsStepAt, TakesOne, TakesSteps};
+ghost use Rattle.cap_judge.specs.Readings.{EndsStepAt, TakesAll, TakesOne, TakesSteps};
 
 use cap_log::{Head, Part};
 use cap_machine::{ByKind, Instruction, Machine, StepEnd, by_head};
@@ -15,12 +15,12 @@ const MOST_BYTES: usize = 96;
 // The most bytes that a head has, with the space behind it.
 const MOST_HEAD_BYTES: usize = 15;
 
-// Whether more bytes come behind a line that is to stand alone.
+// Whether more bytes come behind a line.
 #[inline(always)]
-fn goes_on<const ALONE: bool>(rest: &[u8]) -> bool
-    ensures { result ≡ false → ALONE ≡ true → rest.now ≡ [] }
+fn goes_on(rest: &[u8]) -> bool
+    ensures { result ≡ false → rest.now ≡ [] }
 {
-    ALONE && !rest.is_empty()
+    !rest.is_empty()
 }
 
 /// Takes the steps at the front of some bytes, as long as a line of any length has room: what comes behind them,
@@ -40,7 +40,7 @@ pub(crate) fn take_steps<'a, M: TaggedStore>(
         if let Some(end) = end {
             return (rest, Some(end));
         }
-        match take_step::<M, false, true>(machine, rest) {
+        match take_step::<M, true>(machine, rest) {
             Ok(Some(behind)) => rest = behind,
             Ok(None) => return (rest, None),
             Err(end) => return (rest, Some(end)),
@@ -60,7 +60,7 @@ fn take_usual<'a, M: TaggedStore>(
 {
     let mut rest = bytes;
     'steps: loop {
-        match take_step::<M, false, false>(machine, rest) {
+        match take_step::<M, false>(machine, rest) {
             Ok(Some(behind)) => rest = behind,
             Ok(None) => return (rest, None),
             Err(end) => return (rest, Some(end)),
@@ -68,14 +68,13 @@ fn take_usual<'a, M: TaggedStore>(
     }
 }
 
-// A step at the front of some bytes: alone there, or one of the rare kinds, or of the others.
-struct AtFront<const ALONE: bool, const RARE: bool>;
+// A step at the front of some bytes: one of the rare kinds, or of the others.
+struct AtFront<const RARE: bool>;
 
-impl<'a, M: TaggedStore, const ALONE: bool, const RARE: bool> ByKind<'a, Machine<M>>
-    for AtFront<ALONE, RARE> {
+impl<'a, M: TaggedStore, const RARE: bool> ByKind<'a, Machine<M>> for AtFront<RARE> {
     type Answer = Result<Option<&'a [u8]>, StepEnd>;
 
-    ghost does = { λ old bytes result new. TakesOne ALONE (held_of M.contents old) bytes result (held_of M.contents new) };
+    ghost does = { λ old bytes result new. TakesOne (held_of M.contents old) bytes result (held_of M.contents new) };
 
     // Takes a step from behind its head. Where a line of any length had room, so many bytes are left that the test of them
     // never holds; the compiler sees by it that no later one does. It is inlined: by a call a move takes 27 instructions
@@ -85,15 +84,12 @@ impl<'a, M: TaggedStore, const ALONE: bool, const RARE: bool> ByKind<'a, Machine
         machine: &mut Machine<M>,
         operands: &'a [u8],
     ) -> Result<Option<&'a [u8]>, StepEnd> {
-        if !ALONE && (I::IS_RARE != RARE || operands.len() < MOST_BYTES - MOST_HEAD_BYTES) {
+        if I::IS_RARE != RARE || operands.len() < MOST_BYTES - MOST_HEAD_BYTES {
             return Ok(None);
         }
         let Some((instruction, rest)) = I::take(operands) else {
             return Ok(None);
         };
-        if goes_on::<ALONE>(rest) {
-            return Ok(None);
-        }
         match perform_by(machine, instruction) {
             Ok(()) => Ok(Some(rest)),
             Err(end) => Err(end),
@@ -106,25 +102,66 @@ impl<'a, M: TaggedStore, const ALONE: bool, const RARE: bool> ByKind<'a, Machine
     }
 }
 
-/// Takes the step at the front of some bytes, only where they are its line, or a line of any length has room: what comes
-/// behind its line feed, or `None`, and nothing has changed. Each kind of step is read and made by its own type: so no step
-/// goes through memory. Nothing else tests how many bytes are left. The kinds that are rare are left out of the loop over the
-/// others, and large ones are made in a function of their own: so that loop is small enough for the compiler to make one
-/// function of it.
+// Takes the step at the front of some bytes, only where a line of any length has room: what comes behind its line
+// feed, or `None`, and nothing has changed. Each kind of step is read and made by its own type: so no step goes through
+// memory. Nothing else tests how many bytes are left. The kinds that are rare are left out of the loop over the others, and
+// large ones are made in a function of their own: so that loop is small enough for the compiler to make one function of it.
 #[inline(always)]
-pub(crate) fn take_step<'a, M: TaggedStore, const ALONE: bool, const RARE: bool>(
+fn take_step<'a, M: TaggedStore, const RARE: bool>(
     machine: &mut Machine<M>,
     bytes: &'a [u8],
 ) -> Result<Option<&'a [u8]>, StepEnd>
-    ensures { TakesOne ALONE (held_of M.contents machine.old) bytes.now result (held_of M.contents machine.new) }
+    ensures { TakesOne (held_of M.contents machine.old) bytes.now result (held_of M.contents machine.new) }
 {
-    if !ALONE && bytes.len() < MOST_BYTES {
+    if bytes.len() < MOST_BYTES {
         return Ok(None);
     }
     let Some((head, operands)) = Head::take(bytes, b' ') else {
         return Ok(None);
     };
-    by_head::<Machine<M>, AtFront<ALONE, RARE>>(machine, head, operands)
+    by_head::<Machine<M>, AtFront<RARE>>(machine, head, operands)
+}
+
+// A step whose line is all that stands there. Its answer has no bytes: with those of `AtFront` a line of `setaddr`
+// takes 56 instructions more.
+struct Alone;
+
+impl<'a, M: TaggedStore> ByKind<'a, Machine<M>> for Alone {
+    type Answer = Option<Result<(), StepEnd>>;
+
+    ghost does = { λ old bytes result new. TakesAll (held_of M.contents old) bytes result (held_of M.contents new) };
+
+    #[inline(always)]
+    fn with_kind<I: Instruction>(
+        machine: &mut Machine<M>,
+        operands: &'a [u8],
+    ) -> Option<Result<(), StepEnd>> {
+        let Some((instruction, rest)) = I::take(operands) else {
+            return None;
+        };
+        if goes_on(rest) {
+            return None;
+        }
+        Some(perform_by(machine, instruction))
+    }
+
+    #[inline(always)]
+    fn with_none(_machine: &mut Machine<M>) -> Option<Result<(), StepEnd>> {
+        None
+    }
+}
+
+/// Takes bytes that are the line of a step, with its line feed, and no more; `None`, and nothing has changed,
+/// where they are not.
+#[inline(always)]
+pub(crate) fn take_alone<M: TaggedStore>(
+    machine: &mut Machine<M>,
+    line: &[u8],
+) -> Option<Result<(), StepEnd>>
+    ensures { TakesAll (held_of M.contents machine.old) line.now result (held_of M.contents machine.new) }
+{
+    let (head, operands) = Head::take(line, b' ')?;
+    by_head::<Machine<M>, Alone>(machine, head, operands)
 }
 
 // Makes a step there, or apart.

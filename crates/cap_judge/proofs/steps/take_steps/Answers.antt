@@ -1,4 +1,4 @@
-use Rattle.std.proofs.Common.{◌++◌, ◌∷◌, [], ℕ, List, Bor, Option, Ok, ap, append_assoc, sym, ◌∙◌, refl, subst, false}
+use Rattle.std.proofs.Common.{◌++◌, ◌∷◌, [], ℕ, List, Bor, Option, Ok, ap, append_assoc, sym, ◌∙◌, refl, subst}
 use Rattle.cap_log.specs.Lines.{spelling}
 use Rattle.cap_log.specs.declared.lines.Line.TheVariants.{Step}
 use Rattle.cap_machine.specs.Helds.{held_of}
@@ -20,7 +20,7 @@ steps-preserved g c =
     let usual = c.take_usual-end.ensures.taken in
     let at = c.take_usual-end.result.0.now in
     let on = steps_on first old middle c.args.bytes.now so_far.0 c.steps.rest.now usual.0 at so_far.1 so_far.2 usual.1 usual.2 in
-    let taken = (subst (λ (t : Option (Bor (List ℕ))). TakesOne false middle at (Ok t) new) c.in-Ok-Some.field-0-is c.in-Ok-Some.ensures).0 in
+    let taken = subst (λ (t : Option (Bor (List ℕ))). TakesOne middle at (Ok t) new) c.in-Ok-Some.field-0-is c.in-Ok-Some.ensures in
     let line = spelling (Step taken.0) ++ 10 ∷ [] in
     let behind = c.in-Ok-Some.behind.now in
     record {
@@ -51,7 +51,7 @@ returns-in-Ok-None-clause-taken g c =
     let so_far = c.steps.invariant.taken in
     let usual = c.take_usual-end.ensures.taken in
     let new = held_of contents c.take_step.new.machine in
-    let same = subst (λ (t : Option (Bor (List ℕ))). TakesOne false middle c.take_usual-end.result.0.now (Ok t) new) c.in-Ok-None.field-0-is
+    let same = subst (λ (t : Option (Bor (List ℕ))). TakesOne middle c.take_usual-end.result.0.now (Ok t) new) c.in-Ok-None.field-0-is
     c.in-Ok-None.ensures in
     rw same
     (steps_on first old middle c.args.bytes.now so_far.0 c.steps.rest.now usual.0 c.take_usual-end.result.0.now so_far.1 so_far.2 usual.1 usual.2)

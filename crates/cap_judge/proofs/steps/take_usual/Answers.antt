@@ -1,4 +1,4 @@
-use Rattle.std.proofs.Common.{◌++◌, ◌∷◌, [], ℕ, List, Bor, Option, Ok, ap, append_assoc, sym, ◌∙◌, refl, subst, false}
+use Rattle.std.proofs.Common.{◌++◌, ◌∷◌, [], ℕ, List, Bor, Option, Ok, ap, append_assoc, sym, ◌∙◌, refl, subst}
 use Rattle.cap_log.specs.Lines.{spelling}
 use Rattle.cap_log.specs.declared.lines.Line.TheVariants.{Step}
 use Rattle.cap_machine.specs.Helds.{held_of}
@@ -15,7 +15,7 @@ steps-preserved g c =
     let old = held_of g.M.TaggedStore.contents c.steps.machine in
     let new = held_of g.M.TaggedStore.contents c.take_step.new.machine in
     let so_far = c.steps.invariant.taken in
-    let taken = (subst (λ (t : Option (Bor (List ℕ))). TakesOne false old c.steps.rest.now (Ok t) new) c.in-Ok-Some.field-0-is c.in-Ok-Some.ensures).0 in
+    let taken = subst (λ (t : Option (Bor (List ℕ))). TakesOne old c.steps.rest.now (Ok t) new) c.in-Ok-Some.field-0-is c.in-Ok-Some.ensures in
     let line = spelling (Step taken.0) ++ 10 ∷ [] in
     let behind = c.in-Ok-Some.behind.now in
     record {

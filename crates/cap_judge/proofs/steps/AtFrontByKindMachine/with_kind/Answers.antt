@@ -12,7 +12,7 @@ returns-in-Ok g c =
     let makes : Makes old (g.I.Operands.step read.instruction) new = search rules in
     let bytes = head_spelling g.I.Operands.head ++ 32 ∷ c.args.operands.now in
     let taken = step_taken old new bytes read.rest.now (g.I.Operands.step read.instruction) read.ensures.some makes in
-    record { done = (search rules, c.goes_on.ensures c.if-goes_on.false) }
+    search rules
 
 pub returns-in-Err : goal.returns-in-Err
 returns-in-Err g c =
@@ -21,14 +21,6 @@ returns-in-Err g c =
     let bytes = head_spelling g.I.Operands.head ++ 32 ∷ c.args.operands.now in
     let read = c.in-Some in
     let ends : EndsStep old (g.I.Operands.step read.instruction) c.in-Err.end new = search rules in
-    let alone = c.goes_on.ensures c.if-goes_on.false in
     record {
-      done = (
-        (
-          read.rest.now,
-          step_stopped old new bytes read.rest.now _ c.in-Err.end read.ensures.some ends,
-          search rules,
-        ),
-        step_kept old new _ c.in-Err.end ends,
-      );
+      done = ((read.rest.now, step_stopped old new bytes read.rest.now _ c.in-Err.end read.ensures.some ends), step_kept old new _ c.in-Err.end ends);
     }

@@ -1,0 +1,21 @@
+use Rattle.std.proofs.Common.{◌≡◌, ℕ, List, [], ◌∷◌, ◌++◌, rules, subst}
+use Rattle.cap_log.specs.Heads.{head_spelling}
+use Rattle.cap_log.specs.Lines.{IsInRange, spelling}
+use Rattle.cap_log.specs.Parts.{Begins}
+use Rattle.cap_log.specs.declared.lines.Line.TheVariants.{Step}
+use Rattle.cap_machine.specs.Helds.{AnswersStep, held_of}
+use Rattle.cap_judge.proofs.ReachLemmas.{step_answered}
+use Rattle.cap_judge.proofs.steps.AloneByKindMachine.with_kind.Goals as goal
+
+pub returns : goal.returns
+returns g c =
+    let old = held_of g.M.TaggedStore.contents c.args.machine.now in
+    let new = held_of g.M.TaggedStore.contents c.perform_by.new.machine in
+    let bytes = head_spelling g.I.Operands.head ++ 32 ∷ c.args.operands.now in
+    let read = c.in-Some in
+    let step = g.I.Operands.step read.instruction in
+    let behind = c.goes_on.ensures c.if-goes_on.false in
+    let none : read.rest.now ≡ [] = search rules in
+    let begins = subst (λ (r : List ℕ). Begins IsInRange spelling 10 bytes (Step step) r) none read.ensures.some in
+    let answers : AnswersStep old step c.perform_by.result new = search rules in
+    record { done = step_answered old new bytes step c.perform_by.result begins answers }
