@@ -122,8 +122,8 @@ fn take_step<'a, M: TaggedStore, const RARE: bool>(
     by_head::<Machine<M>, AtFront<RARE>>(machine, head, operands)
 }
 
-// A step whose line is all that stands there. Its answer has no bytes: with those of `AtFront` a line of `setaddr`
-// takes 56 instructions more.
+// A step whose line is all that stands there. By the answer of `AtFront`, which has bytes, most lines take 9 instructions
+// more.
 struct Alone;
 
 impl<'a, M: TaggedStore> ByKind<'a, Machine<M>> for Alone {
