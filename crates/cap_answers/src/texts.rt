@@ -1,8 +1,8 @@
 //! A text in the room that C has for it.
 
-ghost use Rattle.std.specs.Prelude.{◌≡◌, ℕ, ◌+◌, ◌≤◌, ◌<◌, ◌^◌, List, [], ◌++◌, length, take, IfOk, IsOk, OnOk, OnErr};
+ghost use Rattle.std.specs.Prelude.{◌≡◌, ℕ, ◌+◌, ◌≤◌, ◌<◌, ◌^◌, List, [], ◌++◌, length, take, IfOk, IsOk, OnErr};
 ghost use Rattle.std.proofs.Common.{refl, ◌∙◌, rules};
-ghost use Rattle.cap_log.specs.Streams.{next_count};
+ghost use Rattle.cap_log.specs.Streams.{CountsFault};
 ghost use Rattle.cap_log.specs.Written.{WritesInside};
 ghost use Rattle.cap_answers.specs.Texts.{IsTold-nothing, IsTold-joined};
 
@@ -56,9 +56,8 @@ impl<'a> Sink for TextSink<'a> {
         ensures fits { IfOk result (λ n. n ≤ length piece.now) }
         ensures some { IfOk result (λ n. 0 < length piece.now → 0 < n) }
         ensures bytes { IfOk result (λ n. Took self.old self.new (take n piece.now)) }
-        ensures counted { OnOk result (failed_pushes self.new ≡ failed_pushes self.old) }
         ensures nothing_taken { OnErr result (Took self.old self.new []) }
-        ensures fault_counted { OnErr result (failed_pushes self.new ≡ next_count (failed_pushes self.old)) }
+        ensures counted { CountsFault (failed_pushes self.old) (failed_pushes self.new) result }
         ensures takes_all { IfOk result (λ n. n ≡ length piece.now) }
         ensures never_fails { IsOk result }
     {

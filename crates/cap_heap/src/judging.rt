@@ -1,7 +1,7 @@
 //! The judge of an allocator's log.
 
-ghost use Rattle.std.specs.Prelude.{◌≡◌, ◌≢◌, ℕ, List, Err, None};
-ghost use Rattle.cap_log.specs.Streams.{next_count};
+ghost use Rattle.std.specs.Prelude.{◌≡◌, ℕ, List, Err, None};
+ghost use Rattle.cap_log.specs.Streams.{CountsOnly};
 ghost use Rattle.cap_log.specs.Takings.{kept, over_of};
 ghost use Rattle.cap_heap.specs.Heaps.{live_in};
 ghost use Rattle.cap_heap.specs.HeapVerdicts.{Judged};
@@ -34,8 +34,7 @@ pub fn judge_heap<S: Source>(alloc: Global, source: &mut S) -> Result<HeapVerdic
     ensures judged { Judged S.gave S.ended source.old source.new result }
 
     // A fault of the source ends the call, and nothing else counts one.
-    ensures counted { result ≢ Err Pull → S.faults source.new ≡ S.faults source.old }
-    ensures fault_counted { result ≡ Err Pull → S.faults source.new ≡ next_count (S.faults source.old) }
+    ensures counted { CountsOnly (Err Pull) (S.faults source.old) (S.faults source.new) result }
 {
     judge_keeping(alloc, source).answer
 }
@@ -51,8 +50,7 @@ pub(crate) struct Judging {
 /// Judges as [`judge_heap`] does, and gives what was read with the answer, and after a no the line that was refused.
 pub(crate) fn judge_keeping<S: Source>(alloc: Global, source: &mut S) -> Judging
     ensures judged { JudgedBy S.gave S.ended source.old source.new result.answer result.progress (bytes_of result.line) }
-    ensures counted { result.answer ≢ Err Pull → S.faults source.new ≡ S.faults source.old }
-    ensures fault_counted { result.answer ≡ Err Pull → S.faults source.new ≡ next_count (S.faults source.old) }
+    ensures counted { CountsOnly (Err Pull) (S.faults source.old) (S.faults source.new) result.answer }
 {
     let mut progress = Progress::new(alloc);
     let (answer, line) = judge_lines(&mut progress, source);
@@ -70,8 +68,7 @@ fn judge_lines<S: Source>(
 ) -> (Result<HeapVerdict, HeapFault>, RefusedLine)
     requires { progress.old.stage ≡ Start }
     ensures judged { JudgedBy S.gave S.ended source.old source.new result.0 progress.new (bytes_of result.1) }
-    ensures counted { result.0 ≢ Err Pull → S.faults source.new ≡ S.faults source.old }
-    ensures fault_counted { result.0 ≡ Err Pull → S.faults source.new ≡ next_count (S.faults source.old) }
+    ensures counted { CountsOnly (Err Pull) (S.faults source.old) (S.faults source.new) result.0 }
 {
     let mut lines = Lines::new();
     let mut line = 1u64;

@@ -1,7 +1,7 @@
 //! The judge that writes its verdict into a sink.
 
-ghost use Rattle.std.specs.Prelude.{◌≡◌, ◌≢◌, ℕ, List, take, ◌++◌, Err, OnOk, OnErr, true, false};
-ghost use Rattle.cap_log.specs.Streams.{next_count};
+ghost use Rattle.std.specs.Prelude.{ℕ, List, take, ◌++◌, Err, OnOk, OnErr, true, false};
+ghost use Rattle.cap_log.specs.Streams.{CountsFault, CountsOnly};
 ghost use Rattle.cap_heap.specs.RefusedLines.{bytes_of};
 ghost use Rattle.cap_heap.specs.Texts.{IsLineReport, IsText};
 ghost use Rattle.cap_heap.specs.VerdictLines.{Told, heap_line};
@@ -30,10 +30,8 @@ pub fn judge_heap_to<S: Source, K: Sink>(
     ensures told { Told false false S.gave S.ended K.took source.old source.new sink.old sink.new result }
 
     // Each fault of the source or the sink ends the call, and nothing else counts one.
-    ensures counted { result ≢ Err Pull → S.faults source.new ≡ S.faults source.old }
-    ensures pull_counted { result ≡ Err Pull → S.faults source.new ≡ next_count (S.faults source.old) }
-    ensures sink_counted { result ≢ Err Push → K.faults sink.new ≡ K.faults sink.old }
-    ensures push_counted { result ≡ Err Push → K.faults sink.new ≡ next_count (K.faults sink.old) }
+    ensures pulls_counted { CountsOnly (Err Pull) (S.faults source.old) (S.faults source.new) result }
+    ensures pushes_counted { CountsOnly (Err Push) (K.faults sink.old) (K.faults sink.new) result }
 {
     let verdict = judge_heap(alloc, source)?;
     push_line(&verdict, sink)?;
@@ -50,10 +48,8 @@ pub fn judge_heap_report<S: Source, K: Sink>(
     ensures told { Told true false S.gave S.ended K.took source.old source.new sink.old sink.new result }
 
     // Each fault of the source or the sink ends the call, and nothing else counts one.
-    ensures counted { result ≢ Err Pull → S.faults source.new ≡ S.faults source.old }
-    ensures pull_counted { result ≡ Err Pull → S.faults source.new ≡ next_count (S.faults source.old) }
-    ensures sink_counted { result ≢ Err Push → K.faults sink.new ≡ K.faults sink.old }
-    ensures push_counted { result ≡ Err Push → K.faults sink.new ≡ next_count (K.faults sink.old) }
+    ensures pulls_counted { CountsOnly (Err Pull) (S.faults source.old) (S.faults source.new) result }
+    ensures pushes_counted { CountsOnly (Err Push) (K.faults sink.old) (K.faults sink.new) result }
 {
     judge_telling(alloc, true, false, source, sink)
 }
@@ -70,10 +66,8 @@ pub fn judge_heap_why<S: Source, K: Sink>(
     ensures told { Told report true S.gave S.ended K.took source.old source.new sink.old sink.new result }
 
     // Each fault of the source or the sink ends the call, and nothing else counts one.
-    ensures counted { result ≢ Err Pull → S.faults source.new ≡ S.faults source.old }
-    ensures pull_counted { result ≡ Err Pull → S.faults source.new ≡ next_count (S.faults source.old) }
-    ensures sink_counted { result ≢ Err Push → K.faults sink.new ≡ K.faults sink.old }
-    ensures push_counted { result ≡ Err Push → K.faults sink.new ≡ next_count (K.faults sink.old) }
+    ensures pulls_counted { CountsOnly (Err Pull) (S.faults source.old) (S.faults source.new) result }
+    ensures pushes_counted { CountsOnly (Err Push) (K.faults sink.old) (K.faults sink.new) result }
 {
     judge_telling(alloc, report, true, source, sink)
 }
@@ -87,10 +81,8 @@ fn judge_telling<S: Source, K: Sink>(
     sink: &mut K,
 ) -> Result<HeapVerdict, HeapToFault>
     ensures told { Told report why S.gave S.ended K.took source.old source.new sink.old sink.new result }
-    ensures counted { result ≢ Err Pull → S.faults source.new ≡ S.faults source.old }
-    ensures pull_counted { result ≡ Err Pull → S.faults source.new ≡ next_count (S.faults source.old) }
-    ensures sink_counted { result ≢ Err Push → K.faults sink.new ≡ K.faults sink.old }
-    ensures push_counted { result ≡ Err Push → K.faults sink.new ≡ next_count (K.faults sink.old) }
+    ensures pulls_counted { CountsOnly (Err Pull) (S.faults source.old) (S.faults source.new) result }
+    ensures pushes_counted { CountsOnly (Err Push) (K.faults sink.old) (K.faults sink.new) result }
 {
     let Judging {
         answer,
@@ -115,8 +107,7 @@ fn push_text<K: Sink>(
         × K.took sink.old sink.new text) }
     ensures err { OnErr result ((text : List ℕ) × IsText report why progress.now (bytes_of line.now) verdict.now text
         × (n : ℕ) × K.took sink.old sink.new (take n text)) }
-    ensures counted { OnOk result (K.faults sink.new ≡ K.faults sink.old) }
-    ensures fault_counted { OnErr result (K.faults sink.new ≡ next_count (K.faults sink.old)) }
+    ensures counted { CountsFault (K.faults sink.old) (K.faults sink.new) result }
 {
     match *verdict {
         HeapVerdict::Yes { events: _, live: _ } => {
@@ -148,8 +139,7 @@ fn push_no<K: Sink>(
         × K.took sink.old sink.new (heap_line verdict.now ++ report)) }
     ensures err { OnErr result ((report : List ℕ) × IsLineReport progress.now (bytes_of line.now) refusal report
         × (n : ℕ) × K.took sink.old sink.new (take n (heap_line verdict.now ++ report))) }
-    ensures counted { OnOk result (K.faults sink.new ≡ K.faults sink.old) }
-    ensures fault_counted { OnErr result (K.faults sink.new ≡ next_count (K.faults sink.old)) }
+    ensures counted { CountsFault (K.faults sink.old) (K.faults sink.new) result }
 {
     let mut text = [0u8; 1024];
     let mut front = [0u8; 64];
@@ -168,8 +158,7 @@ fn push_yes<K: Sink>(
 ) -> Result<(), PushFault>
     ensures ok { OnOk result (K.took sink.old sink.new (heap_line verdict.now ++ report_lines report.now)) }
     ensures err { OnErr result ((n : ℕ) × K.took sink.old sink.new (take n (heap_line verdict.now ++ report_lines report.now))) }
-    ensures counted { OnOk result (K.faults sink.new ≡ K.faults sink.old) }
-    ensures fault_counted { OnErr result (K.faults sink.new ≡ next_count (K.faults sink.old)) }
+    ensures counted { CountsFault (K.faults sink.old) (K.faults sink.new) result }
 {
     let mut line = [0u8; 64];
     let length = heap_text(verdict, &mut line);
@@ -183,8 +172,7 @@ fn push_yes<K: Sink>(
 fn push_line<K: Sink>(verdict: &HeapVerdict, sink: &mut K) -> Result<(), PushFault>
     ensures ok { OnOk result (K.took sink.old sink.new (heap_line verdict.now)) }
     ensures err { OnErr result ((n : ℕ) × K.took sink.old sink.new (take n (heap_line verdict.now))) }
-    ensures counted { OnOk result (K.faults sink.new ≡ K.faults sink.old) }
-    ensures fault_counted { OnErr result (K.faults sink.new ≡ next_count (K.faults sink.old)) }
+    ensures counted { CountsFault (K.faults sink.old) (K.faults sink.new) result }
 {
     let mut text = [0u8; 64];
     let length = heap_text(verdict, &mut text);

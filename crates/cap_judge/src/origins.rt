@@ -1,8 +1,8 @@
 //! Pushing the lines of the origins of what a machine holds.
 
-ghost use Rattle.std.specs.Prelude.{◌≡◌, ℕ, ◌+◌, ◌^◌, take, OnOk, OnErr};
+ghost use Rattle.std.specs.Prelude.{ℕ, ◌+◌, ◌^◌, take, OnOk, OnErr};
 ghost use Rattle.cap_log.specs.Lines.{IsPlace};
-ghost use Rattle.cap_log.specs.Streams.{next_count};
+ghost use Rattle.cap_log.specs.Streams.{CountsFault};
 ghost use Rattle.cap_machine.specs.Helds.{held_of};
 ghost use Rattle.cap_machine.specs.States.{key_of};
 ghost use Rattle.cap_judge.specs.OriginLists.{held_lines};
@@ -20,8 +20,7 @@ pub fn push_origins<M: TaggedStore, K: Sink>(
 ) -> Result<(), PushFault>
     ensures ok { OnOk result (K.took sink.old sink.new (held_lines (held_of M.contents machine.now) 1 (31 + 2 ^ 60))) }
     ensures err { OnErr result ((n : ℕ) × K.took sink.old sink.new (take n (held_lines (held_of M.contents machine.now) 1 (31 + 2 ^ 60)))) }
-    ensures counted { OnOk result (K.faults sink.new ≡ K.faults sink.old) }
-    ensures fault_counted { OnErr result (K.faults sink.new ≡ next_count (K.faults sink.old)) }
+    ensures counted { CountsFault (K.faults sink.old) (K.faults sink.new) result }
 {
     match push_registers(machine, sink) {
         Ok(()) => push_granules(machine, sink),
@@ -36,8 +35,7 @@ fn push_registers<M: TaggedStore, K: Sink>(
 ) -> Result<(), PushFault>
     ensures ok { OnOk result (K.took sink.old sink.new (held_lines (held_of M.contents machine.now) 1 31)) }
     ensures err { OnErr result ((n : ℕ) × K.took sink.old sink.new (take n (held_lines (held_of M.contents machine.now) 1 31))) }
-    ensures counted { OnOk result (K.faults sink.new ≡ K.faults sink.old) }
-    ensures fault_counted { OnErr result (K.faults sink.new ≡ next_count (K.faults sink.old)) }
+    ensures counted { CountsFault (K.faults sink.old) (K.faults sink.new) result }
 {
     for number in 1..32u8 {
         if let Err(PushFault) = push_place(machine, Place::Register(number), sink) {
@@ -54,8 +52,7 @@ fn push_granules<M: TaggedStore, K: Sink>(
 ) -> Result<(), PushFault>
     ensures ok { OnOk result (K.took sink.old sink.new (held_lines (held_of M.contents machine.now) 32 (2 ^ 60))) }
     ensures err { OnErr result ((n : ℕ) × K.took sink.old sink.new (take n (held_lines (held_of M.contents machine.now) 32 (2 ^ 60)))) }
-    ensures counted { OnOk result (K.faults sink.new ≡ K.faults sink.old) }
-    ensures fault_counted { OnErr result (K.faults sink.new ≡ next_count (K.faults sink.old)) }
+    ensures counted { CountsFault (K.faults sink.old) (K.faults sink.new) result }
 {
     let mut from = 0u64;
     while let Some(granule) = machine.next_put(from) {
@@ -77,8 +74,7 @@ fn push_place<M: TaggedStore, K: Sink>(
     ensures ok { OnOk result (K.took sink.old sink.new (held_lines (held_of M.contents machine.now) (key_of place) 1)) }
     ensures err { OnErr result ((n : ℕ)
         × K.took sink.old sink.new (take n (held_lines (held_of M.contents machine.now) (key_of place) 1))) }
-    ensures counted { OnOk result (K.faults sink.new ≡ K.faults sink.old) }
-    ensures fault_counted { OnErr result (K.faults sink.new ≡ next_count (K.faults sink.old)) }
+    ensures counted { CountsFault (K.faults sink.old) (K.faults sink.new) result }
 {
     match machine.origin(place) {
         Some(root) => {

@@ -1,8 +1,8 @@
 //! The judges that write into a sink: the verdict, and the origins of a log's last state.
 
-ghost use Rattle.std.specs.Prelude.{◌≡◌, ◌≢◌, ℕ, take, Err, IfOk, OnOk, OnErr, true, false};
+ghost use Rattle.std.specs.Prelude.{◌≡◌, ℕ, take, Err, IfOk, OnOk, OnErr, true, false};
 ghost use Rattle.std.specs.FinMap as map;
-ghost use Rattle.cap_log.specs.Streams.{next_count};
+ghost use Rattle.cap_log.specs.Streams.{CountsFault, CountsOnly};
 ghost use Rattle.cap_machine.specs.Helds.{held_of};
 ghost use Rattle.cap_judge.specs.OriginLists.{report_text};
 ghost use Rattle.cap_judge.specs.Verdicts.{NamesEscapes};
@@ -31,10 +31,8 @@ pub fn judge_to<S: Source, K: Sink>(
     ensures escape { IfOk result NamesEscapes }
 
     // Each fault of the source or the sink ends the call, and nothing else counts one.
-    ensures counted { result ≢ Err Pull → S.faults source.new ≡ S.faults source.old }
-    ensures pull_counted { result ≡ Err Pull → S.faults source.new ≡ next_count (S.faults source.old) }
-    ensures sink_counted { result ≢ Err Push → K.faults sink.new ≡ K.faults sink.old }
-    ensures push_counted { result ≡ Err Push → K.faults sink.new ≡ next_count (K.faults sink.old) }
+    ensures pulls_counted { CountsOnly (Err Pull) (S.faults source.old) (S.faults source.new) result }
+    ensures pushes_counted { CountsOnly (Err Push) (K.faults sink.old) (K.faults sink.new) result }
 {
     let verdict = judge(alloc, source)?;
     push_verdict(&verdict, sink)?;
@@ -55,10 +53,8 @@ pub fn judge_origins<S: Source, K: Sink>(
     ensures escape { IfOk result NamesEscapes }
 
     // Each fault of the source or the sink ends the call, and nothing else counts one.
-    ensures counted { result ≢ Err Pull → S.faults source.new ≡ S.faults source.old }
-    ensures pull_counted { result ≡ Err Pull → S.faults source.new ≡ next_count (S.faults source.old) }
-    ensures sink_counted { result ≢ Err Push → K.faults sink.new ≡ K.faults sink.old }
-    ensures push_counted { result ≡ Err Push → K.faults sink.new ≡ next_count (K.faults sink.old) }
+    ensures pulls_counted { CountsOnly (Err Pull) (S.faults source.old) (S.faults source.new) result }
+    ensures pushes_counted { CountsOnly (Err Push) (K.faults sink.old) (K.faults sink.new) result }
 {
     judge_origins_in(source, PageStore::new(alloc), sink)
 }
@@ -72,10 +68,8 @@ pub fn judge_origins_in<S: Source, M: TaggedStore, K: Sink>(
     requires { map.len (M.contents memory) ≡ 0 }
     ensures reported { Reported (λ bytes _. Tells true bytes) S.gave S.ended K.took source.old source.new sink.old sink.new result }
     ensures escape { IfOk result NamesEscapes }
-    ensures counted { result ≢ Err Pull → S.faults source.new ≡ S.faults source.old }
-    ensures pull_counted { result ≡ Err Pull → S.faults source.new ≡ next_count (S.faults source.old) }
-    ensures sink_counted { result ≢ Err Push → K.faults sink.new ≡ K.faults sink.old }
-    ensures push_counted { result ≡ Err Push → K.faults sink.new ≡ next_count (K.faults sink.old) }
+    ensures pulls_counted { CountsOnly (Err Pull) (S.faults source.old) (S.faults source.new) result }
+    ensures pushes_counted { CountsOnly (Err Push) (K.faults sink.old) (K.faults sink.new) result }
 {
     let Judging {
         answer,
@@ -95,8 +89,7 @@ pub fn push_report<M: TaggedStore, K: Sink>(
 ) -> Result<(), PushFault>
     ensures ok { OnOk result (K.took sink.old sink.new (report_text (held_of M.contents machine.now) verdict.now)) }
     ensures err { OnErr result ((n : ℕ) × K.took sink.old sink.new (take n (report_text (held_of M.contents machine.now) verdict.now))) }
-    ensures counted { OnOk result (K.faults sink.new ≡ K.faults sink.old) }
-    ensures fault_counted { OnErr result (K.faults sink.new ≡ next_count (K.faults sink.old)) }
+    ensures counted { CountsFault (K.faults sink.old) (K.faults sink.new) result }
 {
     match *verdict {
         Verdict::Yes { steps: _, roots: _ } => match push_verdict(verdict, sink) {
@@ -114,8 +107,7 @@ pub fn push_report<M: TaggedStore, K: Sink>(
 pub fn push_verdict<K: Sink>(verdict: &Verdict, sink: &mut K) -> Result<(), PushFault>
     ensures ok { OnOk result (K.took sink.old sink.new (verdict_line verdict.now)) }
     ensures err { OnErr result ((n : ℕ) × K.took sink.old sink.new (take n (verdict_line verdict.now))) }
-    ensures counted { OnOk result (K.faults sink.new ≡ K.faults sink.old) }
-    ensures fault_counted { OnErr result (K.faults sink.new ≡ next_count (K.faults sink.old)) }
+    ensures counted { CountsFault (K.faults sink.old) (K.faults sink.new) result }
 {
     let mut text = [0u8; 64];
     let length = verdict_text(verdict, &mut text);

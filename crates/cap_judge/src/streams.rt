@@ -1,8 +1,8 @@
 //! Judging the bytes of a slice, and those that a source gives.
 
-ghost use Rattle.std.specs.Prelude.{◌≡◌, ◌≢◌, ℕ, List, [], ◌++◌, Err, IsOk, IfOk, IfErr};
+ghost use Rattle.std.specs.Prelude.{◌≡◌, ℕ, List, [], ◌++◌, Err, IsOk, IfOk, IfErr};
 ghost use Rattle.std.specs.FinMap as map;
-ghost use Rattle.cap_log.specs.Streams.{next_count};
+ghost use Rattle.cap_log.specs.Streams.{CountsOnly};
 ghost use Rattle.cap_log.specs.Pulled.{items};
 ghost use Rattle.cap_machine.specs.Helds.{held_of};
 ghost use Rattle.cap_judge.specs.FaultLines.{bytes_of};
@@ -57,8 +57,7 @@ pub fn judge<S: Source>(alloc: Global, source: &mut S) -> Result<Verdict, JudgeF
     ensures escape { IfOk result NamesEscapes }
 
     // A fault of the source ends the call, and nothing else counts one.
-    ensures counted { result ≢ Err Pull → S.faults source.new ≡ S.faults source.old }
-    ensures fault_counted { result ≡ Err Pull → S.faults source.new ≡ next_count (S.faults source.old) }
+    ensures counted { CountsOnly (Err Pull) (S.faults source.old) (S.faults source.new) result }
 {
     judge_in(source, PageStore::new(alloc))
 }
@@ -68,8 +67,7 @@ pub fn judge_in<S: Source, M: TaggedStore>(source: &mut S, memory: M) -> Result<
     requires { map.len (M.contents memory) ≡ 0 }
     ensures judged { Judged S.gave S.ended source.old source.new result }
     ensures escape { IfOk result NamesEscapes }
-    ensures counted { result ≢ Err Pull → S.faults source.new ≡ S.faults source.old }
-    ensures fault_counted { result ≡ Err Pull → S.faults source.new ≡ next_count (S.faults source.old) }
+    ensures counted { CountsOnly (Err Pull) (S.faults source.old) (S.faults source.new) result }
 {
     judge_keeping(source, memory).answer
 }
@@ -90,8 +88,7 @@ pub struct Judging<M: TaggedStore> {
 pub fn judge_keeping<S: Source, M: TaggedStore>(source: &mut S, memory: M) -> Judging<M>
     requires { map.len (M.contents memory) ≡ 0 }
     ensures judged { JudgedBy S.gave S.ended source.old source.new result.answer (held_of M.contents result.machine) (bytes_of result.fault) }
-    ensures counted { result.answer ≢ Err Pull → S.faults source.new ≡ S.faults source.old }
-    ensures fault_counted { result.answer ≡ Err Pull → S.faults source.new ≡ next_count (S.faults source.old) }
+    ensures counted { CountsOnly (Err Pull) (S.faults source.old) (S.faults source.new) result.answer }
 {
     let mut judge = Judge::new(memory);
     let (answer, fault) = judge_source(&mut judge, source);
@@ -110,8 +107,7 @@ fn judge_source<S: Source, M: TaggedStore>(
 ) -> (Result<Verdict, JudgeFault>, FaultLine)
     requires begun { HasRead M.contents judge.old [] }
     ensures judged { JudgedBy S.gave S.ended source.old source.new result.0 (held_of M.contents judge.new.machine) (bytes_of result.1) }
-    ensures counted { result.0 ≢ Err Pull → S.faults source.new ≡ S.faults source.old }
-    ensures fault_counted { result.0 ≡ Err Pull → S.faults source.new ≡ next_count (S.faults source.old) }
+    ensures counted { CountsOnly (Err Pull) (S.faults source.old) (S.faults source.new) result.0 }
 {
     let mut pulled = Pulled::new();
     'pieces: loop {

@@ -1,7 +1,7 @@
 //! Where bytes go.
 
-ghost use Rattle.std.specs.Prelude.{◌≡◌, ℕ, ◌≤◌, ◌<◌, ◌^◌, List, [], ◌++◌, length, take, IfOk, OnOk, OnErr};
-ghost use Rattle.cap_log.specs.Streams.{next_count};
+ghost use Rattle.std.specs.Prelude.{◌≡◌, ℕ, ◌≤◌, ◌<◌, ◌^◌, List, [], ◌++◌, length, take, IfOk, OnErr};
+ghost use Rattle.cap_log.specs.Streams.{CountsFault};
 
 pub mod failing;
 pub mod slices;
@@ -25,9 +25,8 @@ pub trait Sink {
         ensures fits { IfOk result (λ n. n ≤ length piece.now) }
         ensures some { IfOk result (λ n. 0 < length piece.now → 0 < n) }
         ensures bytes { IfOk result (λ n. took self.old self.new (take n piece.now)) }
-        ensures counted { OnOk result (faults self.new ≡ faults self.old) }
         ensures nothing_taken { OnErr result (took self.old self.new []) }
-        ensures fault_counted { OnErr result (faults self.new ≡ next_count (faults self.old)) };
+        ensures counted { CountsFault (faults self.old) (faults self.new) result };
 
     /// Nothing is taken where nothing is pushed.
     ghost nothing: { (s : Self) → took s s [] };

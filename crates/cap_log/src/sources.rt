@@ -1,7 +1,7 @@
 //! Where bytes come from.
 
-ghost use Rattle.std.specs.Prelude.{◌≡◌, ℕ, ◌≤◌, ◌<◌, ◌^◌, Bool, false, List, [], ◌++◌, length, take, IfOk, OnOk, OnErr};
-ghost use Rattle.cap_log.specs.Streams.{next_count, is_end};
+ghost use Rattle.std.specs.Prelude.{◌≡◌, ℕ, ◌≤◌, ◌<◌, ◌^◌, Bool, false, List, [], ◌++◌, length, take, IfOk, OnErr};
+ghost use Rattle.cap_log.specs.Streams.{CountsFault, is_end};
 
 pub mod failing;
 pub mod reading;
@@ -28,10 +28,9 @@ pub trait Source {
         ensures fits { IfOk result (λ n. n ≤ length piece.new) }
         ensures bytes { IfOk result (λ n. gave self.old self.new (take n piece.new)) }
         ensures end { IfOk result (λ n. ended self.new ≡ is_end (length piece.new) n) }
-        ensures counted { OnOk result (faults self.new ≡ faults self.old) }
         ensures nothing_given { OnErr result (gave self.old self.new []) }
         ensures no_end { OnErr result (ended self.new ≡ false) }
-        ensures fault_counted { OnErr result (faults self.new ≡ next_count (faults self.old)) };
+        ensures counted { CountsFault (faults self.old) (faults self.new) result };
 
     /// Nothing is handed out where nothing is pulled.
     ghost nothing: { (s : Self) → gave s s [] };

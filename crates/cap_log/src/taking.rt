@@ -2,7 +2,7 @@
 
 ghost use Rattle.std.specs.Prelude.{◌≡◌, ◌≢◌, ℕ, ◌+◌, ◌<◌, ◌≤◌, List, [], ◌++◌, length, take, drop, true, false, None, Ok, IfOk, OnErr, OnOk};
 ghost use Rattle.cap_log.specs.Front.{IsCut};
-ghost use Rattle.cap_log.specs.Streams.{next_count};
+ghost use Rattle.cap_log.specs.Streams.{CountsFault, next_count};
 ghost use Rattle.cap_log.specs.declared.lines.Front.TheVariants.{Cut};
 ghost use Rattle.cap_log.specs.declared.taking.Over.{Over};
 
@@ -129,10 +129,9 @@ impl Lines {
         ensures over { self.new.over ≡ self.old.over }
         ensures ok { IfOk result (Found S.gave source.old source.new (kept self.old) (kept self.new)) }
         ensures end { result ≡ Ok Cut → S.ended source.new ≡ true }
-        ensures counted { OnOk result (S.faults source.new ≡ S.faults source.old) }
         ensures err { OnErr result (Found S.gave source.old source.new (kept self.old) (kept self.new) Cut) }
         ensures no_end { OnErr result (S.ended source.new ≡ false) }
-        ensures fault_counted { OnErr result (S.faults source.new ≡ next_count (S.faults source.old)) }
+        ensures counted { CountsFault (S.faults source.old) (S.faults source.new) result }
         ensures kept_first { (IsCut (kept self.old) → ⊥) → source.new ≡ source.old }
     {
         loop {

@@ -1,7 +1,7 @@
 //! Where the text of an order goes.
 
-ghost use Rattle.std.specs.Prelude.{◌≡◌, ℕ, [], take, IfOk, IfErr, OnOk, OnErr, Ok, Err};
-ghost use Rattle.cap_log.specs.Streams.{next_count};
+ghost use Rattle.std.specs.Prelude.{◌≡◌, ℕ, [], take, IfOk, IfErr, OnOk, Ok, Err};
+ghost use Rattle.cap_log.specs.Streams.{CountsFault};
 ghost use Rattle.cap_program.specs.Doings.{IsCounted};
 
 use crate::faults::Fault;
@@ -13,8 +13,7 @@ pub trait Output: Sink {
     /// Hands on what was pushed so far. A fault counts one more. Nothing is taken.
     fn hand_on(&mut self) -> Result<(), PushFault>
         ensures nothing_taken { Self.took self.old self.new [] }
-        ensures counted { OnOk result (Self.faults self.new ≡ Self.faults self.old) }
-        ensures fault_counted { OnErr result (Self.faults self.new ≡ next_count (Self.faults self.old)) };
+        ensures counted { CountsFault (Self.faults self.old) (Self.faults self.new) result };
 }
 
 impl<'a, W: Write> Output for WriteSink<'a, W> {

@@ -2,7 +2,7 @@
 
 ghost use Rattle.std.specs.Prelude.{◌≡◌, ◌≢◌, ◌≤◌, ℕ, List, ◌++◌, length, take, true, Err, Option, IfOk, OnOk, OnErr};
 ghost use Rattle.std.specs.FinMap as map;
-ghost use Rattle.cap_log.specs.Streams.{next_count};
+ghost use Rattle.cap_log.specs.Streams.{CountsFault, CountsOnly};
 ghost use Rattle.cap_machine.specs.Helds.{account_of, held_of};
 ghost use Rattle.cap_judge.specs.FaultLines.{bytes_of};
 ghost use Rattle.cap_report.specs.FaultReports.{IsLineReport};
@@ -40,10 +40,8 @@ pub fn judge_why<S: Source, K: Sink>(
     ensures escape { IfOk result NamesEscapes }
 
     // Each fault of the source or the sink ends the call, and nothing else counts one.
-    ensures counted { result ≢ Err Pull → S.faults source.new ≡ S.faults source.old }
-    ensures pull_counted { result ≡ Err Pull → S.faults source.new ≡ next_count (S.faults source.old) }
-    ensures sink_counted { result ≢ Err Push → K.faults sink.new ≡ K.faults sink.old }
-    ensures push_counted { result ≡ Err Push → K.faults sink.new ≡ next_count (K.faults sink.old) }
+    ensures pulls_counted { CountsOnly (Err Pull) (S.faults source.old) (S.faults source.new) result }
+    ensures pushes_counted { CountsOnly (Err Push) (K.faults sink.old) (K.faults sink.new) result }
 {
     judge_why_in(origins, source, PageStore::new(alloc), sink)
 }
@@ -58,10 +56,8 @@ pub fn judge_why_in<S: Source, M: TaggedStore, K: Sink>(
     requires { map.len (M.contents memory) ≡ 0 }
     ensures explained { Reported (Explains origins) S.gave S.ended K.took source.old source.new sink.old sink.new result }
     ensures escape { IfOk result NamesEscapes }
-    ensures counted { result ≢ Err Pull → S.faults source.new ≡ S.faults source.old }
-    ensures pull_counted { result ≡ Err Pull → S.faults source.new ≡ next_count (S.faults source.old) }
-    ensures sink_counted { result ≢ Err Push → K.faults sink.new ≡ K.faults sink.old }
-    ensures push_counted { result ≡ Err Push → K.faults sink.new ≡ next_count (K.faults sink.old) }
+    ensures pulls_counted { CountsOnly (Err Pull) (S.faults source.old) (S.faults source.new) result }
+    ensures pushes_counted { CountsOnly (Err Push) (K.faults sink.old) (K.faults sink.new) result }
 {
     let Judging {
         answer,
@@ -85,8 +81,7 @@ pub fn judge_why_bytes<M: TaggedStore, K: Sink>(
     ensures explained { IsPushedFor (Explains origins bytes.now true) bytes.now true (K.took sink.old sink.new) result }
     ensures pulls_nothing { result ≢ Err Pull }
     ensures escape { IfOk result NamesEscapes }
-    ensures sink_counted { result ≢ Err Push → K.faults sink.new ≡ K.faults sink.old }
-    ensures push_counted { result ≡ Err Push → K.faults sink.new ≡ next_count (K.faults sink.old) }
+    ensures pushes_counted { CountsOnly (Err Push) (K.faults sink.old) (K.faults sink.new) result }
 {
     let Judging {
         answer,
@@ -113,8 +108,7 @@ pub fn push_refused<M: TaggedStore, K: Sink>(
         × (told : List ℕ) × ExplainsSoFar bytes verdict told × K.took sink.old sink.new told × (length told ≤ 3136)) }
     ensures err { OnErr result ((bytes : List ℕ) → HasRead M.contents judge.now bytes → (verdict : Option Verdict)
         × (told : List ℕ) × ExplainsSoFar bytes verdict told × (n : ℕ) × K.took sink.old sink.new (take n told)) }
-    ensures counted { OnOk result (K.faults sink.new ≡ K.faults sink.old) }
-    ensures fault_counted { OnErr result (K.faults sink.new ≡ next_count (K.faults sink.old)) }
+    ensures counted { CountsFault (K.faults sink.old) (K.faults sink.new) result }
 {
     match judge.refused() {
         Some(fault) => push_no(
@@ -143,8 +137,7 @@ fn push_why<M: TaggedStore, K: Sink>(
     ensures err { OnErr result ((told : List ℕ)
         × IsWhyText origins (held_of M.contents machine.now) (bytes_of fault.now) verdict.now told
         × (n : ℕ) × K.took sink.old sink.new (take n told)) }
-    ensures counted { OnOk result (K.faults sink.new ≡ K.faults sink.old) }
-    ensures fault_counted { OnErr result (K.faults sink.new ≡ next_count (K.faults sink.old)) }
+    ensures counted { CountsFault (K.faults sink.old) (K.faults sink.new) result }
 {
     match *verdict {
         Verdict::Yes { steps: _, roots: _ } => {
@@ -173,8 +166,7 @@ fn push_no<M: TaggedStore, K: Sink>(
     ensures err { OnErr result ((report : List ℕ)
         × IsLineReport (account_of (held_of M.contents machine.now)) (bytes_of fault.now) refusal report
         × (n : ℕ) × K.took sink.old sink.new (take n (verdict_line verdict.now ++ report))) }
-    ensures counted { OnOk result (K.faults sink.new ≡ K.faults sink.old) }
-    ensures fault_counted { OnErr result (K.faults sink.new ≡ next_count (K.faults sink.old)) }
+    ensures counted { CountsFault (K.faults sink.old) (K.faults sink.new) result }
 {
     let mut text = [0u8; 3136];
     let mut line = [0u8; 64];

@@ -1,7 +1,7 @@
 //! Vector files: lines of operands and of what is said of them, by which two implementations compare themselves.
 
-ghost use Rattle.std.specs.Prelude.{◌≡◌, ◌≢◌, MatchBool, OnOk, OnErr};
-ghost use Rattle.cap_log.specs.Streams.{next_count};
+ghost use Rattle.std.specs.Prelude.{◌≢◌, MatchBool};
+ghost use Rattle.cap_log.specs.Streams.{CountsFault};
 ghost use Rattle.cap_vectors.specs.VectorFiles.{Checked, FailsWhole, last_line};
 ghost use Rattle.cap_vectors.specs.Vectors.{IsTrueLine};
 
@@ -36,8 +36,7 @@ pub enum VectorVerdict {
 /// and less than a line follows them. It takes no memory.
 pub fn vectors<S: Source>(source: &mut S) -> Result<VectorVerdict, PullFault>
     ensures checked { Checked S.gave S.ended source.old source.new result }
-    ensures counted { OnOk result (S.faults source.new ≡ S.faults source.old) }
-    ensures fault_counted { OnErr result (S.faults source.new ≡ next_count (S.faults source.old)) }
+    ensures counted { CountsFault (S.faults source.old) (S.faults source.new) result }
 {
     let mut lines = Lines::new();
     let mut passed = 0u64;

@@ -1,11 +1,11 @@
 //! Judging an input, and pushing the text of the verdict.
 
-ghost use Rattle.std.specs.Prelude.{◌≡◌, ◌≢◌, ℕ, List, Err, None};
+ghost use Rattle.std.specs.Prelude.{◌≡◌, ℕ, List, Err, None};
 ghost use Rattle.cap_program.specs.Doings.{IsCounted, IsDone, IsInputCounted, ended_by, gave_by};
 ghost use Rattle.cap_status.specs.Judging.{ShowsVerdict, StopsJudging};
 ghost use Rattle.cap_judge.specs.Reports.{Reported, Tells};
 ghost use Rattle.cap_judge.specs.declared.verdict.JudgeToFault.TheVariants as judging;
-ghost use Rattle.cap_log.specs.Streams.{next_count};
+ghost use Rattle.cap_log.specs.Streams.{CountsOnly};
 
 use cap_judge::{JudgeToFault, Verdict, judge_origins, judge_to};
 use cap_log::{Sink, Source};
@@ -58,10 +58,8 @@ fn report<S: Source, K: Sink>(
     sink: &mut K,
 ) -> Result<Verdict, JudgeToFault>
     ensures reported { Reported (λ bytes _. Tells origins bytes) S.gave S.ended K.took source.old source.new sink.old sink.new result }
-    ensures counted { result ≢ Err judging.Pull → S.faults source.new ≡ S.faults source.old }
-    ensures pull_counted { result ≡ Err judging.Pull → S.faults source.new ≡ next_count (S.faults source.old) }
-    ensures sink_counted { result ≢ Err judging.Push → K.faults sink.new ≡ K.faults sink.old }
-    ensures push_counted { result ≡ Err judging.Push → K.faults sink.new ≡ next_count (K.faults sink.old) }
+    ensures pulls_counted { CountsOnly (Err judging.Pull) (S.faults source.old) (S.faults source.new) result }
+    ensures pushes_counted { CountsOnly (Err judging.Push) (K.faults sink.old) (K.faults sink.new) result }
 {
     if origins {
         judge_origins(alloc, source, sink)

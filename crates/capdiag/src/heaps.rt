@@ -1,9 +1,9 @@
 //! Judging an allocator's log, and pushing the verdict.
 
-ghost use Rattle.std.specs.Prelude.{◌≡◌, ◌≢◌, ℕ, List, Err, None};
+ghost use Rattle.std.specs.Prelude.{◌≡◌, ℕ, List, Err, None};
 ghost use Rattle.cap_heap.specs.VerdictLines.{Told};
 ghost use Rattle.cap_heap.specs.declared.verdict.HeapToFault.TheVariants as heap_faults;
-ghost use Rattle.cap_log.specs.Streams.{next_count};
+ghost use Rattle.cap_log.specs.Streams.{CountsOnly};
 ghost use Rattle.cap_program.specs.Doings.{IsCounted, IsDone, IsInputCounted, ended_by, gave_by};
 ghost use Rattle.capdiag.specs.Heaps.{ShowsHeap, StopsHeap, heap_judged, heap_status};
 
@@ -59,10 +59,8 @@ fn judge_heap_into<S: Source, K: Sink>(
     sink: &mut K,
 ) -> Result<HeapVerdict, HeapToFault>
     ensures told { Told report why S.gave S.ended K.took source.old source.new sink.old sink.new result }
-    ensures counted { result ≢ Err heap_faults.Pull → S.faults source.new ≡ S.faults source.old }
-    ensures pull_counted { result ≡ Err heap_faults.Pull → S.faults source.new ≡ next_count (S.faults source.old) }
-    ensures sink_counted { result ≢ Err heap_faults.Push → K.faults sink.new ≡ K.faults sink.old }
-    ensures push_counted { result ≡ Err heap_faults.Push → K.faults sink.new ≡ next_count (K.faults sink.old) }
+    ensures pulls_counted { CountsOnly (Err heap_faults.Pull) (S.faults source.old) (S.faults source.new) result }
+    ensures pushes_counted { CountsOnly (Err heap_faults.Push) (K.faults sink.old) (K.faults sink.new) result }
 {
     if why {
         judge_heap_why(alloc, report, source, sink)

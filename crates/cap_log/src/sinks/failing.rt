@@ -1,7 +1,7 @@
 //! A sink of which one push fails.
 
-ghost use Rattle.std.specs.Prelude.{◌≡◌, ◌≢◌, ◌+◌, ◌-◌, ◌%◌, ◌^◌, ◌≤◌, ◌<◌, ℕ, List, [], ◌++◌, length, take, None, Some, option_map, IfOk, IsErr, OnOk, OnErr};
-ghost use Rattle.cap_log.specs.Streams.{next_count};
+ghost use Rattle.std.specs.Prelude.{◌≡◌, ◌≢◌, ◌+◌, ◌-◌, ◌%◌, ◌^◌, ◌≤◌, ◌<◌, ℕ, List, [], ◌++◌, length, take, None, Some, option_map, IfOk, IsErr, OnErr};
+ghost use Rattle.cap_log.specs.Streams.{CountsFault, next_count};
 ghost use Rattle.cap_log.specs.Failings.{inner_sink, own_faults, pushes_left};
 ghost use Rattle.std.proofs.Math.Nat.{mod-lt};
 ghost use Rattle.std.proofs.lemmas.Nat.{pow_pos};
@@ -44,11 +44,9 @@ impl<K: Sink> Sink for FailingSink<K> {
         ensures fits { IfOk result (λ n. n ≤ length piece.now) }
         ensures some { IfOk result (λ n. 0 < length piece.now → 0 < n) }
         ensures bytes { IfOk result (λ n. K.took (inner_sink self.old) (inner_sink self.new) (take n piece.now)) }
-        ensures counted { OnOk result ((K.faults (inner_sink self.new) + own_faults (pushes_left self.new)) % 2 ^ 64
-            ≡ (K.faults (inner_sink self.old) + own_faults (pushes_left self.old)) % 2 ^ 64) }
         ensures nothing_taken { OnErr result (K.took (inner_sink self.old) (inner_sink self.new) []) }
-        ensures fault_counted { OnErr result ((K.faults (inner_sink self.new) + own_faults (pushes_left self.new)) % 2 ^ 64
-            ≡ next_count ((K.faults (inner_sink self.old) + own_faults (pushes_left self.old)) % 2 ^ 64)) }
+        ensures counted { CountsFault ((K.faults (inner_sink self.old) + own_faults (pushes_left self.old)) % 2 ^ 64)
+            ((K.faults (inner_sink self.new) + own_faults (pushes_left self.new)) % 2 ^ 64) result }
 
         // One push fails, and leaves the inner sink as it is. All others are passed on.
         ensures failing { pushes_left self.old ≡ Some 0 → IsErr result × (inner_sink self.new ≡ inner_sink self.old) × (pushes_left self.new ≡ None) }

@@ -1,8 +1,8 @@
 //! A sink over bytes in memory.
 
-ghost use Rattle.std.specs.Prelude.{◌≡◌, ◌≢◌, ◌^◌, ℕ, ◌≤◌, List, [], ◌++◌, length, min, take, ◌<◌, ◌↔◌, IfOk, IsErr, OnOk, OnErr};
+ghost use Rattle.std.specs.Prelude.{◌≡◌, ◌≢◌, ◌^◌, ℕ, ◌≤◌, List, [], ◌++◌, length, min, take, ◌<◌, ◌↔◌, IfOk, IsErr, OnErr};
 ghost use Rattle.std.proofs.Common.{refl, ◌∙◌};
-ghost use Rattle.cap_log.specs.Streams.{next_count};
+ghost use Rattle.cap_log.specs.Streams.{CountsFault};
 ghost use Rattle.cap_log.specs.Written.{WritesInside-nothing, WritesInside-joined};
 
 use crate::sinks::{PushFault, Sink};
@@ -62,9 +62,8 @@ impl<'a> Sink for SliceSink<'a> {
         ensures fits { IfOk result (λ n. n ≤ length piece.now) }
         ensures some { IfOk result (λ n. 0 < length piece.now → 0 < n) }
         ensures bytes { IfOk result (λ n. Took self.old self.new (take n piece.now)) }
-        ensures counted { OnOk result (faults_of self.new ≡ faults_of self.old) }
         ensures nothing_taken { OnErr result (Took self.old self.new []) }
-        ensures fault_counted { OnErr result (faults_of self.new ≡ next_count (faults_of self.old)) }
+        ensures counted { CountsFault (faults_of self.old) (faults_of self.new) result }
         ensures takes_what_fits { IfOk result (λ n. n ≡ min (length piece.now) (room_left self.old)) }
         ensures fails_where_full { IsErr result ↔ ((room_left self.old ≡ 0) × (piece.now ≢ [])) }
     {

@@ -1,6 +1,6 @@
 //! A sink over a writer.
 
-ghost use Rattle.std.specs.Prelude.{◌≡◌, ◌<◌, ◌^◌, ◌++◌, List, [], ℕ, OnOk, OnErr};
+ghost use Rattle.std.specs.Prelude.{◌≡◌, ◌<◌, ◌^◌, ◌++◌, List, [], ℕ};
 ghost use Rattle.std.proofs.Common.{refl, ◌∙◌};
 ghost use Rattle.std.specs.Io.KnownBytes.{Appends};
 ghost use Rattle.cap_log.specs.Known.{Appends-nothing, Appends-joined};
@@ -18,7 +18,7 @@ pub struct WriteSink<'a, W: Write> {
 
 impl<'a, W: Write> WriteSink<'a, W> {
     ghost use Rattle.cap_log.specs.Wrapped.{name_of_writer, writer_of};
-    ghost use Rattle.cap_log.specs.Streams.{next_count};
+    ghost use Rattle.cap_log.specs.Streams.{CountsFault};
 
     /// What is pushed goes to the writer. There were no faults.
     pub fn new(writer: &'a mut W) -> WriteSink<'a, W>
@@ -32,9 +32,7 @@ impl<'a, W: Write> WriteSink<'a, W> {
     /// Asks the writer to hand on what was pushed so far. An error of the writer is a fault. Nothing is taken.
     pub fn flush(&mut self) -> Result<(), PushFault>
         ensures nothing_taken { ⟦<WriteSink<'a, W> as Sink>⟧.took self.old self.new [] }
-        ensures counted { OnOk result (⟦<WriteSink<'a, W> as Sink>⟧.faults self.new ≡ ⟦<WriteSink<'a, W> as Sink>⟧.faults self.old) }
-        ensures fault_counted { OnErr result (⟦<WriteSink<'a, W> as Sink>⟧.faults self.new
-            ≡ next_count (⟦<WriteSink<'a, W> as Sink>⟧.faults self.old)) }
+        ensures counted { CountsFault (⟦<WriteSink<'a, W> as Sink>⟧.faults self.old) (⟦<WriteSink<'a, W> as Sink>⟧.faults self.new) result }
     {
         match self.writer.flush() {
             Ok(()) => Ok(()),

@@ -1,7 +1,7 @@
 //! A source of which one pull fails.
 
-ghost use Rattle.std.specs.Prelude.{◌≡◌, ◌≢◌, ◌+◌, ◌-◌, ◌%◌, ◌^◌, ◌≤◌, ℕ, List, [], ◌++◌, false, length, take, if◌then◌else◌, None, Some, option_map, IfOk, IsErr, OnOk, OnErr};
-ghost use Rattle.cap_log.specs.Streams.{is_end, next_count};
+ghost use Rattle.std.specs.Prelude.{◌≡◌, ◌≢◌, ◌+◌, ◌-◌, ◌%◌, ◌^◌, ◌≤◌, ℕ, List, [], ◌++◌, false, length, take, if◌then◌else◌, None, Some, option_map, IfOk, IsErr, OnErr};
+ghost use Rattle.cap_log.specs.Streams.{CountsFault, is_end, next_count};
 ghost use Rattle.cap_log.specs.Failings.{has_just_failed, inner_source, own_faults, pulls_left};
 ghost use Rattle.std.proofs.Math.Nat.{mod-lt};
 ghost use Rattle.std.proofs.lemmas.Nat.{pow_pos};
@@ -50,12 +50,10 @@ impl<S: Source> Source for FailingSource<S> {
         ensures fits { IfOk result (λ n. n ≤ length piece.new) }
         ensures bytes { IfOk result (λ n. S.gave (inner_source self.old) (inner_source self.new) (take n piece.new)) }
         ensures end { IfOk result (λ n. (if has_just_failed self.new then false else S.ended (inner_source self.new)) ≡ is_end (length piece.new) n) }
-        ensures counted { OnOk result ((S.faults (inner_source self.new) + own_faults (pulls_left self.new)) % 2 ^ 64
-            ≡ (S.faults (inner_source self.old) + own_faults (pulls_left self.old)) % 2 ^ 64) }
         ensures nothing_given { OnErr result (S.gave (inner_source self.old) (inner_source self.new) []) }
         ensures no_end { OnErr result ((if has_just_failed self.new then false else S.ended (inner_source self.new)) ≡ false) }
-        ensures fault_counted { OnErr result ((S.faults (inner_source self.new) + own_faults (pulls_left self.new)) % 2 ^ 64
-            ≡ next_count ((S.faults (inner_source self.old) + own_faults (pulls_left self.old)) % 2 ^ 64)) }
+        ensures counted { CountsFault ((S.faults (inner_source self.old) + own_faults (pulls_left self.old)) % 2 ^ 64)
+            ((S.faults (inner_source self.new) + own_faults (pulls_left self.new)) % 2 ^ 64) result }
 
         // One pull fails, and leaves the inner source as it is. All others are passed on.
         ensures failing { pulls_left self.old ≡ Some 0 → IsErr result × (inner_source self.new ≡ inner_source self.old) × (pulls_left self.new ≡ None) }

@@ -1,7 +1,7 @@
 //! A source over bytes in memory.
 
-ghost use Rattle.std.specs.Prelude.{◌≡◌, ◌+◌, ◌≤◌, ℕ, List, [], ◌++◌, true, false, length, take, drop, min, IfOk, IsOk, OnOk, OnErr};
-ghost use Rattle.cap_log.specs.Streams.{is_end, next_count};
+ghost use Rattle.std.specs.Prelude.{◌≡◌, ◌+◌, ◌≤◌, ℕ, List, [], ◌++◌, true, false, length, take, drop, min, IfOk, IsOk, OnErr};
+ghost use Rattle.cap_log.specs.Streams.{CountsFault, is_end};
 ghost use Rattle.std.proofs.lemmas.Nat.{pow_pos};
 ghost use Rattle.std.proofs.Common.{rules, append_assoc};
 
@@ -91,10 +91,9 @@ impl<'a> Source for SliceSource<'a> {
         ensures fits { IfOk result (λ n. n ≤ length piece.new) }
         ensures bytes { IfOk result (λ n. Gave self.old self.new (take n piece.new)) }
         ensures end { IfOk result (λ n. has_ended self.new ≡ is_end (length piece.new) n) }
-        ensures counted { OnOk result (failed_pulls self.new ≡ failed_pulls self.old) }
         ensures nothing_given { OnErr result (Gave self.old self.new []) }
         ensures no_end { OnErr result (has_ended self.new ≡ false) }
-        ensures fault_counted { OnErr result (failed_pulls self.new ≡ next_count (failed_pulls self.old)) }
+        ensures counted { CountsFault (failed_pulls self.old) (failed_pulls self.new) result }
 
         // It never fails, and gives as much of the piece at hand as there is room for.
         ensures never_fails { IsOk result }

@@ -21,7 +21,7 @@ returns g c =
             (judged_done (Tells c.args.origins r.given) r.given ended took c.report.result r.report),
       );
       read = subst (λ (d : Result ℕ Fault). IsCounted Read d (g.S.Source.faults c.args.source.now) (g.S.Source.faults c.report.new.source)) is
-          (judged_read _ _ c.report.result e.counted e.pull_counted);
+          (judged_read _ _ c.report.result e.pulls_counted.0 e.pulls_counted.1);
       written = subst (λ (d : Result ℕ Fault). IsCounted Write d (g.K.Sink.faults c.args.sink.now) (g.K.Sink.faults c.report.new.sink)) is
-          (judged_written _ _ c.report.result e.sink_counted e.push_counted);
+          (judged_written _ _ c.report.result e.pushes_counted.0 e.pushes_counted.1);
     }

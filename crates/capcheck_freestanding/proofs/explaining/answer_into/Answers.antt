@@ -21,5 +21,5 @@ returns-in-Ok c =
 pub returns-in-Err : goal.returns-in-Err
 returns-in-Err c =
     of_why_fault c.args.origins c.args.bytes.now (Took c.args.sink.now c.judge_why_bytes.new.sink) c.in-Err.field-0 c.without_verdict.result
-    (λ e. c.in-Err.ensures.pulls_nothing (ap Err e)) (λ e. absurd (omega (arith, c.in-Err.ensures.push_counted (ap Err e))))
+    (λ e. c.in-Err.ensures.pulls_nothing (ap Err e)) (λ e. absurd (omega (arith, c.in-Err.ensures.pushes_counted.1 (ap Err e))))
     c.in-Err.ensures.explained c.without_verdict.ensures.value

@@ -17,4 +17,4 @@ returns-in-Ok c = λ bytes read.
     }
 
 pub returns-in-Err : goal.returns-in-Err
-returns-in-Err c = λ bytes read. absurd (omega (arith, c.in-Err.ensures.fault_counted))
+returns-in-Err c = λ bytes read. absurd (omega (arith, c.in-Err.ensures.counted))

@@ -21,7 +21,7 @@ returns g c =
             (judged_done (Explains c.args.origins r.given ended) r.given ended took c.judge_why.result r.report),
       );
       read = subst (λ (d : Result ℕ Fault). IsCounted Read d (g.S.Source.faults c.args.source.now) (g.S.Source.faults c.judge_why.new.source)) is
-          (judged_read _ _ c.judge_why.result e.counted e.pull_counted);
+          (judged_read _ _ c.judge_why.result e.pulls_counted.0 e.pulls_counted.1);
       written = subst (λ (d : Result ℕ Fault). IsCounted Write d (g.K.Sink.faults c.args.sink.now) (g.K.Sink.faults c.judge_why.new.sink)) is
-          (judged_written _ _ c.judge_why.result e.sink_counted e.push_counted);
+          (judged_written _ _ c.judge_why.result e.pushes_counted.0 e.pushes_counted.1);
     }

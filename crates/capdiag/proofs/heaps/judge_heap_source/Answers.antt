@@ -20,7 +20,7 @@ returns g c =
             (heap_done c.args.report c.args.why r.given ended took c.judge_heap_into.result r.told),
       );
       read = subst (λ (d : Result ℕ Fault). IsCounted Read d (g.S.Source.faults c.args.source.now)
-          (g.S.Source.faults c.judge_heap_into.new.source)) is (heap_read _ _ c.judge_heap_into.result e.counted e.pull_counted);
+          (g.S.Source.faults c.judge_heap_into.new.source)) is (heap_read _ _ c.judge_heap_into.result e.pulls_counted.0 e.pulls_counted.1);
       written = subst (λ (d : Result ℕ Fault). IsCounted Write d (g.K.Sink.faults c.args.sink.now)
-          (g.K.Sink.faults c.judge_heap_into.new.sink)) is (heap_written _ _ c.judge_heap_into.result e.sink_counted e.push_counted);
+          (g.K.Sink.faults c.judge_heap_into.new.sink)) is (heap_written _ _ c.judge_heap_into.result e.pushes_counted.0 e.pushes_counted.1);
     }

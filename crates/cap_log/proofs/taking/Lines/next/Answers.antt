@@ -30,7 +30,7 @@ returns-in-Err g c =
           not_again _ _ _ _ _ c.in_default.is,
         ),
       ),
-      record { answers = tt; counted = tt; fault_counted = λ _. found.ensures.fault_counted; kept_first = found.ensures.kept_first },
+      record { answers = tt; counted = tt; fault_counted = λ _. found.ensures.counted; kept_first = found.ensures.kept_first },
     )
 
 pub returns-then-is_empty : goal.returns-then-is_empty
