@@ -2,7 +2,7 @@
 
 ghost use Rattle.std.specs.Prelude.{◌≡◌, ◌+◌, ◌<◌, ◌≤◌, length, decimal};
 ghost use Rattle.cap_word.specs.Digits.{hex_digits};
-ghost use Rattle.cap_log.specs.Lines.{place_spelling};
+ghost use Rattle.cap_log.specs.Lines.{place_spelling, tag_spelling};
 ghost use Rattle.cap_log.specs.Parts.{Writes};
 
 use crate::lines::Place;
@@ -81,6 +81,16 @@ pub fn put_hex(buffer: &mut [u8], at: usize, digits: usize, number: u128) -> usi
     // The text of a word is the 32 digits of its number.
     let text = word_text(Word(number));
     put(buffer, at, &text[32 - digits..])
+}
+
+/// Writes a tag, or another yes or no, as a digit at an index of the buffer, and answers the index behind it. Nothing
+/// else of the buffer changes.
+pub fn put_flag(buffer: &mut [u8], at: usize, flag: bool) -> usize
+    requires { at + 1 ≤ length buffer.old }
+    ensures written { Writes at (tag_spelling flag) buffer.old buffer.new result }
+    ensures end { result ≡ at + 1 }
+{
+    put(buffer, at, if flag { b"1" } else { b"0" })
 }
 
 /// Writes a place as a log spells it at an index of the buffer, and answers the index behind it: any register,

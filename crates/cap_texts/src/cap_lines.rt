@@ -2,7 +2,6 @@
 //! which root it comes.
 
 ghost use Rattle.std.specs.Prelude.{◌+◌, ◌≤◌, length};
-ghost use Rattle.cap_log.specs.Lines.{tag_spelling};
 ghost use Rattle.cap_log.specs.Parts.{Writes};
 ghost use Rattle.cap_texts.specs.CapLines.{bounds_line, cap_lines, cap_line, descent_line, descent_lines};
 ghost use Rattle.cap_texts.specs.CapLines.{operand_lines, perms_line, type_line};
@@ -11,7 +10,7 @@ ghost use Rattle.cap_texts.specs.ExplainLines.{type_name};
 use crate::explain_lines::type_name;
 use cap_bounds::{Interval, bounds};
 use cap_log::Place;
-use cap_log::buffers::{put, put_hex, put_place};
+use cap_log::buffers::{put, put_flag, put_hex, put_place};
 use cap_ops::perm_view;
 use cap_word::{Cap, split};
 
@@ -90,19 +89,10 @@ fn put_cap_line(buffer: &mut [u8], at: usize, name: &[u8], place: Place, cap: Ca
     let at = put(buffer, at, b" ");
     let at = put_place(buffer, at, place);
     let at = put(buffer, at, b" ");
-    let at = put_tag(buffer, at, cap.tag);
+    let at = put_flag(buffer, at, cap.tag);
     let at = put(buffer, at, b" ");
     let at = put_hex(buffer, at, 32, cap.word.0);
     put(buffer, at, b"\n")
-}
-
-// Writes a tag.
-fn put_tag(buffer: &mut [u8], at: usize, tag: bool) -> usize
-    requires { at + 1 ≤ length buffer.old }
-    ensures written { Writes at (tag_spelling tag) buffer.old buffer.new result }
-    ensures fits { result ≤ at + 1 }
-{
-    put(buffer, at, if tag { b"1" } else { b"0" })
 }
 
 // Writes the permissions.

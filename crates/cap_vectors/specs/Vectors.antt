@@ -1,11 +1,12 @@
 -- The lines of a vector file: what a word decodes to, whether an address keeps a word's bounds, how a request is rounded, and the bytes of
 -- a word in memory. All of it is this profile's own.
-use Rattle.std.specs.Prelude.{◌≡◌, ℕ, ◌+◌, ◌^◌, ◌<◌, ◌≤◌, ◌↔◌, Bool, true, false, List, ◌++◌, length, All, IsTrue, codes, decimal}
+use Rattle.std.specs.Prelude.{◌≡◌, ℕ, ◌+◌, ◌^◌, ◌<◌, ◌≤◌, ◌↔◌, Bool, List, ◌++◌, length, All, IsTrue, codes, decimal}
 use Rattle.cap_word.specs.Digits.{hex_digits}
 use Rattle.cap_word.specs.Memory.{memory_of}
 use Rattle.cap_bounds.specs.Bounds.{base_of, top_of, IsSound}
 use Rattle.cap_bounds.specs.Range.{KeepsBounds}
 use Rattle.cap_bounds.specs.Rounding.{rounded_base, rounded_top, rounded_ie, rounded_exponent, IsExact}
+use Rattle.cap_log.specs.Lines.{tag_spelling}
 use Rattle.cap_texts.specs.TextLines.{bytes_text}
 
 -- a vector: operands, and what is said of them
@@ -39,8 +40,7 @@ pub record IsTrueVector (vector : Vector) : Type 0 where
 
 -- a yes or a no as a digit
 abbrev pub flag_digit : Bool → List ℕ
-flag_digit true = codes "1"
-flag_digit false = codes "0"
+flag_digit flag = tag_spelling flag
 
 -- the one line of a vector, without its line feed
 abbrev pub spelling : Vector → List ℕ

@@ -8,7 +8,7 @@ ghost use Rattle.cap_bounds.specs.Rounding.{rounded_base, rounded_top, rounded_i
 ghost use Rattle.cap_vectors.specs.Vectors.{Bounds, Keeps, Round, Memory, States, flag_digit};
 
 use cap_bounds::{Interval, Rounded, bounds, keeps_bounds, round, sound};
-use cap_log::buffers::{put, put_decimal, put_hex};
+use cap_log::buffers::{put, put_decimal, put_flag, put_hex};
 use cap_texts::memory_text;
 use cap_word::Word;
 
@@ -85,17 +85,4 @@ pub fn write_memory(word: Word, buffer: &mut [u8; 128]) -> usize
     let at = put_hex(buffer, at, 32, word.0);
     let at = put(buffer, at, b" = ");
     put(buffer, at, &memory_text(word))
-}
-
-// Writes a yes or a no as a digit.
-fn put_flag(buffer: &mut [u8], at: usize, flag: bool) -> usize
-    requires { at + 1 ≤ length buffer.old }
-    ensures end { result ≡ at + 1 }
-    ensures written { take result buffer.new ≡ take at buffer.old ++ flag_digit flag }
-{
-    if flag {
-        put(buffer, at, b"1")
-    } else {
-        put(buffer, at, b"0")
-    }
 }
