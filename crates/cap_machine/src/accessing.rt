@@ -18,22 +18,23 @@ use crate::granules::{capability_with_code, put_capability, put_number};
 use crate::machine::{MOST_STEPS, Machine};
 use crate::shown::Reached;
 use cap_log::Operands;
-use cap_ops::{Access, Kind, Refusal, may_access_soundly, perm_view};
+use cap_ops::{
+    Access, GLOBAL, Kind, PERMIT_LOAD, PERMIT_STORE, PERMIT_STORE_CAPABILITY,
+    PERMIT_STORE_LOCAL_CAPABILITY, Refusal, may_access_soundly, perm_view,
+};
 use cap_word::Cap;
 use tagmem::TaggedStore;
 
 /// The permission that a load needs, as a bit of the view.
-pub const LOAD: u32 = 4;
+pub const LOAD: u32 = 1 << PERMIT_LOAD;
 
 /// The permission that a store needs.
-pub const STORE: u32 = 8;
+pub const STORE: u32 = 1 << PERMIT_STORE;
 
-// The bit that says that a capability is global, and the permissions that storing one needs.
-const GLOBAL: u32 = 1;
+// The permissions that storing a capability needs.
+const STORE_CAPABILITY: u32 = 1 << PERMIT_STORE_CAPABILITY;
 
-const STORE_CAPABILITY: u32 = 32;
-
-const STORE_LOCAL_CAPABILITY: u32 = 64;
+const STORE_LOCAL_CAPABILITY: u32 = 1 << PERMIT_STORE_LOCAL_CAPABILITY;
 
 impl<M: TaggedStore> Machine<M> {
     // The address of a step's access through a register, or how the step ends that this doesn't allow.
@@ -162,7 +163,7 @@ pub fn needs_to_store(stored: Cap) -> u32
 {
     if !stored.tag {
         STORE
-    } else if perm_view(stored.word) & GLOBAL == 1 {
+    } else if (perm_view(stored.word) >> GLOBAL) & 1 == 1 {
         STORE + STORE_CAPABILITY
     } else {
         STORE + STORE_CAPABILITY + STORE_LOCAL_CAPABILITY

@@ -24,16 +24,17 @@ use cap_log::kinds::{
 };
 use cap_log::{Head, Operands, Place, Step};
 use cap_ops::{
-    Access, Kind, OpFault, Refusal, and_perm, and_perm_clear, clear_tag, loaded, may_access, seal,
-    seal_clear, set_addr, set_addr_clear, set_bounds_soundly, unseal, unseal_clear,
+    Access, Kind, OpFault, PERMIT_SEAL, PERMIT_UNSEAL, Refusal, and_perm, and_perm_clear,
+    clear_tag, loaded, may_access, seal, seal_clear, set_addr, set_addr_clear, set_bounds_soundly,
+    unseal, unseal_clear,
 };
 use cap_word::Cap;
 use tagmem::TaggedStore;
 
 // The permissions that an authority over object types needs, as bits of the view.
-const SEAL: u32 = 128;
+const SEAL: u32 = 1 << PERMIT_SEAL;
 
-const UNSEAL: u32 = 512;
+const UNSEAL: u32 = 1 << PERMIT_UNSEAL;
 
 /// A kind of step that a machine makes.
 pub trait Instruction: Operands {

@@ -7,21 +7,28 @@ use cap_word::Word;
 
 // The numbers of the permissions that operations test, alike in the architectural view and in the field.
 
-pub(crate) const GLOBAL: u32 = 0;
+/// The number of the bit that says that a capability is global.
+pub const GLOBAL: u32 = 0;
 
-pub(crate) const PERMIT_LOAD: u32 = 2;
+/// The number of the permission that a load needs.
+pub const PERMIT_LOAD: u32 = 2;
 
-pub(crate) const PERMIT_STORE: u32 = 3;
+/// The number of the permission that a store needs.
+pub const PERMIT_STORE: u32 = 3;
 
 pub(crate) const PERMIT_LOAD_CAPABILITY: u32 = 4;
 
-pub(crate) const PERMIT_STORE_CAPABILITY: u32 = 5;
+/// The number of the permission that storing a capability needs.
+pub const PERMIT_STORE_CAPABILITY: u32 = 5;
 
-pub(crate) const PERMIT_STORE_LOCAL_CAPABILITY: u32 = 6;
+/// The number of the permission that storing a capability needs that isn't global.
+pub const PERMIT_STORE_LOCAL_CAPABILITY: u32 = 6;
 
-pub(crate) const PERMIT_SEAL: u32 = 7;
+/// The number of the permission that sealing needs.
+pub const PERMIT_SEAL: u32 = 7;
 
-pub(crate) const PERMIT_UNSEAL: u32 = 9;
+/// The number of the permission that unsealing needs.
+pub const PERMIT_UNSEAL: u32 = 9;
 
 /// Whether a word has an architectural permission.
 #[inline(always)]

@@ -19,6 +19,10 @@ mod sealing;
 pub use crate::access::Access;
 pub use crate::accesses::{loaded, may_access, may_access_soundly};
 pub use crate::addresses::set_addr;
+pub use crate::bits::{
+    GLOBAL, PERMIT_LOAD, PERMIT_SEAL, PERMIT_STORE, PERMIT_STORE_CAPABILITY,
+    PERMIT_STORE_LOCAL_CAPABILITY, PERMIT_UNSEAL,
+};
 pub use crate::clearing::{
     and_perm_clear, seal_clear, set_addr_clear, set_bounds_clear, unseal_clear,
 };
