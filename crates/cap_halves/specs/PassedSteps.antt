@@ -48,8 +48,8 @@ sc_passed source authority offset = StoreCap (record { source = source; authorit
 
 -- `load`
 abbrev pub load_passed : ℕ → ℤ → ℕ → ℕ → Step
-load_passed authority offset size value = Load (record { authority = authority; offset = offset; size = size; value = value })
+load_passed authority offset size value = Load (record { authority = authority; offset = offset; datum = record { size = size; value = value } })
 
 -- `store`
 abbrev pub store_passed : ℕ → ℤ → ℕ → ℕ → Step
-store_passed authority offset size value = Store (record { authority = authority; offset = offset; size = size; value = value })
+store_passed authority offset size value = Store (record { authority = authority; offset = offset; datum = record { size = size; value = value } })

@@ -3,6 +3,6 @@
 #![tactic(auto)]
 
 pub mod halves;
-pub mod ranges;
+mod ranges;
 pub mod steps;
 pub mod values;

@@ -1,23 +1,20 @@
 //! Steps from the numbers that C passes: each kind's, where its numbers are in range.
 
-ghost use Rattle.std.specs.Prelude.{IfSome};
-ghost use Rattle.cap_log.specs.Lines.{IsStepInRange};
 ghost use Rattle.cap_halves.specs.Passed.{IsStepOf};
 ghost use Rattle.cap_halves.specs.PassedSteps as steps;
 
 use crate::halves::taken;
-use crate::ranges::{access_of, pair_of, register_of, size_of, target_of};
+use crate::ranges::{access_of, pair_of};
 use crate::values::Capability;
-use cap_log::Operands;
 use cap_log::kinds::{
     AndPerm, ClearTag, Load, LoadCap, Move, Seal, SetAddr, SetBounds, SetBoundsExact, Store,
     StoreCap, Unseal,
 };
+use cap_log::{Datum, Operands, Register, Target};
 
 /// A step `move`, where its numbers are in range.
 #[inline(always)]
 pub fn move_of(target: u64, source: u64, recorded: Capability) -> Option<Move>
-    ensures range { IfSome result (λ made. IsStepInRange (⟦<Move as Operands>⟧.step made)) }
     ensures step { IsStepOf ⟦<Move as Operands>⟧.step (steps.move_passed target source recorded) result }
 {
     let Some((target, source)) = pair_of(target, source) else {
@@ -33,7 +30,6 @@ pub fn move_of(target: u64, source: u64, recorded: Capability) -> Option<Move>
 /// A step `cleartag`, where its numbers are in range.
 #[inline(always)]
 pub fn cleartag_of(target: u64, source: u64, recorded: Capability) -> Option<ClearTag>
-    ensures range { IfSome result (λ made. IsStepInRange (⟦<ClearTag as Operands>⟧.step made)) }
     ensures step { IsStepOf ⟦<ClearTag as Operands>⟧.step (steps.cleartag_passed target source recorded) result }
 {
     let Some((target, source)) = pair_of(target, source) else {
@@ -54,7 +50,6 @@ pub fn setbounds_of(
     length: u64,
     recorded: Capability,
 ) -> Option<SetBounds>
-    ensures range { IfSome result (λ made. IsStepInRange (⟦<SetBounds as Operands>⟧.step made)) }
     ensures step { IsStepOf ⟦<SetBounds as Operands>⟧.step (steps.setbounds_passed target source length recorded) result }
 {
     let Some((target, source)) = pair_of(target, source) else {
@@ -76,7 +71,6 @@ pub fn setboundsexact_of(
     length: u64,
     recorded: Capability,
 ) -> Option<SetBoundsExact>
-    ensures range { IfSome result (λ made. IsStepInRange (⟦<SetBoundsExact as Operands>⟧.step made)) }
     ensures step { IsStepOf ⟦<SetBoundsExact as Operands>⟧.step (steps.setboundsexact_passed target source length recorded) result }
 {
     let Some((target, source)) = pair_of(target, source) else {
@@ -93,7 +87,6 @@ pub fn setboundsexact_of(
 /// A step `setaddr`, where its numbers are in range.
 #[inline(always)]
 pub fn setaddr_of(target: u64, source: u64, address: u64, recorded: Capability) -> Option<SetAddr>
-    ensures range { IfSome result (λ made. IsStepInRange (⟦<SetAddr as Operands>⟧.step made)) }
     ensures step { IsStepOf ⟦<SetAddr as Operands>⟧.step (steps.setaddr_passed target source address recorded) result }
 {
     let Some((target, source)) = pair_of(target, source) else {
@@ -110,7 +103,6 @@ pub fn setaddr_of(target: u64, source: u64, address: u64, recorded: Capability) 
 /// A step `andperm`, where its numbers are in range.
 #[inline(always)]
 pub fn andperm_of(target: u64, source: u64, mask: u64, recorded: Capability) -> Option<AndPerm>
-    ensures range { IfSome result (λ made. IsStepInRange (⟦<AndPerm as Operands>⟧.step made)) }
     ensures step { IsStepOf ⟦<AndPerm as Operands>⟧.step (steps.andperm_passed target source mask recorded) result }
 {
     let Some((target, source)) = pair_of(target, source) else {
@@ -127,13 +119,12 @@ pub fn andperm_of(target: u64, source: u64, mask: u64, recorded: Capability) -> 
 /// A step `seal`, where its numbers are in range.
 #[inline(always)]
 pub fn seal_of(target: u64, source: u64, authority: u64, recorded: Capability) -> Option<Seal>
-    ensures range { IfSome result (λ made. IsStepInRange (⟦<Seal as Operands>⟧.step made)) }
     ensures step { IsStepOf ⟦<Seal as Operands>⟧.step (steps.seal_passed target source authority recorded) result }
 {
     let Some((target, source)) = pair_of(target, source) else {
         return None;
     };
-    let Some(authority) = register_of(authority) else {
+    let Some(authority) = Register::new(authority) else {
         return None;
     };
     Some(Seal {
@@ -147,13 +138,12 @@ pub fn seal_of(target: u64, source: u64, authority: u64, recorded: Capability) -
 /// A step `unseal`, where its numbers are in range.
 #[inline(always)]
 pub fn unseal_of(target: u64, source: u64, authority: u64, recorded: Capability) -> Option<Unseal>
-    ensures range { IfSome result (λ made. IsStepInRange (⟦<Unseal as Operands>⟧.step made)) }
     ensures step { IsStepOf ⟦<Unseal as Operands>⟧.step (steps.unseal_passed target source authority recorded) result }
 {
     let Some((target, source)) = pair_of(target, source) else {
         return None;
     };
-    let Some(authority) = register_of(authority) else {
+    let Some(authority) = Register::new(authority) else {
         return None;
     };
     Some(Unseal {
@@ -167,10 +157,9 @@ pub fn unseal_of(target: u64, source: u64, authority: u64, recorded: Capability)
 /// A step `lc`, where its numbers are in range.
 #[inline(always)]
 pub fn lc_of(target: u64, authority: u64, offset: i64, recorded: Capability) -> Option<LoadCap>
-    ensures range { IfSome result (λ made. IsStepInRange (⟦<LoadCap as Operands>⟧.step made)) }
     ensures step { IsStepOf ⟦<LoadCap as Operands>⟧.step (steps.lc_passed target authority offset recorded) result }
 {
-    let Some(target) = target_of(target) else {
+    let Some(target) = Target::new(target) else {
         return None;
     };
     let Some((authority, offset)) = access_of(authority, offset) else {
@@ -187,10 +176,9 @@ pub fn lc_of(target: u64, authority: u64, offset: i64, recorded: Capability) -> 
 /// A step `sc`, where its numbers are in range.
 #[inline(always)]
 pub fn sc_of(source: u64, authority: u64, offset: i64) -> Option<StoreCap>
-    ensures range { IfSome result (λ made. IsStepInRange (⟦<StoreCap as Operands>⟧.step made)) }
     ensures step { IsStepOf ⟦<StoreCap as Operands>⟧.step (steps.sc_passed source authority offset) result }
 {
-    let Some(source) = register_of(source) else {
+    let Some(source) = Register::new(source) else {
         return None;
     };
     let Some((authority, offset)) = access_of(authority, offset) else {
@@ -206,39 +194,35 @@ pub fn sc_of(source: u64, authority: u64, offset: i64) -> Option<StoreCap>
 /// A step `load`, where its numbers are in range. `size` is 1, 2, 4 or 8 bytes, and `value` their number.
 #[inline(always)]
 pub fn load_of(authority: u64, offset: i64, size: u64, value: u64) -> Option<Load>
-    ensures range { IfSome result (λ made. IsStepInRange (⟦<Load as Operands>⟧.step made)) }
     ensures step { IsStepOf ⟦<Load as Operands>⟧.step (steps.load_passed authority offset size value) result }
 {
     let Some((authority, offset)) = access_of(authority, offset) else {
         return None;
     };
-    let Some(size) = size_of(size, value) else {
+    let Some(datum) = Datum::new(size, value) else {
         return None;
     };
     Some(Load {
         authority,
         offset,
-        size,
-        value,
+        datum,
     })
 }
 
 /// A step `store`, where its numbers are in range. `size` is 1, 2, 4 or 8 bytes, and `value` their number.
 #[inline(always)]
 pub fn store_of(authority: u64, offset: i64, size: u64, value: u64) -> Option<Store>
-    ensures range { IfSome result (λ made. IsStepInRange (⟦<Store as Operands>⟧.step made)) }
     ensures step { IsStepOf ⟦<Store as Operands>⟧.step (steps.store_passed authority offset size value) result }
 {
     let Some((authority, offset)) = access_of(authority, offset) else {
         return None;
     };
-    let Some(size) = size_of(size, value) else {
+    let Some(datum) = Datum::new(size, value) else {
         return None;
     };
     Some(Store {
         authority,
         offset,
-        size,
-        value,
+        datum,
     })
 }

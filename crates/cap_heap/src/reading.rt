@@ -128,8 +128,10 @@ fn read_end(text: &[u8]) -> Option<u32>
     ensures some { IfSome result (λ count. Spells text.now (End count)) }
     ensures none { IfNone result ((count : ℕ) → Spells text.now (End count) → ⊥) }
 {
-    let line = cap_log::read_line(text)?;
-    count_of(line)
+    match cap_log::read_line(text) {
+        Some(line) => count_of(line),
+        None => None,
+    }
 }
 
 // The number of an end line.

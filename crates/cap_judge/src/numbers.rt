@@ -1,7 +1,7 @@
 //! Taking steps by their numbers, without their lines.
 
 ghost use Rattle.std.specs.Prelude.{◌≡◌, ◌≢◌, ℕ, List, [], ◌∷◌, ◌++◌, Err, OnOk, IfErr};
-ghost use Rattle.cap_log.specs.Lines.{IsStepInRange, spelling};
+ghost use Rattle.cap_log.specs.Lines.{spelling};
 ghost use Rattle.cap_log.specs.declared.lines.Line.TheVariants as lines;
 ghost use Rattle.cap_judge.specs.Logs.{MayLackMemory};
 ghost use Rattle.cap_judge.specs.Readings.{HasRead, known_of};
@@ -14,12 +14,10 @@ use cap_machine::Instruction;
 use tagmem::TaggedStore;
 
 impl<M: TaggedStore> Judge<M> {
-    /// Takes a step by its numbers, which have to be in their ranges, as [`Judge::take_line`] takes the line that
-    /// spells it, with its line feed. That line is written only where the step is refused, or is no step's place. Where
+    /// Takes a step by its numbers, as [`Judge::take_line`] takes the line that spells it, with its line feed. That line is written only where the step is refused, or is no step's place. Where
     /// there is no memory nothing has changed, and the step may be handed over again.
     #[inline(always)]
     pub fn take_step<I: Instruction>(&mut self, step: I) -> Result<(), TakeFault>
-        requires { IsStepInRange (I.step step) }
         ensures taken { OnOk result ((bytes : List ℕ) → HasRead M.contents self.old bytes
             → HasRead M.contents self.new (bytes ++ (spelling (lines.Step (I.step step)) ++ 10 ∷ []))) }
         ensures unchanged { IfErr result (λ _. known_of M.contents self.new ≡ known_of M.contents self.old) }
@@ -27,6 +25,7 @@ impl<M: TaggedStore> Judge<M> {
         ensures no_memory { result ≡ Err NoMemory → (bytes : List ℕ) → HasRead M.contents self.old bytes
             → MayLackMemory (bytes ++ (spelling (lines.Step (I.step step)) ++ 10 ∷ [])) [] }
     {
+        step.in_range();
         if let Stage::Body = self.stage {
             return match step.perform(&mut self.machine) {
                 Ok(()) => Ok(()),
@@ -39,7 +38,6 @@ impl<M: TaggedStore> Judge<M> {
     // Takes a step that was not made. The call gets a value of its own: so a step needn't stand in memory where it is made.
     #[inline(always)]
     fn take_unmade<I: Instruction>(&mut self, step: I) -> Result<(), TakeFault>
-        requires { IsStepInRange (I.step step) }
         ensures taken { OnOk result ((bytes : List ℕ) → HasRead M.contents self.old bytes
             → HasRead M.contents self.new (bytes ++ (spelling (lines.Step (I.step step)) ++ 10 ∷ []))) }
         ensures unchanged { IfErr result (λ _. known_of M.contents self.new ≡ known_of M.contents self.old) }
@@ -53,7 +51,6 @@ impl<M: TaggedStore> Judge<M> {
     // Takes a step by its line.
     #[inline(never)]
     fn take_written(&mut self, step: Step) -> Result<(), TakeFault>
-        requires { IsStepInRange step }
         ensures taken { OnOk result ((bytes : List ℕ) → HasRead M.contents self.old bytes
             → HasRead M.contents self.new (bytes ++ (spelling (lines.Step step) ++ 10 ∷ []))) }
         ensures unchanged { IfErr result (λ _. known_of M.contents self.new ≡ known_of M.contents self.old) }
@@ -61,6 +58,7 @@ impl<M: TaggedStore> Judge<M> {
         ensures no_memory { result ≡ Err NoMemory → (bytes : List ℕ) → HasRead M.contents self.old bytes
             → MayLackMemory (bytes ++ (spelling (lines.Step step) ++ 10 ∷ [])) [] }
     {
+        step.in_range();
         let mut buffer = [0; 96];
         let length = write_line(&Line::Step(step), &mut buffer);
         self.take_line(&buffer[..length])

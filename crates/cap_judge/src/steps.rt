@@ -1,7 +1,6 @@
 //! Taking the steps at the front of some bytes, each by the type of its kind.
 
 ghost use Rattle.std.specs.Prelude.{◌≡◌, ℕ, List, [], ◌++◌, false, IfSome};
-ghost use Rattle.cap_log.specs.Lines.{IsStepInRange};
 ghost use Rattle.cap_machine.specs.Helds.{AnswersStep, held_of};
 ghost use Rattle.cap_judge.specs.Readings.{EndsStepAt, TakesAll, TakesOne, TakesSteps};
 
@@ -170,7 +169,6 @@ fn perform_by<M: TaggedStore, I: Instruction>(
     machine: &mut Machine<M>,
     step: I,
 ) -> Result<(), StepEnd>
-    requires { IsStepInRange (I.step step) }
     ensures { AnswersStep (held_of M.contents machine.old) (I.step step) result (held_of M.contents machine.new) }
 {
     if I::IS_RARE || I::IS_LARGE {
@@ -186,7 +184,6 @@ fn perform_apart<M: TaggedStore, I: Instruction>(
     machine: &mut Machine<M>,
     step: I,
 ) -> Result<(), StepEnd>
-    requires { IsStepInRange (I.step step) }
     ensures { AnswersStep (held_of M.contents machine.old) (I.step step) result (held_of M.contents machine.new) }
 {
     step.perform(machine)

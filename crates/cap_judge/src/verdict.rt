@@ -4,7 +4,7 @@ ghost use Rattle.std.specs.Prelude.{◌≡◌};
 ghost use Rattle.cap_judge.specs.Reports.{told_fault};
 ghost use Rattle.cap_judge.specs.declared.verdict.JudgeToFault.TheVariants.{Push};
 
-use cap_log::PushFault;
+use cap_log::{PushFault, Size};
 use cap_machine::Refusal;
 use cap_word::Cap;
 
@@ -84,7 +84,7 @@ pub enum Expected {
     Number {
         /// It, of at most so many bytes.
         value: u64,
-        /// How many bytes it has in memory: 1, 2, 4 or 8.
-        size: u8,
+        /// How many bytes it has in memory.
+        size: Size,
     },
 }

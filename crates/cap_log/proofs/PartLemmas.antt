@@ -12,7 +12,8 @@ use Rattle.cap_word.specs.declared.word.Cap.{Cap}
 use Rattle.cap_word.proofs.DigitLemmas.{length-hex_digits, pow_256}
 use Rattle.cap_log.specs.Lines.{IsDataSize, IsDataValue, IsNumber, IsOffset, IsPlace, IsRegister, IsTarget, IsWord, place_spelling}
 use Rattle.cap_log.specs.Lines.{register_spelling, tag_spelling}
-use Rattle.cap_log.specs.Parts.{Begins, BeginsWithNone, HasNoSpace, IsSized, loaded_spelling, result_spelling, stored_spelling}
+use Rattle.cap_log.specs.Parts.{Begins, BeginsWithNone, HasNoSpace, loaded_spelling, result_spelling, stored_spelling}
+use Rattle.cap_log.specs.Ranges.{IsDatum}
 use Rattle.cap_log.specs.declared.lines.Place.{Place}
 use Rattle.cap_log.specs.declared.lines.Place.TheVariants.{Register, Granule}
 use Rattle.cap_log.specs.Parts.{Lacks}
@@ -150,49 +151,49 @@ pub value-same : (size m n : ℕ) → IsDataValue size m → IsDataValue size n 
 value-same size m n small small' e =
     hex_digits-same (2 * size) m n (subst (λ (p : ℕ). m < p) (pow_256 size) small) (subst (λ (p : ℕ). n < p) (pow_256 size) small') e
 
-sized_parts : (s t m n : ℕ) → IsSized s m → IsSized t n → decimal s ≡ decimal t
+sized_parts : (s t m n : ℕ) → IsDataSize s → IsDataSize t → IsDataValue s m → IsDataValue t n → decimal s ≡ decimal t
     → hex_digits (2 * s) m ≡ hex_digits (2 * t) n → (s ≡ t) × (m ≡ n)
-sized_parts s t m n fits fits' size digits =
-    let small = size-small s fits.0 in
-    let small' = size-small t fits'.0 in
+sized_parts s t m n fits fits' value value' size digits =
+    let small = size-small s fits in
+    let small' = size-small t fits' in
     let same = decimal_injective s t (omega arith) (omega arith) size in
-    let value = subst (λ (k : ℕ). IsDataValue k n → hex_digits (2 * s) m ≡ hex_digits (2 * k) n → m ≡ n) same (value-same s m n fits.1) in
-    (same, value fits'.1 digits)
+    let same_value = subst (λ (k : ℕ). IsDataValue k n → hex_digits (2 * s) m ≡ hex_digits (2 * k) n → m ≡ n) same (value-same s m n value) in
+    (same, same_value value' digits)
 
 -- the ends of loads and stores
-pub loaded-operand : IsOperand (λ (x : ℕ × ℕ). IsSized x.0 x.1) (λ x. loaded_spelling x.0 x.1) 20
+pub loaded-operand : IsOperand IsDatum loaded_spelling 20
 loaded-operand = record {
   one = λ a b fits fits' e.
-      let cut = same_cut 32 (decimal a.0) (decimal b.0) (61 ∷ 32 ∷ hex_digits (2 * a.0) a.1) (61 ∷ 32 ∷ hex_digits (2 * b.0) b.1)
-      (size-spaceless a.0 fits.0) (size-spaceless b.0 fits'.0) e in
-      let parts = sized_parts a.0 b.0 a.1 b.1 fits fits' cut.0 (ap (λ (bs : List ℕ). drop 2 bs) cut.1) in
-      ap (λ x. (x, a.1)) parts.0 ∙ ap (λ y. (b.0, y)) parts.1;
+      let cut = same_cut 32 (decimal a.size) (decimal b.size) (61 ∷ 32 ∷ hex_digits (2 * a.size) a.value) (61 ∷ 32 ∷ hex_digits (2 * b.size) b.value)
+      (size-spaceless a.size fits.0) (size-spaceless b.size fits'.0) e in
+      let parts = sized_parts a.size b.size a.value b.value fits.0 fits'.0 fits.1 fits'.1 cut.0 (ap (λ (bs : List ℕ). drop 2 bs) cut.1) in
+      ap (λ (x : ℕ). record { size = x; value = a.value }) parts.0 ∙ ap (λ (y : ℕ). record { size = b.size; value = y }) parts.1;
   plain = λ a fits.
-      let small = size-small a.0 fits.0 in
-      All-append (λ b. b ≢ 10) (decimal a.0) (32 ∷ 61 ∷ 32 ∷ hex_digits (2 * a.0) a.1) (Lacks-decimal 10 a.0 (omega arith) (omega arith))
-      (All-append (λ b. b ≢ 10) (codes " = ") (hex_digits (2 * a.0) a.1) (Lacks-by_test 10 (codes " = ") refl)
-      (Lacks-hex 10 (2 * a.0) a.1 refl));
+      let small = size-small a.size fits.0 in
+      All-append (λ b. b ≢ 10) (decimal a.size) (32 ∷ 61 ∷ 32 ∷ hex_digits (2 * a.size) a.value) (Lacks-decimal 10 a.size (omega arith) (omega arith))
+      (All-append (λ b. b ≢ 10) (codes " = ") (hex_digits (2 * a.size) a.value) (Lacks-by_test 10 (codes " = ") refl)
+      (Lacks-hex 10 (2 * a.size) a.value refl));
   short = λ a fits.
-      let small = size-small a.0 fits.0 in
-      let size = length-decimal-le 1 a.0 (omega arith) (omega arith) (omega arith) in
-      omega (arith, length-append (decimal a.0) (32 ∷ 61 ∷ 32 ∷ hex_digits (2 * a.0) a.1), length-hex_digits (2 * a.0) a.1);
+      let small = size-small a.size fits.0 in
+      let size = length-decimal-le 1 a.size (omega arith) (omega arith) (omega arith) in
+      omega (arith, length-append (decimal a.size) (32 ∷ 61 ∷ 32 ∷ hex_digits (2 * a.size) a.value), length-hex_digits (2 * a.size) a.value);
 }
 
-pub stored-operand : IsOperand (λ (x : ℕ × ℕ). IsSized x.0 x.1) (λ x. stored_spelling x.0 x.1) 18
+pub stored-operand : IsOperand IsDatum stored_spelling 18
 stored-operand = record {
   one = λ a b fits fits' e.
-      let cut = same_cut 32 (decimal a.0) (decimal b.0) (hex_digits (2 * a.0) a.1) (hex_digits (2 * b.0) b.1) (size-spaceless a.0 fits.0)
-      (size-spaceless b.0 fits'.0) e in
-      let parts = sized_parts a.0 b.0 a.1 b.1 fits fits' cut.0 cut.1 in
-      ap (λ x. (x, a.1)) parts.0 ∙ ap (λ y. (b.0, y)) parts.1;
+      let cut = same_cut 32 (decimal a.size) (decimal b.size) (hex_digits (2 * a.size) a.value) (hex_digits (2 * b.size) b.value) (size-spaceless a.size fits.0)
+      (size-spaceless b.size fits'.0) e in
+      let parts = sized_parts a.size b.size a.value b.value fits.0 fits'.0 fits.1 fits'.1 cut.0 cut.1 in
+      ap (λ (x : ℕ). record { size = x; value = a.value }) parts.0 ∙ ap (λ (y : ℕ). record { size = b.size; value = y }) parts.1;
   plain = λ a fits.
-      let small = size-small a.0 fits.0 in
-      All-append (λ b. b ≢ 10) (decimal a.0) (32 ∷ hex_digits (2 * a.0) a.1) (Lacks-decimal 10 a.0 (omega arith) (omega arith))
-      (All-cons (λ b. b ≢ 10) 32 (hex_digits (2 * a.0) a.1) (omega arith) (Lacks-hex 10 (2 * a.0) a.1 refl));
+      let small = size-small a.size fits.0 in
+      All-append (λ b. b ≢ 10) (decimal a.size) (32 ∷ hex_digits (2 * a.size) a.value) (Lacks-decimal 10 a.size (omega arith) (omega arith))
+      (All-cons (λ b. b ≢ 10) 32 (hex_digits (2 * a.size) a.value) (omega arith) (Lacks-hex 10 (2 * a.size) a.value refl));
   short = λ a fits.
-      let small = size-small a.0 fits.0 in
-      let size = length-decimal-le 1 a.0 (omega arith) (omega arith) (omega arith) in
-      omega (arith, length-append (decimal a.0) (32 ∷ hex_digits (2 * a.0) a.1), length-hex_digits (2 * a.0) a.1);
+      let small = size-small a.size fits.0 in
+      let size = length-decimal-le 1 a.size (omega arith) (omega arith) (omega arith) in
+      omega (arith, length-append (decimal a.size) (32 ∷ hex_digits (2 * a.size) a.value), length-hex_digits (2 * a.size) a.value);
 }
 
 -- behind an @ stands the address of a granule

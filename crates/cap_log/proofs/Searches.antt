@@ -10,13 +10,11 @@ use Rattle.cap_log.specs.declared.lines.Place.TheVariants.{Register, Granule}
 use Rattle.cap_log.specs.declared.lines.Mode.{Mode}
 use Rattle.cap_log.specs.declared.lines.Mode.TheVariants.{Strict, Clear}
 use Rattle.cap_log.specs.declared.parts.headers.Version.{Version}
-use Rattle.cap_log.specs.declared.parts.offsets.Offset.{Offset}
-use Rattle.cap_log.specs.declared.parts.registers.Register.{Register as ARegister}
-use Rattle.cap_log.specs.declared.parts.registers.Target.{Target as ATarget}
 use Rattle.cap_log.specs.declared.parts.sized.Loaded.{Loaded}
 use Rattle.cap_log.specs.declared.parts.sized.Stored.{Stored}
 use Rattle.cap_log.specs.Lines.{IsRegister, IsTarget, IsPlace, IsWord, IsOffset, IsDataSize, IsVersion}
-use Rattle.cap_log.specs.Parts.{FitBoth, IsMode, IsSized}
+use Rattle.cap_log.specs.Parts.{FitBoth, IsMode}
+use Rattle.cap_log.specs.Ranges.{Datum, IsDatum}
 
 -- Facts that are decided
 
@@ -86,17 +84,11 @@ narrowed {Narrow = Narrow} search within decide P decided =
     alike (λ h. (h.0, h.2.0, h.2.1)) (λ h. (h.0, within h.0 h.1, (h.1, h.2)))
     (search (λ a. Narrow a × P a) (λ a. both (decide a) (decided a)))
 
-pub registers : Searched ARegister (λ a. IsRegister a.0)
-registers P decided =
-    alike (λ h. (record { 0 = h.0 }, h.1, h.2)) (λ h. (h.0.0, h.1, h.2))
-    (narrowed (below 32) (λ n range. omega arith) (λ n. fits n 31) _ (λ n. decided (record { 0 = n })))
+pub registers : Searched ℕ IsRegister
+registers = narrowed (below 32) (λ n range. omega arith) (λ n. fits n 31)
 
-target_numbers : Searched ℕ IsTarget
-target_numbers = narrowed (below 32) (λ n range. let few = range.1 in omega arith) (λ n. both (fits 1 n) (fits n 31))
-
-pub targets : Searched ATarget (λ a. IsTarget a.0)
-targets P decided =
-    alike (λ h. (record { 0 = h.0 }, h.1, h.2)) (λ h. (h.0.0, h.1, h.2)) (target_numbers _ (λ n. decided (record { 0 = n })))
+pub targets : Searched ℕ IsTarget
+targets = narrowed (below 32) (λ n range. let few = range.1 in omega arith) (λ n. both (fits 1 n) (fits n 31))
 
 pub words : Searched Word (λ w. IsWord w.0)
 words P decided =
@@ -129,14 +121,10 @@ by_sign : (P : ℤ → Type 0) (z : ℤ) → IsOffset z → P z → AnOffset P
 by_sign P (pos n) range p = inl (n, omega (arith, ints, range), p)
 by_sign P (negsuc n) range p = inr (n, omega (arith, ints, range), p)
 
-offset_numbers : Searched ℤ IsOffset
-offset_numbers P decided =
+pub offsets : Searched ℤ IsOffset
+offsets P decided =
     alike (an_offset P) (λ h. by_sign P h.0 h.1 h.2)
     (either (below 2048 _ (λ n. decided (pos n))) (below 2048 _ (λ n. decided (negsuc n))))
-
-pub offsets : Searched Offset (λ a. IsOffset a.0)
-offsets P decided =
-    alike (λ h. (record { 0 = h.0 }, h.1, h.2)) (λ h. (h.0.0, h.1, h.2)) (offset_numbers _ (λ z. decided (record { 0 = z })))
 
 a_size : (size : ℕ) → IsDataSize size → size < 9
 a_size size (inl is) = omega arith
@@ -161,7 +149,7 @@ by_place P (Granule n) range p = inr (n, range, p)
 pub places : Searched Place IsPlace
 places P decided =
     alike (a_place P) (λ h. by_place P h.0 h.1 h.2)
-    (either (target_numbers _ (λ n. decided (Register n))) (below (2 ^ 60) _ (λ n. decided (Granule n))))
+    (either (targets _ (λ n. decided (Register n))) (below (2 ^ 60) _ (λ n. decided (Granule n))))
 
 -- two things, each searched for
 pub pairs : {A B : Type 0} {P : A → Type 0} {Q : B → Type 0} → Searched A P → Searched B Q → Searched (A × B) (FitBoth P Q)
@@ -169,15 +157,18 @@ pairs first second R decided =
     alike (λ h. ((h.0, h.2.0), (h.1, h.2.1), h.2.2)) (λ h. (h.0.0, h.1.0, (h.0.1, h.1.1, h.2)))
     (first _ (λ a. second _ (λ b. decided (a, b))))
 
-pub loads : Searched Loaded (λ a. IsSized a.size a.value)
-loads P decided =
+data_numbers : Searched Datum IsDatum
+data_numbers P decided =
     alike (λ h. (record { size = h.0; value = h.2.0 }, (h.1, h.2.1), h.2.2)) (λ h. (h.0.size, h.1.0, (h.0.value, h.1.1, h.2)))
     (sizes _ (λ size. below (256 ^ size) _ (λ value. decided (record { size = size; value = value }))))
 
-pub stores : Searched Stored (λ a. IsSized a.size a.value)
+pub loads : Searched Loaded (λ a. IsDatum a.0)
+loads P decided =
+    alike (λ h. (record { 0 = h.0 }, h.1, h.2)) (λ h. (h.0.0, h.1, h.2)) (data_numbers _ (λ d. decided (record { 0 = d })))
+
+pub stores : Searched Stored (λ a. IsDatum a.0)
 stores P decided =
-    alike (λ h. (record { size = h.0; value = h.2.0 }, (h.1, h.2.1), h.2.2)) (λ h. (h.0.size, h.1.0, (h.0.value, h.1.1, h.2)))
-    (sizes _ (λ size. below (256 ^ size) _ (λ value. decided (record { size = size; value = value }))))
+    alike (λ h. (record { 0 = h.0 }, h.1, h.2)) (λ h. (h.0.0, h.1, h.2)) (data_numbers _ (λ d. decided (record { 0 = d })))
 
 a_version : (v : ℕ) → IsVersion v → v < 3
 a_version v (inl is) = omega arith

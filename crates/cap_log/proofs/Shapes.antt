@@ -11,9 +11,10 @@ use Rattle.cap_log.specs.Front.{HasNoFeed}
 use Rattle.cap_log.specs.Heads.{IsHead, head_spelling}
 use Rattle.cap_log.specs.Lines.{IsInRange, IsNumber, IsVersion, IsOffset, IsPlace, IsRegister, IsTarget, IsWord, mode_spelling}
 use Rattle.cap_log.specs.Lines.{place_spelling, register_spelling, spelling}
-use Rattle.cap_log.specs.Parts.{Begins, BeginsWithNone, BeginsWithout, FitBoth, IsCount, IsMode, IsSized, StandsBehind, loaded_spelling}
+use Rattle.cap_log.specs.Parts.{Begins, BeginsWithNone, BeginsWithout, FitBoth, IsCount, IsMode, StandsBehind, loaded_spelling}
 use Rattle.cap_log.specs.Parts.{result_spelling, spaced}
 use Rattle.cap_log.specs.Parts.{stored_spelling}
+use Rattle.cap_log.specs.Ranges.{IsDatum}
 use Rattle.cap_log.specs.declared.kinds.Head.{Head}
 use Rattle.cap_log.specs.declared.kinds.Head.TheVariants as head
 use Rattle.cap_log.specs.declared.kinds.Step.TheVariants as step
@@ -22,9 +23,6 @@ use Rattle.cap_log.specs.declared.lines.Mode.TheVariants as modes
 use Rattle.cap_log.specs.declared.lines.Line.{Line}
 use Rattle.cap_log.specs.declared.lines.Line.TheVariants as line
 use Rattle.cap_log.specs.declared.parts.headers.Version.{Version}
-use Rattle.cap_log.specs.declared.parts.offsets.Offset.{Offset}
-use Rattle.cap_log.specs.declared.parts.registers.Register.{Register}
-use Rattle.cap_log.specs.declared.parts.registers.Target.{Target}
 use Rattle.cap_log.specs.declared.parts.sized.Loaded.{Loaded}
 use Rattle.cap_log.specs.declared.parts.sized.Stored.{Stored}
 use Rattle.cap_log.proofs.Cuts.{Lacks-by_test, same_cut}
@@ -57,32 +55,29 @@ part {A} Fits spelled n one_each search_for = record {
 
 -- the parts, as the code has them
 abbrev a_target : Shape
-a_target = part (λ (a : Target). IsTarget a.0) (λ a. register_spelling a.0) 3
-    (mapped IsTarget register_spelling 3 target-operand (λ a. a.0) (λ x. record { 0 = x }) (λ _. refl)) targets
+a_target = part IsTarget register_spelling 3 target-operand targets
 
 abbrev a_register : Shape
-a_register = part (λ (a : Register). IsRegister a.0) (λ a. register_spelling a.0) 3
-    (mapped IsRegister register_spelling 3 register-operand (λ a. a.0) (λ x. record { 0 = x }) (λ _. refl)) registers
+a_register = part IsRegister register_spelling 3 register-operand registers
 
 abbrev a_number : Shape
 a_number = part IsNumber (hex_digits 16) 16
     number-operand (below (2 ^ 64))
 
 abbrev an_offset : Shape
-an_offset = part (λ (a : Offset). IsOffset a.0) (λ a. signed_decimal a.0) 5
-    (mapped IsOffset signed_decimal 5 offset-operand (λ a. a.0) (λ x. record { 0 = x }) (λ _. refl)) offsets
+an_offset = part IsOffset signed_decimal 5 offset-operand offsets
 
 abbrev a_result : Shape
 a_result = part (λ (a : Cap). IsWord a.word.0) result_spelling 36
     result-operand caps
 
 abbrev a_load : Shape
-a_load = part (λ (a : Loaded). IsSized a.size a.value) (λ a. loaded_spelling a.size a.value) 20
-    (mapped (λ (x : ℕ × ℕ). IsSized x.0 x.1) (λ x. loaded_spelling x.0 x.1) 20 loaded-operand (λ a. (a.size, a.value)) (λ x. record { size = x.0; value = x.1 }) (λ _. refl)) loads
+a_load = part (λ (a : Loaded). IsDatum a.0) (λ a. loaded_spelling a.0) 20
+    (mapped IsDatum loaded_spelling 20 loaded-operand (λ a. a.0) (λ x. record { 0 = x }) (λ _. refl)) loads
 
 abbrev a_store : Shape
-a_store = part (λ (a : Stored). IsSized a.size a.value) (λ a. stored_spelling a.size a.value) 18
-    (mapped (λ (x : ℕ × ℕ). IsSized x.0 x.1) (λ x. stored_spelling x.0 x.1) 18 stored-operand (λ a. (a.size, a.value)) (λ x. record { size = x.0; value = x.1 }) (λ _. refl)) stores
+a_store = part (λ (a : Stored). IsDatum a.0) (λ a. stored_spelling a.0) 18
+    (mapped IsDatum stored_spelling 18 stored-operand (λ a. a.0) (λ x. record { 0 = x }) (λ _. refl)) stores
 
 abbrev a_count : Shape
 a_count = part IsCount decimal 10
@@ -159,16 +154,16 @@ one_word first spaceless second = record {
 }
 
 abbrev target : Shape → Shape
-target = one_word a_target (λ a fits. register-spaceless a.0 fits.1)
+target = one_word a_target (λ a fits. register-spaceless a fits.1)
 
 abbrev register : Shape → Shape
-register = one_word a_register (λ a fits. register-spaceless a.0 fits)
+register = one_word a_register register-spaceless
 
 abbrev number : Shape → Shape
 number = one_word a_number (λ a fits. number-spaceless a)
 
 abbrev offset : Shape → Shape
-offset = one_word an_offset (λ a fits. offset-spaceless a.0 fits)
+offset = one_word an_offset offset-spaceless
 
 -- what stands behind a head
 abbrev pub row : Head → Shape
@@ -207,18 +202,18 @@ abbrev pub made : (h : Head) → Value h → Line
 made head.Version version = line.Version version.0
 made head.Mode mode = line.Mode mode
 made head.Root x = line.Root x.0 x.1
-made head.Move x = line.Step (step.Move (record { target = x.0.0; source = x.1.0.0; result = x.1.1 }))
-made head.ClearTag x = line.Step (step.ClearTag (record { target = x.0.0; source = x.1.0.0; result = x.1.1 }))
-made head.Seal x = line.Step (step.Seal (record { target = x.0.0; source = x.1.0.0; authority = x.1.1.0.0; result = x.1.1.1 }))
-made head.Unseal x = line.Step (step.Unseal (record { target = x.0.0; source = x.1.0.0; authority = x.1.1.0.0; result = x.1.1.1 }))
-made head.SetBounds x = line.Step (step.SetBounds (record { target = x.0.0; source = x.1.0.0; length = x.1.1.0; result = x.1.1.1 }))
-made head.SetBoundsExact x = line.Step (step.SetBoundsExact (record { target = x.0.0; source = x.1.0.0; length = x.1.1.0; result = x.1.1.1 }))
-made head.SetAddr x = line.Step (step.SetAddr (record { target = x.0.0; source = x.1.0.0; address = x.1.1.0; result = x.1.1.1 }))
-made head.AndPerm x = line.Step (step.AndPerm (record { target = x.0.0; source = x.1.0.0; mask = x.1.1.0; result = x.1.1.1 }))
-made head.LoadCap x = line.Step (step.LoadCap (record { target = x.0.0; authority = x.1.0.0; offset = x.1.1.0.0; result = x.1.1.1 }))
-made head.StoreCap x = line.Step (step.StoreCap (record { source = x.0.0; authority = x.1.0.0; offset = x.1.1.0 }))
-made head.Load x = line.Step (step.Load (record { authority = x.0.0; offset = x.1.0.0; size = x.1.1.size; value = x.1.1.value }))
-made head.Store x = line.Step (step.Store (record { authority = x.0.0; offset = x.1.0.0; size = x.1.1.size; value = x.1.1.value }))
+made head.Move x = line.Step (step.Move (record { target = x.0; source = x.1.0; result = x.1.1 }))
+made head.ClearTag x = line.Step (step.ClearTag (record { target = x.0; source = x.1.0; result = x.1.1 }))
+made head.Seal x = line.Step (step.Seal (record { target = x.0; source = x.1.0; authority = x.1.1.0; result = x.1.1.1 }))
+made head.Unseal x = line.Step (step.Unseal (record { target = x.0; source = x.1.0; authority = x.1.1.0; result = x.1.1.1 }))
+made head.SetBounds x = line.Step (step.SetBounds (record { target = x.0; source = x.1.0; length = x.1.1.0; result = x.1.1.1 }))
+made head.SetBoundsExact x = line.Step (step.SetBoundsExact (record { target = x.0; source = x.1.0; length = x.1.1.0; result = x.1.1.1 }))
+made head.SetAddr x = line.Step (step.SetAddr (record { target = x.0; source = x.1.0; address = x.1.1.0; result = x.1.1.1 }))
+made head.AndPerm x = line.Step (step.AndPerm (record { target = x.0; source = x.1.0; mask = x.1.1.0; result = x.1.1.1 }))
+made head.LoadCap x = line.Step (step.LoadCap (record { target = x.0; authority = x.1.0; offset = x.1.1.0; result = x.1.1.1 }))
+made head.StoreCap x = line.Step (step.StoreCap (record { source = x.0; authority = x.1.0; offset = x.1.1 }))
+made head.Load x = line.Step (step.Load (record { authority = x.0; offset = x.1.0; datum = x.1.1.0 }))
+made head.Store x = line.Step (step.Store (record { authority = x.0; offset = x.1.0; datum = x.1.1.0 }))
 made head.End x = line.End x
 
 -- a line as its head and its operands
@@ -226,18 +221,18 @@ abbrev lined : (l : Line) → (h : Head) × (x : Value h) × (made h x ≡ l)
 lined (line.Version version) = (head.Version, record { 0 = version }, refl)
 lined (line.Mode mode) = (head.Mode, mode, refl)
 lined (line.Root place word) = (head.Root, (place, word), refl)
-lined (line.Step (step.Move s)) = (head.Move, (record { 0 = s.target }, (record { 0 = s.source }, s.result)), refl)
-lined (line.Step (step.ClearTag s)) = (head.ClearTag, (record { 0 = s.target }, (record { 0 = s.source }, s.result)), refl)
-lined (line.Step (step.Seal s)) = (head.Seal, (record { 0 = s.target }, (record { 0 = s.source }, (record { 0 = s.authority }, s.result))), refl)
-lined (line.Step (step.Unseal s)) = (head.Unseal, (record { 0 = s.target }, (record { 0 = s.source }, (record { 0 = s.authority }, s.result))), refl)
-lined (line.Step (step.SetBounds s)) = (head.SetBounds, (record { 0 = s.target }, (record { 0 = s.source }, (s.length, s.result))), refl)
-lined (line.Step (step.SetBoundsExact s)) = (head.SetBoundsExact, (record { 0 = s.target }, (record { 0 = s.source }, (s.length, s.result))), refl)
-lined (line.Step (step.SetAddr s)) = (head.SetAddr, (record { 0 = s.target }, (record { 0 = s.source }, (s.address, s.result))), refl)
-lined (line.Step (step.AndPerm s)) = (head.AndPerm, (record { 0 = s.target }, (record { 0 = s.source }, (s.mask, s.result))), refl)
-lined (line.Step (step.LoadCap s)) = (head.LoadCap, (record { 0 = s.target }, (record { 0 = s.authority }, (record { 0 = s.offset }, s.result))), refl)
-lined (line.Step (step.StoreCap s)) = (head.StoreCap, (record { 0 = s.source }, (record { 0 = s.authority }, record { 0 = s.offset })), refl)
-lined (line.Step (step.Load s)) = (head.Load, (record { 0 = s.authority }, (record { 0 = s.offset }, record { size = s.size; value = s.value })), refl)
-lined (line.Step (step.Store s)) = (head.Store, (record { 0 = s.authority }, (record { 0 = s.offset }, record { size = s.size; value = s.value })), refl)
+lined (line.Step (step.Move s)) = (head.Move, (s.target, (s.source, s.result)), refl)
+lined (line.Step (step.ClearTag s)) = (head.ClearTag, (s.target, (s.source, s.result)), refl)
+lined (line.Step (step.Seal s)) = (head.Seal, (s.target, (s.source, (s.authority, s.result))), refl)
+lined (line.Step (step.Unseal s)) = (head.Unseal, (s.target, (s.source, (s.authority, s.result))), refl)
+lined (line.Step (step.SetBounds s)) = (head.SetBounds, (s.target, (s.source, (s.length, s.result))), refl)
+lined (line.Step (step.SetBoundsExact s)) = (head.SetBoundsExact, (s.target, (s.source, (s.length, s.result))), refl)
+lined (line.Step (step.SetAddr s)) = (head.SetAddr, (s.target, (s.source, (s.address, s.result))), refl)
+lined (line.Step (step.AndPerm s)) = (head.AndPerm, (s.target, (s.source, (s.mask, s.result))), refl)
+lined (line.Step (step.LoadCap s)) = (head.LoadCap, (s.target, (s.authority, (s.offset, s.result))), refl)
+lined (line.Step (step.StoreCap s)) = (head.StoreCap, (s.source, (s.authority, s.offset)), refl)
+lined (line.Step (step.Load s)) = (head.Load, (s.authority, (s.offset, record { 0 = s.datum })), refl)
+lined (line.Step (step.Store s)) = (head.Store, (s.authority, (s.offset, record { 0 = s.datum })), refl)
 lined (line.End steps) = (head.End, steps, refl)
 
 abbrev pub head_of : Line → Head
@@ -264,6 +259,8 @@ is_made head.End x = record { in_range = λ f. f; fits = λ f. f; spelling_is = 
 is_made head.Move x = record { in_range = λ f. (f.0, f.1.0, f.1.1); fits = λ f. (f.0, (f.1, f.2)); spelling_is = refl }
 is_made head.ClearTag x = record { in_range = λ f. (f.0, f.1.0, f.1.1); fits = λ f. (f.0, (f.1, f.2)); spelling_is = refl }
 is_made head.StoreCap x = record { in_range = λ f. (f.0, f.1.0, f.1.1); fits = λ f. (f.0, (f.1, f.2)); spelling_is = refl }
+is_made head.Load x = record { in_range = λ f. (f.0, f.1.0, f.1.1); fits = λ f. (f.0, (f.1, f.2)); spelling_is = refl }
+is_made head.Store x = record { in_range = λ f. (f.0, f.1.0, f.1.1); fits = λ f. (f.0, (f.1, f.2)); spelling_is = refl }
 is_made h x = record { in_range = λ f. (f.0, f.1.0, f.1.1.0, f.1.1.1); fits = λ f. (f.0, (f.1, (f.2, f.3))); spelling_is = refl }
 
 pub fits-of : (l : Line) → IsInRange l → Fits (head_of l) (operands_of l)

@@ -5,8 +5,8 @@ use Rattle.std.proofs.lemmas.List.{append_assoc, length-append, take_all}
 use Rattle.std.proofs.lemmas.Fmt.{decimal_digit, decimal_injective}
 use Rattle.cap_word.specs.Digits.{hex_digits}
 use Rattle.cap_word.proofs.DigitLemmas.{length-hex_digits}
-use Rattle.cap_log.specs.Lines.{IsDataSize, IsDataValue}
-use Rattle.cap_log.specs.Parts.{Begins, BeginsWithNone, IsSized, Writes, loaded_spelling, stored_spelling}
+use Rattle.cap_log.specs.Ranges.{Datum, IsDataSize, IsDataValue, IsDatum}
+use Rattle.cap_log.specs.Parts.{Begins, BeginsWithNone, Writes, loaded_spelling, stored_spelling}
 use Rattle.cap_log.proofs.Cuts.{same_cut}
 use Rattle.cap_log.proofs.WriteLemmas.{length-Writes}
 use Rattle.cap_log.proofs.PartLemmas.{size-small, size-spaceless}
@@ -46,17 +46,15 @@ same_size m n bytes x y h k =
     (decimal_injective m n (omega (arith, size-small m h.0)) (omega (arith, size-small n k.0)) parts.0, parts.1)
 
 -- the bytes of a load's or a store's end, cut behind its size
-pub loaded_cut : (size value end : ℕ) (bytes rest : List ℕ) → Begins (λ (v : ℕ). IsSized size v)
-    (λ (v : ℕ). loaded_spelling size v) end bytes value rest
-    → Begins IsDataSize decimal 32 bytes size (61 ∷ 32 ∷ (hex_digits (2 * size) value ++ end ∷ rest))
-loaded_cut size value end bytes rest begins =
-    (begins.0.0, begins.1 ∙ append_assoc (decimal size) (32 ∷ 61 ∷ 32 ∷ hex_digits (2 * size) value) (end ∷ rest))
+pub loaded_cut : (datum : Datum) (end : ℕ) (bytes rest : List ℕ) → IsDatum datum → bytes ≡ loaded_spelling datum ++ end ∷ rest
+    → Begins IsDataSize decimal 32 bytes datum.size (61 ∷ 32 ∷ (hex_digits (2 * datum.size) datum.value ++ end ∷ rest))
+loaded_cut datum end bytes rest fits e =
+    (fits.0, e ∙ append_assoc (decimal datum.size) (32 ∷ 61 ∷ 32 ∷ hex_digits (2 * datum.size) datum.value) (end ∷ rest))
 
-pub stored_cut : (size value end : ℕ) (bytes rest : List ℕ) → Begins (λ (v : ℕ). IsSized size v)
-    (λ (v : ℕ). stored_spelling size v) end bytes value rest
-    → Begins IsDataSize decimal 32 bytes size (hex_digits (2 * size) value ++ end ∷ rest)
-stored_cut size value end bytes rest begins =
-    (begins.0.0, begins.1 ∙ append_assoc (decimal size) (32 ∷ hex_digits (2 * size) value) (end ∷ rest))
+pub stored_cut : (datum : Datum) (end : ℕ) (bytes rest : List ℕ) → IsDatum datum → bytes ≡ stored_spelling datum ++ end ∷ rest
+    → Begins IsDataSize decimal 32 bytes datum.size (hex_digits (2 * datum.size) datum.value ++ end ∷ rest)
+stored_cut datum end bytes rest fits e =
+    (fits.0, e ∙ append_assoc (decimal datum.size) (32 ∷ hex_digits (2 * datum.size) datum.value) (end ∷ rest))
 
 -- no value of the size that was taken
 pub no_sized : (m n value end : ℕ) (digits rest : List ℕ) → m ≡ n → BeginsWithNone (IsDataValue m) (hex_digits (2 * m)) end digits

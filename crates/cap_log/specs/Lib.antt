@@ -5,6 +5,7 @@ pub mod Known
 pub mod Lines
 pub mod Parts
 pub mod Pulled
+pub mod Ranges
 pub mod Slices
 pub mod Spaceless
 pub mod Streams

@@ -1,10 +1,12 @@
 -- The grammar of a log's lines: what each line is spelled as, and which lines have a spelling. All of it is this profile's own.
-use Rattle.std.specs.Prelude.{◌≡◌, ℕ, ◌+◌, ◌-◌, ◌*◌, ◌^◌, ◌<◌, ◌≤◌, ℤ, pos, negsuc, ◌≤ℤ◌, Bool, if◌then◌else◌, ◌⊎◌}
+use Rattle.std.specs.Prelude.{◌≡◌, ℕ, ◌+◌, ◌-◌, ◌*◌, ◌^◌, ◌<◌, ◌≤◌, Bool, if◌then◌else◌, ◌⊎◌}
 use Rattle.std.specs.Prelude.{List, [], ◌∷◌, ◌++◌, codes, decimal, length, take, drop}
 use Rattle.std.specs.Fmt.{signed_decimal}
 use Rattle.std.specs.List.{join_with_byte}
 use Rattle.cap_word.specs.Digits.{hex_digits}
 use Rattle.cap_word.specs.declared.word.Cap.{Cap}
+pub use Rattle.cap_log.specs.Ranges.{IsRegister, IsTarget, IsOffset, IsDataSize, IsDataValue}
+use Rattle.cap_log.specs.Ranges.{IsDatum}
 use Rattle.cap_log.specs.declared.lines.Place.{Place}
 use Rattle.cap_log.specs.declared.lines.Place.TheVariants.{Register, Granule}
 use Rattle.cap_log.specs.declared.kinds.Step.{Step}
@@ -14,14 +16,6 @@ use Rattle.cap_log.specs.declared.lines.Mode.{Mode}
 use Rattle.cap_log.specs.declared.lines.Mode.TheVariants.{Strict, Clear}
 use Rattle.cap_log.specs.declared.lines.Line.{Line}
 use Rattle.cap_log.specs.declared.lines.Line.TheVariants.{Version, Mode as Moding, Root, Step as Stepping, End}
-
--- a register that is read
-abbrev pub IsRegister : ℕ → Type 0
-IsRegister n = n ≤ 31
-
--- a register that is written: c0 is not
-abbrev pub IsTarget : ℕ → Type 0
-IsTarget n = (1 ≤ n) × (n ≤ 31)
 
 -- a register: c and its number in decimal
 abbrev pub register_spelling : ℕ → List ℕ
@@ -44,18 +38,6 @@ IsWord n = n < 2 ^ 128
 -- a length, an address or a mask
 abbrev pub IsNumber : ℕ → Type 0
 IsNumber n = n < 2 ^ 64
-
--- the offset of an access
-abbrev pub IsOffset : ℤ → Type 0
-IsOffset z = (negsuc 2047 ≤ℤ z) × (z ≤ℤ pos 2047)
-
--- how many bytes a load or a store of data takes
-abbrev pub IsDataSize : ℕ → Type 0
-IsDataSize size = (size ≡ 1) ⊎ ((size ≡ 2) ⊎ ((size ≡ 4) ⊎ (size ≡ 8)))
-
--- the number of so many bytes
-abbrev pub IsDataValue : ℕ → ℕ → Type 0
-IsDataValue size value = value < 256 ^ size
 
 -- the versions of the log
 abbrev pub IsVersion : ℕ → Type 0
@@ -93,9 +75,9 @@ step_words (LoadCap step) = register_words (codes "lc") step.target step.authori
 step_words (StoreCap step) =
     codes "sc" ∷ register_spelling step.source ∷ register_spelling step.authority ∷ signed_decimal step.offset ∷ []
 step_words (Load step) =
-    codes "load" ∷ register_spelling step.authority ∷ signed_decimal step.offset ∷ decimal step.size ∷ codes "=" ∷ hex_digits (2 * step.size) step.value ∷ []
+    codes "load" ∷ register_spelling step.authority ∷ signed_decimal step.offset ∷ decimal step.datum.size ∷ codes "=" ∷ hex_digits (2 * step.datum.size) step.datum.value ∷ []
 step_words (Store step) =
-    codes "store" ∷ register_spelling step.authority ∷ signed_decimal step.offset ∷ decimal step.size ∷ hex_digits (2 * step.size) step.value ∷ []
+    codes "store" ∷ register_spelling step.authority ∷ signed_decimal step.offset ∷ decimal step.datum.size ∷ hex_digits (2 * step.datum.size) step.datum.value ∷ []
 
 -- the words of a line
 abbrev pub line_words : Line → List (List ℕ)
@@ -121,8 +103,8 @@ IsStepInRange (Seal step) = IsTarget step.target × (step.source ≤ 31) × (ste
 IsStepInRange (Unseal step) = IsTarget step.target × (step.source ≤ 31) × (step.authority ≤ 31) × (step.result.word.0 < 2 ^ 128)
 IsStepInRange (LoadCap step) = IsTarget step.target × (step.authority ≤ 31) × IsOffset step.offset × (step.result.word.0 < 2 ^ 128)
 IsStepInRange (StoreCap step) = (step.source ≤ 31) × (step.authority ≤ 31) × IsOffset step.offset
-IsStepInRange (Load step) = (step.authority ≤ 31) × IsOffset step.offset × IsDataSize step.size × (step.value < 256 ^ step.size)
-IsStepInRange (Store step) = (step.authority ≤ 31) × IsOffset step.offset × IsDataSize step.size × (step.value < 256 ^ step.size)
+IsStepInRange (Load step) = (step.authority ≤ 31) × IsOffset step.offset × IsDatum step.datum
+IsStepInRange (Store step) = (step.authority ≤ 31) × IsOffset step.offset × IsDatum step.datum
 
 -- the numbers of a line are such as a line has
 abbrev pub IsInRange : Line → Type 0

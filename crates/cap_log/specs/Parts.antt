@@ -9,7 +9,8 @@ use Rattle.cap_log.specs.declared.lines.Mode.{Mode}
 use Rattle.cap_log.specs.declared.lines.Line.{Line}
 use Rattle.cap_log.specs.declared.kinds.Head.{Head}
 use Rattle.cap_log.specs.Heads.{head_spelling}
-use Rattle.cap_log.specs.Lines.{IsDataSize, IsDataValue, IsInRange, result_words, spelling}
+use Rattle.cap_log.specs.Lines.{IsInRange, result_words, spelling}
+use Rattle.cap_log.specs.Ranges.{Datum}
 
 -- the value in range whose spelling the bytes are, or none where they are no such value's
 abbrev pub Reads : {A : Type 0} → (A → Type 0) → (A → List ℕ) → List ℕ → Option A → Type 0
@@ -77,17 +78,13 @@ pub record IsFrontNumber (most : ℕ) (bytes : List ℕ) (value count : ℕ) : T
 abbrev pub result_spelling : Cap → List ℕ
 result_spelling result = join_with_byte 32 (result_words result)
 
--- a size and a value of so many bytes
-abbrev pub IsSized : ℕ → ℕ → Type 0
-IsSized size value = IsDataSize size × IsDataValue size value
-
 -- the end of a load: its size, an equals sign and its value
-abbrev pub loaded_spelling : ℕ → ℕ → List ℕ
-loaded_spelling size value = join_with_byte 32 (decimal size ∷ codes "=" ∷ hex_digits (2 * size) value ∷ [])
+abbrev pub loaded_spelling : Datum → List ℕ
+loaded_spelling datum = join_with_byte 32 (decimal datum.size ∷ codes "=" ∷ hex_digits (2 * datum.size) datum.value ∷ [])
 
 -- the end of a store: its size and its value
-abbrev pub stored_spelling : ℕ → ℕ → List ℕ
-stored_spelling size value = join_with_byte 32 (decimal size ∷ hex_digits (2 * size) value ∷ [])
+abbrev pub stored_spelling : Datum → List ℕ
+stored_spelling datum = join_with_byte 32 (decimal datum.size ∷ hex_digits (2 * datum.size) datum.value ∷ [])
 
 -- new is old with the text written from an index on, up to an end
 pub record Writes (at : ℕ) (text old new : List ℕ) (end : ℕ) : Type 0 where

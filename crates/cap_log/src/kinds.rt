@@ -18,7 +18,7 @@ use crate::parts::cutting::behind;
 use crate::parts::headers::Version;
 use crate::parts::offsets::Offset;
 use crate::parts::registers::{Register, Target};
-use crate::parts::sized::{Loaded, Stored};
+use crate::parts::sized::{Datum, Loaded, Stored};
 use crate::parts::{Part, Single};
 use cap_word::{Cap, Word};
 
@@ -68,23 +68,45 @@ impl Part for Head {
     #[inline(always)]
     fn take(bytes: &[u8], end: u8) -> Option<(Head, &[u8])> {
         match *bytes.get(1)? {
-            b'o' => one(bytes, end, Head::Move, b"move")
-                .or_else(|| one(bytes, end, Head::Load, b"load"))
-                .or_else(|| one(bytes, end, Head::Root, b"root"))
-                .or_else(|| one(bytes, end, Head::Mode, b"mode")),
-            b'e' => one(bytes, end, Head::SetAddr, b"setaddr")
-                .or_else(|| one(bytes, end, Head::SetBounds, b"setbounds"))
-                .or_else(|| one(bytes, end, Head::SetBoundsExact, b"setboundsexact"))
-                .or_else(|| one(bytes, end, Head::Seal, b"seal")),
-            b'c' => one(bytes, end, Head::LoadCap, b"lc").or_else(|| one(
-                bytes,
-                end,
-                Head::StoreCap,
-                b"sc",
-            )),
-            b'n' => one(bytes, end, Head::AndPerm, b"andperm")
-                .or_else(|| one(bytes, end, Head::Unseal, b"unseal"))
-                .or_else(|| one(bytes, end, Head::End, b"end")),
+            b'o' => {
+                if let Some(found) = one(bytes, end, Head::Move, b"move") {
+                    return Some(found);
+                }
+                if let Some(found) = one(bytes, end, Head::Load, b"load") {
+                    return Some(found);
+                }
+                if let Some(found) = one(bytes, end, Head::Root, b"root") {
+                    return Some(found);
+                }
+                one(bytes, end, Head::Mode, b"mode")
+            }
+            b'e' => {
+                if let Some(found) = one(bytes, end, Head::SetAddr, b"setaddr") {
+                    return Some(found);
+                }
+                if let Some(found) = one(bytes, end, Head::SetBounds, b"setbounds") {
+                    return Some(found);
+                }
+                if let Some(found) = one(bytes, end, Head::SetBoundsExact, b"setboundsexact") {
+                    return Some(found);
+                }
+                one(bytes, end, Head::Seal, b"seal")
+            }
+            b'c' => {
+                if let Some(found) = one(bytes, end, Head::LoadCap, b"lc") {
+                    return Some(found);
+                }
+                one(bytes, end, Head::StoreCap, b"sc")
+            }
+            b'n' => {
+                if let Some(found) = one(bytes, end, Head::AndPerm, b"andperm") {
+                    return Some(found);
+                }
+                if let Some(found) = one(bytes, end, Head::Unseal, b"unseal") {
+                    return Some(found);
+                }
+                one(bytes, end, Head::End, b"end")
+            }
             b't' => one(bytes, end, Head::Store, b"store"),
             b'l' => one(bytes, end, Head::ClearTag, b"cleartag"),
             b'a' => one(bytes, end, Head::Version, b"capcheck"),
@@ -171,6 +193,29 @@ pub enum Step {
     Store(Store),
 }
 
+impl Step {
+    /// Its numbers are in their ranges.
+    #[inline(always)]
+    pub fn in_range(&self)
+        ensures range { IsStepInRange self.now }
+    {
+        match *self {
+            Step::Move(step) => step.in_range(),
+            Step::ClearTag(step) => step.in_range(),
+            Step::SetBounds(step) => step.in_range(),
+            Step::SetBoundsExact(step) => step.in_range(),
+            Step::SetAddr(step) => step.in_range(),
+            Step::AndPerm(step) => step.in_range(),
+            Step::Seal(step) => step.in_range(),
+            Step::Unseal(step) => step.in_range(),
+            Step::LoadCap(step) => step.in_range(),
+            Step::StoreCap(step) => step.in_range(),
+            Step::Load(step) => step.in_range(),
+            Step::Store(step) => step.in_range(),
+        }
+    }
+}
+
 /// Takes what stands behind a line's head and its space, with the line feed: the line, and what comes
 /// behind it. `None` where no operands of such a line and a line feed stand there.
 pub fn take_operands(head: Head, bytes: &[u8]) -> Option<(Line, &[u8])>
@@ -211,8 +256,7 @@ pub fn take_operands(head: Head, bytes: &[u8]) -> Option<(Line, &[u8])>
 
 /// Writes a step without its line feed.
 pub(crate) fn write_any(step: Step, buffer: &mut [u8]) -> usize
-    requires in_range { IsStepInRange step }
-    requires room { 95 ≤ length buffer.old }
+    requires { 95 ≤ length buffer.old }
     ensures { Writes 0 (spelling (lines.Step step)) buffer.old buffer.new result }
 {
     match step {
@@ -235,9 +279,9 @@ pub(crate) fn write_any(step: Step, buffer: &mut [u8]) -> usize
 #[derive(Clone, Copy, Debug, PartialEq, Eq)]
 pub struct Move {
     /// The register that is written, 1 to 31.
-    pub target: u8,
+    pub target: Target,
     /// The register that is read, 0 to 31.
-    pub source: u8,
+    pub source: Register,
     /// What the target holds then.
     pub result: Cap,
 }
@@ -256,15 +300,15 @@ impl Operands for Move {
     #[inline(always)]
     fn from_parts((target, (source, recorded)): Self::Parts) -> Self {
         Self {
-            target: target.0,
-            source: source.0,
+            target,
+            source,
             result: recorded,
         }
     }
 
     #[inline(always)]
     fn into_parts(self) -> Self::Parts {
-        (Target(self.target), (Register(self.source), self.result))
+        (self.target, (self.source, self.result))
     }
 
     fn into_step(self) -> Step {
@@ -276,9 +320,9 @@ impl Operands for Move {
 #[derive(Clone, Copy, Debug, PartialEq, Eq)]
 pub struct ClearTag {
     /// The register that is written, 1 to 31.
-    pub target: u8,
+    pub target: Target,
     /// The register that is read, 0 to 31.
-    pub source: u8,
+    pub source: Register,
     /// What the target holds then.
     pub result: Cap,
 }
@@ -297,15 +341,15 @@ impl Operands for ClearTag {
     #[inline(always)]
     fn from_parts((target, (source, recorded)): Self::Parts) -> Self {
         Self {
-            target: target.0,
-            source: source.0,
+            target,
+            source,
             result: recorded,
         }
     }
 
     #[inline(always)]
     fn into_parts(self) -> Self::Parts {
-        (Target(self.target), (Register(self.source), self.result))
+        (self.target, (self.source, self.result))
     }
 
     fn into_step(self) -> Step {
@@ -317,9 +361,9 @@ impl Operands for ClearTag {
 #[derive(Clone, Copy, Debug, PartialEq, Eq)]
 pub struct SetBounds {
     /// The register that is written, 1 to 31.
-    pub target: u8,
+    pub target: Target,
     /// The register that is read, 0 to 31.
-    pub source: u8,
+    pub source: Register,
     /// The length that is asked for.
     pub length: u64,
     /// What the target holds then.
@@ -340,8 +384,8 @@ impl Operands for SetBounds {
     #[inline(always)]
     fn from_parts((target, (source, (length, recorded))): Self::Parts) -> Self {
         Self {
-            target: target.0,
-            source: source.0,
+            target,
+            source,
             length,
             result: recorded,
         }
@@ -349,10 +393,7 @@ impl Operands for SetBounds {
 
     #[inline(always)]
     fn into_parts(self) -> Self::Parts {
-        (
-            Target(self.target),
-            (Register(self.source), (self.length, self.result)),
-        )
+        (self.target, (self.source, (self.length, self.result)))
     }
 
     fn into_step(self) -> Step {
@@ -364,9 +405,9 @@ impl Operands for SetBounds {
 #[derive(Clone, Copy, Debug, PartialEq, Eq)]
 pub struct SetBoundsExact {
     /// The register that is written, 1 to 31.
-    pub target: u8,
+    pub target: Target,
     /// The register that is read, 0 to 31.
-    pub source: u8,
+    pub source: Register,
     /// The length that is asked for.
     pub length: u64,
     /// What the target holds then.
@@ -387,8 +428,8 @@ impl Operands for SetBoundsExact {
     #[inline(always)]
     fn from_parts((target, (source, (length, recorded))): Self::Parts) -> Self {
         Self {
-            target: target.0,
-            source: source.0,
+            target,
+            source,
             length,
             result: recorded,
         }
@@ -396,10 +437,7 @@ impl Operands for SetBoundsExact {
 
     #[inline(always)]
     fn into_parts(self) -> Self::Parts {
-        (
-            Target(self.target),
-            (Register(self.source), (self.length, self.result)),
-        )
+        (self.target, (self.source, (self.length, self.result)))
     }
 
     fn into_step(self) -> Step {
@@ -411,9 +449,9 @@ impl Operands for SetBoundsExact {
 #[derive(Clone, Copy, Debug, PartialEq, Eq)]
 pub struct SetAddr {
     /// The register that is written, 1 to 31.
-    pub target: u8,
+    pub target: Target,
     /// The register that is read, 0 to 31.
-    pub source: u8,
+    pub source: Register,
     /// The new address.
     pub address: u64,
     /// What the target holds then.
@@ -434,8 +472,8 @@ impl Operands for SetAddr {
     #[inline(always)]
     fn from_parts((target, (source, (address, recorded))): Self::Parts) -> Self {
         Self {
-            target: target.0,
-            source: source.0,
+            target,
+            source,
             address,
             result: recorded,
         }
@@ -443,10 +481,7 @@ impl Operands for SetAddr {
 
     #[inline(always)]
     fn into_parts(self) -> Self::Parts {
-        (
-            Target(self.target),
-            (Register(self.source), (self.address, self.result)),
-        )
+        (self.target, (self.source, (self.address, self.result)))
     }
 
     fn into_step(self) -> Step {
@@ -458,9 +493,9 @@ impl Operands for SetAddr {
 #[derive(Clone, Copy, Debug, PartialEq, Eq)]
 pub struct AndPerm {
     /// The register that is written, 1 to 31.
-    pub target: u8,
+    pub target: Target,
     /// The register that is read, 0 to 31.
-    pub source: u8,
+    pub source: Register,
     /// A bit for each permission that stays.
     pub mask: u64,
     /// What the target holds then.
@@ -481,8 +516,8 @@ impl Operands for AndPerm {
     #[inline(always)]
     fn from_parts((target, (source, (mask, recorded))): Self::Parts) -> Self {
         Self {
-            target: target.0,
-            source: source.0,
+            target,
+            source,
             mask,
             result: recorded,
         }
@@ -490,10 +525,7 @@ impl Operands for AndPerm {
 
     #[inline(always)]
     fn into_parts(self) -> Self::Parts {
-        (
-            Target(self.target),
-            (Register(self.source), (self.mask, self.result)),
-        )
+        (self.target, (self.source, (self.mask, self.result)))
     }
 
     fn into_step(self) -> Step {
@@ -505,11 +537,11 @@ impl Operands for AndPerm {
 #[derive(Clone, Copy, Debug, PartialEq, Eq)]
 pub struct Seal {
     /// The register that is written, 1 to 31.
-    pub target: u8,
+    pub target: Target,
     /// The register that is read, 0 to 31.
-    pub source: u8,
+    pub source: Register,
     /// The register whose address is the type, 0 to 31.
-    pub authority: u8,
+    pub authority: Register,
     /// What the target holds then.
     pub result: Cap,
 }
@@ -528,22 +560,16 @@ impl Operands for Seal {
     #[inline(always)]
     fn from_parts((target, (source, (authority, recorded))): Self::Parts) -> Self {
         Self {
-            target: target.0,
-            source: source.0,
-            authority: authority.0,
+            target,
+            source,
+            authority,
             result: recorded,
         }
     }
 
     #[inline(always)]
     fn into_parts(self) -> Self::Parts {
-        (
-            Target(self.target),
-            (
-                Register(self.source),
-                (Register(self.authority), self.result),
-            ),
-        )
+        (self.target, (self.source, (self.authority, self.result)))
     }
 
     fn into_step(self) -> Step {
@@ -555,11 +581,11 @@ impl Operands for Seal {
 #[derive(Clone, Copy, Debug, PartialEq, Eq)]
 pub struct Unseal {
     /// The register that is written, 1 to 31.
-    pub target: u8,
+    pub target: Target,
     /// The register that is read, 0 to 31.
-    pub source: u8,
+    pub source: Register,
     /// The register whose address is the source's type, 0 to 31.
-    pub authority: u8,
+    pub authority: Register,
     /// What the target holds then.
     pub result: Cap,
 }
@@ -578,22 +604,16 @@ impl Operands for Unseal {
     #[inline(always)]
     fn from_parts((target, (source, (authority, recorded))): Self::Parts) -> Self {
         Self {
-            target: target.0,
-            source: source.0,
-            authority: authority.0,
+            target,
+            source,
+            authority,
             result: recorded,
         }
     }
 
     #[inline(always)]
     fn into_parts(self) -> Self::Parts {
-        (
-            Target(self.target),
-            (
-                Register(self.source),
-                (Register(self.authority), self.result),
-            ),
-        )
+        (self.target, (self.source, (self.authority, self.result)))
     }
 
     fn into_step(self) -> Step {
@@ -605,11 +625,11 @@ impl Operands for Unseal {
 #[derive(Clone, Copy, Debug, PartialEq, Eq)]
 pub struct LoadCap {
     /// The register that is written, 1 to 31.
-    pub target: u8,
+    pub target: Target,
     /// The register that the access goes through, 0 to 31.
-    pub authority: u8,
+    pub authority: Register,
     /// What is added to the authority's address, -2048 to 2047.
-    pub offset: i16,
+    pub offset: Offset,
     /// What the target holds then.
     pub result: Cap,
 }
@@ -628,19 +648,16 @@ impl Operands for LoadCap {
     #[inline(always)]
     fn from_parts((target, (authority, (offset, recorded))): Self::Parts) -> Self {
         Self {
-            target: target.0,
-            authority: authority.0,
-            offset: offset.0,
+            target,
+            authority,
+            offset,
             result: recorded,
         }
     }
 
     #[inline(always)]
     fn into_parts(self) -> Self::Parts {
-        (
-            Target(self.target),
-            (Register(self.authority), (Offset(self.offset), self.result)),
-        )
+        (self.target, (self.authority, (self.offset, self.result)))
     }
 
     fn into_step(self) -> Step {
@@ -652,11 +669,11 @@ impl Operands for LoadCap {
 #[derive(Clone, Copy, Debug, PartialEq, Eq)]
 pub struct StoreCap {
     /// The register that is stored, 0 to 31.
-    pub source: u8,
+    pub source: Register,
     /// The register that the access goes through, 0 to 31.
-    pub authority: u8,
+    pub authority: Register,
     /// What is added to the authority's address, -2048 to 2047.
-    pub offset: i16,
+    pub offset: Offset,
 }
 
 impl Operands for StoreCap {
@@ -673,18 +690,15 @@ impl Operands for StoreCap {
     #[inline(always)]
     fn from_parts((source, (authority, offset)): Self::Parts) -> Self {
         Self {
-            source: source.0,
-            authority: authority.0,
-            offset: offset.0,
+            source,
+            authority,
+            offset,
         }
     }
 
     #[inline(always)]
     fn into_parts(self) -> Self::Parts {
-        (
-            Register(self.source),
-            (Register(self.authority), Offset(self.offset)),
-        )
+        (self.source, (self.authority, self.offset))
     }
 
     fn into_step(self) -> Step {
@@ -696,13 +710,11 @@ impl Operands for StoreCap {
 #[derive(Clone, Copy, Debug, PartialEq, Eq)]
 pub struct Load {
     /// The register that the access goes through, 0 to 31.
-    pub authority: u8,
+    pub authority: Register,
     /// What is added to the authority's address, -2048 to 2047.
-    pub offset: i16,
-    /// The number of bytes: 1, 2, 4 or 8.
-    pub size: u8,
-    /// The number that these bytes are.
-    pub value: u64,
+    pub offset: Offset,
+    /// The number that its bytes are: 1, 2, 4 or 8 of them.
+    pub datum: Datum,
 }
 
 impl Operands for Load {
@@ -717,27 +729,17 @@ impl Operands for Load {
     }
 
     #[inline(always)]
-    fn from_parts((authority, (offset, data)): Self::Parts) -> Self {
+    fn from_parts((authority, (offset, loaded)): Self::Parts) -> Self {
         Self {
-            authority: authority.0,
-            offset: offset.0,
-            size: data.size,
-            value: data.value,
+            authority,
+            offset,
+            datum: loaded.0,
         }
     }
 
     #[inline(always)]
     fn into_parts(self) -> Self::Parts {
-        (
-            Register(self.authority),
-            (
-                Offset(self.offset),
-                Loaded {
-                    size: self.size,
-                    value: self.value,
-                },
-            ),
-        )
+        (self.authority, (self.offset, Loaded(self.datum)))
     }
 
     fn into_step(self) -> Step {
@@ -749,13 +751,11 @@ impl Operands for Load {
 #[derive(Clone, Copy, Debug, PartialEq, Eq)]
 pub struct Store {
     /// The register that the access goes through, 0 to 31.
-    pub authority: u8,
+    pub authority: Register,
     /// What is added to the authority's address, -2048 to 2047.
-    pub offset: i16,
-    /// The number of bytes: 1, 2, 4 or 8.
-    pub size: u8,
-    /// The number that these bytes become.
-    pub value: u64,
+    pub offset: Offset,
+    /// The number that its bytes become: 1, 2, 4 or 8 of them.
+    pub datum: Datum,
 }
 
 impl Operands for Store {
@@ -770,27 +770,17 @@ impl Operands for Store {
     }
 
     #[inline(always)]
-    fn from_parts((authority, (offset, data)): Self::Parts) -> Self {
+    fn from_parts((authority, (offset, stored)): Self::Parts) -> Self {
         Self {
-            authority: authority.0,
-            offset: offset.0,
-            size: data.size,
-            value: data.value,
+            authority,
+            offset,
+            datum: stored.0,
         }
     }
 
     #[inline(always)]
     fn into_parts(self) -> Self::Parts {
-        (
-            Register(self.authority),
-            (
-                Offset(self.offset),
-                Stored {
-                    size: self.size,
-                    value: self.value,
-                },
-            ),
-        )
+        (self.authority, (self.offset, Stored(self.datum)))
     }
 
     fn into_step(self) -> Step {

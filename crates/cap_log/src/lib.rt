@@ -9,6 +9,9 @@
 //! Each kind of step has a type of its own, as [`Move`](kinds::Move), which a [`Step`] carries, and by which its
 //! [`Operands`] are taken alone.
 //!
+//! The numbers of a step have types of their own, by which they are in their ranges: [`Register`], [`Target`],
+//! [`Offset`], [`Size`] and [`Datum`], the number that a load or a store takes.
+//!
 //! The parts of a line are [`Part`]s: each takes itself from the front of some bytes, with the byte
 //! that ends it, and two with a space between them are one.
 //!
@@ -36,7 +39,10 @@ pub use crate::fronts::front;
 pub use crate::kinds::{Head, Step, take_operands};
 pub use crate::lines::{Front, Line, Mode, Place};
 pub use crate::operands::Operands;
-pub use crate::parts::Part;
+pub use crate::parts::offsets::Offset;
+pub use crate::parts::registers::{Register, Target};
+pub use crate::parts::sized::{Datum, Size};
+pub use crate::parts::{Part, Ranged};
 pub use crate::pulled::Pulled;
 pub use crate::pushing::push_all;
 pub use crate::reading::{read_line, spellings_are_distinct, take_line};

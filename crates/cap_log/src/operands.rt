@@ -10,12 +10,12 @@ ghost use Rattle.cap_log.specs.declared.lines.Line.TheVariants as lines;
 
 use crate::kinds::{Head, Step};
 use crate::lines::Line;
-use crate::parts::Part;
+use crate::parts::{Part, Ranged};
 
 /// The operands of one kind of step, and what its line records.
 pub trait Operands: Copy {
     /// The parts of its lines behind their head.
-    type Parts: Part;
+    type Parts: Ranged;
 
     // The head of its lines.
     ghost head: { Head };
@@ -30,19 +30,25 @@ pub trait Operands: Copy {
 
     /// The operands that some parts are.
     fn from_parts(parts: Self::Parts) -> Self
-        requires fits { Self.Parts.fits parts }
-        ensures in_range { IsStepInRange (step result) }
+        ensures in_range { Self.Parts.fits parts → IsStepInRange (step result) }
         ensures spelling { spelling (lines.Step (step result)) ≡ head_spelling head ++ 32 ∷ Self.Parts.spelled parts };
 
     /// The parts that they are.
     fn into_parts(self) -> Self::Parts
-        requires in_range { IsStepInRange (step self) }
-        ensures fits { Self.Parts.fits result }
+        ensures in_range { Self.Parts.fits result → IsStepInRange (step self) }
         ensures spelling { spelling (lines.Step (step self)) ≡ head_spelling head ++ 32 ∷ Self.Parts.spelled result };
 
     /// The step that has them.
     fn into_step(self) -> Step
         ensures step { result ≡ step self };
+
+    /// Their numbers are in their ranges.
+    #[inline(always)]
+    final fn in_range(self)
+        ensures range { IsStepInRange (step self) }
+    {
+        self.into_parts().in_range();
+    }
 
     /// Takes what stands behind the head of such a line and its space, with the line feed: the operands, and
     /// what comes behind them. `None` where no operands of such a step and a line feed stand there.
@@ -61,11 +67,12 @@ pub trait Operands: Copy {
     /// Writes the step's line, without its line feed, at the front of the buffer, and answers where it ends.
     #[inline(always)]
     final fn write(self, buffer: &mut [u8]) -> usize
-        requires in_range { IsStepInRange (step self) }
-        requires room { 95 ≤ length buffer.old }
+        requires { 95 ≤ length buffer.old }
         ensures written { Writes 0 (spelling (lines.Step (step self))) buffer.old buffer.new result }
     {
-        (Self::head(), self.into_parts()).write(buffer, 0)
+        let parts = self.into_parts();
+        parts.in_range();
+        (Self::head(), parts).write(buffer, 0)
     }
 }
 

@@ -13,6 +13,7 @@ pub mod results;
 pub mod sized;
 
 use crate::buffers::put;
+use cap_word::Cap;
 
 /// A part of a line: its values in range have one spelling each.
 pub trait Part: Copy {
@@ -39,6 +40,31 @@ pub trait Part: Copy {
 /// A part that is one word: no value's bytes have a space.
 pub trait Single: Part {
     ghost spaceless: { (value : Self) → Self.Part.fits value → HasNoSpace (Self.Part.spelled value) };
+}
+
+/// A part whose values are all in range.
+pub trait Ranged: Part {
+    /// This value is.
+    fn in_range(self)
+        ensures fits { Self.Part.fits self };
+}
+
+impl Ranged for u64 {
+    #[inline(always)]
+    fn in_range(self) {}
+}
+
+impl Ranged for Cap {
+    #[inline(always)]
+    fn in_range(self) {}
+}
+
+impl<A: Single + Ranged, B: Ranged> Ranged for (A, B) {
+    #[inline(always)]
+    fn in_range(self) {
+        self.0.in_range();
+        self.1.in_range();
+    }
 }
 
 /// A word, a space, and another part.

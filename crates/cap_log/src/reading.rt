@@ -34,7 +34,9 @@ pub fn read_line(bytes: &[u8]) -> Option<Line>
     let mut text = [0; LINE_LIMIT + 1];
     let length = put(&mut text, 0, bytes);
     let end = put(&mut text, length, b"\n");
-    let (line, rest) = take_line(&text[..end])?;
+    let Some((line, rest)) = take_line(&text[..end]) else {
+        return None;
+    };
     if rest.is_empty() { Some(line) } else { None }
 }
 

@@ -1,7 +1,7 @@
 //! Writing lines and places.
 
 ghost use Rattle.std.specs.Prelude.{◌≡◌, ◌≤◌, length, take, drop};
-ghost use Rattle.cap_log.specs.Lines.{IsInRange, IsLineAt, IsPlace, IsStepInRange, place_spelling, spelling};
+ghost use Rattle.cap_log.specs.Lines.{IsInRange, IsLineAt, IsPlace, place_spelling, spelling};
 ghost use Rattle.cap_log.specs.Parts.{Writes};
 ghost use Rattle.cap_log.specs.declared.lines.Line.TheVariants as line;
 
@@ -26,9 +26,9 @@ pub fn write_line(line: &Line, buffer: &mut [u8; 96]) -> usize
 /// Writes the line of a step of one kind, as [`write_line`] does, and asks for no other kind.
 #[inline(always)]
 pub fn write_step<O: Operands>(step: O, buffer: &mut [u8; 96]) -> usize
-    requires { IsStepInRange (O.step step) }
     ensures line { IsLineAt (line.Step (O.step step)) buffer.old buffer.new result }
 {
+    step.in_range();
     let words = step.write(buffer);
     put(buffer, words, b"\n")
 }

@@ -52,8 +52,8 @@ pub granted : (state : State) (step : Step) (access : Access) → first_of (row_
 granted state (LoadCap step) access free is = granted_to state step.authority kinds.LoadCap step.offset 16 access free is
 granted state (StoreCap step) access free is =
     granted_to state step.authority (kinds.StoreCap (state step.source)) step.offset 16 access free is
-granted state (Load step) access free is = granted_to state step.authority kinds.LoadData step.offset step.size access free is
-granted state (Store step) access free is = granted_to state step.authority kinds.StoreData step.offset step.size access free is
+granted state (Load step) access free is = granted_to state step.authority kinds.LoadData step.offset step.datum.size access free is
+granted state (Store step) access free is = granted_to state step.authority kinds.StoreData step.offset step.datum.size access free is
 granted state step access free is = absurd (none-some access is)
 
 -- the step at a moment of a run leads from the state there

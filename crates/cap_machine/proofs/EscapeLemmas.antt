@@ -150,8 +150,8 @@ row_own state (Seal step) = refl
 row_own state (Unseal step) = refl
 row_own state (LoadCap step) = access_own (state step.authority) LoadCapability step.offset 16
 row_own state (StoreCap step) = access_own (state step.authority) (StoreCapability (state step.source)) step.offset 16
-row_own state (Load step) = access_own (state step.authority) LoadData step.offset step.size
-row_own state (Store step) = access_own (state step.authority) StoreData step.offset step.size
+row_own state (Load step) = access_own (state step.authority) LoadData step.offset step.datum.size
+row_own state (Store step) = access_own (state step.authority) StoreData step.offset step.datum.size
 
 own_by : (rules : Rules) (row : Row) (asks : Bool) → all_own asks row.tests ≡ true → all_own asks (row_by rules row).tests ≡ true
 own_by One row asks own = own

@@ -364,7 +364,7 @@ pub stored_value : (old new : Held) (store : Store) (result : Result (Unit {0}) 
     → first_of (row_of (state_of old) (steps.Store store)).tests ≡ None
     → EndsPutIn old (address_through (state_of old) store.authority store.offset / 16)
     (with_value_put old (address_through (state_of old) store.authority store.offset / 16)
-    (address_through (state_of old) store.authority store.offset % 16) store.size store.value) result new
+    (address_through (state_of old) store.authority store.offset % 16) store.datum.size store.datum.value) result new
     → EndsIn old (steps.Store store) result new
 stored_value old new store result stored_all free put_is =
     let a = address_through (state_of old) store.authority store.offset in
@@ -373,15 +373,15 @@ stored_value old new store result stored_all free put_is =
     let row = same_row old (steps.Store store) _ refl in
     put_finished old new (steps.Store store) g (
       false,
-      overwritten (bytes_at old.memory g) (a % 16) (low_bytes store.size store.value),
+      overwritten (bytes_at old.memory g) (a % 16) (low_bytes store.datum.size store.datum.value),
       0,
-    ) (with_value cap_is (a % 16) store.size store.value) 0 result
+    ) (with_value cap_is (a % 16) store.datum.size store.datum.value) 0 result
     (ap named_by row) (ap (λ (r : Row). r.writes) row) (ap is_recorded row)
     (ap (λ (bytes : List ℕ). let c : Cap = record {
       tag = false;
       word = record {
         0 = stored_word
-            (overwritten bytes (a % 16) (low_bytes store.size store.value));
+            (overwritten bytes (a % 16) (low_bytes store.datum.size store.datum.value));
       };
     } in c) (sym (granule_bytes old g stored_all)))
     refl (λ held. absurd (false≢true held))
@@ -396,20 +396,20 @@ value_in held address size stored_all =
 -- the number that is read at the address of a load is the value there
 pub value_read : (held : Held) (load : Load) (address read : ℕ) → AreStored held.memory
     → address ≡ address_through (state_of held) load.authority load.offset
-    → read ≡ number_at (bytes_at held.memory (address / 16)) (address % 16) load.size
-    → read ≡ value_at (state_of held) (address_through (state_of held) load.authority load.offset) load.size
+    → read ≡ number_at (bytes_at held.memory (address / 16)) (address % 16) load.datum.size
+    → read ≡ value_at (state_of held) (address_through (state_of held) load.authority load.offset) load.datum.size
 value_read held load address read stored_all at is =
-    is ∙ sym (value_in held address load.size stored_all) ∙ ap (λ (a : ℕ). value_at (state_of held) a load.size) at
+    is ∙ sym (value_in held address load.datum.size stored_all) ∙ ap (λ (a : ℕ). value_at (state_of held) a load.datum.size) at
 
 -- a load is made
 pub loaded_value : (old : Held) (load : Load)
     → first_of (row_of (state_of old) (steps.Load load)).tests ≡ None
-    → load.value ≡ value_at (state_of old) (address_through (state_of old) load.authority load.offset) load.size → old.steps < most_steps
+    → load.datum.value ≡ value_at (state_of old) (address_through (state_of old) load.authority load.offset) load.datum.size → old.steps < most_steps
     → Makes old (steps.Load load) (record old { steps = old.steps + 1 })
 loaded_value old load free same few =
     let step = steps.Load load in
     let row = same_row old step _ refl in
-    let recorded = ap is_recorded row ∙ eq-eqb load.value _ same in
+    let recorded = ap is_recorded row ∙ eq-eqb load.datum.value _ same in
     let allowed = ap (λ (r : Row). first_of r.tests) row ∙ free in
     let after = sym (ap (λ (r : Row). state_with (state_of old) r.writes) row) in
     record {

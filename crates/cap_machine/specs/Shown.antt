@@ -5,7 +5,6 @@ use Rattle.cap_log.specs.declared.lines.Place.{Place}
 use Rattle.cap_log.specs.declared.lines.Place.TheVariants.{Register, Granule}
 use Rattle.cap_log.specs.declared.kinds.Step.{Step}
 use Rattle.cap_log.specs.declared.kinds.Step.TheVariants.{SetBounds, SetBoundsExact, SetAddr, Seal, Unseal, StoreCap}
-use Rattle.cap_log.specs.Lines.{IsDataSize}
 use Rattle.cap_ops.specs.Permissions.{has_permission, global, permit_store, permit_store_capability, permit_store_local_capability}
 use Rattle.cap_ops.specs.Permissions.{permit_seal, permit_unseal}
 use Rattle.cap_ops.specs.Tests.{first_of}
@@ -82,17 +81,6 @@ abbrev pub IsRead : Place → Type 0
 IsRead (Register number) = number ≤ 31
 IsRead (Granule granule) = granule < 2 ^ 60
 
--- an authority over object types is a register
-abbrev pub IsRequest : Request → Type 0
-IsRequest (requests.Authority register needs) = register ≤ 31
-IsRequest request = Unit {0}
-
--- a number has 1, 2, 4 or 8 bytes
-abbrev pub IsGiven : Given → Type 0
-IsGiven (givens.Number value size recorded) = IsDataSize size
-IsGiven given = Unit {0}
-
--- the places and the numbers that are shown are such as a machine has
+-- the place that is shown is such as a machine has
 abbrev pub IsShown : Shown → Type 0
-IsShown shown =
-    IfSome shown.source IsRead × IsRequest shown.request × IfSome shown.access (λ access. access.authority ≤ 31) × IsGiven shown.given
+IsShown shown = IfSome shown.source IsRead

@@ -100,12 +100,12 @@ row_of state (StoreCap step) = record (access_through state step.authority (kind
   writes = Some (Granule (address_through state step.authority step.offset / 16), state step.source);
   parent = Some (Register step.source);
 }
-row_of state (Load step) = record (access_through state step.authority kinds.LoadData step.offset step.size) {
-  records = Read step.value (value_at state (address_through state step.authority step.offset) step.size);
+row_of state (Load step) = record (access_through state step.authority kinds.LoadData step.offset step.datum.size) {
+  records = Read step.datum.value (value_at state (address_through state step.authority step.offset) step.datum.size);
 }
 row_of state (Store step) =
-    let granule = address_through state step.authority step.offset / 16 in record (access_through state step.authority kinds.StoreData step.offset step.size) {
-      writes = Some (Granule granule, with_value (state (key_of (Granule granule))) (address_through state step.authority step.offset % 16) step.size step.value);
+    let granule = address_through state step.authority step.offset / 16 in record (access_through state step.authority kinds.StoreData step.offset step.datum.size) {
+      writes = Some (Granule granule, with_value (state (key_of (Granule granule))) (address_through state step.authority step.offset % 16) step.datum.size step.datum.value);
     }
 
 -- the granule that an access through a register reaches

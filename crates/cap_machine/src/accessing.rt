@@ -1,7 +1,6 @@
 //! Steps that store and load.
 
 ghost use Rattle.std.specs.Prelude.{◌≡◌, ◌<◌, ◌≤◌, ◌^◌, ◌+◌, ◌%◌, ◌||◌, IfOk, MatchResult, None, IsTrue, false};
-ghost use Rattle.cap_log.specs.Lines.{IsDataSize, IsOffset};
 ghost use Rattle.cap_ops.specs.Sizes.{size_fits};
 ghost use Rattle.cap_ops.specs.Tests.{first_of};
 ghost use Rattle.cap_machine.specs.Changes.{EndsPut, IsAccess, address_in, is_past_limits};
@@ -17,7 +16,7 @@ use crate::ends::StepEnd;
 use crate::granules::{capability_with_code, put_capability, put_number};
 use crate::machine::{MOST_STEPS, Machine};
 use crate::shown::Reached;
-use cap_log::Operands;
+use cap_log::{Datum, Offset, Operands, Register};
 use cap_ops::{
     Access, GLOBAL, Kind, PERMIT_LOAD, PERMIT_STORE, PERMIT_STORE_CAPABILITY,
     PERMIT_STORE_LOCAL_CAPABILITY, Refusal, may_access_soundly, perm_view,
@@ -41,26 +40,28 @@ impl<M: TaggedStore> Machine<M> {
     #[inline(always)]
     pub(crate) fn reach<O: Operands>(
         &self,
-        step: O,
-        authority: u8,
+        step: &O,
+        authority: Register,
         kind: Kind,
-        offset: i16,
+        offset: Offset,
         size: u8,
     ) -> Result<u64, StepEnd>
-        requires authority { authority ≤ 31 }
-        requires offset { IsOffset offset }
         requires size { IsTrue (size_fits kind size) }
         requires row { let state = state_of (held_of M.contents self.now) in
-            IsAccess (row_of state (O.step step)) authority kind offset size state }
+            IsAccess (row_of state (O.step step.now)) authority kind offset size state }
         ensures outcome { let held = held_of M.contents self.now in
             MatchResult result
-            (λ address. let row = row_of (state_of held) (O.step step) in
+            (λ address. let row = row_of (state_of held) (O.step step.now) in
             (first_of row.tests ≡ None) × (address ≡ address_in row.access))
-            (λ end. EndsStep held (O.step step) end held) }
+            (λ end. EndsStep held (O.step step.now) end held) }
         ensures in_one_granule { IfOk result (λ address. address % 16 + size ≤ 16) }
     {
-        let access = Access { kind, offset, size };
-        match may_access_soundly(self.register(authority), access) {
+        let access = Access {
+            kind,
+            offset: offset.number(),
+            size,
+        };
+        match may_access_soundly(self.register(authority.number()), access) {
             Ok(address) => Ok(address),
             Err(fault) => Err(StepEnd::from(fault)),
         }
@@ -68,9 +69,13 @@ impl<M: TaggedStore> Machine<M> {
 
     // An access through a register, whether it is allowed or not.
     #[tactic(auto, unfolding(cap_ops::specs::Accesses::access_address))]
-    pub(crate) fn reached(&self, authority: u8, offset: i16, size: u8, needs: u32) -> Reached
-        requires authority { authority ≤ 31 }
-        requires offset { IsOffset offset }
+    pub(crate) fn reached(
+        &self,
+        authority: Register,
+        offset: Offset,
+        size: u8,
+        needs: u32,
+    ) -> Reached
         ensures value { result ≡ record {
           authority = authority;
           address = address_through (state_of (held_of M.contents self.now)) authority offset;
@@ -78,10 +83,12 @@ impl<M: TaggedStore> Machine<M> {
           needs = needs;
         } }
     {
-        let word = self.register(authority).word;
+        let word = self.register(authority.number()).word;
         Reached {
             authority,
-            address: word.address().wrapping_add_signed(i64::from(offset)),
+            address: word
+                .address()
+                .wrapping_add_signed(i64::from(offset.number())),
             size,
             needs,
         }
@@ -136,21 +143,19 @@ impl<M: TaggedStore> Machine<M> {
         &mut self,
         granule: u64,
         byte_index: u8,
-        size: u8,
-        value: u64,
+        datum: Datum,
     ) -> Result<(), StepEnd>
         requires in_memory { granule < 2 ^ 60 }
-        requires inside { byte_index + size ≤ 16 }
-        requires sized { IsDataSize size }
+        requires inside { byte_index + datum.size ≤ 16 }
         ensures { MatchResult result
             (λ _. (is_past_limits (held_of M.contents self.old) granule ≡ false)
-            × (held_of M.contents self.new ≡ with_value_put (held_of M.contents self.old) granule byte_index size value))
+            × (held_of M.contents self.new ≡ with_value_put (held_of M.contents self.old) granule byte_index datum.size datum.value))
             (λ end. EndsPut (held_of M.contents self.old) granule end (held_of M.contents self.new)) }
     {
         if self.is_past_limits(granule) {
             return Err(StepEnd::Refused(Refusal::LimitPassed));
         }
-        put_number(&mut self.memory, granule, byte_index, size, value)?;
+        put_number(&mut self.memory, granule, byte_index, datum)?;
         self.steps += 1;
         Ok(())
     }

@@ -6,8 +6,8 @@ ghost use Rattle.tagmem.specs.Granules.{HasRoom, IsCodeFor, bytes_at, code_at, w
 ghost use Rattle.cap_word.specs.Memory.{low_bytes, memory_of};
 ghost use Rattle.cap_machine.specs.Helds.{granule_cap};
 ghost use Rattle.cap_machine.specs.Values.{number_at};
-ghost use Rattle.cap_log.specs.Lines.{IsDataSize};
 
+use cap_log::{Datum, Size};
 use cap_word::{Cap, from_memory, null, to_memory};
 use tagmem::{NoMemory, TaggedStore};
 
@@ -56,10 +56,9 @@ pub fn put_capability<M: TaggedStore>(
 
 /// The number that `size` bytes of a granule spell from a byte index on, the least significant first.
 #[inline(always)]
-pub fn number_in<M: TaggedStore>(memory: &M, granule: u64, byte_index: u8, size: u8) -> u64
+pub fn number_in<M: TaggedStore>(memory: &M, granule: u64, byte_index: u8, size: Size) -> u64
     requires in_memory { granule < 2 ^ 60 }
     requires inside { byte_index + size ≤ 16 }
-    requires sized { IsDataSize size }
     ensures value { result ≡ number_at (bytes_at (M.contents memory.now) granule) byte_index size }
 {
     match memory.get(granule) {
@@ -68,36 +67,35 @@ pub fn number_in<M: TaggedStore>(memory: &M, granule: u64, byte_index: u8, size:
     }
 }
 
-/// Writes the `size` low bytes of a value into a granule, the least significant first, from a byte index
-/// on, and clears its tag. A refused put changes nothing.
+/// Writes the bytes of a number into a granule, the least significant first, from a byte index on, and clears its
+/// tag. A refused put changes nothing.
 #[inline(always)]
 pub fn put_number<M: TaggedStore>(
     memory: &mut M,
     granule: u64,
     byte_index: u8,
-    size: u8,
-    value: u64,
+    datum: Datum,
 ) -> Result<(), NoMemory>
     requires in_memory { granule < 2 ^ 60 }
-    requires inside { byte_index + size ≤ 16 }
-    requires sized { IsDataSize size }
+    requires inside { byte_index + datum.size ≤ 16 }
     requires room { HasRoom (M.contents memory.old) granule }
-    ensures ok { OnOk result (M.contents memory.new ≡ with_bytes (M.contents memory.old) granule byte_index (low_bytes size value)) }
+    ensures ok { OnOk result (M.contents memory.new ≡ with_bytes (M.contents memory.old) granule byte_index (low_bytes datum.size datum.value)) }
     ensures err { OnErr result (M.contents memory.new ≡ M.contents memory.old) }
     ensures only_new { OnErr result (map.get (M.contents memory.old) granule ≡ None) }
 {
-    let bytes = value.to_le_bytes();
+    let size = datum.size().bytes();
+    let bytes = datum.value().to_le_bytes();
     memory.put_bytes(granule, byte_index, &bytes[..size as usize])
 }
 
 // The number that `size` of sixteen bytes spell from a byte index on.
 #[inline(always)]
-fn number_from(bytes: &[u8; 16], byte_index: u8, size: u8) -> u64
-    requires inside { byte_index + size ≤ 16 }
-    requires sized { IsDataSize size }
+fn number_from(bytes: &[u8; 16], byte_index: u8, size: Size) -> u64
+    requires { byte_index + size ≤ 16 }
     ensures { result ≡ number_at bytes.now byte_index size }
 {
     let rest = u128::from_le_bytes(*bytes) >> (8 * u32::from(byte_index));
+    let size = size.bytes();
     if size == 1 {
         (rest & 0xff) as u64
     } else if size == 2 {

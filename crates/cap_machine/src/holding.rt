@@ -3,7 +3,7 @@
 ghost use Rattle.std.specs.Prelude.{◌≡◌, ℕ, ◌<◌, ◌≤◌, ◌^◌, ◌+◌, ◌%◌, IfSome, is_some};
 ghost use Rattle.std.specs.FinMap as map;
 ghost use Rattle.tagmem.specs.Granules.{IsNextPut};
-ghost use Rattle.cap_log.specs.Lines.{IsDataSize, IsPlace};
+ghost use Rattle.cap_log.specs.Lines.{IsPlace};
 ghost use Rattle.cap_machine.specs.States.{granule_key, key_of, untagged_null, value_at};
 ghost use Rattle.cap_machine.specs.Accounts.{no_account};
 ghost use Rattle.cap_machine.specs.Parents.{IsSoundCap};
@@ -13,7 +13,7 @@ use crate::granules::number_in;
 use crate::machine::Machine;
 use crate::places::place_at;
 use crate::rules::Rules;
-use cap_log::Place;
+use cap_log::{Place, Size};
 use cap_word::{Cap, null};
 use tagmem::TaggedStore;
 
@@ -94,9 +94,8 @@ impl<M: TaggedStore> Machine<M> {
 
     /// The number that the bytes of memory from an address on spell, the least significant first: as many as
     /// a load of data takes, all in one granule.
-    pub fn value(&self, address: u64, size: u8) -> u64
-        requires inside { address % 16 + size ≤ 16 }
-        requires sized { IsDataSize size }
+    pub fn value(&self, address: u64, size: Size) -> u64
+        requires { address % 16 + size ≤ 16 }
         ensures value { result ≡ value_at (state_of (held_of M.contents self.now)) address size }
     {
         number_in(&self.memory, address / 16, (address % 16) as u8, size)

@@ -3,7 +3,6 @@
 
 ghost use Rattle.std.specs.Prelude.{◌≡◌, ◌≤◌, List, ℕ, ◌∷◌, ◌++◌};
 ghost use Rattle.cap_log.specs.Heads.{head_spelling};
-ghost use Rattle.cap_log.specs.Lines.{IsStepInRange, IsTarget};
 ghost use Rattle.cap_log.specs.declared.kinds.Step.{Step};
 ghost use Rattle.cap_machine.specs.Changes.{GivesByTests, IsOperation, result_in};
 ghost use Rattle.cap_machine.specs.Helds.{AnswersStep, held_of, state_of};
@@ -46,12 +45,10 @@ pub trait Instruction: Operands {
 
     /// Makes the step and counts it, or refuses it, as [`Machine::step`] does.
     fn perform<M: TaggedStore>(self, machine: &mut Machine<M>) -> Result<(), StepEnd>
-        requires { IsStepInRange (Self.step self) }
         ensures outcome { AnswersStep (held_of M.contents machine.old) (Self.step self) result (held_of M.contents machine.new) };
 
     /// What the step shows of the machine before it, as [`Machine::shown`] does.
     fn shown<M: TaggedStore>(self, machine: &Machine<M>) -> Shown
-        requires { IsStepInRange (Self.step self) }
         ensures shown { result ≡ shown_of (state_of (held_of M.contents machine.now)) (Self.step self) }
         ensures in_range { IsShown result };
 }
@@ -66,21 +63,16 @@ pub trait Operation: Operands {
 
     /// Its registers, its request and its recorded result.
     fn parts(self) -> OperationParts
-        requires { IsStepInRange (Self.step self) }
-        ensures target { IsTarget result.target }
-        ensures source { result.source ≤ 31 }
         ensures request { result.request ≡ request_of (Self.step self) }
         ensures row { (state : State) → IsOperation (row_of state (Self.step self)) result };
 
     /// Its result, or the first test that holds.
     fn strict<M: TaggedStore>(self, machine: &Machine<M>) -> Result<Cap, OpFault>
-        requires { IsStepInRange (Self.step self) }
         ensures outcome { let row = row_of (state_of (held_of M.contents machine.now)) (Self.step self) in
             GivesByTests row.tests (result_in row.writes) result };
 
     /// Its result, without a tag where a test holds.
     fn cleared<M: TaggedStore>(self, machine: &Machine<M>) -> Cap
-        requires { IsStepInRange (Self.step self) }
         ensures value { let row = row_of (state_of (held_of M.contents machine.now)) (Self.step self) in
             result ≡ clear_result row.tests (result_in row.writes) };
 }
@@ -94,19 +86,19 @@ impl<O: Operation> Instruction for O {
     fn perform<M: TaggedStore>(self, machine: &mut Machine<M>) -> Result<(), StepEnd> {
         let parts = self.parts();
         let outcome = outcome_of(self, machine);
-        let code = machine.codes[parts.source as usize];
-        machine.conclude(self, parts.target, outcome, parts.recorded, code)
+        let code = machine.codes[parts.source.number() as usize];
+        machine.conclude(&self, parts.target, outcome, parts.recorded, code)
     }
 
     fn shown<M: TaggedStore>(self, machine: &Machine<M>) -> Shown {
         let parts = self.parts();
         let (cap, fault) = cleared_with_fault(self, machine);
         Shown {
-            source: Some(Place::Register(parts.source)),
+            source: Some(Place::Register(parts.source.number())),
             request: parts.request,
             access: None,
             given: Given::Capability {
-                place: Place::Register(parts.target),
+                place: Place::Register(parts.target.number()),
                 cap,
                 fault,
                 recorded: parts.recorded,
@@ -123,12 +115,12 @@ impl Operation for Move {
 
     #[inline(always)]
     fn strict<M: TaggedStore>(self, machine: &Machine<M>) -> Result<Cap, OpFault> {
-        Ok(machine.register(self.source))
+        Ok(machine.register(self.source.number()))
     }
 
     #[inline(always)]
     fn cleared<M: TaggedStore>(self, machine: &Machine<M>) -> Cap {
-        machine.register(self.source)
+        machine.register(self.source.number())
     }
 }
 
@@ -140,12 +132,12 @@ impl Operation for ClearTag {
 
     #[inline(always)]
     fn strict<M: TaggedStore>(self, machine: &Machine<M>) -> Result<Cap, OpFault> {
-        Ok(clear_tag(machine.register(self.source)))
+        Ok(clear_tag(machine.register(self.source.number())))
     }
 
     #[inline(always)]
     fn cleared<M: TaggedStore>(self, machine: &Machine<M>) -> Cap {
-        clear_tag(machine.register(self.source))
+        clear_tag(machine.register(self.source.number()))
     }
 }
 
@@ -160,12 +152,12 @@ impl Operation for SetBounds {
 
     #[inline(always)]
     fn strict<M: TaggedStore>(self, machine: &Machine<M>) -> Result<Cap, OpFault> {
-        set_bounds_soundly(machine.register(self.source), self.length, false)
+        set_bounds_soundly(machine.register(self.source.number()), self.length, false)
     }
 
     #[inline(always)]
     fn cleared<M: TaggedStore>(self, machine: &Machine<M>) -> Cap {
-        set_bounds_cleared(machine.register(self.source), self.length, false)
+        set_bounds_cleared(machine.register(self.source.number()), self.length, false)
     }
 }
 
@@ -180,12 +172,12 @@ impl Operation for SetBoundsExact {
 
     #[inline(always)]
     fn strict<M: TaggedStore>(self, machine: &Machine<M>) -> Result<Cap, OpFault> {
-        set_bounds_soundly(machine.register(self.source), self.length, true)
+        set_bounds_soundly(machine.register(self.source.number()), self.length, true)
     }
 
     #[inline(always)]
     fn cleared<M: TaggedStore>(self, machine: &Machine<M>) -> Cap {
-        set_bounds_cleared(machine.register(self.source), self.length, true)
+        set_bounds_cleared(machine.register(self.source.number()), self.length, true)
     }
 }
 
@@ -198,12 +190,12 @@ impl Operation for SetAddr {
 
     #[inline(always)]
     fn strict<M: TaggedStore>(self, machine: &Machine<M>) -> Result<Cap, OpFault> {
-        set_addr(machine.register(self.source), self.address)
+        set_addr(machine.register(self.source.number()), self.address)
     }
 
     #[inline(always)]
     fn cleared<M: TaggedStore>(self, machine: &Machine<M>) -> Cap {
-        set_addr_clear(machine.register(self.source), self.address)
+        set_addr_clear(machine.register(self.source.number()), self.address)
     }
 }
 
@@ -215,12 +207,12 @@ impl Operation for AndPerm {
 
     #[inline(always)]
     fn strict<M: TaggedStore>(self, machine: &Machine<M>) -> Result<Cap, OpFault> {
-        and_perm(machine.register(self.source), self.mask)
+        and_perm(machine.register(self.source.number()), self.mask)
     }
 
     #[inline(always)]
     fn cleared<M: TaggedStore>(self, machine: &Machine<M>) -> Cap {
-        and_perm_clear(machine.register(self.source), self.mask)
+        and_perm_clear(machine.register(self.source.number()), self.mask)
     }
 }
 
@@ -235,14 +227,14 @@ impl Operation for Seal {
 
     #[inline(always)]
     fn strict<M: TaggedStore>(self, machine: &Machine<M>) -> Result<Cap, OpFault> {
-        let authority = machine.register(self.authority);
-        seal(machine.register(self.source), authority)
+        let authority = machine.register(self.authority.number());
+        seal(machine.register(self.source.number()), authority)
     }
 
     #[inline(always)]
     fn cleared<M: TaggedStore>(self, machine: &Machine<M>) -> Cap {
-        let authority = machine.register(self.authority);
-        seal_clear(machine.register(self.source), authority)
+        let authority = machine.register(self.authority.number());
+        seal_clear(machine.register(self.source.number()), authority)
     }
 }
 
@@ -257,32 +249,35 @@ impl Operation for Unseal {
 
     #[inline(always)]
     fn strict<M: TaggedStore>(self, machine: &Machine<M>) -> Result<Cap, OpFault> {
-        let authority = machine.register(self.authority);
-        unseal(machine.register(self.source), authority)
+        let authority = machine.register(self.authority.number());
+        unseal(machine.register(self.source.number()), authority)
     }
 
     #[inline(always)]
     fn cleared<M: TaggedStore>(self, machine: &Machine<M>) -> Cap {
-        let authority = machine.register(self.authority);
-        unseal_clear(machine.register(self.source), authority)
+        let authority = machine.register(self.authority.number());
+        unseal_clear(machine.register(self.source.number()), authority)
     }
 }
 
 impl Instruction for LoadCap {
     #[inline(always)]
     fn perform<M: TaggedStore>(self, machine: &mut Machine<M>) -> Result<(), StepEnd> {
-        let address = machine.reach(self, self.authority, Kind::LoadCap, self.offset, 16)?;
+        let address = machine.reach(&self, self.authority, Kind::LoadCap, self.offset, 16)?;
         let (granule, code) = machine.granule_with_code(address / 16);
-        let derived = loaded(machine.register(self.authority), granule);
-        machine.conclude(self, self.target, Ok(derived), self.result, code)
+        let derived = loaded(machine.register(self.authority.number()), granule);
+        machine.conclude(&self, self.target, Ok(derived), self.result, code)
     }
 
     fn shown<M: TaggedStore>(self, machine: &Machine<M>) -> Shown {
         let reached = machine.reached(self.authority, self.offset, 16, LOAD);
         let granule = reached.address / 16;
         let given = Given::Capability {
-            place: Place::Register(self.target),
-            cap: loaded(machine.register(self.authority), machine.granule(granule)),
+            place: Place::Register(self.target.number()),
+            cap: loaded(
+                machine.register(self.authority.number()),
+                machine.granule(granule),
+            ),
             fault: None,
             recorded: self.result,
         };
@@ -293,26 +288,34 @@ impl Instruction for LoadCap {
 impl Instruction for StoreCap {
     #[inline(always)]
     fn perform<M: TaggedStore>(self, machine: &mut Machine<M>) -> Result<(), StepEnd> {
-        let stored = machine.register(self.source);
+        let stored = machine.register(self.source.number());
         let kind = Kind::StoreCap(stored);
-        let address = machine.reach(self, self.authority, kind, self.offset, 16)?;
-        let code = machine.codes[self.source as usize];
+        let address = machine.reach(&self, self.authority, kind, self.offset, 16)?;
+        let code = machine.codes[self.source.number() as usize];
         machine.put_counted(address / 16, stored, code)
     }
 
     fn shown<M: TaggedStore>(self, machine: &Machine<M>) -> Shown {
-        let needs = needs_to_store(machine.register(self.source));
+        let needs = needs_to_store(machine.register(self.source.number()));
         let reached = machine.reached(self.authority, self.offset, 16, needs);
-        Shown::of_access(Some(Place::Register(self.source)), reached, Given::Nothing)
+        Shown::of_access(
+            Some(Place::Register(self.source.number())),
+            reached,
+            Given::Nothing,
+        )
     }
 }
 
 impl Instruction for Load {
     #[inline(always)]
     fn perform<M: TaggedStore>(self, machine: &mut Machine<M>) -> Result<(), StepEnd> {
-        let address = machine.reach(self, self.authority, Kind::LoadData, self.offset, self.size)?;
+        let size = self.datum.size();
+        let kind = Kind::LoadData;
+        let address = machine.reach(&self, self.authority, kind, self.offset, size.bytes())?;
         let byte = (address % 16) as u8;
-        if number_in(&machine.memory, address / 16, byte, self.size) != self.value {
+        let number = number_in(&machine.memory, address / 16, byte, size);
+        let recorded = self.datum.value();
+        if number != recorded {
             return Err(StepEnd::Refused(Refusal::WrongResult));
         }
         if machine.steps >= MOST_STEPS {
@@ -323,20 +326,21 @@ impl Instruction for Load {
     }
 
     fn shown<M: TaggedStore>(self, machine: &Machine<M>) -> Shown {
+        let size = self.datum.size();
         let access = Access {
             kind: Kind::LoadData,
-            offset: self.offset,
-            size: self.size,
+            offset: self.offset.number(),
+            size: size.bytes(),
         };
-        let given = match may_access(machine.register(self.authority), access) {
+        let given = match may_access(machine.register(self.authority.number()), access) {
             Ok(address) => Given::Number {
-                value: machine.value(address, self.size),
-                size: self.size,
-                recorded: self.value,
+                value: machine.value(address, size),
+                size,
+                recorded: self.datum.value(),
             },
             Err(_) => Given::Nothing,
         };
-        let reached = machine.reached(self.authority, self.offset, self.size, LOAD);
+        let reached = machine.reached(self.authority, self.offset, size.bytes(), LOAD);
         Shown::of_access(None, reached, given)
     }
 }
@@ -345,13 +349,19 @@ impl Instruction for Store {
     #[inline(always)]
     fn perform<M: TaggedStore>(self, machine: &mut Machine<M>) -> Result<(), StepEnd> {
         let kind = Kind::StoreData;
-        let address = machine.reach(self, self.authority, kind, self.offset, self.size)?;
+        let size = self.datum.size().bytes();
+        let address = machine.reach(&self, self.authority, kind, self.offset, size)?;
         let byte = (address % 16) as u8;
-        machine.put_value_counted(address / 16, byte, self.size, self.value)
+        machine.put_value_counted(address / 16, byte, self.datum)
     }
 
     fn shown<M: TaggedStore>(self, machine: &Machine<M>) -> Shown {
-        let reached = machine.reached(self.authority, self.offset, self.size, STORE);
+        let reached = machine.reached(
+            self.authority,
+            self.offset,
+            self.datum.size().bytes(),
+            STORE,
+        );
         Shown::of_access(None, reached, Given::Nothing)
     }
 }
@@ -405,14 +415,12 @@ pub trait Deed<T> {
 
     /// Does it with a step of one kind.
     fn with_step<I: Instruction>(on: &mut T, step: I) -> Self::Answer
-        requires { IsStepInRange (I.step step) }
         ensures done { does on.old (I.step step) result on.new };
 }
 
 /// Does it by the kind of a step.
 #[inline(always)]
 pub fn by_kind<T, D: Deed<T>>(on: &mut T, step: &Step) -> D::Answer
-    requires { IsStepInRange step.now }
     ensures done { D.does on.old step.now result on.new }
 {
     match *step {

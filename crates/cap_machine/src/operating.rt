@@ -1,7 +1,6 @@
 //! Steps that are operations from a register to a register, whichever they are.
 
 ghost use Rattle.std.specs.Prelude.{◌≡◌, ◌≤◌};
-ghost use Rattle.cap_log.specs.Lines.{IsStepInRange};
 ghost use Rattle.cap_ops.specs.Operations as ops;
 ghost use Rattle.cap_ops.specs.Tests.{first_of};
 ghost use Rattle.cap_machine.specs.Changes.{result_in};
@@ -12,6 +11,7 @@ use crate::instructions::Operation;
 use crate::machine::Machine;
 use crate::rules::Rules;
 use crate::shown::Request;
+use cap_log::{Register, Target};
 use cap_ops::{OpFault, Refusal, set_bounds_clear};
 use cap_word::Cap;
 use tagmem::TaggedStore;
@@ -20,9 +20,9 @@ use tagmem::TaggedStore;
 #[derive(Clone, Copy)]
 pub struct OperationParts {
     /// The register that it writes.
-    pub target: u8,
+    pub target: Target,
     /// The register that its result comes from.
-    pub source: u8,
+    pub source: Register,
     /// What it asks for.
     pub request: Request,
     /// The result that its line records.
@@ -32,7 +32,7 @@ pub struct OperationParts {
 impl OperationParts {
     /// These parts.
     #[inline(always)]
-    pub fn new(target: u8, source: u8, request: Request, recorded: Cap) -> OperationParts
+    pub fn new(target: Target, source: Register, request: Request, recorded: Cap) -> OperationParts
         ensures value { result ≡ record { target = target; source = source; request = request; recorded = recorded } }
     {
         OperationParts {
@@ -51,7 +51,6 @@ pub fn outcome_of<M: TaggedStore, O: Operation>(
     operation: O,
     machine: &Machine<M>,
 ) -> Result<Cap, OpFault>
-    requires { IsStepInRange (O.step operation) }
     ensures ends { let held = held_of M.contents machine.now in
         let row = row_of (state_of held) (O.step operation) in
         EndsBy held.rules row.tests (result_in row.writes) result }
@@ -67,7 +66,6 @@ pub fn cleared_with_fault<M: TaggedStore, O: Operation>(
     operation: O,
     machine: &Machine<M>,
 ) -> (Cap, Option<Refusal>)
-    requires { IsStepInRange (O.step operation) }
     ensures cap { let row = row_of (state_of (held_of M.contents machine.now)) (O.step operation) in
         result.0 ≡ ops.clear_result row.tests (result_in row.writes) }
     ensures fault { let row = row_of (state_of (held_of M.contents machine.now)) (O.step operation) in

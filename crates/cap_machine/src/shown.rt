@@ -3,7 +3,7 @@
 ghost use Rattle.std.specs.Prelude.{◌≡◌, Some};
 ghost use Rattle.cap_machine.specs.declared.shown.Request.TheVariants.{Nothing};
 
-use cap_log::Place;
+use cap_log::{Place, Register, Size};
 use cap_ops::Refusal;
 use cap_word::Cap;
 
@@ -45,14 +45,14 @@ pub enum Request {
     /// This address.
     Address(u64),
     /// An authority over object types: its register, and the permission that it needs, as a bit of the view.
-    Authority(u8, u32),
+    Authority(Register, u32),
 }
 
 /// An access to memory.
 #[derive(Debug, Clone, Copy, PartialEq, Eq)]
 pub struct Reached {
     /// The register that is its authority.
-    pub authority: u8,
+    pub authority: Register,
     /// The address of its first byte.
     pub address: u64,
     /// How many bytes it has: 1, 2, 4, 8 or 16.
@@ -81,8 +81,8 @@ pub enum Given {
     Number {
         /// It.
         value: u64,
-        /// How many bytes it has: 1, 2, 4 or 8.
-        size: u8,
+        /// How many bytes it has.
+        size: Size,
         /// The recorded one.
         recorded: u64,
     },

@@ -1,7 +1,6 @@
 //! Making steps.
 
 ghost use Rattle.std.specs.Prelude.{◌≡◌, ◌↔◌, ◌<◌, ◌≤◌, ◌+◌, OnOk, Ok, Err};
-ghost use Rattle.cap_log.specs.Lines.{IsStepInRange, IsTarget};
 ghost use Rattle.cap_machine.specs.Changes.{Derives, IsParentsCode, WritesRegister};
 ghost use Rattle.cap_machine.specs.Escapes.{ClearsBeyond, Escapes};
 ghost use Rattle.cap_machine.specs.Helds.{AnswersStep, held_of, state_of};
@@ -12,7 +11,7 @@ use crate::ends::StepEnd;
 use crate::instructions::{Deed, Instruction, by_kind};
 use crate::machine::{MOST_STEPS, Machine};
 use crate::shown::Shown;
-use cap_log::{Operands, Step};
+use cap_log::{Operands, Step, Target};
 use cap_ops::{OpFault, Refusal};
 use cap_word::Cap;
 use tagmem::TaggedStore;
@@ -63,7 +62,6 @@ impl<M: TaggedStore> Machine<M> {
     /// `setbounds` of such a source loses its tag exactly there.
     #[inline(always)]
     pub fn step(&mut self, step: &Step) -> Result<(), StepEnd>
-        requires { IsStepInRange step.now }
         ensures outcome { AnswersStep (held_of M.contents self.old) step.now result (held_of M.contents self.new) }
         ensures stays_within { OnOk result
             (StaysWithinParents (state_of (held_of M.contents self.old)) step.now (state_of (held_of M.contents self.new))) }
@@ -73,12 +71,12 @@ impl<M: TaggedStore> Machine<M> {
             (ClearsBeyond (let held = held_of M.contents self.old in held.rules) (state_of (held_of M.contents self.old)) step.now
             (state_of (held_of M.contents self.new))) }
     {
+        step.in_range();
         by_kind::<Machine<M>, Making>(self, step)
     }
 
     /// What a step shows of the machine, which is as it was before the step.
     pub fn shown(&self, step: &Step) -> Shown
-        requires { IsStepInRange step.now }
         ensures shown { result ≡ shown_of (state_of (held_of M.contents self.now)) step.now }
         ensures in_range { IsShown result }
     {
@@ -91,19 +89,18 @@ impl<M: TaggedStore> Machine<M> {
     #[inline(always)]
     pub(crate) fn conclude<O: Operands>(
         &mut self,
-        step: O,
-        target: u8,
+        step: &O,
+        target: Target,
         outcome: Result<Cap, OpFault>,
         recorded: Cap,
         code: u64,
     ) -> Result<(), StepEnd>
-        requires in_range { IsStepInRange (O.step step) }
-        requires target { IsTarget target }
-        requires writes { WritesRegister (state_of (held_of M.contents self.old)) (O.step step) target recorded }
-        requires derives { Derives (held_of M.contents self.old) (O.step step) outcome }
-        requires code { IsParentsCode (held_of M.contents self.old) (O.step step) outcome code }
-        ensures { AnswersStep (held_of M.contents self.old) (O.step step) result (held_of M.contents self.new) }
+        requires writes { WritesRegister (state_of (held_of M.contents self.old)) (O.step step.now) target recorded }
+        requires derives { Derives (held_of M.contents self.old) (O.step step.now) outcome }
+        requires code { IsParentsCode (held_of M.contents self.old) (O.step step.now) outcome code }
+        ensures { AnswersStep (held_of M.contents self.old) (O.step step.now) result (held_of M.contents self.new) }
     {
+        step.in_range();
         let derived = outcome?;
         if recorded != derived {
             return Err(StepEnd::Refused(Refusal::WrongResult));
@@ -111,8 +108,9 @@ impl<M: TaggedStore> Machine<M> {
         if self.steps >= MOST_STEPS {
             return Err(StepEnd::Refused(Refusal::LimitPassed));
         }
-        overwrite(&mut self.registers[target as usize], recorded);
-        self.codes[target as usize] = if derived.tag { code } else { 0 };
+        let target = target.number() as usize;
+        overwrite(&mut self.registers[target], recorded);
+        self.codes[target] = if derived.tag { code } else { 0 };
         self.steps += 1;
         Ok(())
     }

@@ -7,7 +7,7 @@ ghost use Rattle.cap_machine.specs.States.{key_of};
 ghost use Rattle.cap_report.specs.StepLines.{authority_part};
 
 use crate::parts::Part;
-use cap_log::Place;
+use cap_log::{Place, Register};
 use cap_machine::Machine;
 use cap_word::Cap;
 use tagmem::TaggedStore;
@@ -26,11 +26,10 @@ pub fn held_in<M: TaggedStore>(machine: &Machine<M>, place: Place) -> (Cap, Opti
 }
 
 /// What a register holds that is the authority.
-pub fn authority_in<M: TaggedStore>(machine: &Machine<M>, register: u8) -> Part
-    requires { register ≤ 31 }
+pub fn authority_in<M: TaggedStore>(machine: &Machine<M>, register: Register) -> Part
     ensures value { result ≡ authority_part (account_of (held_of M.contents machine.now)) register }
 {
-    let place = Place::Register(register);
+    let place = Place::Register(register.number());
     let (cap, root) = held_in(machine, place);
     Part::Authority(place, cap, root)
 }

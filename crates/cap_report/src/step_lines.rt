@@ -5,10 +5,9 @@ ghost use Rattle.std.specs.Prelude.{◌≡◌, ◌+◌, ◌*◌, ◌<◌, ◌≤
 ghost use Rattle.cap_bounds.specs.Bounds.{base_of, top_of};
 ghost use Rattle.cap_bounds.specs.Range.{with_address};
 ghost use Rattle.cap_bounds.specs.Rounding.{rounded_base, rounded_top};
-ghost use Rattle.cap_log.specs.Lines.{IsStepInRange};
 ghost use Rattle.cap_log.specs.Parts.{Writes};
 ghost use Rattle.cap_machine.specs.Helds.{account_of, held_of};
-ghost use Rattle.cap_machine.specs.Shown.{IsGiven, IsRead, IsRequest, IsShown};
+ghost use Rattle.cap_machine.specs.Shown.{IsRead, IsShown};
 ghost use Rattle.cap_machine.specs.declared.shown.Given.TheVariants as givens;
 ghost use Rattle.cap_report.specs.Parts.{lines_of_parts};
 ghost use Rattle.cap_report.specs.StepLines.{access_parts, asked_parts, given_lines};
@@ -33,8 +32,7 @@ pub fn put_step_lines<M: TaggedStore>(
     buffer: &mut [u8],
     at: usize,
 ) -> usize
-    requires step { IsStepInRange step.now }
-    requires room { at + 2560 ≤ length buffer.old }
+    requires { at + 2560 ≤ length buffer.old }
     ensures written { Writes at (step_lines (account_of (held_of M.contents machine.now)) step.now refusal) buffer.old buffer.new result }
     ensures fits { result ≤ at + 2560 }
 {
@@ -71,7 +69,6 @@ fn put_operands<M: TaggedStore>(
     at: usize,
 ) -> usize
     requires source { IfSome source IsRead }
-    requires request { IsRequest request }
     requires room { at + 768 ≤ length buffer.old }
     ensures written { Writes at (lines_of_parts (operand_parts (account_of (held_of M.contents machine.now)) source request)) buffer.old buffer.new result }
     ensures fits { result ≤ at + 768 }
@@ -94,8 +91,7 @@ fn put_request<M: TaggedStore>(
     buffer: &mut [u8],
     at: usize,
 ) -> usize
-    requires request { IsRequest request }
-    requires room { at + 512 ≤ length buffer.old }
+    requires { at + 512 ≤ length buffer.old }
     ensures written { Writes at (lines_of_parts (request_parts (account_of (held_of M.contents machine.now)) held.0 request)) buffer.old buffer.new result }
     ensures fits { result ≤ at + 512 }
 {
@@ -154,8 +150,7 @@ fn put_access<M: TaggedStore>(
     buffer: &mut [u8],
     at: usize,
 ) -> usize
-    requires authority { IfSome access (λ reached. reached.authority ≤ 31) }
-    requires room { at + 768 ≤ length buffer.old }
+    requires { at + 768 ≤ length buffer.old }
     ensures written { Writes at (lines_of_parts (access_parts (account_of (held_of M.contents machine.now)) access)) buffer.old buffer.new result }
     ensures fits { result ≤ at + 768 }
 {
@@ -178,8 +173,7 @@ fn access_to(address: u64, size: u8) -> Part
 
 // Writes what the rules give for a step and what its line records.
 fn put_given(given: Given, buffer: &mut [u8], at: usize) -> usize
-    requires given { IsGiven given }
-    requires room { at + 1024 ≤ length buffer.old }
+    requires { at + 1024 ≤ length buffer.old }
     ensures written { Writes at (given_lines given) buffer.old buffer.new result }
     ensures fits { result ≤ at + 1024 }
 {
@@ -195,7 +189,7 @@ fn put_given(given: Given, buffer: &mut [u8], at: usize) -> usize
             size,
             recorded,
         } => {
-            let digits = usize::from(2 * size);
+            let digits = 2 * usize::from(size.bytes());
             let at = put_hex_line(buffer, at, b"gives", digits, u128::from(value));
             put_hex_line(buffer, at, b"recorded", digits, u128::from(recorded))
         }

@@ -43,8 +43,8 @@ IsStepRead (steps.Seal step) read = Reads 11 step.target step.source step.author
 IsStepRead (steps.Unseal step) read = Reads 12 step.target step.source step.authority 0 step.result read
 IsStepRead (steps.LoadCap step) read = ReadsAt 13 step.target 0 step.authority step.offset 0 0 step.result read
 IsStepRead (steps.StoreCap step) read = ReadsAt 14 0 step.source step.authority step.offset 0 0 no_cap read
-IsStepRead (steps.Load step) read = ReadsAt 15 0 0 step.authority step.offset step.size step.value no_cap read
-IsStepRead (steps.Store step) read = ReadsAt 16 0 0 step.authority step.offset step.size step.value no_cap read
+IsStepRead (steps.Load step) read = ReadsAt 15 0 0 step.authority step.offset step.datum.size step.datum.value no_cap read
+IsStepRead (steps.Store step) read = ReadsAt 16 0 0 step.authority step.offset step.datum.size step.datum.value no_cap read
 
 -- what was read is this line
 abbrev pub IsLineRead : Line → LineRead → Type 0

@@ -12,9 +12,8 @@ ghost use Rattle.cap_halves.specs.Passed.{is_set, whole_of};
 
 use crate::ranges::{step_count_of, version_of};
 use cap_halves::halves::word_of;
-use cap_halves::ranges::target_of;
 use cap_halves::values::Halves;
-use cap_log::{Line, Mode, Place, write_line};
+use cap_log::{Line, Mode, Place, Target, write_line};
 
 /// Writes a version line into the buffer: 1 or 2.
 #[unsafe(no_mangle)]
@@ -45,10 +44,10 @@ pub extern "C" fn capcheck_line_mode(buffer: &mut [u8; 96], clear: u8) -> usize
 pub extern "C" fn capcheck_line_root(buffer: &mut [u8; 96], register: u64, word: Halves) -> usize
     ensures line { AnswersLine (line.Root (place.Register register) (record { 0 = whole_of word })) buffer.old buffer.new result }
 {
-    let Some(register) = target_of(register) else {
+    let Some(register) = Target::new(register) else {
         return 0;
     };
-    let place = Place::Register(register);
+    let place = Place::Register(register.number());
     write_line(&Line::Root(place, word_of(word)), buffer)
 }
 

@@ -62,10 +62,10 @@ fn root_read(place: Place, word: Word, count: usize) -> LineRead
 {
     let cap = Cap { tag: true, word };
     match place {
-        Place::Register(register) => LineRead::recorded(ROOT, register, 0, cap, count),
+        Place::Register(register) => LineRead::written(ROOT, register, cap, count),
         Place::Granule(granule) => LineRead {
             number: 16 * granule,
-            ..LineRead::recorded(ROOT_AT, 0, 0, cap, count)
+            ..LineRead::written(ROOT_AT, 0, cap, count)
         },
     }
 }

@@ -3,8 +3,7 @@
 //! Each call answers how many bytes it wrote, the line feed with them, or 0 where a number is out of its
 //! range; then the buffer is as it was.
 
-ghost use Rattle.std.specs.Prelude.{◌≡◌, ◌≢◌, IfSome};
-ghost use Rattle.cap_log.specs.Lines.{IsStepInRange};
+ghost use Rattle.std.specs.Prelude.{◌≡◌, ◌≢◌};
 ghost use Rattle.cap_log.specs.declared.lines.Line.TheVariants as line;
 ghost use Rattle.cap_log.specs.declared.kinds.Step.{Step};
 ghost use Rattle.cap_halves.specs.Passed.{IsStepOf};
@@ -215,7 +214,6 @@ pub extern "C" fn capcheck_line_store(
 // Writes the line of the step that C's numbers make. Where they make none, it answers 0, and the buffer is as it was.
 #[inline(always)]
 fn put_step<O: Operands>(made: Option<O>, buffer: &mut [u8; 96]) -> usize
-    requires { IfSome made (λ step. IsStepInRange (O.step step)) }
     ensures { (step : Step) → IsStepOf O.step step made → AnswersLine (line.Step step) buffer.old buffer.new result }
 {
     match made {
@@ -256,35 +254,35 @@ pub(crate) fn step_read(step: Step, count: usize) -> LineRead
             ..LineRead::recorded(ANDPERM, step.target, step.source, step.result, count)
         },
         Step::Seal(step) => LineRead {
-            authority: step.authority,
+            authority: step.authority.number(),
             ..LineRead::recorded(SEAL, step.target, step.source, step.result, count)
         },
         Step::Unseal(step) => LineRead {
-            authority: step.authority,
+            authority: step.authority.number(),
             ..LineRead::recorded(UNSEAL, step.target, step.source, step.result, count)
         },
         Step::LoadCap(step) => LineRead {
-            authority: step.authority,
-            offset: step.offset,
-            ..LineRead::recorded(LC, step.target, 0, step.result, count)
+            authority: step.authority.number(),
+            offset: step.offset.number(),
+            ..LineRead::written(LC, step.target.number(), step.result, count)
         },
         Step::StoreCap(step) => LineRead {
-            source: step.source,
-            authority: step.authority,
-            offset: step.offset,
+            source: step.source.number(),
+            authority: step.authority.number(),
+            offset: step.offset.number(),
             ..LineRead::numbered(SC, 0, count)
         },
         Step::Load(step) => LineRead {
-            authority: step.authority,
-            offset: step.offset,
-            size: step.size,
-            ..LineRead::numbered(LOAD, step.value, count)
+            authority: step.authority.number(),
+            offset: step.offset.number(),
+            size: step.datum.size().bytes(),
+            ..LineRead::numbered(LOAD, step.datum.value(), count)
         },
         Step::Store(step) => LineRead {
-            authority: step.authority,
-            offset: step.offset,
-            size: step.size,
-            ..LineRead::numbered(STORE, step.value, count)
+            authority: step.authority.number(),
+            offset: step.offset.number(),
+            size: step.datum.size().bytes(),
+            ..LineRead::numbered(STORE, step.datum.value(), count)
         },
     }
 }

@@ -6,6 +6,7 @@ ghost use Rattle.capcheck_c.specs.LinesRead.{Reads};
 
 use cap_halves::halves::{given, no_capability};
 use cap_halves::values::{Capability, Halves};
+use cap_log::{Register, Target};
 use cap_word::Cap;
 
 /// The fields of a word (in C `capcheck_fields`).
@@ -146,15 +147,31 @@ pub struct LineRead {
 }
 
 impl LineRead {
-    /// What is read of a line that records a capability, or a root's.
-    pub(crate) fn recorded(kind: u8, target: u8, source: u8, cap: Cap, count: usize) -> LineRead
+    /// What is read of a step that makes a capability: its kind, its registers and what it records.
+    pub(crate) fn recorded(
+        kind: u8,
+        target: Target,
+        source: Register,
+        cap: Cap,
+        count: usize,
+    ) -> LineRead
         ensures read { Reads kind target source 0 0 cap result }
+        ensures length { result.length ≡ count }
+    {
+        LineRead {
+            source: source.number(),
+            ..LineRead::written(kind, target.number(), cap, count)
+        }
+    }
+
+    /// What is read of a line with one capability: its kind and the register that gets it, or 0.
+    pub(crate) fn written(kind: u8, target: u8, cap: Cap, count: usize) -> LineRead
+        ensures read { Reads kind target 0 0 0 cap result }
         ensures length { result.length ≡ count }
     {
         LineRead {
             cap: given(cap),
             target,
-            source,
             ..LineRead::numbered(kind, 0, count)
         }
     }

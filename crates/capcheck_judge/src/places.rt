@@ -1,6 +1,6 @@
 //! What the machine of an open judge holds, and what it gives.
 
-ghost use Rattle.std.specs.Prelude.{◌≡◌, ◌⊎◌, ◌<◌, ◌≤◌, ◌/◌, ℕ, List, None};
+ghost use Rattle.std.specs.Prelude.{◌≡◌, ◌⊎◌, ◌<◌, ◌≤◌, ◌/◌, ℕ, List, None, Some};
 ghost use Rattle.cap_halves.specs.Passed.{cap_of, no_cap};
 ghost use Rattle.cap_machine.specs.States.{granule_key};
 ghost use Rattle.capcheck_judge.specs.Handles.{AnswersExpected, Holds, IsGiven, held_in, state_behind};
@@ -84,23 +84,32 @@ fn given_of(expected: Option<Expected>) -> Given
     ensures { IsGiven expected result }
 {
     match expected {
-        Some(Expected::Capability(cap)) => Given {
-            cap: given(cap),
-            number: 0,
-            size: 0,
-            kind: 1,
-        },
-        Some(Expected::Number { value, size }) => Given {
-            cap: no_capability(),
-            number: value,
-            size,
-            kind: 2,
-        },
+        Some(expected) => given_by(expected),
         None => Given {
             cap: no_capability(),
             number: 0,
             size: 0,
             kind: 0,
+        },
+    }
+}
+
+/// A capability or a number that the rules give, as C gets it.
+fn given_by(expected: Expected) -> Given
+    ensures { IsGiven (Some expected) result }
+{
+    match expected {
+        Expected::Capability(cap) => Given {
+            cap: given(cap),
+            number: 0,
+            size: 0,
+            kind: 1,
+        },
+        Expected::Number { value, size } => Given {
+            cap: no_capability(),
+            number: value,
+            size: size.bytes(),
+            kind: 2,
         },
     }
 }

@@ -3,8 +3,8 @@
 //! Each call answers as `capcheck_judge_line` does on the line that spells the step. Where a number is out of its range no
 //! line spells it: it answers 5, and nothing has changed.
 
-ghost use Rattle.std.specs.Prelude.{◌≡◌, ◌⊎◌, ◌<◌, ℕ, List, [], ◌∷◌, ◌++◌, IfSome};
-ghost use Rattle.cap_log.specs.Lines.{IsStepInRange, spelling};
+ghost use Rattle.std.specs.Prelude.{◌≡◌, ◌⊎◌, ◌<◌, ℕ, List, [], ◌∷◌, ◌++◌};
+ghost use Rattle.cap_log.specs.Lines.{spelling};
 ghost use Rattle.cap_log.specs.declared.lines.Line.TheVariants as line;
 ghost use Rattle.cap_log.specs.declared.kinds.Step.{Step};
 ghost use Rattle.cap_halves.specs.Passed.{IsStepOf};
@@ -210,7 +210,6 @@ pub extern "C" fn capcheck_judge_store(
 /// changed.
 #[inline(always)]
 fn hand_over<I: Instruction>(alloc: Global, judge: &mut Handle, made: Option<I>) -> u8
-    requires { IfSome made (λ step. IsStepInRange (I.step step)) }
     ensures { (step : Step) → IsStepOf I.step step made → HandsOver (line.Step step) (held_in judge.old) (held_in judge.new) result }
 {
     match made {
@@ -236,7 +235,6 @@ fn hand_over<I: Instruction>(alloc: Global, judge: &mut Handle, made: Option<I>)
 // Hands a step to a judge: 0, 2 or 3, as `capcheck_judge_line` says of its line.
 #[inline(always)]
 fn take_step<I: Instruction>(judge: &mut Judge<PageStore>, step: I) -> u8
-    requires { IsStepInRange (I.step step) }
     ensures answers { (result ≡ 0) ⊎ (result ≡ 2) ⊎ (result ≡ 3) }
     ensures taken { result < 3 → (bytes : List ℕ) → HasRead ⟦<PageStore as TaggedStore>⟧.contents judge.old bytes
         → HasRead ⟦<PageStore as TaggedStore>⟧.contents judge.new (bytes ++ (spelling (line.Step (I.step step)) ++ 10 ∷ [])) }

@@ -1,5 +1,6 @@
-//! Lines of logs, where they come from, and where texts go.
+//! Lines of logs and their numbers, where lines come from, and where texts go.
 
+mod numbers;
 mod sinks;
 mod sources;
 mod taking;

@@ -1,12 +1,14 @@
 //! Offsets of accesses, from -2048 to 2047.
 
+ghost use Rattle.std.specs.Prelude.{◌≡◌, MatchOption};
 ghost use Rattle.std.specs.Fmt.{signed_decimal};
-ghost use Rattle.cap_log.specs.Lines.{IsOffset};
+ghost use Rattle.cap_log.specs.Ranges.{IsOffset};
 ghost use Rattle.cap_log.specs.Spaceless.{offset-spaceless};
 
 use crate::buffers::{put, put_few};
 use crate::parts::decimals::take_decimal;
-use crate::parts::{Part, Single};
+use crate::parts::{Part, Ranged, Single};
+use std::marker::Model;
 
 /// The most digits that an offset has.
 const OFFSET_DIGITS: usize = 4;
@@ -21,13 +23,53 @@ const LEAST_NEGATIVE: u64 = 1;
 const NEGATIVE_BOUND: u64 = 2049;
 
 /// An offset: a decimal number, with a minus sign where it is below 0.
-#[derive(Clone, Copy)]
-pub struct Offset(pub i16);
+#[derive(Clone, Copy, Debug, PartialEq, Eq)]
+pub struct Offset {
+    number: i16,
+}
+
+impl Model for Offset {
+    ghost use Rattle.std.specs.Prelude.{ℤ};
+    ghost use Rattle.cap_log.specs.Ranges.{IsOffset};
+
+    ghost Value = { ℤ };
+
+    ghost view = { λ offset. offset.number };
+
+    ghost invariant = { λ offset. IsOffset offset.number };
+
+    ghost inverse = { λ number. record { number = number } };
+}
+
+impl Offset {
+    /// The offset of this number, or `None` where it is below -2048 or above 2047.
+    #[inline(always)]
+    pub fn new(number: i64) -> Option<Offset>
+        ensures offset { MatchOption result (¬ IsOffset number) (λ offset. IsOffset number × (offset ≡ number)) }
+    {
+        if number >= -2048 && number <= 2047 {
+            Some(Offset {
+                number: number as i16,
+            })
+        } else {
+            None
+        }
+    }
+
+    /// Its number, -2048 to 2047.
+    #[inline(always)]
+    pub fn number(self) -> i16
+        ensures number { result ≡ self }
+        ensures range { IsOffset self }
+    {
+        self.number
+    }
+}
 
 impl Part for Offset {
-    ghost fits = { λ offset. IsOffset offset.0 };
+    ghost fits = { IsOffset };
 
-    ghost spelled = { λ offset. signed_decimal offset.0 };
+    ghost spelled = { signed_decimal };
 
     #[inline(always)]
     fn take(bytes: &[u8], end: u8) -> Option<(Offset, &[u8])> {
@@ -40,23 +82,32 @@ impl Part for Offset {
                 NEGATIVE_BOUND,
                 end,
             )?;
-            return Some((Offset(-(number as i16)), rest));
+            let number = -(number as i16);
+            return Some((Offset { number }, rest));
         }
         let (number, rest) = take_decimal(bytes, OFFSET_DIGITS, 0, BOUND, end)?;
-        Some((Offset(number as i16), rest))
+        let number = number as i16;
+        Some((Offset { number }, rest))
     }
 
     #[inline(always)]
     fn write(&self, buffer: &mut [u8], at: usize) -> usize {
-        if self.0 < 0 {
+        if self.number < 0 {
             let next = put(buffer, at, b"-");
-            put_few(buffer, next, self.0.unsigned_abs())
+            put_few(buffer, next, self.number.unsigned_abs())
         } else {
-            put_few(buffer, at, self.0.unsigned_abs())
+            put_few(buffer, at, self.number.unsigned_abs())
         }
     }
 }
 
+impl Ranged for Offset {
+    #[inline(always)]
+    fn in_range(self) {
+        self.number();
+    }
+}
+
 impl Single for Offset {
-    ghost spaceless = { λ offset fits. offset-spaceless offset.0 fits };
+    ghost spaceless = { offset-spaceless };
 }

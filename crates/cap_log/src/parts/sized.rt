@@ -1,87 +1,207 @@
-//! Values of 1, 2, 4 or 8 bytes: their size, and two hexadecimal digits for each byte.
+//! Numbers of 1, 2, 4 or 8 bytes: their size, and two hexadecimal digits for each byte.
 
-ghost use Rattle.std.specs.Prelude.{◌≡◌, ℕ, ◌*◌, ◌+◌, ◌≤◌, length, List, ◌++◌, decimal, IfSome, IfNone};
+ghost use Rattle.std.specs.Prelude.{◌≡◌, ℕ, ◌*◌, ◌+◌, ◌≤◌, length, List, ◌++◌, decimal, IfSome, IfNone, IsTrue, MatchOption, ◌↔◌};
 ghost use Rattle.cap_word.specs.Digits.{hex_digits};
-ghost use Rattle.cap_log.specs.Lines.{IsDataSize, IsDataValue};
-ghost use Rattle.cap_log.specs.Parts.{Begins, BeginsWithNone, IsEnd, IsSized, Writes, loaded_spelling, stored_spelling};
+ghost use Rattle.cap_log.specs.Parts.{Begins, BeginsWithNone, IsEnd, Writes, loaded_spelling, stored_spelling};
+ghost use Rattle.cap_log.specs.Ranges.{IsDataSize, IsDataValue, IsDatum};
 
 use crate::buffers::{put, put_few};
-use crate::parts::Part;
 use crate::parts::cutting::behind;
+use crate::parts::{Part, Ranged};
 use cap_word::{number_text, take_bytes, take_u64};
+use std::marker::Model;
 
-/// The size and the value that a load records: the size, `= ` and the value's digits.
-#[derive(Clone, Copy)]
-pub struct Loaded {
-    /// How many bytes.
-    pub size: u8,
-    /// Their number.
-    pub value: u64,
+/// How many bytes a load or a store takes: 1, 2, 4 or 8.
+#[derive(Clone, Copy, Debug, PartialEq, Eq)]
+pub struct Size {
+    bytes: u8,
 }
 
-impl Part for Loaded {
-    ghost fits = { λ loaded. IsSized loaded.size loaded.value };
+impl Model for Size {
+    ghost use Rattle.std.specs.Prelude.{ℕ};
+    ghost use Rattle.cap_log.specs.Ranges.{IsDataSize};
 
-    ghost spelled = { λ loaded. loaded_spelling loaded.size loaded.value };
+    ghost Value = { ℕ };
+
+    ghost view = { λ size. size.bytes };
+
+    ghost invariant = { λ size. IsDataSize size.bytes };
+
+    ghost inverse = { λ bytes. record { bytes = bytes } };
+}
+
+impl Size {
+    /// The size of so many bytes, or `None` where they are not 1, 2, 4 or 8.
+    #[inline(always)]
+    pub fn new(bytes: u64) -> Option<Size>
+        ensures size { MatchOption result (¬ IsDataSize bytes) (λ size. IsDataSize bytes × (size ≡ bytes)) }
+    {
+        match bytes {
+            1 => Some(Size { bytes: 1 }),
+            2 => Some(Size { bytes: 2 }),
+            4 => Some(Size { bytes: 4 }),
+            8 => Some(Size { bytes: 8 }),
+            _ => None,
+        }
+    }
+
+    /// How many bytes.
+    #[inline(always)]
+    pub fn bytes(self) -> u8
+        ensures bytes { result ≡ self }
+        ensures range { IsDataSize self }
+    {
+        self.bytes
+    }
+}
+
+/// What a load or a store takes: a number of so many bytes.
+#[derive(Clone, Copy, Debug, PartialEq, Eq)]
+pub struct Datum {
+    size: Size,
+    value: u64,
+}
+
+impl Model for Datum {
+    ghost use Rattle.cap_log.specs.Ranges.{Datum, IsDatum};
+
+    ghost Value = { Datum };
+
+    ghost view = { λ datum. record { size = datum.size; value = datum.value } };
+
+    ghost invariant = { λ datum. IsDatum (record { size = datum.size; value = datum.value }) };
+
+    ghost inverse = { λ datum. record { size = datum.size; value = datum.value } };
+}
+
+impl Datum {
+    /// A number of so many bytes, or `None` where they are not 1, 2, 4 or 8, or the number needs more.
+    #[inline(always)]
+    pub fn new(size: u64, value: u64) -> Option<Datum>
+        ensures datum { MatchOption result (¬ IsDatum (record { size = size; value = value }))
+            (λ datum. IsDatum datum × (datum ≡ record { size = size; value = value })) }
+    {
+        let Some(size) = Size::new(size) else {
+            return None;
+        };
+        if fits(size, value) {
+            Some(Datum { size, value })
+        } else {
+            None
+        }
+    }
+
+    /// How many bytes.
+    #[inline(always)]
+    pub fn size(self) -> Size
+        ensures size { result ≡ self.size }
+        ensures range { IsDatum self }
+    {
+        self.size
+    }
+
+    /// Their number.
+    #[inline(always)]
+    pub fn value(self) -> u64
+        ensures value { result ≡ self.value }
+    {
+        self.value
+    }
+}
+
+// Whether a number has no more bytes than these.
+#[inline(always)]
+fn fits(size: Size, value: u64) -> bool
+    ensures { IsTrue result ↔ IsDataValue size value }
+{
+    match size.bytes {
+        1 => value < 0x100,
+        2 => value < 0x1_0000,
+        4 => value < 0x1_0000_0000,
+        _ => true,
+    }
+}
+
+/// What a load records: the size, `= ` and the value's digits.
+#[derive(Clone, Copy)]
+pub struct Loaded(pub Datum);
+
+impl Part for Loaded {
+    ghost fits = { λ loaded. IsDatum loaded.0 };
+
+    ghost spelled = { λ loaded. loaded_spelling loaded.0 };
 
     #[inline(always)]
     fn take(bytes: &[u8], end: u8) -> Option<(Loaded, &[u8])> {
-        let (size, rest) = take_size(bytes)?;
+        let (count, rest) = take_size(bytes)?;
+        let size = Size { bytes: count };
         let digits = rest.strip_prefix(b"= ")?;
         let (value, rest) = take_value(digits, size, end)?;
-        Some((Loaded { size, value }, rest))
+        Some((Loaded(Datum { size, value }), rest))
     }
 
     #[inline(always)]
     fn write(&self, buffer: &mut [u8], at: usize) -> usize {
-        let next = put_few(buffer, at, u16::from(self.size));
+        let size = self.0.size();
+        let next = put_few(buffer, at, u16::from(size.bytes()));
         let digits = put(buffer, next, b" = ");
-        put_value(buffer, digits, self.size, self.value)
+        put_value(buffer, digits, size, self.0.value())
     }
 }
 
-/// The size and the value of a store: the size and the value's digits.
-#[derive(Clone, Copy)]
-pub struct Stored {
-    /// How many bytes.
-    pub size: u8,
-    /// Their number.
-    pub value: u64,
+impl Ranged for Loaded {
+    #[inline(always)]
+    fn in_range(self) {
+        self.0.size();
+    }
 }
 
-impl Part for Stored {
-    ghost fits = { λ stored. IsSized stored.size stored.value };
+/// What a store takes: the size and the value's digits.
+#[derive(Clone, Copy)]
+pub struct Stored(pub Datum);
 
-    ghost spelled = { λ stored. stored_spelling stored.size stored.value };
+impl Part for Stored {
+    ghost fits = { λ stored. IsDatum stored.0 };
+
+    ghost spelled = { λ stored. stored_spelling stored.0 };
 
     #[inline(always)]
     fn take(bytes: &[u8], end: u8) -> Option<(Stored, &[u8])> {
-        let (size, digits) = take_size(bytes)?;
+        let (count, digits) = take_size(bytes)?;
+        let size = Size { bytes: count };
         let (value, rest) = take_value(digits, size, end)?;
-        Some((Stored { size, value }, rest))
+        Some((Stored(Datum { size, value }), rest))
     }
 
     #[inline(always)]
     fn write(&self, buffer: &mut [u8], at: usize) -> usize {
-        let next = put_few(buffer, at, u16::from(self.size));
+        let size = self.0.size();
+        let next = put_few(buffer, at, u16::from(size.bytes()));
         let digits = put(buffer, next, b" ");
-        put_value(buffer, digits, self.size, self.value)
+        put_value(buffer, digits, size, self.0.value())
+    }
+}
+
+impl Ranged for Stored {
+    #[inline(always)]
+    fn in_range(self) {
+        self.0.size();
     }
 }
 
 // Writes a value of so many bytes: the last of its sixteen digits, two for each byte.
 #[inline(always)]
-fn put_value(buffer: &mut [u8], at: usize, size: u8, value: u64) -> usize
-    requires size { IsDataSize size }
-    requires room { at + 2 * size ≤ length buffer.old }
+fn put_value(buffer: &mut [u8], at: usize, size: Size, value: u64) -> usize
+    requires { at + 2 * size ≤ length buffer.old }
     ensures { Writes at (hex_digits (2 * size) value) buffer.old buffer.new result }
 {
     let digits = number_text(value);
-    if size == 8 {
+    let count = size.bytes();
+    if count == 8 {
         put(buffer, at, &digits)
-    } else if size == 4 {
+    } else if count == 4 {
         put(buffer, at, &digits[8..])
-    } else if size == 2 {
+    } else if count == 2 {
         put(buffer, at, &digits[12..])
     } else {
         put(buffer, at, &digits[14..])
@@ -105,8 +225,7 @@ fn take_size(bytes: &[u8]) -> Option<(u8, &[u8])>
 
 // Takes a value of so many bytes, two digits for each, and the byte that ends it.
 #[inline(always)]
-fn take_value(bytes: &[u8], size: u8, end: u8) -> Option<(u64, &[u8])>
-    requires { IsDataSize size }
+fn take_value(bytes: &[u8], size: Size, end: u8) -> Option<(u64, &[u8])>
     ensures some { IfSome result (λ p. Begins (IsDataValue size) (hex_digits (2 * size)) end bytes.now p.0 p.1.now) }
     ensures none { IfNone result (BeginsWithNone (IsDataValue size) (hex_digits (2 * size)) end bytes.now) }
 {
@@ -117,16 +236,16 @@ fn take_value(bytes: &[u8], size: u8, end: u8) -> Option<(u64, &[u8])>
 
 // Takes the digits of a value. Eight bytes are the most usual, and are read without asking how many.
 #[inline(always)]
-fn take_digits(bytes: &[u8], size: u8) -> Option<(u64, &[u8])>
-    requires { IsDataSize size }
+fn take_digits(bytes: &[u8], size: Size) -> Option<(u64, &[u8])>
     ensures fits { IfSome result (λ p. IsDataValue size p.0) }
     ensures some { IfSome result (λ p. bytes.now ≡ hex_digits (2 * size) p.0 ++ p.1.now) }
     ensures none { IfNone result ((n : ℕ) (rest : List ℕ) → IsDataValue size n
         → bytes.now ≡ hex_digits (2 * size) n ++ rest → ⊥) }
 {
-    if size == 8 {
+    let count = size.bytes();
+    if count == 8 {
         take_u64(bytes)
     } else {
-        take_bytes(bytes, size)
+        take_bytes(bytes, count)
     }
 }

@@ -2,7 +2,7 @@
 
 use crate::calls::answers::{none, taken};
 use cap_log::{
-    Head, Part, Place, front, read_line, take_line, take_operands, write_line, write_place,
+    Head, Line, Part, Place, front, read_line, take_line, take_operands, write_line, write_place,
 };
 use cap_word::Word;
 use std::alloc::{AllocError, Global};
@@ -13,7 +13,7 @@ pub fn line_answer(alloc: Global, call: &[u8], text: &[u8]) -> Option<Result<Str
         b"front" => front_found(alloc, text),
         b"read_line" => line_read(alloc, text),
         b"write_line" => rewritten(alloc, text),
-        b"take_line" => taken(alloc, take_line(text)),
+        b"take_line" => line_taken(alloc, text),
         _ => return None,
     })
 }
@@ -52,9 +52,26 @@ fn line_read(alloc: Global, text: &[u8]) -> Result<String, AllocError> {
 // What stands behind the head that the first operand spells.
 fn operands_taken(alloc: Global, operands: &[&[u8]], text: &[u8]) -> Result<String, AllocError> {
     match Head::take(operands.first().copied().unwrap_or(b""), b'\n') {
-        Some((head, _)) => taken(alloc, take_operands(head, text)),
+        Some((head, _)) => match take_operands(head, text) {
+            Some((line, rest)) => shown(alloc, &line, rest),
+            None => none(alloc),
+        },
         None => format!(in alloc; "no such head"),
     }
+}
+
+// The line at the front of a text, and what stands behind it.
+fn line_taken(alloc: Global, text: &[u8]) -> Result<String, AllocError> {
+    match take_line(text) {
+        Some((line, rest)) => shown(alloc, &line, rest),
+        None => none(alloc),
+    }
+}
+
+// A line, and what stands behind it.
+fn shown(alloc: Global, line: &Line, rest: &[u8]) -> Result<String, AllocError> {
+    let rest = String::from_utf8_lossy(alloc, rest)?;
+    format!(in alloc; "{line:?} [{rest}]")
 }
 
 // A line as it is written, where what is written is taken as the same line.

@@ -26,11 +26,11 @@ no_count : (text : List ℕ) (line : Line) → log.Spells text line → (o : Opt
 no_count text line spells None told = λ count ends. told count (logs.one_spelling text line (Ending count) spells (as_log text count ends))
 no_count text line spells (Some count) told = tt
 
-pub returns-in_err-line-clause-none : goal.returns-in_err-line-clause-none
-returns-in_err-line-clause-none c = rw c.from_residual.ensures (λ count ends. c.in_err-line.ensures.none (Ending count) (as_log _ count ends))
+pub returns-in-None-clause-none : goal.returns-in-None-clause-none
+returns-in-None-clause-none c = λ count ends. c.in-None.ensures.none (Ending count) (as_log _ count ends)
 
-pub returns-clause-some : goal.returns-clause-some
-returns-clause-some c = some_count c.args.text.now c.in_ok-line.line c.in_ok-line.ensures.some c.count_of.result c.count_of.ensures
+pub returns-in-Some-clause-some : goal.returns-in-Some-clause-some
+returns-in-Some-clause-some c = some_count c.args.text.now c.in-Some.line c.in-Some.ensures.some c.count_of.result c.count_of.ensures
 
-pub returns-clause-none : goal.returns-clause-none
-returns-clause-none c = no_count c.args.text.now c.in_ok-line.line c.in_ok-line.ensures.some c.count_of.result c.count_of.ensures
+pub returns-in-Some-clause-none : goal.returns-in-Some-clause-none
+returns-in-Some-clause-none c = no_count c.args.text.now c.in-Some.line c.in-Some.ensures.some c.count_of.result c.count_of.ensures

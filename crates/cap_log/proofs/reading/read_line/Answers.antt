@@ -13,13 +13,13 @@ returns-then-bytes-gt-LINE_LIMIT-clause-none c = λ line spells.
     let long = c.if-bytes-gt-LINE_LIMIT.true in
     omega arith
 
-pub returns-in_err-line-clause-none : goal.returns-in_err-line-clause-none
-returns-in_err-line-clause-none c =
+pub returns-in_default-clause-none : goal.returns-in_default-clause-none
+returns-in_default-clause-none c =
     let short = c.if-bytes-gt-LINE_LIMIT.false in
     let ends = c.put-length.ensures.written.ends in
     let ends' = c.put-end.ensures.written.ends in
     let text = (front_and_byte _ _ _ _ _ _ _ c.put-length.ensures.written c.put-end.ensures.written (omega arith)).0 in
-    rw c.from_residual.ensures (fed_none c.args.bytes.now (subst (BeginsWithNone IsInRange spelling 10) text c.in_err-line.ensures.none))
+    fed_none c.args.bytes.now (subst (BeginsWithNone IsInRange spelling 10) text c.in_default.ensures.none)
 
 pub returns-then-is_empty-clause-some : goal.returns-then-is_empty-clause-some
 returns-then-is_empty-clause-some c =
@@ -27,9 +27,9 @@ returns-then-is_empty-clause-some c =
     let ends = c.put-length.ensures.written.ends in
     let ends' = c.put-end.ensures.written.ends in
     let text = (front_and_byte _ _ _ _ _ _ _ c.put-length.ensures.written c.put-end.ensures.written (omega arith)).0 in
-    let all : c.in_ok-line.rest.now ≡ [] = nil_from_length _ (search rules) in
-    fed_some c.args.bytes.now c.in_ok-line.rest.now c.in_ok-line.line
-    (subst (λ b. Begins IsInRange spelling 10 b c.in_ok-line.line c.in_ok-line.rest.now) text c.in_ok-line.ensures.some) all
+    let all : c.in-Some.rest.now ≡ [] = nil_from_length _ (search rules) in
+    fed_some c.args.bytes.now c.in-Some.rest.now c.in-Some.line
+    (subst (λ b. Begins IsInRange spelling 10 b c.in-Some.line c.in-Some.rest.now) text c.in-Some.ensures.some) all
 
 pub returns-else-is_empty-clause-none : goal.returns-else-is_empty-clause-none
 returns-else-is_empty-clause-none c =
@@ -37,6 +37,6 @@ returns-else-is_empty-clause-none c =
     let ends = c.put-length.ensures.written.ends in
     let ends' = c.put-end.ensures.written.ends in
     let text = (front_and_byte _ _ _ _ _ _ _ c.put-length.ensures.written c.put-end.ensures.written (omega arith)).0 in
-    let more : c.in_ok-line.rest.now ≢ [] = search rules in
-    fed_more c.args.bytes.now c.in_ok-line.rest.now c.in_ok-line.line
-    (subst (λ b. Begins IsInRange spelling 10 b c.in_ok-line.line c.in_ok-line.rest.now) text c.in_ok-line.ensures.some) more
+    let more : c.in-Some.rest.now ≢ [] = search rules in
+    fed_more c.args.bytes.now c.in-Some.rest.now c.in-Some.line
+    (subst (λ b. Begins IsInRange spelling 10 b c.in-Some.line c.in-Some.rest.now) text c.in-Some.ensures.some) more

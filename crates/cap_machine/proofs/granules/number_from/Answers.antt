@@ -23,25 +23,25 @@ returns-then-size-eq1 c =
     let bytes = c.args.bytes.now in
     and_mask _ 8
     ∙ number_at-cut bytes c.args.byte_index 1 _ _ c.fits-bytes (c.from_le_bytes.ensures ∙ from_le_bytes_is bytes c.told-bytes) c.from.ensures
-    ∙ ap (number_at bytes c.args.byte_index) (sym c.if-size-eq1.true)
+    ∙ ap (number_at bytes c.args.byte_index) (sym c.if-size-eq1.true ∙ c.bytes-size.ensures.bytes)
 
 pub returns-then-size-eq2 : goal.returns-then-size-eq2
 returns-then-size-eq2 c =
     let bytes = c.args.bytes.now in
     and_mask _ 16
     ∙ number_at-cut bytes c.args.byte_index 2 _ _ c.fits-bytes (c.from_le_bytes.ensures ∙ from_le_bytes_is bytes c.told-bytes) c.from.ensures
-    ∙ ap (number_at bytes c.args.byte_index) (sym c.if-size-eq2.true)
+    ∙ ap (number_at bytes c.args.byte_index) (sym c.if-size-eq2.true ∙ c.bytes-size.ensures.bytes)
 
 pub returns-then-size-eq4 : goal.returns-then-size-eq4
 returns-then-size-eq4 c =
     let bytes = c.args.bytes.now in
     and_mask _ 32
     ∙ number_at-cut bytes c.args.byte_index 4 _ _ c.fits-bytes (c.from_le_bytes.ensures ∙ from_le_bytes_is bytes c.told-bytes) c.from.ensures
-    ∙ ap (number_at bytes c.args.byte_index) (sym c.if-size-eq4.true)
+    ∙ ap (number_at bytes c.args.byte_index) (sym c.if-size-eq4.true ∙ c.bytes-size.ensures.bytes)
 
 pub returns-else-size-eq4 : goal.returns-else-size-eq4
 returns-else-size-eq4 c =
     let bytes = c.args.bytes.now in
     and_mask _ 64
     ∙ number_at-cut bytes c.args.byte_index 8 _ _ c.fits-bytes (c.from_le_bytes.ensures ∙ from_le_bytes_is bytes c.told-bytes) c.from.ensures
-    ∙ ap (number_at bytes c.args.byte_index) (sym (eight c.args.size c.requires.sized c.if-size-eq1.false c.if-size-eq2.false c.if-size-eq4.false))
+    ∙ ap (number_at bytes c.args.byte_index) (sym (eight c.bytes-size.result (rw c.bytes-size.ensures.bytes c.bytes-size.ensures.range) c.if-size-eq1.false c.if-size-eq2.false c.if-size-eq4.false) ∙ c.bytes-size.ensures.bytes)

@@ -1,4 +1,4 @@
-use Rattle.std.proofs.Common.{◌≤◌, ℕ, inl, inr, ap, ◌∙◌, arith, List, take}
+use Rattle.std.proofs.Common.{◌≤◌, ℕ, inl, inr, ap, ◌∙◌, arith, List}
 use Rattle.std.proofs.lemmas.Result.{on_ok_weaker}
 use Rattle.cap_log.specs.Lines.{IsDataSize}
 use Rattle.tagmem.specs.Granules.{with_bytes}
@@ -20,5 +20,6 @@ returns-clause-ok g c =
     let memory = g.M.TaggedStore.contents c.args.memory.now in
     on_ok_weaker c.put_bytes.result
     (λ put. put ∙ ap (λ (bytes : List ℕ). with_bytes memory c.args.granule c.args.byte_index bytes)
-    (ap (take c.args.size) c.to_le_bytes-bytes.ensures ∙ low_taken c.args.size c.args.value (few c.args.size c.requires.sized)))
+    (rw (c.bytes-size.ensures.bytes, c.size.ensures.size, c.to_le_bytes-bytes.ensures, c.value.ensures.value)
+    (low_taken c.args.datum.size c.args.datum.value (few c.args.datum.size c.size.ensures.range.0))))
     c.put_bytes.ensures.ok

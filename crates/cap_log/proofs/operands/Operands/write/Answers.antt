@@ -5,7 +5,7 @@ use Rattle.cap_log.proofs.operands.Operands.write.Goals as goal
 
 pub write-requires-clause-room : goal.write-requires-clause-room
 write-requires-clause-room g c =
-    let short = spelling-short (line.Step (g.Self.Operands.step c.args.self)) c.requires.in_range in
-    let same = ap length c.into_parts.ensures.spelling in
-    let room = c.requires.room in
+    let short = spelling-short (line.Step (g.Self.Operands.step c.args.self)) (c.into_parts-parts.ensures.in_range c.in_range.ensures.fits) in
+    let same = ap length c.into_parts-parts.ensures.spelling in
+    let room = c.requires in
     rw c.head.ensures.head (omega arith)

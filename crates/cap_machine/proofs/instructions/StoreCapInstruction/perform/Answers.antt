@@ -10,6 +10,6 @@ returns g c =
     record {
       outcome =
           stored (held_of g.M.TaggedStore.contents machine) (held_of g.M.TaggedStore.contents c.put_counted.new.self) c.args.self
-          c.put_counted.result (search rules) c.requires.0 (machine.coded c.args.self.source) out.0
-          (rw (c.register-stored.ensures.holds, out.1) at c.put_counted.ensures);
+          c.put_counted.result (search rules) c.number-2.ensures.range (machine.coded c.args.self.source) out.0
+          (rw (c.register-stored.ensures.holds, c.number.ensures.number, c.number-2.ensures.number, out.1) at c.put_counted.ensures);
     }

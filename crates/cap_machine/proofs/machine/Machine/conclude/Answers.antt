@@ -19,14 +19,14 @@ returns-in_err-derived g c =
     let old = held_of g.M.TaggedStore.contents c.args.self.now in
     let fault = c.in_err-derived.field-0.0 in
     let is = err_from_is_err_and c.from_residual.result c.from_residual.ensures.1 in
-    rw (is.1, is.2) (concluded_faulted old (g.O.Operands.step c.args.step) c.args.target c.args.recorded fault
+    rw (is.1, is.2) (concluded_faulted old (g.O.Operands.step c.args.step.now) c.args.target c.args.recorded fault
     (refusal_of fault) c.requires.writes
-    (subst (Derives old (g.O.Operands.step c.args.step)) c.in_err-derived.was c.requires.derives) refl)
+    (subst (Derives old (g.O.Operands.step c.args.step.now)) c.in_err-derived.was c.requires.derives) refl)
 
 pub returns-then-ne : goal.returns-then-ne
 returns-then-ne g c =
     let old = held_of g.M.TaggedStore.contents c.args.self.now in
-    let step = g.O.Operands.step c.args.step in
+    let step = g.O.Operands.step c.args.step.now in
     let derived = c.in_ok-derived.derived in
     let is = concluded old step c.args.target c.args.recorded derived c.requires.writes
     (subst (Derives old step) c.in_ok-derived.was c.requires.derives) in
@@ -35,7 +35,7 @@ returns-then-ne g c =
 pub returns-then-self-ge-MOST_STEPS : goal.returns-then-self-ge-MOST_STEPS
 returns-then-self-ge-MOST_STEPS g c =
     let old = held_of g.M.TaggedStore.contents c.args.self.now in
-    let step = g.O.Operands.step c.args.step in
+    let step = g.O.Operands.step c.args.step.now in
     let derived = c.in_ok-derived.derived in
     let is = concluded old step c.args.target c.args.recorded derived c.requires.writes
     (subst (Derives old step) c.in_ok-derived.was c.requires.derives) in
@@ -46,14 +46,14 @@ invariant_of-self g c =
     let machine = c.args.self.now in
     let memory = g.M.TaggedStore.contents machine.memory in
     let old = held_of g.M.TaggedStore.contents machine in
-    let step = g.O.Operands.step c.args.step in
+    let step = g.O.Operands.step c.args.step.now in
     let target = c.args.target in
     let recorded = c.args.recorded in
     let derived = c.in_ok-derived.derived in
     let parent = (row_of (state_of old) step).parent in
     let is = concluded old step target recorded derived c.requires.writes
     (subst (Derives old step) c.in_ok-derived.was c.requires.derives) in
-    let within = concluded_within old step target recorded derived c.requires.in_range is in
+    let within = concluded_within old step target recorded derived c.in_range.ensures.range is in
     let parents = subst (λ o. IsParentsCode old step o c.args.code) c.in_ok-derived.was c.requires.code in
     let same : derived ≡ recorded = sym (equal_caps recorded derived (sym c.ne.ensures ∙ c.if-ne.false)) in
     let code_is : c.if-derived.self ≡ code_for derived.tag c.args.code =
@@ -64,18 +64,18 @@ invariant_of-self g c =
     let sound = subst IsSoundCap same (result_sound (state_of old) parent _ derived machine.sound within) in
     let coded = subst (IsCoded derived.tag) (sym code_is)
     (result_coded (state_of old) (code_in old) parent _ derived c.args.code machine.coded within (parents derived refl)) in
-    rw c.overwrite.ensures (record {
-      zero = zero_register machine.registers target recorded c.requires.target.0 machine.zero;
-      sound = sound_register machine.registers memory target recorded (search rules) c.requires.target.1 machine.sound sound;
+    rw (c.overwrite.ensures, c.number-target.ensures.number) (record {
+      zero = zero_register machine.registers target recorded c.number-target.ensures.range.0 machine.zero;
+      sound = sound_register machine.registers memory target recorded (search rules) c.number-target.ensures.range.1 machine.sound sound;
       coded = coded_register machine.registers machine.codes memory target recorded c.if-derived.self
           (search rules) (search rules)
-          c.requires.target.1 machine.coded (subst (λ (cap : Cap). IsCoded cap.tag c.if-derived.self) same coded);
+          c.number-target.ensures.range.1 machine.coded (subst (λ (cap : Cap). IsCoded cap.tag c.if-derived.self) same coded);
     })
 
 pub returns : goal.returns
 returns g c =
     let old = held_of g.M.TaggedStore.contents c.args.self.now in
-    let step = g.O.Operands.step c.args.step in
+    let step = g.O.Operands.step c.args.step.now in
     let target = c.args.target in
     let recorded = c.args.recorded in
     let derived = c.in_ok-derived.derived in
@@ -89,7 +89,7 @@ returns g c =
       | then-derived w ↦ w.self-is ∙ sym (ap (λ (b : Bool). code_for b c.args.code) w.if-derived.true)
       | else-derived w ↦ w.self-is ∙ sym (ap (λ (b : Bool). code_for b c.args.code) w.if-derived.false)
     ] in
-    rw c.overwrite.ensures (subst (λ (code : ℕ). Makes old step (record old {
+    rw (c.overwrite.ensures, c.number-target.ensures.number) (subst (λ (code : ℕ). Makes old step (record old {
       registers = slice_set old.registers target recorded;
       codes = slice_set old.codes target code;
       steps = old.steps + 1;
@@ -99,5 +99,5 @@ returns g c =
       codes = slice_set old.codes target (code_for derived.tag c.args.code);
       steps = old.steps + 1;
     })) same
-    (concluded_made old step target recorded derived c.args.code is (search rules) (search rules) c.requires.target.1 parents like
+    (concluded_made old step target recorded derived c.args.code is (search rules) (search rules) c.number-target.ensures.range.1 parents like
     c.if-self-ge-MOST_STEPS.false)))

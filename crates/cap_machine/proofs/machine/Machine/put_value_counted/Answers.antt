@@ -11,7 +11,7 @@ pub invariant_of-self-2 : goal.invariant_of-self-2
 invariant_of-self-2 g c =
     let machine = c.args.self.now in
     let old = g.M.TaggedStore.contents machine.memory in
-    let entry : Entry = (false, overwritten (bytes_at old c.args.granule) c.args.byte_index (low_bytes c.args.size c.args.value), 0) in
+    let entry : Entry = (false, overwritten (bytes_at old c.args.granule) c.args.byte_index (low_bytes c.args.datum.size c.args.datum.value), 0) in
     record {
       zero = machine.zero;
       sound = subst (λ (m : Granules). IsSoundState (places_of machine.registers m)) (sym c.in_ok-put_number.ensures.ok)

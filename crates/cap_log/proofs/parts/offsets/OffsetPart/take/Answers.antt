@@ -6,4 +6,4 @@ pub returns-in_err-number-clause-none : goal.returns-in_err-number-clause-none
 returns-in_err-number-clause-none c = rw c.from_residual-in_err-number.ensures (λ a rest begins.
     no_negative c.args.end c.in_ok-first.digits.now
     (λ n rest' small digits range. c.in_err-number.ensures.none n rest' ((range.0, omega (arith, range.1)), digits))
-    a.0 rest begins.0 (search rules ∙ begins.1))
+    a rest begins.0 (search rules ∙ begins.1))

@@ -18,7 +18,6 @@ returns-in-Some-clause-none c =
     (no_granule c.args.end c.in_ok-address.address c.in-Some.digits.now c.in_ok-address.rest.now
     c.in_ok-address.ensures.some c.if-address-eq0.false)
 
-pub returns-in_err-target-clause-none : goal.returns-in_err-target-clause-none
-returns-in_err-target-clause-none c = rw c.from_residual-in_err-target.ensures
-    (no_place c.args.end c.args.bytes.now c.in_default.ensures.cases (λ n rest begins. c.in_err-target.ensures.none
-    (record { 0 = n }) rest begins))
+pub returns-in_default-take-clause-none : goal.returns-in_default-take-clause-none
+returns-in_default-take-clause-none c =
+    no_place c.args.end c.args.bytes.now c.in_default.ensures.cases (λ n rest begins. c.in_default-take.ensures.none n rest begins)
