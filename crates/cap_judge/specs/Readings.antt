@@ -10,9 +10,8 @@ use Rattle.cap_log.specs.declared.lines.Mode as modes_module
 use Rattle.cap_log.specs.declared.lines.Mode.TheVariants as modes
 use Rattle.cap_log.specs.declared.kinds.Step.{Step}
 use Rattle.cap_ops.specs.Tests.{first_of}
-use Rattle.tagmem.specs.Granules.{Granules}
 use Rattle.cap_machine.specs.Accounts.{is_new, no_account}
-use Rattle.cap_machine.specs.Helds.{Held, account_of, held_of}
+use Rattle.cap_machine.specs.Helds.{Held, account_of}
 use Rattle.cap_machine.specs.States.{DeclaredRoot}
 use Rattle.cap_machine.specs.declared.ends.StepEnd.{StepEnd}
 use Rattle.cap_machine.specs.declared.ends.StepEnd.TheVariants as ends
@@ -57,9 +56,9 @@ pub record Known : Type 0 where
   pub held : Held
   pub stage : Stage
 
--- what a judge knows, by the store's map
-abbrev pub known_of : {M : Type 0} {g : _} → (M → Granules) → Judge M g → Known
-known_of contents judge = record { held = held_of contents judge.machine; stage = judge.stage }
+-- what a judge knows, whatever its store
+abbrev pub known_of : {M : Type 0} → Judge M → Known
+known_of judge = record { held = judge.machine; stage = judge.stage }
 
 -- a line is at fault
 abbrev pub IsAtFault : Stage → Type 0
@@ -97,8 +96,8 @@ pub record Read (known : Known) (bytes : List ℕ) : Type 0 where
   pub rest_is : IsRest known.stage beginning rest
 
 -- a judge has read these bytes
-abbrev pub HasRead : {M : Type 0} {g : _} → (M → Granules) → Judge M g → List ℕ → Type 0
-HasRead contents judge bytes = Read (known_of contents judge) bytes
+abbrev pub HasRead : {M : Type 0} → Judge M → List ℕ → Type 0
+HasRead judge bytes = Read (known_of judge) bytes
 
 -- whatever bytes were read before, these were read behind them, and what stood behind the lines still does
 abbrev pub GoesOn : Known → List ℕ → Known → Type 0

@@ -4,7 +4,6 @@ ghost use Rattle.std.specs.Prelude.{◌≡◌, ◌≤◌, ◌<◌, ◌^◌, ◌�
 ghost use Rattle.std.specs.FinMap as map;
 ghost use Rattle.cap_log.specs.Front.{IsCut, IsLine, IsTooLong};
 ghost use Rattle.cap_machine.specs.States.{granule_key};
-ghost use Rattle.cap_machine.specs.Helds.{held_of};
 ghost use Rattle.cap_judge.specs.Expectations.{Expects};
 ghost use Rattle.cap_judge.specs.Judgings.{account_before};
 ghost use Rattle.cap_judge.specs.Logs.{MayLackMemory};
@@ -70,7 +69,7 @@ pub struct Judge<M: TaggedStore> {
 impl Judge<PageStore> {
     /// Nothing was read yet. It takes no memory.
     pub fn over_pages(alloc: Global) -> Judge<PageStore>
-        ensures read { HasRead ⟦<PageStore as TaggedStore>⟧.contents result [] }
+        ensures read { HasRead result [] }
     {
         Judge::new(PageStore::new(alloc))
     }
@@ -80,7 +79,7 @@ impl<M: TaggedStore> Judge<M> {
     /// Nothing was read yet. The store has to be empty.
     pub fn new(memory: M) -> Judge<M>
         requires { map.len (M.contents memory) ≡ 0 }
-        ensures read { HasRead M.contents result [] }
+        ensures read { HasRead result [] }
     {
         Judge {
             machine: Machine::new(memory),
@@ -94,8 +93,8 @@ impl<M: TaggedStore> Judge<M> {
     /// stands whatever follows. From then on nothing is counted.
     pub fn take(&mut self, bytes: &[u8]) -> Taken
         ensures count { result.count ≤ length bytes.now }
-        ensures stops { StopsAt (known_of M.contents self.old) (take result.count bytes.now) (drop result.count bytes.now)
-            result.stop (known_of M.contents self.new) }
+        ensures stops { StopsAt (known_of self.old) (take result.count bytes.now) (drop result.count bytes.now)
+            result.stop (known_of self.new) }
     {
         let mut rest = bytes;
         'lines: loop {
@@ -113,13 +112,13 @@ impl<M: TaggedStore> Judge<M> {
     /// there is no memory. Then nothing has changed, and the line may be handed over again.
     pub fn take_line(&mut self, line: &[u8]) -> Result<(), TakeFault>
         // Whatever bytes were read before, these are read behind them.
-        ensures taken { OnOk result ((bytes : List ℕ) → HasRead M.contents self.old bytes
-            → HasRead M.contents self.new (bytes ++ line.now)) }
-        ensures unchanged { IfErr result (λ _. known_of M.contents self.new ≡ known_of M.contents self.old) }
+        ensures taken { OnOk result ((bytes : List ℕ) → HasRead self.old bytes
+            → HasRead self.new (bytes ++ line.now)) }
+        ensures unchanged { IfErr result (λ _. known_of self.new ≡ known_of self.old) }
         ensures no_line { (result ≡ Err NoLine) ↔ IsNoLine line.now }
 
         // Memory is wanted only where this very line, which no test refuses, names a granule for the first time.
-        ensures no_memory { result ≡ Err NoMemory → (bytes : List ℕ) → HasRead M.contents self.old bytes
+        ensures no_memory { result ≡ Err NoMemory → (bytes : List ℕ) → HasRead self.old bytes
             → MayLackMemory (bytes ++ line.now) [] }
     {
         if let Stage::Body = self.stage {
@@ -131,8 +130,8 @@ impl<M: TaggedStore> Judge<M> {
     /// `None` exactly while the lines so far begin a log, and otherwise the no that stands whatever lines
     /// follow. It is never a yes, since after the end line of a log too a line may follow.
     pub fn answer(&self) -> Option<Verdict>
-        ensures stands { (bytes : List ℕ) → HasRead M.contents self.now bytes → Stands bytes result }
-        ensures none { (bytes : List ℕ) → HasRead M.contents self.now bytes → BeginsWhole bytes → result ≡ None }
+        ensures stands { (bytes : List ℕ) → HasRead self.now bytes → Stands bytes result }
+        ensures none { (bytes : List ℕ) → HasRead self.now bytes → BeginsWhole bytes → result ≡ None }
         ensures escape { IfSome result NamesEscapes }
     {
         match &self.stage {
@@ -143,9 +142,9 @@ impl<M: TaggedStore> Judge<M> {
 
     /// The verdict if no other bytes follow than these, which are less than a line.
     pub fn end(&self, rest: &[u8]) -> Verdict
-        ensures verdict { (bytes : List ℕ) → HasRead M.contents self.now bytes → IsCut rest.now → IsVerdict (bytes ++ rest.now) result }
-        ensures authority { (bytes : List ℕ) → HasRead M.contents self.now bytes → IsGuarded (bytes ++ rest.now) }
-        ensures escape { (bytes : List ℕ) → HasRead M.contents self.now bytes → EscapesExactly (bytes ++ rest.now) result }
+        ensures verdict { (bytes : List ℕ) → HasRead self.now bytes → IsCut rest.now → IsVerdict (bytes ++ rest.now) result }
+        ensures authority { (bytes : List ℕ) → HasRead self.now bytes → IsGuarded (bytes ++ rest.now) }
+        ensures escape { (bytes : List ℕ) → HasRead self.now bytes → EscapesExactly (bytes ++ rest.now) result }
     {
         match self.ending(rest) {
             Ok(verdict) => verdict,
@@ -155,7 +154,7 @@ impl<M: TaggedStore> Judge<M> {
 
     /// After a no for a step's result, the result that the rules give for that step; otherwise `None`.
     pub fn expected(&self) -> Option<Expected>
-        ensures expects { (bytes : List ℕ) → HasRead M.contents self.now bytes → Expects bytes result }
+        ensures expects { (bytes : List ℕ) → HasRead self.now bytes → Expects bytes result }
     {
         match &self.stage {
             Stage::Refused(fault) => match fault.refusal {
@@ -169,7 +168,7 @@ impl<M: TaggedStore> Judge<M> {
     /// What a register holds behind the lines so far, or before the line at fault. Register 0 is c0.
     pub fn register(&self, number: u8) -> Cap
         requires { number ≤ 31 }
-        ensures holds { (bytes : List ℕ) → (read : HasRead M.contents self.now bytes)
+        ensures holds { (bytes : List ℕ) → (read : HasRead self.now bytes)
             → result ≡ (account_before read.beginning).state number }
     {
         self.machine.register(number)
@@ -179,7 +178,7 @@ impl<M: TaggedStore> Judge<M> {
     /// address `16 * granule` on.
     pub fn granule(&self, granule: u64) -> Cap
         requires { granule < 2 ^ 60 }
-        ensures holds { (bytes : List ℕ) → (read : HasRead M.contents self.now bytes)
+        ensures holds { (bytes : List ℕ) → (read : HasRead self.now bytes)
             → result ≡ (account_before read.beginning).state (granule_key granule) }
     {
         self.machine.granule(granule)
@@ -189,11 +188,11 @@ impl<M: TaggedStore> Judge<M> {
     #[inline(always)]
     fn take_body(&mut self, line: &[u8]) -> Result<(), TakeFault>
         requires body { self.old.stage ≡ Body }
-        ensures taken { OnOk result ((bytes : List ℕ) → HasRead M.contents self.old bytes
-            → HasRead M.contents self.new (bytes ++ line.now)) }
-        ensures unchanged { IfErr result (λ _. known_of M.contents self.new ≡ known_of M.contents self.old) }
+        ensures taken { OnOk result ((bytes : List ℕ) → HasRead self.old bytes
+            → HasRead self.new (bytes ++ line.now)) }
+        ensures unchanged { IfErr result (λ _. known_of self.new ≡ known_of self.old) }
         ensures no_line { (result ≡ Err NoLine) ↔ IsNoLine line.now }
-        ensures no_memory { result ≡ Err NoMemory → (bytes : List ℕ) → HasRead M.contents self.old bytes
+        ensures no_memory { result ≡ Err NoMemory → (bytes : List ℕ) → HasRead self.old bytes
             → MayLackMemory (bytes ++ line.now) [] }
     {
         match take_alone(&mut self.machine, line) {
@@ -206,11 +205,11 @@ impl<M: TaggedStore> Judge<M> {
     // Takes bytes of any kind as one line.
     #[inline(never)]
     fn take_whole(&mut self, line: &[u8]) -> Result<(), TakeFault>
-        ensures taken { OnOk result ((bytes : List ℕ) → HasRead M.contents self.old bytes
-            → HasRead M.contents self.new (bytes ++ line.now)) }
-        ensures unchanged { IfErr result (λ _. known_of M.contents self.new ≡ known_of M.contents self.old) }
+        ensures taken { OnOk result ((bytes : List ℕ) → HasRead self.old bytes
+            → HasRead self.new (bytes ++ line.now)) }
+        ensures unchanged { IfErr result (λ _. known_of self.new ≡ known_of self.old) }
         ensures no_line { (result ≡ Err NoLine) ↔ IsNoLine line.now }
-        ensures no_memory { result ≡ Err NoMemory → (bytes : List ℕ) → HasRead M.contents self.old bytes
+        ensures no_memory { result ≡ Err NoMemory → (bytes : List ℕ) → HasRead self.old bytes
             → MayLackMemory (bytes ++ line.now) [] }
     {
         if !is_whole(line) {
@@ -228,11 +227,11 @@ impl<M: TaggedStore> Judge<M> {
     #[inline(never)]
     fn take_end(&mut self, end: StepEnd, line: &[u8]) -> Result<(), TakeFault>
         requires body { self.old.stage ≡ Body }
-        requires ends { EndsStepAt (held_of M.contents self.old.machine) line.now [] end }
-        ensures taken { OnOk result ((bytes : List ℕ) → HasRead M.contents self.old bytes
-            → HasRead M.contents self.new (bytes ++ line.now)) }
-        ensures unchanged { IfErr result (λ _. known_of M.contents self.new ≡ known_of M.contents self.old) }
-        ensures no_memory { IfErr result (λ fault. (fault ≡ NoMemory) × ((bytes : List ℕ) → HasRead M.contents self.old bytes
+        requires ends { EndsStepAt self.old.machine line.now [] end }
+        ensures taken { OnOk result ((bytes : List ℕ) → HasRead self.old bytes
+            → HasRead self.new (bytes ++ line.now)) }
+        ensures unchanged { IfErr result (λ _. known_of self.new ≡ known_of self.old) }
+        ensures no_memory { IfErr result (λ fault. (fault ≡ NoMemory) × ((bytes : List ℕ) → HasRead self.old bytes
             → MayLackMemory (bytes ++ line.now) [])) }
     {
         match self.stop(end, line) {
@@ -243,8 +242,8 @@ impl<M: TaggedStore> Judge<M> {
 
     // The verdict if no other bytes follow than these, which are less than a line: a yes, or the line at fault.
     pub(crate) fn ending(&self, rest: &[u8]) -> Result<Verdict, Fault>
-        ensures ends { (bytes : List ℕ) → HasRead M.contents self.now bytes → IsCut rest.now
-            → EndsWith (held_of M.contents self.now.machine) (bytes ++ rest.now) result }
+        ensures ends { (bytes : List ℕ) → HasRead self.now bytes → IsCut rest.now
+            → EndsWith self.now.machine (bytes ++ rest.now) result }
         ensures fault { (fault : FaultIn) → self.now.stage ≡ RefusedIn fault → result ≡ Err fault }
     {
         match &self.stage {

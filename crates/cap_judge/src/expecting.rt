@@ -1,7 +1,7 @@
 //! What the rules give for a step whose line records another result.
 
 ghost use Rattle.std.specs.Prelude.{◌≡◌};
-ghost use Rattle.cap_machine.specs.Helds.{account_of, held_of};
+ghost use Rattle.cap_machine.specs.Helds.{account_of};
 ghost use Rattle.cap_judge.specs.Expectations.{GivesForText, expected_of};
 
 use crate::verdict::Expected;
@@ -12,7 +12,7 @@ use tagmem::TaggedStore;
 /// What the rules give for the step that a text spells, where it is refused for its result. The machine is
 /// as it was before the step.
 pub fn expected_by<M: TaggedStore>(machine: &Machine<M>, text: &[u8]) -> Option<Expected>
-    ensures gives { GivesForText (account_of (held_of M.contents machine.now)) text.now result }
+    ensures gives { GivesForText (account_of machine.now) text.now result }
 {
     match read_line(text) {
         Some(line) => match line {

@@ -2,7 +2,6 @@
 
 ghost use Rattle.std.specs.Prelude.{◌≡◌, []};
 ghost use Rattle.std.specs.FinMap as map;
-ghost use Rattle.cap_machine.specs.Helds.{held_of};
 ghost use Rattle.cap_judge.specs.FaultLines.{bytes_of};
 ghost use Rattle.cap_judge.specs.Judgings.{JudgedAll};
 ghost use Rattle.cap_judge.specs.Readings.{HasRead};
@@ -17,7 +16,7 @@ use tagmem::TaggedStore;
 /// gives the machine with the answer, as [`judge_keeping`](crate::judge_keeping) does.
 pub fn judge_bytes_keeping<M: TaggedStore>(bytes: &[u8], memory: M) -> Judging<M>
     requires { map.len (M.contents memory) ≡ 0 }
-    ensures judged { JudgedAll bytes.now result.answer (held_of M.contents result.machine) (bytes_of result.fault) }
+    ensures judged { JudgedAll bytes.now result.answer result.machine (bytes_of result.fault) }
 {
     let mut judge = Judge::new(memory);
     let (answer, fault) = judge_all(&mut judge, bytes);
@@ -34,8 +33,8 @@ fn judge_all<M: TaggedStore>(
     judge: &mut Judge<M>,
     bytes: &[u8],
 ) -> (Result<Verdict, JudgeFault>, FaultLine)
-    requires begun { HasRead M.contents judge.old [] }
-    ensures judged { JudgedAll bytes.now result.0 (held_of M.contents judge.new.machine) (bytes_of result.1) }
+    requires begun { HasRead judge.old [] }
+    ensures judged { JudgedAll bytes.now result.0 judge.new.machine (bytes_of result.1) }
 {
     let taken = judge.take(bytes);
     match taken.stop {

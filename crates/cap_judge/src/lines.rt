@@ -6,7 +6,7 @@ ghost use Rattle.cap_log.specs.Lines.{IsInRange, IsPlace, Spells, spelling};
 ghost use Rattle.cap_log.specs.Parts.{BeginsWithNone};
 ghost use Rattle.cap_log.specs.declared.lines.Line.{Line};
 ghost use Rattle.cap_log.specs.declared.lines.Line.TheVariants as lines;
-ghost use Rattle.cap_machine.specs.Helds.{account_of, held_of};
+ghost use Rattle.cap_machine.specs.Helds.{account_of};
 ghost use Rattle.cap_machine.specs.declared.ends.StepEnd.TheVariants.{Refused};
 ghost use Rattle.cap_ops.specs.declared.refusal.Refusal.TheVariants.{BadLine, Misplaced};
 ghost use Rattle.cap_judge.specs.FaultLines.{IsFrontText, bytes_of};
@@ -29,7 +29,7 @@ impl<M: TaggedStore> Judge<M> {
     /// stopped, if it did.
     pub(crate) fn take_some<'a>(&mut self, bytes: &'a [u8]) -> (&'a [u8], Option<Stop>)
         ensures { (front : List ℕ) × (bytes.now ≡ front ++ result.0.now)
-            × GoesOrStops (known_of M.contents self.old) front result.0.now result.1 (known_of M.contents self.new) }
+            × GoesOrStops (known_of self.old) front result.0.now result.1 (known_of self.new) }
     {
         let (rest, end) = self.take_front(bytes);
         if let Some(end) = end {
@@ -45,8 +45,8 @@ impl<M: TaggedStore> Judge<M> {
     #[inline(always)]
     fn take_front<'a>(&mut self, bytes: &'a [u8]) -> (&'a [u8], Option<StepEnd>)
         ensures taken { (front : List ℕ) × (bytes.now ≡ front ++ result.0.now)
-            × GoesOn (known_of M.contents self.old) front (known_of M.contents self.new) }
-        ensures end { IfSome result.1 (λ end. EndsAt (known_of M.contents self.new) result.0.now end
+            × GoesOn (known_of self.old) front (known_of self.new) }
+        ensures end { IfSome result.1 (λ end. EndsAt (known_of self.new) result.0.now end
             × (IsCut result.0.now → ⊥) × (IsAtFault self.new.stage → ⊥)) }
     {
         match self.stage {
@@ -59,9 +59,9 @@ impl<M: TaggedStore> Judge<M> {
     #[inline(never)]
     pub(crate) fn take_any<'a>(&mut self, bytes: &'a [u8]) -> Result<&'a [u8], Stop>
         ensures ok { IfOk result (λ rest. (text : List ℕ) × IsLine bytes.now text rest.now
-            × GoesOn (known_of M.contents self.old) (text ++ 10 ∷ []) (known_of M.contents self.new)) }
-        ensures err { IfErr result (λ stop. StopsAt (known_of M.contents self.old) [] bytes.now stop (known_of M.contents self.new)) }
-        ensures same { IfErr result (λ stop. stop ≢ stops.Fault → known_of M.contents self.new ≡ known_of M.contents self.old) }
+            × GoesOn (known_of self.old) (text ++ 10 ∷ []) (known_of self.new)) }
+        ensures err { IfErr result (λ stop. StopsAt (known_of self.old) [] bytes.now stop (known_of self.new)) }
+        ensures same { IfErr result (λ stop. stop ≢ stops.Fault → known_of self.new ≡ known_of self.old) }
     {
         if self.is_at_fault() {
             return Err(Stop::Fault);
@@ -90,9 +90,9 @@ impl<M: TaggedStore> Judge<M> {
     pub(crate) fn stop(&mut self, end: StepEnd, bytes: &[u8]) -> Stop
         requires clear { IsAtFault self.old.stage → ⊥ }
         requires uncut { IsCut bytes.now → ⊥ }
-        requires ends { EndsAt (known_of M.contents self.old) bytes.now end }
-        ensures stops { StopsAt (known_of M.contents self.old) [] bytes.now result (known_of M.contents self.new) }
-        ensures same { result ≢ stops.Fault → known_of M.contents self.new ≡ known_of M.contents self.old }
+        requires ends { EndsAt (known_of self.old) bytes.now end }
+        ensures stops { StopsAt (known_of self.old) [] bytes.now result (known_of self.new) }
+        ensures same { result ≢ stops.Fault → known_of self.new ≡ known_of self.old }
         ensures uncut { result ≢ stops.Cut }
     {
         match end {
@@ -108,8 +108,8 @@ impl<M: TaggedStore> Judge<M> {
     fn stop_formless(&mut self, bytes: &[u8]) -> Stop
         requires clear { IsAtFault self.old.stage → ⊥ }
         requires none { BeginsWithNone IsInRange spelling 10 bytes.now }
-        ensures stops { StopsAt (known_of M.contents self.old) [] bytes.now result (known_of M.contents self.new) }
-        ensures same { result ≢ stops.Fault → known_of M.contents self.new ≡ known_of M.contents self.old }
+        ensures stops { StopsAt (known_of self.old) [] bytes.now result (known_of self.new) }
+        ensures same { result ≢ stops.Fault → known_of self.new ≡ known_of self.old }
     {
         match front(bytes) {
             Front::Cut => Stop::Cut,
@@ -123,8 +123,8 @@ impl<M: TaggedStore> Judge<M> {
     fn refuse(&mut self, refusal: Refusal, bytes: &[u8])
         requires clear { IsAtFault self.old.stage → ⊥ }
         requires uncut { IsCut bytes.now → ⊥ }
-        requires refused { EndsAt (known_of M.contents self.old) bytes.now (Refused refusal) }
-        ensures taken { Faults (known_of M.contents self.old) [] bytes.now (known_of M.contents self.new) }
+        requires refused { EndsAt (known_of self.old) bytes.now (Refused refusal) }
+        ensures taken { Faults (known_of self.old) [] bytes.now (known_of self.new) }
         ensures fault { IsAtFault self.new.stage }
     {
         self.stage = Stage::Refused(self.fault(refusal, bytes));
@@ -133,7 +133,7 @@ impl<M: TaggedStore> Judge<M> {
     /// The next line, which these bytes begin with, as the line at fault.
     pub(crate) fn fault(&self, refusal: Refusal, bytes: &[u8]) -> Fault
         requires clear { IsAtFault self.now.stage → ⊥ }
-        ensures line { (beginning : Beginning) → IsAfter self.now.stage (held_of M.contents self.now.machine) beginning
+        ensures line { (beginning : Beginning) → IsAfter self.now.stage self.now.machine beginning
             → result.line ≡ length (lines_of beginning) + 1 }
         ensures refusal { result.refusal ≡ refusal }
         ensures front { IsFrontText bytes.now (bytes_of result.text) }
@@ -148,7 +148,7 @@ impl<M: TaggedStore> Judge<M> {
     // The number of the next line.
     fn next_line(&self) -> u64
         requires clear { IsAtFault self.now.stage → ⊥ }
-        ensures { (beginning : Beginning) → IsAfter self.now.stage (held_of M.contents self.now.machine) beginning
+        ensures { (beginning : Beginning) → IsAfter self.now.stage self.now.machine beginning
             → result ≡ length (lines_of beginning) + 1 }
     {
         let roots = u64::from(self.machine.roots());
@@ -164,7 +164,7 @@ impl<M: TaggedStore> Judge<M> {
     // Why more bytes than a line has are refused.
     fn refusal_of_long(&self) -> Refusal
         requires clear { IsAtFault self.now.stage → ⊥ }
-        ensures { (bytes : List ℕ) → IsTooLong bytes → EndsAt (known_of M.contents self.now) bytes (Refused result) }
+        ensures { (bytes : List ℕ) → IsTooLong bytes → EndsAt (known_of self.now) bytes (Refused result) }
     {
         match self.stage {
             Stage::Version | Stage::Mode | Stage::Body => Refusal::LineTooLong,
@@ -176,7 +176,7 @@ impl<M: TaggedStore> Judge<M> {
     fn refusal_of_formless(&self) -> Refusal
         requires clear { IsAtFault self.now.stage → ⊥ }
         ensures { (bytes text more : List ℕ) → IsLine bytes text more → ((line : Line) → Spells text line → ⊥)
-            → EndsAt (known_of M.contents self.now) bytes (Refused result) }
+            → EndsAt (known_of self.now) bytes (Refused result) }
     {
         match self.stage {
             Stage::Version => Refusal::BadHeader,
@@ -190,9 +190,9 @@ impl<M: TaggedStore> Judge<M> {
     fn follow(&mut self, line: &Line) -> Result<(), StepEnd>
         requires clear { IsAtFault self.old.stage → ⊥ }
         requires in_range { IsInRange line.now }
-        ensures ok { OnOk result (GoesOn (known_of M.contents self.old) (spelling line.now ++ 10 ∷ []) (known_of M.contents self.new)) }
-        ensures err { IfErr result (EndsFrom (known_of M.contents self.old) line.now) }
-        ensures same { IfErr result (λ _. known_of M.contents self.new ≡ known_of M.contents self.old) }
+        ensures ok { OnOk result (GoesOn (known_of self.old) (spelling line.now ++ 10 ∷ []) (known_of self.new)) }
+        ensures err { IfErr result (EndsFrom (known_of self.old) line.now) }
+        ensures same { IfErr result (λ _. known_of self.new ≡ known_of self.old) }
     {
         match self.stage {
             Stage::Version => self.follow_version(line),
@@ -206,9 +206,9 @@ impl<M: TaggedStore> Judge<M> {
     fn follow_version(&mut self, line: &Line) -> Result<(), StepEnd>
         requires version { self.old.stage ≡ Version }
         requires in_range { IsInRange line.now }
-        ensures ok { OnOk result (GoesOn (known_of M.contents self.old) (spelling line.now ++ 10 ∷ []) (known_of M.contents self.new)) }
-        ensures err { IfErr result (EndsFrom (known_of M.contents self.old) line.now) }
-        ensures same { IfErr result (λ _. known_of M.contents self.new ≡ known_of M.contents self.old) }
+        ensures ok { OnOk result (GoesOn (known_of self.old) (spelling line.now ++ 10 ∷ []) (known_of self.new)) }
+        ensures err { IfErr result (EndsFrom (known_of self.old) line.now) }
+        ensures same { IfErr result (λ _. known_of self.new ≡ known_of self.old) }
     {
         match *line {
             Line::Version(version) => {
@@ -228,9 +228,9 @@ impl<M: TaggedStore> Judge<M> {
     fn follow_mode(&mut self, line: &Line) -> Result<(), StepEnd>
         requires mode { self.old.stage ≡ ModeStage }
         requires in_range { IsInRange line.now }
-        ensures ok { OnOk result (GoesOn (known_of M.contents self.old) (spelling line.now ++ 10 ∷ []) (known_of M.contents self.new)) }
-        ensures err { IfErr result (EndsFrom (known_of M.contents self.old) line.now) }
-        ensures same { IfErr result (λ _. known_of M.contents self.new ≡ known_of M.contents self.old) }
+        ensures ok { OnOk result (GoesOn (known_of self.old) (spelling line.now ++ 10 ∷ []) (known_of self.new)) }
+        ensures err { IfErr result (EndsFrom (known_of self.old) line.now) }
+        ensures same { IfErr result (λ _. known_of self.new ≡ known_of self.old) }
     {
         match *line {
             Line::Mode(mode) => {
@@ -246,9 +246,9 @@ impl<M: TaggedStore> Judge<M> {
     fn follow_body(&mut self, line: &Line) -> Result<(), StepEnd>
         requires body { self.old.stage ≡ Body }
         requires in_range { IsInRange line.now }
-        ensures ok { OnOk result (GoesOn (known_of M.contents self.old) (spelling line.now ++ 10 ∷ []) (known_of M.contents self.new)) }
-        ensures err { IfErr result (EndsFrom (known_of M.contents self.old) line.now) }
-        ensures same { IfErr result (λ _. known_of M.contents self.new ≡ known_of M.contents self.old) }
+        ensures ok { OnOk result (GoesOn (known_of self.old) (spelling line.now ++ 10 ∷ []) (known_of self.new)) }
+        ensures err { IfErr result (EndsFrom (known_of self.old) line.now) }
+        ensures same { IfErr result (λ _. known_of self.new ≡ known_of self.old) }
     {
         match *line {
             Line::Version(_) | Line::Mode(_) => Err(StepEnd::Refused(self.refusal_of_header(line))),
@@ -262,10 +262,10 @@ impl<M: TaggedStore> Judge<M> {
     fn follow_root(&mut self, place: Place, word: Word) -> Result<(), StepEnd>
         requires body { self.old.stage ≡ Body }
         requires in_range { IsPlace place }
-        ensures ok { OnOk result (GoesOn (known_of M.contents self.old) (spelling (lines.Root place word) ++ 10 ∷ [])
-            (known_of M.contents self.new)) }
-        ensures err { IfErr result (EndsFor (held_of M.contents self.old.machine) (lines.Root place word)) }
-        ensures same { IfErr result (λ _. known_of M.contents self.new ≡ known_of M.contents self.old) }
+        ensures ok { OnOk result (GoesOn (known_of self.old) (spelling (lines.Root place word) ++ 10 ∷ [])
+            (known_of self.new)) }
+        ensures err { IfErr result (EndsFor self.old.machine (lines.Root place word)) }
+        ensures same { IfErr result (λ _. known_of self.new ≡ known_of self.old) }
     {
         if self.machine.steps() > 0 {
             return Err(StepEnd::Refused(Refusal::Misplaced));
@@ -276,10 +276,10 @@ impl<M: TaggedStore> Judge<M> {
     // Goes on by the end line.
     fn follow_end(&mut self, count: u32) -> Result<(), StepEnd>
         requires body { self.old.stage ≡ Body }
-        ensures ok { OnOk result (GoesOn (known_of M.contents self.old) (spelling (lines.End count) ++ 10 ∷ [])
-            (known_of M.contents self.new)) }
-        ensures err { IfErr result (EndsFor (held_of M.contents self.old.machine) (lines.End count)) }
-        ensures same { IfErr result (λ _. known_of M.contents self.new ≡ known_of M.contents self.old) }
+        ensures ok { OnOk result (GoesOn (known_of self.old) (spelling (lines.End count) ++ 10 ∷ [])
+            (known_of self.new)) }
+        ensures err { IfErr result (EndsFor self.old.machine (lines.End count)) }
+        ensures same { IfErr result (λ _. known_of self.new ≡ known_of self.old) }
     {
         if count != self.machine.steps() {
             return Err(StepEnd::Refused(Refusal::WrongCount));
@@ -290,8 +290,8 @@ impl<M: TaggedStore> Judge<M> {
 
     // Why a header's line is refused behind the header.
     fn refusal_of_header(&self, line: &Line) -> Refusal
-        ensures formed { (let held = held_of M.contents self.now.machine in has_form held.rules line.now ≡ true) → result ≡ Misplaced }
-        ensures formless { (let held = held_of M.contents self.now.machine in has_form held.rules line.now ≡ false) → result ≡ BadLine }
+        ensures formed { (let held = self.now.machine in has_form held.rules line.now ≡ true) → result ≡ Misplaced }
+        ensures formless { (let held = self.now.machine in has_form held.rules line.now ≡ false) → result ≡ BadLine }
     {
         if has_form(self.machine.rules(), line) {
             Refusal::Misplaced

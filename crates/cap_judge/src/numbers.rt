@@ -18,11 +18,11 @@ impl<M: TaggedStore> Judge<M> {
     /// there is no memory nothing has changed, and the step may be handed over again.
     #[inline(always)]
     pub fn take_step<I: Instruction>(&mut self, step: I) -> Result<(), TakeFault>
-        ensures taken { OnOk result ((bytes : List ℕ) → HasRead M.contents self.old bytes
-            → HasRead M.contents self.new (bytes ++ (spelling (lines.Step (I.step step)) ++ 10 ∷ []))) }
-        ensures unchanged { IfErr result (λ _. known_of M.contents self.new ≡ known_of M.contents self.old) }
+        ensures taken { OnOk result ((bytes : List ℕ) → HasRead self.old bytes
+            → HasRead self.new (bytes ++ (spelling (lines.Step (I.step step)) ++ 10 ∷ []))) }
+        ensures unchanged { IfErr result (λ _. known_of self.new ≡ known_of self.old) }
         ensures line { result ≢ Err NoLine }
-        ensures no_memory { result ≡ Err NoMemory → (bytes : List ℕ) → HasRead M.contents self.old bytes
+        ensures no_memory { result ≡ Err NoMemory → (bytes : List ℕ) → HasRead self.old bytes
             → MayLackMemory (bytes ++ (spelling (lines.Step (I.step step)) ++ 10 ∷ [])) [] }
     {
         step.in_range();
@@ -38,11 +38,11 @@ impl<M: TaggedStore> Judge<M> {
     // Takes a step that was not made. The call gets a value of its own: so a step needn't stand in memory where it is made.
     #[inline(always)]
     fn take_unmade<I: Instruction>(&mut self, step: I) -> Result<(), TakeFault>
-        ensures taken { OnOk result ((bytes : List ℕ) → HasRead M.contents self.old bytes
-            → HasRead M.contents self.new (bytes ++ (spelling (lines.Step (I.step step)) ++ 10 ∷ []))) }
-        ensures unchanged { IfErr result (λ _. known_of M.contents self.new ≡ known_of M.contents self.old) }
+        ensures taken { OnOk result ((bytes : List ℕ) → HasRead self.old bytes
+            → HasRead self.new (bytes ++ (spelling (lines.Step (I.step step)) ++ 10 ∷ []))) }
+        ensures unchanged { IfErr result (λ _. known_of self.new ≡ known_of self.old) }
         ensures line { result ≢ Err NoLine }
-        ensures no_memory { result ≡ Err NoMemory → (bytes : List ℕ) → HasRead M.contents self.old bytes
+        ensures no_memory { result ≡ Err NoMemory → (bytes : List ℕ) → HasRead self.old bytes
             → MayLackMemory (bytes ++ (spelling (lines.Step (I.step step)) ++ 10 ∷ [])) [] }
     {
         self.take_written(step.into_step())
@@ -51,11 +51,11 @@ impl<M: TaggedStore> Judge<M> {
     // Takes a step by its line.
     #[inline(never)]
     fn take_written(&mut self, step: Step) -> Result<(), TakeFault>
-        ensures taken { OnOk result ((bytes : List ℕ) → HasRead M.contents self.old bytes
-            → HasRead M.contents self.new (bytes ++ (spelling (lines.Step step) ++ 10 ∷ []))) }
-        ensures unchanged { IfErr result (λ _. known_of M.contents self.new ≡ known_of M.contents self.old) }
+        ensures taken { OnOk result ((bytes : List ℕ) → HasRead self.old bytes
+            → HasRead self.new (bytes ++ (spelling (lines.Step step) ++ 10 ∷ []))) }
+        ensures unchanged { IfErr result (λ _. known_of self.new ≡ known_of self.old) }
         ensures line { result ≢ Err NoLine }
-        ensures no_memory { result ≡ Err NoMemory → (bytes : List ℕ) → HasRead M.contents self.old bytes
+        ensures no_memory { result ≡ Err NoMemory → (bytes : List ℕ) → HasRead self.old bytes
             → MayLackMemory (bytes ++ (spelling (lines.Step step) ++ 10 ∷ [])) [] }
     {
         step.in_range();

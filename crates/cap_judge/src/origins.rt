@@ -3,7 +3,6 @@
 ghost use Rattle.std.specs.Prelude.{ℕ, ◌+◌, ◌^◌, take, OnOk, OnErr};
 ghost use Rattle.cap_log.specs.Lines.{IsPlace};
 ghost use Rattle.cap_log.specs.Streams.{CountsFault};
-ghost use Rattle.cap_machine.specs.Helds.{held_of};
 ghost use Rattle.cap_machine.specs.States.{key_of};
 ghost use Rattle.cap_judge.specs.OriginLists.{held_lines};
 
@@ -18,8 +17,8 @@ pub fn push_origins<M: TaggedStore, K: Sink>(
     machine: &Machine<M>,
     sink: &mut K,
 ) -> Result<(), PushFault>
-    ensures ok { OnOk result (K.took sink.old sink.new (held_lines (held_of M.contents machine.now) 1 (31 + 2 ^ 60))) }
-    ensures err { OnErr result ((n : ℕ) × K.took sink.old sink.new (take n (held_lines (held_of M.contents machine.now) 1 (31 + 2 ^ 60)))) }
+    ensures ok { OnOk result (K.took sink.old sink.new (held_lines machine.now 1 (31 + 2 ^ 60))) }
+    ensures err { OnErr result ((n : ℕ) × K.took sink.old sink.new (take n (held_lines machine.now 1 (31 + 2 ^ 60)))) }
     ensures counted { CountsFault (K.faults sink.old) (K.faults sink.new) result }
 {
     match push_registers(machine, sink) {
@@ -33,8 +32,8 @@ fn push_registers<M: TaggedStore, K: Sink>(
     machine: &Machine<M>,
     sink: &mut K,
 ) -> Result<(), PushFault>
-    ensures ok { OnOk result (K.took sink.old sink.new (held_lines (held_of M.contents machine.now) 1 31)) }
-    ensures err { OnErr result ((n : ℕ) × K.took sink.old sink.new (take n (held_lines (held_of M.contents machine.now) 1 31))) }
+    ensures ok { OnOk result (K.took sink.old sink.new (held_lines machine.now 1 31)) }
+    ensures err { OnErr result ((n : ℕ) × K.took sink.old sink.new (take n (held_lines machine.now 1 31))) }
     ensures counted { CountsFault (K.faults sink.old) (K.faults sink.new) result }
 {
     for number in 1..32u8 {
@@ -50,8 +49,8 @@ fn push_granules<M: TaggedStore, K: Sink>(
     machine: &Machine<M>,
     sink: &mut K,
 ) -> Result<(), PushFault>
-    ensures ok { OnOk result (K.took sink.old sink.new (held_lines (held_of M.contents machine.now) 32 (2 ^ 60))) }
-    ensures err { OnErr result ((n : ℕ) × K.took sink.old sink.new (take n (held_lines (held_of M.contents machine.now) 32 (2 ^ 60)))) }
+    ensures ok { OnOk result (K.took sink.old sink.new (held_lines machine.now 32 (2 ^ 60))) }
+    ensures err { OnErr result ((n : ℕ) × K.took sink.old sink.new (take n (held_lines machine.now 32 (2 ^ 60)))) }
     ensures counted { CountsFault (K.faults sink.old) (K.faults sink.new) result }
 {
     let mut from = 0u64;
@@ -71,9 +70,9 @@ fn push_place<M: TaggedStore, K: Sink>(
     sink: &mut K,
 ) -> Result<(), PushFault>
     requires { IsPlace place }
-    ensures ok { OnOk result (K.took sink.old sink.new (held_lines (held_of M.contents machine.now) (key_of place) 1)) }
+    ensures ok { OnOk result (K.took sink.old sink.new (held_lines machine.now (key_of place) 1)) }
     ensures err { OnErr result ((n : ℕ)
-        × K.took sink.old sink.new (take n (held_lines (held_of M.contents machine.now) (key_of place) 1))) }
+        × K.took sink.old sink.new (take n (held_lines machine.now (key_of place) 1))) }
     ensures counted { CountsFault (K.faults sink.old) (K.faults sink.new) result }
 {
     match machine.origin(place) {

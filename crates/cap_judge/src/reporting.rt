@@ -3,7 +3,6 @@
 ghost use Rattle.std.specs.Prelude.{◌≡◌, ℕ, take, Err, IfOk, OnOk, OnErr, true, false};
 ghost use Rattle.std.specs.FinMap as map;
 ghost use Rattle.cap_log.specs.Streams.{CountsFault, CountsOnly};
-ghost use Rattle.cap_machine.specs.Helds.{held_of};
 ghost use Rattle.cap_judge.specs.OriginLists.{report_text};
 ghost use Rattle.cap_judge.specs.Verdicts.{NamesEscapes};
 ghost use Rattle.cap_judge.specs.Reports.{Reported, Tells};
@@ -76,6 +75,7 @@ pub fn judge_origins_in<S: Source, M: TaggedStore, K: Sink>(
         machine,
         fault: _,
     } = judge_keeping(source, memory);
+    machine.kept();
     let verdict = answer?;
     push_report(&verdict, &machine, sink)?;
     Ok(verdict)
@@ -87,8 +87,8 @@ pub fn push_report<M: TaggedStore, K: Sink>(
     machine: &Machine<M>,
     sink: &mut K,
 ) -> Result<(), PushFault>
-    ensures ok { OnOk result (K.took sink.old sink.new (report_text (held_of M.contents machine.now) verdict.now)) }
-    ensures err { OnErr result ((n : ℕ) × K.took sink.old sink.new (take n (report_text (held_of M.contents machine.now) verdict.now))) }
+    ensures ok { OnOk result (K.took sink.old sink.new (report_text machine.now verdict.now)) }
+    ensures err { OnErr result ((n : ℕ) × K.took sink.old sink.new (take n (report_text machine.now verdict.now))) }
     ensures counted { CountsFault (K.faults sink.old) (K.faults sink.new) result }
 {
     match *verdict {

@@ -1,7 +1,7 @@
 //! Taking the steps at the front of some bytes, each by the type of its kind.
 
 ghost use Rattle.std.specs.Prelude.{◌≡◌, ℕ, List, [], ◌++◌, false, IfSome};
-ghost use Rattle.cap_machine.specs.Helds.{AnswersStep, held_of};
+ghost use Rattle.cap_machine.specs.Helds.{AnswersStep};
 ghost use Rattle.cap_judge.specs.Readings.{EndsStepAt, TakesAll, TakesOne, TakesSteps};
 
 use cap_log::{Head, Part};
@@ -29,8 +29,8 @@ pub(crate) fn take_steps<'a, M: TaggedStore>(
     bytes: &'a [u8],
 ) -> (&'a [u8], Option<StepEnd>)
     ensures taken { (front : List ℕ) × (bytes.now ≡ front ++ result.0.now)
-        × TakesSteps (held_of M.contents machine.old) front (held_of M.contents machine.new) }
-    ensures end { IfSome result.1 (λ end. (behind : List ℕ) × EndsStepAt (held_of M.contents machine.new) result.0.now behind end) }
+        × TakesSteps machine.old front machine.new }
+    ensures end { IfSome result.1 (λ end. (behind : List ℕ) × EndsStepAt machine.new result.0.now behind end) }
 {
     let mut rest = bytes;
     'steps: loop {
@@ -54,8 +54,8 @@ fn take_usual<'a, M: TaggedStore>(
     bytes: &'a [u8],
 ) -> (&'a [u8], Option<StepEnd>)
     ensures taken { (front : List ℕ) × (bytes.now ≡ front ++ result.0.now)
-        × TakesSteps (held_of M.contents machine.old) front (held_of M.contents machine.new) }
-    ensures end { IfSome result.1 (λ end. (behind : List ℕ) × EndsStepAt (held_of M.contents machine.new) result.0.now behind end) }
+        × TakesSteps machine.old front machine.new }
+    ensures end { IfSome result.1 (λ end. (behind : List ℕ) × EndsStepAt machine.new result.0.now behind end) }
 {
     let mut rest = bytes;
     'steps: loop {
@@ -73,7 +73,7 @@ struct AtFront<const RARE: bool>;
 impl<'a, M: TaggedStore, const RARE: bool> ByKind<'a, Machine<M>> for AtFront<RARE> {
     type Answer = Result<Option<&'a [u8]>, StepEnd>;
 
-    ghost does = { λ old bytes result new. TakesOne (held_of M.contents old) bytes result (held_of M.contents new) };
+    ghost does = { λ old bytes result new. TakesOne old bytes result new };
 
     // Takes a step from behind its head. Where a line of any length had room, so many bytes are left that the test of them
     // never holds; the compiler sees by it that no later one does. It is inlined: by a call a move takes 27 instructions
@@ -110,7 +110,7 @@ fn take_step<'a, M: TaggedStore, const RARE: bool>(
     machine: &mut Machine<M>,
     bytes: &'a [u8],
 ) -> Result<Option<&'a [u8]>, StepEnd>
-    ensures { TakesOne (held_of M.contents machine.old) bytes.now result (held_of M.contents machine.new) }
+    ensures { TakesOne machine.old bytes.now result machine.new }
 {
     if bytes.len() < MOST_BYTES {
         return Ok(None);
@@ -128,7 +128,7 @@ struct Alone;
 impl<'a, M: TaggedStore> ByKind<'a, Machine<M>> for Alone {
     type Answer = Option<Result<(), StepEnd>>;
 
-    ghost does = { λ old bytes result new. TakesAll (held_of M.contents old) bytes result (held_of M.contents new) };
+    ghost does = { λ old bytes result new. TakesAll old bytes result new };
 
     #[inline(always)]
     fn with_kind<I: Instruction>(
@@ -157,7 +157,7 @@ pub(crate) fn take_alone<M: TaggedStore>(
     machine: &mut Machine<M>,
     line: &[u8],
 ) -> Option<Result<(), StepEnd>>
-    ensures { TakesAll (held_of M.contents machine.old) line.now result (held_of M.contents machine.new) }
+    ensures { TakesAll machine.old line.now result machine.new }
 {
     let (head, operands) = Head::take(line, b' ')?;
     by_head::<Machine<M>, Alone>(machine, head, operands)
@@ -169,7 +169,7 @@ fn perform_by<M: TaggedStore, I: Instruction>(
     machine: &mut Machine<M>,
     step: I,
 ) -> Result<(), StepEnd>
-    ensures { AnswersStep (held_of M.contents machine.old) (I.step step) result (held_of M.contents machine.new) }
+    ensures { AnswersStep machine.old (I.step step) result machine.new }
 {
     if I::IS_RARE || I::IS_LARGE {
         perform_apart(machine, step)
@@ -184,7 +184,7 @@ fn perform_apart<M: TaggedStore, I: Instruction>(
     machine: &mut Machine<M>,
     step: I,
 ) -> Result<(), StepEnd>
-    ensures { AnswersStep (held_of M.contents machine.old) (I.step step) result (held_of M.contents machine.new) }
+    ensures { AnswersStep machine.old (I.step step) result machine.new }
 {
     step.perform(machine)
 }

@@ -4,7 +4,6 @@ ghost use Rattle.std.specs.Prelude.{◌≡◌, ℕ, List, [], ◌++◌, Err, IsO
 ghost use Rattle.std.specs.FinMap as map;
 ghost use Rattle.cap_log.specs.Streams.{CountsOnly};
 ghost use Rattle.cap_log.specs.Pulled.{items};
-ghost use Rattle.cap_machine.specs.Helds.{held_of};
 ghost use Rattle.cap_judge.specs.FaultLines.{bytes_of};
 ghost use Rattle.cap_judge.specs.Judgings.{Judged, JudgedBy};
 ghost use Rattle.cap_judge.specs.Logs.{NamesNoGranules};
@@ -87,7 +86,7 @@ pub struct Judging<M: TaggedStore> {
 /// left it, and after a no as those before the line left it that was refused.
 pub fn judge_keeping<S: Source, M: TaggedStore>(source: &mut S, memory: M) -> Judging<M>
     requires { map.len (M.contents memory) ≡ 0 }
-    ensures judged { JudgedBy S.gave S.ended source.old source.new result.answer (held_of M.contents result.machine) (bytes_of result.fault) }
+    ensures judged { JudgedBy S.gave S.ended source.old source.new result.answer result.machine (bytes_of result.fault) }
     ensures counted { CountsOnly (Err Pull) (S.faults source.old) (S.faults source.new) result.answer }
 {
     let mut judge = Judge::new(memory);
@@ -105,8 +104,8 @@ fn judge_source<S: Source, M: TaggedStore>(
     judge: &mut Judge<M>,
     source: &mut S,
 ) -> (Result<Verdict, JudgeFault>, FaultLine)
-    requires begun { HasRead M.contents judge.old [] }
-    ensures judged { JudgedBy S.gave S.ended source.old source.new result.0 (held_of M.contents judge.new.machine) (bytes_of result.1) }
+    requires begun { HasRead judge.old [] }
+    ensures judged { JudgedBy S.gave S.ended source.old source.new result.0 judge.new.machine (bytes_of result.1) }
     ensures counted { CountsOnly (Err Pull) (S.faults source.old) (S.faults source.new) result.0 }
 {
     let mut pulled = Pulled::new();
@@ -127,7 +126,7 @@ fn judge_source<S: Source, M: TaggedStore>(
 // Hands over the bytes that were pulled, and keeps those that were not taken.
 fn take_pulled<M: TaggedStore>(judge: &mut Judge<M>, pulled: &mut Pulled) -> Stop
     ensures { (front : List ℕ) × (items pulled.old ≡ front ++ items pulled.new)
-        × StopsAt (known_of M.contents judge.old) front (items pulled.new) result (known_of M.contents judge.new) }
+        × StopsAt (known_of judge.old) front (items pulled.new) result (known_of judge.new) }
 {
     let taken = judge.take(pulled.as_slice());
     pulled.consume(taken.count);

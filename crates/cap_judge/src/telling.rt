@@ -1,7 +1,6 @@
 //! What a judge tells of the line at fault, and of the machine before it.
 
 ghost use Rattle.std.specs.Prelude.{◌≡◌, ℕ, List};
-ghost use Rattle.cap_machine.specs.Helds.{held_of};
 ghost use Rattle.cap_judge.specs.Readings.{HasRead, StandsIn, known_of};
 
 use crate::beginning::{Judge, Stage};
@@ -12,15 +11,15 @@ use tagmem::TaggedStore;
 impl<M: TaggedStore> Judge<M> {
     /// The machine, as the lines so far left it, or those before the line at fault.
     pub fn machine(&self) -> &Machine<M>
-        ensures held { held_of M.contents result.now ≡ (known_of M.contents self.now).held }
+        ensures held { result.now ≡ (known_of self.now).held }
     {
         &self.machine
     }
 
     /// The line at fault, where one is: its no stands whatever lines follow.
     pub fn refused(&self) -> Option<Fault>
-        ensures stands { (bytes : List ℕ) → HasRead M.contents self.now bytes
-            → StandsIn (known_of M.contents self.now).held bytes result }
+        ensures stands { (bytes : List ℕ) → HasRead self.now bytes
+            → StandsIn (known_of self.now).held bytes result }
     {
         match &self.stage {
             Stage::Refused(fault) => Some(*fault),

@@ -1,5 +1,6 @@
 -- What a machine holds, and what its roots and its steps do to that (this profile's own).
-use Rattle.std.specs.Prelude.{◌≡◌, ℕ, Bool, List, [], Some, None, is_some, IsTrue, Result, MatchResult}
+use Rattle.std.specs.Prelude.{◌≡◌, ℕ, zero, suc, Bool, List, [], length, slice_index_or, refl, Some, None, is_some, IsTrue, Result, MatchResult}
+use Rattle.std.specs.Coded.{Coded, code_by, coded×, coded_bool, coded_list, coded_ℕ}
 use Rattle.std.specs.FinMap as map
 use Rattle.cap_word.specs.declared.word.Word.{Word}
 use Rattle.cap_word.specs.declared.word.Cap.{Cap}
@@ -13,12 +14,12 @@ use Rattle.cap_ops.specs.declared.refusal.Refusal.{Refusal}
 use Rattle.tagmem.specs.Granules.{Granules}
 use Rattle.cap_machine.specs.declared.ends.StepEnd.{StepEnd}
 use Rattle.cap_machine.specs.declared.ends.StepEnd.TheVariants.{Refused, NoMemory}
-use Rattle.cap_machine.specs.declared.machine.Machine.{Machine}
 use Rattle.cap_machine.specs.declared.rules.Rules.{Rules}
 use Rattle.cap_machine.specs.declared.rules.Rules.TheVariants.{One, TwoStrict, TwoClear}
 pub use Rattle.cap_machine.specs.Places.{granule_cap}
-use Rattle.cap_machine.specs.Places.{places_of, codes_of, place_at}
-use Rattle.cap_machine.specs.States.{State}
+use Rattle.cap_machine.specs.Parents.{IsSoundState}
+use Rattle.cap_machine.specs.Places.{AreCoded, places_of, codes_of, place_at}
+use Rattle.cap_machine.specs.States.{State, untagged_null}
 use Rattle.cap_machine.specs.Steps.{Leads}
 use Rattle.cap_machine.specs.Accounts.{Account, granule_of, named_by, row_in, is_new, with_root, with_step, root_tests, step_tests}
 
@@ -32,16 +33,59 @@ pub record Held : Type 0 where
   pub roots : ℕ
   pub steps : ℕ
 
--- what a machine over a store holds, by the store's map
-abbrev pub held_of : {M : Type 0} {g : _} → (M → Granules) → Machine M g → Held
-held_of contents machine = record {
-  rules = machine.rules;
-  registers = machine.registers;
-  codes = machine.codes;
-  memory = contents machine.memory;
-  roots = machine.roots;
-  steps = machine.steps;
-}
+-- a capability is stored as the pair of its tag and its word's number
+abbrev pub cap_code : Coded Cap
+cap_code =
+    code_by (Bool × ℕ) (coded× coded_bool coded_ℕ) (λ cap. (cap.tag, cap.word.0))
+    (λ pair. record { tag = pair.0; word = record { 0 = pair.1 } }) (λ _. refl)
+
+-- rules are stored as their number
+abbrev pub rules_number : Rules → ℕ
+rules_number One = 0
+rules_number TwoStrict = 1
+rules_number TwoClear = 2
+
+-- the rules of a number
+abbrev pub rules_numbered : ℕ → Rules
+rules_numbered zero = One
+rules_numbered (suc zero) = TwoStrict
+rules_numbered (suc (suc more)) = TwoClear
+
+-- the number gives them back
+pub rules_numbered-rules_number : (rules : Rules) → rules_numbered (rules_number rules) ≡ rules
+rules_numbered-rules_number One = refl
+rules_numbered-rules_number TwoStrict = refl
+rules_numbered-rules_number TwoClear = refl
+
+-- granules are stored as the list of their entries, each as its tag, bytes and code
+abbrev pub granules_code : Coded Granules
+granules_code =
+    map.code coded_ℕ
+    (code_by (Bool × (List ℕ × ℕ)) (coded× coded_bool (coded× (coded_list coded_ℕ) coded_ℕ)) (λ entry. (entry.0, (entry.1, entry.2)))
+    (λ parts. (parts.0, parts.1.0, parts.1.1)) (λ _. refl))
+
+-- what a machine holds is stored as the tuple of its fields
+abbrev pub held_code : Coded Held
+held_code =
+    code_by (Rules × (List Cap × (List ℕ × (Granules × (ℕ × ℕ)))))
+    (coded× (code_by ℕ coded_ℕ rules_number rules_numbered rules_numbered-rules_number)
+    (coded× (coded_list cap_code) (coded× (coded_list coded_ℕ) (coded× granules_code (coded× coded_ℕ coded_ℕ)))))
+    (λ held. (held.rules, (held.registers, (held.codes, (held.memory, (held.roots, held.steps))))))
+    (λ parts. record {
+      rules = parts.0;
+      registers = parts.1.0;
+      codes = parts.1.1.0;
+      memory = parts.1.1.1.0;
+      roots = parts.1.1.1.1.0;
+      steps = parts.1.1.1.1.1;
+    }) (λ _. refl)
+
+-- there are 32 registers, c0 is NULL without a tag, each tagged capability is sound, and the codes are those of the places' origins
+pub record IsKept (registers : List Cap) (codes : List ℕ) (memory : Granules) : Type 0 where
+  pub sized : length registers ≡ 32
+  pub zero : slice_index_or registers 0 untagged_null ≡ untagged_null
+  pub sound : IsSoundState (places_of registers memory)
+  pub coded : AreCoded (places_of registers memory) (codes_of codes memory)
 
 -- the state that a machine is in
 abbrev pub state_of : Held → State

@@ -5,7 +5,7 @@ ghost use Rattle.cap_ops.specs.Sizes.{size_fits};
 ghost use Rattle.cap_ops.specs.Tests.{first_of};
 ghost use Rattle.cap_machine.specs.Changes.{EndsPut, IsAccess, address_in, is_past_limits};
 ghost use Rattle.cap_machine.specs.Changes.{with_cap_put, with_value_put};
-ghost use Rattle.cap_machine.specs.Helds.{EndsStep, code_in, held_of, state_of};
+ghost use Rattle.cap_machine.specs.Helds.{EndsStep, code_in, state_of};
 ghost use Rattle.cap_machine.specs.Parents.{IsSoundCap};
 ghost use Rattle.cap_machine.specs.Places.{IsCoded};
 ghost use Rattle.cap_machine.specs.Shown.{needs_to_store};
@@ -47,9 +47,9 @@ impl<M: TaggedStore> Machine<M> {
         size: u8,
     ) -> Result<u64, StepEnd>
         requires size { IsTrue (size_fits kind size) }
-        requires row { let state = state_of (held_of M.contents self.now) in
+        requires row { let state = state_of self.now in
             IsAccess (row_of state (O.step step.now)) authority kind offset size state }
-        ensures outcome { let held = held_of M.contents self.now in
+        ensures outcome { let held = self.now in
             MatchResult result
             (λ address. let row = row_of (state_of held) (O.step step.now) in
             (first_of row.tests ≡ None) × (address ≡ address_in row.access))
@@ -78,7 +78,7 @@ impl<M: TaggedStore> Machine<M> {
     ) -> Reached
         ensures value { result ≡ record {
           authority = authority;
-          address = address_through (state_of (held_of M.contents self.now)) authority offset;
+          address = address_through (state_of self.now) authority offset;
           size = size;
           needs = needs;
         } }
@@ -98,8 +98,8 @@ impl<M: TaggedStore> Machine<M> {
     #[inline(always)]
     pub(crate) fn granule_with_code(&self, granule: u64) -> (Cap, u64)
         requires { granule < 2 ^ 60 }
-        ensures holds { result.0 ≡ state_of (held_of M.contents self.now) (granule_key granule) }
-        ensures code { result.1 ≡ code_in (held_of M.contents self.now) (granule_key granule) }
+        ensures holds { result.0 ≡ state_of self.now (granule_key granule) }
+        ensures code { result.1 ≡ code_in self.now (granule_key granule) }
     {
         capability_with_code(&self.memory, granule)
     }
@@ -108,7 +108,7 @@ impl<M: TaggedStore> Machine<M> {
     #[inline(always)]
     fn is_past_limits(&self, granule: u64) -> bool
         requires { granule < 2 ^ 60 }
-        ensures { result ≡ is_past_limits (held_of M.contents self.now) granule }
+        ensures { result ≡ is_past_limits self.now granule }
     {
         self.steps >= MOST_STEPS || self.granule_passes_limit(granule)
     }
@@ -125,9 +125,9 @@ impl<M: TaggedStore> Machine<M> {
         requires sound { IsSoundCap stored }
         requires coded { IsCoded stored.tag code }
         ensures { MatchResult result
-            (λ _. (is_past_limits (held_of M.contents self.old) granule ≡ false)
-            × (held_of M.contents self.new ≡ with_cap_put (held_of M.contents self.old) granule stored code))
-            (λ end. EndsPut (held_of M.contents self.old) granule end (held_of M.contents self.new)) }
+            (λ _. (is_past_limits self.old granule ≡ false)
+            × (self.new ≡ with_cap_put self.old granule stored code))
+            (λ end. EndsPut self.old granule end self.new) }
     {
         if self.is_past_limits(granule) {
             return Err(StepEnd::Refused(Refusal::LimitPassed));
@@ -148,9 +148,9 @@ impl<M: TaggedStore> Machine<M> {
         requires in_memory { granule < 2 ^ 60 }
         requires inside { byte_index + datum.size ≤ 16 }
         ensures { MatchResult result
-            (λ _. (is_past_limits (held_of M.contents self.old) granule ≡ false)
-            × (held_of M.contents self.new ≡ with_value_put (held_of M.contents self.old) granule byte_index datum.size datum.value))
-            (λ end. EndsPut (held_of M.contents self.old) granule end (held_of M.contents self.new)) }
+            (λ _. (is_past_limits self.old granule ≡ false)
+            × (self.new ≡ with_value_put self.old granule byte_index datum.size datum.value))
+            (λ end. EndsPut self.old granule end self.new) }
     {
         if self.is_past_limits(granule) {
             return Err(StepEnd::Refused(Refusal::LimitPassed));

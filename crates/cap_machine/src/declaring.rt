@@ -9,7 +9,7 @@ ghost use Rattle.cap_machine.specs.States.{key_of, tagged};
 ghost use Rattle.cap_machine.specs.Accounts.{granule_of, is_new, most_roots, passes_granule_limit};
 ghost use Rattle.cap_machine.specs.Accounts.{root_tests};
 ghost use Rattle.cap_machine.specs.Changes.{Placed};
-ghost use Rattle.cap_machine.specs.Helds.{EndsRoot, TakesRoot, held_of, state_of, account_of};
+ghost use Rattle.cap_machine.specs.Helds.{EndsRoot, TakesRoot, state_of, account_of};
 
 use crate::ends::StepEnd;
 use crate::granules::put_capability;
@@ -29,8 +29,8 @@ impl<M: TaggedStore> Machine<M> {
     pub fn declare(&mut self, place: Place, word: Word) -> Result<(), StepEnd>
         requires { IsPlace place }
         ensures outcome { MatchResult result
-            (λ _. TakesRoot (held_of M.contents self.old) place word (held_of M.contents self.new))
-            (λ end. EndsRoot (held_of M.contents self.old) place word end (held_of M.contents self.new)) }
+            (λ _. TakesRoot self.old place word self.new)
+            (λ end. EndsRoot self.old place word end self.new) }
     {
         if let Some(refusal) = self.root_fault(place, word) {
             return Err(StepEnd::Refused(refusal));
@@ -43,7 +43,7 @@ impl<M: TaggedStore> Machine<M> {
     // The first test that refuses a root.
     fn root_fault(&self, place: Place, word: Word) -> Option<Refusal>
         requires { IsPlace place }
-        ensures { result ≡ first_of (root_tests (account_of (held_of M.contents self.now)) place word) }
+        ensures { result ≡ first_of (root_tests (account_of self.now) place word) }
     {
         if self.holds(place).tag {
             Some(Refusal::PlaceTaken)
@@ -59,7 +59,7 @@ impl<M: TaggedStore> Machine<M> {
     // Whether a root's place names a granule beyond the limit.
     fn root_passes_granule_limit(&self, place: Place) -> bool
         requires { IsPlace place }
-        ensures { result ≡ passes_granule_limit (account_of (held_of M.contents self.now)) (granule_of place) }
+        ensures { result ≡ passes_granule_limit (account_of self.now) (granule_of place) }
     {
         match place {
             Place::Register(_) => false,
@@ -71,7 +71,7 @@ impl<M: TaggedStore> Machine<M> {
     #[inline(always)]
     pub(crate) fn granule_passes_limit(&self, granule: u64) -> bool
         requires { granule < 2 ^ 60 }
-        ensures { result ≡ passes_granule_limit (account_of (held_of M.contents self.now)) (Some granule) }
+        ensures { result ≡ passes_granule_limit (account_of self.now) (Some granule) }
     {
         self.memory.count() >= self.rules.most_granules() && self.is_unnamed(granule)
     }
@@ -80,7 +80,7 @@ impl<M: TaggedStore> Machine<M> {
     #[inline(never)]
     fn is_unnamed(&self, granule: u64) -> bool
         requires { granule < 2 ^ 60 }
-        ensures { result ≡ is_new (account_of (held_of M.contents self.now)) (Some granule) }
+        ensures { result ≡ is_new (account_of self.now) (Some granule) }
     {
         self.memory.get(granule).is_none()
     }
@@ -88,11 +88,11 @@ impl<M: TaggedStore> Machine<M> {
     // Puts a root into a place, and counts nothing. A refused put changes nothing.
     fn place_root(&mut self, place: Place, word: Word) -> Result<(), NoMemory>
         requires in_range { IsPlace place }
-        requires room { passes_granule_limit (account_of (held_of M.contents self.old)) (granule_of place) ≡ false }
+        requires room { passes_granule_limit (account_of self.old) (granule_of place) ≡ false }
         requires sound { IsSound word.0 }
-        ensures ok { OnOk result (Placed (held_of M.contents self.old) place word (held_of M.contents self.new)) }
-        ensures err { OnErr result (held_of M.contents self.new ≡ held_of M.contents self.old) }
-        ensures only_new { OnErr result (IsTrue (is_new (account_of (held_of M.contents self.old)) (granule_of place))) }
+        ensures ok { OnOk result (Placed self.old place word self.new) }
+        ensures err { OnErr result (self.new ≡ self.old) }
+        ensures only_new { OnErr result (IsTrue (is_new (account_of self.old) (granule_of place))) }
     {
         let root = Cap { tag: true, word };
         match place {

@@ -2,12 +2,12 @@
 
 ghost use Rattle.std.specs.Prelude.{◌≡◌, ℕ, ◌<◌, ◌≤◌, ◌^◌, ◌+◌, ◌%◌, IfSome, is_some};
 ghost use Rattle.std.specs.FinMap as map;
-ghost use Rattle.tagmem.specs.Granules.{IsNextPut};
+ghost use Rattle.tagmem.specs.Granules.{AreStored, IsNextPut};
 ghost use Rattle.cap_log.specs.Lines.{IsPlace};
 ghost use Rattle.cap_machine.specs.States.{granule_key, key_of, untagged_null, value_at};
 ghost use Rattle.cap_machine.specs.Accounts.{no_account};
 ghost use Rattle.cap_machine.specs.Parents.{IsSoundCap};
-ghost use Rattle.cap_machine.specs.Helds.{account_of, code_in, held_of, state_of};
+ghost use Rattle.cap_machine.specs.Helds.{IsKept, account_of, code_in, state_of};
 
 use crate::granules::number_in;
 use crate::machine::Machine;
@@ -21,7 +21,7 @@ impl<M: TaggedStore> Machine<M> {
     /// A machine by the rules of version 1, as `with_rules` makes it.
     pub fn new(memory: M) -> Machine<M>
         requires { map.len (M.contents memory) ≡ 0 }
-        ensures account { account_of (held_of M.contents result) ≡ no_account Rules.One }
+        ensures account { account_of result ≡ no_account Rules.One }
     {
         Machine::with_rules(memory, Rules::One)
     }
@@ -30,7 +30,7 @@ impl<M: TaggedStore> Machine<M> {
     /// It takes no memory.
     pub fn with_rules(memory: M, rules: Rules) -> Machine<M>
         requires { map.len (M.contents memory) ≡ 0 }
-        ensures account { account_of (held_of M.contents result) ≡ no_account rules }
+        ensures account { account_of result ≡ no_account rules }
     {
         let nothing = Cap {
             tag: false,
@@ -48,43 +48,52 @@ impl<M: TaggedStore> Machine<M> {
 
     /// From now on it follows these rules. All else is as before.
     pub fn follow(&mut self, rules: Rules)
-        ensures held { held_of M.contents self.new ≡ record (held_of M.contents self.old) { rules = rules } }
+        ensures held { self.new ≡ record self.old { rules = rules } }
     {
         self.rules = rules;
     }
 
     /// The rules that it follows.
     pub fn rules(&self) -> Rules
-        ensures value { result ≡ (let held = held_of M.contents self.now in held.rules) }
+        ensures value { result ≡ self.now.rules }
     {
         self.rules
     }
 
     /// How many steps were made, at most 4,294,967,295.
     pub fn steps(&self) -> u32
-        ensures value { result ≡ (let held = held_of M.contents self.now in held.steps) }
+        ensures value { result ≡ self.now.steps }
     {
         self.steps
     }
 
     /// How many roots were declared, at most 4,096.
     pub fn roots(&self) -> u32
-        ensures value { result ≡ (let held = held_of M.contents self.now in held.roots) }
+        ensures value { result ≡ self.now.roots }
     {
         self.roots
     }
 
     /// How many distinct granules roots, `sc` and `store` have named.
     pub fn granules(&self) -> u32
-        ensures value { result ≡ (let account = account_of (held_of M.contents self.now) in account.granules) }
+        ensures value { result ≡ (let account = account_of self.now in account.granules) }
     {
         self.memory.count()
+    }
+
+    /// What is true of every machine. It does nothing: what it says is its contract.
+    #[inline(always)]
+    pub fn kept(&self)
+        ensures kept { IsKept self.now.registers self.now.codes self.now.memory }
+        ensures stored { AreStored self.now.memory }
+    {
+        let _ = &self.memory;
     }
 
     /// What a place holds.
     pub fn holds(&self, place: Place) -> Cap
         requires { IsPlace place }
-        ensures value { result ≡ state_of (held_of M.contents self.now) (key_of place) }
+        ensures value { result ≡ state_of self.now (key_of place) }
     {
         match place {
             Place::Register(number) => self.register(number),
@@ -96,7 +105,7 @@ impl<M: TaggedStore> Machine<M> {
     /// a load of data takes, all in one granule.
     pub fn value(&self, address: u64, size: Size) -> u64
         requires { address % 16 + size ≤ 16 }
-        ensures value { result ≡ value_at (state_of (held_of M.contents self.now)) address size }
+        ensures value { result ≡ value_at (state_of self.now) address size }
     {
         number_in(&self.memory, address / 16, (address % 16) as u8, size)
     }
@@ -105,7 +114,7 @@ impl<M: TaggedStore> Machine<M> {
     #[inline(always)]
     pub fn register(&self, number: u8) -> Cap
         requires { number ≤ 31 }
-        ensures holds { result ≡ state_of (held_of M.contents self.now) number }
+        ensures holds { result ≡ state_of self.now number }
         ensures sound { IsSoundCap result }
         ensures zero { number ≡ 0 → result ≡ untagged_null }
     {
@@ -117,19 +126,21 @@ impl<M: TaggedStore> Machine<M> {
     #[inline(always)]
     pub fn granule(&self, granule: u64) -> Cap
         requires { granule < 2 ^ 60 }
-        ensures holds { result ≡ state_of (held_of M.contents self.now) (granule_key granule) }
+        ensures holds { result ≡ state_of self.now (granule_key granule) }
         ensures sound { IsSoundCap result }
     {
+        self.kept();
         self.granule_with_code(granule).0
     }
 
     /// The place of the root that what a place holds comes from, or `None`, exactly where that has no tag.
     pub fn origin(&self, place: Place) -> Option<Place>
         requires { IsPlace place }
-        ensures origin { result ≡ (let account = account_of (held_of M.contents self.now) in account.origin (key_of place)) }
-        ensures tagged { is_some result ≡ (let cap = state_of (held_of M.contents self.now) (key_of place) in cap.tag) }
+        ensures origin { result ≡ (let account = account_of self.now in account.origin (key_of place)) }
+        ensures tagged { is_some result ≡ (let cap = state_of self.now (key_of place) in cap.tag) }
         ensures in_range { IfSome result IsPlace }
     {
+        self.kept();
         place_at(self.code(place))
     }
 
@@ -137,7 +148,7 @@ impl<M: TaggedStore> Machine<M> {
     /// there is none: every other granule from there on holds NULL without a tag. Any number does, also one
     /// that is no granule's.
     pub fn next_put(&self, granule: u64) -> Option<u64>
-        ensures next { IsNextPut (let held = held_of M.contents self.now in held.memory) granule result }
+        ensures next { IsNextPut self.now.memory granule result }
         ensures in_memory { IfSome result (λ next. next < 2 ^ 60) }
     {
         self.memory.next_put(granule)
@@ -146,7 +157,7 @@ impl<M: TaggedStore> Machine<M> {
     // The code of the origin of what a place holds.
     fn code(&self, place: Place) -> u64
         requires { IsPlace place }
-        ensures { result ≡ code_in (held_of M.contents self.now) (key_of place) }
+        ensures { result ≡ code_in self.now (key_of place) }
     {
         match place {
             Place::Register(number) => self.codes[number as usize],

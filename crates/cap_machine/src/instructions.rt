@@ -5,7 +5,7 @@ ghost use Rattle.std.specs.Prelude.{◌≡◌, ◌≤◌, List, ℕ, ◌∷◌, 
 ghost use Rattle.cap_log.specs.Heads.{head_spelling};
 ghost use Rattle.cap_log.specs.declared.kinds.Step.{Step};
 ghost use Rattle.cap_machine.specs.Changes.{GivesByTests, IsOperation, result_in};
-ghost use Rattle.cap_machine.specs.Helds.{AnswersStep, held_of, state_of};
+ghost use Rattle.cap_machine.specs.Helds.{AnswersStep, state_of};
 ghost use Rattle.cap_machine.specs.Shown.{IsShown, request_of, shown_of};
 ghost use Rattle.cap_machine.specs.States.{State};
 ghost use Rattle.cap_machine.specs.Steps.{row_of};
@@ -45,11 +45,11 @@ pub trait Instruction: Operands {
 
     /// Makes the step and counts it, or refuses it, as [`Machine::step`] does.
     fn perform<M: TaggedStore>(self, machine: &mut Machine<M>) -> Result<(), StepEnd>
-        ensures outcome { AnswersStep (held_of M.contents machine.old) (Self.step self) result (held_of M.contents machine.new) };
+        ensures outcome { AnswersStep machine.old (Self.step self) result machine.new };
 
     /// What the step shows of the machine before it, as [`Machine::shown`] does.
     fn shown<M: TaggedStore>(self, machine: &Machine<M>) -> Shown
-        ensures shown { result ≡ shown_of (state_of (held_of M.contents machine.now)) (Self.step self) }
+        ensures shown { result ≡ shown_of (state_of machine.now) (Self.step self) }
         ensures in_range { IsShown result };
 }
 
@@ -68,12 +68,12 @@ pub trait Operation: Operands {
 
     /// Its result, or the first test that holds.
     fn strict<M: TaggedStore>(self, machine: &Machine<M>) -> Result<Cap, OpFault>
-        ensures outcome { let row = row_of (state_of (held_of M.contents machine.now)) (Self.step self) in
+        ensures outcome { let row = row_of (state_of machine.now) (Self.step self) in
             GivesByTests row.tests (result_in row.writes) result };
 
     /// Its result, without a tag where a test holds.
     fn cleared<M: TaggedStore>(self, machine: &Machine<M>) -> Cap
-        ensures value { let row = row_of (state_of (held_of M.contents machine.now)) (Self.step self) in
+        ensures value { let row = row_of (state_of machine.now) (Self.step self) in
             result ≡ clear_result row.tests (result_in row.writes) };
 }
 
@@ -349,6 +349,7 @@ impl Instruction for Store {
     #[inline(always)]
     fn perform<M: TaggedStore>(self, machine: &mut Machine<M>) -> Result<(), StepEnd> {
         let kind = Kind::StoreData;
+        machine.kept();
         let size = self.datum.size().bytes();
         let address = machine.reach(&self, self.authority, kind, self.offset, size)?;
         let byte = (address % 16) as u8;

@@ -1,12 +1,8 @@
 //! The machine: registers and tagged memory, with counts of its roots and steps.
 
-ghost use Rattle.std.specs.Prelude.{◌≡◌, slice_index_or};
-ghost use Rattle.cap_machine.specs.States.{untagged_null};
-ghost use Rattle.cap_machine.specs.Places.{AreCoded, codes_of, places_of};
-ghost use Rattle.cap_machine.specs.Parents.{IsSoundState};
-
 use crate::rules::Rules;
 use cap_word::Cap;
+use std::marker::Model;
 use tagmem::TaggedStore;
 
 /// The greatest number of roots that a machine takes (this profile's own): past it comes `LimitPassed`.
@@ -28,7 +24,23 @@ pub struct Machine<M: TaggedStore> {
     pub(crate) memory: M,
     pub(crate) roots: u32,
     pub(crate) steps: u32,
-    ghost zero: { slice_index_or registers 0 untagged_null ≡ untagged_null },
-    ghost sound: { IsSoundState (places_of registers (M.contents memory)) },
-    ghost coded: { AreCoded (places_of registers (M.contents memory)) (codes_of codes (M.contents memory)) },
+}
+
+impl<M: TaggedStore> Model for Machine<M> {
+    ghost use Rattle.cap_machine.specs.Helds.{Held, IsKept, held_code};
+
+    ghost Value = { Held };
+
+    ghost coded = { held_code };
+
+    ghost view = { λ machine. record {
+      rules = machine.rules;
+      registers = machine.registers;
+      codes = machine.codes;
+      memory = M.contents machine.memory;
+      roots = machine.roots;
+      steps = machine.steps;
+    } };
+
+    ghost invariant = { λ machine. IsKept machine.registers machine.codes (M.contents machine.memory) };
 }

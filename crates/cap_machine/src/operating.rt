@@ -4,7 +4,7 @@ ghost use Rattle.std.specs.Prelude.{◌≡◌, ◌≤◌};
 ghost use Rattle.cap_ops.specs.Operations as ops;
 ghost use Rattle.cap_ops.specs.Tests.{first_of};
 ghost use Rattle.cap_machine.specs.Changes.{result_in};
-ghost use Rattle.cap_machine.specs.Helds.{EndsBy, held_of, state_of};
+ghost use Rattle.cap_machine.specs.Helds.{EndsBy, state_of};
 ghost use Rattle.cap_machine.specs.Steps.{row_of};
 
 use crate::instructions::Operation;
@@ -51,7 +51,7 @@ pub fn outcome_of<M: TaggedStore, O: Operation>(
     operation: O,
     machine: &Machine<M>,
 ) -> Result<Cap, OpFault>
-    ensures ends { let held = held_of M.contents machine.now in
+    ensures ends { let held = machine.now in
         let row = row_of (state_of held) (O.step operation) in
         EndsBy held.rules row.tests (result_in row.writes) result }
 {
@@ -66,9 +66,9 @@ pub fn cleared_with_fault<M: TaggedStore, O: Operation>(
     operation: O,
     machine: &Machine<M>,
 ) -> (Cap, Option<Refusal>)
-    ensures cap { let row = row_of (state_of (held_of M.contents machine.now)) (O.step operation) in
+    ensures cap { let row = row_of (state_of machine.now) (O.step operation) in
         result.0 ≡ ops.clear_result row.tests (result_in row.writes) }
-    ensures fault { let row = row_of (state_of (held_of M.contents machine.now)) (O.step operation) in
+    ensures fault { let row = row_of (state_of machine.now) (O.step operation) in
         result.1 ≡ first_of row.tests }
 {
     match operation.strict(machine) {

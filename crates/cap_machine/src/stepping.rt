@@ -3,7 +3,7 @@
 ghost use Rattle.std.specs.Prelude.{◌≡◌, ◌↔◌, ◌<◌, ◌≤◌, ◌+◌, OnOk, Ok, Err};
 ghost use Rattle.cap_machine.specs.Changes.{Derives, IsParentsCode, WritesRegister};
 ghost use Rattle.cap_machine.specs.Escapes.{ClearsBeyond, Escapes};
-ghost use Rattle.cap_machine.specs.Helds.{AnswersStep, held_of, state_of};
+ghost use Rattle.cap_machine.specs.Helds.{AnswersStep, state_of};
 ghost use Rattle.cap_machine.specs.Parents.{StaysWithinParents};
 ghost use Rattle.cap_machine.specs.Shown.{IsShown, shown_of};
 
@@ -22,7 +22,7 @@ pub struct Making;
 impl<M: TaggedStore> Deed<Machine<M>> for Making {
     type Answer = Result<(), StepEnd>;
 
-    ghost does = { λ old step result new. AnswersStep (held_of M.contents old) step result (held_of M.contents new) };
+    ghost does = { λ old step result new. AnswersStep old step result new };
 
     #[inline(always)]
     fn with_step<I: Instruction>(machine: &mut Machine<M>, step: I) -> Result<(), StepEnd> {
@@ -36,7 +36,7 @@ pub struct Showing;
 impl<'a, M: TaggedStore> Deed<&'a Machine<M>> for Showing {
     type Answer = Shown;
 
-    ghost does = { λ old step result new. (result ≡ shown_of (state_of (held_of M.contents old.now)) step) × IsShown result };
+    ghost does = { λ old step result new. (result ≡ shown_of (state_of old.now) step) × IsShown result };
 
     fn with_step<I: Instruction>(machine: &mut &'a Machine<M>, step: I) -> Shown {
         step.shown(*machine)
@@ -62,22 +62,23 @@ impl<M: TaggedStore> Machine<M> {
     /// `setbounds` of such a source loses its tag exactly there.
     #[inline(always)]
     pub fn step(&mut self, step: &Step) -> Result<(), StepEnd>
-        ensures outcome { AnswersStep (held_of M.contents self.old) step.now result (held_of M.contents self.new) }
+        ensures outcome { AnswersStep self.old step.now result self.new }
         ensures stays_within { OnOk result
-            (StaysWithinParents (state_of (held_of M.contents self.old)) step.now (state_of (held_of M.contents self.new))) }
+            (StaysWithinParents (state_of self.old) step.now (state_of self.new)) }
         ensures escape { (result ≡ Err (StepEnd.Refused Refusal.BoundsEscape))
-            ↔ Escapes (let held = held_of M.contents self.old in held.rules) (state_of (held_of M.contents self.old)) step.now }
+            ↔ Escapes self.old.rules (state_of self.old) step.now }
         ensures clears { OnOk result
-            (ClearsBeyond (let held = held_of M.contents self.old in held.rules) (state_of (held_of M.contents self.old)) step.now
-            (state_of (held_of M.contents self.new))) }
+            (ClearsBeyond self.old.rules (state_of self.old) step.now
+            (state_of self.new)) }
     {
         step.in_range();
+        self.kept();
         by_kind::<Machine<M>, Making>(self, step)
     }
 
     /// What a step shows of the machine, which is as it was before the step.
     pub fn shown(&self, step: &Step) -> Shown
-        ensures shown { result ≡ shown_of (state_of (held_of M.contents self.now)) step.now }
+        ensures shown { result ≡ shown_of (state_of self.now) step.now }
         ensures in_range { IsShown result }
     {
         let mut machine = self;
@@ -95,10 +96,10 @@ impl<M: TaggedStore> Machine<M> {
         recorded: Cap,
         code: u64,
     ) -> Result<(), StepEnd>
-        requires writes { WritesRegister (state_of (held_of M.contents self.old)) (O.step step.now) target recorded }
-        requires derives { Derives (held_of M.contents self.old) (O.step step.now) outcome }
-        requires code { IsParentsCode (held_of M.contents self.old) (O.step step.now) outcome code }
-        ensures { AnswersStep (held_of M.contents self.old) (O.step step.now) result (held_of M.contents self.new) }
+        requires writes { WritesRegister (state_of self.old) (O.step step.now) target recorded }
+        requires derives { Derives self.old (O.step step.now) outcome }
+        requires code { IsParentsCode self.old (O.step step.now) outcome code }
+        ensures { AnswersStep self.old (O.step step.now) result self.new }
     {
         step.in_range();
         let derived = outcome?;

@@ -3,7 +3,7 @@
 ghost use Rattle.std.specs.Prelude.{◌≡◌, ◌≢◌, ◌≤◌, ℕ, List, ◌++◌, length, take, true, Err, Option, IfOk, OnOk, OnErr};
 ghost use Rattle.std.specs.FinMap as map;
 ghost use Rattle.cap_log.specs.Streams.{CountsFault, CountsOnly};
-ghost use Rattle.cap_machine.specs.Helds.{account_of, held_of};
+ghost use Rattle.cap_machine.specs.Helds.{account_of};
 ghost use Rattle.cap_judge.specs.FaultLines.{bytes_of};
 ghost use Rattle.cap_report.specs.FaultReports.{IsLineReport};
 ghost use Rattle.cap_judge.specs.Readings.{HasRead};
@@ -64,6 +64,7 @@ pub fn judge_why_in<S: Source, M: TaggedStore, K: Sink>(
         machine,
         fault,
     } = judge_keeping(source, memory);
+    machine.kept();
     let verdict = answer?;
     push_why(&verdict, origins, &machine, &fault, sink)?;
     Ok(verdict)
@@ -88,6 +89,7 @@ pub fn judge_why_bytes<M: TaggedStore, K: Sink>(
         machine,
         fault,
     } = judge_bytes_keeping(bytes, memory);
+    machine.kept();
     match answer {
         Ok(verdict) => match push_why(&verdict, origins, &machine, &fault, sink) {
             Ok(()) => Ok(verdict),
@@ -104,9 +106,9 @@ pub fn push_refused<M: TaggedStore, K: Sink>(
     judge: &Judge<M>,
     sink: &mut K,
 ) -> Result<(), PushFault>
-    ensures ok { OnOk result ((bytes : List ℕ) → HasRead M.contents judge.now bytes → (verdict : Option Verdict)
+    ensures ok { OnOk result ((bytes : List ℕ) → HasRead judge.now bytes → (verdict : Option Verdict)
         × (told : List ℕ) × ExplainsSoFar bytes verdict told × K.took sink.old sink.new told × (length told ≤ 3136)) }
-    ensures err { OnErr result ((bytes : List ℕ) → HasRead M.contents judge.now bytes → (verdict : Option Verdict)
+    ensures err { OnErr result ((bytes : List ℕ) → HasRead judge.now bytes → (verdict : Option Verdict)
         × (told : List ℕ) × ExplainsSoFar bytes verdict told × (n : ℕ) × K.took sink.old sink.new (take n told)) }
     ensures counted { CountsFault (K.faults sink.old) (K.faults sink.new) result }
 {
@@ -132,10 +134,10 @@ fn push_why<M: TaggedStore, K: Sink>(
     sink: &mut K,
 ) -> Result<(), PushFault>
     ensures ok { OnOk result ((told : List ℕ)
-        × IsWhyText origins (held_of M.contents machine.now) (bytes_of fault.now) verdict.now told
+        × IsWhyText origins machine.now (bytes_of fault.now) verdict.now told
         × K.took sink.old sink.new told) }
     ensures err { OnErr result ((told : List ℕ)
-        × IsWhyText origins (held_of M.contents machine.now) (bytes_of fault.now) verdict.now told
+        × IsWhyText origins machine.now (bytes_of fault.now) verdict.now told
         × (n : ℕ) × K.took sink.old sink.new (take n told)) }
     ensures counted { CountsFault (K.faults sink.old) (K.faults sink.new) result }
 {
@@ -160,11 +162,11 @@ fn push_no<M: TaggedStore, K: Sink>(
     sink: &mut K,
 ) -> Result<(), PushFault>
     ensures ok { OnOk result ((report : List ℕ)
-        × IsLineReport (account_of (held_of M.contents machine.now)) (bytes_of fault.now) refusal report
+        × IsLineReport (account_of machine.now) (bytes_of fault.now) refusal report
         × K.took sink.old sink.new (verdict_line verdict.now ++ report)
         × (length (verdict_line verdict.now ++ report) ≤ 3136)) }
     ensures err { OnErr result ((report : List ℕ)
-        × IsLineReport (account_of (held_of M.contents machine.now)) (bytes_of fault.now) refusal report
+        × IsLineReport (account_of machine.now) (bytes_of fault.now) refusal report
         × (n : ℕ) × K.took sink.old sink.new (take n (verdict_line verdict.now ++ report))) }
     ensures counted { CountsFault (K.faults sink.old) (K.faults sink.new) result }
 {

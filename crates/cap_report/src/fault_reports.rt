@@ -1,7 +1,7 @@
 //! The report of a first fault: the line, and what the machine held before it.
 
 ghost use Rattle.std.specs.Prelude.{◌≡◌, ℕ, List, ◌+◌, ◌≤◌, length};
-ghost use Rattle.cap_machine.specs.Helds.{account_of, held_of};
+ghost use Rattle.cap_machine.specs.Helds.{account_of};
 ghost use Rattle.cap_log.specs.Lines.{IsPlace};
 ghost use Rattle.cap_log.specs.Parts.{Writes};
 ghost use Rattle.cap_bounds.specs.Bounds.{length_of};
@@ -31,7 +31,7 @@ pub fn put_report<M: TaggedStore>(
     requires { at + 3072 ≤ length buffer.old }
     ensures fits { result ≤ length buffer.old }
     ensures report { (report : List ℕ)
-        × IsLineReport (account_of (held_of M.contents machine.now)) (bytes_of line.now) refusal report
+        × IsLineReport (account_of machine.now) (bytes_of line.now) refusal report
         × Writes at report buffer.old buffer.new result }
 {
     let text = line.as_slice();
@@ -50,7 +50,7 @@ fn put_details<M: TaggedStore>(
     requires room { at + 2560 ≤ length buffer.old }
     ensures fits { result ≤ at + 2560 }
     ensures written { (details : List ℕ)
-        × AreDetails (account_of (held_of M.contents machine.now)) text.now refusal details
+        × AreDetails (account_of machine.now) text.now refusal details
         × Writes at details buffer.old buffer.new result }
 {
     match refusal {
@@ -77,7 +77,7 @@ fn put_details<M: TaggedStore>(
 #[tactic(auto, unfolding(crate::specs::FaultReports::count_lines))]
 fn put_count_lines<M: TaggedStore>(machine: &Machine<M>, buffer: &mut [u8], at: usize) -> usize
     requires room { at + 256 ≤ length buffer.old }
-    ensures written { Writes at (count_lines (account_of (held_of M.contents machine.now))) buffer.old buffer.new result }
+    ensures written { Writes at (count_lines (account_of machine.now)) buffer.old buffer.new result }
     ensures fits { result ≤ at + 128 }
 {
     let at = put_decimal_line(buffer, at, b"roots", u64::from(machine.roots()));
@@ -96,7 +96,7 @@ fn put_root_lines<M: TaggedStore>(
 ) -> usize
     requires place { IsPlace place }
     requires room { at + 512 ≤ length buffer.old }
-    ensures written { Writes at (root_lines (account_of (held_of M.contents machine.now)) place word refusal) buffer.old buffer.new result }
+    ensures written { Writes at (root_lines (account_of machine.now) place word refusal) buffer.old buffer.new result }
     ensures fits { result ≤ at + 256 }
 {
     match refusal {

@@ -1,7 +1,7 @@
 //! The operands of a step, as parts of the report on it: what places hold, and from which root that comes.
 
 ghost use Rattle.std.specs.Prelude.{◌≡◌, ◌≤◌};
-ghost use Rattle.cap_machine.specs.Helds.{account_of, held_of, state_of};
+ghost use Rattle.cap_machine.specs.Helds.{account_of, state_of};
 ghost use Rattle.cap_machine.specs.Shown.{IsRead};
 ghost use Rattle.cap_machine.specs.States.{key_of};
 ghost use Rattle.cap_report.specs.StepLines.{authority_part};
@@ -15,9 +15,10 @@ use tagmem::TaggedStore;
 /// What a place holds, and the place of the root of that: c0 has none.
 pub fn held_in<M: TaggedStore>(machine: &Machine<M>, place: Place) -> (Cap, Option<Place>)
     requires { IsRead place }
-    ensures cap { result.0 ≡ state_of (held_of M.contents machine.now) (key_of place) }
-    ensures root { result.1 ≡ (let account = account_of (held_of M.contents machine.now) in account.origin (key_of place)) }
+    ensures cap { result.0 ≡ state_of machine.now (key_of place) }
+    ensures root { result.1 ≡ (let account = account_of machine.now in account.origin (key_of place)) }
 {
+    machine.kept();
     match place {
         Place::Register(0) => (machine.register(0), None),
         Place::Register(number) => (machine.register(number), machine.origin(place)),
@@ -27,7 +28,7 @@ pub fn held_in<M: TaggedStore>(machine: &Machine<M>, place: Place) -> (Cap, Opti
 
 /// What a register holds that is the authority.
 pub fn authority_in<M: TaggedStore>(machine: &Machine<M>, register: Register) -> Part
-    ensures value { result ≡ authority_part (account_of (held_of M.contents machine.now)) register }
+    ensures value { result ≡ authority_part (account_of machine.now) register }
 {
     let place = Place::Register(register.number());
     let (cap, root) = held_in(machine, place);

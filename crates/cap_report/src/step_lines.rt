@@ -6,7 +6,7 @@ ghost use Rattle.cap_bounds.specs.Bounds.{base_of, top_of};
 ghost use Rattle.cap_bounds.specs.Range.{with_address};
 ghost use Rattle.cap_bounds.specs.Rounding.{rounded_base, rounded_top};
 ghost use Rattle.cap_log.specs.Parts.{Writes};
-ghost use Rattle.cap_machine.specs.Helds.{account_of, held_of};
+ghost use Rattle.cap_machine.specs.Helds.{account_of};
 ghost use Rattle.cap_machine.specs.Shown.{IsRead, IsShown};
 ghost use Rattle.cap_machine.specs.declared.shown.Given.TheVariants as givens;
 ghost use Rattle.cap_report.specs.Parts.{lines_of_parts};
@@ -33,7 +33,7 @@ pub fn put_step_lines<M: TaggedStore>(
     at: usize,
 ) -> usize
     requires { at + 2560 ≤ length buffer.old }
-    ensures written { Writes at (step_lines (account_of (held_of M.contents machine.now)) step.now refusal) buffer.old buffer.new result }
+    ensures written { Writes at (step_lines (account_of machine.now) step.now refusal) buffer.old buffer.new result }
     ensures fits { result ≤ at + 2560 }
 {
     let shown = machine.shown(step);
@@ -53,7 +53,7 @@ fn put_asked<M: TaggedStore>(
 ) -> usize
     requires in_range { IsShown shown.now }
     requires room { at + 1536 ≤ length buffer.old }
-    ensures written { Writes at (lines_of_parts (asked_parts (account_of (held_of M.contents machine.now)) shown.now)) buffer.old buffer.new result }
+    ensures written { Writes at (lines_of_parts (asked_parts (account_of machine.now) shown.now)) buffer.old buffer.new result }
     ensures fits { result ≤ at + 1536 }
 {
     let at = put_operands(machine, shown.source, shown.request, buffer, at);
@@ -70,7 +70,7 @@ fn put_operands<M: TaggedStore>(
 ) -> usize
     requires source { IfSome source IsRead }
     requires room { at + 768 ≤ length buffer.old }
-    ensures written { Writes at (lines_of_parts (operand_parts (account_of (held_of M.contents machine.now)) source request)) buffer.old buffer.new result }
+    ensures written { Writes at (lines_of_parts (operand_parts (account_of machine.now) source request)) buffer.old buffer.new result }
     ensures fits { result ≤ at + 768 }
 {
     match source {
@@ -92,7 +92,7 @@ fn put_request<M: TaggedStore>(
     at: usize,
 ) -> usize
     requires { at + 512 ≤ length buffer.old }
-    ensures written { Writes at (lines_of_parts (request_parts (account_of (held_of M.contents machine.now)) held.0 request)) buffer.old buffer.new result }
+    ensures written { Writes at (lines_of_parts (request_parts (account_of machine.now) held.0 request)) buffer.old buffer.new result }
     ensures fits { result ≤ at + 512 }
 {
     match request {
@@ -151,7 +151,7 @@ fn put_access<M: TaggedStore>(
     at: usize,
 ) -> usize
     requires { at + 768 ≤ length buffer.old }
-    ensures written { Writes at (lines_of_parts (access_parts (account_of (held_of M.contents machine.now)) access)) buffer.old buffer.new result }
+    ensures written { Writes at (lines_of_parts (access_parts (account_of machine.now) access)) buffer.old buffer.new result }
     ensures fits { result ≤ at + 768 }
 {
     match access {

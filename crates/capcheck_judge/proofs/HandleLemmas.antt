@@ -25,26 +25,26 @@ one_held held bytes holds judge is = let e = holds.held_is in cc (is, e)
 
 -- it has taken what the handle's has
 pub held_taken : (held : Held) (bytes : List ℕ) → Holds held bytes → (judge : J) → held ≡ Some judge
-    → HasRead ghosts.contents judge bytes
-held_taken held bytes holds judge is = subst (λ j. HasRead ghosts.contents j bytes) (sym
+    → HasRead judge bytes
+held_taken held bytes holds judge is = subst (λ j. HasRead j bytes) (sym
     (one_held held bytes holds judge is)) holds.taken
 
 -- what its machine holds is what the handle's does
 pub held_state : (held : Held) (bytes : List ℕ) (holds : Holds held bytes) (judge : J) → held ≡ Some judge → (cap : Cap) (key : ℕ)
-    → ((bytes : List ℕ) → (taken : HasRead ghosts.contents judge bytes) → cap ≡ (account_before taken.beginning).state key)
+    → ((bytes : List ℕ) → (taken : HasRead judge bytes) → cap ≡ (account_before taken.beginning).state key)
     → cap ≡ state_behind holds key
 held_state held bytes holds judge is cap key told =
-    subst (λ (j : J). (taken : HasRead ghosts.contents j bytes)
+    subst (λ (j : J). (taken : HasRead j bytes)
     → cap ≡ (account_before taken.beginning).state key) (one_held held bytes holds judge is) (told bytes) holds.taken
 
 -- a judge took a step, by the line that spells it
 pub record Stepped (line : Line) (old new : J) (state : ℕ) : Type 0 where
   pub answers : (state ≡ 0) ⊎ ((state ≡ 2) ⊎ (state ≡ 3))
-  pub taken : state < 3 → (bytes : List ℕ) → HasRead ghosts.contents old bytes → HasRead ghosts.contents new (bytes ++ (spelling line ++ 10 ∷ []))
-  pub goes_on : state ≡ 0 → (bytes : List ℕ) → HasRead ghosts.contents old bytes → BeginsWhole (bytes ++ (spelling line ++ 10 ∷ []))
-  pub at_fault : state ≡ 2 → (bytes : List ℕ) → HasRead ghosts.contents old bytes → BeginsWhole (bytes ++ (spelling line ++ 10 ∷ [])) → ⊥
-  pub unchanged : 2 < state → known_of ghosts.contents new ≡ known_of ghosts.contents old
-  pub no_memory : state ≡ 3 → (bytes : List ℕ) → HasRead ghosts.contents old bytes → MayLackMemory (bytes ++ (spelling line ++ 10 ∷ [])) []
+  pub taken : state < 3 → (bytes : List ℕ) → HasRead old bytes → HasRead new (bytes ++ (spelling line ++ 10 ∷ []))
+  pub goes_on : state ≡ 0 → (bytes : List ℕ) → HasRead old bytes → BeginsWhole (bytes ++ (spelling line ++ 10 ∷ []))
+  pub at_fault : state ≡ 2 → (bytes : List ℕ) → HasRead old bytes → BeginsWhole (bytes ++ (spelling line ++ 10 ∷ [])) → ⊥
+  pub unchanged : 2 < state → known_of new ≡ known_of old
+  pub no_memory : state ≡ 3 → (bytes : List ℕ) → HasRead old bytes → MayLackMemory (bytes ++ (spelling line ++ 10 ∷ [])) []
 
 -- its answer is small, no yes, and neither that there is no judge nor that there is no line
 few : (state : ℕ) → (state ≡ 0) ⊎ ((state ≡ 2) ⊎ (state ≡ 3)) → state < 4

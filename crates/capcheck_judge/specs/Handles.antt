@@ -35,13 +35,13 @@ held_in handle = handle.judge
 -- all that the judge of a handle knows, where there is one
 abbrev pub known_in : Held → Option Known
 known_in None = None
-known_in (Some judge) = Some (known_of ghosts.contents judge)
+known_in (Some judge) = Some (known_of judge)
 
 -- a handle holds a judge that has taken these bytes
 pub record Holds (held : Held) (bytes : List ℕ) : Type 0 where
   pub judge : RattleType.Denot (judge_row store_row ghosts)
   pub held_is : held ≡ Some judge
-  pub taken : HasRead ghosts.contents judge bytes
+  pub taken : HasRead judge bytes
 
 -- what the machine holds behind these bytes, or before their line at fault
 abbrev pub state_behind : {held : Held} {bytes : List ℕ} → Holds held bytes → State

@@ -117,15 +117,15 @@ pub extern "C" fn capcheck_judge_close(alloc: Global, judge: &mut Handle)
 /// Hands a line to a judge: 0, 2, 3 or 5, as [`capcheck_judge_line`] says.
 fn take_line(judge: &mut Judge<PageStore>, line: &[u8]) -> u8
     ensures answers { (result ≡ 0) ⊎ (result ≡ 2) ⊎ (result ≡ 3) ⊎ (result ≡ 5) }
-    ensures taken { result < 3 → (bytes : List ℕ) → HasRead ⟦<PageStore as TaggedStore>⟧.contents judge.old bytes
-        → HasRead ⟦<PageStore as TaggedStore>⟧.contents judge.new (bytes ++ line.now) }
-    ensures goes_on { result ≡ 0 → (bytes : List ℕ) → HasRead ⟦<PageStore as TaggedStore>⟧.contents judge.old bytes
+    ensures taken { result < 3 → (bytes : List ℕ) → HasRead judge.old bytes
+        → HasRead judge.new (bytes ++ line.now) }
+    ensures goes_on { result ≡ 0 → (bytes : List ℕ) → HasRead judge.old bytes
         → BeginsWhole (bytes ++ line.now) }
-    ensures at_fault { result ≡ 2 → (bytes : List ℕ) → HasRead ⟦<PageStore as TaggedStore>⟧.contents judge.old bytes
+    ensures at_fault { result ≡ 2 → (bytes : List ℕ) → HasRead judge.old bytes
         → BeginsWhole (bytes ++ line.now) → ⊥ }
-    ensures unchanged { 2 < result → known_of ⟦<PageStore as TaggedStore>⟧.contents judge.new
-        ≡ known_of ⟦<PageStore as TaggedStore>⟧.contents judge.old }
-    ensures no_memory { result ≡ 3 → (bytes : List ℕ) → HasRead ⟦<PageStore as TaggedStore>⟧.contents judge.old bytes
+    ensures unchanged { 2 < result → known_of judge.new
+        ≡ known_of judge.old }
+    ensures no_memory { result ≡ 3 → (bytes : List ℕ) → HasRead judge.old bytes
         → MayLackMemory (bytes ++ line.now) [] }
     ensures no_line { (result ≡ 5) ↔ IsNoLine line.now }
 {

@@ -35,7 +35,7 @@ pub extern "C" fn capcheck_judge_report(alloc: Global, judge: &mut Handle, text:
 
 // Writes the report of a judge's line at fault, and answers its length.
 fn write_report(judge: &Judge<PageStore>, text: &mut [u8]) -> u64
-    ensures { (bytes : List ℕ) → HasRead ⟦<PageStore as TaggedStore>⟧.contents judge.now bytes
+    ensures { (bytes : List ℕ) → HasRead judge.now bytes
         → AnswersReport bytes text.old text.new result }
 {
     let mut sink = TextSink::new(text);

@@ -236,15 +236,15 @@ fn hand_over<I: Instruction>(alloc: Global, judge: &mut Handle, made: Option<I>)
 #[inline(always)]
 fn take_step<I: Instruction>(judge: &mut Judge<PageStore>, step: I) -> u8
     ensures answers { (result ≡ 0) ⊎ (result ≡ 2) ⊎ (result ≡ 3) }
-    ensures taken { result < 3 → (bytes : List ℕ) → HasRead ⟦<PageStore as TaggedStore>⟧.contents judge.old bytes
-        → HasRead ⟦<PageStore as TaggedStore>⟧.contents judge.new (bytes ++ (spelling (line.Step (I.step step)) ++ 10 ∷ [])) }
-    ensures goes_on { result ≡ 0 → (bytes : List ℕ) → HasRead ⟦<PageStore as TaggedStore>⟧.contents judge.old bytes
+    ensures taken { result < 3 → (bytes : List ℕ) → HasRead judge.old bytes
+        → HasRead judge.new (bytes ++ (spelling (line.Step (I.step step)) ++ 10 ∷ [])) }
+    ensures goes_on { result ≡ 0 → (bytes : List ℕ) → HasRead judge.old bytes
         → BeginsWhole (bytes ++ (spelling (line.Step (I.step step)) ++ 10 ∷ [])) }
-    ensures at_fault { result ≡ 2 → (bytes : List ℕ) → HasRead ⟦<PageStore as TaggedStore>⟧.contents judge.old bytes
+    ensures at_fault { result ≡ 2 → (bytes : List ℕ) → HasRead judge.old bytes
         → BeginsWhole (bytes ++ (spelling (line.Step (I.step step)) ++ 10 ∷ [])) → ⊥ }
-    ensures unchanged { 2 < result → known_of ⟦<PageStore as TaggedStore>⟧.contents judge.new
-        ≡ known_of ⟦<PageStore as TaggedStore>⟧.contents judge.old }
-    ensures no_memory { result ≡ 3 → (bytes : List ℕ) → HasRead ⟦<PageStore as TaggedStore>⟧.contents judge.old bytes
+    ensures unchanged { 2 < result → known_of judge.new
+        ≡ known_of judge.old }
+    ensures no_memory { result ≡ 3 → (bytes : List ℕ) → HasRead judge.old bytes
         → MayLackMemory (bytes ++ (spelling (line.Step (I.step step)) ++ 10 ∷ [])) [] }
 {
     match judge.take_step(step) {

@@ -1,21 +1,21 @@
 use Rattle.std.proofs.Common.{◌≡◌, ◌+◌, ◌^◌, refl, subst, ◌∙◌, arith}
-use Rattle.cap_machine.specs.Helds.{held_of, account_of}
+use Rattle.cap_machine.specs.Helds.{account_of}
 use Rattle.cap_judge.proofs.OriginLemmas.{no_lines, one_more, stopped, skip_granules, skip_rest}
 use Rattle.cap_judge.proofs.origins.push_granules.Goals as goal
 
 pub loop-granule-init : goal.loop-granule-init
 loop-granule-init g c = record {
   taken = subst (λ text. g.K.Sink.took c.args.sink.now c.args.sink.now text)
-      (no_lines (account_of (held_of g.M.TaggedStore.contents c.args.machine.now)).origin 32) (g.met.K.Sink.nothing c.args.sink.now);
+      (no_lines (account_of c.args.machine.now).origin 32) (g.met.K.Sink.nothing c.args.sink.now);
   counted = refl;
   inside = omega arith;
 }
 
 pub returns-in-Err-clause-err : goal.returns-in-Err-clause-err
 returns-in-Err-clause-err g c =
-    let origins = (account_of (held_of g.M.TaggedStore.contents c.args.machine.now)).origin in
+    let origins = (account_of c.args.machine.now).origin in
     let granule = c.in-Some.granule in
-    let held = held_of g.M.TaggedStore.contents c.args.machine.now in
+    let held = c.args.machine.now in
     let next = c.in-Some.ensures.next in
     let below = c.in-Some.ensures.in_memory in
     let here : granule + 32 ≡ 32 + granule = omega arith in
@@ -30,9 +30,9 @@ returns-in-Err-clause-err g c =
 
 pub loop-granule-preserved : goal.loop-granule-preserved
 loop-granule-preserved g c =
-    let origins = (account_of (held_of g.M.TaggedStore.contents c.args.machine.now)).origin in
+    let origins = (account_of c.args.machine.now).origin in
     let granule = c.in-Some.granule in
-    let held = held_of g.M.TaggedStore.contents c.args.machine.now in
+    let held = c.args.machine.now in
     let next = c.in-Some.ensures.next in
     let below = c.in-Some.ensures.in_memory in
     let here : granule + 32 ≡ 32 + granule = omega arith in
@@ -49,5 +49,5 @@ loop-granule-preserved g c =
 pub returns-clause-ok : goal.returns-clause-ok
 returns-clause-ok g c =
     subst (λ text. g.K.Sink.took c.args.sink.now c.loop-granule.sink text)
-    (skip_rest (held_of g.M.TaggedStore.contents c.args.machine.now) c.loop-granule.from (2 ^ 60)
+    (skip_rest c.args.machine.now c.loop-granule.from (2 ^ 60)
     c.loop-granule.invariant.inside c.in_default.ensures.next) c.loop-granule.invariant.taken

@@ -1,18 +1,18 @@
 use Rattle.std.proofs.Common.{◌≡◌, ◌+◌, ◌-◌, refl, subst, ◌∙◌, arith}
-use Rattle.cap_machine.specs.Helds.{held_of, account_of}
+use Rattle.cap_machine.specs.Helds.{account_of}
 use Rattle.cap_judge.proofs.OriginLemmas.{no_lines, one_more, stopped}
 use Rattle.cap_judge.proofs.origins.push_registers.Goals as goal
 
 pub loop-number-init : goal.loop-number-init
 loop-number-init g c = record {
   taken = subst (λ text. g.K.Sink.took c.args.sink.now c.args.sink.now text)
-      (no_lines (account_of (held_of g.M.TaggedStore.contents c.args.machine.now)).origin 1) (g.met.K.Sink.nothing c.args.sink.now);
+      (no_lines (account_of c.args.machine.now).origin 1) (g.met.K.Sink.nothing c.args.sink.now);
   counted = refl;
 }
 
 pub returns-in-Err-clause-err : goal.returns-in-Err-clause-err
 returns-in-Err-clause-err g c =
-    let origins = (account_of (held_of g.M.TaggedStore.contents c.args.machine.now)).origin in
+    let origins = (account_of c.args.machine.now).origin in
     let number = c.loop-number.number in
     let least = c.loop-number.auto.number in
     let less = c.loop-number-test.true in
@@ -26,7 +26,7 @@ returns-in-Err-clause-err g c =
 
 pub loop-number-preserved : goal.loop-number-preserved
 loop-number-preserved g c =
-    let origins = (account_of (held_of g.M.TaggedStore.contents c.args.machine.now)).origin in
+    let origins = (account_of c.args.machine.now).origin in
     let number = c.loop-number.number in
     let least = c.loop-number.auto.number in
     let here : number ≡ 1 + (number - 1) = omega arith in

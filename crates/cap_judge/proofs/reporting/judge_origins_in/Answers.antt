@@ -1,6 +1,5 @@
 use Rattle.std.proofs.Common.{subst}
 use Rattle.std.proofs.lemmas.Result.{err_from_is_err_and}
-use Rattle.cap_machine.specs.Helds.{held_of}
 use Rattle.cap_judge.specs.FaultLines.{bytes_of}
 use Rattle.cap_judge.specs.Judgings.{JudgedBy}
 use Rattle.cap_judge.specs.OriginLists.{report_text}
@@ -10,12 +9,11 @@ use Rattle.cap_judge.proofs.reporting.judge_origins_in.Goals as goal
 
 pub returns-clause-reported : goal.returns-clause-reported
 returns-clause-reported g c =
-    let machine = c.judge_keeping-answer.result.machine in
-    let held = held_of g.M.TaggedStore.contents machine in
+    let held = c.judge_keeping-answer.result.machine in
     let is : IsHeld held = record {
-      coded = machine.coded;
-      zero_is = machine.zero;
-      stored = g.met.M.TaggedStore.are_stored machine.memory;
+      coded = c.kept.ensures.kept.coded;
+      zero_is = c.kept.ensures.kept.zero;
+      stored = c.kept.ensures.stored;
     } in
     let by = subst (λ r. JudgedBy g.S.Source.gave g.S.Source.ended c.args.source.now c.judge_keeping-answer.new.source r held
     (bytes_of c.judge_keeping-answer.result.fault)) c.in_ok-verdict.was c.judge_keeping-answer.ensures.judged in
@@ -32,12 +30,11 @@ returns-clause-reported g c =
 
 pub returns-in_err-push_report-clause-reported : goal.returns-in_err-push_report-clause-reported
 returns-in_err-push_report-clause-reported g c =
-    let machine = c.judge_keeping-answer.result.machine in
-    let held = held_of g.M.TaggedStore.contents machine in
+    let held = c.judge_keeping-answer.result.machine in
     let is : IsHeld held = record {
-      coded = machine.coded;
-      zero_is = machine.zero;
-      stored = g.met.M.TaggedStore.are_stored machine.memory;
+      coded = c.kept.ensures.kept.coded;
+      zero_is = c.kept.ensures.kept.zero;
+      stored = c.kept.ensures.stored;
     } in
     let by = subst (λ r. JudgedBy g.S.Source.gave g.S.Source.ended c.args.source.now c.judge_keeping-answer.new.source r held
     (bytes_of c.judge_keeping-answer.result.fault)) c.in_ok-verdict.was c.judge_keeping-answer.ensures.judged in

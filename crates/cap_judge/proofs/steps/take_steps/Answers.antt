@@ -1,21 +1,19 @@
 use Rattle.std.proofs.Common.{◌++◌, ◌∷◌, [], ℕ, List, Bor, Option, Ok, ap, append_assoc, sym, ◌∙◌, refl, subst}
 use Rattle.cap_log.specs.Lines.{spelling}
 use Rattle.cap_log.specs.declared.lines.Line.TheVariants.{Step}
-use Rattle.cap_machine.specs.Helds.{held_of}
 use Rattle.cap_judge.specs.Readings.{TakesOne}
 use Rattle.cap_judge.proofs.ReachLemmas.{steps_more, steps_none, steps_on}
 use Rattle.cap_judge.proofs.steps.take_steps.Goals as goal
 
 pub steps-init : goal.steps-init
-steps-init g c = record { taken = ([], refl, steps_none (held_of g.M.TaggedStore.contents c.args.machine.now)) }
+steps-init g c = record { taken = ([], refl, steps_none c.args.machine.now) }
 
 pub steps-preserved : goal.steps-preserved
 steps-preserved g c =
-    let contents = g.M.TaggedStore.contents in
-    let first = held_of contents c.args.machine.now in
-    let old = held_of contents c.steps.machine in
-    let middle = held_of contents c.take_usual-end.new.machine in
-    let new = held_of contents c.take_step.new.machine in
+    let first = c.args.machine.now in
+    let old = c.steps.machine in
+    let middle = c.take_usual-end.new.machine in
+    let new = c.take_step.new.machine in
     let so_far = c.steps.invariant.taken in
     let usual = c.take_usual-end.ensures.taken in
     let at = c.take_usual-end.result.0.now in
@@ -34,23 +32,21 @@ steps-preserved g c =
 
 pub returns-in-Some-clause-taken : goal.returns-in-Some-clause-taken
 returns-in-Some-clause-taken g c =
-    let contents = g.M.TaggedStore.contents in
-    let first = held_of contents c.args.machine.now in
-    let old = held_of contents c.steps.machine in
-    let middle = held_of contents c.take_usual-end.new.machine in
+    let first = c.args.machine.now in
+    let old = c.steps.machine in
+    let middle = c.take_usual-end.new.machine in
     let so_far = c.steps.invariant.taken in
     let usual = c.take_usual-end.ensures.taken in
     steps_on first old middle c.args.bytes.now so_far.0 c.steps.rest.now usual.0 c.take_usual-end.result.0.now so_far.1 so_far.2 usual.1 usual.2
 
 pub returns-in-Ok-None-clause-taken : goal.returns-in-Ok-None-clause-taken
 returns-in-Ok-None-clause-taken g c =
-    let contents = g.M.TaggedStore.contents in
-    let first = held_of contents c.args.machine.now in
-    let old = held_of contents c.steps.machine in
-    let middle = held_of contents c.take_usual-end.new.machine in
+    let first = c.args.machine.now in
+    let old = c.steps.machine in
+    let middle = c.take_usual-end.new.machine in
     let so_far = c.steps.invariant.taken in
     let usual = c.take_usual-end.ensures.taken in
-    let new = held_of contents c.take_step.new.machine in
+    let new = c.take_step.new.machine in
     let same = subst (λ (t : Option (Bor (List ℕ))). TakesOne middle c.take_usual-end.result.0.now (Ok t) new) c.in-Ok-None.field-0-is
     c.in-Ok-None.ensures in
     rw same
@@ -58,10 +54,9 @@ returns-in-Ok-None-clause-taken g c =
 
 pub returns-in-Err-clause-taken : goal.returns-in-Err-clause-taken
 returns-in-Err-clause-taken g c =
-    let contents = g.M.TaggedStore.contents in
-    let first = held_of contents c.args.machine.now in
-    let old = held_of contents c.steps.machine in
-    let middle = held_of contents c.take_usual-end.new.machine in
+    let first = c.args.machine.now in
+    let old = c.steps.machine in
+    let middle = c.take_usual-end.new.machine in
     let so_far = c.steps.invariant.taken in
     let usual = c.take_usual-end.ensures.taken in
     rw c.in-Err.ensures.1

@@ -1,5 +1,4 @@
 use Rattle.std.proofs.Common.{◌≡◌, ◌++◌, ℕ, List, length}
-use Rattle.cap_machine.specs.Helds.{held_of}
 use Rattle.cap_judge.specs.Readings.{TakesSteps}
 use Rattle.cap_judge.proofs.steps.take_steps.Given as goal
 
@@ -7,7 +6,7 @@ use Rattle.cap_judge.proofs.steps.take_steps.Given as goal
 abbrev pub invariant-steps : goal.invariant-steps
 invariant-steps g l = record {
   taken : (front : List ℕ) × (l.fn.bytes ≡ front ++ l.rest)
-      × TakesSteps (held_of g.M.TaggedStore.contents l.fn.machine) front (held_of g.M.TaggedStore.contents l.machine);
+      × TakesSteps l.fn.machine front l.machine;
 }
 
 -- each step of a rare kind shortens the rest

@@ -2,7 +2,6 @@ use Rattle.std.proofs.Common.{◌≡◌, ◌≢◌, ◌++◌, [], ℕ, List, app
 use Rattle.std.proofs.lemmas.List.Elements.{All-nil}
 use Rattle.cap_log.specs.Front.{IsCut}
 use Rattle.cap_log.specs.Pulled.{items}
-use Rattle.cap_machine.specs.Helds.{held_of}
 use Rattle.cap_judge.specs.FaultLines.{bytes_of}
 use Rattle.cap_judge.specs.Readings.{EndsWith, known_of}
 use Rattle.cap_judge.proofs.SourceLemmas.{closer, ended_judged, fault_judged, given_more, lacking_judged, nothing_clear, nothing_more}
@@ -18,7 +17,7 @@ pieces-init g c =
         subst (λ (b : List ℕ). g.S.Source.gave c.args.source.now c.args.source.now b) none (g.met.S.Source.nothing c.args.source.now),
         c.requires.begun,
       );
-      clear = nothing_clear (known_of g.M.TaggedStore.contents c.args.judge.now) c.requires.begun;
+      clear = nothing_clear (known_of c.args.judge.now) c.requires.begun;
       cut = subst IsCut none (omega arith, All-nil (λ b. b ≢ 10));
       counted = refl;
     }
@@ -29,7 +28,7 @@ returns-in-Ok-eq0-clause-judged g c =
     let ok = c.in-Ok-eq0.ensures.ok in
     let none : length ok.0 ≡ 0 = search rules in
     let end : g.S.Source.ended c.fill.new.source ≡ true = search rules in
-    let held = held_of g.M.TaggedStore.contents c.pieces.judge.machine in
+    let held = c.pieces.judge.machine in
     let now = items c.fill.new.self in
     let cut = subst IsCut (sym (nothing_more (items c.pieces.pulled) ok.0 now ok.2 none)) c.pieces.invariant.cut in
     let shown = c.as_slice.ensures.value in
@@ -43,7 +42,7 @@ pub returns-in-Err-clause-judged : goal.returns-in-Err-clause-judged
 returns-in-Err-clause-judged g c =
     let gave = g.S.Source.gave in
     let here = c.pieces.invariant.here in
-    let known = known_of g.M.TaggedStore.contents c.pieces.judge in
+    let known = known_of c.pieces.judge in
     let given = here.0 ++ items c.pieces.pulled in
     pull_judged gave g.S.Source.ended c.args.source.now c.fill.new.source known.held _ given known here.0 (items c.pieces.pulled)
     here.2 c.pieces.invariant.clear c.pieces.invariant.cut refl
@@ -77,7 +76,7 @@ pieces-smaller g c =
     let taken = c.take_pulled.ensures in
     let stop = rw c.in-Cut.is at taken.2 in
     let some : length ok.0 ≢ 0 = search rules in
-    closer (known_of g.M.TaggedStore.contents c.pieces.judge) (known_of g.M.TaggedStore.contents c.take_pulled.new.judge) here.0 taken.0
+    closer (known_of c.pieces.judge) (known_of c.take_pulled.new.judge) here.0 taken.0
     (items c.pieces.pulled) ok.0 (items c.take_pulled.new.pulled) c.pieces.invariant.clear stop.2 here.2 (stop.0 here.0 here.2).0
     (sym ok.2 ∙ taken.1) c.pieces.invariant.cut stop.1 some
 
@@ -85,7 +84,7 @@ pub returns-in-Fault-clause-judged : goal.returns-in-Fault-clause-judged
 returns-in-Fault-clause-judged g c =
     let here = c.pieces.invariant.here in
     let ok = c.in-Ok.ensures.ok in
-    let new = known_of g.M.TaggedStore.contents c.take_pulled.new.judge in
+    let new = known_of c.take_pulled.new.judge in
     let taken = c.take_pulled.ensures in
     let given = taken.0 ++ items c.take_pulled.new.pulled in
     let stop = rw c.in-Fault.is at taken.2 in

@@ -1,7 +1,6 @@
 use Rattle.std.proofs.Common.{◌≡◌, ◌+◌, ◌-◌, ◌*◌, ◌++◌, ℕ, List, length}
 use Rattle.cap_log.specs.Front.{IsCut}
 use Rattle.cap_log.specs.Pulled.{items}
-use Rattle.cap_machine.specs.Helds.{held_of}
 use Rattle.cap_judge.specs.Readings.{HasRead, IsAtFault}
 use Rattle.cap_judge.proofs.EndingLemmas.{lines_read}
 use Rattle.cap_judge.proofs.streams.judge_source.Given as goal
@@ -9,7 +8,7 @@ use Rattle.cap_judge.proofs.streams.judge_source.Given as goal
 -- what was given was read, but for less than a line, which the pulled holds
 abbrev pub invariant-pieces : goal.invariant-pieces
 invariant-pieces g l = record {
-  here : (taken : List ℕ) × g.S.Source.gave l.fn.source l.source (taken ++ items l.pulled) × HasRead g.M.TaggedStore.contents l.judge taken;
+  here : (taken : List ℕ) × g.S.Source.gave l.fn.source l.source (taken ++ items l.pulled) × HasRead l.judge taken;
   clear : IsAtFault l.judge.stage → ⊥;
   cut : IsCut (items l.pulled);
   counted : g.S.Source.faults l.source ≡ g.S.Source.faults l.fn.source;
@@ -18,4 +17,4 @@ invariant-pieces g l = record {
 -- the limits bound the lines, and each pull gives more of one
 abbrev pub decreases-pieces : goal.decreases-pieces
 decreases-pieces g l =
-    96 * (4294971400 - lines_read l.judge.stage (held_of g.M.TaggedStore.contents l.judge.machine)) + 96 - length (items l.pulled)
+    96 * (4294971400 - lines_read l.judge.stage l.judge.machine) + 96 - length (items l.pulled)

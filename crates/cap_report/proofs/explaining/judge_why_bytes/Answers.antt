@@ -1,5 +1,4 @@
 use Rattle.std.proofs.Common.{subst}
-use Rattle.cap_machine.specs.Helds.{held_of}
 use Rattle.cap_judge.specs.FaultLines.{bytes_of}
 use Rattle.cap_judge.specs.Judgings.{JudgedAll}
 use Rattle.cap_judge.proofs.EscapeLaws.{named}
@@ -9,13 +8,12 @@ use Rattle.cap_report.proofs.explaining.judge_why_bytes.Goals as goal
 
 pub returns-in-Ok-push_why-clause-explained : goal.returns-in-Ok-push_why-clause-explained
 returns-in-Ok-push_why-clause-explained g c =
-    let machine = c.judge_bytes_keeping-answer.result.machine in
-    let held = held_of g.M.TaggedStore.contents machine in
+    let held = c.judge_bytes_keeping-answer.result.machine in
     let text = bytes_of c.judge_bytes_keeping-answer.result.fault in
     let is : IsHeld held = record {
-      coded = machine.coded;
-      zero_is = machine.zero;
-      stored = g.met.M.TaggedStore.are_stored machine.memory;
+      coded = c.kept.ensures.kept.coded;
+      zero_is = c.kept.ensures.kept.zero;
+      stored = c.kept.ensures.stored;
     } in
     let all = subst (λ r. JudgedAll c.args.bytes.now r held text) c.in-Ok.is c.judge_bytes_keeping-answer.ensures.judged in
     let why = c.in-Ok-push_why.ensures.ok in (
@@ -27,13 +25,12 @@ returns-in-Ok-push_why-clause-explained g c =
 
 pub returns-in-Ok-clause-explained : goal.returns-in-Ok-clause-explained
 returns-in-Ok-clause-explained g c =
-    let machine = c.judge_bytes_keeping-answer.result.machine in
-    let held = held_of g.M.TaggedStore.contents machine in
+    let held = c.judge_bytes_keeping-answer.result.machine in
     let text = bytes_of c.judge_bytes_keeping-answer.result.fault in
     let is : IsHeld held = record {
-      coded = machine.coded;
-      zero_is = machine.zero;
-      stored = g.met.M.TaggedStore.are_stored machine.memory;
+      coded = c.kept.ensures.kept.coded;
+      zero_is = c.kept.ensures.kept.zero;
+      stored = c.kept.ensures.stored;
     } in
     let all = subst (λ r. JudgedAll c.args.bytes.now r held text) c.in-Ok.is c.judge_bytes_keeping-answer.ensures.judged in
     let why = c.in-Err-push_why.ensures.err in (

@@ -1,6 +1,5 @@
 use Rattle.std.proofs.Common.{subst}
 use Rattle.std.proofs.lemmas.Result.{err_from_is_err_and}
-use Rattle.cap_machine.specs.Helds.{held_of}
 use Rattle.cap_judge.specs.FaultLines.{bytes_of}
 use Rattle.cap_judge.specs.Judgings.{JudgedBy}
 use Rattle.cap_judge.proofs.ReportLemmas.{IsHeld}
@@ -10,13 +9,12 @@ use Rattle.cap_report.proofs.explaining.judge_why_in.Goals as goal
 
 pub returns-clause-explained : goal.returns-clause-explained
 returns-clause-explained g c =
-    let machine = c.judge_keeping-answer.result.machine in
-    let held = held_of g.M.TaggedStore.contents machine in
+    let held = c.judge_keeping-answer.result.machine in
     let text = bytes_of c.judge_keeping-answer.result.fault in
     let is : IsHeld held = record {
-      coded = machine.coded;
-      zero_is = machine.zero;
-      stored = g.met.M.TaggedStore.are_stored machine.memory;
+      coded = c.kept.ensures.kept.coded;
+      zero_is = c.kept.ensures.kept.zero;
+      stored = c.kept.ensures.stored;
     } in
     let by = subst (λ r. JudgedBy g.S.Source.gave g.S.Source.ended c.args.source.now c.judge_keeping-answer.new.source r held text)
     c.in_ok-verdict.was c.judge_keeping-answer.ensures.judged in
@@ -35,13 +33,12 @@ returns-clause-explained g c =
 
 pub returns-in_err-push_why-clause-explained : goal.returns-in_err-push_why-clause-explained
 returns-in_err-push_why-clause-explained g c =
-    let machine = c.judge_keeping-answer.result.machine in
-    let held = held_of g.M.TaggedStore.contents machine in
+    let held = c.judge_keeping-answer.result.machine in
     let text = bytes_of c.judge_keeping-answer.result.fault in
     let is : IsHeld held = record {
-      coded = machine.coded;
-      zero_is = machine.zero;
-      stored = g.met.M.TaggedStore.are_stored machine.memory;
+      coded = c.kept.ensures.kept.coded;
+      zero_is = c.kept.ensures.kept.zero;
+      stored = c.kept.ensures.stored;
     } in
     let by = subst (λ r. JudgedBy g.S.Source.gave g.S.Source.ended c.args.source.now c.judge_keeping-answer.new.source r held text)
     c.in_ok-verdict.was c.judge_keeping-answer.ensures.judged in

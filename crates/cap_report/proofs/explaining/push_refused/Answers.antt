@@ -11,7 +11,7 @@ use Rattle.cap_report.proofs.explaining.push_refused.Goals as goal
 pub returns-in-Some-clause-ok : goal.returns-in-Some-clause-ok
 returns-in-Some-clause-ok g c =
     let fault = c.in-Some.fault in
-    let held = (known_of g.M.TaggedStore.contents c.args.judge.now).held in
+    let held = (known_of c.args.judge.now).held in
     on_ok c.push_no.result (λ p. λ bytes read. (
       Some (No fault.line fault.refusal),
       verdict_line (No fault.line fault.refusal) ++ p.0,
@@ -24,7 +24,7 @@ returns-in-Some-clause-ok g c =
 pub returns-in-Some-clause-err : goal.returns-in-Some-clause-err
 returns-in-Some-clause-err g c =
     let fault = c.in-Some.fault in
-    let held = (known_of g.M.TaggedStore.contents c.args.judge.now).held in
+    let held = (known_of c.args.judge.now).held in
     on_err c.push_no.result (λ p. λ bytes read. (
       Some (No fault.line fault.refusal),
       verdict_line (No fault.line fault.refusal) ++ p.0,

@@ -1,5 +1,4 @@
 use Rattle.std.proofs.Common.{◌++◌, true, false}
-use Rattle.cap_machine.specs.Helds.{held_of}
 use Rattle.cap_judge.specs.FaultLines.{bytes_of}
 use Rattle.cap_judge.specs.OriginLists.{report_text}
 use Rattle.cap_judge.specs.VerdictLines.{verdict_line}
@@ -8,7 +7,7 @@ use Rattle.cap_report.proofs.explaining.push_why.Goals as goal
 
 pub returns-then-origins-clause-ok : goal.returns-then-origins-clause-ok
 returns-then-origins-clause-ok g c =
-    let held = held_of g.M.TaggedStore.contents c.args.machine.now in
+    let held = c.args.machine.now in
     let line = bytes_of c.args.fault.now in
     on_ok c.push_report.result (λ took. (
       report_text held c.args.verdict.now,
@@ -19,7 +18,7 @@ returns-then-origins-clause-ok g c =
 
 pub returns-else-origins-clause-ok : goal.returns-else-origins-clause-ok
 returns-else-origins-clause-ok g c =
-    let held = held_of g.M.TaggedStore.contents c.args.machine.now in
+    let held = c.args.machine.now in
     let line = bytes_of c.args.fault.now in
     on_ok c.push_verdict.result (λ took. (
       verdict_line c.args.verdict.now,
@@ -30,7 +29,7 @@ returns-else-origins-clause-ok g c =
 
 pub returns-then-origins-clause-err : goal.returns-then-origins-clause-err
 returns-then-origins-clause-err g c =
-    let held = held_of g.M.TaggedStore.contents c.args.machine.now in
+    let held = c.args.machine.now in
     let line = bytes_of c.args.fault.now in
     on_err c.push_report.result (λ part. (
       report_text held c.args.verdict.now,
@@ -41,7 +40,7 @@ returns-then-origins-clause-err g c =
 
 pub returns-else-origins-clause-err : goal.returns-else-origins-clause-err
 returns-else-origins-clause-err g c =
-    let held = held_of g.M.TaggedStore.contents c.args.machine.now in
+    let held = c.args.machine.now in
     let line = bytes_of c.args.fault.now in
     on_err c.push_verdict.result (λ part. (
       verdict_line c.args.verdict.now,
@@ -52,7 +51,7 @@ returns-else-origins-clause-err g c =
 
 pub returns-in-No-clause-ok : goal.returns-in-No-clause-ok
 returns-in-No-clause-ok g c =
-    let held = held_of g.M.TaggedStore.contents c.args.machine.now in
+    let held = c.args.machine.now in
     let line = bytes_of c.args.fault.now in
     on_ok c.push_no.result (λ p. (
       verdict_line c.args.verdict.now ++ p.0,
@@ -63,7 +62,7 @@ returns-in-No-clause-ok g c =
 
 pub returns-in-No-clause-err : goal.returns-in-No-clause-err
 returns-in-No-clause-err g c =
-    let held = held_of g.M.TaggedStore.contents c.args.machine.now in
+    let held = c.args.machine.now in
     let line = bytes_of c.args.fault.now in
     on_err c.push_no.result (λ p. (
       verdict_line c.args.verdict.now ++ p.0,

@@ -3,7 +3,7 @@ use Rattle.cap_log.specs.declared.lines.Line.{Line}
 use Rattle.cap_log.specs.declared.lines.Line.TheVariants as lines
 use Rattle.cap_log.specs.Lines.{Spells}
 use Rattle.cap_log.specs.Written.{Writes-nothing}
-use Rattle.cap_machine.specs.Helds.{account_of, held_of}
+use Rattle.cap_machine.specs.Helds.{account_of}
 use Rattle.cap_report.specs.FaultReports.{known_lines, root_lines}
 use Rattle.cap_report.specs.StepLines.{step_lines}
 use Rattle.cap_report.proofs.DetailLemmas.{details_other, nothing_told, root_form, step_form}
@@ -11,7 +11,7 @@ use Rattle.cap_report.proofs.fault_reports.put_details.Goals as goal
 
 pub returns-in-None : goal.returns-in-None
 returns-in-None g c =
-    let account = account_of (held_of g.M.TaggedStore.contents c.args.machine.now) in
+    let account = account_of c.args.machine.now in
     record {
       fits = omega arith;
       written = (
@@ -26,7 +26,7 @@ returns-in-None g c =
 
 pub returns-in-Version : goal.returns-in-Version
 returns-in-Version g c =
-    let account = account_of (held_of g.M.TaggedStore.contents c.args.machine.now) in
+    let account = account_of c.args.machine.now in
     record {
       fits = omega arith;
       written = (
@@ -43,7 +43,7 @@ returns-in-Version g c =
 
 pub returns-in-Mode : goal.returns-in-Mode
 returns-in-Mode g c =
-    let account = account_of (held_of g.M.TaggedStore.contents c.args.machine.now) in
+    let account = account_of c.args.machine.now in
     record {
       fits = omega arith;
       written = (
@@ -60,7 +60,7 @@ returns-in-Mode g c =
 
 pub returns-in-End : goal.returns-in-End
 returns-in-End g c =
-    let account = account_of (held_of g.M.TaggedStore.contents c.args.machine.now) in
+    let account = account_of c.args.machine.now in
     record {
       fits = omega arith;
       written = (
@@ -77,7 +77,7 @@ returns-in-End g c =
 
 pub returns-in-Root-clause-written : goal.returns-in-Root-clause-written
 returns-in-Root-clause-written g c =
-    let account = account_of (held_of g.M.TaggedStore.contents c.args.machine.now) in
+    let account = account_of c.args.machine.now in
     let spells = subst (Spells c.args.text.now) c.in-Root.is c.in-Some.ensures.some in (
       root_lines account c.in-Root.place c.in-Root.word c.args.refusal,
       details_other account c.args.text.now c.args.refusal _
@@ -90,7 +90,7 @@ returns-in-Root-clause-written g c =
 
 pub returns-in-Step-clause-written : goal.returns-in-Step-clause-written
 returns-in-Step-clause-written g c =
-    let account = account_of (held_of g.M.TaggedStore.contents c.args.machine.now) in
+    let account = account_of c.args.machine.now in
     let spells = subst (Spells c.args.text.now) c.in-Step.is c.in-Some.ensures.some in (
       step_lines account c.in-Step.step c.args.refusal,
       details_other account c.args.text.now c.args.refusal _ c.in_default.not-BadHeader

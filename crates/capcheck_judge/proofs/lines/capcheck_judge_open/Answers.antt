@@ -10,5 +10,5 @@ returns-in-Ok-clause-opened c = λ _.
     record {
       judge = c.in-Ok.opened.value;
       held_is = c.put.ensures;
-      taken = subst (λ (j : J). HasRead ghosts.contents j []) (sym same) c.over_pages.ensures.read;
+      taken = subst (λ (j : J). HasRead j []) (sym same) c.over_pages.ensures.read;
     }

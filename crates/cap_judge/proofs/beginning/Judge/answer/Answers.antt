@@ -8,11 +8,11 @@ use Rattle.cap_judge.proofs.beginning.Judge.answer.Goals as goal
 pub returns-in-Refused-clause-stands : goal.returns-in-Refused-clause-stands
 returns-in-Refused-clause-stands g c = λ bytes read.
     subst (λ (verdict : Verdict). Stands bytes (Some verdict)) (sym c.verdict.ensures.value)
-    (stands_no (known_of g.M.TaggedStore.contents c.args.self.now) c.in-Refused.fault bytes c.in-Refused.is read)
+    (stands_no (known_of c.args.self.now) c.in-Refused.fault bytes c.in-Refused.is read)
 
 pub returns-in-Refused-clause-none : goal.returns-in-Refused-clause-none
 returns-in-Refused-clause-none g c = λ bytes read begun.
-    absurd (not_at_fault (known_of g.M.TaggedStore.contents c.args.self.now) c.in-Refused.fault bytes c.in-Refused.is read begun)
+    absurd (not_at_fault (known_of c.args.self.now) c.in-Refused.fault bytes c.in-Refused.is read begun)
 
 pub returns-in-Refused-clause-escape : goal.returns-in-Refused-clause-escape
 returns-in-Refused-clause-escape g c = named c.verdict.result
@@ -20,7 +20,7 @@ returns-in-Refused-clause-escape g c = named c.verdict.result
 pub returns-in_default : goal.returns-in_default
 returns-in_default g c = record {
   stands = λ bytes read.
-      begins (known_of g.M.TaggedStore.contents c.args.self.now) bytes (clear_of c.args.self.now.stage c.in_default.not-Refused) read;
+      begins (known_of c.args.self.now) bytes (clear_of c.args.self.now.stage c.in_default.not-Refused) read;
   none = λ bytes read begun. refl;
   escape = tt;
 }

@@ -1,5 +1,4 @@
 use Rattle.std.proofs.Common.{◌++◌, sym, subst}
-use Rattle.cap_machine.specs.Helds.{held_of}
 use Rattle.cap_judge.specs.Verdicts.{IsVerdict}
 use Rattle.cap_judge.proofs.EndingLemmas.{verdict_no, verdict_yes}
 use Rattle.cap_judge.proofs.EscapeLaws.{escapes_exactly}
@@ -9,7 +8,7 @@ use Rattle.cap_judge.proofs.beginning.Judge.end.Goals as goal
 pub returns-in-Ok : goal.returns-in-Ok
 returns-in-Ok g c = record {
   verdict = λ bytes read cut.
-      verdict_yes (held_of g.M.TaggedStore.contents c.args.self.now.machine) (bytes ++ c.args.rest.now) c.ending.result c.in-Ok.verdict
+      verdict_yes c.args.self.now.machine (bytes ++ c.args.rest.now) c.ending.result c.in-Ok.verdict
       c.in-Ok.is (c.ending.ensures.ends bytes read cut);
   authority = λ bytes read. guarded (bytes ++ c.args.rest.now);
   escape = λ bytes read. escapes_exactly (bytes ++ c.args.rest.now) c.in-Ok.verdict;
@@ -19,7 +18,7 @@ pub returns-in-Err : goal.returns-in-Err
 returns-in-Err g c = record {
   verdict = λ bytes read cut.
       subst (IsVerdict (bytes ++ c.args.rest.now)) (sym c.verdict.ensures.value)
-      (verdict_no (held_of g.M.TaggedStore.contents c.args.self.now.machine) (bytes ++ c.args.rest.now) c.ending.result c.in-Err.fault
+      (verdict_no c.args.self.now.machine (bytes ++ c.args.rest.now) c.ending.result c.in-Err.fault
       c.in-Err.is (c.ending.ensures.ends bytes read cut));
   authority = λ bytes read. guarded (bytes ++ c.args.rest.now);
   escape = λ bytes read. escapes_exactly (bytes ++ c.args.rest.now) c.verdict.result;

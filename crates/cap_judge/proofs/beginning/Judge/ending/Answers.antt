@@ -4,4 +4,4 @@ use Rattle.cap_judge.proofs.beginning.Judge.ending.Goals as goal
 
 pub returns-in-Refused-clause-ends : goal.returns-in-Refused-clause-ends
 returns-in-Refused-clause-ends g c = λ bytes read cut.
-    ends_fault (known_of g.M.TaggedStore.contents c.args.self.now) c.in-Refused.fault bytes c.args.rest.now c.in-Refused.is read
+    ends_fault (known_of c.args.self.now) c.in-Refused.fault bytes c.args.rest.now c.in-Refused.is read

@@ -1,4 +1,3 @@
-use Rattle.cap_machine.specs.Helds.{held_of}
 use Rattle.std.proofs.Common.{◌≡◌, arith, rules}
 use Rattle.cap_judge.proofs.ResultLemmas.{ok_part}
 use Rattle.cap_judge.proofs.ReadingLemmas.{root_goes}
@@ -6,8 +5,8 @@ use Rattle.cap_judge.proofs.beginning.Judge.follow_root.Goals as goal
 
 pub returns-clause-ok : goal.returns-clause-ok
 returns-clause-ok g c =
-    let old = held_of g.M.TaggedStore.contents c.args.self.now.machine in
-    let new = held_of g.M.TaggedStore.contents c.declare.new.self in
+    let old = c.args.self.now.machine in
+    let new = c.declare.new.self in
     let counted = c.steps.ensures.value in
     let few : old.steps ≡ 0 = omega arith in
     ok_part c.declare.result _

@@ -1,6 +1,5 @@
-use Rattle.cap_machine.specs.Helds.{held_of}
 use Rattle.cap_judge.proofs.ReadingLemmas.{nothing_read}
 use Rattle.cap_judge.proofs.beginning.Judge.new.Goals as goal
 
 pub returns : goal.returns
-returns g c = record { read = nothing_read (held_of g.M.TaggedStore.contents c.new.result) c.new.ensures.account }
+returns g c = record { read = nothing_read c.new.result c.new.ensures.account }

@@ -1,4 +1,3 @@
-use Rattle.cap_machine.specs.Helds.{held_of}
 use Rattle.std.proofs.Common.{ap, arith, length}
 use Rattle.cap_judge.specs.Logs.{header_lines}
 use Rattle.cap_judge.proofs.ReadingLemmas.{ended_by}
@@ -8,7 +7,7 @@ use Rattle.cap_judge.proofs.beginning.Judge.next_line.Goals as goal
 
 pub returns-in-Body : goal.returns-in-Body
 returns-in-Body g c = λ beginning after.
-    let held = held_of g.M.TaggedStore.contents c.args.self.now.machine in
+    let held = c.args.self.now.machine in
     let number = count_at c.args.self.now.stage stages.Body held beginning c.in-Body.is (λ f. f) after in
     omega (
       arith,
@@ -21,7 +20,7 @@ returns-in-Body g c = λ beginning after.
 
 pub returns-in-Ended : goal.returns-in-Ended
 returns-in-Ended g c = λ beginning after.
-    let held = held_of g.M.TaggedStore.contents c.args.self.now.machine in
+    let held = c.args.self.now.machine in
     let number = count_at c.args.self.now.stage stages.Ended held beginning
     (ended_by c.args.self.now.stage c.requires.clear c.in-Ended.is) (λ f. f) after in
     omega (

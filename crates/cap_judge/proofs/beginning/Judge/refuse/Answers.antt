@@ -8,7 +8,7 @@ use Rattle.cap_judge.proofs.beginning.Judge.refuse.Goals as goal
 
 pub returns-clause-taken : goal.returns-clause-taken
 returns-clause-taken g c =
-    let old = known_of g.M.TaggedStore.contents c.args.self.now in
+    let old = known_of c.args.self.now in
     fault_read old c.fault.result c.args.bytes.now c.requires.clear c.fault.ensures.line
     (fault_front c.args.bytes.now (bytes_of c.fault.result.text) c.fault.ensures.front c.requires.uncut)
     (subst (λ (r : Refusal). EndsAt old c.args.bytes.now (Refused r)) (sym c.fault.ensures.refusal) c.requires.refused)

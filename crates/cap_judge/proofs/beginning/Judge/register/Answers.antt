@@ -7,7 +7,7 @@ use Rattle.cap_judge.proofs.beginning.Judge.register.Goals as goal
 pub returns : goal.returns
 returns g c = record {
   holds = λ bytes read.
-      let known = known_of g.M.TaggedStore.contents c.args.self.now in
+      let known = known_of c.args.self.now in
       c.register.ensures.holds
       ∙ ap (λ (a : Account). a.state c.args.number) (account_stands known.stage known.held read.beginning read.after);
 }

@@ -5,6 +5,6 @@ use Rattle.cap_judge.proofs.beginning.Judge.stop.Goals as goal
 
 pub returns-in-NoMemory-clause-stops : goal.returns-in-NoMemory-clause-stops
 returns-in-NoMemory-clause-stops g c =
-    let known = known_of g.M.TaggedStore.contents c.args.self.now in
+    let known = known_of c.args.self.now in
     stops_lacking known c.args.bytes.now c.requires.clear
     (subst (EndsAt known c.args.bytes.now) c.in-NoMemory.is c.requires.ends)

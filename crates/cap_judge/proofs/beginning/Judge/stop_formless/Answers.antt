@@ -12,7 +12,7 @@ stop-requires-in-Line-clause-uncut g c =
 
 pub returns-in-Cut-clause-stops : goal.returns-in-Cut-clause-stops
 returns-in-Cut-clause-stops g c = (
-  stays (known_of g.M.TaggedStore.contents c.args.self.now),
+  stays (known_of c.args.self.now),
   subst (IsFront c.args.bytes.now) c.in-Cut.is c.front.ensures.found,
   c.requires.clear,
 )

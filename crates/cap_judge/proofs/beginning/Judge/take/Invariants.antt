@@ -6,7 +6,7 @@ use Rattle.cap_judge.proofs.beginning.Judge.take.Given as goal
 abbrev pub invariant-lines : goal.invariant-lines
 invariant-lines g l = record {
   taken : (front : List ℕ) × (l.fn.bytes ≡ front ++ l.rest)
-      × GoesOn (known_of g.M.TaggedStore.contents l.fn.self) front (known_of g.M.TaggedStore.contents l.self);
+      × GoesOn (known_of l.fn.self) front (known_of l.self);
 }
 
 -- each line shortens the rest

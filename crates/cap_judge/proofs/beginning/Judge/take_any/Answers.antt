@@ -8,7 +8,7 @@ use Rattle.cap_judge.proofs.beginning.Judge.take_any.Goals as goal
 pub returns-then-is_at_fault-clause-err : goal.returns-then-is_at_fault-clause-err
 returns-then-is_at_fault-clause-err g c =
     let at = c.is_at_fault.ensures.at c.if-is_at_fault.true in
-    (read_behind (known_of g.M.TaggedStore.contents c.args.self.now) c.args.bytes.now at, at)
+    (read_behind (known_of c.args.self.now) c.args.bytes.now at, at)
 
 pub stop-requires-clause-uncut : goal.stop-requires-clause-uncut
 stop-requires-clause-uncut g c =

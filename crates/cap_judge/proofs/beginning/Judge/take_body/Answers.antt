@@ -1,4 +1,3 @@
-use Rattle.cap_machine.specs.Helds.{held_of}
 use Rattle.std.proofs.Common.{◌∙◌, Some, ap}
 use Rattle.cap_judge.proofs.EndingLemmas.{end_whole, memory_only, no_line, step_alone, whole_some}
 use Rattle.cap_judge.proofs.beginning.Judge.take_body.Goals as goal
@@ -16,7 +15,7 @@ returns-in-Some-Ok-clause-no_line g c =
 
 pub returns-in-Some-Err-clause-no_line : goal.returns-in-Some-Err-clause-no_line
 returns-in-Some-Err-clause-no_line g c =
-    let old = held_of g.M.TaggedStore.contents c.args.self.now.machine in
+    let old = c.args.self.now.machine in
     let ends = rw (c.in-Some-Err.is ∙ ap Some c.in-Some-Err.field-0-is) at c.take_alone.ensures in
     no_line c.take_end.result c.args.line.now (whole_some c.args.line.now (end_whole old c.args.line.now c.in-Some-Err.end ends.0))
     (memory_only c.take_end.result _ c.take_end.ensures.no_memory)

@@ -1,4 +1,3 @@
-use Rattle.cap_machine.specs.Helds.{held_of}
 use Rattle.std.proofs.Common.{[], ◌≡◌, ◌≢◌, ◌⊎◌, inl, inr, refl, subst, sym}
 use Rattle.cap_judge.specs.declared.beginning.Stage.{Stage}
 use Rattle.cap_judge.specs.declared.beginning.Stop.{Stop}
@@ -10,13 +9,13 @@ use Rattle.cap_judge.proofs.beginning.Judge.take_end.Goals as goal
 
 pub stop-requires-clause-ends : goal.stop-requires-clause-ends
 stop-requires-clause-ends g c =
-    let held = held_of g.M.TaggedStore.contents c.args.self.now.machine in
+    let held = c.args.self.now.machine in
     subst (λ (s : Stage). EndsAt (at s held) c.args.line.now c.args.end) (sym c.requires.body)
     (step_ends held c.args.line.now [] c.args.end c.requires.ends).0
 
 pub returns-in-NoMemory-clause-no_memory : goal.returns-in-NoMemory-clause-no_memory
 returns-in-NoMemory-clause-no_memory g c =
-    let held = held_of g.M.TaggedStore.contents c.args.self.now.machine in
+    let held = c.args.self.now.machine in
     let stop = rw c.in-NoMemory.is at c.stop.ensures.stops in
     (refl, whole_lacks _ _ c.args.line.now (end_whole held c.args.line.now c.args.end c.requires.ends) stop)
 

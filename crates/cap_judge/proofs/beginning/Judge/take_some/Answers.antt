@@ -5,19 +5,17 @@ use Rattle.cap_judge.proofs.beginning.Judge.take_some.Goals as goal
 
 pub returns-in-Some : goal.returns-in-Some
 returns-in-Some g c =
-    let contents = g.M.TaggedStore.contents in
-    let first = known_of contents c.args.self.now in
+    let first = known_of c.args.self.now in
     let taken = c.take_front-end.ensures.taken in (
       taken.0,
       taken.1,
-      stops_after first (known_of contents c.take_front-end.new.self) (known_of contents c.stop.new.self) taken.0 c.take_front-end.result.0.now
+      stops_after first (known_of c.take_front-end.new.self) (known_of c.stop.new.self) taken.0 c.take_front-end.result.0.now
           c.stop.result taken.2 c.stop.ensures.stops,
     )
 
 pub returns-in-Ok : goal.returns-in-Ok
 returns-in-Ok g c =
-    let contents = g.M.TaggedStore.contents in
-    let first = known_of contents c.args.self.now in
+    let first = known_of c.args.self.now in
     let taken = c.take_front-end.ensures.taken in
     let line = c.in-Ok.ensures.ok in
     let text = line.0 ++ 10 ∷ [] in
@@ -27,18 +25,17 @@ returns-in-Ok g c =
           ∙ sym (append_assoc taken.0 text behind),
       (
         feed_some taken.0 line.0,
-        goes_further first (known_of contents c.take_front-end.new.self) (known_of contents c.take_any.new.self) taken.0 text
+        goes_further first (known_of c.take_front-end.new.self) (known_of c.take_any.new.self) taken.0 text
             taken.2 line.2,
       ),
     )
 
 pub returns-in-Err : goal.returns-in-Err
 returns-in-Err g c =
-    let contents = g.M.TaggedStore.contents in
-    let first = known_of contents c.args.self.now in
+    let first = known_of c.args.self.now in
     let taken = c.take_front-end.ensures.taken in (
       taken.0,
       taken.1,
-      stops_after first (known_of contents c.take_front-end.new.self) (known_of contents c.take_any.new.self) taken.0 c.take_front-end.result.0.now
+      stops_after first (known_of c.take_front-end.new.self) (known_of c.take_any.new.self) taken.0 c.take_front-end.result.0.now
           c.in-Err.stop taken.2 c.in-Err.ensures.err,
     )

@@ -3,14 +3,14 @@ use Rattle.cap_log.specs.Heads.{head_spelling}
 use Rattle.cap_log.specs.Lines.{IsInRange, spelling}
 use Rattle.cap_log.specs.Parts.{Begins}
 use Rattle.cap_log.specs.declared.lines.Line.TheVariants.{Step}
-use Rattle.cap_machine.specs.Helds.{AnswersStep, held_of}
+use Rattle.cap_machine.specs.Helds.{AnswersStep}
 use Rattle.cap_judge.proofs.ReachLemmas.{step_answered}
 use Rattle.cap_judge.proofs.steps.AloneByKindMachine.with_kind.Goals as goal
 
 pub returns : goal.returns
 returns g c =
-    let old = held_of g.M.TaggedStore.contents c.args.machine.now in
-    let new = held_of g.M.TaggedStore.contents c.perform_by.new.machine in
+    let old = c.args.machine.now in
+    let new = c.perform_by.new.machine in
     let bytes = head_spelling g.I.Operands.head ++ 32 ∷ c.args.operands.now in
     let read = c.in-Some in
     let step = g.I.Operands.step read.instruction in

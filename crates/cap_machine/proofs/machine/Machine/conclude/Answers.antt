@@ -1,9 +1,9 @@
-use Rattle.std.proofs.Common.{◌≡◌, ◌∙◌, ◌+◌, Bool, ap, refl, rules, slice_set, subst, sym, ℕ}
+use Rattle.std.proofs.Common.{◌≡◌, ◌∙◌, ◌+◌, ◌<◌, Bool, ap, length, refl, rules, slice_set, subst, sym, ℕ}
 use Rattle.std.proofs.lemmas.Result.{err_from_is_err_and}
 use Rattle.cap_word.specs.declared.word.Cap.{Cap}
 use Rattle.cap_ops.specs.Refusals.{refusal_of}
 use Rattle.cap_machine.specs.Changes.{Derives, IsParentsCode, code_for}
-use Rattle.cap_machine.specs.Helds.{Makes, code_in, held_of, state_of}
+use Rattle.cap_machine.specs.Helds.{Held, IsKept, Makes, code_in, state_of}
 use Rattle.cap_machine.specs.Parents.{IsSoundCap}
 use Rattle.cap_machine.specs.Places.{IsCoded}
 use Rattle.cap_machine.specs.Steps.{row_of}
@@ -16,7 +16,7 @@ use Rattle.cap_machine.proofs.machine.Machine.conclude.Goals.{then-derived, else
 
 pub returns-in_err-derived : goal.returns-in_err-derived
 returns-in_err-derived g c =
-    let old = held_of g.M.TaggedStore.contents c.args.self.now in
+    let old = c.args.self.now in
     let fault = c.in_err-derived.field-0.0 in
     let is = err_from_is_err_and c.from_residual.result c.from_residual.ensures.1 in
     rw (is.1, is.2) (concluded_faulted old (g.O.Operands.step c.args.step.now) c.args.target c.args.recorded fault
@@ -25,7 +25,7 @@ returns-in_err-derived g c =
 
 pub returns-then-ne : goal.returns-then-ne
 returns-then-ne g c =
-    let old = held_of g.M.TaggedStore.contents c.args.self.now in
+    let old = c.args.self.now in
     let step = g.O.Operands.step c.args.step.now in
     let derived = c.in_ok-derived.derived in
     let is = concluded old step c.args.target c.args.recorded derived c.requires.writes
@@ -34,7 +34,7 @@ returns-then-ne g c =
 
 pub returns-then-self-ge-MOST_STEPS : goal.returns-then-self-ge-MOST_STEPS
 returns-then-self-ge-MOST_STEPS g c =
-    let old = held_of g.M.TaggedStore.contents c.args.self.now in
+    let old = c.args.self.now in
     let step = g.O.Operands.step c.args.step.now in
     let derived = c.in_ok-derived.derived in
     let is = concluded old step c.args.target c.args.recorded derived c.requires.writes
@@ -43,9 +43,9 @@ returns-then-self-ge-MOST_STEPS g c =
 
 pub invariant_of-self : goal.invariant_of-self
 invariant_of-self g c =
-    let machine = c.args.self.now in
+    let machine = c.self.inside in
     let memory = g.M.TaggedStore.contents machine.memory in
-    let old = held_of g.M.TaggedStore.contents machine in
+    let old = c.args.self.now in
     let step = g.O.Operands.step c.args.step.now in
     let target = c.args.target in
     let recorded = c.args.recorded in
@@ -61,20 +61,22 @@ invariant_of-self g c =
       | then-derived w ↦ w.self-is ∙ sym (ap (λ (b : Bool). code_for b c.args.code) w.if-derived.true)
       | else-derived w ↦ w.self-is ∙ sym (ap (λ (b : Bool). code_for b c.args.code) w.if-derived.false)
     ] in
-    let sound = subst IsSoundCap same (result_sound (state_of old) parent _ derived machine.sound within) in
+    let kept = subst (λ (held : Held). IsKept held.registers held.codes held.memory) c.self.view_is c.self.invariant in
+    let sound = subst IsSoundCap same (result_sound (state_of old) parent _ derived kept.sound within) in
     let coded = subst (IsCoded derived.tag) (sym code_is)
-    (result_coded (state_of old) (code_in old) parent _ derived c.args.code machine.coded within (parents derived refl)) in
+    (result_coded (state_of old) (code_in old) parent _ derived c.args.code kept.coded within (parents derived refl)) in
     rw (c.overwrite.ensures, c.number-target.ensures.number) (record {
-      zero = zero_register machine.registers target recorded c.number-target.ensures.range.0 machine.zero;
-      sound = sound_register machine.registers memory target recorded (search rules) c.number-target.ensures.range.1 machine.sound sound;
+      sized = search rules;
+      zero = zero_register machine.registers target recorded c.number-target.ensures.range.0 c.self.invariant.zero;
+      sound = sound_register machine.registers memory target recorded (search rules) c.number-target.ensures.range.1 c.self.invariant.sound sound;
       coded = coded_register machine.registers machine.codes memory target recorded c.if-derived.self
           (search rules) (search rules)
-          c.number-target.ensures.range.1 machine.coded (subst (λ (cap : Cap). IsCoded cap.tag c.if-derived.self) same coded);
+          c.number-target.ensures.range.1 c.self.invariant.coded (subst (λ (cap : Cap). IsCoded cap.tag c.if-derived.self) same coded);
     })
 
 pub returns : goal.returns
 returns g c =
-    let old = held_of g.M.TaggedStore.contents c.args.self.now in
+    let old = c.args.self.now in
     let step = g.O.Operands.step c.args.step.now in
     let target = c.args.target in
     let recorded = c.args.recorded in
@@ -89,7 +91,12 @@ returns g c =
       | then-derived w ↦ w.self-is ∙ sym (ap (λ (b : Bool). code_for b c.args.code) w.if-derived.true)
       | else-derived w ↦ w.self-is ∙ sym (ap (λ (b : Bool). code_for b c.args.code) w.if-derived.false)
     ] in
-    rw (c.overwrite.ensures, c.number-target.ensures.number) (subst (λ (code : ℕ). Makes old step (record old {
+    rw (c.overwrite.ensures, c.number-target.ensures.number) (subst (λ (held : Held). Makes old step (record held {
+      registers = slice_set held.registers target recorded;
+      codes = slice_set held.codes target c.if-derived.self;
+      steps = held.steps + 1;
+    })) (sym c.self.view_is)
+    (subst (λ (code : ℕ). Makes old step (record old {
       registers = slice_set old.registers target recorded;
       codes = slice_set old.codes target code;
       steps = old.steps + 1;
@@ -99,5 +106,7 @@ returns g c =
       codes = slice_set old.codes target (code_for derived.tag c.args.code);
       steps = old.steps + 1;
     })) same
-    (concluded_made old step target recorded derived c.args.code is (search rules) (search rules) c.number-target.ensures.range.1 parents like
-    c.if-self-ge-MOST_STEPS.false)))
+    (concluded_made old step target recorded derived c.args.code is
+    (subst (λ (held : Held). length held.registers ≡ 32) c.self.view_is (search rules))
+    (subst (λ (held : Held). length held.codes ≡ 32) c.self.view_is (search rules)) c.number-target.ensures.range.1 parents like
+    (subst (λ (held : Held). held.steps < 4294967295) c.self.view_is c.if-self-ge-MOST_STEPS.false)))))

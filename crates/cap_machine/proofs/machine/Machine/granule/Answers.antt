@@ -4,4 +4,4 @@ use Rattle.cap_machine.specs.Parents.{IsSoundCap}
 use Rattle.cap_machine.proofs.machine.Machine.granule.Goals as goal
 
 pub returns-clause-sound : goal.returns-clause-sound
-returns-clause-sound g c = subst IsSoundCap (sym c.granule_with_code.ensures.holds) (c.args.self.now.sound (granule_key c.args.granule))
+returns-clause-sound g c = subst IsSoundCap (sym c.granule_with_code.ensures.holds) (c.kept.ensures.kept.sound (granule_key c.args.granule))

@@ -8,5 +8,5 @@ use Rattle.cap_machine.proofs.machine.Machine.origin.Goals as goal
 
 pub returns-clause-in_range : goal.returns-clause-in_range
 returns-clause-in_range g c =
-    let coded = c.args.self.now.coded (key_of c.args.place) in
+    let coded = c.kept.ensures.kept.coded (key_of c.args.place) in
     subst (λ (o : Option Place). IfSome o IsPlace) (sym (c.place_at.ensures.value ∙ ap place_at c.code.ensures)) (place_in_range _ coded.1)

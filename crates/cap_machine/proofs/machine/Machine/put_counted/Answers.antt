@@ -9,16 +9,17 @@ use Rattle.cap_machine.proofs.machine.Machine.put_counted.Goals as goal
 
 pub invariant_of-self-2 : goal.invariant_of-self-2
 invariant_of-self-2 g c =
-    let machine = c.args.self.now in
+    let machine = c.self.inside in
     let old = g.M.TaggedStore.contents machine.memory in
     let stored = c.args.stored in
     let entry : Entry = (stored.tag, memory_of stored.word.0, c.args.code) in
     record {
-      zero = machine.zero;
+      sized = c.self.invariant.sized;
+      zero = c.self.invariant.zero;
       sound = subst (λ (m : Granules). IsSoundState (places_of machine.registers m)) (sym c.in_ok-put_capability.ensures.ok)
-          (sound_granule machine.registers old c.args.granule entry machine.sound
+          (sound_granule machine.registers old c.args.granule entry c.self.invariant.sound
           (sound_entry stored c.args.code (search rules) c.requires.sound));
       coded = subst (λ (m : Granules). AreCoded (places_of machine.registers m) (codes_of machine.codes m))
           (sym c.in_ok-put_capability.ensures.ok)
-          (coded_granule machine.registers machine.codes old c.args.granule entry machine.coded c.requires.coded);
+          (coded_granule machine.registers machine.codes old c.args.granule entry c.self.invariant.coded c.requires.coded);
     }

@@ -9,24 +9,26 @@ use Rattle.cap_machine.proofs.machine.Machine.put_value_counted.Goals as goal
 
 pub invariant_of-self-2 : goal.invariant_of-self-2
 invariant_of-self-2 g c =
-    let machine = c.args.self.now in
+    let machine = c.self.inside in
     let old = g.M.TaggedStore.contents machine.memory in
     let entry : Entry = (false, overwritten (bytes_at old c.args.granule) c.args.byte_index (low_bytes c.args.datum.size c.args.datum.value), 0) in
     record {
-      zero = machine.zero;
+      sized = c.self.invariant.sized;
+      zero = c.self.invariant.zero;
       sound = subst (λ (m : Granules). IsSoundState (places_of machine.registers m)) (sym c.in_ok-put_number.ensures.ok)
-          (sound_granule machine.registers old c.args.granule entry machine.sound (untagged_sound _));
+          (sound_granule machine.registers old c.args.granule entry c.self.invariant.sound (untagged_sound _));
       coded =
           subst (λ (m : Granules). AreCoded (places_of machine.registers m) (codes_of machine.codes m)) (sym c.in_ok-put_number.ensures.ok)
-          (coded_granule machine.registers machine.codes old c.args.granule entry machine.coded ((λ _. refl, λ _. refl), lit< tt));
+          (coded_granule machine.registers machine.codes old c.args.granule entry c.self.invariant.coded ((λ _. refl, λ _. refl), lit< tt));
     }
 
 pub invariant_of-self : goal.invariant_of-self
 invariant_of-self g c =
-    let machine = c.args.self.now in
+    let machine = c.self.inside in
     let same = c.in_err-put_number.ensures.err in
     record {
-      zero = machine.zero;
-      sound = subst (λ (m : Granules). IsSoundState (places_of machine.registers m)) (sym same) machine.sound;
-      coded = subst (λ (m : Granules). AreCoded (places_of machine.registers m) (codes_of machine.codes m)) (sym same) machine.coded;
+      sized = c.self.invariant.sized;
+      zero = c.self.invariant.zero;
+      sound = subst (λ (m : Granules). IsSoundState (places_of machine.registers m)) (sym same) c.self.invariant.sound;
+      coded = subst (λ (m : Granules). AreCoded (places_of machine.registers m) (codes_of machine.codes m)) (sym same) c.self.invariant.coded;
     }

@@ -5,13 +5,13 @@ use Rattle.std.specs.Int.{w16}
 use Rattle.cap_ops.specs.Accesses.{access_tests}
 use Rattle.cap_ops.specs.Refusals.{refusal_of}
 use Rattle.cap_ops.specs.Tests.{first_of}
-use Rattle.cap_machine.specs.Helds.{held_of, state_of}
+use Rattle.cap_machine.specs.Helds.{state_of}
 use Rattle.cap_machine.proofs.MadeLemmas.{faulted_as}
 use Rattle.cap_machine.proofs.machine.Machine.reach.Goals as goal
 
 pub returns-in-Err-clause-outcome : goal.returns-in-Err-clause-outcome
 returns-in-Err-clause-outcome g c =
-    let old = held_of g.M.TaggedStore.contents c.args.self.now in
+    let old = c.args.self.now in
     let fault = c.in-Err.fault in
     let fits : FitsSigned w16 c.args.offset = search rules in
     let found : first_of (access_tests (state_of old c.args.authority) c.args.kind c.args.offset c.args.size) ≡ Some (refusal_of fault) =

@@ -1,4 +1,4 @@
-use Rattle.std.proofs.Common.{◌≡◌, ℕ, ◌≤◌, List, length, get_or, sym, ap, subst, ◌∙◌, nat_lt, arith, rules}
+use Rattle.std.proofs.Common.{◌≡◌, ℕ, ◌≤◌, List, length, get_or, sym, ap, subst, ◌∙◌, nat_lt, arith}
 use Rattle.std.proofs.lemmas.Bool.{cond-true, lt-ltb}
 use Rattle.std.proofs.lemmas.List.{get_or_default}
 use Rattle.cap_word.specs.declared.word.Cap.{Cap}
@@ -17,18 +17,19 @@ register_at registers memory number other sized low =
 
 pub returns-clause-holds : goal.returns-clause-holds
 returns-clause-holds g c =
-    let machine = c.args.self.now in
-    register_at machine.registers (g.M.TaggedStore.contents machine.memory) c.args.number _ (search rules) c.requires
+    let machine = c.self.inside in
+    rw (← c.self.view_is) (register_at machine.registers (g.M.TaggedStore.contents machine.memory) c.args.number _ c.self.invariant.sized
+    c.requires)
 
 pub returns-clause-sound : goal.returns-clause-sound
 returns-clause-sound g c =
-    let machine = c.args.self.now in
+    let machine = c.self.inside in
     let memory = g.M.TaggedStore.contents machine.memory in
-    subst IsSoundCap (sym (register_at machine.registers memory c.args.number _ (search rules) c.requires)) (machine.sound c.args.number)
+    subst IsSoundCap (sym (register_at machine.registers memory c.args.number _ c.self.invariant.sized c.requires)) (c.self.invariant.sound c.args.number)
 
 pub returns-clause-zero : goal.returns-clause-zero
 returns-clause-zero g c = λ null.
-    let registers = c.args.self.now.registers in
-    let sized : length registers ≡ 32 = search rules in
+    let registers = c.self.inside.registers in
+    let sized : length registers ≡ 32 = c.self.invariant.sized in
     get_or_default registers c.args.number _ untagged_null (omega arith)
-    ∙ ap (λ (n : ℕ). get_or registers n untagged_null) null ∙ c.args.self.now.zero
+    ∙ ap (λ (n : ℕ). get_or registers n untagged_null) null ∙ c.self.invariant.zero

@@ -1,4 +1,4 @@
-use Rattle.std.proofs.Common.{ℕ, ap, false}
+use Rattle.std.proofs.Common.{ℕ, ap, false, refl}
 use Rattle.std.specs.FinMap as map
 use Rattle.cap_word.specs.declared.word.Cap.{Cap}
 use Rattle.cap_machine.proofs.StateLemmas.{blank_account, blank_code, blank_state}
@@ -19,6 +19,7 @@ invariant_of-result g c =
     let null = ap (λ (n : ℕ). let cap : Cap = record { tag = false; word = record { 0 = n } } in cap) c.null.ensures.value in
     let empty = map.empty_of_len _ c.requires in
     record {
+      sized = refl;
       zero = null;
       sound = IsSoundState-start _ (λ key. blank_state memory _ key empty null);
       coded = coded_blank _ _ (λ key. blank_state memory _ key empty null) (λ key. blank_code memory key empty);
