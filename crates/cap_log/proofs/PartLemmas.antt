@@ -1,6 +1,6 @@
 -- The parts of a line, one by one: each value in range has one short spelling, without a line feed.
 use Rattle.std.proofs.Common.{◌≡◌, ◌≢◌, ℕ, suc, ◌+◌, ◌*◌, ◌%◌, ◌<◌, ◌≤◌, ◌^◌, ℤ, pos, negsuc, Bool, true, false, eqb, List, [], ◌∷◌, ◌++◌}
-use Rattle.std.proofs.Common.{length, get_or, take, drop, sym, ap, subst, ◌∙◌, refl, inl, inr, arith, decimal, codes}
+use Rattle.std.proofs.Common.{length, get_or, take, drop, sym, ap, subst, ◌∙◌, refl, inl, inr, arith, decimal, codes, lit≤}
 use Rattle.std.specs.Fmt.{signed_decimal}
 use Rattle.std.specs.Cmp.Lexicographic.{pointwise}
 use Rattle.std.proofs.lemmas.Bool.{false≢true}
@@ -12,7 +12,7 @@ use Rattle.cap_word.specs.declared.word.Cap.{Cap}
 use Rattle.cap_word.proofs.DigitLemmas.{length-hex_digits, pow_256}
 use Rattle.cap_log.specs.Lines.{IsDataSize, IsDataValue, IsNumber, IsOffset, IsPlace, IsRegister, IsTarget, IsWord, place_spelling}
 use Rattle.cap_log.specs.Lines.{register_spelling, tag_spelling}
-use Rattle.cap_log.specs.Parts.{Begins, BeginsWithNone, HasNoSpace, loaded_spelling, result_spelling, stored_spelling}
+use Rattle.cap_log.specs.Parts.{Begins, BeginsWithNone, HasNoSpace, accessed_spelling, result_spelling, value_mark}
 use Rattle.cap_log.specs.Ranges.{IsDatum}
 use Rattle.cap_log.specs.declared.lines.Place.{Place}
 use Rattle.cap_log.specs.declared.lines.Place.TheVariants.{Register, Granule}
@@ -160,40 +160,44 @@ sized_parts s t m n fits fits' value value' size digits =
     let same_value = subst (λ (k : ℕ). IsDataValue k n → hex_digits (2 * s) m ≡ hex_digits (2 * k) n → m ≡ n) same (value-same s m n value) in
     (same, same_value value' digits)
 
--- the ends of loads and stores
-pub loaded-operand : IsOperand IsDatum loaded_spelling 20
-loaded-operand = record {
-  one = λ a b fits fits' e.
-      let cut = same_cut 32 (decimal a.size) (decimal b.size) (61 ∷ 32 ∷ hex_digits (2 * a.size) a.value) (61 ∷ 32 ∷ hex_digits (2 * b.size) b.value)
-      (size-spaceless a.size fits.0) (size-spaceless b.size fits'.0) e in
-      let parts = sized_parts a.size b.size a.value b.value fits.0 fits'.0 fits.1 fits'.1 cut.0 (ap (λ (bs : List ℕ). drop 2 bs) cut.1) in
-      ap (λ (x : ℕ). record { size = x; value = a.value }) parts.0 ∙ ap (λ (y : ℕ). record { size = b.size; value = y }) parts.1;
-  plain = λ a fits.
-      let small = size-small a.size fits.0 in
-      All-append (λ b. b ≢ 10) (decimal a.size) (32 ∷ 61 ∷ 32 ∷ hex_digits (2 * a.size) a.value) (Lacks-decimal 10 a.size (omega arith) (omega arith))
-      (All-append (λ b. b ≢ 10) (codes " = ") (hex_digits (2 * a.size) a.value) (Lacks-by_test 10 (codes " = ") refl)
-      (Lacks-hex 10 (2 * a.size) a.value refl));
-  short = λ a fits.
-      let small = size-small a.size fits.0 in
-      let size = length-decimal-le 1 a.size (omega arith) (omega arith) (omega arith) in
-      omega (arith, length-append (decimal a.size) (32 ∷ 61 ∷ 32 ∷ hex_digits (2 * a.size) a.value), length-hex_digits (2 * a.size) a.value);
-}
+-- what stands before a value
+mark-plain : (is_load : Bool) → Lacks 10 (value_mark is_load)
+mark-plain true = Lacks-by_test 10 (codes "= ") refl
+mark-plain false = Lacks-by_test 10 [] refl
 
-pub stored-operand : IsOperand IsDatum stored_spelling 18
-stored-operand = record {
+mark-short : (is_load : Bool) → length (value_mark is_load) ≤ 2
+mark-short true = lit≤ tt
+mark-short false = lit≤ tt
+
+behind_mark : (is_load : Bool) (x y : List ℕ) → value_mark is_load ++ x ≡ value_mark is_load ++ y → x ≡ y
+behind_mark true x y e = ap (λ (bs : List ℕ). drop 2 bs) e
+behind_mark false x y e = e
+
+-- the ends of loads and stores
+pub accessed-operand : (is_load : Bool) → IsOperand IsDatum (accessed_spelling is_load) 20
+accessed-operand is_load = record {
   one = λ a b fits fits' e.
-      let cut = same_cut 32 (decimal a.size) (decimal b.size) (hex_digits (2 * a.size) a.value) (hex_digits (2 * b.size) b.value) (size-spaceless a.size fits.0)
-      (size-spaceless b.size fits'.0) e in
-      let parts = sized_parts a.size b.size a.value b.value fits.0 fits'.0 fits.1 fits'.1 cut.0 cut.1 in
+      let cut = same_cut 32 (decimal a.size) (decimal b.size) (value_mark is_load ++ hex_digits (2 * a.size) a.value)
+      (value_mark is_load ++ hex_digits (2 * b.size) b.value) (size-spaceless a.size fits.0) (size-spaceless b.size fits'.0) e in
+      let parts = sized_parts a.size b.size a.value b.value fits.0 fits'.0 fits.1 fits'.1 cut.0 (behind_mark is_load _ _ cut.1) in
       ap (λ (x : ℕ). record { size = x; value = a.value }) parts.0 ∙ ap (λ (y : ℕ). record { size = b.size; value = y }) parts.1;
   plain = λ a fits.
       let small = size-small a.size fits.0 in
-      All-append (λ b. b ≢ 10) (decimal a.size) (32 ∷ hex_digits (2 * a.size) a.value) (Lacks-decimal 10 a.size (omega arith) (omega arith))
-      (All-cons (λ b. b ≢ 10) 32 (hex_digits (2 * a.size) a.value) (omega arith) (Lacks-hex 10 (2 * a.size) a.value refl));
+      let digits = hex_digits (2 * a.size) a.value in
+      All-append (λ b. b ≢ 10) (decimal a.size) (32 ∷ (value_mark is_load ++ digits)) (Lacks-decimal 10 a.size (omega arith) (omega arith))
+      (All-cons (λ b. b ≢ 10) 32 (value_mark is_load ++ digits) (omega arith)
+      (All-append (λ b. b ≢ 10) (value_mark is_load) digits (mark-plain is_load) (Lacks-hex 10 (2 * a.size) a.value refl)));
   short = λ a fits.
       let small = size-small a.size fits.0 in
       let size = length-decimal-le 1 a.size (omega arith) (omega arith) (omega arith) in
-      omega (arith, length-append (decimal a.size) (32 ∷ hex_digits (2 * a.size) a.value), length-hex_digits (2 * a.size) a.value);
+      let digits = hex_digits (2 * a.size) a.value in
+      omega (
+        arith,
+        length-append (decimal a.size) (32 ∷ (value_mark is_load ++ digits)),
+        length-append (value_mark is_load) digits,
+        mark-short is_load,
+        length-hex_digits (2 * a.size) a.value,
+      );
 }
 
 -- behind an @ stands the address of a granule

@@ -10,8 +10,7 @@ use Rattle.cap_log.specs.declared.lines.Place.TheVariants.{Register, Granule}
 use Rattle.cap_log.specs.declared.lines.Mode.{Mode}
 use Rattle.cap_log.specs.declared.lines.Mode.TheVariants.{Strict, Clear}
 use Rattle.cap_log.specs.declared.parts.headers.Version.{Version}
-use Rattle.cap_log.specs.declared.parts.sized.Loaded.{Loaded}
-use Rattle.cap_log.specs.declared.parts.sized.Stored.{Stored}
+use Rattle.cap_log.specs.declared.parts.sized.Accessed.{Accessed}
 use Rattle.cap_log.specs.Lines.{IsRegister, IsTarget, IsPlace, IsWord, IsOffset, IsDataSize, IsVersion}
 use Rattle.cap_log.specs.Parts.{FitBoth, IsMode}
 use Rattle.cap_log.specs.Ranges.{Datum, IsDatum}
@@ -162,12 +161,8 @@ data_numbers P decided =
     alike (λ h. (record { size = h.0; value = h.2.0 }, (h.1, h.2.1), h.2.2)) (λ h. (h.0.size, h.1.0, (h.0.value, h.1.1, h.2)))
     (sizes _ (λ size. below (256 ^ size) _ (λ value. decided (record { size = size; value = value }))))
 
-pub loads : Searched Loaded (λ a. IsDatum a.0)
-loads P decided =
-    alike (λ h. (record { 0 = h.0 }, h.1, h.2)) (λ h. (h.0.0, h.1, h.2)) (data_numbers _ (λ d. decided (record { 0 = d })))
-
-pub stores : Searched Stored (λ a. IsDatum a.0)
-stores P decided =
+pub accesses : (n : ℕ) → Searched (Accessed n) (λ a. IsDatum a.0)
+accesses n P decided =
     alike (λ h. (record { 0 = h.0 }, h.1, h.2)) (λ h. (h.0.0, h.1, h.2)) (data_numbers _ (λ d. decided (record { 0 = d })))
 
 a_version : (v : ℕ) → IsVersion v → v < 3

@@ -1,6 +1,6 @@
 -- Lines by their heads: what stands behind each head, and the line that head and operands make.
 use Rattle.std.proofs.Common.{append_assoc, ◌≡◌, ℕ, ◌+◌, ◌≤◌, ◌^◌, List, ◌∷◌, ◌++◌, length, sym, ap, subst, ◌∙◌, refl, arith}
-use Rattle.std.proofs.Common.{inl, inr, decimal, codes, lit≤, if◌then◌else◌}
+use Rattle.std.proofs.Common.{Bool, true, false, inl, inr, decimal, codes, lit≤, if◌then◌else◌}
 use Rattle.std.specs.Fmt.{signed_decimal}
 use Rattle.std.proofs.lemmas.Fmt.{decimal_digit, decimal_injective, length-decimal-le}
 use Rattle.std.specs.Str.{bytes_eq}
@@ -11,9 +11,8 @@ use Rattle.cap_log.specs.Front.{HasNoFeed}
 use Rattle.cap_log.specs.Heads.{IsHead, head_spelling}
 use Rattle.cap_log.specs.Lines.{IsInRange, IsNumber, IsVersion, IsOffset, IsPlace, IsRegister, IsTarget, IsWord, mode_spelling}
 use Rattle.cap_log.specs.Lines.{place_spelling, register_spelling, spelling}
-use Rattle.cap_log.specs.Parts.{Begins, BeginsWithNone, BeginsWithout, FitBoth, IsCount, IsMode, StandsBehind, loaded_spelling}
+use Rattle.cap_log.specs.Parts.{Begins, BeginsWithNone, BeginsWithout, FitBoth, IsCount, IsMode, StandsBehind, accessed_spelling}
 use Rattle.cap_log.specs.Parts.{result_spelling, spaced}
-use Rattle.cap_log.specs.Parts.{stored_spelling}
 use Rattle.cap_log.specs.Ranges.{IsDatum}
 use Rattle.cap_log.specs.declared.kinds.Head.{Head}
 use Rattle.cap_log.specs.declared.kinds.Head.TheVariants as head
@@ -23,15 +22,14 @@ use Rattle.cap_log.specs.declared.lines.Mode.TheVariants as modes
 use Rattle.cap_log.specs.declared.lines.Line.{Line}
 use Rattle.cap_log.specs.declared.lines.Line.TheVariants as line
 use Rattle.cap_log.specs.declared.parts.headers.Version.{Version}
-use Rattle.cap_log.specs.declared.parts.sized.Loaded.{Loaded}
-use Rattle.cap_log.specs.declared.parts.sized.Stored.{Stored}
+use Rattle.cap_log.specs.declared.parts.sized.Accessed.{Accessed}
 use Rattle.cap_log.proofs.Cuts.{Lacks-by_test, same_cut}
 use Rattle.cap_log.specs.Spaceless.{Lacks-head, head-plain, head-spaceless}
 use Rattle.cap_log.proofs.OperandLemmas.{FitBoth-operand, IsOperand, Spaceless, mapped}
-use Rattle.cap_log.proofs.PartLemmas.{Lacks-decimal, count-operand, loaded-operand, number-operand, number-spaceless, offset-operand}
+use Rattle.cap_log.proofs.PartLemmas.{Lacks-decimal, accessed-operand, count-operand, number-operand, number-spaceless, offset-operand}
 use Rattle.cap_log.proofs.PartLemmas.{offset-spaceless, place-operand, place-spaceless, register-operand, register-spaceless}
-use Rattle.cap_log.proofs.PartLemmas.{result-operand, stored-operand, target-operand, word-operand}
-use Rattle.cap_log.proofs.Searches.{Searched, below, caps, loads, modes as both_modes, offsets, pairs, places, registers, stores, targets, versions, words}
+use Rattle.cap_log.proofs.PartLemmas.{result-operand, target-operand, word-operand}
+use Rattle.cap_log.proofs.Searches.{Searched, accesses, below, caps, modes as both_modes, offsets, pairs, places, registers, targets, versions, words}
 
 -- a kind of part: its values, those in range, and their bytes. Each has one spelling, and they can be searched
 pub record Shape : Type 1 where
@@ -71,13 +69,9 @@ abbrev a_result : Shape
 a_result = part (λ (a : Cap). IsWord a.word.0) result_spelling 36
     result-operand caps
 
-abbrev a_load : Shape
-a_load = part (λ (a : Loaded). IsDatum a.0) (λ a. loaded_spelling a.0) 20
-    (mapped IsDatum loaded_spelling 20 loaded-operand (λ a. a.0) (λ x. record { 0 = x }) (λ _. refl)) loads
-
-abbrev a_store : Shape
-a_store = part (λ (a : Stored). IsDatum a.0) (λ a. stored_spelling a.0) 18
-    (mapped IsDatum stored_spelling 18 stored-operand (λ a. a.0) (λ x. record { 0 = x }) (λ _. refl)) stores
+abbrev an_access : (n : ℕ) (is_load : Bool) → Shape
+an_access n is_load = part (λ (a : Accessed n). IsDatum a.0) (λ a. accessed_spelling is_load a.0) 20
+    (mapped IsDatum (accessed_spelling is_load) 20 (accessed-operand is_load) (λ a. a.0) (λ x. record { 0 = x }) (λ _. refl)) (accesses n)
 
 abbrev a_count : Shape
 a_count = part IsCount decimal 10
@@ -180,8 +174,8 @@ row head.SetAddr = target (register (number a_result))
 row head.AndPerm = target (register (number a_result))
 row head.LoadCap = target (register (offset a_result))
 row head.StoreCap = register (register an_offset)
-row head.Load = register (offset a_load)
-row head.Store = register (offset a_store)
+row head.Load = register (offset (an_access 1 true))
+row head.Store = register (offset (an_access 0 false))
 row head.End = a_count
 
 pub row-short : (h : Head) → (row h).most ≤ 80

@@ -1,12 +1,13 @@
 -- Sizes and values behind them: what the readers' answers mean.
-use Rattle.std.proofs.Common.{◌≡◌, ℕ, zero, suc, ◌+◌, ◌*◌, ◌-◌, ◌<◌, ◌≤◌, List, [], ◌∷◌, ◌++◌, length, take, drop, get_or}
-use Rattle.std.proofs.Common.{sym, ap, subst, ◌∙◌, arith, decimal}
+use Rattle.std.proofs.Common.{Bool, ◌≡◌, ℕ, zero, suc, ◌+◌, ◌*◌, ◌-◌, ◌<◌, ◌≤◌, List, [], ◌∷◌, ◌++◌, length, take, drop, get_or}
+use Rattle.std.proofs.Common.{not, eqb, inl, inr, sym, ap, subst, ◌∙◌, arith, decimal}
+use Rattle.std.proofs.lemmas.Bool.Decides.{eqb_tells}
 use Rattle.std.proofs.lemmas.List.{append_assoc, length-append, take_all}
 use Rattle.std.proofs.lemmas.Fmt.{decimal_digit, decimal_injective}
 use Rattle.cap_word.specs.Digits.{hex_digits}
 use Rattle.cap_word.proofs.DigitLemmas.{length-hex_digits}
 use Rattle.cap_log.specs.Ranges.{Datum, IsDataSize, IsDataValue, IsDatum}
-use Rattle.cap_log.specs.Parts.{Begins, BeginsWithNone, Writes, loaded_spelling, stored_spelling}
+use Rattle.cap_log.specs.Parts.{Begins, BeginsWithNone, Writes, accessed_spelling, value_mark}
 use Rattle.cap_log.proofs.Cuts.{same_cut}
 use Rattle.cap_log.proofs.WriteLemmas.{length-Writes}
 use Rattle.cap_log.proofs.PartLemmas.{size-small, size-spaceless}
@@ -46,15 +47,25 @@ same_size m n bytes x y h k =
     (decimal_injective m n (omega (arith, size-small m h.0)) (omega (arith, size-small n k.0)) parts.0, parts.1)
 
 -- the bytes of a load's or a store's end, cut behind its size
-pub loaded_cut : (datum : Datum) (end : ℕ) (bytes rest : List ℕ) → IsDatum datum → bytes ≡ loaded_spelling datum ++ end ∷ rest
-    → Begins IsDataSize decimal 32 bytes datum.size (61 ∷ 32 ∷ (hex_digits (2 * datum.size) datum.value ++ end ∷ rest))
-loaded_cut datum end bytes rest fits e =
-    (fits.0, e ∙ append_assoc (decimal datum.size) (32 ∷ 61 ∷ 32 ∷ hex_digits (2 * datum.size) datum.value) (end ∷ rest))
+pub accessed_cut : (is_load : Bool) (datum : Datum) (end : ℕ) (bytes rest : List ℕ) → IsDatum datum
+    → bytes ≡ accessed_spelling is_load datum ++ end ∷ rest
+    → Begins IsDataSize decimal 32 bytes datum.size (value_mark is_load ++ (hex_digits (2 * datum.size) datum.value ++ end ∷ rest))
+accessed_cut is_load datum end bytes rest fits e =
+    let digits = hex_digits (2 * datum.size) datum.value in (
+      fits.0,
+      e ∙ append_assoc (decimal datum.size) (32 ∷ (value_mark is_load ++ digits)) (end ∷ rest)
+          ∙ ap (λ (bs : List ℕ). decimal datum.size ++ 32 ∷ bs) (append_assoc (value_mark is_load) digits (end ∷ rest)),
+    )
 
-pub stored_cut : (datum : Datum) (end : ℕ) (bytes rest : List ℕ) → IsDatum datum → bytes ≡ stored_spelling datum ++ end ∷ rest
-    → Begins IsDataSize decimal 32 bytes datum.size (hex_digits (2 * datum.size) datum.value ++ end ∷ rest)
-stored_cut datum end bytes rest fits e =
-    (fits.0, e ∙ append_assoc (decimal datum.size) (32 ∷ hex_digits (2 * datum.size) datum.value) (end ∷ rest))
+-- what stands before the value of a load, and of a store
+pub load_mark : (n : ℕ) (digits : List ℕ) → (n ≡ 0 → ⊥) → value_mark (not (eqb n 0)) ++ digits ≡ 61 ∷ 32 ∷ digits
+load_mark n digits some = elim (eqb_tells n 0) [
+  | inl is ↦ absurd (some is.1)
+  | inr other ↦ ap (λ (b : Bool). value_mark (not b) ++ digits) other.0
+]
+
+pub store_mark : (n : ℕ) (digits : List ℕ) → n ≡ 0 → value_mark (not (eqb n 0)) ++ digits ≡ digits
+store_mark n digits none = ap (λ (k : ℕ). value_mark (not (eqb k 0)) ++ digits) none
 
 -- no value of the size that was taken
 pub no_sized : (m n value end : ℕ) (digits rest : List ℕ) → m ≡ n → BeginsWithNone (IsDataValue m) (hex_digits (2 * m)) end digits

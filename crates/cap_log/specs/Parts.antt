@@ -1,6 +1,6 @@
 -- What a reader of a part of a line answers and a writer writes, and the parts themselves. All of it is this profile's own.
 use Rattle.std.specs.Prelude.{◌≡◌, ◌≢◌, ℕ, ◌+◌, ◌*◌, ◌^◌, ◌<◌, ◌≤◌, List, [], ◌∷◌, ◌++◌, length, take, drop, Option}
-use Rattle.std.specs.Prelude.{Some, None, All, codes, decimal, slice_index}
+use Rattle.std.specs.Prelude.{Bool, true, false, Some, None, All, codes, decimal, slice_index}
 use Rattle.std.specs.List.{join_with_byte}
 use Rattle.std.specs.Str.Parse.{AllDigits, digits_value}
 use Rattle.cap_word.specs.Digits.{hex_digits}
@@ -78,13 +78,14 @@ pub record IsFrontNumber (most : ℕ) (bytes : List ℕ) (value count : ℕ) : T
 abbrev pub result_spelling : Cap → List ℕ
 result_spelling result = join_with_byte 32 (result_words result)
 
--- the end of a load: its size, an equals sign and its value
-abbrev pub loaded_spelling : Datum → List ℕ
-loaded_spelling datum = join_with_byte 32 (decimal datum.size ∷ codes "=" ∷ hex_digits (2 * datum.size) datum.value ∷ [])
+-- what stands between the size and the value of a load, or of a store, behind a space
+abbrev pub value_mark : Bool → List ℕ
+value_mark true = codes "= "
+value_mark false = []
 
--- the end of a store: its size and its value
-abbrev pub stored_spelling : Datum → List ℕ
-stored_spelling datum = join_with_byte 32 (decimal datum.size ∷ hex_digits (2 * datum.size) datum.value ∷ [])
+-- the end of a load or a store: its size, an equals sign where it is a load, and its value
+abbrev pub accessed_spelling : Bool → Datum → List ℕ
+accessed_spelling is_load datum = decimal datum.size ++ 32 ∷ (value_mark is_load ++ hex_digits (2 * datum.size) datum.value)
 
 -- new is old with the text written from an index on, up to an end
 pub record Writes (at : ℕ) (text old new : List ℕ) (end : ℕ) : Type 0 where

@@ -18,7 +18,7 @@ use crate::parts::cutting::behind;
 use crate::parts::headers::Version;
 use crate::parts::offsets::Offset;
 use crate::parts::registers::{Register, Target};
-use crate::parts::sized::{Datum, Loaded, Stored};
+use crate::parts::sized::{Accessed, Datum, Loaded, Stored};
 use crate::parts::{Part, Single};
 use cap_word::{Cap, Word};
 
@@ -739,7 +739,7 @@ impl Operands for Load {
 
     #[inline(always)]
     fn into_parts(self) -> Self::Parts {
-        (self.authority, (self.offset, Loaded(self.datum)))
+        (self.authority, (self.offset, Accessed(self.datum)))
     }
 
     fn into_step(self) -> Step {
@@ -780,7 +780,7 @@ impl Operands for Store {
 
     #[inline(always)]
     fn into_parts(self) -> Self::Parts {
-        (self.authority, (self.offset, Stored(self.datum)))
+        (self.authority, (self.offset, Accessed(self.datum)))
     }
 
     fn into_step(self) -> Step {

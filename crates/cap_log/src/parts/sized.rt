@@ -2,7 +2,7 @@
 
 ghost use Rattle.std.specs.Prelude.{◌≡◌, ℕ, ◌*◌, ◌+◌, ◌≤◌, length, List, ◌++◌, decimal, IfSome, IfNone, IsTrue, MatchOption, ◌↔◌};
 ghost use Rattle.cap_word.specs.Digits.{hex_digits};
-ghost use Rattle.cap_log.specs.Parts.{Begins, BeginsWithNone, IsEnd, Writes, loaded_spelling, stored_spelling};
+ghost use Rattle.cap_log.specs.Parts.{Begins, BeginsWithNone, IsEnd, Writes, accessed_spelling};
 ghost use Rattle.cap_log.specs.Ranges.{IsDataSize, IsDataValue, IsDatum};
 
 use crate::buffers::{put, put_few};
@@ -122,67 +122,45 @@ fn fits(size: Size, value: u64) -> bool
     }
 }
 
-/// What a load records: the size, `= ` and the value's digits.
+/// What stands at the end of a load's or a store's line: the size, `= ` where it is a load's, and the value's
+/// digits.
 #[derive(Clone, Copy)]
-pub struct Loaded(pub Datum);
+pub struct Accessed<const IS_LOAD: bool>(pub Datum);
 
-impl Part for Loaded {
-    ghost fits = { λ loaded. IsDatum loaded.0 };
+/// What a load records.
+pub type Loaded = Accessed<true>;
 
-    ghost spelled = { λ loaded. loaded_spelling loaded.0 };
+/// What a store takes.
+pub type Stored = Accessed<false>;
+
+impl<const IS_LOAD: bool> Part for Accessed<IS_LOAD> {
+    ghost fits = { λ accessed. IsDatum accessed.0 };
+
+    ghost spelled = { λ accessed. accessed_spelling IS_LOAD accessed.0 };
 
     #[inline(always)]
-    fn take(bytes: &[u8], end: u8) -> Option<(Loaded, &[u8])> {
+    fn take(bytes: &[u8], end: u8) -> Option<(Self, &[u8])> {
         let (count, rest) = take_size(bytes)?;
         let size = Size { bytes: count };
-        let digits = rest.strip_prefix(b"= ")?;
+        let digits = if IS_LOAD {
+            rest.strip_prefix(b"= ")?
+        } else {
+            rest
+        };
         let (value, rest) = take_value(digits, size, end)?;
-        Some((Loaded(Datum { size, value }), rest))
+        Some((Accessed(Datum { size, value }), rest))
     }
 
     #[inline(always)]
     fn write(&self, buffer: &mut [u8], at: usize) -> usize {
         let size = self.0.size();
         let next = put_few(buffer, at, u16::from(size.bytes()));
-        let digits = put(buffer, next, b" = ");
+        let digits = put(buffer, next, if IS_LOAD { b" = " } else { b" " });
         put_value(buffer, digits, size, self.0.value())
     }
 }
 
-impl Ranged for Loaded {
-    #[inline(always)]
-    fn in_range(self) {
-        self.0.size();
-    }
-}
-
-/// What a store takes: the size and the value's digits.
-#[derive(Clone, Copy)]
-pub struct Stored(pub Datum);
-
-impl Part for Stored {
-    ghost fits = { λ stored. IsDatum stored.0 };
-
-    ghost spelled = { λ stored. stored_spelling stored.0 };
-
-    #[inline(always)]
-    fn take(bytes: &[u8], end: u8) -> Option<(Stored, &[u8])> {
-        let (count, digits) = take_size(bytes)?;
-        let size = Size { bytes: count };
-        let (value, rest) = take_value(digits, size, end)?;
-        Some((Stored(Datum { size, value }), rest))
-    }
-
-    #[inline(always)]
-    fn write(&self, buffer: &mut [u8], at: usize) -> usize {
-        let size = self.0.size();
-        let next = put_few(buffer, at, u16::from(size.bytes()));
-        let digits = put(buffer, next, b" ");
-        put_value(buffer, digits, size, self.0.value())
-    }
-}
-
-impl Ranged for Stored {
+impl<const IS_LOAD: bool> Ranged for Accessed<IS_LOAD> {
     #[inline(always)]
     fn in_range(self) {
         self.0.size();
