@@ -1,5 +1,5 @@
 -- The ranges of a step's numbers. All of it is this profile's own.
-use Rattle.std.specs.Prelude.{◌≡◌, ℕ, ◌^◌, ◌<◌, ◌≤◌, ℤ, pos, negsuc, ◌≤ℤ◌, ◌⊎◌}
+use Rattle.std.specs.Prelude.{◌≡◌, ℕ, zero, suc, ◌^◌, ◌<◌, ◌≤◌, ℤ, pos, negsuc, ◌≤ℤ◌, ◌⊎◌}
 
 -- a register that is read
 abbrev pub IsRegister : ℕ → Type 0
@@ -8,6 +8,11 @@ IsRegister n = n ≤ 31
 -- a register that is written: c0 is not
 abbrev pub IsTarget : ℕ → Type 0
 IsTarget n = (1 ≤ n) × (n ≤ 31)
+
+-- a register from a least one on, as any that is read, from c0, and any that is written, from c1
+abbrev pub IsRegisterFrom : ℕ → ℕ → Type 0
+IsRegisterFrom zero n = IsRegister n
+IsRegisterFrom (suc least) n = (suc least ≤ n) × IsRegister n
 
 -- the offset of an access
 abbrev pub IsOffset : ℤ → Type 0

@@ -13,6 +13,7 @@ use Rattle.cap_word.specs.Digits.{hex_digit, hex_digits}
 use Rattle.cap_log.specs.Heads.{head_spelling}
 use Rattle.cap_log.specs.Lines.{IsOffset, IsPlace, IsRegister, place_spelling, register_spelling}
 use Rattle.cap_log.specs.Parts.{HasNoSpace, Lacks}
+use Rattle.cap_log.specs.Ranges.{IsRegisterFrom}
 use Rattle.cap_log.specs.declared.kinds.Head.{Head}
 use Rattle.cap_log.specs.declared.kinds.Head.TheVariants as head
 use Rattle.cap_log.specs.declared.lines.Place.{Place}
@@ -53,6 +54,14 @@ pub Lacks-hex : (c k n : ℕ) → list_all (λ b. not (eqb b c)) (codes "0123456
 Lacks-hex c k n other = Lacks-hex_digits c k n (Lacks-by_test c (codes "0123456789abcdef") other)
 
 -- registers
+pub register-within : (least n : ℕ) → IsRegisterFrom least n → (least ≤ n) × IsRegister n
+register-within zero n fits = (omega arith, fits)
+register-within (suc least) n fits = fits
+
+pub register-from : (least n : ℕ) → least ≤ n → IsRegister n → IsRegisterFrom least n
+register-from zero n low small = small
+register-from (suc least) n low small = (low, small)
+
 pub Lacks-register : (c n : ℕ) → c ≤ 32 → IsRegister n → Lacks c (register_spelling n)
 Lacks-register c n low small = All-cons (λ b. b ≢ c) 99 (decimal n) (omega arith) (Lacks-decimal c n (omega arith) (omega arith))
 

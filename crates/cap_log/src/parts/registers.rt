@@ -2,9 +2,9 @@
 
 ghost use Rattle.std.specs.Prelude.{◌≡◌, ◌+◌, ◌≤◌, length, IfNone, IfSome, MatchOption};
 ghost use Rattle.cap_log.specs.Lines.{IsPlace, place_spelling, register_spelling};
-ghost use Rattle.cap_log.specs.Ranges.{IsRegister, IsTarget};
+ghost use Rattle.cap_log.specs.Ranges.{IsRegister, IsRegisterFrom};
 ghost use Rattle.cap_log.specs.Parts.{Begins, BeginsWithNone, IsEnd, Writes};
-ghost use Rattle.cap_log.specs.Spaceless.{place-spaceless, register-spaceless};
+ghost use Rattle.cap_log.specs.Spaceless.{place-spaceless, register-spaceless, register-within};
 
 use crate::buffers::{put, put_few};
 use crate::lines::Place;
@@ -18,33 +18,40 @@ const GREATEST_REGISTER: u8 = 31;
 /// The least digit before another one.
 const LEAST_TENS: u8 = 1;
 
-/// A register that a step reads, `c0` to `c31`.
+/// A register from a least one on.
 #[derive(Clone, Copy, Debug, PartialEq, Eq)]
-pub struct Register {
+pub struct RegisterFrom<const LEAST: u8> {
     number: u8,
 }
 
-impl Model for Register {
+/// A register that a step reads, `c0` to `c31`.
+pub type Register = RegisterFrom<0>;
+
+/// A register that a step writes, `c1` to `c31`.
+pub type Target = RegisterFrom<1>;
+
+impl<const LEAST: u8> Model for RegisterFrom<LEAST> {
     ghost use Rattle.std.specs.Prelude.{ℕ};
-    ghost use Rattle.cap_log.specs.Ranges.{IsRegister};
+    ghost use Rattle.cap_log.specs.Ranges.{IsRegisterFrom};
 
     ghost Value = { ℕ };
 
     ghost view = { λ register. register.number };
 
-    ghost invariant = { λ register. IsRegister register.number };
+    ghost invariant = { λ register. IsRegisterFrom LEAST register.number };
 
     ghost inverse = { λ number. record { number = number } };
 }
 
-impl Register {
-    /// The register of this number, or `None` where it is above 31.
+impl<const LEAST: u8> RegisterFrom<LEAST> {
+    /// The register of this number, or `None` where it is below the least or above 31.
     #[inline(always)]
-    pub fn new(number: u64) -> Option<Register>
-        ensures register { MatchOption result (¬ IsRegister number) (λ register. IsRegister number × (register ≡ number)) }
+    pub fn new(number: u64) -> Option<Self>
+        ensures register { MatchOption result (¬ IsRegisterFrom LEAST number)
+            (λ register. IsRegisterFrom LEAST number × (register ≡ number)) }
     {
-        if number <= u64::from(GREATEST_REGISTER) {
-            Some(Register {
+        if number >= u64::from(LEAST) && number <= u64::from(GREATEST_REGISTER) {
+            Some(Self {
                 number: number as u8,
             })
         } else {
@@ -52,99 +59,28 @@ impl Register {
         }
     }
 
-    /// Its number, 0 to 31.
+    /// Its number, the least to 31.
     #[inline(always)]
     pub fn number(self) -> u8
-        ensures number { result ≡ self }
-        ensures range { IsRegister self }
+        ensures number { result ≡ self.entry }
+        ensures range { IsRegisterFrom LEAST self.entry }
     {
         self.number
     }
 }
 
-impl Part for Register {
-    ghost fits = { IsRegister };
+impl<const LEAST: u8> Part for RegisterFrom<LEAST> {
+    ghost fits = { IsRegisterFrom LEAST };
 
     ghost spelled = { register_spelling };
 
     #[inline(always)]
-    fn take(bytes: &[u8], end: u8) -> Option<(Register, &[u8])> {
+    fn take(bytes: &[u8], end: u8) -> Option<(Self, &[u8])> {
         let (number, rest) = take_number(bytes, end)?;
-        Some((Register { number }, rest))
-    }
-
-    #[inline(always)]
-    fn write(&self, buffer: &mut [u8], at: usize) -> usize {
-        write_register(buffer, at, self.number)
-    }
-}
-
-impl Ranged for Register {
-    #[inline(always)]
-    fn in_range(self) {
-        self.number();
-    }
-}
-
-/// The register that no step writes.
-const NULL_REGISTER: u8 = 0;
-
-/// A register that a step writes, `c1` to `c31`.
-#[derive(Clone, Copy, Debug, PartialEq, Eq)]
-pub struct Target {
-    number: u8,
-}
-
-impl Model for Target {
-    ghost use Rattle.std.specs.Prelude.{ℕ};
-    ghost use Rattle.cap_log.specs.Ranges.{IsTarget};
-
-    ghost Value = { ℕ };
-
-    ghost view = { λ target. target.number };
-
-    ghost invariant = { λ target. IsTarget target.number };
-
-    ghost inverse = { λ number. record { number = number } };
-}
-
-impl Target {
-    /// The register of this number, or `None` where it is 0 or above 31.
-    #[inline(always)]
-    pub fn new(number: u64) -> Option<Target>
-        ensures target { MatchOption result (¬ IsTarget number) (λ target. IsTarget number × (target ≡ number)) }
-    {
-        if number > u64::from(NULL_REGISTER) && number <= u64::from(GREATEST_REGISTER) {
-            Some(Target {
-                number: number as u8,
-            })
-        } else {
-            None
-        }
-    }
-
-    /// Its number, 1 to 31.
-    #[inline(always)]
-    pub fn number(self) -> u8
-        ensures number { result ≡ self }
-        ensures range { IsTarget self }
-    {
-        self.number
-    }
-}
-
-impl Part for Target {
-    ghost fits = { IsTarget };
-
-    ghost spelled = { register_spelling };
-
-    #[inline(always)]
-    fn take(bytes: &[u8], end: u8) -> Option<(Target, &[u8])> {
-        let (number, rest) = take_number(bytes, end)?;
-        if number == NULL_REGISTER {
+        if number < LEAST {
             return None;
         }
-        Some((Target { number }, rest))
+        Some((Self { number }, rest))
     }
 
     #[inline(always)]
@@ -153,19 +89,15 @@ impl Part for Target {
     }
 }
 
-impl Ranged for Target {
+impl<const LEAST: u8> Ranged for RegisterFrom<LEAST> {
     #[inline(always)]
     fn in_range(self) {
         self.number();
     }
 }
 
-impl Single for Register {
-    ghost spaceless = { register-spaceless };
-}
-
-impl Single for Target {
-    ghost spaceless = { λ target fits. register-spaceless target fits.1 };
+impl<const LEAST: u8> Single for RegisterFrom<LEAST> {
+    ghost spaceless = { λ register fits. register-spaceless register (register-within LEAST register fits).1 };
 }
 
 impl Single for Place {
