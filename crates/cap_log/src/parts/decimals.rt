@@ -7,12 +7,6 @@ ghost use Rattle.cap_log.specs.Spaceless.{decimal-spaceless};
 use crate::buffers::put_decimal;
 use crate::parts::{Part, Single};
 
-/// The most digits that a number below 2^32 has.
-const COUNT_DIGITS: usize = 10;
-
-/// A count is below this.
-const COUNT_BOUND: u64 = 1 << 32;
-
 /// A count: a decimal number, with no sign and no leading zero.
 impl Part for u32 {
     ghost fits = { IsCount };
@@ -21,7 +15,7 @@ impl Part for u32 {
 
     #[inline(always)]
     fn take(bytes: &[u8], end: u8) -> Option<(u32, &[u8])> {
-        take_decimal(bytes, COUNT_DIGITS, 0, COUNT_BOUND, end)
+        take_decimal::<10, 0, 0x1_0000_0000>(bytes, end)
     }
 
     fn write(&self, buffer: &mut [u8], at: usize) -> usize {
@@ -33,25 +27,22 @@ impl Single for u32 {
     ghost spaceless = { decimal-spaceless };
 }
 
-/// Takes a decimal number from a least one on and below a bound, which leaves it so many digits at most, with
-/// no sign and no leading zero, and the byte that ends it.
+/// Takes a decimal number from `LEAST` on and below `BOUND`, which leaves it `MOST` digits at most, with no
+/// sign and no leading zero, and the byte that ends it.
 #[inline(always)]
-pub fn take_decimal(
+pub fn take_decimal<const MOST: usize, const LEAST: u64, const BOUND: u64>(
     bytes: &[u8],
-    most: usize,
-    least: u64,
-    bound: u64,
     end: u8,
 ) -> Option<(u32, &[u8])>
     requires end { IsEnd end }
-    requires some { 0 < most }
-    requires few { most ≤ 10 }
-    requires bound { bound ≤ 10 ^ most }
-    requires small { bound ≤ 2 ^ 32 }
-    ensures some { IfSome result (λ p. Begins (IsFrom least bound) decimal end bytes.now p.0 p.1.now) }
-    ensures none { IfNone result (BeginsWithNone (IsFrom least bound) decimal end bytes.now) }
+    requires some { 0 < MOST }
+    requires few { MOST ≤ 10 }
+    requires bound { BOUND ≤ 10 ^ MOST }
+    requires small { BOUND ≤ 2 ^ 32 }
+    ensures some { IfSome result (λ p. Begins (IsFrom LEAST BOUND) decimal end bytes.now p.0 p.1.now) }
+    ensures none { IfNone result (BeginsWithNone (IsFrom LEAST BOUND) decimal end bytes.now) }
 {
-    let (value, count) = front_digits(bytes, most);
+    let (value, count) = front_digits(bytes, MOST);
     if count >= bytes.len() {
         return None;
     }
@@ -59,7 +50,7 @@ pub fn take_decimal(
         bytes[0],
         count,
         bytes[count] == end,
-        (least <= value) & (value < bound),
+        (LEAST <= value) & (value < BOUND),
     ) {
         return None;
     }

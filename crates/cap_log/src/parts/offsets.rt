@@ -10,18 +10,6 @@ use crate::parts::decimals::take_decimal;
 use crate::parts::{Part, Ranged, Single};
 use std::marker::Model;
 
-/// The most digits that an offset has.
-const OFFSET_DIGITS: usize = 4;
-
-/// A number without a minus sign is below this.
-const BOUND: u64 = 2048;
-
-/// The least number behind a minus sign.
-const LEAST_NEGATIVE: u64 = 1;
-
-/// A number behind a minus sign is below this.
-const NEGATIVE_BOUND: u64 = 2049;
-
 /// An offset: a decimal number, with a minus sign where it is below 0.
 #[derive(Clone, Copy, Debug, PartialEq, Eq)]
 pub struct Offset {
@@ -75,17 +63,11 @@ impl Part for Offset {
     fn take(bytes: &[u8], end: u8) -> Option<(Offset, &[u8])> {
         let (first, digits) = bytes.split_first()?;
         if *first == b'-' {
-            let (number, rest) = take_decimal(
-                digits,
-                OFFSET_DIGITS,
-                LEAST_NEGATIVE,
-                NEGATIVE_BOUND,
-                end,
-            )?;
+            let (number, rest) = take_decimal::<4, 1, 2049>(digits, end)?;
             let number = -(number as i16);
             return Some((Offset { number }, rest));
         }
-        let (number, rest) = take_decimal(bytes, OFFSET_DIGITS, 0, BOUND, end)?;
+        let (number, rest) = take_decimal::<4, 0, 2048>(bytes, end)?;
         let number = number as i16;
         Some((Offset { number }, rest))
     }
