@@ -394,13 +394,11 @@ value_in held address size stored_all =
     ap (λ (bytes : List ℕ). number_of (take size (drop (address % 16) bytes))) (granule_bytes held (address / 16) stored_all)
 
 -- the number that is read at the address of a load is the value there
-pub value_read : (inside held : Held) (load : Load) (address read : ℕ) → inside ≡ held → AreStored inside.memory
+pub value_read : (held : Held) (load : Load) (address read : ℕ)
     → address ≡ address_through (state_of held) load.authority load.offset
-    → read ≡ number_at (bytes_at inside.memory (address / 16)) (address % 16) load.datum.size
+    → read ≡ value_at (state_of held) address load.datum.size
     → read ≡ value_at (state_of held) (address_through (state_of held) load.authority load.offset) load.datum.size
-value_read inside held load address read same stored_all at is =
-    subst (λ (h : Held). read ≡ value_at (state_of h) address load.datum.size) same
-    (is ∙ sym (value_in inside address load.datum.size stored_all)) ∙ ap (λ (a : ℕ). value_at (state_of held) a load.datum.size) at
+value_read held load address read at is = is ∙ ap (λ (a : ℕ). value_at (state_of held) a load.datum.size) at
 
 -- a load is made
 pub loaded_value : (old : Held) (load : Load)

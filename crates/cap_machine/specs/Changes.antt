@@ -21,7 +21,7 @@ use Rattle.cap_machine.specs.declared.rules.Rules.TheVariants.{TwoStrict}
 use Rattle.cap_machine.specs.declared.ends.StepEnd.{StepEnd}
 use Rattle.cap_machine.specs.declared.ends.StepEnd.TheVariants.{Refused, NoMemory}
 use Rattle.cap_machine.specs.States.{State, granule_key, key_of, tagged, untagged_null}
-use Rattle.cap_machine.specs.declared.operating.OperationParts.{OperationParts}
+use Rattle.cap_machine.specs.declared.instructions.OperationParts.{OperationParts}
 use Rattle.cap_machine.specs.Steps.{Access, Row, Written, access_through, operation, row_of}
 use Rattle.cap_machine.specs.Accounts.{most_steps, is_new, passes_granule_limit}
 use Rattle.cap_machine.specs.Helds.{Held, EndsBy, code_in, state_of, account_of}

@@ -3,29 +3,29 @@
 
 ghost use Rattle.std.specs.Prelude.{◌≡◌, ◌≤◌, List, ℕ, ◌∷◌, ◌++◌};
 ghost use Rattle.cap_log.specs.Heads.{head_spelling};
-ghost use Rattle.cap_log.specs.declared.kinds.Step.{Step};
-ghost use Rattle.cap_machine.specs.Changes.{GivesByTests, IsOperation, result_in};
-ghost use Rattle.cap_machine.specs.Helds.{AnswersStep, state_of};
-ghost use Rattle.cap_machine.specs.Shown.{IsShown, request_of, shown_of};
+ghost use Rattle.cap_log.specs.Lines.{IsStepInRange};
+ghost use Rattle.cap_machine.specs.Changes.{IsOperation, result_in};
+ghost use Rattle.cap_machine.specs.Helds.{AnswersStep, EndsBy, state_of};
+ghost use Rattle.cap_machine.specs.Shown.{IsShown, needs_to_store, request_of, shown_of};
 ghost use Rattle.cap_machine.specs.States.{State};
 ghost use Rattle.cap_machine.specs.Steps.{row_of};
-ghost use Rattle.cap_ops.specs.Operations.{clear_result};
+ghost use Rattle.cap_ops.specs.Operations.{clear_result, set_bounds_result, set_bounds_tests};
+ghost use Rattle.cap_ops.specs.Tests.{first_of};
 
-use crate::accessing::{LOAD, STORE, needs_to_store};
 use crate::ends::StepEnd;
-use crate::granules::number_in;
 use crate::machine::{MOST_STEPS, Machine};
-use crate::operating::{OperationParts, cleared_with_fault, outcome_of, set_bounds_cleared};
+use crate::rules::Rules;
 use crate::shown::{Given, Request, Shown};
 use cap_log::kinds::{
     AndPerm, ClearTag, Load, LoadCap, Move, Seal, SetAddr, SetBounds, SetBoundsExact, Store,
     StoreCap, Unseal,
 };
-use cap_log::{Head, Operands, Place, Step};
+use cap_log::{Head, Operands, Place, Register, Step, Target};
 use cap_ops::{
-    Access, Kind, OpFault, PERMIT_SEAL, PERMIT_UNSEAL, Refusal, and_perm, and_perm_clear,
-    clear_tag, loaded, may_access, seal, seal_clear, set_addr, set_addr_clear, set_bounds_soundly,
-    unseal, unseal_clear,
+    Access, GLOBAL, Kind, OpFault, PERMIT_LOAD, PERMIT_SEAL, PERMIT_STORE, PERMIT_STORE_CAPABILITY,
+    PERMIT_STORE_LOCAL_CAPABILITY, PERMIT_UNSEAL, Refusal, and_perm, and_perm_clear, clear_tag,
+    loaded, may_access, perm_view, seal, seal_clear, set_addr, set_addr_clear, set_bounds_clear,
+    set_bounds_soundly, unseal, unseal_clear,
 };
 use cap_word::Cap;
 use tagmem::TaggedStore;
@@ -34,6 +34,17 @@ use tagmem::TaggedStore;
 const SEAL: u32 = 1 << PERMIT_SEAL;
 
 const UNSEAL: u32 = 1 << PERMIT_UNSEAL;
+
+// The permission that a load needs, as a bit of the view.
+const LOAD: u32 = 1 << PERMIT_LOAD;
+
+// The permission that a store needs.
+const STORE: u32 = 1 << PERMIT_STORE;
+
+// The permissions that storing a capability needs.
+const STORE_CAPABILITY: u32 = 1 << PERMIT_STORE_CAPABILITY;
+
+const STORE_LOCAL_CAPABILITY: u32 = 1 << PERMIT_STORE_LOCAL_CAPABILITY;
 
 /// A kind of step that a machine makes.
 pub trait Instruction: Operands {
@@ -66,15 +77,39 @@ pub trait Operation: Operands {
         ensures request { result.request ≡ request_of (Self.step self) }
         ensures row { (state : State) → IsOperation (row_of state (Self.step self)) result };
 
-    /// Its result, or the first test that holds.
-    fn strict<M: TaggedStore>(self, machine: &Machine<M>) -> Result<Cap, OpFault>
-        ensures outcome { let row = row_of (state_of machine.now) (Self.step self) in
-            GivesByTests row.tests (result_in row.writes) result };
+    /// How it ends by some rules: its result, or the first test that holds. The path by strict rules stands where the step is
+    /// made; the one in clear mode is called.
+    fn outcome<M: TaggedStore>(self, rules: Rules, machine: &Machine<M>) -> Result<Cap, OpFault>
+        ensures ends { let row = row_of (state_of machine.now) (Self.step self) in
+            EndsBy rules row.tests (result_in row.writes) result };
+}
 
-    /// Its result, without a tag where a test holds.
-    fn cleared<M: TaggedStore>(self, machine: &Machine<M>) -> Cap
-        ensures value { let row = row_of (state_of machine.now) (Self.step self) in
-            result ≡ clear_result row.tests (result_in row.writes) };
+/// The parts of an operation from a register to a register.
+#[derive(Clone, Copy)]
+pub struct OperationParts {
+    /// The register that it writes.
+    pub target: Target,
+    /// The register that its result comes from.
+    pub source: Register,
+    /// What it asks for.
+    pub request: Request,
+    /// The result that its line records.
+    pub recorded: Cap,
+}
+
+impl OperationParts {
+    /// These parts.
+    #[inline(always)]
+    pub fn new(target: Target, source: Register, request: Request, recorded: Cap) -> OperationParts
+        ensures value { result ≡ record { target = target; source = source; request = request; recorded = recorded } }
+    {
+        OperationParts {
+            target,
+            source,
+            request,
+            recorded,
+        }
+    }
 }
 
 impl<O: Operation> Instruction for O {
@@ -85,7 +120,7 @@ impl<O: Operation> Instruction for O {
     #[inline(always)]
     fn perform<M: TaggedStore>(self, machine: &mut Machine<M>) -> Result<(), StepEnd> {
         let parts = self.parts();
-        let outcome = outcome_of(self, machine);
+        let outcome = self.outcome(machine.rules, machine);
         let code = machine.codes[parts.source.number() as usize];
         machine.conclude(&self, parts.target, outcome, parts.recorded, code)
     }
@@ -107,6 +142,33 @@ impl<O: Operation> Instruction for O {
     }
 }
 
+// The result of an operation in clear mode, and the first test that holds. Where none does it is that of strict rules.
+fn cleared_with_fault<M: TaggedStore, O: Operation>(
+    operation: O,
+    machine: &Machine<M>,
+) -> (Cap, Option<Refusal>)
+    ensures cap { let row = row_of (state_of machine.now) (O.step operation) in
+        result.0 ≡ clear_result row.tests (result_in row.writes) }
+    ensures fault { let row = row_of (state_of machine.now) (O.step operation) in
+        result.1 ≡ first_of row.tests }
+{
+    let cap = operation.outcome(Rules::TwoClear, machine).unwrap();
+    match operation.outcome(Rules::TwoStrict, machine) {
+        Ok(_) => (cap, None),
+        Err(fault) => (cap, Some(Refusal::from(fault))),
+    }
+}
+
+// A capability with other bounds in clear mode. The call gets a value of its own: so the source needn't stand in memory
+// where it isn't made.
+#[inline(always)]
+fn set_bounds_cleared(source: Cap, length: u64, exact: bool) -> Cap
+    ensures value { result ≡ clear_result (set_bounds_tests source length exact) (set_bounds_result source length) }
+{
+    let Cap { tag, word } = source;
+    set_bounds_clear(Cap { tag, word }, length, exact)
+}
+
 impl Operation for Move {
     #[inline(always)]
     fn parts(self) -> OperationParts {
@@ -114,13 +176,8 @@ impl Operation for Move {
     }
 
     #[inline(always)]
-    fn strict<M: TaggedStore>(self, machine: &Machine<M>) -> Result<Cap, OpFault> {
+    fn outcome<M: TaggedStore>(self, _rules: Rules, machine: &Machine<M>) -> Result<Cap, OpFault> {
         Ok(machine.register(self.source.number()))
-    }
-
-    #[inline(always)]
-    fn cleared<M: TaggedStore>(self, machine: &Machine<M>) -> Cap {
-        machine.register(self.source.number())
     }
 }
 
@@ -131,13 +188,8 @@ impl Operation for ClearTag {
     }
 
     #[inline(always)]
-    fn strict<M: TaggedStore>(self, machine: &Machine<M>) -> Result<Cap, OpFault> {
+    fn outcome<M: TaggedStore>(self, _rules: Rules, machine: &Machine<M>) -> Result<Cap, OpFault> {
         Ok(clear_tag(machine.register(self.source.number())))
-    }
-
-    #[inline(always)]
-    fn cleared<M: TaggedStore>(self, machine: &Machine<M>) -> Cap {
-        clear_tag(machine.register(self.source.number()))
     }
 }
 
@@ -151,13 +203,12 @@ impl Operation for SetBounds {
     }
 
     #[inline(always)]
-    fn strict<M: TaggedStore>(self, machine: &Machine<M>) -> Result<Cap, OpFault> {
-        set_bounds_soundly(machine.register(self.source.number()), self.length, false)
-    }
-
-    #[inline(always)]
-    fn cleared<M: TaggedStore>(self, machine: &Machine<M>) -> Cap {
-        set_bounds_cleared(machine.register(self.source.number()), self.length, false)
+    fn outcome<M: TaggedStore>(self, rules: Rules, machine: &Machine<M>) -> Result<Cap, OpFault> {
+        let source = machine.register(self.source.number());
+        match rules {
+            Rules::TwoClear => Ok(set_bounds_cleared(source, self.length, false)),
+            Rules::One | Rules::TwoStrict => set_bounds_soundly(source, self.length, false),
+        }
     }
 }
 
@@ -171,13 +222,12 @@ impl Operation for SetBoundsExact {
     }
 
     #[inline(always)]
-    fn strict<M: TaggedStore>(self, machine: &Machine<M>) -> Result<Cap, OpFault> {
-        set_bounds_soundly(machine.register(self.source.number()), self.length, true)
-    }
-
-    #[inline(always)]
-    fn cleared<M: TaggedStore>(self, machine: &Machine<M>) -> Cap {
-        set_bounds_cleared(machine.register(self.source.number()), self.length, true)
+    fn outcome<M: TaggedStore>(self, rules: Rules, machine: &Machine<M>) -> Result<Cap, OpFault> {
+        let source = machine.register(self.source.number());
+        match rules {
+            Rules::TwoClear => Ok(set_bounds_cleared(source, self.length, true)),
+            Rules::One | Rules::TwoStrict => set_bounds_soundly(source, self.length, true),
+        }
     }
 }
 
@@ -189,13 +239,12 @@ impl Operation for SetAddr {
     }
 
     #[inline(always)]
-    fn strict<M: TaggedStore>(self, machine: &Machine<M>) -> Result<Cap, OpFault> {
-        set_addr(machine.register(self.source.number()), self.address)
-    }
-
-    #[inline(always)]
-    fn cleared<M: TaggedStore>(self, machine: &Machine<M>) -> Cap {
-        set_addr_clear(machine.register(self.source.number()), self.address)
+    fn outcome<M: TaggedStore>(self, rules: Rules, machine: &Machine<M>) -> Result<Cap, OpFault> {
+        let source = machine.register(self.source.number());
+        match rules {
+            Rules::TwoClear => Ok(set_addr_clear(source, self.address)),
+            Rules::One | Rules::TwoStrict => set_addr(source, self.address),
+        }
     }
 }
 
@@ -206,13 +255,12 @@ impl Operation for AndPerm {
     }
 
     #[inline(always)]
-    fn strict<M: TaggedStore>(self, machine: &Machine<M>) -> Result<Cap, OpFault> {
-        and_perm(machine.register(self.source.number()), self.mask)
-    }
-
-    #[inline(always)]
-    fn cleared<M: TaggedStore>(self, machine: &Machine<M>) -> Cap {
-        and_perm_clear(machine.register(self.source.number()), self.mask)
+    fn outcome<M: TaggedStore>(self, rules: Rules, machine: &Machine<M>) -> Result<Cap, OpFault> {
+        let source = machine.register(self.source.number());
+        match rules {
+            Rules::TwoClear => Ok(and_perm_clear(source, self.mask)),
+            Rules::One | Rules::TwoStrict => and_perm(source, self.mask),
+        }
     }
 }
 
@@ -226,15 +274,13 @@ impl Operation for Seal {
     }
 
     #[inline(always)]
-    fn strict<M: TaggedStore>(self, machine: &Machine<M>) -> Result<Cap, OpFault> {
+    fn outcome<M: TaggedStore>(self, rules: Rules, machine: &Machine<M>) -> Result<Cap, OpFault> {
+        let source = machine.register(self.source.number());
         let authority = machine.register(self.authority.number());
-        seal(machine.register(self.source.number()), authority)
-    }
-
-    #[inline(always)]
-    fn cleared<M: TaggedStore>(self, machine: &Machine<M>) -> Cap {
-        let authority = machine.register(self.authority.number());
-        seal_clear(machine.register(self.source.number()), authority)
+        match rules {
+            Rules::TwoClear => Ok(seal_clear(source, authority)),
+            Rules::One | Rules::TwoStrict => seal(source, authority),
+        }
     }
 }
 
@@ -248,15 +294,13 @@ impl Operation for Unseal {
     }
 
     #[inline(always)]
-    fn strict<M: TaggedStore>(self, machine: &Machine<M>) -> Result<Cap, OpFault> {
+    fn outcome<M: TaggedStore>(self, rules: Rules, machine: &Machine<M>) -> Result<Cap, OpFault> {
+        let source = machine.register(self.source.number());
         let authority = machine.register(self.authority.number());
-        unseal(machine.register(self.source.number()), authority)
-    }
-
-    #[inline(always)]
-    fn cleared<M: TaggedStore>(self, machine: &Machine<M>) -> Cap {
-        let authority = machine.register(self.authority.number());
-        unseal_clear(machine.register(self.source.number()), authority)
+        match rules {
+            Rules::TwoClear => Ok(unseal_clear(source, authority)),
+            Rules::One | Rules::TwoStrict => unseal(source, authority),
+        }
     }
 }
 
@@ -312,8 +356,7 @@ impl Instruction for Load {
         let size = self.datum.size();
         let kind = Kind::LoadData;
         let address = machine.reach(&self, self.authority, kind, self.offset, size.bytes())?;
-        let byte = (address % 16) as u8;
-        let number = number_in(&machine.memory, address / 16, byte, size);
+        let number = machine.value(address, size);
         let recorded = self.datum.value();
         if number != recorded {
             return Err(StepEnd::Refused(Refusal::WrongResult));
@@ -367,6 +410,20 @@ impl Instruction for Store {
     }
 }
 
+// The permissions that storing a capability needs.
+#[tactic(auto, unfolding(cap_ops::specs::Permissions::has_permission))]
+fn needs_to_store(stored: Cap) -> u32
+    ensures value { result ≡ needs_to_store stored }
+{
+    if !stored.tag {
+        STORE
+    } else if (perm_view(stored.word) >> GLOBAL) & 1 == 1 {
+        STORE + STORE_CAPABILITY
+    } else {
+        STORE + STORE_CAPABILITY + STORE_LOCAL_CAPABILITY
+    }
+}
+
 /// What is done with the operands of a step, whatever its kind, to something.
 pub trait ByKind<'a, T> {
     /// What it answers.
@@ -406,36 +463,46 @@ pub fn by_head<'a, T, K: ByKind<'a, T>>(on: &mut T, head: Head, operands: &'a [u
     }
 }
 
-/// What is done with a step, whatever its kind, to something.
-pub trait Deed<T> {
-    /// What it answers.
-    type Answer;
-
-    // What it does.
-    ghost does: { T → Step → Self.Answer → T → Type 0 };
-
-    /// Does it with a step of one kind.
-    fn with_step<I: Instruction>(on: &mut T, step: I) -> Self::Answer
-        ensures done { does on.old (I.step step) result on.new };
+// What is done with a step, whatever its kind.
+macro_rules! by_kind {
+    ($any:expr, $step:ident => $done:expr) => {
+        match $any {
+            Step::Move($step) => $done,
+            Step::ClearTag($step) => $done,
+            Step::SetBounds($step) => $done,
+            Step::SetBoundsExact($step) => $done,
+            Step::SetAddr($step) => $done,
+            Step::AndPerm($step) => $done,
+            Step::Seal($step) => $done,
+            Step::Unseal($step) => $done,
+            Step::LoadCap($step) => $done,
+            Step::StoreCap($step) => $done,
+            Step::Load($step) => $done,
+            Step::Store($step) => $done,
+        }
+    };
 }
 
-/// Does it by the kind of a step.
+/// The numbers of a step are in their ranges.
 #[inline(always)]
-pub fn by_kind<T, D: Deed<T>>(on: &mut T, step: &Step) -> D::Answer
-    ensures done { D.does on.old step.now result on.new }
+pub fn in_range(step: &Step)
+    ensures range { IsStepInRange step.now }
 {
-    match *step {
-        Step::Move(step) => D::with_step(on, step),
-        Step::ClearTag(step) => D::with_step(on, step),
-        Step::SetBounds(step) => D::with_step(on, step),
-        Step::SetBoundsExact(step) => D::with_step(on, step),
-        Step::SetAddr(step) => D::with_step(on, step),
-        Step::AndPerm(step) => D::with_step(on, step),
-        Step::Seal(step) => D::with_step(on, step),
-        Step::Unseal(step) => D::with_step(on, step),
-        Step::LoadCap(step) => D::with_step(on, step),
-        Step::StoreCap(step) => D::with_step(on, step),
-        Step::Load(step) => D::with_step(on, step),
-        Step::Store(step) => D::with_step(on, step),
-    }
+    by_kind!(*step, step => step.in_range())
+}
+
+/// Makes a step, as [`Instruction::perform`] does.
+#[inline(always)]
+pub fn make<M: TaggedStore>(step: &Step, machine: &mut Machine<M>) -> Result<(), StepEnd>
+    ensures outcome { AnswersStep machine.old step.now result machine.new }
+{
+    by_kind!(*step, step => step.perform(machine))
+}
+
+/// What a step shows, as [`Instruction::shown`] does.
+pub fn show<M: TaggedStore>(step: &Step, machine: &Machine<M>) -> Shown
+    ensures shown { result ≡ shown_of (state_of machine.now) step.now }
+    ensures in_range { IsShown result }
+{
+    by_kind!(*step, step => step.shown(machine))
 }

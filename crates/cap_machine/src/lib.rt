@@ -9,19 +9,12 @@
 //! [`origins_are_roots`] are of single steps and of whole runs.
 #![tactic(auto)]
 
-mod accessing;
-mod declaring;
 mod ends;
-mod granules;
-mod holding;
 mod instructions;
 mod laws;
 mod machine;
-mod operating;
-mod places;
 mod rules;
 mod shown;
-mod stepping;
 
 pub use crate::ends::StepEnd;
 pub use crate::instructions::{ByKind, Instruction, by_head};

@@ -1,9 +1,37 @@
-//! The machine: registers and tagged memory, with counts of its roots and steps.
+//! The machine: registers and tagged memory, with counts of its roots and steps. What it holds, how roots are declared and
+//! steps are made, and its accesses to memory.
 
+ghost use Rattle.std.specs.Prelude.{◌≡◌, ◌≢◌, ◌↔◌, ◌<◌, ◌≤◌, ◌+◌, ◌/◌, ◌%◌, ◌^◌, not, nat_le, is_some, MatchResult, OnOk, OnErr};
+ghost use Rattle.std.specs.Prelude.{IfSome, IfOk, IsTrue, None, Err, true, false};
+ghost use Rattle.std.specs.FinMap as map;
+ghost use Rattle.tagmem.specs.Granules.{AreStored, HasRoom, IsCodeFor, IsNextPut, bytes_at, code_at, with_bytes, with_cap};
+ghost use Rattle.cap_word.specs.Memory.{low_bytes, memory_of};
+ghost use Rattle.cap_bounds.specs.Bounds.{IsSound};
+ghost use Rattle.cap_ops.specs.Sizes.{size_fits};
+ghost use Rattle.cap_ops.specs.Tests.{first_of};
+ghost use Rattle.cap_log.specs.Lines.{IsPlace};
+ghost use Rattle.cap_machine.specs.Accounts.{granule_of, is_new, no_account, passes_granule_limit, root_tests};
+ghost use Rattle.cap_machine.specs.Changes.{Derives, EndsPut, IsAccess, IsParentsCode, Placed, WritesRegister};
+ghost use Rattle.cap_machine.specs.Changes.{address_in, is_past_limits, with_cap_put, with_value_put};
+ghost use Rattle.cap_machine.specs.Escapes.{ClearsBeyond, Escapes};
+ghost use Rattle.cap_machine.specs.Helds.{AnswersStep, EndsRoot, EndsStep, IsKept, TakesRoot, account_of, code_in, granule_cap, state_of};
+ghost use Rattle.cap_machine.specs.Parents.{IsSoundCap, StaysWithinParents};
+ghost use Rattle.cap_machine.specs.Places.{IsCoded, place_at};
+ghost use Rattle.cap_machine.specs.Shown.{IsShown, shown_of};
+ghost use Rattle.cap_machine.specs.States.{granule_key, key_of, untagged_null, value_at};
+ghost use Rattle.cap_machine.specs.Steps.{address_through, row_of};
+ghost use Rattle.cap_machine.specs.Values.{number_at};
+
+use crate::ends::StepEnd;
+use crate::instructions::{in_range, make, show};
 use crate::rules::Rules;
-use cap_word::Cap;
+use crate::shown::{Reached, Shown};
+use cap_bounds::sound;
+use cap_log::{Datum, Offset, Operands, Place, Register, Size, Step, Target};
+use cap_ops::{Access, Kind, OpFault, Refusal, may_access_soundly};
+use cap_word::{Cap, Word, from_memory, null, to_memory};
 use std::marker::Model;
-use tagmem::TaggedStore;
+use tagmem::{NoMemory, TaggedStore};
 
 /// The greatest number of roots that a machine takes (this profile's own): past it comes `LimitPassed`.
 pub const MOST_ROOTS: u32 = 4096;
@@ -18,11 +46,11 @@ pub const MOST_STEPS: u32 = u32::MAX;
 #[derive(Drop)]
 pub struct Machine<M: TaggedStore> {
     pub(crate) rules: Rules,
-    pub(crate) registers: [Cap; 32],
+    registers: [Cap; 32],
     // The code of the origin of what each register holds; the store has those of granules.
     pub(crate) codes: [u64; 32],
-    pub(crate) memory: M,
-    pub(crate) roots: u32,
+    memory: M,
+    roots: u32,
     pub(crate) steps: u32,
 }
 
@@ -43,4 +71,557 @@ impl<M: TaggedStore> Model for Machine<M> {
     } };
 
     ghost invariant = { λ machine. IsKept machine.registers machine.codes (M.contents machine.memory) };
+}
+
+impl<M: TaggedStore> Machine<M> {
+    /// A machine by the rules of version 1, as `with_rules` makes it.
+    pub fn new(memory: M) -> Machine<M>
+        requires { map.len (M.contents memory) ≡ 0 }
+        ensures account { account_of result ≡ no_account Rules.One }
+    {
+        Machine::with_rules(memory, Rules::One)
+    }
+
+    /// A machine that holds NULL without a tag everywhere, with no root and no step, over an empty store.
+    /// It takes no memory.
+    pub fn with_rules(memory: M, rules: Rules) -> Machine<M>
+        requires { map.len (M.contents memory) ≡ 0 }
+        ensures account { account_of result ≡ no_account rules }
+    {
+        let nothing = Cap {
+            tag: false,
+            word: null(),
+        };
+        Machine {
+            rules,
+            registers: [nothing; 32],
+            codes: [0; 32],
+            memory,
+            roots: 0,
+            steps: 0,
+        }
+    }
+
+    /// From now on it follows these rules. All else is as before.
+    pub fn follow(&mut self, rules: Rules)
+        ensures held { self.new ≡ record self.old { rules = rules } }
+    {
+        self.rules = rules;
+    }
+
+    /// The rules that it follows.
+    pub fn rules(&self) -> Rules
+        ensures value { result ≡ self.now.rules }
+    {
+        self.rules
+    }
+
+    /// How many steps were made, at most 4,294,967,295.
+    pub fn steps(&self) -> u32
+        ensures value { result ≡ self.now.steps }
+    {
+        self.steps
+    }
+
+    /// How many roots were declared, at most 4,096.
+    pub fn roots(&self) -> u32
+        ensures value { result ≡ self.now.roots }
+    {
+        self.roots
+    }
+
+    /// How many distinct granules roots, `sc` and `store` have named.
+    pub fn granules(&self) -> u32
+        ensures value { result ≡ (let account = account_of self.now in account.granules) }
+    {
+        self.memory.count()
+    }
+
+    /// What is true of every machine. It does nothing: what it says is its contract.
+    #[inline(always)]
+    pub fn kept(&self)
+        ensures kept { IsKept self.now.registers self.now.codes self.now.memory }
+        ensures stored { AreStored self.now.memory }
+    {
+        let _ = &self.memory;
+    }
+
+    /// What a place holds.
+    pub fn holds(&self, place: Place) -> Cap
+        requires { IsPlace place }
+        ensures value { result ≡ state_of self.now (key_of place) }
+    {
+        match place {
+            Place::Register(number) => self.register(number),
+            Place::Granule(granule) => self.granule(granule),
+        }
+    }
+
+    /// The number that the bytes of memory from an address on spell, the least significant first: as many as
+    /// a load of data takes, all in one granule.
+    #[inline(always)]
+    pub fn value(&self, address: u64, size: Size) -> u64
+        requires { address % 16 + size ≤ 16 }
+        ensures value { result ≡ value_at (state_of self.now) address size }
+    {
+        number_in(&self.memory, address / 16, (address % 16) as u8, size)
+    }
+
+    /// What a register holds. Register 0 is c0, which is NULL without a tag.
+    #[inline(always)]
+    pub fn register(&self, number: u8) -> Cap
+        requires { number ≤ 31 }
+        ensures holds { result ≡ state_of self.now number }
+        ensures sound { IsSoundCap result }
+        ensures zero { number ≡ 0 → result ≡ untagged_null }
+    {
+        self.registers[number as usize]
+    }
+
+    /// What a granule holds, which is the sixteen bytes from address `16 * granule` on: NULL without a tag
+    /// where nothing was put.
+    #[inline(always)]
+    pub fn granule(&self, granule: u64) -> Cap
+        requires { granule < 2 ^ 60 }
+        ensures holds { result ≡ state_of self.now (granule_key granule) }
+        ensures sound { IsSoundCap result }
+    {
+        self.kept();
+        self.granule_with_code(granule).0
+    }
+
+    /// The place of the root that what a place holds comes from, or `None`, exactly where that has no tag.
+    pub fn origin(&self, place: Place) -> Option<Place>
+        requires { IsPlace place }
+        ensures origin { result ≡ (let account = account_of self.now in account.origin (key_of place)) }
+        ensures tagged { is_some result ≡ (let cap = state_of self.now (key_of place) in cap.tag) }
+        ensures in_range { IfSome result IsPlace }
+    {
+        self.kept();
+        place_at(self.code(place))
+    }
+
+    /// The least granule at or above a number that a root, an `sc` or a `store` has named, or `None` where
+    /// there is none: every other granule from there on holds NULL without a tag. Any number does, also one
+    /// that is no granule's.
+    pub fn next_put(&self, granule: u64) -> Option<u64>
+        ensures next { IsNextPut self.now.memory granule result }
+        ensures in_memory { IfSome result (λ next. next < 2 ^ 60) }
+    {
+        self.memory.next_put(granule)
+    }
+
+    // The code of the origin of what a place holds.
+    fn code(&self, place: Place) -> u64
+        requires { IsPlace place }
+        ensures { result ≡ code_in self.now (key_of place) }
+    {
+        match place {
+            Place::Register(number) => self.codes[number as usize],
+            Place::Granule(granule) => self.memory.code(granule),
+        }
+    }
+
+    /// Puts a root, tagged, at its place, and counts it; that place is its origin. It is refused for the
+    /// first of these that holds: its place has a capability with a tag already (`PlaceTaken`), its word is
+    /// not sound (`UnsoundRoot`), there are 4,096 roots, or it names a granule beyond those that the rules
+    /// allow (`LimitPassed`). `NoMemory` comes only at a granule named for the first time. After an error
+    /// nothing has changed.
+    pub fn declare(&mut self, place: Place, word: Word) -> Result<(), StepEnd>
+        requires { IsPlace place }
+        ensures outcome { MatchResult result
+            (λ _. TakesRoot self.old place word self.new)
+            (λ end. EndsRoot self.old place word end self.new) }
+    {
+        if let Some(refusal) = self.root_fault(place, word) {
+            return Err(StepEnd::Refused(refusal));
+        }
+        self.place_root(place, word)?;
+        self.roots += 1;
+        Ok(())
+    }
+
+    // The first test that refuses a root.
+    fn root_fault(&self, place: Place, word: Word) -> Option<Refusal>
+        requires { IsPlace place }
+        ensures { result ≡ first_of (root_tests (account_of self.now) place word) }
+    {
+        if self.holds(place).tag {
+            Some(Refusal::PlaceTaken)
+        } else if !sound(word) {
+            Some(Refusal::UnsoundRoot)
+        } else if self.roots >= MOST_ROOTS || self.root_passes_granule_limit(place) {
+            Some(Refusal::LimitPassed)
+        } else {
+            None
+        }
+    }
+
+    // Whether a root's place names a granule beyond the limit.
+    fn root_passes_granule_limit(&self, place: Place) -> bool
+        requires { IsPlace place }
+        ensures { result ≡ passes_granule_limit (account_of self.now) (granule_of place) }
+    {
+        match place {
+            Place::Register(_) => false,
+            Place::Granule(granule) => self.granule_passes_limit(granule),
+        }
+    }
+
+    // Whether naming a granule passes the limit on granules.
+    #[inline(always)]
+    pub(crate) fn granule_passes_limit(&self, granule: u64) -> bool
+        requires { granule < 2 ^ 60 }
+        ensures { result ≡ passes_granule_limit (account_of self.now) (Some granule) }
+    {
+        self.memory.count() >= self.rules.most_granules() && self.is_unnamed(granule)
+    }
+
+    // Whether no root, `sc` or `store` has named a granule.
+    #[inline(never)]
+    fn is_unnamed(&self, granule: u64) -> bool
+        requires { granule < 2 ^ 60 }
+        ensures { result ≡ is_new (account_of self.now) (Some granule) }
+    {
+        self.memory.get(granule).is_none()
+    }
+
+    // Puts a root into a place, and counts nothing. A refused put changes nothing.
+    fn place_root(&mut self, place: Place, word: Word) -> Result<(), NoMemory>
+        requires in_range { IsPlace place }
+        requires room { passes_granule_limit (account_of self.old) (granule_of place) ≡ false }
+        requires sound { IsSound word.0 }
+        ensures ok { OnOk result (Placed self.old place word self.new) }
+        ensures err { OnErr result (self.new ≡ self.old) }
+        ensures only_new { OnErr result (IsTrue (is_new (account_of self.old) (granule_of place))) }
+    {
+        let root = Cap { tag: true, word };
+        match place {
+            Place::Register(number) => {
+                self.registers[number as usize] = root;
+                self.codes[number as usize] = u64::from(number);
+                Ok(())
+            }
+            Place::Granule(granule) => put_capability(
+                &mut self.memory,
+                granule,
+                root,
+                granule + 32,
+            ),
+        }
+    }
+
+    /// Makes a step and counts it. It is refused for the first of these that holds: the tests of its
+    /// operation or access, in their order; the log records another result or value than the machine's
+    /// (`WrongResult`); there are 4,294,967,295 steps, or it names a granule beyond those that the rules
+    /// allow (`LimitPassed`). In clear mode the tests of an operation on registers refuse nothing: its result
+    /// loses its tag where one holds. `NoMemory` comes only at a granule named for the first time. After an
+    /// error nothing has changed.
+    ///
+    /// A tagged result has the origin of the place that it comes from: the step's source, or for `lc` the
+    /// granule, and never the authority. So a granule gets with `sc` the origin of the register that is stored,
+    /// where that is tagged. What has no tag has no origin: `store` clears its granule's.
+    ///
+    /// A step keeps every tagged word sound, and each tagged capability after it reaches no more than what the
+    /// place held before that it comes from. By strict rules a step is refused by `BoundsEscape` exactly where
+    /// it sets bounds of a tagged, unsealed source and those that it asks for, before any rounding, do not lie
+    /// inside the source's, which is the test of the instruction CSetBounds. In clear mode no step is, and
+    /// `setbounds` of such a source loses its tag exactly there.
+    #[inline(always)]
+    pub fn step(&mut self, step: &Step) -> Result<(), StepEnd>
+        ensures outcome { AnswersStep self.old step.now result self.new }
+        ensures stays_within { OnOk result
+            (StaysWithinParents (state_of self.old) step.now (state_of self.new)) }
+        ensures escape { (result ≡ Err (StepEnd.Refused Refusal.BoundsEscape))
+            ↔ Escapes self.old.rules (state_of self.old) step.now }
+        ensures clears { OnOk result
+            (ClearsBeyond self.old.rules (state_of self.old) step.now
+            (state_of self.new)) }
+    {
+        in_range(step);
+        self.kept();
+        make(step, self)
+    }
+
+    /// What a step shows of the machine, which is as it was before the step.
+    pub fn shown(&self, step: &Step) -> Shown
+        ensures shown { result ≡ shown_of (state_of self.now) step.now }
+        ensures in_range { IsShown result }
+    {
+        show(step, self)
+    }
+
+    // Ends a step that writes a register, from what its operation or access gave: refuses it, or writes what
+    // the log records, with its parent's code where it is tagged, and counts the step.
+    #[inline(always)]
+    pub(crate) fn conclude<O: Operands>(
+        &mut self,
+        step: &O,
+        target: Target,
+        outcome: Result<Cap, OpFault>,
+        recorded: Cap,
+        code: u64,
+    ) -> Result<(), StepEnd>
+        requires writes { WritesRegister (state_of self.old) (O.step step.now) target recorded }
+        requires derives { Derives self.old (O.step step.now) outcome }
+        requires code { IsParentsCode self.old (O.step step.now) outcome code }
+        ensures { AnswersStep self.old (O.step step.now) result self.new }
+    {
+        step.in_range();
+        let derived = outcome?;
+        if recorded != derived {
+            return Err(StepEnd::Refused(Refusal::WrongResult));
+        }
+        if self.steps >= MOST_STEPS {
+            return Err(StepEnd::Refused(Refusal::LimitPassed));
+        }
+        let target = target.number() as usize;
+        overwrite(&mut self.registers[target], recorded);
+        self.codes[target] = if derived.tag { code } else { 0 };
+        self.steps += 1;
+        Ok(())
+    }
+
+    // The address of a step's access through a register, or how the step ends that this doesn't allow.
+    #[inline(always)]
+    pub(crate) fn reach<O: Operands>(
+        &self,
+        step: &O,
+        authority: Register,
+        kind: Kind,
+        offset: Offset,
+        size: u8,
+    ) -> Result<u64, StepEnd>
+        requires size { IsTrue (size_fits kind size) }
+        requires row { let state = state_of self.now in
+            IsAccess (row_of state (O.step step.now)) authority kind offset size state }
+        ensures outcome { let held = self.now in
+            MatchResult result
+            (λ address. let row = row_of (state_of held) (O.step step.now) in
+            (first_of row.tests ≡ None) × (address ≡ address_in row.access))
+            (λ end. EndsStep held (O.step step.now) end held) }
+        ensures in_one_granule { IfOk result (λ address. address % 16 + size ≤ 16) }
+    {
+        let access = Access {
+            kind,
+            offset: offset.number(),
+            size,
+        };
+        match may_access_soundly(self.register(authority.number()), access) {
+            Ok(address) => Ok(address),
+            Err(fault) => Err(StepEnd::from(fault)),
+        }
+    }
+
+    // An access through a register, whether it is allowed or not.
+    #[tactic(auto, unfolding(cap_ops::specs::Accesses::access_address))]
+    pub(crate) fn reached(
+        &self,
+        authority: Register,
+        offset: Offset,
+        size: u8,
+        needs: u32,
+    ) -> Reached
+        ensures value { result ≡ record {
+          authority = authority;
+          address = address_through (state_of self.now) authority offset;
+          size = size;
+          needs = needs;
+        } }
+    {
+        let word = self.register(authority.number()).word;
+        Reached {
+            authority,
+            address: word
+                .address()
+                .wrapping_add_signed(i64::from(offset.number())),
+            size,
+            needs,
+        }
+    }
+
+    // What a granule holds, and the code of its origin.
+    #[inline(always)]
+    pub(crate) fn granule_with_code(&self, granule: u64) -> (Cap, u64)
+        requires { granule < 2 ^ 60 }
+        ensures holds { result.0 ≡ state_of self.now (granule_key granule) }
+        ensures code { result.1 ≡ code_in self.now (granule_key granule) }
+    {
+        capability_with_code(&self.memory, granule)
+    }
+
+    // Whether one step more that names a granule passes a limit.
+    #[inline(always)]
+    fn is_past_limits(&self, granule: u64) -> bool
+        requires { granule < 2 ^ 60 }
+        ensures { result ≡ is_past_limits self.now granule }
+    {
+        self.steps >= MOST_STEPS || self.granule_passes_limit(granule)
+    }
+
+    // Puts a capability, and the code of its origin, into a granule and counts the step.
+    #[inline(always)]
+    pub(crate) fn put_counted(
+        &mut self,
+        granule: u64,
+        stored: Cap,
+        code: u64,
+    ) -> Result<(), StepEnd>
+        requires in_memory { granule < 2 ^ 60 }
+        requires sound { IsSoundCap stored }
+        requires coded { IsCoded stored.tag code }
+        ensures { MatchResult result
+            (λ _. (is_past_limits self.old granule ≡ false)
+            × (self.new ≡ with_cap_put self.old granule stored code))
+            (λ end. EndsPut self.old granule end self.new) }
+    {
+        if self.is_past_limits(granule) {
+            return Err(StepEnd::Refused(Refusal::LimitPassed));
+        }
+        put_capability(&mut self.memory, granule, stored, code)?;
+        self.steps += 1;
+        Ok(())
+    }
+
+    // Puts a value's bytes into a granule and counts the step.
+    #[inline(always)]
+    pub(crate) fn put_value_counted(
+        &mut self,
+        granule: u64,
+        byte_index: u8,
+        datum: Datum,
+    ) -> Result<(), StepEnd>
+        requires in_memory { granule < 2 ^ 60 }
+        requires inside { byte_index + datum.size ≤ 16 }
+        ensures { MatchResult result
+            (λ _. (is_past_limits self.old granule ≡ false)
+            × (self.new ≡ with_value_put self.old granule byte_index datum.size datum.value))
+            (λ end. EndsPut self.old granule end self.new) }
+    {
+        if self.is_past_limits(granule) {
+            return Err(StepEnd::Refused(Refusal::LimitPassed));
+        }
+        put_number(&mut self.memory, granule, byte_index, datum)?;
+        self.steps += 1;
+        Ok(())
+    }
+}
+
+// Writes a capability over another, field by field: a copy of the whole would move the bytes between the fields too.
+#[inline(always)]
+fn overwrite(place: &mut Cap, cap: Cap)
+    ensures { place.new ≡ cap }
+{
+    place.tag = cap.tag;
+    place.word = cap.word;
+}
+
+// The place of the root that a code of an origin is of, or `None` for 0. A code is the key of the root's place: a register's own
+// number, or a granule's and 32 more.
+fn place_at(code: u64) -> Option<Place>
+    ensures value { result ≡ place_at code }
+{
+    if code == 0 {
+        None
+    } else if code < 32 {
+        Some(Place::Register(code as u8))
+    } else {
+        Some(Place::Granule(code - 32))
+    }
+}
+
+// The capability that a granule holds, and the code of its origin: NULL without a tag, and 0, where it was never put.
+#[inline(always)]
+fn capability_with_code<M: TaggedStore>(memory: &M, granule: u64) -> (Cap, u64)
+    requires { granule < 2 ^ 60 }
+    ensures cap { result.0 ≡ granule_cap (M.contents memory.now) granule }
+    ensures code { result.1 ≡ code_at (M.contents memory.now) granule }
+{
+    match memory.entry(granule) {
+        Some(entry) => {
+            let cap = Cap {
+                tag: entry.0,
+                word: from_memory(&entry.1),
+            };
+            (cap, entry.2)
+        }
+        None => {
+            let cap = Cap {
+                tag: false,
+                word: null(),
+            };
+            (cap, 0)
+        }
+    }
+}
+
+// Puts a capability, and the code of its origin, into a granule. A refused put changes nothing.
+#[inline(always)]
+fn put_capability<M: TaggedStore>(
+    memory: &mut M,
+    granule: u64,
+    cap: Cap,
+    code: u64,
+) -> Result<(), NoMemory>
+    requires in_memory { granule < 2 ^ 60 }
+    requires coded { IsCodeFor cap.tag code }
+    requires room { HasRoom (M.contents memory.old) granule }
+    ensures ok { OnOk result (M.contents memory.new ≡ with_cap (M.contents memory.old) granule cap.tag (memory_of cap.word.0) code) }
+    ensures err { OnErr result (M.contents memory.new ≡ M.contents memory.old) }
+    ensures only_new { OnErr result (map.get (M.contents memory.old) granule ≡ None) }
+{
+    memory.put_cap(granule, cap.tag, to_memory(cap.word), code)
+}
+
+// The number that `size` bytes of a granule spell from a byte index on, the least significant first.
+#[inline(always)]
+fn number_in<M: TaggedStore>(memory: &M, granule: u64, byte_index: u8, size: Size) -> u64
+    requires in_memory { granule < 2 ^ 60 }
+    requires inside { byte_index + size ≤ 16 }
+    ensures value { result ≡ number_at (bytes_at (M.contents memory.now) granule) byte_index size }
+{
+    match memory.get(granule) {
+        Some(entry) => number_from(&entry.1, byte_index, size),
+        None => 0,
+    }
+}
+
+// Writes the bytes of a number into a granule, the least significant first, from a byte index on, and clears its
+// tag. A refused put changes nothing.
+#[inline(always)]
+fn put_number<M: TaggedStore>(
+    memory: &mut M,
+    granule: u64,
+    byte_index: u8,
+    datum: Datum,
+) -> Result<(), NoMemory>
+    requires in_memory { granule < 2 ^ 60 }
+    requires inside { byte_index + datum.size ≤ 16 }
+    requires room { HasRoom (M.contents memory.old) granule }
+    ensures ok { OnOk result (M.contents memory.new ≡ with_bytes (M.contents memory.old) granule byte_index (low_bytes datum.size datum.value)) }
+    ensures err { OnErr result (M.contents memory.new ≡ M.contents memory.old) }
+    ensures only_new { OnErr result (map.get (M.contents memory.old) granule ≡ None) }
+{
+    let size = datum.size().bytes();
+    let bytes = datum.value().to_le_bytes();
+    memory.put_bytes(granule, byte_index, &bytes[..size as usize])
+}
+
+// The number that `size` of sixteen bytes spell from a byte index on.
+#[inline(always)]
+fn number_from(bytes: &[u8; 16], byte_index: u8, size: Size) -> u64
+    requires { byte_index + size ≤ 16 }
+    ensures { result ≡ number_at bytes.now byte_index size }
+{
+    let rest = u128::from_le_bytes(*bytes) >> (8 * u32::from(byte_index));
+    let size = size.bytes();
+    if size == 1 {
+        (rest & 0xff) as u64
+    } else if size == 2 {
+        (rest & 0xffff) as u64
+    } else if size == 4 {
+        (rest & 0xffff_ffff) as u64
+    } else {
+        (rest & 0xffff_ffff_ffff_ffff) as u64
+    }
 }

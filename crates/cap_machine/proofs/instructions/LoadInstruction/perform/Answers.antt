@@ -13,7 +13,7 @@ pub returns-then-number-recorded : goal.returns-then-number-recorded
 returns-then-number-recorded g c =
     let old = c.args.machine.now in
     let out = c.in_ok-address.ensures.outcome in
-    let read = value_read _ old c.args.self _ _ c.machine.view_is (g.met.M.TaggedStore.are_stored c.machine.inside.memory) out.1 (rw c.size-size.ensures.size at c.number_in-number.ensures.value) in
+    let read = value_read old c.args.self _ _ out.1 (rw c.size-size.ensures.size at c.value-number.ensures.value) in
     record {
       outcome = load_refused old c.args.self false _ out.0 (ne_eqb c.args.self.datum.value _ (λ e. c.if-number-recorded.true (read ∙ sym (c.value-recorded.ensures.value ∙ e)))) refl;
     }
@@ -22,7 +22,7 @@ pub returns-then-machine-ge-MOST_STEPS : goal.returns-then-machine-ge-MOST_STEPS
 returns-then-machine-ge-MOST_STEPS g c =
     let old = c.args.machine.now in
     let out = c.in_ok-address.ensures.outcome in
-    let read = value_read _ old c.args.self _ _ c.machine.view_is (g.met.M.TaggedStore.are_stored c.machine.inside.memory) out.1 (rw c.size-size.ensures.size at c.number_in-number.ensures.value) in
+    let read = value_read old c.args.self _ _ out.1 (rw c.size-size.ensures.size at c.value-number.ensures.value) in
     record {
       outcome = load_refused old c.args.self true _ out.0 (eq-eqb c.args.self.datum.value _ (sym (c.if-number-recorded.false ∙ c.value-recorded.ensures.value) ∙ read))
           (subst (λ (held : Held). first_of (last_tests held true) ≡ Some LimitPassed) c.machine.view_is (search rules));
@@ -32,7 +32,7 @@ pub returns : goal.returns
 returns g c =
     let old = c.args.machine.now in
     let out = c.in_ok-address.ensures.outcome in
-    let read = value_read _ old c.args.self _ _ c.machine.view_is (g.met.M.TaggedStore.are_stored c.machine.inside.memory) out.1 (rw c.size-size.ensures.size at c.number_in-number.ensures.value) in
+    let read = value_read old c.args.self _ _ out.1 (rw c.size-size.ensures.size at c.value-number.ensures.value) in
     record {
       outcome =
           subst (λ (held : Held). Makes old (Load c.args.self) (record held { steps = held.steps + 1 })) (sym c.machine.view_is)

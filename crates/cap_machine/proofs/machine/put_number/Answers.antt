@@ -3,7 +3,7 @@ use Rattle.std.proofs.lemmas.Result.{on_ok_weaker}
 use Rattle.cap_log.specs.Lines.{IsDataSize}
 use Rattle.tagmem.specs.Granules.{with_bytes}
 use Rattle.cap_machine.proofs.GranuleLemmas.{low_taken}
-use Rattle.cap_machine.proofs.granules.put_number.Goals as goal
+use Rattle.cap_machine.proofs.machine.put_number.Goals as goal
 
 few : (size : ℕ) → IsDataSize size → size ≤ 8
 few size sized = elim sized [

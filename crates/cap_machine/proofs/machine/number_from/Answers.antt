@@ -4,7 +4,7 @@ use Rattle.cap_word.proofs.Bytes.{from_le_bytes_is}
 use Rattle.cap_log.specs.Lines.{IsDataSize}
 use Rattle.cap_machine.specs.Values.{number_at}
 use Rattle.cap_machine.proofs.GranuleLemmas.{number_at-cut}
-use Rattle.cap_machine.proofs.granules.number_from.Goals as goal
+use Rattle.cap_machine.proofs.machine.number_from.Goals as goal
 
 -- a data size that is none of the smaller ones
 eight : (size : ℕ) → IsDataSize size → size ≢ 1 → size ≢ 2 → size ≢ 4 → size ≡ 8

@@ -3,7 +3,7 @@ use Rattle.cap_word.specs.declared.word.Cap.{Cap}
 use Rattle.cap_word.specs.Memory.{stored_word}
 use Rattle.tagmem.specs.Granules.{Entry, blank}
 use Rattle.cap_machine.proofs.GranuleLemmas.{granule_cap-absent}
-use Rattle.cap_machine.proofs.granules.capability_with_code.Goals as goal
+use Rattle.cap_machine.proofs.machine.capability_with_code.Goals as goal
 
 pub returns-in-Some : goal.returns-in-Some
 returns-in-Some g c =

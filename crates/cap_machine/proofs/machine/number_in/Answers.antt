@@ -6,7 +6,7 @@ use Rattle.cap_word.specs.Memory.{number_of}
 use Rattle.tagmem.specs.Granules.{Entry, blank}
 use Rattle.tagmem.proofs.Granules.{shown-none, shown-some}
 use Rattle.cap_machine.specs.Values.{number_at}
-use Rattle.cap_machine.proofs.granules.number_in.Goals as goal
+use Rattle.cap_machine.proofs.machine.number_in.Goals as goal
 
 -- bytes that are all 0 spell 0
 zeros : (n : ℕ) → number_of (replicate n 0) ≡ 0
