@@ -1,7 +1,7 @@
 //! Taking steps by their numbers, without their lines.
 
 ghost use Rattle.std.specs.Prelude.{◌≡◌, ◌≢◌, ℕ, List, [], ◌∷◌, ◌++◌, Err, OnOk, IfErr};
-ghost use Rattle.cap_log.specs.Lines.{spelling};
+ghost use Rattle.cap_log.specs.Lines.{IsStepInRange, spelling};
 ghost use Rattle.cap_log.specs.declared.lines.Line.TheVariants as lines;
 ghost use Rattle.cap_judge.specs.Logs.{MayLackMemory};
 ghost use Rattle.cap_judge.specs.Readings.{HasRead, known_of};
@@ -45,12 +45,14 @@ impl<M: TaggedStore> Judge<M> {
         ensures no_memory { result ≡ Err NoMemory → (bytes : List ℕ) → HasRead self.old bytes
             → MayLackMemory (bytes ++ (spelling (lines.Step (I.step step)) ++ 10 ∷ [])) [] }
     {
+        step.in_range();
         self.take_written(step.into_step())
     }
 
     // Takes a step by its line.
     #[inline(never)]
     fn take_written(&mut self, step: Step) -> Result<(), TakeFault>
+        requires { IsStepInRange step }
         ensures taken { OnOk result ((bytes : List ℕ) → HasRead self.old bytes
             → HasRead self.new (bytes ++ (spelling (lines.Step step) ++ 10 ∷ []))) }
         ensures unchanged { IfErr result (λ _. known_of self.new ≡ known_of self.old) }
@@ -58,7 +60,6 @@ impl<M: TaggedStore> Judge<M> {
         ensures no_memory { result ≡ Err NoMemory → (bytes : List ℕ) → HasRead self.old bytes
             → MayLackMemory (bytes ++ (spelling (lines.Step step) ++ 10 ∷ [])) [] }
     {
-        step.in_range();
         let mut buffer = [0; 96];
         let length = write_line(&Line::Step(step), &mut buffer);
         self.take_line(&buffer[..length])

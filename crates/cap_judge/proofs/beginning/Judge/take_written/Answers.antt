@@ -15,7 +15,7 @@ returns-clause-taken g c = rw c.write_line-length.ensures.line.written at c.take
 
 pub returns-clause-line : goal.returns-clause-line
 returns-clause-line g c = λ is.
-    step_is_line _ c.in_range.ensures.range (subst IsNoLine c.write_line-length.ensures.line.written (c.take_line.ensures.no_line.0 is))
+    step_is_line _ c.requires (subst IsNoLine c.write_line-length.ensures.line.written (c.take_line.ensures.no_line.0 is))
 
 pub returns-clause-no_memory : goal.returns-clause-no_memory
 returns-clause-no_memory g c = rw c.write_line-length.ensures.line.written at c.take_line.ensures.no_memory
