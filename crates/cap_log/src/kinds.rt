@@ -4,7 +4,7 @@
 
 ghost use Rattle.std.specs.Prelude.{◌≡◌, ◌≤◌, ◌∷◌, ◌++◌, length, IfSome, IfNone};
 ghost use Rattle.cap_log.specs.Heads.{IsHead, head_spelling};
-ghost use Rattle.cap_log.specs.Lines.{IsInRange, IsStepInRange, spelling};
+ghost use Rattle.cap_log.specs.Lines.{IsInRange, spelling};
 ghost use Rattle.cap_log.specs.Parts.{Begins, BeginsWithNone, BeginsWithout, Writes};
 ghost use Rattle.cap_log.specs.Spaceless.{head-spaceless};
 ghost use Rattle.cap_log.specs.declared.kinds.Head.TheVariants as heads;
@@ -191,29 +191,6 @@ pub enum Step {
     Load(Load),
     /// `store`.
     Store(Store),
-}
-
-impl Step {
-    /// Its numbers are in their ranges.
-    #[inline(always)]
-    pub fn in_range(&self)
-        ensures range { IsStepInRange self.now }
-    {
-        match *self {
-            Step::Move(step) => step.in_range(),
-            Step::ClearTag(step) => step.in_range(),
-            Step::SetBounds(step) => step.in_range(),
-            Step::SetBoundsExact(step) => step.in_range(),
-            Step::SetAddr(step) => step.in_range(),
-            Step::AndPerm(step) => step.in_range(),
-            Step::Seal(step) => step.in_range(),
-            Step::Unseal(step) => step.in_range(),
-            Step::LoadCap(step) => step.in_range(),
-            Step::StoreCap(step) => step.in_range(),
-            Step::Load(step) => step.in_range(),
-            Step::Store(step) => step.in_range(),
-        }
-    }
 }
 
 /// Takes what stands behind a line's head and its space, with the line feed: the line, and what comes
