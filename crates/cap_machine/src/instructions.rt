@@ -56,7 +56,8 @@ pub trait Instruction: Operands {
 
     /// Makes the step and counts it, or refuses it, as [`Machine::step`] does.
     fn perform<M: TaggedStore>(self, machine: &mut Machine<M>) -> Result<(), StepEnd>
-        ensures outcome { AnswersStep machine.old (Self.step self) result machine.new };
+        ensures outcome { AnswersStep machine.old (Self.step self) result machine.new }
+        ensures range { IsStepInRange (Self.step self) };
 
     /// What the step shows of the machine before it, as [`Machine::shown`] does.
     fn shown<M: TaggedStore>(self, machine: &Machine<M>) -> Shown
@@ -119,6 +120,7 @@ impl<O: Operation> Instruction for O {
 
     #[inline(always)]
     fn perform<M: TaggedStore>(self, machine: &mut Machine<M>) -> Result<(), StepEnd> {
+        self.in_range();
         let parts = self.parts();
         let outcome = self.outcome(machine.rules, machine);
         let code = machine.codes[parts.source.number() as usize];
@@ -152,10 +154,12 @@ fn cleared_with_fault<M: TaggedStore, O: Operation>(
     ensures fault { let row = row_of (state_of machine.now) (O.step operation) in
         result.1 ≡ first_of row.tests }
 {
-    let cap = operation.outcome(Rules::TwoClear, machine).unwrap();
     match operation.outcome(Rules::TwoStrict, machine) {
-        Ok(_) => (cap, None),
-        Err(fault) => (cap, Some(Refusal::from(fault))),
+        Ok(cap) => (cap, None),
+        Err(fault) => {
+            let cap = operation.outcome(Rules::TwoClear, machine).unwrap();
+            (cap, Some(Refusal::from(fault)))
+        }
     }
 }
 
@@ -483,23 +487,17 @@ macro_rules! by_kind {
     };
 }
 
-/// The numbers of a step are in their ranges.
-#[inline(always)]
-pub fn in_range(step: &Step)
-    ensures range { IsStepInRange step.now }
-{
-    by_kind!(*step, step => step.in_range())
-}
-
 /// Makes a step, as [`Instruction::perform`] does.
 #[inline(always)]
 pub fn make<M: TaggedStore>(step: &Step, machine: &mut Machine<M>) -> Result<(), StepEnd>
     ensures outcome { AnswersStep machine.old step.now result machine.new }
+    ensures range { IsStepInRange step.now }
 {
     by_kind!(*step, step => step.perform(machine))
 }
 
 /// What a step shows, as [`Instruction::shown`] does.
+#[inline(always)]
 pub fn show<M: TaggedStore>(step: &Step, machine: &Machine<M>) -> Shown
     ensures shown { result ≡ shown_of (state_of machine.now) step.now }
     ensures in_range { IsShown result }

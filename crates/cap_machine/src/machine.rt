@@ -9,7 +9,7 @@ ghost use Rattle.cap_word.specs.Memory.{low_bytes, memory_of};
 ghost use Rattle.cap_bounds.specs.Bounds.{IsSound};
 ghost use Rattle.cap_ops.specs.Sizes.{size_fits};
 ghost use Rattle.cap_ops.specs.Tests.{first_of};
-ghost use Rattle.cap_log.specs.Lines.{IsPlace};
+ghost use Rattle.cap_log.specs.Lines.{IsPlace, IsStepInRange};
 ghost use Rattle.cap_machine.specs.Accounts.{granule_of, is_new, no_account, passes_granule_limit, root_tests};
 ghost use Rattle.cap_machine.specs.Changes.{Derives, EndsPut, IsAccess, IsParentsCode, Placed, WritesRegister};
 ghost use Rattle.cap_machine.specs.Changes.{address_in, is_past_limits, with_cap_put, with_value_put};
@@ -23,7 +23,7 @@ ghost use Rattle.cap_machine.specs.Steps.{address_through, row_of};
 ghost use Rattle.cap_machine.specs.Values.{number_at};
 
 use crate::ends::StepEnd;
-use crate::instructions::{in_range, make, show};
+use crate::instructions::{make, show};
 use crate::rules::Rules;
 use crate::shown::{Reached, Shown};
 use cap_bounds::sound;
@@ -338,7 +338,6 @@ impl<M: TaggedStore> Machine<M> {
             (ClearsBeyond self.old.rules (state_of self.old) step.now
             (state_of self.new)) }
     {
-        in_range(step);
         self.kept();
         make(step, self)
     }
@@ -401,7 +400,9 @@ impl<M: TaggedStore> Machine<M> {
             (first_of row.tests ≡ None) × (address ≡ address_in row.access))
             (λ end. EndsStep held (O.step step.now) end held) }
         ensures in_one_granule { IfOk result (λ address. address % 16 + size ≤ 16) }
+        ensures range { IsStepInRange (O.step step.now) }
     {
+        step.in_range();
         let access = Access {
             kind,
             offset: offset.number(),
