@@ -25,7 +25,6 @@ impl<M: TaggedStore> Judge<M> {
         ensures no_memory { result ≡ Err NoMemory → (bytes : List ℕ) → HasRead self.old bytes
             → MayLackMemory (bytes ++ (spelling (lines.Step (I.step step)) ++ 10 ∷ [])) [] }
     {
-        step.in_range();
         if let Stage::Body = self.stage {
             return match step.perform(&mut self.machine) {
                 Ok(()) => Ok(()),
