@@ -1,11 +1,13 @@
 -- Laws of what was done for an order.
 use Rattle.std.proofs.Common.{Bool, true, ◌≡◌, ◌≢◌, ℕ, List, [], ◌++◌, take, length, Option, Some, None, Result, Ok, Err, inl, inr, refl, sym, subst, ◌∙◌, append-nil}
 use Rattle.std.proofs.Math.Seq.{take-length}
+use Rattle.std.proofs.lemmas.Option.{none-some}
 use Rattle.std.specs.Io.KnownBytes.{Consumes}
 use Rattle.cap_log.specs.Streams.{next_count}
 use Rattle.cap_program.specs.declared.faults.Fault.{Fault}
 use Rattle.cap_program.specs.declared.faults.Fault.TheVariants.{BadWords, BadWord, BadRequest, Read, Write, NoMemory}
-use Rattle.cap_program.specs.Doings.{gave_by, ended_by, known_bytes, IsDone, IsCounted, IsInputCounted, IsHandedOn, IsPushed}
+use Rattle.cap_program.specs.Commands.{Meaning}
+use Rattle.cap_program.specs.Doings.{IsFollowed, gave_by, ended_by, known_bytes, IsDone, IsCounted, IsInputCounted, IsHandedOn, IsPushed}
 
 -- what a source over known bytes gave is the next of them, and where it has ended all of them
 pub given_of : {S : Type 0} (left : S → Option (List ℕ)) (ended : S → Bool)
@@ -100,3 +102,34 @@ input_handed_on faults (Some s) (Some t) before after done result c h = record {
   counted = λ is. c.counted (read_before before after done result h is);
   uncounted = λ other. c.uncounted (λ is. other (read_handed_on before after done result h is));
 }
+
+-- an order over an input and an output
+module _ {C S K : Type 0} (m : Meaning C) (order : Option C) (gave : S → S → List ℕ → Type 0) (ended : S → Bool) (pulls : S → ℕ)
+    (took : K → K → List ℕ → Type 0) (pushes : K → ℕ) (input : Option S) (out : K) where
+  untouched : (answer : Result ℕ Fault) → answer ≢ Err Read → (i : Option S) → IsInputCounted pulls answer i i
+  untouched answer unread None = tt
+  untouched answer unread (Some s) = record { counted = λ is. absurd (unread is); uncounted = λ other. refl }
+
+  -- one that reads no input is followed where its text is shown
+  pub followed_unread : (out_after : K) (answer : Result ℕ Fault) → ((s : S) → gave s s []) → (m.reads_input order → ⊥) → answer ≢ Err Read
+      → IsDone (m.shows order [] (ended_by ended input)) (m.fails order []) (took out out_after) answer
+      → IsCounted Write answer (pushes out) (pushes out_after)
+      → IsFollowed m order gave ended pulls took pushes input input out out_after answer
+  followed_unread out_after answer nothing unread other done written = record {
+    done = ([], gave_nothing gave nothing input, done);
+    read = untouched answer other input;
+    missing = λ reads none. absurd (unread reads);
+    written = written;
+  }
+
+-- one whose input is missing
+pub followed_missing : {C S K : Type 0} (m : Meaning C) (order : Option C) (gave : S → S → List ℕ → Type 0) (ended : S → Bool) (pulls : S → ℕ)
+    (took : K → K → List ℕ → Type 0) (pushes : K → ℕ) (input : Option S) (out : K) → input ≡ None → took out out [] → m.fails order [] Read
+    → IsFollowed m order gave ended pulls took pushes input input out out (Err Read)
+followed_missing m order gave ended pulls took pushes None out is nothing fails = record {
+  done = ([], refl, (fails, nothing));
+  read = tt;
+  missing = λ reads none. refl;
+  written = record { counted = λ is. absurd (cc); uncounted = λ other. refl };
+}
+followed_missing m order gave ended pulls took pushes (Some s) out is nothing fails = absurd (none-some s (sym is))

@@ -1,2 +1,2 @@
 pub mod Doing
-pub mod Running
+pub mod RunLemmas

@@ -1,8 +1,10 @@
 -- What a program does with an order, over any streams. All of it is this profile's own.
-use Rattle.std.specs.Prelude.{◌≡◌, ◌≢◌, ℕ, Bool, false, ◌⊎◌, List, [], take, Option, Some, None, Result, Ok, Err}
+use Rattle.std.specs.Prelude.{◌≡◌, ◌≢◌, ℕ, Bool, false, ◌⊎◌, List, [], take, Option, Some, None, Result, Ok, Err, IfOk, IfErr}
 use Rattle.cap_log.specs.Streams.{next_count}
 use Rattle.cap_program.specs.declared.faults.Fault.{Fault}
 use Rattle.cap_program.specs.declared.faults.Fault.TheVariants.{Read, Write}
+use Rattle.cap_program.specs.Commands.{Meaning}
+use Rattle.cap_program.specs.Faults.{fault_line}
 
 -- the bytes that an input has left, where there is one and they are known
 abbrev pub known_bytes : {R : Type 0} → (R → Option (List ℕ)) → Option R → Option (List ℕ)
@@ -49,3 +51,24 @@ abbrev pub IsPushed : {F : Type 0} → (F → F → List ℕ → Type 0) → (F 
 IsPushed took faults before after text =
     ((faults after ≡ faults before) × took before after text)
     ⊎ ((faults after ≡ next_count (faults before)) × ((n : ℕ) × took before after (take n text)))
+
+-- what was done for an order over an input and an output
+pub record IsFollowed {C S K : Type 0} (m : Meaning C) (order : Option C) (gave : S → S → List ℕ → Type 0) (ended : S → Bool)
+    (pulls : S → ℕ) (took : K → K → List ℕ → Type 0) (pushes : K → ℕ) (before after : Option S) (out out_after : K) (answer : Result ℕ Fault)
+    : Type 0 where
+  -- the text is the one that belongs to the order and the bytes that its input gave, and so is the status; for a fault of the output a
+  -- beginning of that text was taken, and for each other fault nothing
+  pub done : (given : List ℕ) × gave_by gave before after given
+      × IsDone (m.shows order given (ended_by ended after)) (m.fails order given) (took out out_after) answer
+  -- a read fault comes just where the input is missing or counted a fault, a write fault just where the output did
+  pub read : IsInputCounted pulls answer before after
+  pub missing : m.reads_input order → before ≡ None → answer ≡ Err Read
+  pub written : IsCounted Write answer (pushes out) (pushes out_after)
+
+-- what was told of it by a program of this name: with a status nothing; with a fault a beginning of its line was taken, and the whole line
+-- unless a fault was counted
+pub record IsTold {F : Type 0} (program : List ℕ) (took : F → F → List ℕ → Type 0) (faults : F → ℕ) (answer : Result ℕ Fault)
+    (before after : F) : Type 0 where
+  pub silent : IfOk answer (λ status. after ≡ before)
+  pub told : IfErr answer (λ fault. (n : ℕ) × took before after (take n (fault_line program fault)))
+  pub whole : IfErr answer (λ fault. IsPushed took faults before after (fault_line program fault))

@@ -2,3 +2,4 @@ pub mod Faults
 pub mod Words
 pub mod Doings
 pub mod Runs
+pub mod Commands

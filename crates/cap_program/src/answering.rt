@@ -1,7 +1,7 @@
 //! What a program does once an order was followed.
 
-ghost use Rattle.std.specs.Prelude.{◌≡◌, ◌+◌, ◌≤◌, ◌++◌, ℕ, [], length, take, codes, IfOk, IfErr};
-ghost use Rattle.cap_program.specs.Doings.{IsHandedOn, IsPushed};
+ghost use Rattle.std.specs.Prelude.{◌≡◌, ◌+◌, ◌≤◌, ◌++◌, ℕ, [], length, take, codes};
+ghost use Rattle.cap_program.specs.Doings.{IsHandedOn, IsPushed, IsTold};
 ghost use Rattle.cap_program.specs.Faults.{exit_status, fault_line};
 
 use crate::faults::Fault;
@@ -27,9 +27,7 @@ pub fn hand_on<K: Output>(done: Result<u8, Fault>, out: &mut K) -> Result<u8, Fa
 /// line. Where the sink fails it took a beginning of the line.
 pub fn tell<F: Sink>(program: &str, done: Result<u8, Fault>, faults: &mut F)
     requires short { length program.now ≤ 16 }
-    ensures silent { IfOk done (λ status. faults.new ≡ faults.old) }
-    ensures told { IfErr done (λ fault. (n : ℕ) × F.took faults.old faults.new (take n (fault_line program.now fault))) }
-    ensures whole { IfErr done (λ fault. IsPushed F.took F.faults faults.old faults.new (fault_line program.now fault)) }
+    ensures told { IsTold program.now F.took F.faults done faults.old faults.new }
 {
     if let Err(fault) = done {
         push_line(program, fault, faults);

@@ -3,13 +3,17 @@
 #![tactic(auto)]
 
 mod answering;
+mod commands;
 mod faults;
 mod inputs;
 mod outputs;
+mod running;
 mod words;
 
 pub use crate::answering::{exit_status, hand_on, tell};
+pub use crate::commands::Command;
 pub use crate::faults::Fault;
 pub use crate::inputs::opened;
 pub use crate::outputs::{Output, show};
+pub use crate::running::{carry_out, run};
 pub use crate::words::{collect_words, is_operand, take_option};

@@ -1,17 +1,6 @@
 -- An input that is missing.
 use Rattle.std.proofs.Common.{[], refl, arith}
-use Rattle.cap_judge.specs.Judgings.{BeginsLog}
-use Rattle.cap_judge.specs.Logs.{Nothing}
 use Rattle.cap_vectors.specs.VectorFiles.{BreaksOff}
-
--- no bytes begin a log
-pub begins_nothing : BeginsLog []
-begins_nothing = record {
-  beginning = Nothing;
-  rest = [];
-  behind = record { bytes_are = refl; accepted = tt };
-  cut = (omega arith, λ k d below. absurd (omega (arith, below)));
-}
 
 -- no bytes are whole lines that are true, with nothing behind them
 pub breaks_off_nothing : BreaksOff []

@@ -2,23 +2,22 @@
 use Rattle.std.proofs.Common.{◌≡◌, ◌≤◌, ◌↔◌, ℕ, Bool, true, false, List, [], ◌++◌, Option, None, Some, Ok, refl, sym, ap, subst, ◌∙◌, append-nil, arith}
 use Rattle.std.specs.Io.KnownBytes.{Consumes}
 use Rattle.cap_judge.specs.declared.verdict.Verdict.{Verdict}
-use Rattle.cap_judge.specs.declared.verdict.Verdict.TheVariants.{Yes, No}
-use Rattle.cap_judge.specs.Judgings.{IsAnswerOf, IsVerdictOf}
+use Rattle.cap_judge.specs.Judgings.{IsAnswerOf}
 use Rattle.cap_judge.specs.Reports.{Tells}
 use Rattle.cap_judge.specs.Verdicts.{IsVerdict}
 use Rattle.cap_judge.proofs.SourceLemmas.{of_all}
 use Rattle.cap_vectors.specs.declared.files.VectorVerdict.{VectorVerdict}
 use Rattle.cap_vectors.specs.declared.files.VectorVerdict.TheVariants.{Pass, Fail}
-use Rattle.cap_vectors.specs.VectorFiles.{FailsFirst, IsVectorVerdict, IsVectorVerdictOf, vector_line}
+use Rattle.cap_vectors.specs.VectorFiles.{FailsFirst, IsVectorVerdict, IsVectorVerdictOf}
 use Rattle.cap_program.specs.declared.faults.Fault.{Fault}
 use Rattle.cap_program.specs.declared.faults.Fault.TheVariants.{BadWords, BadWord, BadRequest, Read, Write, NoMemory}
+use Rattle.cap_program.specs.Commands.{IsMeant}
 use Rattle.cap_program.specs.Faults.{status_of}
-use Rattle.cap_status.specs.Judging.{verdict_status}
 use Rattle.cap_status.proofs.Judgements.{tells_known, verdict_few}
 use Rattle.capcheck.specs.declared.words.Order.{Order}
 use Rattle.capcheck.specs.declared.words.Order.TheVariants.{Explain, Round, Judge, Vectors}
 use Rattle.capcheck.specs.Answers.{Prints, vector_status}
-use Rattle.capcheck.specs.Doings.{Fails, Shows}
+use Rattle.capcheck.specs.Doings.{Fails, Shows, order_meaning}
 use Rattle.capcheck.specs.Operands.{IsFaulty}
 use Rattle.capcheck.proofs.OperandLemmas.{refused_request, refused_status}
 
@@ -41,7 +40,7 @@ check_known known given rest false (Pass lines) are end is = absurd is
 check_known known given rest false (Fail line) are end is = subst (λ (bytes : List ℕ). FailsFirst bytes line) (sym are) (is rest)
 
 -- the text that belongs to the bytes given is printed for an input that gave them
-pub shows_known : (order : Option Order) (left rest : Option (List ℕ)) (given : List ℕ) (ended : Bool) (text : List ℕ) (status : ℕ)
+shows_known : (order : Option Order) (left rest : Option (List ℕ)) (given : List ℕ) (ended : Bool) (text : List ℕ) (status : ℕ)
     → Consumes left rest given → (ended ≡ true → (xs : List ℕ) → rest ≡ Some xs → xs ≡ [])
     → Shows order given ended text status → Prints order left text status
 shows_known None left rest given ended text status gives all shows = absurd shows
@@ -64,7 +63,7 @@ vector_few (Pass lines) = omega arith
 vector_few (Fail line) = omega arith
 
 -- the status of a text
-pub few : (order : Option Order) (given : List ℕ) (ended : Bool) (text : List ℕ) (status : ℕ) → Shows order given ended text status → status ≤ 1
+few : (order : Option Order) (given : List ℕ) (ended : Bool) (text : List ℕ) (status : ℕ) → Shows order given ended text status → status ≤ 1
 few None given ended text status shows = absurd shows
 few (Some (Explain memory tag hex)) given ended text status shows = let is = shows.4 in omega arith
 few (Some (Round base length)) given ended text status shows = let is = shows.1 in omega arith
@@ -72,7 +71,7 @@ few (Some (Judge origins file)) given ended text status shows = let is = shows.3
 few (Some (Vectors file)) given ended text status shows = let is = shows.3 in let at = vector_few shows.0 in omega arith
 
 -- an order with a text can be followed
-pub unfaulty : (order : Option Order) (given : List ℕ) (ended : Bool) (text : List ℕ) (status : ℕ) → Shows order given ended text status
+unfaulty : (order : Option Order) (given : List ℕ) (ended : Bool) (text : List ℕ) (status : ℕ) → Shows order given ended text status
     → IsFaulty order → ⊥
 unfaulty None given ended text status shows faulty = shows
 unfaulty (Some (Explain memory tag hex)) given ended text status shows faulty = faulty shows.0 shows.1 shows.2
@@ -82,7 +81,7 @@ unfaulty (Some (Judge origins file)) given ended text status shows faulty = faul
 unfaulty (Some (Vectors file)) given ended text status shows faulty = faulty
 
 -- a fault has status 2 just where the order cannot be followed
-pub asked_fault : (order : Option Order) (given : List ℕ) (fault : Fault) → Fails order given fault → (status_of fault ≡ 2) ↔ IsFaulty order
+asked_fault : (order : Option Order) (given : List ℕ) (fault : Fault) → Fails order given fault → (status_of fault ≡ 2) ↔ IsFaulty order
 asked_fault None given BadWords fails = (λ two. tt, λ faulty. refl)
 asked_fault None given BadWord fails = absurd fails
 asked_fault None given BadRequest fails = absurd fails
@@ -109,3 +108,12 @@ asked_fault (Some (Vectors file)) given BadWord fails = absurd fails
 asked_fault (Some (Vectors file)) given BadRequest fails = absurd fails
 asked_fault (Some (Vectors file)) given Write fails = absurd fails
 asked_fault (Some (Vectors file)) given NoMemory fails = absurd fails
+
+-- the meaning of an order, its faults and its status agree
+pub orders_meant : IsMeant order_meaning
+orders_meant = record {
+  known = shows_known;
+  few = few;
+  unfaulty = unfaulty;
+  asked = asked_fault;
+}

@@ -1,16 +1,17 @@
 -- What belongs to an order and to the bytes that were given for it. All of it is this profile's own.
-use Rattle.std.specs.Prelude.{◌≡◌, ℕ, ◌^◌, ◌<◌, Bool, List, Option, Some, None}
+use Rattle.std.specs.Prelude.{◌≡◌, ℕ, ◌^◌, ◌<◌, Bool, List, Option, Some, None, codes}
 use Rattle.cap_judge.specs.Reports.{Tells}
 use Rattle.cap_texts.specs.ExplainLines.{explain_lines}
 use Rattle.cap_vectors.specs.declared.files.VectorVerdict.{VectorVerdict}
 use Rattle.cap_vectors.specs.VectorFiles.{BreaksOff, IsVectorVerdictOf, vector_line}
 use Rattle.cap_status.specs.Judging.{ShowsVerdict, StopsJudging}
+use Rattle.cap_program.specs.Commands.{Meaning}
 use Rattle.cap_program.specs.declared.faults.Fault.{Fault}
 use Rattle.cap_program.specs.declared.faults.Fault.TheVariants.{BadWords, BadWord, Read}
 use Rattle.capcheck.specs.declared.words.Order.{Order}
 use Rattle.capcheck.specs.declared.words.Order.TheVariants.{Explain, Round, Judge, Vectors}
-use Rattle.capcheck.specs.Operands.{SpellsWord, RefusesRequest}
-use Rattle.capcheck.specs.Answers.{ShowsRounding, vector_status}
+use Rattle.capcheck.specs.Operands.{IsFaulty, SpellsWord, RefusesRequest}
+use Rattle.capcheck.specs.Answers.{Prints, ReadsInput, ShowsRounding, vector_status}
 
 -- the text of the verdict on the bytes given as a vector file, and its status
 abbrev pub ShowsCheckOf : List ℕ → Bool → List ℕ → ℕ → Type 0
@@ -40,3 +41,14 @@ Fails (Some (Round base_word length_word)) given fault = RefusesRequest base_wor
 Fails (Some (Judge origins file)) given fault = StopsJudging given fault
 Fails (Some (Vectors file)) given fault = StopsChecking given fault
 Fails order given fault = ⊥
+
+-- what the orders of the program mean
+abbrev pub order_meaning : Meaning Order
+order_meaning = record {
+  program = codes "capcheck";
+  shows = Shows;
+  fails = Fails;
+  prints = Prints;
+  is_faulty = IsFaulty;
+  reads_input = ReadsInput;
+}

@@ -1,8 +1,8 @@
 //! Checking an input as a vector file, and pushing the line of the verdict.
 
-ghost use Rattle.std.specs.Prelude.{◌≡◌, ◌≢◌, ℕ, List, Err, None};
+ghost use Rattle.std.specs.Prelude.{◌≡◌, ◌≢◌, ℕ, List, Err};
 ghost use Rattle.cap_vectors.specs.VectorFiles.{vector_line};
-ghost use Rattle.cap_program.specs.Doings.{IsCounted, IsDone, IsInputCounted, ended_by, gave_by};
+ghost use Rattle.cap_program.specs.Doings.{IsCounted, IsDone};
 ghost use Rattle.capcheck.specs.Answers.{vector_status};
 ghost use Rattle.capcheck.specs.Doings.{ShowsCheckOf, StopsChecking};
 
@@ -10,23 +10,8 @@ use cap_log::{PullFault, PushFault, Sink, Source, push_all};
 use cap_program::Fault;
 use cap_vectors::{VectorVerdict, vector_text, vectors};
 
-/// Checks an input as a vector file, pushes the line of the verdict, and answers the status that goes with it. A missing
-/// input is a read fault.
-pub fn check_input<S: Source, K: Sink>(input: &mut Option<S>, out: &mut K) -> Result<u8, Fault>
-    ensures done { (given : List ℕ) × gave_by S.gave input.old input.new given
-        × IsDone (ShowsCheckOf given (ended_by S.ended input.new)) (StopsChecking given) (K.took out.old out.new) result }
-    ensures read { IsInputCounted S.faults result input.old input.new }
-    ensures written { IsCounted Fault.Write result (K.faults out.old) (K.faults out.new) }
-    ensures missing { input.old ≡ None → result ≡ Err Fault.Read }
-{
-    match input {
-        Some(source) => check_source(source, out),
-        None => Err(Fault::Read),
-    }
-}
-
-// Checks what a source gives.
-fn check_source<S: Source, K: Sink>(source: &mut S, sink: &mut K) -> Result<u8, Fault>
+/// Checks what a source gives as a vector file, pushes the line of the verdict, and answers the status that goes with it.
+pub fn check_source<S: Source, K: Sink>(source: &mut S, sink: &mut K) -> Result<u8, Fault>
     ensures done { (given : List ℕ) × S.gave source.old source.new given
         × IsDone (ShowsCheckOf given (S.ended source.new)) (StopsChecking given) (K.took sink.old sink.new) result }
     ensures read { IsCounted Fault.Read result (S.faults source.old) (S.faults source.new) }

@@ -1,7 +1,7 @@
 //! Judging an input, and pushing the text of the verdict.
 
-ghost use Rattle.std.specs.Prelude.{◌≡◌, ℕ, List, Err, None};
-ghost use Rattle.cap_program.specs.Doings.{IsCounted, IsDone, IsInputCounted, ended_by, gave_by};
+ghost use Rattle.std.specs.Prelude.{ℕ, List, Err};
+ghost use Rattle.cap_program.specs.Doings.{IsCounted, IsDone};
 ghost use Rattle.cap_status.specs.Judging.{ShowsVerdict, StopsJudging};
 ghost use Rattle.cap_judge.specs.Reports.{Reported, Tells};
 ghost use Rattle.cap_judge.specs.declared.verdict.JudgeToFault.TheVariants as judging;
@@ -13,29 +13,9 @@ use cap_program::Fault;
 use cap_status::judged;
 use std::alloc::Global;
 
-/// Judges an input, pushes the line of the verdict and, where they are asked for, those of origins, and answers the
-/// status that goes with the verdict. A missing input is a read fault.
-pub fn judge_input<S: Source, K: Sink>(
-    alloc: Global,
-    origins: bool,
-    input: &mut Option<S>,
-    out: &mut K,
-) -> Result<u8, Fault>
-    ensures done { (given : List ℕ) × gave_by S.gave input.old input.new given
-        × IsDone (ShowsVerdict (Tells origins given) given (ended_by S.ended input.new)) (StopsJudging given)
-        (K.took out.old out.new) result }
-    ensures read { IsInputCounted S.faults result input.old input.new }
-    ensures written { IsCounted Fault.Write result (K.faults out.old) (K.faults out.new) }
-    ensures missing { input.old ≡ None → result ≡ Err Fault.Read }
-{
-    match input {
-        Some(source) => judge_source(alloc, origins, source, out),
-        None => Err(Fault::Read),
-    }
-}
-
-// Judges what a source gives.
-fn judge_source<S: Source, K: Sink>(
+/// Judges what a source gives, pushes the line of the verdict and, where they are asked for, those of origins, and answers
+/// the status that goes with the verdict.
+pub fn judge_source<S: Source, K: Sink>(
     alloc: Global,
     origins: bool,
     source: &mut S,

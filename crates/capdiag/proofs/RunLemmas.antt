@@ -1,23 +1,22 @@
 -- What was done for an order, told of an input whose bytes are known.
-use Rattle.std.proofs.Common.{◌≡◌, ◌≤◌, ◌↔◌, ℕ, Bool, true, false, List, [], ◌++◌, Option, None, Some, Ok, refl, sym, ap, subst, ◌∙◌, append-nil, arith}
+use Rattle.std.proofs.Common.{◌≡◌, ◌≤◌, ◌↔◌, ℕ, Bool, true, List, [], ◌++◌, Option, None, Some, Ok, refl, sym, ap, subst, ◌∙◌, append-nil, arith}
 use Rattle.std.specs.Io.KnownBytes.{Consumes}
 use Rattle.cap_judge.specs.declared.verdict.Verdict.{Verdict}
 use Rattle.cap_judge.specs.declared.verdict.Verdict.TheVariants.{Yes, No}
 use Rattle.cap_judge.specs.Judgings.{IsAnswerOf, IsVerdictOf}
-use Rattle.cap_judge.specs.Reports.{Tells}
 use Rattle.cap_judge.specs.Verdicts.{IsVerdict}
 use Rattle.cap_judge.proofs.SourceLemmas.{of_all}
 use Rattle.cap_report.specs.FaultReports.{IsReport}
 use Rattle.cap_report.specs.Whys.{Explains}
 use Rattle.cap_program.specs.declared.faults.Fault.{Fault}
 use Rattle.cap_program.specs.declared.faults.Fault.TheVariants.{BadWords, BadWord, BadRequest, Read, Write, NoMemory}
+use Rattle.cap_program.specs.Commands.{IsMeant}
 use Rattle.cap_program.specs.Faults.{status_of}
-use Rattle.cap_status.specs.Judging.{verdict_status}
-use Rattle.cap_status.proofs.Judgements.{tells_known, verdict_few}
+use Rattle.cap_status.proofs.Judgements.{begins_nothing, tells_known, verdict_few}
 use Rattle.capdiag.specs.declared.words.Order.{Order}
 use Rattle.capdiag.specs.declared.words.Order.TheVariants.{Why, Heap}
-use Rattle.capdiag.proofs.HeapLemmas.{heap_few, heap_known}
-use Rattle.capdiag.specs.Answers.{Fails, IsFaulty, Prints, Shows}
+use Rattle.capdiag.proofs.HeapLemmas.{heap_few, heap_known, nothing_begins}
+use Rattle.capdiag.specs.Answers.{Fails, IsFaulty, Prints, Shows, order_meaning}
 
 -- a text for all bytes given, with the report of a no
 explains_known : (origins : Bool) (known given rest : List ℕ) (ended : Bool) (verdict : Verdict) (text : List ℕ) → known ≡ given ++ rest
@@ -43,7 +42,7 @@ verdict_known origins known given rest ended verdict text are end answer tells =
 )
 
 -- the text that belongs to the bytes given is printed for an input that gave them
-pub shows_known : (order : Option Order) (left rest : Option (List ℕ)) (given : List ℕ) (ended : Bool) (text : List ℕ) (status : ℕ)
+shows_known : (order : Option Order) (left rest : Option (List ℕ)) (given : List ℕ) (ended : Bool) (text : List ℕ) (status : ℕ)
     → Consumes left rest given → (ended ≡ true → (xs : List ℕ) → rest ≡ Some xs → xs ≡ [])
     → Shows order given ended text status → Prints order left text status
 shows_known None left rest given ended text status gives all shows = absurd shows
@@ -61,20 +60,20 @@ shows_known (Some (Heap report why file)) (Some known) (Some xs) given ended tex
     (known, refl, heap_known report why known given xs ended text status gives (λ e. all e xs refl) shows)
 
 -- the status of a text
-pub few : (order : Option Order) (given : List ℕ) (ended : Bool) (text : List ℕ) (status : ℕ) → Shows order given ended text status
+few : (order : Option Order) (given : List ℕ) (ended : Bool) (text : List ℕ) (status : ℕ) → Shows order given ended text status
     → status ≤ 1
 few None given ended text status shows = absurd shows
 few (Some (Why origins file)) given ended text status shows = let is = shows.3 in let at = verdict_few shows.0 in omega arith
 few (Some (Heap report why file)) given ended text status shows = let is = shows.3 in let at = heap_few shows.0 in omega arith
 
 -- an order with a text can be followed
-pub unfaulty : (order : Option Order) (given : List ℕ) (ended : Bool) (text : List ℕ) (status : ℕ) → Shows order given ended text status
+unfaulty : (order : Option Order) (given : List ℕ) (ended : Bool) (text : List ℕ) (status : ℕ) → Shows order given ended text status
     → IsFaulty order → ⊥
 unfaulty None given ended text status shows faulty = shows
 unfaulty (Some order) given ended text status shows faulty = faulty
 
 -- a fault has status 2 just where the order cannot be followed
-pub asked_fault : (order : Option Order) (given : List ℕ) (fault : Fault) → Fails order given fault
+asked_fault : (order : Option Order) (given : List ℕ) (fault : Fault) → Fails order given fault
     → (status_of fault ≡ 2) ↔ IsFaulty order
 asked_fault None given BadWords fails = (λ two. tt, λ faulty. refl)
 asked_fault None given BadWord fails = absurd fails
@@ -94,3 +93,17 @@ asked_fault (Some (Heap report why file)) given BadWords fails = absurd fails
 asked_fault (Some (Heap report why file)) given BadWord fails = absurd fails
 asked_fault (Some (Heap report why file)) given BadRequest fails = absurd fails
 asked_fault (Some (Heap report why file)) given Write fails = absurd fails
+
+-- the meaning of an order, its faults and its status agree
+pub orders_meant : IsMeant order_meaning
+orders_meant = record {
+  known = shows_known;
+  few = few;
+  unfaulty = unfaulty;
+  asked = asked_fault;
+}
+
+-- where nothing is read, that is the fault
+pub fails_nothing : (order : Order) → Fails (Some order) [] Read
+fails_nothing (Why origins file) = begins_nothing
+fails_nothing (Heap report why file) = nothing_begins

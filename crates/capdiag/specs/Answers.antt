@@ -1,8 +1,9 @@
 -- What the program prints for an order, and what belongs to the bytes that were given for it. All of it is this profile's own.
-use Rattle.std.specs.Prelude.{◌≡◌, ℕ, Bool, true, List, Option, Some, None, IfSome}
+use Rattle.std.specs.Prelude.{◌≡◌, ℕ, Bool, true, List, Option, Some, None, IfSome, codes}
 use Rattle.cap_judge.specs.declared.verdict.Verdict.{Verdict}
 use Rattle.cap_judge.specs.Verdicts.{IsVerdict}
 use Rattle.cap_report.specs.Whys.{Explains}
+use Rattle.cap_program.specs.Commands.{Meaning}
 use Rattle.cap_program.specs.declared.faults.Fault.{Fault}
 use Rattle.cap_program.specs.declared.faults.Fault.TheVariants.{BadWords}
 use Rattle.cap_status.specs.Judging.{ShowsVerdict, StopsJudging, verdict_status}
@@ -42,3 +43,14 @@ Fails None given BadWords = Unit {0}
 Fails (Some (Why origins file)) given fault = StopsJudging given fault
 Fails (Some (Heap report why file)) given fault = StopsHeap given fault
 Fails order given fault = ⊥
+
+-- what the orders of the program mean
+abbrev pub order_meaning : Meaning Order
+order_meaning = record {
+  program = codes "capdiag";
+  shows = Shows;
+  fails = Fails;
+  prints = Prints;
+  is_faulty = IsFaulty;
+  reads_input = ReadsInput;
+}

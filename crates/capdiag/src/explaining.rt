@@ -1,7 +1,7 @@
 //! Judging an input, and pushing the verdict with the report of a no.
 
-ghost use Rattle.std.specs.Prelude.{◌≡◌, ℕ, List, Err, None};
-ghost use Rattle.cap_program.specs.Doings.{IsCounted, IsDone, IsInputCounted, ended_by, gave_by};
+ghost use Rattle.std.specs.Prelude.{ℕ, List};
+ghost use Rattle.cap_program.specs.Doings.{IsCounted, IsDone};
 ghost use Rattle.cap_status.specs.Judging.{ShowsVerdict, StopsJudging};
 ghost use Rattle.cap_report.specs.Whys.{Explains};
 
@@ -11,29 +11,9 @@ use cap_report::judge_why;
 use cap_status::judged;
 use std::alloc::Global;
 
-/// Judges an input, pushes the line of the verdict, after a no with the report and after a yes with the origins where
-/// they are asked for, and answers the status that goes with the verdict. A missing input is a read fault.
-pub fn explain_input<S: Source, K: Sink>(
-    alloc: Global,
-    origins: bool,
-    input: &mut Option<S>,
-    out: &mut K,
-) -> Result<u8, Fault>
-    ensures done { (given : List ℕ) × gave_by S.gave input.old input.new given
-        × IsDone (ShowsVerdict (Explains origins given (ended_by S.ended input.new)) given (ended_by S.ended input.new))
-        (StopsJudging given) (K.took out.old out.new) result }
-    ensures read { IsInputCounted S.faults result input.old input.new }
-    ensures written { IsCounted Fault.Write result (K.faults out.old) (K.faults out.new) }
-    ensures missing { input.old ≡ None → result ≡ Err Fault.Read }
-{
-    match input {
-        Some(source) => explain_source(alloc, origins, source, out),
-        None => Err(Fault::Read),
-    }
-}
-
-// Judges what a source gives.
-fn explain_source<S: Source, K: Sink>(
+/// Judges what a source gives, pushes the line of the verdict, after a no with the report and after a yes with the origins
+/// where they are asked for, and answers the status that goes with the verdict.
+pub fn explain_source<S: Source, K: Sink>(
     alloc: Global,
     origins: bool,
     source: &mut S,

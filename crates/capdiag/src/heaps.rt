@@ -1,10 +1,10 @@
 //! Judging an allocator's log, and pushing the verdict.
 
-ghost use Rattle.std.specs.Prelude.{◌≡◌, ℕ, List, Err, None};
+ghost use Rattle.std.specs.Prelude.{◌≡◌, ℕ, List, Err};
 ghost use Rattle.cap_heap.specs.VerdictLines.{Told};
 ghost use Rattle.cap_heap.specs.declared.verdict.HeapToFault.TheVariants as heap_faults;
 ghost use Rattle.cap_log.specs.Streams.{CountsOnly};
-ghost use Rattle.cap_program.specs.Doings.{IsCounted, IsDone, IsInputCounted, ended_by, gave_by};
+ghost use Rattle.cap_program.specs.Doings.{IsCounted, IsDone};
 ghost use Rattle.capdiag.specs.Heaps.{ShowsHeap, StopsHeap, heap_judged, heap_status};
 
 use cap_heap::{HeapToFault, HeapVerdict, judge_heap_report, judge_heap_to, judge_heap_why};
@@ -12,30 +12,10 @@ use cap_log::{Sink, Source};
 use cap_program::Fault;
 use std::alloc::Global;
 
-/// Judges an input as an allocator's log, pushes the line of the verdict and, where they are asked for, after a yes the
-/// report of the log and after a no that of the line that was refused, and answers the status that goes with the verdict.
-/// A missing input is a read fault.
-pub fn judge_heap_input<S: Source, K: Sink>(
-    alloc: Global,
-    report: bool,
-    why: bool,
-    input: &mut Option<S>,
-    out: &mut K,
-) -> Result<u8, Fault>
-    ensures done { (given : List ℕ) × gave_by S.gave input.old input.new given
-        × IsDone (ShowsHeap report why given (ended_by S.ended input.new)) (StopsHeap given) (K.took out.old out.new) result }
-    ensures read { IsInputCounted S.faults result input.old input.new }
-    ensures written { IsCounted Fault.Write result (K.faults out.old) (K.faults out.new) }
-    ensures missing { input.old ≡ None → result ≡ Err Fault.Read }
-{
-    match input {
-        Some(source) => judge_heap_source(alloc, report, why, source, out),
-        None => Err(Fault::Read),
-    }
-}
-
-// Judges what a source gives.
-fn judge_heap_source<S: Source, K: Sink>(
+/// Judges what a source gives as an allocator's log, pushes the line of the verdict and, where they are asked for, after a
+/// yes the report of the log and after a no that of the line that was refused, and answers the status that goes with the
+/// verdict.
+pub fn judge_heap_source<S: Source, K: Sink>(
     alloc: Global,
     report: bool,
     why: bool,

@@ -11,9 +11,10 @@ mod running;
 mod tests;
 mod words;
 
-pub use crate::running::{carry_out, run};
+pub use crate::running::run;
 pub use crate::words::{Order, read_words};
 use cap_log::WriteSink;
+pub use cap_program::carry_out;
 use cap_program::{Fault, collect_words, exit_status, tell};
 use std::alloc::AllocError;
 use std::fs::File;

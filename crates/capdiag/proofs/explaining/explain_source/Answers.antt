@@ -1,4 +1,4 @@
-use Rattle.std.proofs.Common.{◌≡◌, ℕ, Result, subst, sym}
+use Rattle.std.proofs.Common.{ℕ, Result, subst, sym}
 use Rattle.cap_report.specs.Whys.{Explains}
 use Rattle.cap_program.specs.declared.faults.Fault.{Fault}
 use Rattle.cap_program.specs.declared.faults.Fault.TheVariants.{Read, Write}

@@ -1,0 +1,36 @@
+//! What the programs can be asked to do.
+
+ghost use Rattle.std.specs.Prelude.{◌≡◌, ◌≤◌, ℕ, List, Some, None, length};
+ghost use Rattle.cap_program.specs.Commands.{Meaning};
+ghost use Rattle.cap_program.specs.Doings.{IsFollowed};
+ghost use Rattle.cap_program.specs.declared.faults.Fault.TheVariants.{BadWords};
+
+use crate::faults::Fault;
+use cap_log::{Sink, Source};
+use std::alloc::Global;
+
+/// An order of a program.
+pub trait Command: Copy {
+    /// What the orders of the program mean.
+    ghost meaning: { Meaning Self };
+
+    /// The name of the program.
+    fn program() -> &'static str
+        ensures value { result.now ≡ meaning.program }
+        ensures short { length result.now ≤ 16 };
+
+    /// Pushes the text of an order, and answers the status that goes with it. A missing input is a read fault.
+    fn follow<S: Source, K: Sink>(
+        self,
+        alloc: Global,
+        input: &mut Option<S>,
+        out: &mut K,
+    ) -> Result<u8, Fault>
+        ensures followed { IsFollowed meaning (Some self) S.gave S.ended S.faults K.took K.faults input.old input.new out.old out.new result };
+
+    /// Where there is no order, the words are at fault.
+    ghost worded: { (given : List ℕ) → meaning.fails None given BadWords };
+
+    /// No input is read then.
+    ghost unread: { meaning.reads_input None → ⊥ };
+}

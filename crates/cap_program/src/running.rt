@@ -1,0 +1,98 @@
+//! What a program does with an order: its texts and its exit status.
+
+ghost use Rattle.std.specs.Prelude.{◌≡◌, ℕ, List, [], take, IfOk, IfErr, Err, None};
+ghost use Rattle.std.specs.Io.KnownBytes.{Appends};
+ghost use Rattle.cap_program.specs.Commands.{IsMeant};
+ghost use Rattle.cap_program.specs.Doings.{IsDone, IsFollowed, IsTold, ended_by, gave_by, known_bytes};
+ghost use Rattle.cap_program.specs.Faults.{fault_line};
+ghost use Rattle.cap_program.specs.Runs.{IsRan};
+
+use crate::answering::{exit_status, hand_on, tell};
+use crate::commands::Command;
+use crate::faults::Fault;
+use crate::inputs::opened;
+use crate::outputs::Output;
+use cap_log::{Sink, Source, WriteSink};
+use std::alloc::Global;
+use std::io::{Read, Write};
+
+/// Does what an order says, and answers the exit status: 0 for yes or shown, 1 for no, 2 where there is
+/// no order or it has an operand that cannot be followed, and 3 where the input, the output or the memory
+/// failed. The input is the opened file or standard input, and `None` where it cannot be opened or the
+/// order reads none. A status above 1 comes with the line of its fault on `faults`, and with nothing else
+/// there; where that writer fails a beginning of the line stands there, and nothing else changes.
+///
+/// It is [`carry_out`] over a reader and two writers. Of these no contract says whether a call failed; so it is
+/// there that each fault stands exactly where a stream counted one.
+pub fn run<C: Command, R: Read + Drop, O: Write, F: Write>(
+    alloc: Global,
+    order: Option<C>,
+    input: Option<R>,
+    out: &mut O,
+    faults: &mut F,
+) -> u8
+    requires meant { IsMeant C.meaning }
+    ensures ran { IsRan C.meaning order (known_bytes R.remaining input) (input ≡ None) (O.contents out.old) (O.contents out.new)
+        (F.contents faults.old) (F.contents faults.new) result }
+{
+    let mut input = opened(input);
+    exit_status(write_out(alloc, order, &mut input, out, faults))
+}
+
+// Carries out an order over two writers.
+fn write_out<C: Command, S: Source, O: Write, F: Write>(
+    alloc: Global,
+    order: Option<C>,
+    input: &mut Option<S>,
+    out: &mut O,
+    faults: &mut F,
+) -> Result<u8, Fault>
+    ensures done { (given : List ℕ) × gave_by S.gave input.old input.new given
+        × IsDone (C.meaning.shows order given (ended_by S.ended input.new)) (C.meaning.fails order given)
+        (Appends (O.contents out.old) (O.contents out.new)) result }
+    ensures missing { C.meaning.reads_input order → input.old ≡ None → result ≡ Err Fault.Read }
+    ensures silent { IfOk result (λ status. Appends (F.contents faults.old) (F.contents faults.new) []) }
+    ensures told { IfErr result (λ fault. (n : ℕ)
+        × Appends (F.contents faults.old) (F.contents faults.new) (take n (fault_line C.meaning.program fault))) }
+{
+    carry_out(
+        alloc,
+        order,
+        input,
+        &mut WriteSink::new(out),
+        &mut WriteSink::new(faults),
+    )
+}
+
+/// Does what an order says, over any source and any sinks: the status that goes with the text that was pushed, or the
+/// fault whose line was pushed to `faults`. A missing input is a read fault.
+pub fn carry_out<C: Command, S: Source, K: Output, F: Sink>(
+    alloc: Global,
+    order: Option<C>,
+    input: &mut Option<S>,
+    out: &mut K,
+    faults: &mut F,
+) -> Result<u8, Fault>
+    ensures followed { IsFollowed C.meaning order S.gave S.ended S.faults K.took K.faults input.old input.new out.old out.new result }
+    ensures told { IsTold C.meaning.program F.took F.faults result faults.old faults.new }
+{
+    let done = follow(alloc, order, input, out);
+    let done = hand_on(done, out);
+    tell(C::program(), done, faults);
+    done
+}
+
+// Pushes the text of an order, and answers the status that goes with it.
+fn follow<C: Command, S: Source, K: Sink>(
+    alloc: Global,
+    order: Option<C>,
+    input: &mut Option<S>,
+    out: &mut K,
+) -> Result<u8, Fault>
+    ensures followed { IsFollowed C.meaning order S.gave S.ended S.faults K.took K.faults input.old input.new out.old out.new result }
+{
+    match order {
+        Some(order) => order.follow(alloc, input, out),
+        None => Err(Fault::BadWords),
+    }
+}
