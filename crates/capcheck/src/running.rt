@@ -49,14 +49,7 @@ impl Command for Order<'_> {
     }
 }
 
-/// Does what an order says, and answers the exit status: 0 for yes or shown, 1 for no, 2 where there is
-/// no order or it has an operand that cannot be followed, and 3 where the input, the output or the memory
-/// failed. The input is the opened file or standard input, and `None` where it cannot be opened or the
-/// order reads none. A status above 1 comes with the line of its fault on `faults`, and with nothing else
-/// there; where that writer fails a beginning of the line stands there, and nothing else changes.
-///
-/// It is [`carry_out`] over a reader and two writers. Of these no contract says whether a call failed; so it is
-/// there that each fault stands exactly where a stream counted one.
+/// Does what an order says, and answers the exit status, as [`cap_program::run`] does.
 #[tactic(auto, using(crate::proofs::RunLemmas::orders_meant))]
 pub fn run<R: Read + Drop, O: Write, F: Write>(
     alloc: Global,
@@ -71,8 +64,7 @@ pub fn run<R: Read + Drop, O: Write, F: Write>(
     cap_program::run(alloc, order, input, out, faults)
 }
 
-/// Does what an order says, over any source and any sinks: the status that goes with the text that was pushed, or the
-/// fault whose line was pushed to `faults`. A missing input is a read fault.
+/// Does what an order says, over any source and any sinks, as [`cap_program::carry_out`] does.
 pub fn carry_out<S: Source, K: Output, F: Sink>(
     alloc: Global,
     order: Option<Order<'_>>,
