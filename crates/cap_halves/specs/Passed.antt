@@ -1,10 +1,8 @@
 -- What passes between C and the libraries for C, as the numbers and capabilities that it stands for (this
 -- profile's own).
-use Rattle.std.specs.Prelude.{◌≡◌, ℕ, ◌+◌, ◌*◌, ◌^◌, Bool, false, not, ◌==◌, Option, None, Some}
+use Rattle.std.specs.Prelude.{◌≡◌, ℕ, ◌+◌, ◌*◌, ◌^◌, Bool, false, not, ◌==◌}
 use Rattle.cap_word.specs.Word.{null_word}
 use Rattle.cap_word.specs.declared.word.Cap.{Cap}
-use Rattle.cap_log.specs.Lines.{IsStepInRange}
-use Rattle.cap_log.specs.declared.kinds.Step.{Step}
 use Rattle.cap_halves.specs.declared.values.Halves.{Halves}
 use Rattle.cap_halves.specs.declared.values.Capability.{Capability}
 
@@ -23,8 +21,3 @@ cap_of c = record { tag = is_set c.tag; word = record { 0 = whole_of c.word } }
 -- NULL without a tag: what C gets where there is no capability to give
 abbrev pub no_cap : Cap
 no_cap = record { tag = false; word = record { 0 = null_word } }
-
--- what C's numbers make of this step, by the step that a value of its kind is: it, where they are in range, or none (this profile's own)
-abbrev pub IsStepOf : {A : Type 0} → (A → Step) → Step → Option A → Type 0
-IsStepOf step_of step None = ¬ IsStepInRange step
-IsStepOf step_of step (Some made) = IsStepInRange step × (step_of made ≡ step)

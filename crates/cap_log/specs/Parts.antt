@@ -8,8 +8,9 @@ use Rattle.cap_word.specs.declared.word.Cap.{Cap}
 use Rattle.cap_log.specs.declared.lines.Mode.{Mode}
 use Rattle.cap_log.specs.declared.lines.Line.{Line}
 use Rattle.cap_log.specs.declared.kinds.Head.{Head}
+use Rattle.cap_log.specs.declared.kinds.Step.{Step}
 use Rattle.cap_log.specs.Heads.{head_spelling}
-use Rattle.cap_log.specs.Lines.{IsInRange, result_words, spelling}
+use Rattle.cap_log.specs.Lines.{IsInRange, IsStepInRange, result_words, spelling}
 use Rattle.cap_log.specs.Ranges.{Datum}
 
 -- the value in range whose spelling the bytes are, or none where they are no such value's
@@ -45,6 +46,11 @@ BeginsWithNone {A} Fits spelled end bytes = (value : A) (rest : List ℕ) → Be
 pub record StandsBehind {A : Type 0} (head : Head) (Fits : A → Type 0) (spelled : A → List ℕ) : Type 0 where
   pub part_of : (line : Line) (text : List ℕ) → IsInRange line → spelling line ≡ head_spelling head ++ 32 ∷ text
       → (value : A) × Fits value × (text ≡ spelled value)
+
+-- what numbers make of a step's operands, in range or not, by the step that operands are: these, where the step is in range, or none
+abbrev pub IsMade : {A : Type 0} → (A → Step) → A → Option A → Type 0
+IsMade step_of operands None = ¬ IsStepInRange (step_of operands)
+IsMade step_of operands (Some made) = IsStepInRange (step_of operands) × (made ≡ operands)
 
 -- the bytes do not begin with this text and the byte that ends it
 abbrev pub BeginsWithout : List ℕ → ℕ → List ℕ → Type 0

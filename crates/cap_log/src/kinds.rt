@@ -270,6 +270,8 @@ impl Operands for Move {
 
     ghost step = { steps.Move };
 
+    ghost made = { λ parts. record { target = parts.0; source = parts.1.0; result = parts.1.1 } };
+
     fn head() -> Head {
         Head::Move
     }
@@ -310,6 +312,8 @@ impl Operands for ClearTag {
     ghost head = { heads.ClearTag };
 
     ghost step = { steps.ClearTag };
+
+    ghost made = { λ parts. record { target = parts.0; source = parts.1.0; result = parts.1.1 } };
 
     fn head() -> Head {
         Head::ClearTag
@@ -353,6 +357,8 @@ impl Operands for SetBounds {
     ghost head = { heads.SetBounds };
 
     ghost step = { steps.SetBounds };
+
+    ghost made = { λ parts. record { target = parts.0; source = parts.1.0; length = parts.1.1.0; result = parts.1.1.1 } };
 
     fn head() -> Head {
         Head::SetBounds
@@ -398,6 +404,8 @@ impl Operands for SetBoundsExact {
 
     ghost step = { steps.SetBoundsExact };
 
+    ghost made = { λ parts. record { target = parts.0; source = parts.1.0; length = parts.1.1.0; result = parts.1.1.1 } };
+
     fn head() -> Head {
         Head::SetBoundsExact
     }
@@ -441,6 +449,8 @@ impl Operands for SetAddr {
     ghost head = { heads.SetAddr };
 
     ghost step = { steps.SetAddr };
+
+    ghost made = { λ parts. record { target = parts.0; source = parts.1.0; address = parts.1.1.0; result = parts.1.1.1 } };
 
     fn head() -> Head {
         Head::SetAddr
@@ -486,6 +496,8 @@ impl Operands for AndPerm {
 
     ghost step = { steps.AndPerm };
 
+    ghost made = { λ parts. record { target = parts.0; source = parts.1.0; mask = parts.1.1.0; result = parts.1.1.1 } };
+
     fn head() -> Head {
         Head::AndPerm
     }
@@ -529,6 +541,8 @@ impl Operands for Seal {
     ghost head = { heads.Seal };
 
     ghost step = { steps.Seal };
+
+    ghost made = { λ parts. record { target = parts.0; source = parts.1.0; authority = parts.1.1.0; result = parts.1.1.1 } };
 
     fn head() -> Head {
         Head::Seal
@@ -574,6 +588,8 @@ impl Operands for Unseal {
 
     ghost step = { steps.Unseal };
 
+    ghost made = { λ parts. record { target = parts.0; source = parts.1.0; authority = parts.1.1.0; result = parts.1.1.1 } };
+
     fn head() -> Head {
         Head::Unseal
     }
@@ -618,6 +634,8 @@ impl Operands for LoadCap {
 
     ghost step = { steps.LoadCap };
 
+    ghost made = { λ parts. record { target = parts.0; authority = parts.1.0; offset = parts.1.1.0; result = parts.1.1.1 } };
+
     fn head() -> Head {
         Head::LoadCap
     }
@@ -660,6 +678,8 @@ impl Operands for StoreCap {
 
     ghost step = { steps.StoreCap };
 
+    ghost made = { λ parts. record { source = parts.0; authority = parts.1.0; offset = parts.1.1 } };
+
     fn head() -> Head {
         Head::StoreCap
     }
@@ -701,6 +721,8 @@ impl Operands for Load {
 
     ghost step = { steps.Load };
 
+    ghost made = { λ parts. record { authority = parts.0; offset = parts.1.0; datum = parts.1.1.0 } };
+
     fn head() -> Head {
         Head::Load
     }
@@ -741,6 +763,8 @@ impl Operands for Store {
     ghost head = { heads.Store };
 
     ghost step = { steps.Store };
+
+    ghost made = { λ parts. record { authority = parts.0; offset = parts.1.0; datum = parts.1.1.0 } };
 
     fn head() -> Head {
         Head::Store

@@ -3,7 +3,7 @@
 ghost use Rattle.std.specs.Prelude.{◌≡◌, ◌≤◌, ◌∷◌, ◌++◌, length, IfSome, IfNone};
 ghost use Rattle.cap_log.specs.Heads.{head_spelling};
 ghost use Rattle.cap_log.specs.Lines.{IsInRange, IsStepInRange, spelling};
-ghost use Rattle.cap_log.specs.Parts.{Begins, BeginsWithNone, StandsBehind, Writes};
+ghost use Rattle.cap_log.specs.Parts.{Begins, BeginsWithNone, IsMade, StandsBehind, Writes};
 ghost use Rattle.cap_log.specs.declared.kinds.Head.{Head};
 ghost use Rattle.cap_log.specs.declared.kinds.Step.{Step};
 ghost use Rattle.cap_log.specs.declared.lines.Line.TheVariants as lines;
@@ -23,20 +23,24 @@ pub trait Operands: Copy {
     // The step.
     ghost step: { Self → Step };
 
-    /// The head of its lines. Each line with this head has such parts behind it.
+    // The operands that some parts are.
+    ghost made: { Self.Parts → Self };
+
+    /// The head of its lines. Each line with this head has such parts behind it, those of its step.
     fn head() -> Head
         ensures head { result ≡ head }
-        ensures parts { StandsBehind head Self.Parts.fits Self.Parts.spelled };
+        ensures parts { StandsBehind head Self.Parts.fits Self.Parts.spelled }
+        ensures in_range { (parts : Self.Parts) → Self.Parts.fits parts → IsStepInRange (step (made parts)) }
+        ensures only_in_range { (parts : Self.Parts) → IsStepInRange (step (made parts)) → Self.Parts.fits parts }
+        ensures spelling { (parts : Self.Parts) → spelling (lines.Step (step (made parts))) ≡ head_spelling head ++ 32 ∷ Self.Parts.spelled parts };
 
     /// The operands that some parts are.
     fn from_parts(parts: Self::Parts) -> Self
-        ensures in_range { Self.Parts.fits parts → IsStepInRange (step result) }
-        ensures spelling { spelling (lines.Step (step result)) ≡ head_spelling head ++ 32 ∷ Self.Parts.spelled parts };
+        ensures made { result ≡ made parts };
 
     /// The parts that they are.
     fn into_parts(self) -> Self::Parts
-        ensures in_range { Self.Parts.fits result → IsStepInRange (step self) }
-        ensures spelling { spelling (lines.Step (step self)) ≡ head_spelling head ++ 32 ∷ Self.Parts.spelled result };
+        ensures parts { made result ≡ self };
 
     /// The step that has them.
     fn into_step(self) -> Step
@@ -47,7 +51,18 @@ pub trait Operands: Copy {
     final fn in_range(self)
         ensures range { IsStepInRange (step self) }
     {
+        Self::head();
         self.into_parts().in_range();
+    }
+
+    /// The operands of these numbers, or `None` where they are out of a step's ranges.
+    #[inline(always)]
+    final fn from_numbers(numbers: <Self::Parts as Ranged>::Numbers) -> Option<Self>
+        ensures made { IsMade step (made (Self.Parts.meant numbers)) result }
+    {
+        Self::head();
+        let parts = Self::Parts::from_numbers(numbers)?;
+        Some(Self::from_parts(parts))
     }
 
     /// Takes what stands behind the head of such a line and its space, with the line feed: the operands, and

@@ -6,8 +6,6 @@
 ghost use Rattle.std.specs.Prelude.{◌≡◌, ◌⊎◌, ◌<◌, ℕ, List, [], ◌∷◌, ◌++◌};
 ghost use Rattle.cap_log.specs.Lines.{spelling};
 ghost use Rattle.cap_log.specs.declared.lines.Line.TheVariants as line;
-ghost use Rattle.cap_log.specs.declared.kinds.Step.{Step};
-ghost use Rattle.cap_halves.specs.Passed.{IsStepOf};
 ghost use Rattle.cap_halves.specs.PassedSteps as steps;
 ghost use Rattle.cap_judge.specs.Logs.{MayLackMemory};
 ghost use Rattle.cap_judge.specs.Readings.{BeginsWhole, HasRead, known_of};
@@ -15,12 +13,14 @@ ghost use Rattle.capcheck_judge.specs.Handles.{HandsOver, held_in};
 
 use crate::handle::Handle;
 use cap_answers::answers::{GOES_ON, NO, NO_JUDGE, NO_LINE, NO_MEMORY};
-use cap_halves::steps::{
-    andperm_of, cleartag_of, lc_of, load_of, move_of, sc_of, seal_of, setaddr_of, setbounds_of,
-    setboundsexact_of, store_of, unseal_of,
-};
+use cap_halves::halves::taken;
 use cap_halves::values::Capability;
 use cap_judge::{Judge, TakeFault};
+use cap_log::Ranged;
+use cap_log::kinds::{
+    AndPerm, ClearTag, Load, LoadCap, Move, Seal, SetAddr, SetBounds, SetBoundsExact, Store,
+    StoreCap, Unseal,
+};
 use cap_machine::Instruction;
 use std::alloc::Global;
 use tagmem::{PageStore, TaggedStore};
@@ -36,7 +36,7 @@ pub extern "C" fn capcheck_judge_move(
 ) -> u8
     ensures step { HandsOver (line.Step (steps.move_passed target source recorded)) (held_in judge.old) (held_in judge.new) result }
 {
-    hand_over(alloc, judge, move_of(target, source, recorded))
+    hand_over::<Move>(alloc, judge, (target, (source, taken(recorded))))
 }
 
 /// Hands over a step `cleartag`.
@@ -50,7 +50,7 @@ pub extern "C" fn capcheck_judge_cleartag(
 ) -> u8
     ensures step { HandsOver (line.Step (steps.cleartag_passed target source recorded)) (held_in judge.old) (held_in judge.new) result }
 {
-    hand_over(alloc, judge, cleartag_of(target, source, recorded))
+    hand_over::<ClearTag>(alloc, judge, (target, (source, taken(recorded))))
 }
 
 /// Hands over a step `setbounds`.
@@ -65,7 +65,7 @@ pub extern "C" fn capcheck_judge_setbounds(
 ) -> u8
     ensures step { HandsOver (line.Step (steps.setbounds_passed target source length recorded)) (held_in judge.old) (held_in judge.new) result }
 {
-    hand_over(alloc, judge, setbounds_of(target, source, length, recorded))
+    hand_over::<SetBounds>(alloc, judge, (target, (source, (length, taken(recorded)))))
 }
 
 /// Hands over a step `setboundsexact`.
@@ -80,11 +80,7 @@ pub extern "C" fn capcheck_judge_setboundsexact(
 ) -> u8
     ensures step { HandsOver (line.Step (steps.setboundsexact_passed target source length recorded)) (held_in judge.old) (held_in judge.new) result }
 {
-    hand_over(
-        alloc,
-        judge,
-        setboundsexact_of(target, source, length, recorded),
-    )
+    hand_over::<SetBoundsExact>(alloc, judge, (target, (source, (length, taken(recorded)))))
 }
 
 /// Hands over a step `setaddr`.
@@ -99,7 +95,7 @@ pub extern "C" fn capcheck_judge_setaddr(
 ) -> u8
     ensures step { HandsOver (line.Step (steps.setaddr_passed target source address recorded)) (held_in judge.old) (held_in judge.new) result }
 {
-    hand_over(alloc, judge, setaddr_of(target, source, address, recorded))
+    hand_over::<SetAddr>(alloc, judge, (target, (source, (address, taken(recorded)))))
 }
 
 /// Hands over a step `andperm`.
@@ -114,7 +110,7 @@ pub extern "C" fn capcheck_judge_andperm(
 ) -> u8
     ensures step { HandsOver (line.Step (steps.andperm_passed target source mask recorded)) (held_in judge.old) (held_in judge.new) result }
 {
-    hand_over(alloc, judge, andperm_of(target, source, mask, recorded))
+    hand_over::<AndPerm>(alloc, judge, (target, (source, (mask, taken(recorded)))))
 }
 
 /// Hands over a step `seal`.
@@ -129,7 +125,8 @@ pub extern "C" fn capcheck_judge_seal(
 ) -> u8
     ensures step { HandsOver (line.Step (steps.seal_passed target source authority recorded)) (held_in judge.old) (held_in judge.new) result }
 {
-    hand_over(alloc, judge, seal_of(target, source, authority, recorded))
+    let recorded = taken(recorded);
+    hand_over::<Seal>(alloc, judge, (target, (source, (authority, recorded))))
 }
 
 /// Hands over a step `unseal`.
@@ -144,7 +141,8 @@ pub extern "C" fn capcheck_judge_unseal(
 ) -> u8
     ensures step { HandsOver (line.Step (steps.unseal_passed target source authority recorded)) (held_in judge.old) (held_in judge.new) result }
 {
-    hand_over(alloc, judge, unseal_of(target, source, authority, recorded))
+    let recorded = taken(recorded);
+    hand_over::<Unseal>(alloc, judge, (target, (source, (authority, recorded))))
 }
 
 /// Hands over a step `lc`.
@@ -159,7 +157,8 @@ pub extern "C" fn capcheck_judge_lc(
 ) -> u8
     ensures step { HandsOver (line.Step (steps.lc_passed target authority offset recorded)) (held_in judge.old) (held_in judge.new) result }
 {
-    hand_over(alloc, judge, lc_of(target, authority, offset, recorded))
+    let recorded = taken(recorded);
+    hand_over::<LoadCap>(alloc, judge, (target, (authority, (offset, recorded))))
 }
 
 /// Hands over a step `sc`.
@@ -173,7 +172,7 @@ pub extern "C" fn capcheck_judge_sc(
 ) -> u8
     ensures step { HandsOver (line.Step (steps.sc_passed source authority offset)) (held_in judge.old) (held_in judge.new) result }
 {
-    hand_over(alloc, judge, sc_of(source, authority, offset))
+    hand_over::<StoreCap>(alloc, judge, (source, (authority, offset)))
 }
 
 /// Hands over a step `load`: `size` is 1, 2, 4 or 8, and `value` is below 256^size.
@@ -188,7 +187,7 @@ pub extern "C" fn capcheck_judge_load(
 ) -> u8
     ensures step { HandsOver (line.Step (steps.load_passed authority offset size value)) (held_in judge.old) (held_in judge.new) result }
 {
-    hand_over(alloc, judge, load_of(authority, offset, size, value))
+    hand_over::<Load>(alloc, judge, (authority, (offset, (size, value))))
 }
 
 /// Hands over a step `store`: `size` is 1, 2, 4 or 8, and `value` is below 256^size.
@@ -203,16 +202,20 @@ pub extern "C" fn capcheck_judge_store(
 ) -> u8
     ensures step { HandsOver (line.Step (steps.store_passed authority offset size value)) (held_in judge.old) (held_in judge.new) result }
 {
-    hand_over(alloc, judge, store_of(authority, offset, size, value))
+    hand_over::<Store>(alloc, judge, (authority, (offset, (size, value))))
 }
 
 // Hands over the step that C's numbers make. Where they make none, it answers that they are no line, and nothing has
 /// changed.
 #[inline(always)]
-fn hand_over<I: Instruction>(alloc: Global, judge: &mut Handle, made: Option<I>) -> u8
-    ensures { (step : Step) → IsStepOf I.step step made → HandsOver (line.Step step) (held_in judge.old) (held_in judge.new) result }
+fn hand_over<I: Instruction>(
+    alloc: Global,
+    judge: &mut Handle,
+    numbers: <I::Parts as Ranged>::Numbers,
+) -> u8
+    ensures { HandsOver (line.Step (I.step (I.made (I.Parts.meant numbers)))) (held_in judge.old) (held_in judge.new) result }
 {
-    match made {
+    match I::from_numbers(numbers) {
         Some(step) => match judge.take(alloc) {
             Some(held) => {
                 let mut held = held;

@@ -84,6 +84,15 @@ impl Part for Offset {
 }
 
 impl Ranged for Offset {
+    type Numbers = i64;
+
+    ghost meant = { λ number. number };
+
+    #[inline(always)]
+    fn from_numbers(number: i64) -> Option<Offset> {
+        Offset::new(number)
+    }
+
     #[inline(always)]
     fn in_range(self) {
         self.number();

@@ -90,6 +90,15 @@ impl<const LEAST: u8> Part for RegisterFrom<LEAST> {
 }
 
 impl<const LEAST: u8> Ranged for RegisterFrom<LEAST> {
+    type Numbers = u64;
+
+    ghost meant = { λ number. number };
+
+    #[inline(always)]
+    fn from_numbers(number: u64) -> Option<Self> {
+        Self::new(number)
+    }
+
     #[inline(always)]
     fn in_range(self) {
         self.number();

@@ -161,6 +161,18 @@ impl<const IS_LOAD: bool> Part for Accessed<IS_LOAD> {
 }
 
 impl<const IS_LOAD: bool> Ranged for Accessed<IS_LOAD> {
+    type Numbers = (u64, u64);
+
+    ghost meant = { λ numbers. record { 0 = record { size = numbers.0; value = numbers.1 } } };
+
+    #[inline(always)]
+    fn from_numbers((size, value): (u64, u64)) -> Option<Self> {
+        let Some(datum) = Datum::new(size, value) else {
+            return None;
+        };
+        Some(Accessed(datum))
+    }
+
     #[inline(always)]
     fn in_range(self) {
         self.0.size();

@@ -5,4 +5,4 @@ use Rattle.capcheck_judge.proofs.steps.capcheck_judge_store.Goals as goal
 pub returns : goal.returns
 returns c =
     let same = to_z-of_z w64 c.args.offset c.ranges.offset in
-    record { step = c.hand_over.ensures _ (rw same at c.store_of.ensures.step) }
+    record { step = rw same at c.hand_over.ensures }

@@ -1,19 +1,20 @@
 use Rattle.std.proofs.Common.{◌≡◌, ◌∙◌, ap, subst, sym}
 use Rattle.std.specs.Prelude.{Some}
 use Rattle.cap_log.specs.declared.lines.Line.TheVariants as line
-use Rattle.cap_log.specs.declared.kinds.Step.{Step}
-use Rattle.cap_halves.specs.Passed.{IsStepOf}
+use Rattle.cap_log.specs.Parts.{IsMade}
 use Rattle.capcheck_judge.proofs.HandleLemmas.{Stepped, handed}
 use Rattle.capcheck_judge.proofs.steps.hand_over.Goals as goal
 
 pub returns-in-Some-take : goal.returns-in-Some-take
-returns-in-Some-take g c = λ step made.
-    let of = subst (IsStepOf g.I.Operands.step step) c.in-Some.is made in
+returns-in-Some-take g c =
+    let step_of = g.I.Operands.step in
+    let wanted = g.I.Operands.made (g.I.Parts.Ranged.meant c.args.numbers) in
+    let of = subst (IsMade step_of wanted) c.in-Some.is c.from_numbers.ensures.made in
     let is : c.args.judge.now.judge ≡ Some c.deref_mut.result.now = c.in-Some-take.ensures.taken ∙ ap Some (sym c.deref_mut.ensures.value) in
     let old = c.deref_mut.result.now in
     let new = c.take_step-state.new.judge in
     let state = c.take_step-state.result in
-    let stepped : Stepped (line.Step (g.I.Operands.step c.in-Some.step)) old new state = record {
+    let stepped : Stepped (line.Step (step_of c.in-Some.step)) old new state = record {
       answers = c.take_step-state.ensures.answers;
       taken = c.take_step-state.ensures.taken;
       goes_on = c.take_step-state.ensures.goes_on;
@@ -21,5 +22,5 @@ returns-in-Some-take g c = λ step made.
       unchanged = c.take_step-state.ensures.unchanged;
       no_memory = c.take_step-state.ensures.no_memory;
     } in
-    handed (line.Step step) c.args.judge.now.judge c.put.new.self.judge old new state of.0 is c.put.ensures
-    (subst (λ (s : Step). Stepped (line.Step s) old new state) of.1 stepped)
+    handed (line.Step (step_of wanted)) c.args.judge.now.judge c.put.new.self.judge old new state of.0 is c.put.ensures
+    (subst (λ operands. Stepped (line.Step (step_of operands)) old new state) of.1 stepped)

@@ -5,7 +5,9 @@ use Rattle.cap_log.proofs.operands.Operands.write.Goals as goal
 
 pub write-requires-clause-room : goal.write-requires-clause-room
 write-requires-clause-room g c =
-    let short = spelling-short (line.Step (g.Self.Operands.step c.args.self)) (c.into_parts-parts.ensures.in_range c.in_range.ensures.fits) in
-    let same = ap length c.into_parts-parts.ensures.spelling in
+    let parts = c.into_parts-parts.result in
+    let fits = c.head.ensures.in_range parts c.in_range.ensures.fits in
+    let short = spelling-short (line.Step (g.Self.Operands.step (g.Self.Operands.made parts))) fits in
+    let same = ap length (c.head.ensures.spelling parts) in
     let room = c.requires in
     rw c.head.ensures.head (omega arith)

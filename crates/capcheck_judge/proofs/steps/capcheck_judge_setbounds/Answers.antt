@@ -1,4 +1,0 @@
-use Rattle.capcheck_judge.proofs.steps.capcheck_judge_setbounds.Goals as goal
-
-pub returns : goal.returns
-returns c = record { step = c.hand_over.ensures _ c.setbounds_of.ensures.step }

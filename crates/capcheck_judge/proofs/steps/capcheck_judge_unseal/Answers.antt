@@ -1,4 +1,0 @@
-use Rattle.capcheck_judge.proofs.steps.capcheck_judge_unseal.Goals as goal
-
-pub returns : goal.returns
-returns c = record { step = c.hand_over.ensures _ c.unseal_of.ensures.step }
