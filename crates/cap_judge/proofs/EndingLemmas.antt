@@ -12,8 +12,8 @@ use Rattle.cap_log.specs.Front.{IsCut, IsLine, IsTooLong}
 use Rattle.cap_machine.specs.Helds.{Held}
 use Rattle.cap_machine.specs.States.{DeclaredRoot}
 use Rattle.cap_machine.specs.declared.rules.Rules.{Rules}
-use Rattle.cap_judge.specs.declared.beginning.Stage.{Stage}
-use Rattle.cap_judge.specs.declared.beginning.Stage.TheVariants as stages
+use Rattle.cap_judge.specs.declared.judges.Stage.{Stage}
+use Rattle.cap_judge.specs.declared.judges.Stage.TheVariants as stages
 use Rattle.cap_judge.specs.declared.faults.Fault.{Fault}
 use Rattle.cap_judge.specs.declared.verdict.Verdict.{Verdict}
 use Rattle.cap_judge.specs.declared.verdict.Verdict.TheVariants.{Yes, No}
@@ -33,7 +33,7 @@ use Rattle.cap_machine.specs.declared.ends.StepEnd.{StepEnd}
 use Rattle.cap_judge.proofs.LogLemmas.{no_roots}
 use Rattle.std.proofs.lemmas.Grind.{flat_map-append}
 use Rattle.cap_log.proofs.FrontLemmas.{IsLine-not_cut, IsLine-not_too_long, IsLine-same, IsTooLong-not_cut}
-use Rattle.cap_judge.specs.declared.beginning.Stop.TheVariants as stops
+use Rattle.cap_judge.specs.declared.judges.Stop.TheVariants as stops
 use Rattle.cap_log.specs.declared.lines.Mode.TheVariants as modes
 use Rattle.cap_machine.specs.declared.rules.Rules.TheVariants.{One, TwoStrict}
 use Rattle.cap_judge.specs.declared.verdict.TakeFault.{TakeFault}

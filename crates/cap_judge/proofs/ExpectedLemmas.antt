@@ -38,8 +38,8 @@ use Rattle.cap_judge.specs.Logs.{Beginning, Nothing, NoMode, Body, Whole, IsFirs
 use Rattle.cap_judge.specs.Logs.{RunsBy, lines_of, text_of}
 use Rattle.cap_judge.specs.Judgings.{IsLastFront, account_before}
 use Rattle.cap_judge.specs.Expectations.{Expects, IsExpected, GivesFor, GivesForText, expected_of, given_in}
-use Rattle.cap_judge.specs.declared.beginning.Stage.{Stage}
-use Rattle.cap_judge.specs.declared.beginning.Stage.TheVariants as stages
+use Rattle.cap_judge.specs.declared.judges.Stage.{Stage}
+use Rattle.cap_judge.specs.declared.judges.Stage.TheVariants as stages
 use Rattle.cap_judge.specs.Readings.{IsAtFault, IsFaultAt, IsRest, Known, Read as Reads}
 use Rattle.cap_judge.proofs.EscapeLaws.{is_of_step, is_step, never_front}
 use Rattle.cap_judge.proofs.OneVerdict.{one_verdict}

@@ -5,7 +5,7 @@ use Rattle.std.proofs.lemmas.List.{take-append-drop}
 use Rattle.std.proofs.lemmas.List.Elements.{All-nil}
 use Rattle.cap_log.specs.Front.{IsCut}
 use Rattle.cap_machine.specs.Helds.{Held}
-use Rattle.cap_judge.specs.declared.beginning.Stop.TheVariants as stops
+use Rattle.cap_judge.specs.declared.judges.Stop.TheVariants as stops
 use Rattle.cap_judge.specs.declared.faults.Fault.{Fault}
 use Rattle.cap_judge.specs.declared.verdict.JudgeFault.{JudgeFault}
 use Rattle.cap_judge.specs.declared.verdict.JudgeFault.TheVariants.{NoMemory, Pull}

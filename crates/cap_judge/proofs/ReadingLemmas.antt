@@ -24,8 +24,8 @@ use Rattle.cap_machine.specs.Helds.{Held, account_of, Makes, TakesRoot}
 use Rattle.cap_machine.specs.States.{DeclaredRoot}
 use Rattle.cap_machine.specs.declared.rules.Rules.{Rules}
 use Rattle.cap_machine.specs.declared.rules.Rules.TheVariants.{One, TwoStrict, TwoClear}
-use Rattle.cap_judge.specs.declared.beginning.Stage.{Stage}
-use Rattle.cap_judge.specs.declared.beginning.Stage.TheVariants as stages
+use Rattle.cap_judge.specs.declared.judges.Stage.{Stage}
+use Rattle.cap_judge.specs.declared.judges.Stage.TheVariants as stages
 use Rattle.cap_judge.specs.declared.faults.Fault.{Fault}
 use Rattle.cap_judge.specs.FaultLines.{bytes_of, IsFrontText}
 use Rattle.cap_judge.specs.Readings.{rules_of, EndsFor, Reaches, EndsAt, EndsBehind, EndsFrom, EndsStepAt, Faults, GoesOn, IsAfter}
@@ -38,8 +38,8 @@ use Rattle.cap_judge.proofs.ReachLemmas.{same_rules, step_formed, reached, steps
 use Rattle.std.proofs.lemmas.List.Prefix.{end_rest}
 use Rattle.cap_word.specs.declared.word.Word.{Word}
 use Rattle.cap_log.specs.declared.lines.Place.{Place}
-use Rattle.cap_judge.specs.declared.beginning.Stop.{Stop}
-use Rattle.cap_judge.specs.declared.beginning.Stop.TheVariants as stops
+use Rattle.cap_judge.specs.declared.judges.Stop.{Stop}
+use Rattle.cap_judge.specs.declared.judges.Stop.TheVariants as stops
 use Rattle.cap_judge.proofs.FormLemmas.{no_form}
 use Rattle.cap_judge.specs.Turns as turns
 use Rattle.cap_judge.proofs.InTurn.{stage_of, longer, with_line}

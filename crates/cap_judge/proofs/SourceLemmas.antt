@@ -13,9 +13,9 @@ use Rattle.cap_judge.proofs.JudgeLemmas.{guarded, no_lack}
 use Rattle.std.proofs.lemmas.Bool.{false≢true}
 use Rattle.cap_log.specs.Front.{IsCut}
 use Rattle.cap_machine.specs.Helds.{Held}
-use Rattle.cap_judge.specs.declared.beginning.Stage.{Stage}
-use Rattle.cap_judge.specs.declared.beginning.Stage.TheVariants as stages
-use Rattle.cap_judge.specs.declared.beginning.Stop.TheVariants as stops
+use Rattle.cap_judge.specs.declared.judges.Stage.{Stage}
+use Rattle.cap_judge.specs.declared.judges.Stage.TheVariants as stages
+use Rattle.cap_judge.specs.declared.judges.Stop.TheVariants as stops
 use Rattle.cap_judge.specs.declared.faults.Fault.{Fault}
 use Rattle.cap_judge.specs.declared.verdict.JudgeFault.TheVariants as judge_faults
 use Rattle.cap_judge.specs.FaultLines.{bytes_of}

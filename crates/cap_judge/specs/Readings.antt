@@ -17,11 +17,11 @@ use Rattle.cap_machine.specs.declared.ends.StepEnd.{StepEnd}
 use Rattle.cap_machine.specs.declared.ends.StepEnd.TheVariants as ends
 use Rattle.cap_machine.specs.declared.rules.Rules.{Rules}
 use Rattle.cap_machine.specs.declared.rules.Rules.TheVariants.{One, TwoStrict, TwoClear}
-use Rattle.cap_judge.specs.declared.beginning.Judge.{Judge}
-use Rattle.cap_judge.specs.declared.beginning.Stage.{Stage}
-use Rattle.cap_judge.specs.declared.beginning.Stage.TheVariants.{Version, Mode, Body, Ended, Refused}
-use Rattle.cap_judge.specs.declared.beginning.Stop.{Stop}
-use Rattle.cap_judge.specs.declared.beginning.Stop.TheVariants.{Cut, Fault, NoMemory}
+use Rattle.cap_judge.specs.declared.judges.Judge.{Judge}
+use Rattle.cap_judge.specs.declared.judges.Stage.{Stage}
+use Rattle.cap_judge.specs.declared.judges.Stage.TheVariants.{Version, Mode, Body, Ended, Refused}
+use Rattle.cap_judge.specs.declared.judges.Stop.{Stop}
+use Rattle.cap_judge.specs.declared.judges.Stop.TheVariants.{Cut, Fault, NoMemory}
 use Rattle.cap_judge.specs.declared.faults.Fault as faults
 use Rattle.cap_judge.specs.declared.verdict.JudgeFault.{JudgeFault}
 use Rattle.cap_judge.specs.declared.verdict.Verdict.{Verdict}

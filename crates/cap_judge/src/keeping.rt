@@ -6,8 +6,8 @@ ghost use Rattle.cap_judge.specs.FaultLines.{bytes_of};
 ghost use Rattle.cap_judge.specs.Judgings.{JudgedAll};
 ghost use Rattle.cap_judge.specs.Readings.{HasRead};
 
-use crate::beginning::{Judge, Stop};
 use crate::fault_lines::FaultLine;
+use crate::judges::{Judge, Stop};
 use crate::streams::{Judging, answered};
 use crate::verdict::{JudgeFault, Verdict};
 use tagmem::TaggedStore;

@@ -6,26 +6,23 @@
 //! gives the machine with the answer, and the line that was refused.
 #![tactic(auto)]
 
-mod beginning;
 mod expecting;
 mod fault_lines;
 mod faults;
+mod judges;
 mod keeping;
 mod laws;
-mod lines;
-mod numbers;
 mod origin_lines;
 mod origins;
 mod reporting;
 mod steps;
 mod streams;
-mod telling;
 mod verdict;
 mod verdict_lines;
 
-pub use crate::beginning::{Judge, Stop, Taken};
 pub use crate::fault_lines::FaultLine;
 pub use crate::faults::Fault;
+pub use crate::judges::{Judge, Stop, Taken};
 pub use crate::keeping::judge_bytes_keeping;
 pub use crate::laws::{
     accepted_in_turn, escapes_are_named_exactly, logs_are_guarded, logs_clear_exactly, one_verdict,

@@ -11,9 +11,9 @@ ghost use Rattle.cap_judge.specs.Readings.{HasRead, IsAnswered, StopsAt, known_o
 ghost use Rattle.cap_judge.specs.Verdicts.{EscapesExactly, IsFault, IsGuarded, IsVerdict, NamesEscapes};
 ghost use Rattle.cap_judge.specs.declared.verdict.JudgeFault.TheVariants.{Pull};
 
-use crate::beginning::{Judge, Stop};
 use crate::fault_lines::FaultLine;
 use crate::faults::Fault;
+use crate::judges::{Judge, Stop};
 use crate::keeping::judge_bytes_keeping;
 use crate::verdict::{JudgeFault, Verdict};
 use cap_log::{PullFault, Pulled, Source};

@@ -31,7 +31,7 @@ use Rattle.std.proofs.alloc.Global.TheLaws as heap_laws
 use Rattle.std.specs.contracts.impls.GlobalAllocator.TheImpl.{ghosts}
 use Rattle.tagmem.specs.contracts.page_store.PageStore.{the_row as store_row}
 use Rattle.tagmem.specs.contracts.page_store.PageStoreTaggedStore.TheImpl.{ghosts as store_ghosts}
-use Rattle.cap_judge.specs.contracts.beginning.Judge.{the_row as judge_row}
+use Rattle.cap_judge.specs.contracts.judges.Judge.{the_row as judge_row}
 use Rattle.capcheck_judge.specs.Holding.{owned_value}
 use Rattle.capcheck_judge.specs.contracts.handle.Handle as handle
 

@@ -9,7 +9,7 @@ use Rattle.cap_log.specs.Lines.{IsInRange, spelling}
 use Rattle.cap_log.specs.declared.lines.Line.{Line}
 use Rattle.tagmem.specs.contracts.page_store.PageStore.{the_row as store_row}
 use Rattle.tagmem.specs.contracts.page_store.PageStoreTaggedStore.TheImpl.{ghosts}
-use Rattle.cap_judge.specs.contracts.beginning.Judge.{the_row as judge_row}
+use Rattle.cap_judge.specs.contracts.judges.Judge.{the_row as judge_row}
 use Rattle.cap_judge.specs.Judgings.{account_before}
 use Rattle.cap_judge.specs.Logs.{MayLackMemory}
 use Rattle.cap_judge.specs.Readings.{BeginsWhole, HasRead, Known, Read, known_of}

@@ -6,7 +6,7 @@ ghost use Rattle.std.specs.Coded.{coded_option};
 ghost use denote.RattleType.{RattleType};
 ghost use Rattle.tagmem.specs.contracts.page_store.PageStore.{the_row as pages};
 ghost use Rattle.tagmem.specs.contracts.page_store.PageStoreTaggedStore.TheImpl.{ghosts};
-ghost use Rattle.cap_judge.specs.contracts.beginning.Judge.{the_row as judge_row};
+ghost use Rattle.cap_judge.specs.contracts.judges.Judge.{the_row as judge_row};
 ghost use Rattle.capcheck_judge.specs.Holding.{held_by};
 
 use crate::held::{Held, keep, own};

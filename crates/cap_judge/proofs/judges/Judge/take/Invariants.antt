@@ -1,0 +1,14 @@
+use Rattle.std.proofs.Common.{◌≡◌, ◌++◌, ℕ, List, length}
+use Rattle.cap_judge.specs.Readings.{GoesOn, known_of}
+use Rattle.cap_judge.proofs.judges.Judge.take.Given as goal
+
+-- the lines so far are the front of the bytes
+abbrev pub invariant-lines : goal.invariant-lines
+invariant-lines g l = record {
+  taken : (front : List ℕ) × (l.fn.bytes ≡ front ++ l.rest)
+      × GoesOn (known_of l.fn.self) front (known_of l.self);
+}
+
+-- each line shortens the rest
+abbrev pub decreases-lines : goal.decreases-lines
+decreases-lines g l = length l.rest

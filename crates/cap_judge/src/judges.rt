@@ -1,0 +1,663 @@
+//! The judge of a log: it is handed the log's bytes, cut anywhere, or its steps by their numbers, and reads the whole
+//! lines that stand there.
+
+ghost use Rattle.std.specs.Prelude.{◌≡◌, ◌≤◌, ◌<◌, ◌^◌, ◌↔◌, ◌⊎◌, ℕ, List, [], ◌++◌, length, take, drop, true, false, Err, None, IfSome};
+ghost use Rattle.std.specs.Prelude.{OnOk, IfErr, ◌≢◌, ◌∷◌, ◌+◌, IfOk};
+ghost use Rattle.cap_log.specs.Front.{IsCut, IsLine, IsTooLong};
+ghost use Rattle.cap_machine.specs.States.{granule_key};
+ghost use Rattle.cap_judge.specs.Expectations.{Expects};
+ghost use Rattle.cap_judge.specs.Judgings.{account_before};
+ghost use Rattle.cap_judge.specs.Logs.{MayLackMemory, Beginning, has_form, header_lines, lines_of};
+ghost use Rattle.cap_judge.specs.Verdicts.{EscapesExactly, IsGuarded, IsVerdict, NamesEscapes};
+ghost use Rattle.cap_judge.specs.Readings.{BeginsWhole, EndsStepAt, EndsWith, HasRead, IsNoLine, Stands, StopsAt, known_of, StandsIn};
+ghost use Rattle.cap_judge.specs.Readings.{EndsAt, EndsFor, EndsFrom, Faults, GoesOn, GoesOrStops, IsAfter, IsAtFault, rules_of};
+ghost use Rattle.cap_judge.specs.declared.judges.Stage.TheVariants.{Body, Refused as RefusedIn, Mode as ModeStage, Version};
+ghost use Rattle.cap_judge.specs.declared.faults.Fault.{Fault as FaultIn};
+ghost use Rattle.cap_judge.specs.declared.verdict.TakeFault.TheVariants.{NoLine, NoMemory};
+ghost use Rattle.cap_log.specs.Lines.{IsStepInRange, spelling, IsInRange, IsPlace, Spells};
+ghost use Rattle.cap_log.specs.Parts.{BeginsWithNone};
+ghost use Rattle.cap_log.specs.declared.lines.Line.{Line};
+ghost use Rattle.cap_machine.specs.Helds.{account_of};
+ghost use Rattle.cap_machine.specs.declared.ends.StepEnd.TheVariants.{Refused};
+ghost use Rattle.cap_ops.specs.declared.refusal.Refusal.TheVariants.{BadLine, Misplaced};
+ghost use Rattle.cap_judge.specs.FaultLines.{IsFrontText, bytes_of};
+ghost use Rattle.std.specs.FinMap as map;
+ghost use Rattle.cap_log.specs.declared.lines.Line.TheVariants as lines;
+ghost use Rattle.cap_judge.specs.declared.judges.Stop.TheVariants as stops;
+
+use crate::expecting::expected_by;
+use crate::fault_lines::FaultLine;
+use crate::faults::Fault;
+use crate::steps::{take_alone, take_steps};
+use crate::verdict::{Expected, TakeFault, Verdict};
+use cap_log::{Front, Line, Mode, Operands, Place, Step, front, take_line, write_line};
+use cap_machine::{Instruction, Machine, Refusal, Rules, StepEnd};
+use cap_word::{Cap, Word};
+use std::alloc::Global;
+use tagmem::{PageStore, TaggedStore};
+
+/// What the next line of a log has to be.
+#[derive(Drop)]
+pub enum Stage {
+    /// The version line.
+    Version,
+    /// The mode line.
+    Mode,
+    /// A root, a step or the end line.
+    Body,
+    /// None: the end line has come.
+    Ended,
+    /// None: this line is at fault.
+    Refused(Fault),
+}
+
+/// Why a judge stopped.
+#[derive(Debug, Clone, Copy, PartialEq, Eq)]
+pub enum Stop {
+    /// The bytes behind those that it took are less than a line, if any.
+    Cut,
+    /// The line behind them is at fault, or one before them was.
+    Fault,
+    /// There was no memory for a granule that the line behind them names for the first time.
+    NoMemory,
+}
+
+/// What a judge took of the bytes that it was handed.
+#[derive(Debug, Clone, Copy, PartialEq, Eq)]
+pub struct Taken {
+    /// How many bytes, all of them whole lines.
+    pub count: usize,
+    /// Why it took no more.
+    pub stop: Stop,
+}
+
+/// A judge that has read a beginning of a log: the machine that its lines lead to, and what the next line has to
+/// be. After a fault the machine holds what it held before that line.
+#[derive(Drop)]
+pub struct Judge<M: TaggedStore> {
+    pub(crate) machine: Machine<M>,
+    pub(crate) stage: Stage,
+}
+
+impl Judge<PageStore> {
+    /// Nothing was read yet. It takes no memory.
+    pub fn over_pages(alloc: Global) -> Judge<PageStore>
+        ensures read { HasRead result [] }
+    {
+        Judge::new(PageStore::new(alloc))
+    }
+}
+
+impl<M: TaggedStore> Judge<M> {
+    /// Nothing was read yet. The store has to be empty.
+    pub fn new(memory: M) -> Judge<M>
+        requires { map.len (M.contents memory) ≡ 0 }
+        ensures read { HasRead result [] }
+    {
+        Judge {
+            machine: Machine::new(memory),
+            stage: Stage::Version,
+        }
+    }
+
+    /// Takes the whole lines at the front of some bytes, which follow those that it took before: up to what is
+    /// less than a line, to the first fault, or to want of memory. What it did not take may be handed over again,
+    /// with more behind it. The line at fault is not counted, nor is what follows it: it is read, and the no
+    /// stands whatever follows. From then on nothing is counted.
+    pub fn take(&mut self, bytes: &[u8]) -> Taken
+        ensures count { result.count ≤ length bytes.now }
+        ensures stops { StopsAt (known_of self.old) (take result.count bytes.now) (drop result.count bytes.now)
+            result.stop (known_of self.new) }
+    {
+        let mut rest = bytes;
+        'lines: loop {
+            let (behind, stop) = self.take_some(rest);
+            rest = behind;
+            if let Some(stop) = stop {
+                let count = bytes.len() - rest.len();
+                return Taken { count, stop };
+            }
+        }
+    }
+
+    /// Takes the next line, with its line feed. Bytes that are no line with its line feed are not taken,
+    /// unless more than 95 of them come before any: that is a line that is too long. Nor is a line for which
+    /// there is no memory. Then nothing has changed, and the line may be handed over again.
+    pub fn take_line(&mut self, line: &[u8]) -> Result<(), TakeFault>
+        // Whatever bytes were read before, these are read behind them.
+        ensures taken { OnOk result ((bytes : List ℕ) → HasRead self.old bytes
+            → HasRead self.new (bytes ++ line.now)) }
+        ensures unchanged { IfErr result (λ _. known_of self.new ≡ known_of self.old) }
+        ensures no_line { (result ≡ Err NoLine) ↔ IsNoLine line.now }
+
+        // Memory is wanted only where this very line, which no test refuses, names a granule for the first time.
+        ensures no_memory { result ≡ Err NoMemory → (bytes : List ℕ) → HasRead self.old bytes
+            → MayLackMemory (bytes ++ line.now) [] }
+    {
+        if let Stage::Body = self.stage {
+            return self.take_body(line);
+        }
+        self.take_whole(line)
+    }
+
+    /// `None` exactly while the lines so far begin a log, and otherwise the no that stands whatever lines
+    /// follow. It is never a yes, since after the end line of a log too a line may follow.
+    pub fn answer(&self) -> Option<Verdict>
+        ensures stands { (bytes : List ℕ) → HasRead self.now bytes → Stands bytes result }
+        ensures none { (bytes : List ℕ) → HasRead self.now bytes → BeginsWhole bytes → result ≡ None }
+        ensures escape { IfSome result NamesEscapes }
+    {
+        match &self.stage {
+            Stage::Refused(fault) => Some(fault.verdict()),
+            _ => None,
+        }
+    }
+
+    /// The verdict if no other bytes follow than these, which are less than a line.
+    pub fn end(&self, rest: &[u8]) -> Verdict
+        ensures verdict { (bytes : List ℕ) → HasRead self.now bytes → IsCut rest.now → IsVerdict (bytes ++ rest.now) result }
+        ensures authority { (bytes : List ℕ) → HasRead self.now bytes → IsGuarded (bytes ++ rest.now) }
+        ensures escape { (bytes : List ℕ) → HasRead self.now bytes → EscapesExactly (bytes ++ rest.now) result }
+    {
+        match self.ending(rest) {
+            Ok(verdict) => verdict,
+            Err(fault) => fault.verdict(),
+        }
+    }
+
+    /// After a no for a step's result, the result that the rules give for that step; otherwise `None`.
+    pub fn expected(&self) -> Option<Expected>
+        ensures expects { (bytes : List ℕ) → HasRead self.now bytes → Expects bytes result }
+    {
+        match &self.stage {
+            Stage::Refused(fault) => match fault.refusal {
+                Refusal::WrongResult => expected_by(&self.machine, fault.text.as_slice()),
+                _ => None,
+            },
+            _ => None,
+        }
+    }
+
+    /// What a register holds behind the lines so far, or before the line at fault. Register 0 is c0.
+    pub fn register(&self, number: u8) -> Cap
+        requires { number ≤ 31 }
+        ensures holds { (bytes : List ℕ) → (read : HasRead self.now bytes)
+            → result ≡ (account_before read.beginning).state number }
+    {
+        self.machine.register(number)
+    }
+
+    /// What a granule holds behind the lines so far, or before the line at fault: the sixteen bytes from
+    /// address `16 * granule` on.
+    pub fn granule(&self, granule: u64) -> Cap
+        requires { granule < 2 ^ 60 }
+        ensures holds { (bytes : List ℕ) → (read : HasRead self.now bytes)
+            → result ≡ (account_before read.beginning).state (granule_key granule) }
+    {
+        self.machine.granule(granule)
+    }
+
+    // Takes the line of a step behind the header, or bytes of any kind.
+    #[inline(always)]
+    fn take_body(&mut self, line: &[u8]) -> Result<(), TakeFault>
+        requires body { self.old.stage ≡ Body }
+        ensures taken { OnOk result ((bytes : List ℕ) → HasRead self.old bytes
+            → HasRead self.new (bytes ++ line.now)) }
+        ensures unchanged { IfErr result (λ _. known_of self.new ≡ known_of self.old) }
+        ensures no_line { (result ≡ Err NoLine) ↔ IsNoLine line.now }
+        ensures no_memory { result ≡ Err NoMemory → (bytes : List ℕ) → HasRead self.old bytes
+            → MayLackMemory (bytes ++ line.now) [] }
+    {
+        match take_alone(&mut self.machine, line) {
+            Some(Ok(())) => Ok(()),
+            Some(Err(end)) => self.take_end(end, line),
+            None => self.take_whole(line),
+        }
+    }
+
+    // Takes bytes of any kind as one line.
+    #[inline(never)]
+    fn take_whole(&mut self, line: &[u8]) -> Result<(), TakeFault>
+        ensures taken { OnOk result ((bytes : List ℕ) → HasRead self.old bytes
+            → HasRead self.new (bytes ++ line.now)) }
+        ensures unchanged { IfErr result (λ _. known_of self.new ≡ known_of self.old) }
+        ensures no_line { (result ≡ Err NoLine) ↔ IsNoLine line.now }
+        ensures no_memory { result ≡ Err NoMemory → (bytes : List ℕ) → HasRead self.old bytes
+            → MayLackMemory (bytes ++ line.now) [] }
+    {
+        if !is_whole(line) {
+            return Err(TakeFault::NoLine);
+        }
+        match self.take_any(line) {
+            Ok(_) => Ok(()),
+            Err(Stop::Fault) => Ok(()),
+            Err(Stop::NoMemory) => Err(TakeFault::NoMemory),
+            Err(Stop::Cut) => Err(TakeFault::NoLine),
+        }
+    }
+
+    // Ends a line at a step that was not made.
+    #[inline(never)]
+    fn take_end(&mut self, end: StepEnd, line: &[u8]) -> Result<(), TakeFault>
+        requires body { self.old.stage ≡ Body }
+        requires ends { EndsStepAt self.old.machine line.now [] end }
+        ensures taken { OnOk result ((bytes : List ℕ) → HasRead self.old bytes
+            → HasRead self.new (bytes ++ line.now)) }
+        ensures unchanged { IfErr result (λ _. known_of self.new ≡ known_of self.old) }
+        ensures no_memory { IfErr result (λ fault. (fault ≡ NoMemory) × ((bytes : List ℕ) → HasRead self.old bytes
+            → MayLackMemory (bytes ++ line.now) [])) }
+    {
+        match self.stop(end, line) {
+            Stop::NoMemory => Err(TakeFault::NoMemory),
+            Stop::Fault | Stop::Cut => Ok(()),
+        }
+    }
+
+    // The verdict if no other bytes follow than these, which are less than a line: a yes, or the line at fault.
+    pub(crate) fn ending(&self, rest: &[u8]) -> Result<Verdict, Fault>
+        ensures ends { (bytes : List ℕ) → HasRead self.now bytes → IsCut rest.now
+            → EndsWith self.now.machine (bytes ++ rest.now) result }
+        ensures fault { (fault : FaultIn) → self.now.stage ≡ RefusedIn fault → result ≡ Err fault }
+    {
+        match &self.stage {
+            Stage::Refused(fault) => Err(*fault),
+            Stage::Ended => {
+                if rest.is_empty() {
+                    Ok(Verdict::Yes {
+                        steps: self.machine.steps(),
+                        roots: self.machine.roots(),
+                    })
+                } else {
+                    Err(self.fault(Refusal::Misplaced, rest))
+                }
+            }
+            _ => Err(self.fault(Refusal::Truncated, rest)),
+        }
+    }
+
+    /// The machine, as the lines so far left it, or those before the line at fault.
+    pub fn machine(&self) -> &Machine<M>
+        ensures held { result.now ≡ (known_of self.now).held }
+    {
+        &self.machine
+    }
+
+    /// The line at fault, where one is: its no stands whatever lines follow.
+    pub fn refused(&self) -> Option<Fault>
+        ensures stands { (bytes : List ℕ) → HasRead self.now bytes
+            → StandsIn (known_of self.now).held bytes result }
+    {
+        match &self.stage {
+            Stage::Refused(fault) => Some(*fault),
+            _ => None,
+        }
+    }
+
+    /// Takes a step by its numbers, as [`Judge::take_line`] takes the line that spells it, with its line feed. That line is written only where the step is refused, or is no step's place. Where
+    /// there is no memory nothing has changed, and the step may be handed over again.
+    #[inline(always)]
+    pub fn take_step<I: Instruction>(&mut self, step: I) -> Result<(), TakeFault>
+        ensures taken { OnOk result ((bytes : List ℕ) → HasRead self.old bytes
+            → HasRead self.new (bytes ++ (spelling (lines.Step (I.step step)) ++ 10 ∷ []))) }
+        ensures unchanged { IfErr result (λ _. known_of self.new ≡ known_of self.old) }
+        ensures line { result ≢ Err NoLine }
+        ensures no_memory { result ≡ Err NoMemory → (bytes : List ℕ) → HasRead self.old bytes
+            → MayLackMemory (bytes ++ (spelling (lines.Step (I.step step)) ++ 10 ∷ [])) [] }
+    {
+        if let Stage::Body = self.stage {
+            return match step.perform(&mut self.machine) {
+                Ok(()) => Ok(()),
+                Err(_) => self.take_unmade(step),
+            };
+        }
+        self.take_unmade(step)
+    }
+
+    // Takes a step that was not made. The call gets a value of its own: so a step needn't stand in memory where it is made.
+    #[inline(always)]
+    fn take_unmade<I: Instruction>(&mut self, step: I) -> Result<(), TakeFault>
+        ensures taken { OnOk result ((bytes : List ℕ) → HasRead self.old bytes
+            → HasRead self.new (bytes ++ (spelling (lines.Step (I.step step)) ++ 10 ∷ []))) }
+        ensures unchanged { IfErr result (λ _. known_of self.new ≡ known_of self.old) }
+        ensures line { result ≢ Err NoLine }
+        ensures no_memory { result ≡ Err NoMemory → (bytes : List ℕ) → HasRead self.old bytes
+            → MayLackMemory (bytes ++ (spelling (lines.Step (I.step step)) ++ 10 ∷ [])) [] }
+    {
+        step.in_range();
+        self.take_written(step.into_step())
+    }
+
+    // Takes a step by its line.
+    #[inline(never)]
+    fn take_written(&mut self, step: Step) -> Result<(), TakeFault>
+        requires { IsStepInRange step }
+        ensures taken { OnOk result ((bytes : List ℕ) → HasRead self.old bytes
+            → HasRead self.new (bytes ++ (spelling (lines.Step step) ++ 10 ∷ []))) }
+        ensures unchanged { IfErr result (λ _. known_of self.new ≡ known_of self.old) }
+        ensures line { result ≢ Err NoLine }
+        ensures no_memory { result ≡ Err NoMemory → (bytes : List ℕ) → HasRead self.old bytes
+            → MayLackMemory (bytes ++ (spelling (lines.Step step) ++ 10 ∷ [])) [] }
+    {
+        let mut buffer = [0; 96];
+        let length = write_line(&Line::Step(step), &mut buffer);
+        self.take_line(&buffer[..length])
+    }
+
+    /// Takes the steps at the front of some bytes, and then a line of any kind: what comes behind, and why it
+    /// stopped, if it did.
+    pub(crate) fn take_some<'a>(&mut self, bytes: &'a [u8]) -> (&'a [u8], Option<Stop>)
+        ensures { (front : List ℕ) × (bytes.now ≡ front ++ result.0.now)
+            × GoesOrStops (known_of self.old) front result.0.now result.1 (known_of self.new) }
+    {
+        let (rest, end) = self.take_front(bytes);
+        if let Some(end) = end {
+            return (rest, Some(self.stop(end, rest)));
+        }
+        match self.take_any(rest) {
+            Ok(behind) => (behind, None),
+            Err(stop) => (rest, Some(stop)),
+        }
+    }
+
+    // Takes the steps at the front of some bytes: what comes behind, and how the step ends there that was not made.
+    #[inline(always)]
+    fn take_front<'a>(&mut self, bytes: &'a [u8]) -> (&'a [u8], Option<StepEnd>)
+        ensures taken { (front : List ℕ) × (bytes.now ≡ front ++ result.0.now)
+            × GoesOn (known_of self.old) front (known_of self.new) }
+        ensures end { IfSome result.1 (λ end. EndsAt (known_of self.new) result.0.now end
+            × (IsCut result.0.now → ⊥) × (IsAtFault self.new.stage → ⊥)) }
+    {
+        match self.stage {
+            Stage::Body => take_steps(&mut self.machine, bytes),
+            _ => (bytes, None),
+        }
+    }
+
+    /// Takes the line at the front of some bytes, whatever it is: what comes behind it.
+    #[inline(never)]
+    pub(crate) fn take_any<'a>(&mut self, bytes: &'a [u8]) -> Result<&'a [u8], Stop>
+        ensures ok { IfOk result (λ rest. (text : List ℕ) × IsLine bytes.now text rest.now
+            × GoesOn (known_of self.old) (text ++ 10 ∷ []) (known_of self.new)) }
+        ensures err { IfErr result (λ stop. StopsAt (known_of self.old) [] bytes.now stop (known_of self.new)) }
+        ensures same { IfErr result (λ stop. stop ≢ stops.Fault → known_of self.new ≡ known_of self.old) }
+    {
+        if self.is_at_fault() {
+            return Err(Stop::Fault);
+        }
+        match take_line(bytes) {
+            Some((line, rest)) => match self.follow(&line) {
+                Ok(()) => Ok(rest),
+                Err(end) => Err(self.stop(end, bytes)),
+            },
+            None => Err(self.stop_formless(bytes)),
+        }
+    }
+
+    // Whether a line was at fault.
+    fn is_at_fault(&self) -> bool
+        ensures at { result ≡ true → IsAtFault self.now.stage }
+        ensures none { result ≡ false → IsAtFault self.now.stage → ⊥ }
+    {
+        match self.stage {
+            Stage::Refused(_) => true,
+            Stage::Version | Stage::Mode | Stage::Body | Stage::Ended => false,
+        }
+    }
+
+    /// Stops at a line that is not taken.
+    pub(crate) fn stop(&mut self, end: StepEnd, bytes: &[u8]) -> Stop
+        requires clear { IsAtFault self.old.stage → ⊥ }
+        requires uncut { IsCut bytes.now → ⊥ }
+        requires ends { EndsAt (known_of self.old) bytes.now end }
+        ensures stops { StopsAt (known_of self.old) [] bytes.now result (known_of self.new) }
+        ensures same { result ≢ stops.Fault → known_of self.new ≡ known_of self.old }
+        ensures uncut { result ≢ stops.Cut }
+    {
+        match end {
+            StepEnd::NoMemory => Stop::NoMemory,
+            StepEnd::Refused(refusal) => {
+                self.refuse(refusal, bytes);
+                Stop::Fault
+            }
+        }
+    }
+
+    // Stops at bytes that no line in range begins.
+    fn stop_formless(&mut self, bytes: &[u8]) -> Stop
+        requires clear { IsAtFault self.old.stage → ⊥ }
+        requires none { BeginsWithNone IsInRange spelling 10 bytes.now }
+        ensures stops { StopsAt (known_of self.old) [] bytes.now result (known_of self.new) }
+        ensures same { result ≢ stops.Fault → known_of self.new ≡ known_of self.old }
+    {
+        match front(bytes) {
+            Front::Cut => Stop::Cut,
+            Front::TooLong => self.stop(StepEnd::Refused(self.refusal_of_long()), bytes),
+            Front::Line(_) => self.stop(StepEnd::Refused(self.refusal_of_formless()), bytes),
+        }
+    }
+
+    // Takes the first line at fault.
+    #[inline(never)]
+    fn refuse(&mut self, refusal: Refusal, bytes: &[u8])
+        requires clear { IsAtFault self.old.stage → ⊥ }
+        requires uncut { IsCut bytes.now → ⊥ }
+        requires refused { EndsAt (known_of self.old) bytes.now (Refused refusal) }
+        ensures taken { Faults (known_of self.old) [] bytes.now (known_of self.new) }
+        ensures fault { IsAtFault self.new.stage }
+    {
+        self.stage = Stage::Refused(self.fault(refusal, bytes));
+    }
+
+    /// The next line, which these bytes begin with, as the line at fault.
+    pub(crate) fn fault(&self, refusal: Refusal, bytes: &[u8]) -> Fault
+        requires clear { IsAtFault self.now.stage → ⊥ }
+        ensures line { (beginning : Beginning) → IsAfter self.now.stage self.now.machine beginning
+            → result.line ≡ length (lines_of beginning) + 1 }
+        ensures refusal { result.refusal ≡ refusal }
+        ensures front { IsFrontText bytes.now (bytes_of result.text) }
+    {
+        Fault {
+            line: self.next_line(),
+            refusal,
+            text: FaultLine::of(bytes),
+        }
+    }
+
+    // The number of the next line.
+    fn next_line(&self) -> u64
+        requires clear { IsAtFault self.now.stage → ⊥ }
+        ensures { (beginning : Beginning) → IsAfter self.now.stage self.now.machine beginning
+            → result ≡ length (lines_of beginning) + 1 }
+    {
+        let roots = u64::from(self.machine.roots());
+        let behind = header_length(self.machine.rules()) + roots + u64::from(self.machine.steps());
+        match self.stage {
+            Stage::Version => 1,
+            Stage::Mode => 2,
+            Stage::Body => behind + 1,
+            Stage::Ended | Stage::Refused(_) => behind + 2,
+        }
+    }
+
+    // Why more bytes than a line has are refused.
+    fn refusal_of_long(&self) -> Refusal
+        requires clear { IsAtFault self.now.stage → ⊥ }
+        ensures { (bytes : List ℕ) → IsTooLong bytes → EndsAt (known_of self.now) bytes (Refused result) }
+    {
+        match self.stage {
+            Stage::Version | Stage::Mode | Stage::Body => Refusal::LineTooLong,
+            Stage::Ended | Stage::Refused(_) => Refusal::Misplaced,
+        }
+    }
+
+    // Why a line is refused that has no form.
+    fn refusal_of_formless(&self) -> Refusal
+        requires clear { IsAtFault self.now.stage → ⊥ }
+        ensures { (bytes text more : List ℕ) → IsLine bytes text more → ((line : Line) → Spells text line → ⊥)
+            → EndsAt (known_of self.now) bytes (Refused result) }
+    {
+        match self.stage {
+            Stage::Version => Refusal::BadHeader,
+            Stage::Mode => Refusal::BadMode,
+            Stage::Body => Refusal::BadLine,
+            Stage::Ended | Stage::Refused(_) => Refusal::Misplaced,
+        }
+    }
+
+    // Goes on by a line.
+    fn follow(&mut self, line: &Line) -> Result<(), StepEnd>
+        requires clear { IsAtFault self.old.stage → ⊥ }
+        requires in_range { IsInRange line.now }
+        ensures ok { OnOk result (GoesOn (known_of self.old) (spelling line.now ++ 10 ∷ []) (known_of self.new)) }
+        ensures err { IfErr result (EndsFrom (known_of self.old) line.now) }
+        ensures same { IfErr result (λ _. known_of self.new ≡ known_of self.old) }
+    {
+        match self.stage {
+            Stage::Version => self.follow_version(line),
+            Stage::Mode => self.follow_mode(line),
+            Stage::Body => self.follow_body(line),
+            Stage::Ended | Stage::Refused(_) => Err(StepEnd::Refused(Refusal::Misplaced)),
+        }
+    }
+
+    // Goes on by the version line.
+    fn follow_version(&mut self, line: &Line) -> Result<(), StepEnd>
+        requires version { self.old.stage ≡ Version }
+        requires in_range { IsInRange line.now }
+        ensures ok { OnOk result (GoesOn (known_of self.old) (spelling line.now ++ 10 ∷ []) (known_of self.new)) }
+        ensures err { IfErr result (EndsFrom (known_of self.old) line.now) }
+        ensures same { IfErr result (λ _. known_of self.new ≡ known_of self.old) }
+    {
+        match *line {
+            Line::Version(version) => {
+                if version == 1 {
+                    self.stage = Stage::Body;
+                    Ok(())
+                } else {
+                    self.stage = Stage::Mode;
+                    Ok(())
+                }
+            }
+            _ => Err(StepEnd::Refused(Refusal::BadHeader)),
+        }
+    }
+
+    // Goes on by the mode line.
+    fn follow_mode(&mut self, line: &Line) -> Result<(), StepEnd>
+        requires mode { self.old.stage ≡ ModeStage }
+        requires in_range { IsInRange line.now }
+        ensures ok { OnOk result (GoesOn (known_of self.old) (spelling line.now ++ 10 ∷ []) (known_of self.new)) }
+        ensures err { IfErr result (EndsFrom (known_of self.old) line.now) }
+        ensures same { IfErr result (λ _. known_of self.new ≡ known_of self.old) }
+    {
+        match *line {
+            Line::Mode(mode) => {
+                self.machine.follow(rules_of(mode));
+                self.stage = Stage::Body;
+                Ok(())
+            }
+            _ => Err(StepEnd::Refused(Refusal::BadMode)),
+        }
+    }
+
+    // Goes on by a line behind the header.
+    fn follow_body(&mut self, line: &Line) -> Result<(), StepEnd>
+        requires body { self.old.stage ≡ Body }
+        requires in_range { IsInRange line.now }
+        ensures ok { OnOk result (GoesOn (known_of self.old) (spelling line.now ++ 10 ∷ []) (known_of self.new)) }
+        ensures err { IfErr result (EndsFrom (known_of self.old) line.now) }
+        ensures same { IfErr result (λ _. known_of self.new ≡ known_of self.old) }
+    {
+        match *line {
+            Line::Version(_) | Line::Mode(_) => Err(StepEnd::Refused(self.refusal_of_header(line))),
+            Line::Root(place, word) => self.follow_root(place, word),
+            Line::Step(step) => self.machine.step(&step),
+            Line::End(count) => self.follow_end(count),
+        }
+    }
+
+    // Goes on by a root.
+    fn follow_root(&mut self, place: Place, word: Word) -> Result<(), StepEnd>
+        requires body { self.old.stage ≡ Body }
+        requires in_range { IsPlace place }
+        ensures ok { OnOk result (GoesOn (known_of self.old) (spelling (lines.Root place word) ++ 10 ∷ [])
+            (known_of self.new)) }
+        ensures err { IfErr result (EndsFor self.old.machine (lines.Root place word)) }
+        ensures same { IfErr result (λ _. known_of self.new ≡ known_of self.old) }
+    {
+        if self.machine.steps() > 0 {
+            return Err(StepEnd::Refused(Refusal::Misplaced));
+        }
+        self.machine.declare(place, word)
+    }
+
+    // Goes on by the end line.
+    fn follow_end(&mut self, count: u32) -> Result<(), StepEnd>
+        requires body { self.old.stage ≡ Body }
+        ensures ok { OnOk result (GoesOn (known_of self.old) (spelling (lines.End count) ++ 10 ∷ [])
+            (known_of self.new)) }
+        ensures err { IfErr result (EndsFor self.old.machine (lines.End count)) }
+        ensures same { IfErr result (λ _. known_of self.new ≡ known_of self.old) }
+    {
+        if count != self.machine.steps() {
+            return Err(StepEnd::Refused(Refusal::WrongCount));
+        }
+        self.stage = Stage::Ended;
+        Ok(())
+    }
+
+    // Why a header's line is refused behind the header.
+    fn refusal_of_header(&self, line: &Line) -> Refusal
+        ensures formed { (let held = self.now.machine in has_form held.rules line.now ≡ true) → result ≡ Misplaced }
+        ensures formless { (let held = self.now.machine in has_form held.rules line.now ≡ false) → result ≡ BadLine }
+    {
+        if has_form(self.machine.rules(), line) {
+            Refusal::Misplaced
+        } else {
+            Refusal::BadLine
+        }
+    }
+}
+
+// Whether some bytes are one line with its line feed, or more of a line than a line has.
+fn is_whole(line: &[u8]) -> bool
+    ensures whole { result ≡ true → ((text : List ℕ) × IsLine line.now text []) ⊎ IsTooLong line.now }
+    ensures none { result ≡ false → IsNoLine line.now }
+{
+    match front(line) {
+        Front::Line(length) => length + 1 == line.len(),
+        Front::TooLong => true,
+        Front::Cut => false,
+    }
+}
+
+// Whether a line has a form by the rules.
+fn has_form(rules: Rules, line: &Line) -> bool
+    ensures { result ≡ has_form rules line.now }
+{
+    match *line {
+        Line::Version(version) => rules != Rules::One || version == 1,
+        Line::Mode(_) => rules != Rules::One,
+        Line::Root(_, _) | Line::Step(_) | Line::End(_) => true,
+    }
+}
+
+// How many lines the header of these rules has.
+fn header_length(rules: Rules) -> u64
+    ensures { result ≡ length (header_lines rules) }
+{
+    match rules {
+        Rules::One => 1,
+        Rules::TwoStrict | Rules::TwoClear => 2,
+    }
+}
+
+// The rules of version 2 in a mode.
+fn rules_of(mode: Mode) -> Rules
+    ensures { result ≡ rules_of mode }
+{
+    match mode {
+        Mode::Strict => Rules::TwoStrict,
+        Mode::Clear => Rules::TwoClear,
+    }
+}
