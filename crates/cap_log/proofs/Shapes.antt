@@ -11,7 +11,7 @@ use Rattle.cap_log.specs.Front.{HasNoFeed}
 use Rattle.cap_log.specs.Heads.{IsHead, head_spelling}
 use Rattle.cap_log.specs.Lines.{IsInRange, IsNumber, IsVersion, IsOffset, IsPlace, IsRegister, IsTarget, IsWord, mode_spelling}
 use Rattle.cap_log.specs.Lines.{place_spelling, register_spelling, spelling}
-use Rattle.cap_log.specs.Parts.{Begins, BeginsWithNone, BeginsWithout, FitBoth, IsCount, IsMode, StandsBehind, accessed_spelling}
+use Rattle.cap_log.specs.Parts.{BeginsWithNone, BeginsWithout, FitBoth, IsCount, IsMode, StandsBehind, accessed_spelling}
 use Rattle.cap_log.specs.Parts.{result_spelling, spaced}
 use Rattle.cap_log.specs.Ranges.{IsDatum}
 use Rattle.cap_log.specs.declared.kinds.Head.{Head}
@@ -295,15 +295,6 @@ head-operand = record {
   short = λ h fits. (head-plain h).1;
 }
 
--- a head and operands at the front of some bytes are their line
-pub takes_made : (h : Head) (x : Value h) (bytes rest : List ℕ) → Begins (Fits h) (text h) 10 bytes x rest
-    → Begins IsInRange spelling 10 (head_spelling h ++ 32 ∷ bytes) (made h x) rest
-takes_made h x bytes rest begins = (
-  (is_made h x).in_range begins.0,
-  ap (λ (bs : List ℕ). head_spelling h ++ 32 ∷ bs) begins.1 ∙ sym (append_assoc (head_spelling h) (32 ∷ text h x) (10 ∷ rest))
-      ∙ ap (λ (bs : List ℕ). bs ++ 10 ∷ rest) (sym ((is_made h x).spelling_is)),
-)
-
 -- the bytes of a line, cut behind its head
 head_cut : (l : Line) (bytes rest : List ℕ) → bytes ≡ spelling l ++ 10 ∷ rest
     → bytes ≡ head_spelling (head_of l) ++ 32 ∷ (text (head_of l) (operands_of l) ++ 10 ∷ rest)
@@ -335,17 +326,18 @@ none_behind h Fits spelled is bytes none l rest begins =
     let found = is.part_of l words begins.0 (spelling-of l ∙ ap (λ (bs : List ℕ). bs ++ 32 ∷ words) (sym parts.0)) in
     none found.0 rest (found.1, parts.1 ∙ ap (λ (bs : List ℕ). bs ++ 10 ∷ rest) found.2)
 
-pub no_operands : (h : Head) (bytes : List ℕ) → BeginsWithNone (Fits h) (text h) 10 bytes
-    → BeginsWithNone IsInRange spelling 10 (head_spelling h ++ 32 ∷ bytes)
-no_operands h = none_behind h (Fits h) (text h) (stands_behind h)
-
--- for each kind of step
+-- for each head
 abbrev Behind : Head → Type 0
 Behind h = StandsBehind h (Fits h) (text h)
 
-pub kinds_of_steps : Behind head.Move × Behind head.ClearTag × Behind head.SetBounds × Behind head.SetBoundsExact × Behind head.SetAddr × Behind head.AndPerm
-    × Behind head.Seal × Behind head.Unseal × Behind head.LoadCap × Behind head.StoreCap × Behind head.Load × Behind head.Store
-kinds_of_steps = (
+pub behind_each : Behind head.Version × Behind head.Mode × Behind head.Root × Behind head.End × Behind head.Move × Behind head.ClearTag
+    × Behind head.SetBounds × Behind head.SetBoundsExact × Behind head.SetAddr × Behind head.AndPerm × Behind head.Seal × Behind head.Unseal
+    × Behind head.LoadCap × Behind head.StoreCap × Behind head.Load × Behind head.Store
+behind_each = (
+  stands_behind head.Version,
+  stands_behind head.Mode,
+  stands_behind head.Root,
+  stands_behind head.End,
   stands_behind head.Move,
   stands_behind head.ClearTag,
   stands_behind head.SetBounds,

@@ -1,6 +1,6 @@
 //! The kinds of steps and of other lines: the word that each begins with, and what stands behind it.
 
-#![tactic(auto, using(crate::proofs::Shapes::kinds_of_steps), unfolding(crate::specs::Lines::spelling))]
+#![tactic(auto, using(crate::proofs::Shapes::behind_each), unfolding(crate::specs::Lines::spelling))]
 
 ghost use Rattle.std.specs.Prelude.{◌≡◌, ◌≤◌, ◌∷◌, ◌++◌, length, IfSome, IfNone};
 ghost use Rattle.cap_log.specs.Heads.{IsHead, head_spelling};
@@ -13,7 +13,7 @@ ghost use Rattle.cap_log.specs.declared.lines.Line.TheVariants as lines;
 
 use crate::buffers::put;
 use crate::lines::{Line, Mode, Place};
-use crate::operands::{Operands, take_step};
+use crate::operands::{Operands, take_parts, take_step, write_parts};
 use crate::parts::cutting::behind;
 use crate::parts::headers::Version;
 use crate::parts::offsets::Offset;
@@ -201,15 +201,15 @@ pub fn take_operands(head: Head, bytes: &[u8]) -> Option<(Line, &[u8])>
 {
     match head {
         Head::Version => {
-            let (version, rest) = Version::take(bytes, b'\n')?;
+            let (version, rest) = take_parts::<Version>(head, bytes)?;
             Some((Line::Version(version.0), rest))
         }
         Head::Mode => {
-            let (mode, rest) = Mode::take(bytes, b'\n')?;
+            let (mode, rest) = take_parts::<Mode>(head, bytes)?;
             Some((Line::Mode(mode), rest))
         }
         Head::Root => {
-            let ((place, word), rest) = <(Place, Word)>::take(bytes, b'\n')?;
+            let ((place, word), rest) = take_parts::<(Place, Word)>(head, bytes)?;
             Some((Line::Root(place, word), rest))
         }
         Head::Move => take_step::<Move>(bytes),
@@ -225,30 +225,98 @@ pub fn take_operands(head: Head, bytes: &[u8]) -> Option<(Line, &[u8])>
         Head::Load => take_step::<Load>(bytes),
         Head::Store => take_step::<Store>(bytes),
         Head::End => {
-            let (count, rest) = u32::take(bytes, b'\n')?;
+            let (count, rest) = take_parts::<u32>(head, bytes)?;
             Some((Line::End(count), rest))
         }
     }
 }
 
-/// Writes a step without its line feed.
-pub(crate) fn write_any(step: Step, buffer: &mut [u8]) -> usize
-    requires { 95 ≤ length buffer.old }
-    ensures { Writes 0 (spelling (lines.Step step)) buffer.old buffer.new result }
+/// Writes a line without its line feed.
+#[inline(always)]
+pub(crate) fn write_words(line: &Line, buffer: &mut [u8]) -> usize
+    requires in_range { IsInRange line.now }
+    requires room { 95 ≤ length buffer.old }
+    ensures { Writes 0 (spelling line.now) buffer.old buffer.new result }
 {
-    match step {
-        Step::Move(step) => step.write(buffer),
-        Step::ClearTag(step) => step.write(buffer),
-        Step::SetBounds(step) => step.write(buffer),
-        Step::SetBoundsExact(step) => step.write(buffer),
-        Step::SetAddr(step) => step.write(buffer),
-        Step::AndPerm(step) => step.write(buffer),
-        Step::Seal(step) => step.write(buffer),
-        Step::Unseal(step) => step.write(buffer),
-        Step::LoadCap(step) => step.write(buffer),
-        Step::StoreCap(step) => step.write(buffer),
-        Step::Load(step) => step.write(buffer),
-        Step::Store(step) => step.write(buffer),
+    match *line {
+        Line::Version(version) => write_parts(line, Head::Version, Version(version), buffer),
+        Line::Mode(mode) => write_parts(line, Head::Mode, mode, buffer),
+        Line::Root(place, word) => write_parts(line, Head::Root, (place, word), buffer),
+        Line::Step(step) => match step {
+            Step::Move(it) => write_parts(
+                line,
+                Head::Move,
+                (it.target, (it.source, it.result)),
+                buffer,
+            ),
+            Step::ClearTag(it) => write_parts(
+                line,
+                Head::ClearTag,
+                (it.target, (it.source, it.result)),
+                buffer,
+            ),
+            Step::SetBounds(it) => write_parts(
+                line,
+                Head::SetBounds,
+                (it.target, (it.source, (it.length, it.result))),
+                buffer,
+            ),
+            Step::SetBoundsExact(it) => write_parts(
+                line,
+                Head::SetBoundsExact,
+                (it.target, (it.source, (it.length, it.result))),
+                buffer,
+            ),
+            Step::SetAddr(it) => write_parts(
+                line,
+                Head::SetAddr,
+                (it.target, (it.source, (it.address, it.result))),
+                buffer,
+            ),
+            Step::AndPerm(it) => write_parts(
+                line,
+                Head::AndPerm,
+                (it.target, (it.source, (it.mask, it.result))),
+                buffer,
+            ),
+            Step::Seal(it) => write_parts(
+                line,
+                Head::Seal,
+                (it.target, (it.source, (it.authority, it.result))),
+                buffer,
+            ),
+            Step::Unseal(it) => write_parts(
+                line,
+                Head::Unseal,
+                (it.target, (it.source, (it.authority, it.result))),
+                buffer,
+            ),
+            Step::LoadCap(it) => write_parts(
+                line,
+                Head::LoadCap,
+                (it.target, (it.authority, (it.offset, it.result))),
+                buffer,
+            ),
+            Step::StoreCap(it) => write_parts(
+                line,
+                Head::StoreCap,
+                (it.source, (it.authority, it.offset)),
+                buffer,
+            ),
+            Step::Load(it) => write_parts(
+                line,
+                Head::Load,
+                (it.authority, (it.offset, Accessed::<true>(it.datum))),
+                buffer,
+            ),
+            Step::Store(it) => write_parts(
+                line,
+                Head::Store,
+                (it.authority, (it.offset, Accessed::<false>(it.datum))),
+                buffer,
+            ),
+        },
+        Line::End(steps) => write_parts(line, Head::End, steps, buffer),
     }
 }
 
@@ -264,33 +332,41 @@ pub struct Move {
 }
 
 impl Operands for Move {
-    type Parts = (Target, (Register, Cap));
+    type Numbers = (u64, u64, Cap);
 
     ghost head = { heads.Move };
 
     ghost step = { steps.Move };
 
-    ghost made = { λ parts. record { target = parts.0; source = parts.1.0; result = parts.1.1 } };
+    ghost meant = { λ numbers. record { target = numbers.0; source = numbers.1; result = numbers.2 } };
 
-    fn head() -> Head {
-        Head::Move
+    #[inline(always)]
+    fn from_numbers((target, source, recorded): Self::Numbers) -> Option<Self> {
+        Some(Self {
+            target: Target::new(target)?,
+            source: Register::new(source)?,
+            result: recorded,
+        })
     }
 
     #[inline(always)]
-    fn from_parts((target, (source, recorded)): Self::Parts) -> Self {
-        Self {
+    fn take(bytes: &[u8]) -> Option<(Self, &[u8])> {
+        let Some((parts, rest)) = take_parts(Head::Move, bytes) else {
+            return None;
+        };
+        let (target, (source, recorded)) = parts;
+        let operands = Self {
             target,
             source,
             result: recorded,
-        }
+        };
+        Some((operands, rest))
     }
 
     #[inline(always)]
-    fn into_parts(self) -> Self::Parts {
-        (self.target, (self.source, self.result))
-    }
-
     fn into_step(self) -> Step {
+        self.target.number();
+        self.source.number();
         Step::Move(self)
     }
 }
@@ -307,33 +383,41 @@ pub struct ClearTag {
 }
 
 impl Operands for ClearTag {
-    type Parts = (Target, (Register, Cap));
+    type Numbers = (u64, u64, Cap);
 
     ghost head = { heads.ClearTag };
 
     ghost step = { steps.ClearTag };
 
-    ghost made = { λ parts. record { target = parts.0; source = parts.1.0; result = parts.1.1 } };
+    ghost meant = { λ numbers. record { target = numbers.0; source = numbers.1; result = numbers.2 } };
 
-    fn head() -> Head {
-        Head::ClearTag
+    #[inline(always)]
+    fn from_numbers((target, source, recorded): Self::Numbers) -> Option<Self> {
+        Some(Self {
+            target: Target::new(target)?,
+            source: Register::new(source)?,
+            result: recorded,
+        })
     }
 
     #[inline(always)]
-    fn from_parts((target, (source, recorded)): Self::Parts) -> Self {
-        Self {
+    fn take(bytes: &[u8]) -> Option<(Self, &[u8])> {
+        let Some((parts, rest)) = take_parts(Head::ClearTag, bytes) else {
+            return None;
+        };
+        let (target, (source, recorded)) = parts;
+        let operands = Self {
             target,
             source,
             result: recorded,
-        }
+        };
+        Some((operands, rest))
     }
 
     #[inline(always)]
-    fn into_parts(self) -> Self::Parts {
-        (self.target, (self.source, self.result))
-    }
-
     fn into_step(self) -> Step {
+        self.target.number();
+        self.source.number();
         Step::ClearTag(self)
     }
 }
@@ -352,34 +436,43 @@ pub struct SetBounds {
 }
 
 impl Operands for SetBounds {
-    type Parts = (Target, (Register, (u64, Cap)));
+    type Numbers = (u64, u64, u64, Cap);
 
     ghost head = { heads.SetBounds };
 
     ghost step = { steps.SetBounds };
 
-    ghost made = { λ parts. record { target = parts.0; source = parts.1.0; length = parts.1.1.0; result = parts.1.1.1 } };
+    ghost meant = { λ numbers. record { target = numbers.0; source = numbers.1; length = numbers.2; result = numbers.3 } };
 
-    fn head() -> Head {
-        Head::SetBounds
+    #[inline(always)]
+    fn from_numbers((target, source, length, recorded): Self::Numbers) -> Option<Self> {
+        Some(Self {
+            target: Target::new(target)?,
+            source: Register::new(source)?,
+            length,
+            result: recorded,
+        })
     }
 
     #[inline(always)]
-    fn from_parts((target, (source, (length, recorded))): Self::Parts) -> Self {
-        Self {
+    fn take(bytes: &[u8]) -> Option<(Self, &[u8])> {
+        let Some((parts, rest)) = take_parts(Head::SetBounds, bytes) else {
+            return None;
+        };
+        let (target, (source, (length, recorded))) = parts;
+        let operands = Self {
             target,
             source,
             length,
             result: recorded,
-        }
+        };
+        Some((operands, rest))
     }
 
     #[inline(always)]
-    fn into_parts(self) -> Self::Parts {
-        (self.target, (self.source, (self.length, self.result)))
-    }
-
     fn into_step(self) -> Step {
+        self.target.number();
+        self.source.number();
         Step::SetBounds(self)
     }
 }
@@ -398,34 +491,43 @@ pub struct SetBoundsExact {
 }
 
 impl Operands for SetBoundsExact {
-    type Parts = (Target, (Register, (u64, Cap)));
+    type Numbers = (u64, u64, u64, Cap);
 
     ghost head = { heads.SetBoundsExact };
 
     ghost step = { steps.SetBoundsExact };
 
-    ghost made = { λ parts. record { target = parts.0; source = parts.1.0; length = parts.1.1.0; result = parts.1.1.1 } };
+    ghost meant = { λ numbers. record { target = numbers.0; source = numbers.1; length = numbers.2; result = numbers.3 } };
 
-    fn head() -> Head {
-        Head::SetBoundsExact
+    #[inline(always)]
+    fn from_numbers((target, source, length, recorded): Self::Numbers) -> Option<Self> {
+        Some(Self {
+            target: Target::new(target)?,
+            source: Register::new(source)?,
+            length,
+            result: recorded,
+        })
     }
 
     #[inline(always)]
-    fn from_parts((target, (source, (length, recorded))): Self::Parts) -> Self {
-        Self {
+    fn take(bytes: &[u8]) -> Option<(Self, &[u8])> {
+        let Some((parts, rest)) = take_parts(Head::SetBoundsExact, bytes) else {
+            return None;
+        };
+        let (target, (source, (length, recorded))) = parts;
+        let operands = Self {
             target,
             source,
             length,
             result: recorded,
-        }
+        };
+        Some((operands, rest))
     }
 
     #[inline(always)]
-    fn into_parts(self) -> Self::Parts {
-        (self.target, (self.source, (self.length, self.result)))
-    }
-
     fn into_step(self) -> Step {
+        self.target.number();
+        self.source.number();
         Step::SetBoundsExact(self)
     }
 }
@@ -444,34 +546,43 @@ pub struct SetAddr {
 }
 
 impl Operands for SetAddr {
-    type Parts = (Target, (Register, (u64, Cap)));
+    type Numbers = (u64, u64, u64, Cap);
 
     ghost head = { heads.SetAddr };
 
     ghost step = { steps.SetAddr };
 
-    ghost made = { λ parts. record { target = parts.0; source = parts.1.0; address = parts.1.1.0; result = parts.1.1.1 } };
+    ghost meant = { λ numbers. record { target = numbers.0; source = numbers.1; address = numbers.2; result = numbers.3 } };
 
-    fn head() -> Head {
-        Head::SetAddr
+    #[inline(always)]
+    fn from_numbers((target, source, address, recorded): Self::Numbers) -> Option<Self> {
+        Some(Self {
+            target: Target::new(target)?,
+            source: Register::new(source)?,
+            address,
+            result: recorded,
+        })
     }
 
     #[inline(always)]
-    fn from_parts((target, (source, (address, recorded))): Self::Parts) -> Self {
-        Self {
+    fn take(bytes: &[u8]) -> Option<(Self, &[u8])> {
+        let Some((parts, rest)) = take_parts(Head::SetAddr, bytes) else {
+            return None;
+        };
+        let (target, (source, (address, recorded))) = parts;
+        let operands = Self {
             target,
             source,
             address,
             result: recorded,
-        }
+        };
+        Some((operands, rest))
     }
 
     #[inline(always)]
-    fn into_parts(self) -> Self::Parts {
-        (self.target, (self.source, (self.address, self.result)))
-    }
-
     fn into_step(self) -> Step {
+        self.target.number();
+        self.source.number();
         Step::SetAddr(self)
     }
 }
@@ -490,34 +601,43 @@ pub struct AndPerm {
 }
 
 impl Operands for AndPerm {
-    type Parts = (Target, (Register, (u64, Cap)));
+    type Numbers = (u64, u64, u64, Cap);
 
     ghost head = { heads.AndPerm };
 
     ghost step = { steps.AndPerm };
 
-    ghost made = { λ parts. record { target = parts.0; source = parts.1.0; mask = parts.1.1.0; result = parts.1.1.1 } };
+    ghost meant = { λ numbers. record { target = numbers.0; source = numbers.1; mask = numbers.2; result = numbers.3 } };
 
-    fn head() -> Head {
-        Head::AndPerm
+    #[inline(always)]
+    fn from_numbers((target, source, mask, recorded): Self::Numbers) -> Option<Self> {
+        Some(Self {
+            target: Target::new(target)?,
+            source: Register::new(source)?,
+            mask,
+            result: recorded,
+        })
     }
 
     #[inline(always)]
-    fn from_parts((target, (source, (mask, recorded))): Self::Parts) -> Self {
-        Self {
+    fn take(bytes: &[u8]) -> Option<(Self, &[u8])> {
+        let Some((parts, rest)) = take_parts(Head::AndPerm, bytes) else {
+            return None;
+        };
+        let (target, (source, (mask, recorded))) = parts;
+        let operands = Self {
             target,
             source,
             mask,
             result: recorded,
-        }
+        };
+        Some((operands, rest))
     }
 
     #[inline(always)]
-    fn into_parts(self) -> Self::Parts {
-        (self.target, (self.source, (self.mask, self.result)))
-    }
-
     fn into_step(self) -> Step {
+        self.target.number();
+        self.source.number();
         Step::AndPerm(self)
     }
 }
@@ -536,34 +656,44 @@ pub struct Seal {
 }
 
 impl Operands for Seal {
-    type Parts = (Target, (Register, (Register, Cap)));
+    type Numbers = (u64, u64, u64, Cap);
 
     ghost head = { heads.Seal };
 
     ghost step = { steps.Seal };
 
-    ghost made = { λ parts. record { target = parts.0; source = parts.1.0; authority = parts.1.1.0; result = parts.1.1.1 } };
+    ghost meant = { λ numbers. record { target = numbers.0; source = numbers.1; authority = numbers.2; result = numbers.3 } };
 
-    fn head() -> Head {
-        Head::Seal
+    #[inline(always)]
+    fn from_numbers((target, source, authority, recorded): Self::Numbers) -> Option<Self> {
+        Some(Self {
+            target: Target::new(target)?,
+            source: Register::new(source)?,
+            authority: Register::new(authority)?,
+            result: recorded,
+        })
     }
 
     #[inline(always)]
-    fn from_parts((target, (source, (authority, recorded))): Self::Parts) -> Self {
-        Self {
+    fn take(bytes: &[u8]) -> Option<(Self, &[u8])> {
+        let Some((parts, rest)) = take_parts(Head::Seal, bytes) else {
+            return None;
+        };
+        let (target, (source, (authority, recorded))) = parts;
+        let operands = Self {
             target,
             source,
             authority,
             result: recorded,
-        }
+        };
+        Some((operands, rest))
     }
 
     #[inline(always)]
-    fn into_parts(self) -> Self::Parts {
-        (self.target, (self.source, (self.authority, self.result)))
-    }
-
     fn into_step(self) -> Step {
+        self.target.number();
+        self.source.number();
+        self.authority.number();
         Step::Seal(self)
     }
 }
@@ -582,34 +712,44 @@ pub struct Unseal {
 }
 
 impl Operands for Unseal {
-    type Parts = (Target, (Register, (Register, Cap)));
+    type Numbers = (u64, u64, u64, Cap);
 
     ghost head = { heads.Unseal };
 
     ghost step = { steps.Unseal };
 
-    ghost made = { λ parts. record { target = parts.0; source = parts.1.0; authority = parts.1.1.0; result = parts.1.1.1 } };
+    ghost meant = { λ numbers. record { target = numbers.0; source = numbers.1; authority = numbers.2; result = numbers.3 } };
 
-    fn head() -> Head {
-        Head::Unseal
+    #[inline(always)]
+    fn from_numbers((target, source, authority, recorded): Self::Numbers) -> Option<Self> {
+        Some(Self {
+            target: Target::new(target)?,
+            source: Register::new(source)?,
+            authority: Register::new(authority)?,
+            result: recorded,
+        })
     }
 
     #[inline(always)]
-    fn from_parts((target, (source, (authority, recorded))): Self::Parts) -> Self {
-        Self {
+    fn take(bytes: &[u8]) -> Option<(Self, &[u8])> {
+        let Some((parts, rest)) = take_parts(Head::Unseal, bytes) else {
+            return None;
+        };
+        let (target, (source, (authority, recorded))) = parts;
+        let operands = Self {
             target,
             source,
             authority,
             result: recorded,
-        }
+        };
+        Some((operands, rest))
     }
 
     #[inline(always)]
-    fn into_parts(self) -> Self::Parts {
-        (self.target, (self.source, (self.authority, self.result)))
-    }
-
     fn into_step(self) -> Step {
+        self.target.number();
+        self.source.number();
+        self.authority.number();
         Step::Unseal(self)
     }
 }
@@ -628,34 +768,44 @@ pub struct LoadCap {
 }
 
 impl Operands for LoadCap {
-    type Parts = (Target, (Register, (Offset, Cap)));
+    type Numbers = (u64, u64, i64, Cap);
 
     ghost head = { heads.LoadCap };
 
     ghost step = { steps.LoadCap };
 
-    ghost made = { λ parts. record { target = parts.0; authority = parts.1.0; offset = parts.1.1.0; result = parts.1.1.1 } };
+    ghost meant = { λ numbers. record { target = numbers.0; authority = numbers.1; offset = numbers.2; result = numbers.3 } };
 
-    fn head() -> Head {
-        Head::LoadCap
+    #[inline(always)]
+    fn from_numbers((target, authority, offset, recorded): Self::Numbers) -> Option<Self> {
+        Some(Self {
+            target: Target::new(target)?,
+            authority: Register::new(authority)?,
+            offset: Offset::new(offset)?,
+            result: recorded,
+        })
     }
 
     #[inline(always)]
-    fn from_parts((target, (authority, (offset, recorded))): Self::Parts) -> Self {
-        Self {
+    fn take(bytes: &[u8]) -> Option<(Self, &[u8])> {
+        let Some((parts, rest)) = take_parts(Head::LoadCap, bytes) else {
+            return None;
+        };
+        let (target, (authority, (offset, recorded))) = parts;
+        let operands = Self {
             target,
             authority,
             offset,
             result: recorded,
-        }
+        };
+        Some((operands, rest))
     }
 
     #[inline(always)]
-    fn into_parts(self) -> Self::Parts {
-        (self.target, (self.authority, (self.offset, self.result)))
-    }
-
     fn into_step(self) -> Step {
+        self.target.number();
+        self.authority.number();
+        self.offset.number();
         Step::LoadCap(self)
     }
 }
@@ -672,33 +822,42 @@ pub struct StoreCap {
 }
 
 impl Operands for StoreCap {
-    type Parts = (Register, (Register, Offset));
+    type Numbers = (u64, u64, i64);
 
     ghost head = { heads.StoreCap };
 
     ghost step = { steps.StoreCap };
 
-    ghost made = { λ parts. record { source = parts.0; authority = parts.1.0; offset = parts.1.1 } };
+    ghost meant = { λ numbers. record { source = numbers.0; authority = numbers.1; offset = numbers.2 } };
 
-    fn head() -> Head {
-        Head::StoreCap
+    #[inline(always)]
+    fn from_numbers((source, authority, offset): Self::Numbers) -> Option<Self> {
+        Some(Self {
+            source: Register::new(source)?,
+            authority: Register::new(authority)?,
+            offset: Offset::new(offset)?,
+        })
     }
 
     #[inline(always)]
-    fn from_parts((source, (authority, offset)): Self::Parts) -> Self {
-        Self {
+    fn take(bytes: &[u8]) -> Option<(Self, &[u8])> {
+        let Some((parts, rest)) = take_parts(Head::StoreCap, bytes) else {
+            return None;
+        };
+        let (source, (authority, offset)) = parts;
+        let operands = Self {
             source,
             authority,
             offset,
-        }
+        };
+        Some((operands, rest))
     }
 
     #[inline(always)]
-    fn into_parts(self) -> Self::Parts {
-        (self.source, (self.authority, self.offset))
-    }
-
     fn into_step(self) -> Step {
+        self.source.number();
+        self.authority.number();
+        self.offset.number();
         Step::StoreCap(self)
     }
 }
@@ -715,33 +874,42 @@ pub struct Load {
 }
 
 impl Operands for Load {
-    type Parts = (Register, (Offset, Loaded));
+    type Numbers = (u64, i64, u64, u64);
 
     ghost head = { heads.Load };
 
     ghost step = { steps.Load };
 
-    ghost made = { λ parts. record { authority = parts.0; offset = parts.1.0; datum = parts.1.1.0 } };
+    ghost meant = { λ numbers. record { authority = numbers.0; offset = numbers.1; datum = record { size = numbers.2; value = numbers.3 } } };
 
-    fn head() -> Head {
-        Head::Load
+    #[inline(always)]
+    fn from_numbers((authority, offset, size, value): Self::Numbers) -> Option<Self> {
+        Some(Self {
+            authority: Register::new(authority)?,
+            offset: Offset::new(offset)?,
+            datum: Datum::new(size, value)?,
+        })
     }
 
     #[inline(always)]
-    fn from_parts((authority, (offset, loaded)): Self::Parts) -> Self {
-        Self {
+    fn take(bytes: &[u8]) -> Option<(Self, &[u8])> {
+        let Some((parts, rest)) = take_parts(Head::Load, bytes) else {
+            return None;
+        };
+        let (authority, (offset, Accessed(datum))): (Register, (Offset, Loaded)) = parts;
+        let operands = Self {
             authority,
             offset,
-            datum: loaded.0,
-        }
+            datum,
+        };
+        Some((operands, rest))
     }
 
     #[inline(always)]
-    fn into_parts(self) -> Self::Parts {
-        (self.authority, (self.offset, Accessed(self.datum)))
-    }
-
     fn into_step(self) -> Step {
+        self.authority.number();
+        self.offset.number();
+        self.datum.size();
         Step::Load(self)
     }
 }
@@ -758,33 +926,42 @@ pub struct Store {
 }
 
 impl Operands for Store {
-    type Parts = (Register, (Offset, Stored));
+    type Numbers = (u64, i64, u64, u64);
 
     ghost head = { heads.Store };
 
     ghost step = { steps.Store };
 
-    ghost made = { λ parts. record { authority = parts.0; offset = parts.1.0; datum = parts.1.1.0 } };
+    ghost meant = { λ numbers. record { authority = numbers.0; offset = numbers.1; datum = record { size = numbers.2; value = numbers.3 } } };
 
-    fn head() -> Head {
-        Head::Store
+    #[inline(always)]
+    fn from_numbers((authority, offset, size, value): Self::Numbers) -> Option<Self> {
+        Some(Self {
+            authority: Register::new(authority)?,
+            offset: Offset::new(offset)?,
+            datum: Datum::new(size, value)?,
+        })
     }
 
     #[inline(always)]
-    fn from_parts((authority, (offset, stored)): Self::Parts) -> Self {
-        Self {
+    fn take(bytes: &[u8]) -> Option<(Self, &[u8])> {
+        let Some((parts, rest)) = take_parts(Head::Store, bytes) else {
+            return None;
+        };
+        let (authority, (offset, Accessed(datum))): (Register, (Offset, Stored)) = parts;
+        let operands = Self {
             authority,
             offset,
-            datum: stored.0,
-        }
+            datum,
+        };
+        Some((operands, rest))
     }
 
     #[inline(always)]
-    fn into_parts(self) -> Self::Parts {
-        (self.authority, (self.offset, Accessed(self.datum)))
-    }
-
     fn into_step(self) -> Step {
+        self.authority.number();
+        self.offset.number();
+        self.datum.size();
         Step::Store(self)
     }
 }

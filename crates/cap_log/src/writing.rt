@@ -1,16 +1,14 @@
 //! Writing lines and places.
 
 ghost use Rattle.std.specs.Prelude.{◌≡◌, ◌≤◌, length, take, drop};
-ghost use Rattle.cap_log.specs.Lines.{IsInRange, IsLineAt, IsPlace, place_spelling, spelling};
-ghost use Rattle.cap_log.specs.Parts.{Writes};
+ghost use Rattle.cap_log.specs.Lines.{IsInRange, IsLineAt, IsPlace, place_spelling};
 ghost use Rattle.cap_log.specs.declared.lines.Line.TheVariants as line;
 
 use crate::buffers::put;
-use crate::kinds::{Head, write_any};
+use crate::kinds::write_words;
 use crate::lines::{Line, Place};
 use crate::operands::Operands;
 use crate::parts::Part;
-use crate::parts::headers::Version;
 
 /// Writes a line and its line feed at the front of the buffer, and answers how many bytes they are.
 /// The line's numbers have to be in their ranges. The rest of the buffer stays as it was, and
@@ -28,8 +26,7 @@ pub fn write_line(line: &Line, buffer: &mut [u8; 96]) -> usize
 pub fn write_step<O: Operands>(step: O, buffer: &mut [u8; 96]) -> usize
     ensures line { IsLineAt (line.Step (O.step step)) buffer.old buffer.new result }
 {
-    step.in_range();
-    let words = step.write(buffer);
+    let words = write_words(&Line::Step(step.into_step()), buffer);
     put(buffer, words, b"\n")
 }
 
@@ -43,20 +40,4 @@ pub fn write_place(place: &Place, buffer: &mut [u8; 17]) -> usize
     ensures rest { drop result buffer.new ≡ drop result buffer.old }
 {
     place.write(buffer, 0)
-}
-
-// Writes a line without its line feed.
-#[tactic(auto, unfolding(crate::specs::Lines::spelling))]
-fn write_words(line: &Line, buffer: &mut [u8]) -> usize
-    requires in_range { IsInRange line.now }
-    requires room { 95 ≤ length buffer.old }
-    ensures { Writes 0 (spelling line.now) buffer.old buffer.new result }
-{
-    match *line {
-        Line::Version(version) => (Head::Version, Version(version)).write(buffer, 0),
-        Line::Mode(mode) => (Head::Mode, mode).write(buffer, 0),
-        Line::Root(place, word) => (Head::Root, (place, word)).write(buffer, 0),
-        Line::Step(step) => write_any(step, buffer),
-        Line::End(steps) => (Head::End, steps).write(buffer, 0),
-    }
 }

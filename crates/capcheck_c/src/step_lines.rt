@@ -16,7 +16,7 @@ use cap_log::kinds::{
     AndPerm, ClearTag, Load, LoadCap, Move, Seal, SetAddr, SetBounds, SetBoundsExact, Store,
     StoreCap, Unseal,
 };
-use cap_log::{Operands, Ranged, Step, write_step};
+use cap_log::{Operands, Step, write_step};
 
 // The kinds of steps, as C has them.
 const MOVE: u8 = 5;
@@ -53,7 +53,7 @@ pub extern "C" fn capcheck_line_move(
 ) -> usize
     ensures line { AnswersLine (line.Step (steps.move_passed target source recorded)) buffer.old buffer.new result }
 {
-    put_step::<Move>((target, (source, taken(recorded))), buffer)
+    put_step::<Move>((target, source, taken(recorded)), buffer)
 }
 
 /// Writes the line of a step `cleartag` into the buffer.
@@ -66,7 +66,7 @@ pub extern "C" fn capcheck_line_cleartag(
 ) -> usize
     ensures line { AnswersLine (line.Step (steps.cleartag_passed target source recorded)) buffer.old buffer.new result }
 {
-    put_step::<ClearTag>((target, (source, taken(recorded))), buffer)
+    put_step::<ClearTag>((target, source, taken(recorded)), buffer)
 }
 
 /// Writes the line of a step `setbounds` into the buffer.
@@ -80,7 +80,7 @@ pub extern "C" fn capcheck_line_setbounds(
 ) -> usize
     ensures line { AnswersLine (line.Step (steps.setbounds_passed target source length recorded)) buffer.old buffer.new result }
 {
-    put_step::<SetBounds>((target, (source, (length, taken(recorded)))), buffer)
+    put_step::<SetBounds>((target, source, length, taken(recorded)), buffer)
 }
 
 /// Writes the line of a step `setboundsexact` into the buffer.
@@ -94,7 +94,7 @@ pub extern "C" fn capcheck_line_setboundsexact(
 ) -> usize
     ensures line { AnswersLine (line.Step (steps.setboundsexact_passed target source length recorded)) buffer.old buffer.new result }
 {
-    put_step::<SetBoundsExact>((target, (source, (length, taken(recorded)))), buffer)
+    put_step::<SetBoundsExact>((target, source, length, taken(recorded)), buffer)
 }
 
 /// Writes the line of a step `setaddr` into the buffer.
@@ -108,7 +108,7 @@ pub extern "C" fn capcheck_line_setaddr(
 ) -> usize
     ensures line { AnswersLine (line.Step (steps.setaddr_passed target source address recorded)) buffer.old buffer.new result }
 {
-    put_step::<SetAddr>((target, (source, (address, taken(recorded)))), buffer)
+    put_step::<SetAddr>((target, source, address, taken(recorded)), buffer)
 }
 
 /// Writes the line of a step `andperm` into the buffer.
@@ -122,7 +122,7 @@ pub extern "C" fn capcheck_line_andperm(
 ) -> usize
     ensures line { AnswersLine (line.Step (steps.andperm_passed target source mask recorded)) buffer.old buffer.new result }
 {
-    put_step::<AndPerm>((target, (source, (mask, taken(recorded)))), buffer)
+    put_step::<AndPerm>((target, source, mask, taken(recorded)), buffer)
 }
 
 /// Writes the line of a step `seal` into the buffer.
@@ -136,7 +136,7 @@ pub extern "C" fn capcheck_line_seal(
 ) -> usize
     ensures line { AnswersLine (line.Step (steps.seal_passed target source authority recorded)) buffer.old buffer.new result }
 {
-    put_step::<Seal>((target, (source, (authority, taken(recorded)))), buffer)
+    put_step::<Seal>((target, source, authority, taken(recorded)), buffer)
 }
 
 /// Writes the line of a step `unseal` into the buffer.
@@ -150,7 +150,7 @@ pub extern "C" fn capcheck_line_unseal(
 ) -> usize
     ensures line { AnswersLine (line.Step (steps.unseal_passed target source authority recorded)) buffer.old buffer.new result }
 {
-    put_step::<Unseal>((target, (source, (authority, taken(recorded)))), buffer)
+    put_step::<Unseal>((target, source, authority, taken(recorded)), buffer)
 }
 
 /// Writes the line of a step `lc` into the buffer.
@@ -164,7 +164,7 @@ pub extern "C" fn capcheck_line_lc(
 ) -> usize
     ensures line { AnswersLine (line.Step (steps.lc_passed target authority offset recorded)) buffer.old buffer.new result }
 {
-    put_step::<LoadCap>((target, (authority, (offset, taken(recorded)))), buffer)
+    put_step::<LoadCap>((target, authority, offset, taken(recorded)), buffer)
 }
 
 /// Writes the line of a step `sc` into the buffer.
@@ -177,7 +177,7 @@ pub extern "C" fn capcheck_line_sc(
 ) -> usize
     ensures line { AnswersLine (line.Step (steps.sc_passed source authority offset)) buffer.old buffer.new result }
 {
-    put_step::<StoreCap>((source, (authority, offset)), buffer)
+    put_step::<StoreCap>((source, authority, offset), buffer)
 }
 
 /// Writes the line of a step `load` into the buffer: `size` is 1, 2, 4 or 8, and `value` is below
@@ -192,7 +192,7 @@ pub extern "C" fn capcheck_line_load(
 ) -> usize
     ensures line { AnswersLine (line.Step (steps.load_passed authority offset size value)) buffer.old buffer.new result }
 {
-    put_step::<Load>((authority, (offset, (size, value))), buffer)
+    put_step::<Load>((authority, offset, size, value), buffer)
 }
 
 /// Writes the line of a step `store` into the buffer: `size` is 1, 2, 4 or 8, and `value` is below
@@ -207,13 +207,13 @@ pub extern "C" fn capcheck_line_store(
 ) -> usize
     ensures line { AnswersLine (line.Step (steps.store_passed authority offset size value)) buffer.old buffer.new result }
 {
-    put_step::<Store>((authority, (offset, (size, value))), buffer)
+    put_step::<Store>((authority, offset, size, value), buffer)
 }
 
 // Writes the line of the step that C's numbers make. Where they make none, it answers 0, and the buffer is as it was.
 #[inline(always)]
-fn put_step<O: Operands>(numbers: <O::Parts as Ranged>::Numbers, buffer: &mut [u8; 96]) -> usize
-    ensures { AnswersLine (line.Step (O.step (O.made (O.Parts.meant numbers)))) buffer.old buffer.new result }
+fn put_step<O: Operands>(numbers: O::Numbers, buffer: &mut [u8; 96]) -> usize
+    ensures { AnswersLine (line.Step (O.step (O.meant numbers))) buffer.old buffer.new result }
 {
     match O::from_numbers(numbers) {
         Some(step) => write_step(step, buffer),

@@ -16,7 +16,6 @@ use cap_answers::answers::{GOES_ON, NO, NO_JUDGE, NO_LINE, NO_MEMORY};
 use cap_halves::halves::taken;
 use cap_halves::values::Capability;
 use cap_judge::{Judge, TakeFault};
-use cap_log::Ranged;
 use cap_log::kinds::{
     AndPerm, ClearTag, Load, LoadCap, Move, Seal, SetAddr, SetBounds, SetBoundsExact, Store,
     StoreCap, Unseal,
@@ -36,7 +35,7 @@ pub extern "C" fn capcheck_judge_move(
 ) -> u8
     ensures step { HandsOver (line.Step (steps.move_passed target source recorded)) (held_in judge.old) (held_in judge.new) result }
 {
-    hand_over::<Move>(alloc, judge, (target, (source, taken(recorded))))
+    hand_over::<Move>(alloc, judge, (target, source, taken(recorded)))
 }
 
 /// Hands over a step `cleartag`.
@@ -50,7 +49,7 @@ pub extern "C" fn capcheck_judge_cleartag(
 ) -> u8
     ensures step { HandsOver (line.Step (steps.cleartag_passed target source recorded)) (held_in judge.old) (held_in judge.new) result }
 {
-    hand_over::<ClearTag>(alloc, judge, (target, (source, taken(recorded))))
+    hand_over::<ClearTag>(alloc, judge, (target, source, taken(recorded)))
 }
 
 /// Hands over a step `setbounds`.
@@ -65,7 +64,7 @@ pub extern "C" fn capcheck_judge_setbounds(
 ) -> u8
     ensures step { HandsOver (line.Step (steps.setbounds_passed target source length recorded)) (held_in judge.old) (held_in judge.new) result }
 {
-    hand_over::<SetBounds>(alloc, judge, (target, (source, (length, taken(recorded)))))
+    hand_over::<SetBounds>(alloc, judge, (target, source, length, taken(recorded)))
 }
 
 /// Hands over a step `setboundsexact`.
@@ -80,7 +79,7 @@ pub extern "C" fn capcheck_judge_setboundsexact(
 ) -> u8
     ensures step { HandsOver (line.Step (steps.setboundsexact_passed target source length recorded)) (held_in judge.old) (held_in judge.new) result }
 {
-    hand_over::<SetBoundsExact>(alloc, judge, (target, (source, (length, taken(recorded)))))
+    hand_over::<SetBoundsExact>(alloc, judge, (target, source, length, taken(recorded)))
 }
 
 /// Hands over a step `setaddr`.
@@ -95,7 +94,7 @@ pub extern "C" fn capcheck_judge_setaddr(
 ) -> u8
     ensures step { HandsOver (line.Step (steps.setaddr_passed target source address recorded)) (held_in judge.old) (held_in judge.new) result }
 {
-    hand_over::<SetAddr>(alloc, judge, (target, (source, (address, taken(recorded)))))
+    hand_over::<SetAddr>(alloc, judge, (target, source, address, taken(recorded)))
 }
 
 /// Hands over a step `andperm`.
@@ -110,7 +109,7 @@ pub extern "C" fn capcheck_judge_andperm(
 ) -> u8
     ensures step { HandsOver (line.Step (steps.andperm_passed target source mask recorded)) (held_in judge.old) (held_in judge.new) result }
 {
-    hand_over::<AndPerm>(alloc, judge, (target, (source, (mask, taken(recorded)))))
+    hand_over::<AndPerm>(alloc, judge, (target, source, mask, taken(recorded)))
 }
 
 /// Hands over a step `seal`.
@@ -126,7 +125,7 @@ pub extern "C" fn capcheck_judge_seal(
     ensures step { HandsOver (line.Step (steps.seal_passed target source authority recorded)) (held_in judge.old) (held_in judge.new) result }
 {
     let recorded = taken(recorded);
-    hand_over::<Seal>(alloc, judge, (target, (source, (authority, recorded))))
+    hand_over::<Seal>(alloc, judge, (target, source, authority, recorded))
 }
 
 /// Hands over a step `unseal`.
@@ -142,7 +141,7 @@ pub extern "C" fn capcheck_judge_unseal(
     ensures step { HandsOver (line.Step (steps.unseal_passed target source authority recorded)) (held_in judge.old) (held_in judge.new) result }
 {
     let recorded = taken(recorded);
-    hand_over::<Unseal>(alloc, judge, (target, (source, (authority, recorded))))
+    hand_over::<Unseal>(alloc, judge, (target, source, authority, recorded))
 }
 
 /// Hands over a step `lc`.
@@ -158,7 +157,7 @@ pub extern "C" fn capcheck_judge_lc(
     ensures step { HandsOver (line.Step (steps.lc_passed target authority offset recorded)) (held_in judge.old) (held_in judge.new) result }
 {
     let recorded = taken(recorded);
-    hand_over::<LoadCap>(alloc, judge, (target, (authority, (offset, recorded))))
+    hand_over::<LoadCap>(alloc, judge, (target, authority, offset, recorded))
 }
 
 /// Hands over a step `sc`.
@@ -172,7 +171,7 @@ pub extern "C" fn capcheck_judge_sc(
 ) -> u8
     ensures step { HandsOver (line.Step (steps.sc_passed source authority offset)) (held_in judge.old) (held_in judge.new) result }
 {
-    hand_over::<StoreCap>(alloc, judge, (source, (authority, offset)))
+    hand_over::<StoreCap>(alloc, judge, (source, authority, offset))
 }
 
 /// Hands over a step `load`: `size` is 1, 2, 4 or 8, and `value` is below 256^size.
@@ -187,7 +186,7 @@ pub extern "C" fn capcheck_judge_load(
 ) -> u8
     ensures step { HandsOver (line.Step (steps.load_passed authority offset size value)) (held_in judge.old) (held_in judge.new) result }
 {
-    hand_over::<Load>(alloc, judge, (authority, (offset, (size, value))))
+    hand_over::<Load>(alloc, judge, (authority, offset, size, value))
 }
 
 /// Hands over a step `store`: `size` is 1, 2, 4 or 8, and `value` is below 256^size.
@@ -202,18 +201,14 @@ pub extern "C" fn capcheck_judge_store(
 ) -> u8
     ensures step { HandsOver (line.Step (steps.store_passed authority offset size value)) (held_in judge.old) (held_in judge.new) result }
 {
-    hand_over::<Store>(alloc, judge, (authority, (offset, (size, value))))
+    hand_over::<Store>(alloc, judge, (authority, offset, size, value))
 }
 
 // Hands over the step that C's numbers make. Where they make none, it answers that they are no line, and nothing has
 /// changed.
 #[inline(always)]
-fn hand_over<I: Instruction>(
-    alloc: Global,
-    judge: &mut Handle,
-    numbers: <I::Parts as Ranged>::Numbers,
-) -> u8
-    ensures { HandsOver (line.Step (I.step (I.made (I.Parts.meant numbers)))) (held_in judge.old) (held_in judge.new) result }
+fn hand_over<I: Instruction>(alloc: Global, judge: &mut Handle, numbers: I::Numbers) -> u8
+    ensures { HandsOver (line.Step (I.step (I.meant numbers))) (held_in judge.old) (held_in judge.new) result }
 {
     match I::from_numbers(numbers) {
         Some(step) => match judge.take(alloc) {

@@ -7,7 +7,7 @@ ghost use Rattle.cap_log.specs.Spaceless.{offset-spaceless};
 
 use crate::buffers::{put, put_few};
 use crate::parts::decimals::take_decimal;
-use crate::parts::{Part, Ranged, Single};
+use crate::parts::{Part, Single};
 use std::marker::Model;
 
 /// An offset: a decimal number, with a minus sign where it is below 0.
@@ -80,22 +80,6 @@ impl Part for Offset {
         } else {
             put_few(buffer, at, self.number.unsigned_abs())
         }
-    }
-}
-
-impl Ranged for Offset {
-    type Numbers = i64;
-
-    ghost meant = { λ number. number };
-
-    #[inline(always)]
-    fn from_numbers(number: i64) -> Option<Offset> {
-        Offset::new(number)
-    }
-
-    #[inline(always)]
-    fn in_range(self) {
-        self.number();
     }
 }
 

@@ -9,7 +9,7 @@ ghost use Rattle.cap_log.specs.Spaceless.{place-spaceless, register-spaceless, r
 use crate::buffers::{put, put_few};
 use crate::lines::Place;
 use crate::parts::hexadecimals::write_number;
-use crate::parts::{Part, Ranged, Single};
+use crate::parts::{Part, Single};
 use std::marker::Model;
 
 /// The greatest register.
@@ -86,22 +86,6 @@ impl<const LEAST: u8> Part for RegisterFrom<LEAST> {
     #[inline(always)]
     fn write(&self, buffer: &mut [u8], at: usize) -> usize {
         write_register(buffer, at, self.number)
-    }
-}
-
-impl<const LEAST: u8> Ranged for RegisterFrom<LEAST> {
-    type Numbers = u64;
-
-    ghost meant = { λ number. number };
-
-    #[inline(always)]
-    fn from_numbers(number: u64) -> Option<Self> {
-        Self::new(number)
-    }
-
-    #[inline(always)]
-    fn in_range(self) {
-        self.number();
     }
 }
 

@@ -6,8 +6,8 @@ ghost use Rattle.cap_log.specs.Parts.{Begins, BeginsWithNone, IsEnd, Writes, acc
 ghost use Rattle.cap_log.specs.Ranges.{IsDataSize, IsDataValue, IsDatum};
 
 use crate::buffers::{put, put_few};
+use crate::parts::Part;
 use crate::parts::cutting::behind;
-use crate::parts::{Part, Ranged};
 use cap_word::{number_text, take_bytes, take_u64};
 use std::marker::Model;
 
@@ -157,25 +157,6 @@ impl<const IS_LOAD: bool> Part for Accessed<IS_LOAD> {
         let next = put_few(buffer, at, u16::from(size.bytes()));
         let digits = put(buffer, next, if IS_LOAD { b" = " } else { b" " });
         put_value(buffer, digits, size, self.0.value())
-    }
-}
-
-impl<const IS_LOAD: bool> Ranged for Accessed<IS_LOAD> {
-    type Numbers = (u64, u64);
-
-    ghost meant = { λ numbers. record { 0 = record { size = numbers.0; value = numbers.1 } } };
-
-    #[inline(always)]
-    fn from_numbers((size, value): (u64, u64)) -> Option<Self> {
-        let Some(datum) = Datum::new(size, value) else {
-            return None;
-        };
-        Some(Accessed(datum))
-    }
-
-    #[inline(always)]
-    fn in_range(self) {
-        self.0.size();
     }
 }
 

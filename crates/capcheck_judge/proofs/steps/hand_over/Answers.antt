@@ -8,7 +8,7 @@ use Rattle.capcheck_judge.proofs.steps.hand_over.Goals as goal
 pub returns-in-Some-take : goal.returns-in-Some-take
 returns-in-Some-take g c =
     let step_of = g.I.Operands.step in
-    let wanted = g.I.Operands.made (g.I.Parts.Ranged.meant c.args.numbers) in
+    let wanted = g.I.Operands.meant c.args.numbers in
     let of = subst (IsMade step_of wanted) c.in-Some.is c.from_numbers.ensures.made in
     let is : c.args.judge.now.judge ≡ Some c.deref_mut.result.now = c.in-Some-take.ensures.taken ∙ ap Some (sym c.deref_mut.ensures.value) in
     let old = c.deref_mut.result.now in
