@@ -1,6 +1,6 @@
 //! What a program does once an order was followed.
 
-ghost use Rattle.std.specs.Prelude.{◌≡◌, ◌+◌, ◌≤◌, ◌++◌, ℕ, [], length, take, codes};
+ghost use Rattle.std.specs.Prelude.{◌≡◌, ◌+◌, ◌≤◌, ◌++◌, ℕ, true, [], length, take, codes, OnOk};
 ghost use Rattle.cap_program.specs.Doings.{IsHandedOn, IsPushed, IsTold};
 ghost use Rattle.cap_program.specs.Faults.{exit_status, fault_line};
 
@@ -13,6 +13,7 @@ use cap_log::{PushFault, Sink, push_all};
 pub fn hand_on<K: Output>(done: Result<u8, Fault>, out: &mut K) -> Result<u8, Fault>
     ensures nothing_taken { K.took out.old out.new [] }
     ensures handed_on { IsHandedOn done (K.faults out.old) (K.faults out.new) result }
+    ensures whole { OnOk result (K.has_handed_on out.new ≡ true) }
 {
     match done {
         Ok(status) => match out.hand_on() {

@@ -1,7 +1,8 @@
 //! Where the text of an order goes.
 
-ghost use Rattle.std.specs.Prelude.{◌≡◌, ℕ, [], take, IfOk, IfErr, OnOk, Ok, Err};
+ghost use Rattle.std.specs.Prelude.{◌≡◌, ℕ, Bool, true, [], take, IfOk, IfErr, OnOk, Ok, Err};
 ghost use Rattle.cap_log.specs.Streams.{CountsFault};
+ghost use Rattle.cap_log.specs.Wrapped.{has_flushed};
 ghost use Rattle.cap_program.specs.Doings.{IsCounted};
 
 use crate::faults::Fault;
@@ -10,13 +11,19 @@ use std::io::Write;
 
 /// A sink that may keep bytes back, and hands them on when it is asked to.
 pub trait Output: Sink {
+    /// Whether all that was pushed was handed on.
+    ghost has_handed_on: { Self → Bool };
+
     /// Hands on what was pushed so far. A fault counts one more. Nothing is taken.
     fn hand_on(&mut self) -> Result<(), PushFault>
         ensures nothing_taken { Self.took self.old self.new [] }
-        ensures counted { CountsFault (Self.faults self.old) (Self.faults self.new) result };
+        ensures counted { CountsFault (Self.faults self.old) (Self.faults self.new) result }
+        ensures handed_on { OnOk result (has_handed_on self.new ≡ true) };
 }
 
 impl<'a, W: Write> Output for WriteSink<'a, W> {
+    ghost has_handed_on = { λ s. has_flushed s };
+
     fn hand_on(&mut self) -> Result<(), PushFault> {
         self.flush()
     }

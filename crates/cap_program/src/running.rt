@@ -1,6 +1,6 @@
 //! What a program does with an order: its texts and its exit status.
 
-ghost use Rattle.std.specs.Prelude.{◌≡◌, ℕ, List, [], take, IfOk, IfErr, Err, None};
+ghost use Rattle.std.specs.Prelude.{◌≡◌, ℕ, true, List, [], take, IfOk, IfErr, OnOk, Err, None};
 ghost use Rattle.std.specs.Io.KnownBytes.{Appends};
 ghost use Rattle.cap_program.specs.Commands.{IsMeant};
 ghost use Rattle.cap_program.specs.Doings.{IsDone, IsFollowed, IsTold, ended_by, gave_by, known_bytes};
@@ -65,7 +65,7 @@ fn write_out<C: Command, S: Source, O: Write, F: Write>(
 }
 
 /// Does what an order says, over any source and any sinks: the status that goes with the text that was pushed, or the
-/// fault whose line was pushed to `faults`. A missing input is a read fault.
+/// fault whose line was pushed to `faults`. A missing input is a read fault. With a status, all of the text was handed on.
 pub fn carry_out<C: Command, S: Source, K: Output, F: Sink>(
     alloc: Global,
     order: Option<C>,
@@ -75,6 +75,7 @@ pub fn carry_out<C: Command, S: Source, K: Output, F: Sink>(
 ) -> Result<u8, Fault>
     ensures followed { IsFollowed C.meaning order S.gave S.ended S.faults K.took K.faults input.old input.new out.old out.new result }
     ensures told { IsTold C.meaning.program F.took F.faults result faults.old faults.new }
+    ensures handed_on { OnOk result (K.has_handed_on out.new ≡ true) }
 {
     let done = follow(alloc, order, input, out);
     let done = hand_on(done, out);
