@@ -1,3 +1,4 @@
-mod StepLemmas
 mod DetailLemmas
+mod StepLemmas
+pub mod TextLemmas
 mod WhyLemmas

@@ -1,4 +1,7 @@
-pub mod Parts
-pub mod StepLines
+pub mod Answers
 pub mod FaultReports
+pub mod Parts
+pub mod Sinks
+pub mod StepLines
+pub mod Texts
 pub mod Whys

@@ -1,8 +1,8 @@
 -- An answer on all the bytes of a log, in numbers.
 use Rattle.std.proofs.Common.{◌≡◌, ◌≢◌, ℕ, Bool, List, [], true, refl, Err, Ok}
 use Rattle.std.specs.Prelude.{None, Some}
-use Rattle.cap_answers.specs.Answers.{AnswersBytes, numbers_of, without_verdict}
-use Rattle.cap_answers.specs.declared.answers.Answer.{Answer}
+use Rattle.cap_report.specs.Answers.{AnswersBytes, numbers_of, without_verdict}
+use Rattle.cap_report.specs.declared.answers.Answer.{Answer}
 use Rattle.cap_judge.specs.declared.verdict.JudgeFault.{JudgeFault}
 use Rattle.cap_judge.specs.declared.verdict.JudgeFault.TheVariants.{NoMemory, Pull}
 use Rattle.cap_judge.specs.declared.verdict.JudgeToFault.{JudgeToFault}

@@ -1,12 +1,12 @@
 //! The judge of a log that lies in memory, with its report.
 
 ghost use Rattle.std.specs.Prelude.{ℕ, List};
-ghost use Rattle.cap_answers.specs.Answers.{AnswersBytes, NamesEscapesIn};
-ghost use Rattle.cap_answers.specs.Sinks.{Took};
+ghost use Rattle.cap_report.specs.Answers.{AnswersBytes, NamesEscapesIn};
+ghost use Rattle.cap_report.specs.Sinks.{Took};
 ghost use Rattle.capcheck_freestanding.specs.Whys.{AnswersWhy, IsWhyOf};
 
-use cap_answers::answers::{Answer, NO_MEMORY, numbers_of, without_verdict};
-use cap_answers::texts::TextSink;
+use cap_report::answers::{Answer, NO_MEMORY, numbers_of, without_verdict};
+use cap_report::texts::TextSink;
 use cap_report::judge_why_bytes;
 use tagmem_lent::{LentStore, Slot};
 

@@ -1,8 +1,8 @@
 //! The judge of a log that lies in memory.
 
-ghost use Rattle.cap_answers.specs.Answers.{AnswersBytes, NamesEscapesIn};
+ghost use Rattle.cap_report.specs.Answers.{AnswersBytes, NamesEscapesIn};
 
-use cap_answers::answers::{Answer, NO_MEMORY, numbers_of, without_verdict};
+use cap_report::answers::{Answer, NO_MEMORY, numbers_of, without_verdict};
 use cap_judge::judge_bytes_keeping;
 use tagmem_lent::{LentStore, Slot};
 

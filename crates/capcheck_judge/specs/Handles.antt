@@ -18,9 +18,9 @@ use Rattle.cap_judge.specs.Logs.{MayLackMemory}
 use Rattle.cap_judge.specs.Readings.{BeginsWhole, HasRead, Known, Stands, known_of}
 use Rattle.cap_judge.specs.Verdicts.{IsVerdict, IsGuarded}
 use Rattle.cap_report.specs.Whys.{ExplainsSoFar}
-use Rattle.cap_answers.specs.Answers.{numbers_of, without_verdict}
-use Rattle.cap_answers.specs.Texts.{IsTold}
-use Rattle.cap_answers.specs.declared.answers.Answer.{Answer}
+use Rattle.cap_report.specs.Answers.{numbers_of, without_verdict}
+use Rattle.cap_report.specs.Texts.{IsTold}
+use Rattle.cap_report.specs.declared.answers.Answer.{Answer}
 use Rattle.capcheck_judge.specs.declared.handle.Handle.{Handle}
 use Rattle.capcheck_judge.specs.declared.answers.Given.{Given}
 

@@ -3,11 +3,11 @@
 ghost use Rattle.std.specs.Prelude.{◌≡◌, ◌≢◌, ◌↔◌, ◌⊎◌, ◌<◌, ℕ, List, [], ◌++◌, None};
 ghost use Rattle.cap_judge.specs.Logs.{MayLackMemory};
 ghost use Rattle.cap_judge.specs.Readings.{BeginsWhole, HasRead, IsNoLine, known_of};
-ghost use Rattle.cap_answers.specs.Answers.{NamesEscapesIn, without_verdict};
+ghost use Rattle.cap_report.specs.Answers.{NamesEscapesIn, without_verdict};
 ghost use Rattle.capcheck_judge.specs.Handles.{AnswersEnd, AnswersSoFar, Holds, held_in, known_in};
 
 use crate::handle::Handle;
-use cap_answers::answers::{
+use cap_report::answers::{
     Answer, GOES_ON, NO, NO_JUDGE, NO_LINE, NO_MEMORY, numbers_of, without_verdict,
 };
 use cap_judge::{Judge, TakeFault};

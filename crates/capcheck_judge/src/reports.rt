@@ -5,7 +5,7 @@ ghost use Rattle.cap_judge.specs.Readings.{HasRead};
 ghost use Rattle.capcheck_judge.specs.Handles.{AnswersReport, Holds, held_in};
 
 use crate::handle::Handle;
-use cap_answers::texts::TextSink;
+use cap_report::texts::TextSink;
 use cap_judge::Judge;
 use cap_log::PushFault;
 use cap_report::push_refused;

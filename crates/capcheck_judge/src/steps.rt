@@ -12,7 +12,7 @@ ghost use Rattle.cap_judge.specs.Readings.{BeginsWhole, HasRead, known_of};
 ghost use Rattle.capcheck_judge.specs.Handles.{HandsOver, held_in};
 
 use crate::handle::Handle;
-use cap_answers::answers::{GOES_ON, NO, NO_JUDGE, NO_LINE, NO_MEMORY};
+use cap_report::answers::{GOES_ON, NO, NO_JUDGE, NO_LINE, NO_MEMORY};
 use cap_halves::halves::taken;
 use cap_halves::values::Capability;
 use cap_judge::{Judge, TakeFault};

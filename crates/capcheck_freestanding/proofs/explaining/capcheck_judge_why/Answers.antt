@@ -1,6 +1,6 @@
 use Rattle.std.proofs.Common.{rules, subst}
-use Rattle.cap_answers.proofs.TextLemmas.{told_from}
-use Rattle.cap_answers.specs.Texts.{IsTold}
+use Rattle.cap_report.proofs.TextLemmas.{told_from}
+use Rattle.cap_report.specs.Texts.{IsTold}
 use Rattle.cap_judge.proofs.EscapeLaws.{named}
 use Rattle.capcheck_freestanding.proofs.explaining.capcheck_judge_why.Goals as goal
 

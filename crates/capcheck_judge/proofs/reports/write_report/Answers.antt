@@ -1,6 +1,6 @@
 use Rattle.std.proofs.Common.{arith, rules, subst}
-use Rattle.cap_answers.specs.Texts.{IsTold}
-use Rattle.cap_answers.proofs.TextLemmas.{told_from}
+use Rattle.cap_report.specs.Texts.{IsTold}
+use Rattle.cap_report.proofs.TextLemmas.{told_from}
 use Rattle.capcheck_judge.proofs.reports.write_report.Goals as goal
 
 pub returns-in-Ok : goal.returns-in-Ok

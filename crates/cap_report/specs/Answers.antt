@@ -5,7 +5,7 @@ use Rattle.cap_judge.specs.declared.verdict.Verdict.{Verdict}
 use Rattle.cap_judge.specs.declared.verdict.Verdict.TheVariants.{Yes, No}
 use Rattle.cap_judge.specs.Logs.{MayLackMemory, NamesNoGranules}
 use Rattle.cap_judge.specs.Verdicts.{IsVerdict, IsGuarded, NamesEscapes}
-use Rattle.cap_answers.specs.declared.answers.Answer.{Answer}
+use Rattle.cap_report.specs.declared.answers.Answer.{Answer}
 
 -- an answer that is no verdict, and says why by this number
 abbrev pub without_verdict : ℕ → Answer

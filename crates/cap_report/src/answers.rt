@@ -1,7 +1,7 @@
 //! What the judge answers to C: structs of plain numbers.
 
 ghost use Rattle.std.specs.Prelude.{◌≡◌};
-ghost use Rattle.cap_answers.specs.Answers.{numbers_of, without_verdict};
+ghost use Rattle.cap_report.specs.Answers.{numbers_of, without_verdict};
 
 use cap_judge::Verdict;
 

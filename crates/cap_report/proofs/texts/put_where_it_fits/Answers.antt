@@ -1,6 +1,6 @@
 use Rattle.std.proofs.Common.{refl, rules}
 use Rattle.std.proofs.lemmas.Slice.{overwrites}
-use Rattle.cap_answers.proofs.texts.put_where_it_fits.Goals as goal
+use Rattle.cap_report.proofs.texts.put_where_it_fits.Goals as goal
 
 pub returns : goal.returns
 returns c = record {

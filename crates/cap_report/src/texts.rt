@@ -4,7 +4,7 @@ ghost use Rattle.std.specs.Prelude.{◌≡◌, ℕ, ◌+◌, ◌≤◌, ◌<◌,
 ghost use Rattle.std.proofs.Common.{refl, ◌∙◌, rules};
 ghost use Rattle.cap_log.specs.Streams.{CountsFault};
 ghost use Rattle.cap_log.specs.Written.{WritesInside};
-ghost use Rattle.cap_answers.specs.Texts.{IsTold-nothing, IsTold-joined};
+ghost use Rattle.cap_report.specs.Texts.{IsTold-nothing, IsTold-joined};
 
 use cap_log::{PushFault, Sink};
 
@@ -17,7 +17,7 @@ pub struct TextSink<'a> {
 }
 
 impl<'a> TextSink<'a> {
-    ghost use Rattle.cap_answers.specs.Sinks.{bytes_in, counted_by, name_of_room};
+    ghost use Rattle.cap_report.specs.Sinks.{bytes_in, counted_by, name_of_room};
 
     /// A text begins at the front of the room. None was taken.
     pub fn new(room: &'a mut [u8]) -> TextSink<'a>
@@ -37,7 +37,7 @@ impl<'a> TextSink<'a> {
 }
 
 impl<'a> Sink for TextSink<'a> {
-    ghost use Rattle.cap_answers.specs.Sinks.{Took, failed_pushes};
+    ghost use Rattle.cap_report.specs.Sinks.{Took, failed_pushes};
 
     ghost took = { Took };
 
