@@ -5,8 +5,9 @@
 //! tagged word that a machine holds is sound. Only a granule named for the first time takes memory. Beside
 //! each capability it keeps the place of the root that it comes from: its origin. What a step shows of the state
 //! before it is told by `shown`, for reports. Each kind of step is an [`Instruction`]. The laws
-//! [`steps_stay_within`], [`authority_never_grows`], [`accesses_lie_inside`], [`runs_end_in_accounts`] and
-//! [`origins_are_roots`] are of single steps and of whole runs.
+//! [`steps_stay_within`], [`bounds_are_cleared_exactly`], [`runs_clear_exactly`], [`authority_never_grows`],
+//! [`accesses_lie_inside`], [`runs_end_in_accounts`], [`origins_follow_descent`] and [`origins_are_roots`] are of
+//! single steps and of whole runs.
 #![tactic(auto)]
 
 mod ends;
@@ -19,8 +20,8 @@ mod shown;
 pub use crate::ends::StepEnd;
 pub use crate::instructions::{ByKind, Instruction, by_head};
 pub use crate::laws::{
-    accesses_lie_inside, authority_never_grows, origins_are_roots, origins_follow_descent,
-    runs_end_in_accounts, steps_stay_within,
+    accesses_lie_inside, authority_never_grows, bounds_are_cleared_exactly, origins_are_roots,
+    origins_follow_descent, runs_clear_exactly, runs_end_in_accounts, steps_stay_within,
 };
 pub use crate::machine::{MOST_ROOTS, MOST_STEPS, Machine};
 pub use crate::rules::Rules;
