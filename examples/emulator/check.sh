@@ -129,7 +129,7 @@ for log in examples/*.log "$work"/*.changed.log; do
             wanted=1
             stopped=$((stopped + 1))
             number=$(echo "$verdict" | cut -d' ' -f2)
-            [ "$(head -n 1 "$work/complaints")" = "stopped behind $number lines: $(sed -n "${number}p" "$log")" ] ||
+            [ "$(head -n 1 "$work/complaints")" = "stopped after $number lines: $(sed -n "${number}p" "$log")" ] ||
                 { echo "check.sh: stopping stops elsewhere on $log" >&2; exit 1; }
             gives=$("$diagnosis" why "$log" | sed -nE 's/^gives (c[0-9]+ )?([01] [0-9a-f]{32}|[0-9a-f]+)$/gives \2/p')
             [ "$(grep '^gives ' "$work/complaints")" = "$gives" ] ||

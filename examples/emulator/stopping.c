@@ -1,23 +1,22 @@
 /*
- * A program that has the judge linked in, and stops at the first line at fault. It reads the lines of a log from
- * standard input, as an emulator makes them one by one, and hands each over before it reads the next:
+ * A program that has the judge linked in, and stops at the first faulty line. It reads the lines of a log from standard
+ * input, as an emulator makes them one by one, and passes each to the judge before it reads the next:
  *
  *     stopping < examples/kept_tag.log
  *
- * It prints the verdict's line, as `capcheck judge` does. After a no it prints on standard error how many lines it
- * had read by then, the faulty line, what the rules give where the line records another result, and what each
- * register held before that line that isn't NULL. It ends with status 0 for a yes, 1 for a no, and 2 where there
- * is no verdict.
+ * It prints the verdict line, as `capcheck judge` does. After a no it also prints to standard error the number of lines
+ * that it had read, the faulty line, what the rules give if the line records another result, and each register that held
+ * anything but untagged NULL before that line. Status: 0 for a yes, 1 for a no, 2 if there is no verdict.
  */
 #include <capcheck_judge.h>
 
 #include <stdio.h>
 #include <string.h>
 
-/* The longest line with its line feed and a null byte. A longer one comes in parts, of which the first is at fault. */
+/* Space for the longest line with its line feed and a NUL. A longer line comes in parts, and the first part is faulty. */
 enum { ROOM = CAPCHECK_LINE_SIZE + 1 };
 
-/* Shows the registers of the log's machine that hold anything. */
+/* Shows the registers of the log's machine that hold anything but untagged NULL. */
 static void show_registers(capcheck_judge *judge) {
     capcheck_word null = capcheck_null();
     for (unsigned number = 1; number < 32; number++) {
@@ -28,7 +27,7 @@ static void show_registers(capcheck_judge *judge) {
     }
 }
 
-/* Shows what the rules give for a step that records another result, as `capdiag why` writes it. */
+/* Shows what the rules give for a step that records another result, as `capdiag why` prints it. */
 static void show_expected(capcheck_judge *judge) {
     capcheck_expected given = capcheck_judge_expected(judge);
     if (given.kind == CAPCHECK_EXPECTS_CAPABILITY)
@@ -42,7 +41,7 @@ static int stop(capcheck_judge *judge, const char *line, unsigned long long coun
     capcheck_answer answer = capcheck_judge_answer(judge);
     printf("no %llu %u %s\n", (unsigned long long)answer.line, (unsigned)answer.refusal,
            capcheck_refusal_name(answer.refusal).text);
-    fprintf(stderr, "stopped behind %llu lines: %s", count, line);
+    fprintf(stderr, "stopped after %llu lines: %s", count, line);
     show_expected(judge);
     show_registers(judge);
     return 1;
@@ -59,7 +58,7 @@ static int finish(capcheck_judge *judge) {
     return 1;
 }
 
-/* Hands the lines over. */
+/* Passes the lines to the judge. Returns the exit status. */
 static int judge_lines(capcheck_judge *judge) {
     char line[ROOM];
     unsigned long long count = 0;
