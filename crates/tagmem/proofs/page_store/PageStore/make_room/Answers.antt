@@ -1,5 +1,7 @@
-use Rattle.std.proofs.Common.{◌∙◌, arith}
-use Rattle.tagmem.specs.Rooms.{blocks_of}
+use Rattle.std.proofs.Common.{◌∙◌, ◌≤◌, arith}
+use Rattle.tagmem.specs.Rooms.{blocks_of, blocks_with}
+use Rattle.std.specs.Vec.{vec_capacity}
+use Rattle.std.proofs.lemmas.Result.{on_ok_weaker}
 use Rattle.tagmem.proofs.page_store.PageStore.make_room.Goals as goal
 
 -- what is kept is what it was
@@ -34,3 +36,12 @@ invariant_of-self-2 c =
       few = rw same s.few;
       fits = rw same s.fits;
     }
+
+pub returns-clause-room : goal.returns-clause-room
+returns-clause-room c =
+    let fits : blocks_with c.args.self.now.directory c.args.page ≤ vec_capacity c.make_room.new.list =
+    omega (arith, c.in-Some.ensures, c.in_ok-make_room.ensures.ok) in
+    on_ok_weaker c.make_room-2.result (λ _. fits) c.make_room-2.ensures.ok
+
+pub returns-then-is_some-clause-only_new : goal.returns-then-is_some-clause-only_new
+returns-then-is_some-clause-only_new c = tt
