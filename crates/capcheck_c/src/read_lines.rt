@@ -1,6 +1,6 @@
 //! A line read: the inverse of the calls that write lines.
 
-ghost use Rattle.std.specs.Prelude.{◌≡◌, ◌≢◌, ◌<◌, ◌*◌, ◌^◌, true, pos};
+ghost use Rattle.std.specs.Prelude.{◌≡◌, ◌≢◌, ◌<◌, ◌≤◌, ◌*◌, ◌^◌, true, pos};
 ghost use Rattle.cap_log.specs.Lines.{IsInRange, IsPlace};
 ghost use Rattle.cap_log.specs.declared.lines.Line.TheVariants as lines;
 ghost use Rattle.cap_halves.specs.Passed.{cap_of, no_cap};
@@ -29,6 +29,7 @@ const END: u8 = 17;
 #[unsafe(no_mangle)]
 pub extern "C" fn capcheck_read_line(bytes: &[u8]) -> LineRead
     ensures read { ReadsFront bytes.now result }
+    ensures tag { result.cap.tag ≤ 1 }
 {
     match take_line(bytes) {
         Some((line, rest)) => line_read(line, bytes.len() - rest.len()),
@@ -42,6 +43,7 @@ fn line_read(line: Line, count: usize) -> LineRead
     ensures read { IsLineRead line result }
     ensures kind { result.kind ≢ 0 }
     ensures length { result.length ≡ count }
+    ensures tag { result.cap.tag ≤ 1 }
 {
     match line {
         Line::Version(version) => LineRead::numbered(VERSION, u64::from(version), count),
@@ -59,6 +61,7 @@ fn root_read(place: Place, word: Word, count: usize) -> LineRead
     ensures read { IsLineRead (lines.Root place word) result }
     ensures kind { result.kind ≢ 0 }
     ensures length { result.length ≡ count }
+    ensures tag { result.cap.tag ≤ 1 }
 {
     let cap = Cap { tag: true, word };
     match place {

@@ -3,7 +3,7 @@
 //! Each call answers how many bytes it wrote, the line feed with them, or 0 where a number is out of its
 //! range; then the buffer is as it was.
 
-ghost use Rattle.std.specs.Prelude.{◌≡◌, ◌≢◌};
+ghost use Rattle.std.specs.Prelude.{◌≡◌, ◌≢◌, ◌≤◌};
 ghost use Rattle.cap_log.specs.declared.lines.Line.TheVariants as line;
 ghost use Rattle.cap_halves.specs.PassedSteps as steps;
 ghost use Rattle.capcheck_c.specs.LinesRead.{IsStepRead};
@@ -226,6 +226,7 @@ pub(crate) fn step_read(step: Step, count: usize) -> LineRead
     ensures read { IsStepRead step result }
     ensures kind { result.kind ≢ 0 }
     ensures length { result.length ≡ count }
+    ensures tag { result.cap.tag ≤ 1 }
 {
     match step {
         Step::Move(step) => LineRead::recorded(MOVE, step.target, step.source, step.result, count),

@@ -1,6 +1,6 @@
 //! What passes between C and the library: structs of plain numbers.
 
-ghost use Rattle.std.specs.Prelude.{◌≡◌};
+ghost use Rattle.std.specs.Prelude.{◌≡◌, ◌≤◌};
 ghost use Rattle.cap_halves.specs.Passed.{no_cap};
 ghost use Rattle.capcheck_c.specs.LinesRead.{Reads};
 
@@ -157,6 +157,7 @@ impl LineRead {
     ) -> LineRead
         ensures read { Reads kind target source 0 0 cap result }
         ensures length { result.length ≡ count }
+        ensures tag { result.cap.tag ≤ 1 }
     {
         LineRead {
             source: source.number(),
@@ -168,6 +169,7 @@ impl LineRead {
     pub(crate) fn written(kind: u8, target: u8, cap: Cap, count: usize) -> LineRead
         ensures read { Reads kind target 0 0 0 cap result }
         ensures length { result.length ≡ count }
+        ensures tag { result.cap.tag ≤ 1 }
     {
         LineRead {
             cap: given(cap),
@@ -180,6 +182,7 @@ impl LineRead {
     pub(crate) fn numbered(kind: u8, number: u64, count: usize) -> LineRead
         ensures read { Reads kind 0 0 0 number no_cap result }
         ensures length { result.length ≡ count }
+        ensures tag { result.cap.tag ≤ 1 }
     {
         LineRead {
             cap: no_capability(),
