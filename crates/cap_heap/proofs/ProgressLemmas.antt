@@ -1,5 +1,6 @@
 -- What a progress stands for, and how it goes on.
-use Rattle.std.proofs.Common.{◌≡◌, ℕ, inr, List, [], ◌∷◌, ◌++◌, refl, sym, ap, subst, ◌∙◌, Result, Ok, Err, OnOk, OnErr, IfErr}
+use Rattle.std.proofs.Common.{◌≡◌, ◌⊎◌, ℕ, ◌+◌, inl, inr, List, [], ◌∷◌, ◌++◌, length, map, append-nil, refl, sym, ap, subst, ◌∙◌, arith}
+use Rattle.std.proofs.Common.{Result, Ok, Err, OnOk, OnErr, IfErr}
 use Rattle.cap_bounds.specs.declared.decoding.Interval.{Interval}
 use Rattle.cap_heap.specs.declared.events.Event.{Event}
 use Rattle.cap_heap.specs.declared.events.EventEnd.{EventEnd}
@@ -13,6 +14,7 @@ use Rattle.cap_heap.specs.declared.stage.Stage.TheVariants as stages
 use Rattle.cap_heap.specs.HeapLines.{IsInRange, Spells}
 use Rattle.cap_heap.specs.Objects.{no_objects}
 use Rattle.cap_heap.specs.HeapReports.{IsReportOf}
+use Rattle.cap_heap.specs.HeapWhys.{count_in}
 use Rattle.cap_heap.specs.Heaps.{objects_in, live_in}
 use Rattle.cap_heap.specs.Beginnings.{Beginning, Nothing, Headed, Body, Whole, lines_of, body_lines, RefusesWhole}
 use Rattle.cap_heap.specs.Progresses.{Reaches, StandsFor, Stays, Takes, EndsLine, EndsText, LacksMemory}
@@ -45,6 +47,28 @@ stays_for old new same told Nothing stands = same ∙ stands
 stays_for old new same told Headed stands = same ∙ stands
 stays_for old new same told (Body root events) stands = (same ∙ stands.0, told root events stands.1)
 stays_for old new same told (Whole root events) stands = (same ∙ stands.0, told root events stands.1)
+
+-- the lines of events are as many as these
+count_events : (events : List Event) (later : List HeapLine) → count_in (map Happens events ++ later) ≡ length events + count_in later
+count_events [] later = omega arith
+count_events (event ∷ events) later = let rest = count_events events later in omega (arith, rest)
+
+-- behind the root, as many events were counted as the lines so far have
+pub counted : (progress : Progress) (beginning : Beginning) → (progress.stage ≡ stages.Within) ⊎ (progress.stage ≡ stages.Ended)
+    → StandsFor progress beginning → progress.events ≡ count_in (lines_of beginning)
+counted progress Nothing (inl within) h = let no : ⊥ = cc in absurd no
+counted progress Nothing (inr ended) h = let no : ⊥ = cc in absurd no
+counted progress Headed (inl within) h = let no : ⊥ = cc in absurd no
+counted progress Headed (inr ended) h = let no : ⊥ = cc in absurd no
+counted progress (Body root events) stage h =
+    let all = ap count_in (append-nil (map Happens events)) in
+    let are = count_events events [] in
+    let have = h.1.count_is in
+    let same : progress.events ≡ count_in (map Happens events) = omega (arith, all, are, have) in same
+counted progress (Whole root events) stage h =
+    let are = count_events events (End (length events) ∷ []) in
+    let have = h.1.count_is in
+    let same : progress.events ≡ count_in (map Happens events ++ End (length events) ∷ []) = omega (arith, are, have) in same
 
 -- an event more
 pub takes_event : {X : Type 0} (old new : Progress) (event : Event) → old.stage ≡ stages.Within → new.stage ≡ old.stage

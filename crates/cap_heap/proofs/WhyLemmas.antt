@@ -43,10 +43,10 @@ other_details heap objects at size refusal other details differs is told =
     subst (λ (r : HeapRefusal). AreEventDetails heap objects (Malloc at size) r details) is told
 
 -- the details of a line whose refusal is decided by how many events there were
-pub count_details : (root : Interval) (events : List Event) (due : List HeapLine) (text : List ℕ) (refusal : HeapRefusal) (details : List ℕ)
+pub count_details : (root : Interval) (events : List Event) (before due : List HeapLine) (text : List ℕ) (refusal : HeapRefusal) (details : List ℕ)
     → (refusal ≡ Misplaced) ⊎ ((refusal ≡ Truncated) ⊎ ((refusal ≡ WrongCount) ⊎ (refusal ≡ LimitPassed)))
-    → details ≡ count_line (count_in events due) → AreDetails root events due text refusal details
-count_details root events due text refusal details (inl e) is = subst (λ (r : HeapRefusal). AreDetails root events due text r details) (sym e) is
-count_details root events due text refusal details (inr (inl e)) is = subst (λ (r : HeapRefusal). AreDetails root events due text r details) (sym e) is
-count_details root events due text refusal details (inr (inr (inl e))) is = subst (λ (r : HeapRefusal). AreDetails root events due text r details) (sym e) is
-count_details root events due text refusal details (inr (inr (inr e))) is = subst (λ (r : HeapRefusal). AreDetails root events due text r details) (sym e) is
+    → details ≡ count_line (count_in before) → AreDetails root events before due text refusal details
+count_details root events before due text refusal details (inl e) is = subst (λ (r : HeapRefusal). AreDetails root events before due text r details) (sym e) is
+count_details root events before due text refusal details (inr (inl e)) is = subst (λ (r : HeapRefusal). AreDetails root events before due text r details) (sym e) is
+count_details root events before due text refusal details (inr (inr (inl e))) is = subst (λ (r : HeapRefusal). AreDetails root events before due text r details) (sym e) is
+count_details root events before due text refusal details (inr (inr (inr e))) is = subst (λ (r : HeapRefusal). AreDetails root events before due text r details) (sym e) is

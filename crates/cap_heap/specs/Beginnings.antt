@@ -83,4 +83,4 @@ RefusesBehind beginning rest refusal = Refuses (root_of beginning) (events_of be
 
 -- what is told of a line behind a beginning
 abbrev pub AreDetailsBehind : Beginning → List ℕ → HeapRefusal → List ℕ → Type 0
-AreDetailsBehind beginning text refusal details = AreDetails (root_of beginning) (events_of beginning) (due_of beginning) text refusal details
+AreDetailsBehind beginning text refusal details = AreDetails (root_of beginning) (events_of beginning) (lines_of beginning) (due_of beginning) text refusal details

@@ -1,5 +1,5 @@
 -- The report of a no: the line that was refused, and what its tests saw (this profile's own, as are all below).
-use Rattle.std.specs.Prelude.{◌≡◌, ◌⊎◌, ℕ, ◌+◌, List, [], ◌∷◌, ◌++◌, length, take, fold, Option, Some, None, MatchOption, codes, decimal}
+use Rattle.std.specs.Prelude.{◌≡◌, ◌⊎◌, ℕ, ◌+◌, List, [], ◌∷◌, ◌++◌, take, fold, Option, Some, None, MatchOption, codes, decimal}
 use Rattle.cap_word.specs.Digits.{hex_digits}
 use Rattle.cap_bounds.specs.declared.decoding.Interval.{Interval}
 use Rattle.cap_bounds.specs.Rounding.{rounded_base, rounded_top, alignment_of}
@@ -10,7 +10,7 @@ use Rattle.cap_texts.specs.TextLines.{text_line}
 use Rattle.cap_heap.specs.declared.events.Event.{Event}
 use Rattle.cap_heap.specs.declared.events.Event.TheVariants.{Malloc, Free}
 use Rattle.cap_heap.specs.declared.lines.HeapLine.{HeapLine}
-use Rattle.cap_heap.specs.declared.lines.HeapLine.TheVariants.{Header, Root, Happens, End}
+use Rattle.cap_heap.specs.declared.lines.HeapLine.TheVariants.{Happens, End}
 use Rattle.cap_heap.specs.declared.refusal.HeapRefusal.{HeapRefusal}
 use Rattle.cap_heap.specs.declared.refusal.HeapRefusal.TheVariants.{BadHeader, LineTooLong, BadLine, Misplaced, Truncated, WrongCount}
 use Rattle.cap_heap.specs.declared.refusal.HeapRefusal.TheVariants.{LimitPassed, OutsideHeap}
@@ -49,36 +49,36 @@ AreEventDetails heap objects (Malloc at size) refusal details =
     (λ entry. Shares rounded_base rounded_top objects at size entry.0 entry.1)
     × (details ≡ request_lines [] at size ++ live_lines found ++ right_lines size)
 
--- how many events there were where a log goes on with these lines
-abbrev pub count_in : List Event → List HeapLine → ℕ
-count_in events (Header ∷ later) = 0
-count_in events (Root root ∷ later) = 0
-count_in events due = length events
+-- how many of these lines are events
+abbrev pub count_in : List HeapLine → ℕ
+count_in [] = 0
+count_in (Happens event ∷ lines) = count_in lines + 1
+count_in (line ∷ lines) = count_in lines
 
--- what is told of a line behind these events, where a log goes on with other lines, for its refusal: nothing where it has no form, how many
--- events there were where that decides, and otherwise what is told of its event
-abbrev pub AreDetails : Interval → List Event → List HeapLine → List ℕ → HeapRefusal → List ℕ → Type 0
-AreDetails root events due text BadHeader details = details ≡ []
-AreDetails root events due text LineTooLong details = details ≡ []
-AreDetails root events due text BadLine details = details ≡ []
-AreDetails root events due text Misplaced details = details ≡ count_line (count_in events due)
-AreDetails root events due text Truncated details = details ≡ count_line (count_in events due)
-AreDetails root events due text WrongCount details = details ≡ count_line (count_in events due)
-AreDetails root events due text LimitPassed details = details ≡ count_line (count_in events due)
-AreDetails root events (End count ∷ later) text refusal details =
+-- what is told of a line after these events, for its refusal, where these lines come before it and a log goes on with other lines: nothing
+-- where it has no form, how many events come before it where that decides, and otherwise what is told of its event
+abbrev pub AreDetails : Interval → List Event → List HeapLine → List HeapLine → List ℕ → HeapRefusal → List ℕ → Type 0
+AreDetails root events before due text BadHeader details = details ≡ []
+AreDetails root events before due text LineTooLong details = details ≡ []
+AreDetails root events before due text BadLine details = details ≡ []
+AreDetails root events before due text Misplaced details = details ≡ count_line (count_in before)
+AreDetails root events before due text Truncated details = details ≡ count_line (count_in before)
+AreDetails root events before due text WrongCount details = details ≡ count_line (count_in before)
+AreDetails root events before due text LimitPassed details = details ≡ count_line (count_in before)
+AreDetails root events before (End count ∷ later) text refusal details =
     ((event : Event) × Spells text (Happens event) × AreEventDetails root (fold after no_objects events) event refusal details)
     ⊎ (((event : Event) → Spells text (Happens event) → ⊥) × (details ≡ []))
-AreDetails root events due text refusal details = details ≡ []
+AreDetails root events before due text refusal details = details ≡ []
 
 -- the text is the line that the bytes begin with: the first 96 bytes where more come before a line feed, all where none comes
 abbrev pub IsFrontText : List ℕ → List ℕ → Type 0
 IsFrontText bytes text = FrontIs bytes (text ≡ take 96 bytes) (text ≡ bytes) (λ line. text ≡ line)
 
--- the report of a first fault: of its root, its events, the lines that are due behind it, and the line that its rest begins with
+-- the report of a first fault: of its root, its events, the lines before it, those that are due, and the line that its rest begins with
 pub record IsReport (bytes : List ℕ) (number : ℕ) (refusal : HeapRefusal) (report : List ℕ) : Type 0 where
   pub fault : IsFirstFault bytes number refusal
   pub text : List ℕ
   pub front : IsFrontText fault.4 text
   pub details : List ℕ
-  pub are : AreDetails fault.0 fault.1 fault.3 text refusal details
+  pub are : AreDetails fault.0 fault.1 fault.2 fault.3 text refusal details
   pub report_is : report ≡ shown_line text ++ details

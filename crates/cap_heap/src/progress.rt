@@ -6,7 +6,7 @@ ghost use Rattle.cap_heap.specs.declared.events.Event.{Event};
 ghost use Rattle.cap_heap.specs.declared.lines.HeapLine.TheVariants.{Happens, End};
 ghost use Rattle.cap_heap.specs.declared.stage.Stage.TheVariants as stages;
 ghost use Rattle.cap_heap.specs.HeapLines.{IsInRange};
-ghost use Rattle.cap_heap.specs.Beginnings.{Beginning, due_of, events_of};
+ghost use Rattle.cap_heap.specs.Beginnings.{Beginning, lines_of};
 
 use crate::events::{Event, EventEnd};
 use crate::heap::Heap;
@@ -49,8 +49,9 @@ impl Progress {
     }
 
     /// How many events there were.
+    #[tactic(auto, using(crate::proofs::ProgressLemmas::counted))]
     pub fn count(&self) -> u32
-        ensures value { (beginning : Beginning) → StandsFor self.now beginning → result ≡ count_in (events_of beginning) (due_of beginning) }
+        ensures value { (beginning : Beginning) → StandsFor self.now beginning → result ≡ count_in (lines_of beginning) }
     {
         match self.stage {
             Stage::Start | Stage::Headed => 0,
