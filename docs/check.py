@@ -1,5 +1,5 @@
 #!/usr/bin/env python3
-"""Runs the commands of the pages, and compares what they print with what the pages say.
+"""Runs the commands of the pages, compares what they print with what the pages say, and looks for phrases that confuse.
 
     python3 docs/check.py [PAGE..]
 
@@ -9,7 +9,9 @@ all that it prints; a line `..` stands for any lines. A page's commands run one 
 own, in which the tree's files stand by their names. Other commands of the pages are those of ELSEWHERE, which says
 where each is run. Rows that give the verdict of an example or of a log are judged too, blocks that show a file of the
 tree are compared with it, each link has to lead to a file and a heading, and `judge/heap.c` has to have as many lines
-as is said. The status is 1 where anything differs."""
+as is said. The phrases of PHRASES are looked for in the pages, the manual pages, the headers, and the comments of the
+crates and of the C examples; text in code font isn't read. The status is 1 where anything differs."""
+import glob
 import os
 import re
 import shutil
@@ -45,6 +47,21 @@ ELSEWHERE = {
     "sh examples/allocator/measure.sh glibc": "by hand: it measures",
     "sh examples/allocator/measure.sh jemalloc /usr/lib/x86_64-linux-gnu/libjemalloc.so.2": "by hand: it measures",
     "sh examples/allocator/measure.sh mimalloc /usr/lib/x86_64-linux-gnu/libmimalloc.so.2.0": "by hand: it measures",
+}
+# Phrases that mislead, and what is written in their place.
+PHRASES = {
+    r"behind": "after, or what follows",
+    r"want of memory": "out of memory",
+    r"at fault": "faulty",
+    r"(?:tests?|it) holds of|tests? (?:that )?holds?": "a check fails",
+    r"(?:a|an|the|its|each|no|this) (?:yes|no)(?= (?:of|is|was|has|or|and|with|for|that|names|needs|stands)\b|[.,;:)])": "`yes` and `no` in code font",
+    r"(?:gets?|got) a (?:yes|no)": "is accepted, is rejected",
+    r"hangs? on": "depends on",
+    r"but for": "except",
+    r"gives? back": "frees, or returns",
+    r"(?:comes?|came) to live": "is allocated",
+    r"let through": "permitted",
+    r"room to room|(?:a|the) tree before": "CHANGELOG.md, for what was before",
 }
 COMMAND = re.compile(r"(\$|cc|sh|bash|cd|rt|python3|capcheck|capdiag|make|cat|git) ")
 
@@ -212,8 +229,40 @@ def counted(page, text):
     return [f"{page}: judge/heap.c has {lines} lines, and not {it}" for it in said if it != lines], len(said)
 
 
+def prose(path, text):
+    """The text of a file that is read as prose, line by line: a page without its blocks, or the comments of a source."""
+    fenced, lines = False, []
+    for line in text.split("\n"):
+        if path.endswith(".md"):
+            fenced ^= line.startswith("```")
+            lines.append("" if fenced else line)
+        elif path.endswith(".rt"):
+            m = re.match(r"\s*//[/!]? ?(.*)", line)
+            lines.append(m[1] if m else "")
+        elif path.endswith((".c", ".h")):
+            fenced = fenced or line.lstrip().startswith("/*")
+            lines.append(line.lstrip().lstrip("/*") if fenced else "")
+            fenced = fenced and "*/" not in line
+        else:
+            lines.append(line)
+    return lines
+
+
+def phrases(path):
+    """The misleading phrases of a file, also where one is broken over two lines."""
+    with open(path, encoding="utf-8") as it:
+        lines = prose(path, it.read())
+    text = re.sub(r"`[^`\n]*`", lambda m: "`" * len(m[0]), "\n".join(lines))
+    for phrase, better in PHRASES.items():
+        for m in re.finditer(r"\b(?:%s)\b" % phrase.replace(" ", r"\s+"), text):
+            yield f"{path}:{text.count(chr(10), 0, m.start()) + 1}: '{' '.join(m[0].split())}': {better}"
+
+
 def main(pages):
     wrong, count = [], 0
+    read = [it for it in PAGES if it != "docs/STANDARD.md"] + glob.glob("docs/*.1") + glob.glob("include/*.h") + glob.glob("judge/*.c")
+    for path in pages or sorted([*read, *glob.glob("crates/*/src/**/*.rt", recursive=True), *glob.glob("examples/*/*.c")]):
+        wrong += phrases(path)
     with tempfile.TemporaryDirectory() as work:
         tree = place(work)
         for page in pages or PAGES:

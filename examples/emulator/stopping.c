@@ -4,9 +4,9 @@
  *
  *     stopping < examples/kept_tag.log
  *
- * It prints the verdict line, as `capcheck judge` does. After a no it also prints to standard error the number of lines
+ * It prints the verdict line, as `capcheck judge` does. After a `no` it also prints to standard error the number of lines
  * that it had read, the faulty line, what the rules give if the line records another result, and each register that held
- * anything but untagged NULL before that line. Status: 0 for a yes, 1 for a no, 2 if there is no verdict.
+ * anything but untagged NULL before that line. Status: 0 for a `yes`, 1 for a `no`, 2 if there is no verdict.
  */
 #include <capcheck_judge.h>
 

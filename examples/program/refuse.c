@@ -1,6 +1,6 @@
 /*
  * Refuses requests for memory of a program: built as a shared object and preloaded, it answers NULL to the
- * request of the number in the environment's REFUSED, counted from 1, or with a `+` behind that number to
+ * request of the number in the environment's REFUSED, counted from 1, or with a `+` after that number to
  * each from it on, and leaves all others to the C library. At the program's end it writes how many requests
  * were made to the file descriptor of the number in REPORT.
  */

@@ -1,10 +1,10 @@
 /*
  * A plugin of QEMU's user mode that records what a program loads and stores, as logs for `capcheck judge`. The judge is
- * linked in: it says what the log's memory holds, and names the line at fault in the very access. README.md beside this
+ * linked in: it says what the log's memory holds, and names the faulty line in the very access. README.md beside this
  * file says how it is built and run, and what such a log shows.
  *
  * c1 is the root, the whole address space. c2 to c29 are windows, one for each 2 KB that was used lately, moved by
- * `setaddr`. c31 is the kernel's: a value that is loaded and that no line stored was written behind the recorder, by a
+ * `setaddr`. c31 is the kernel's: a value that is loaded and that no line stored was written unseen by the recorder, by a
  * system call or another thread, and gets its `store` then.
  */
 #define _GNU_SOURCE
@@ -55,7 +55,7 @@ static void flush(void) {
     used = 0;
 }
 
-/* Hands over the line that stands behind the buffer's text, and keeps it where it is taken. One that passes a limit is
+/* Hands over the line that follows the buffer's text, and keeps it if it is taken. One that passes a limit is
  * left out: the next log begins with it. */
 static bool put(size_t length) {
     uint8_t state = capcheck_judge_line(&judge, buffer + used, length);
@@ -116,7 +116,7 @@ static bool reached(unsigned number, uint64_t address) {
     return step(capcheck_line_setaddr(buffer + used, number, ROOT, start, capcheck_set_addr(root, start).cap));
 }
 
-/* One aligned access of at most 8 bytes, with the value that stands in memory behind it: whether the log has it. */
+/* One aligned access of at most 8 bytes, with the value that memory holds after it: whether the log has it. */
 static bool recorded(uint64_t address, unsigned size, bool is_store) {
     unsigned number = FIRST + (unsigned)(address >> 11) % WINDOWS;
     int64_t offset = (int64_t)(address & 2047);

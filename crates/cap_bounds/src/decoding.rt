@@ -12,8 +12,8 @@ use cap_word::{Fields, Word, split};
 /// The greatest cut exponent: a greater E counts as this one (Sail CHERI-RISC-V: `cap_max_E`).
 const MAX_EXPONENT: u32 = 52;
 
-/// The last cut exponent at which the top is corrected: up to it a top follows its base, less than 2^64 above
-/// it, and from the next on it is cut to 65 bits.
+/// The last cut exponent at which the top is corrected: up to it the top follows the base, less than 2^64 above it.
+/// From the next exponent on the top is truncated to 65 bits.
 const LAST_CORRECTED_EXPONENT: u32 = 50;
 
 /// The bounds of a word: the addresses from `base` up to, but not with, `top`.
@@ -103,8 +103,8 @@ pub(crate) fn window_from(cut_exponent: u32, b: u64, address: u64) -> u64
     units.wrapping_sub(above_start) << cut_exponent
 }
 
-/// The base of a word, in units its window's start with B added: windows begin at multiples of 2^14 units where
-/// the address is raised by 2^11 units and lowered by those of B's three high bits.
+/// The base of a word: in units, the window's start plus B. The start is a multiple of 2^14 units if the address is
+/// first raised by 2^11 units and lowered by those of B's three high bits.
 #[inline(always)]
 fn base_from(cut_exponent: u32, b: u64, address: u64) -> u64
     requires exponent_fits { cut_exponent ≤ 52 }
@@ -117,7 +117,7 @@ fn base_from(cut_exponent: u32, b: u64, address: u64) -> u64
     (raised - raised % 0x4000).wrapping_add(b) << cut_exponent
 }
 
-/// The top from the cut exponent 51 on, where it hangs on no address: it is cut to 65 bits.
+/// The top from the cut exponent 51 on, where it doesn't depend on the address: it is truncated to 65 bits.
 #[inline(always)]
 fn uncorrected_top(cut_exponent: u32, b: u64, span: u64) -> u128
     requires exponent_fits { cut_exponent ≤ 52 }
@@ -204,8 +204,8 @@ pub fn bounds(word: Word) -> Interval
     Interval { base, top }
 }
 
-/// Whether so many bytes from an address on, one at least, lie in the bounds of a sound word. It says what
-/// [`bounds`] say, by numbers of 64 bits alone.
+/// Whether `count` bytes from an address, at least one, lie in the bounds of a sound word. The result is that of
+/// [`bounds`], computed in 64 bits.
 #[inline(always)]
 pub fn sound_word_holds(word: Word, address: u64, count: u8) -> bool
     requires sound { IsSound word.0 }
@@ -215,7 +215,7 @@ pub fn sound_word_holds(word: Word, address: u64, count: u8) -> bool
     sound_word_holds_more(word, address, u64::from(count - 1))
 }
 
-/// Whether an address, and so many more behind it, lie in the bounds of a sound word, by numbers of 64 bits alone.
+/// Whether an address and the `more` addresses after it lie in the bounds of a sound word, computed in 64 bits.
 #[inline(always)]
 pub fn sound_word_holds_more(word: Word, address: u64, more: u64) -> bool
     requires sound { IsSound word.0 }

@@ -31,8 +31,8 @@ pub fn round_length(length: u64) -> u128
     round(0, length).top
 }
 
-/// All ones but for those below the alignment of a length. It stands apart from [`align_mask`], whose other
-/// clauses are proved from this one.
+/// The mask that clears the bits below the alignment of a length. It is a function of its own because the other
+/// clauses of [`align_mask`] are proved from this one.
 fn mask_of(length: u64) -> u64
     ensures { result + alignment_of length ≡ 2 ^ 64 }
 {

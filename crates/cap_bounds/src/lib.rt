@@ -1,5 +1,5 @@
-//! The bounds of a capability word: how they are decoded, which are sound, how a request is rounded to
-//! bounds that a word can have, and which addresses keep a word's bounds. Nothing here takes memory.
+//! The bounds of a capability word: how they are decoded, which words are sound, how a request is rounded to bounds
+//! that a word can have, and which addresses keep a word's bounds. Nothing here allocates.
 #![tactic(auto)]
 
 mod decoding;

@@ -11,9 +11,9 @@ use cap_word::Word;
 /// bounds.
 const WHOLE_EXPONENT: u32 = 50;
 
-/// The start and the size of a word's window: an address keeps the word's bounds exactly where it is less than
-/// the size above the start, modulo 2^64. `None` from the exponent on at which every address keeps them. It is all
-/// that [`keeps_bounds`] stands on; what else is known of the range is said by [`reach`] alone.
+/// The start and the size of a word's window, or `None` from the exponent on at which every address keeps the
+/// bounds. An address keeps them if and only if it is less than the size above the start, modulo 2^64.
+/// [`keeps_bounds`] needs no more than this; [`reach`] states what else is known of the range.
 fn window_of(word: Word) -> Option<(u64, u64)>
     ensures none { IsNone result ↔ (50 ≤ cut_exponent_of word.0) }
     ensures start { IfSome result (λ window. window.0 ≡ window_start word.0 % 2 ^ 64) }

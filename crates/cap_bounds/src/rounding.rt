@@ -147,9 +147,9 @@ fn round_long(base: u64, length: u64) -> Rounded
     }
 }
 
-/// Rounds a request for `length` addresses from `base` on (Sail CHERI-RISC-V: `setCapBounds`). This is
-/// for every base and length: where their sum passes 2^64 the fields follow the same rule, and a word
-/// with them has other bounds.
+/// Rounds a request for `length` addresses from `base`, for every base and length (Sail CHERI-RISC-V:
+/// `setCapBounds`). If their sum exceeds 2^64, the fields follow the same rule, but a word with them has other
+/// bounds.
 #[inline(always)]
 pub fn round(base: u64, length: u64) -> Rounded
     ensures base { result.base ≡ rounded_base base length }

@@ -1,5 +1,5 @@
-//! Words and capabilities as C passes them: numbers of 128 bits as two halves, and tags as bytes; and the steps that
-//! C's numbers name. Both libraries for C stand on it.
+//! Words and capabilities as C passes them: 128-bit numbers as two halves, and tags as bytes; and the steps that
+//! C's numbers name. `capcheck_c` and `capcheck_judge` use it.
 #![tactic(auto)]
 
 pub mod halves;

@@ -5,7 +5,7 @@ use crate::refusal::HeapRefusal;
 /// An event of an allocator.
 #[derive(Clone, Copy, Debug, PartialEq, Eq)]
 pub enum Event {
-    /// An object comes to live.
+    /// An object is allocated.
     Malloc {
         /// Where it begins.
         address: u64,

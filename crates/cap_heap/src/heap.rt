@@ -92,7 +92,7 @@ impl Heap {
     }
 
     // The same, where the rounded bounds of the request are these. The last object that begins below their top tells of
-    // all, but for one that begins above and whose bounds begin below its address.
+    // all, except one that begins above and whose bounds begin below its address.
     fn reaching(&self, address: u64, length: u64, rounded: Rounded) -> Option<(u64, u64)>
         requires base { rounded.base ≡ rounded_base address length }
         requires top { rounded.top ≡ rounded_top address length }
@@ -115,7 +115,8 @@ impl Heap {
         }
     }
 
-    // Whether an object lives at an address, where the rounded bounds of a request there reach those of this object, or of none.
+    // Whether an object lives at an address, where the rounded bounds of a request there reach those of this object,
+    // or of none.
     fn is_taken(&self, address: u64, length: u64, overlapped: Option<(u64, u64)>) -> bool
         requires { IfNone overlapped ((other size : ℕ) → objects_in self.now other ≡ Some size → LieApart address length other size) }
         ensures { MatchBool result (IsSome (objects_in self.now address)) (objects_in self.now address ≡ None) }
@@ -126,7 +127,7 @@ impl Heap {
         self.lengths.contains_key(&address) || self.empty.contains(&address)
     }
 
-    // The first test of a request that holds, or `None` where it can be met; its rounded bounds are these.
+    // The first check of a request that fails, or `None` where it can be met; its rounded bounds are these.
     fn refusal(&self, address: u64, length: u64, rounded: Rounded) -> Option<HeapRefusal>
         requires base { rounded.base ≡ rounded_base address length }
         requires top { rounded.top ≡ rounded_top address length }
@@ -146,7 +147,7 @@ impl Heap {
         }
     }
 
-    // An object of no bytes comes to live where there is room for it.
+    // An object of no bytes is allocated where there is room for it.
     fn keep_empty(&mut self, address: u64) -> Result<(), EventEnd>
         requires { HasRoom self.old.bounds (objects_in self.old) address 0 }
         ensures ok { OnOk result ((other : ℕ) → objects_in self.new other ≡ after (objects_in self.old) (Malloc address 0) other) }
@@ -162,14 +163,15 @@ impl Heap {
         }
     }
 
-    // Whether no object's rounded bounds begin below its address, with one more at this address whose bounds begin at this base.
+    // Whether no object's rounded bounds begin below its address, with one more at this address whose bounds begin at
+    // this base.
     fn stays_straight(&self, address: u64, base: u64) -> bool
         ensures { result ≡ true → (self.now.straight ≡ true) × (base ≡ address) }
     {
         self.straight && base == address
     }
 
-    // A longer object comes to live where there is room for it; its rounded bounds begin at this base.
+    // A longer object is allocated where there is room for it; its rounded bounds begin at this base.
     fn keep_long(&mut self, address: u64, length: u64, base: u64) -> Result<(), EventEnd>
         requires some { 0 < length }
         requires base { base ≡ rounded_base address length }
@@ -188,9 +190,9 @@ impl Heap {
         }
     }
 
-    /// An object comes to live at an address, or the first test that refuses it is the answer and nothing
-    /// changes. Memory is taken for an object that no test refuses; `NoMemory` comes only there. An object of a byte or
-    /// more takes two walks down the map of such objects, one more once one came whose rounded bounds begin below its
+    /// An object is allocated at an address, or the first check that refuses it is the answer and nothing changes.
+    /// Memory is taken for an object that no check refuses; `NoMemory` comes only there. An object of a byte or more
+    /// takes two walks down the map of such objects, one more once one came whose rounded bounds begin below its
     /// address, and one down the set of those of no bytes where any live.
     pub fn malloc(&mut self, address: u64, length: u64) -> Result<(), EventEnd>
         ensures room { OnOk result (HasRoom self.old.bounds (objects_in self.old) address length) }

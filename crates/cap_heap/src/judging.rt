@@ -28,7 +28,7 @@ use std::alloc::Global;
 /// each moment, a sound word can be given whose bounds hold it, such that these lie apart and inside the root.
 ///
 /// `Pull` comes only where the source failed; then the whole lines that it gave begin a log, and less than
-/// a line follows them. Memory is taken only for an object that comes to live and that no test refuses;
+/// a line follows them. Memory is taken only for an object that is allocated and that no check refuses;
 /// `NoMemory` comes only there. It returns for a source without end too, since a log has fewer than 2^32 events.
 pub fn judge_heap<S: Source>(alloc: Global, source: &mut S) -> Result<HeapVerdict, HeapFault>
     ensures judged { Judged S.gave S.ended source.old source.new result }
@@ -39,7 +39,7 @@ pub fn judge_heap<S: Source>(alloc: Global, source: &mut S) -> Result<HeapVerdic
     judge_keeping(alloc, source).answer
 }
 
-/// What a judge leaves: its answer, how far it read, and after a no the line that was refused.
+/// What a judge leaves: its answer, how far it read, and after a `no` the line that was refused.
 #[derive(Drop)]
 pub(crate) struct Judging {
     pub answer: Result<HeapVerdict, HeapFault>,
@@ -47,7 +47,7 @@ pub(crate) struct Judging {
     pub line: RefusedLine,
 }
 
-/// Judges as [`judge_heap`] does, and gives what was read with the answer, and after a no the line that was refused.
+/// Judges as [`judge_heap`] does, and gives what was read with the answer, and after a `no` the line that was refused.
 pub(crate) fn judge_keeping<S: Source>(alloc: Global, source: &mut S) -> Judging
     ensures judged { JudgedBy S.gave S.ended source.old source.new result.answer result.progress (bytes_of result.line) }
     ensures counted { CountsOnly (Err Pull) (S.faults source.old) (S.faults source.new) result.answer }
@@ -61,7 +61,8 @@ pub(crate) fn judge_keeping<S: Source>(alloc: Global, source: &mut S) -> Judging
     }
 }
 
-// Judges the lines that a source gives, none of which was taken: the answer, and after a no the line that was refused.
+// Judges the lines that a source gives, none of which was taken: the answer, and after a `no` the line that was
+// refused.
 fn judge_lines<S: Source>(
     progress: &mut Progress,
     source: &mut S,

@@ -15,7 +15,7 @@ pub fn apart_is_guarded()
         → IsLogOf IsApart lines root events ↔ IsLogOf CanBeGuarded lines root events }
 {}
 
-/// The text of such a log is at fault in no line.
+/// The text of such a log has no faulty line.
 pub fn logs_have_no_fault()
     ensures law { (lines : List HeapLine) (root : Interval) (events : List Event) → IsLogOf IsApart lines root events
         → (number : ℕ) (refusal : HeapRefusal) → IsFirstFault (text_of lines) number refusal → ⊥ }

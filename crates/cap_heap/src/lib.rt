@@ -1,11 +1,10 @@
-//! The judge of an allocator's log: whether the capabilities that guard its live objects can have bounds apart
-//! from one another.
+//! The judge of an allocator's log: whether capabilities can guard its live objects, with bounds that lie apart.
 //!
-//! Bounds that a capability can have are rounded: those of a long object may reach beyond it. A [`Heap`] keeps
-//! the live objects of an allocator, and refuses one whose rounded bounds have an address in common with those
-//! of another, or leave the heap's. [`judge_heap`] judges the log of an allocator that a source gives, line by
-//! line; [`judge_heap_to`] writes the verdict too, [`judge_heap_report`] after a yes what exact bounds would cost, and
-//! [`judge_heap_why`] after a no what the tests of the refused line saw.
+//! A capability can only have rounded bounds, and those of a long object may reach beyond it. A [`Heap`] keeps the
+//! live objects of an allocator. It refuses an object whose rounded bounds leave the heap's, or share an address
+//! with those of another object. [`judge_heap`] judges the log of an allocator from a source, line by line.
+//! [`judge_heap_to`] also writes the verdict, [`judge_heap_report`] after a `yes` what exact bounds would cost, and
+//! [`judge_heap_why`] after a `no` what the checks of the refused line compared.
 #![tactic(auto)]
 
 mod events;

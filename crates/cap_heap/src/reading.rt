@@ -48,7 +48,7 @@ pub(crate) fn is_header(text: &[u8]) -> bool
     text == b"heap 1".as_slice()
 }
 
-// What stands behind a text at the front of some bytes, or `None` where it does not stand there.
+// What follows a text at the front of some bytes, or `None` where it does not stand there.
 #[inline(always)]
 fn behind<'a, const N: usize>(bytes: &'a [u8], front: &[u8; N]) -> Option<&'a [u8]>
     ensures some { IfSome result (λ rest. bytes.now ≡ front.now ++ rest.now) }
@@ -69,7 +69,7 @@ pub(crate) fn read_event(text: &[u8]) -> Option<Event>
     read_free(text)
 }
 
-// Reads the line of an object that comes to live.
+// Reads the line of an object that is allocated.
 fn read_malloc(text: &[u8]) -> Option<Event>
     ensures some { IfSome result (λ event. Spells text.now (Happens event)) }
     ensures none { IfNone result ((address length : ℕ) → Spells text.now (Happens (Malloc address length)) → ⊥) }
@@ -123,7 +123,7 @@ fn read_top(digits: &[u8]) -> Option<u128>
     }
 }
 
-// Reads the line behind the events, which is that of a log of operations.
+// Reads the line after the events, which is that of a log of operations.
 fn read_end(text: &[u8]) -> Option<u32>
     ensures some { IfSome result (λ count. Spells text.now (End count)) }
     ensures none { IfNone result ((count : ℕ) → Spells text.now (End count) → ⊥) }

@@ -9,11 +9,11 @@ ghost use Rattle.cap_heap.specs.declared.events.Event.TheVariants.{Malloc};
 use cap_bounds::{align_mask, round, round_length};
 use cap_texts::text_lines::put_decimal_line;
 
-/// What the author of an allocator wants to know of a log with a yes. A sum that does not fit 64 bits is the
+/// What the author of an allocator wants to know of an accepted log. A sum that does not fit 64 bits is the
 /// greatest number of 64 bits.
 #[derive(Clone, Copy, Debug, PartialEq, Eq)]
 pub struct HeapReport {
-    /// How many objects came to live.
+    /// How many objects were allocated.
     pub objects: u64,
     /// How many lived at once, at most.
     pub most: u64,
@@ -21,7 +21,7 @@ pub struct HeapReport {
     pub inexact: u64,
     /// How many bytes the bounds of all reach beyond them.
     pub excess: u64,
-    /// How many bytes more all would need to have lengths that can be exact.
+    /// The padding in bytes that all objects would need so that their lengths can be exact.
     pub padding: u64,
     /// How many bytes all would have to be moved up, each to where such a length is exact.
     pub gaps: u64,
@@ -59,7 +59,7 @@ impl HeapReport {
     }
 }
 
-/// Writes the lines of a report at an index of the buffer, and answers the index behind them.
+/// Writes the lines of a report at an index of the buffer, and returns the index after them.
 #[tactic(auto, unfolding(crate::specs::HeapReports::report_lines))]
 pub fn put_report(report: &HeapReport, buffer: &mut [u8], at: usize) -> usize
     requires { at + 192 ≤ length buffer.old }

@@ -38,8 +38,8 @@ pub fn judge_heap_to<S: Source, K: Sink>(
     Ok(verdict)
 }
 
-/// Judges as [`judge_heap_to`] does, and after a yes pushes the report too: how many objects came to live, what their
-/// bounds reach, and what exact ones would cost.
+/// Judges as [`judge_heap_to`] does, and after a `yes` pushes the report too: how many objects were allocated, what
+/// their bounds reach, and what exact ones would cost.
 pub fn judge_heap_report<S: Source, K: Sink>(
     alloc: Global,
     source: &mut S,
@@ -54,9 +54,9 @@ pub fn judge_heap_report<S: Source, K: Sink>(
     judge_telling(alloc, true, false, source, sink)
 }
 
-/// Judges as [`judge_heap_to`] does, and after a no pushes the report of the line that was refused: of a request its
-/// bounds, those of a live object that overlaps it, and what length and alignment would be right. After a yes the report
-/// of [`judge_heap_report`] is pushed where it is asked for.
+/// Judges as [`judge_heap_to`] does, and after a `no` pushes the report of the line that was refused: of a request
+/// its bounds, those of a live object that overlaps it, and what length and alignment would be right. After a `yes`
+/// the report of [`judge_heap_report`] is pushed where it is asked for.
 pub fn judge_heap_why<S: Source, K: Sink>(
     alloc: Global,
     report: bool,

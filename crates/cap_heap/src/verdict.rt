@@ -19,7 +19,7 @@ pub enum HeapVerdict {
     },
     /// They are none.
     No {
-        /// The number of the first line at fault, from 1 on.
+        /// The number of the faulty line, from 1 on.
         line: u64,
         /// The first test that this line fails.
         refusal: HeapRefusal,
@@ -31,7 +31,7 @@ pub enum HeapVerdict {
 pub enum HeapFault {
     /// The source of the bytes failed.
     Pull,
-    /// There was no memory for an object that comes to live.
+    /// There was no memory for an object that is allocated.
     NoMemory,
 }
 
@@ -40,7 +40,7 @@ pub enum HeapFault {
 pub enum HeapToFault {
     /// The source of the bytes failed.
     Pull,
-    /// There was no memory for an object that comes to live.
+    /// There was no memory for an object that is allocated.
     NoMemory,
     /// The sink failed.
     Push,

@@ -1,4 +1,4 @@
-//! The report of a no: the line that was refused, and what its tests saw.
+//! The diagnosis: the line that was refused, and what its checks compared.
 
 ghost use Rattle.std.specs.Prelude.{ℕ, List, ◌+◌, ◌≤◌, length};
 ghost use Rattle.cap_log.specs.Parts.{Writes};
@@ -19,8 +19,8 @@ use cap_bounds::{Interval, round, round_length};
 use cap_texts::cap_lines::put_bounds_line;
 use cap_texts::text_lines::{put_decimal_line, put_hex_line};
 
-/// Writes what is told of a line that was refused at an index of the buffer, and answers the index behind it. The progress
-/// is as it was before the line.
+/// Writes what is told of a line that was refused at an index of the buffer, and returns the index after it. The
+/// progress is as it was before the line.
 pub(crate) fn put_details(
     progress: &Progress,
     text: &[u8],

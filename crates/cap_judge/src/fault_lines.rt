@@ -4,8 +4,8 @@ ghost use Rattle.std.specs.Prelude.{◌≡◌, ◌≤◌, [], length};
 
 use cap_log::{Front, front};
 
-/// The bytes of a line: without its line feed, the first 96 where more come before one, and those that
-/// are there where none comes.
+/// The bytes of the faulty line, without its line feed: the first 96 if no line feed comes by then, or those up to
+/// the end of the input.
 #[derive(Clone, Copy)]
 pub struct FaultLine {
     bytes: [u8; 96],

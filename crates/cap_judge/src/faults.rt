@@ -1,4 +1,4 @@
-//! The line of a log that is at fault.
+//! The faulty line of a log.
 
 ghost use Rattle.std.specs.Prelude.{◌≡◌};
 ghost use Rattle.cap_judge.specs.declared.verdict.Verdict.TheVariants.{No};
@@ -7,7 +7,7 @@ use crate::fault_lines::FaultLine;
 use crate::verdict::Verdict;
 use cap_machine::Refusal;
 
-/// The line of a log that is at fault.
+/// The faulty line of a log.
 #[derive(Clone, Copy)]
 pub struct Fault {
     /// Its number, from 1 on.

@@ -47,18 +47,18 @@ pub enum Stage {
     Body,
     /// None: the end line has come.
     Ended,
-    /// None: this line is at fault.
+    /// None: this line is faulty.
     Refused(Fault),
 }
 
 /// Why a judge stopped.
 #[derive(Debug, Clone, Copy, PartialEq, Eq)]
 pub enum Stop {
-    /// The bytes behind those that it took are less than a line, if any.
+    /// The bytes after those that it took are less than a line, if any.
     Cut,
-    /// The line behind them is at fault, or one before them was.
+    /// The line after them is faulty, or one before them was.
     Fault,
-    /// There was no memory for a granule that the line behind them names for the first time.
+    /// There was no memory for a granule that the line after them names for the first time.
     NoMemory,
 }
 
@@ -100,10 +100,10 @@ impl<M: TaggedStore> Judge<M> {
         }
     }
 
-    /// Takes the whole lines at the front of some bytes, which follow those that it took before: up to what is
-    /// less than a line, to the first fault, or to want of memory. What it did not take may be handed over again,
-    /// with more behind it. The line at fault is not counted, nor is what follows it: it is read, and the no
-    /// stands whatever follows. From then on nothing is counted.
+    /// Takes the complete lines at the front of some bytes that follow those taken before. Stops at less than a
+    /// line, at the first faulty line, or if memory runs out. What wasn't taken may be handed over again, with more
+    /// after it. The count excludes the faulty line and all after it, although they are read: its no holds whatever
+    /// follows, and from then on the count is 0.
     pub fn take(&mut self, bytes: &[u8]) -> Taken
         ensures count { result.count ≤ length bytes.now }
         ensures stops { StopsAt (known_of self.old) (take result.count bytes.now) (drop result.count bytes.now)
@@ -120,17 +120,17 @@ impl<M: TaggedStore> Judge<M> {
         }
     }
 
-    /// Takes the next line, with its line feed. Bytes that are no line with its line feed are not taken,
-    /// unless more than 95 of them come before any: that is a line that is too long. Nor is a line for which
-    /// there is no memory. Then nothing has changed, and the line may be handed over again.
+    /// Takes the next line, with its line feed. Two kinds of bytes aren't taken, and change nothing: those that
+    /// aren't one line with its line feed, unless more than 95 of them come before any, which is a line that is too
+    /// long; and a line for which memory runs out. That line may be handed over again.
     pub fn take_line(&mut self, line: &[u8]) -> Result<(), TakeFault>
-        // Whatever bytes were read before, these are read behind them.
+        // Whatever bytes were read before, these are read after them.
         ensures taken { OnOk result ((bytes : List ℕ) → HasRead self.old bytes
             → HasRead self.new (bytes ++ line.now)) }
         ensures unchanged { IfErr result (λ _. known_of self.new ≡ known_of self.old) }
         ensures no_line { (result ≡ Err NoLine) ↔ IsNoLine line.now }
 
-        // Memory is wanted only where this very line, which no test refuses, names a granule for the first time.
+        // Memory is wanted only where this very line, which no check refuses, names a granule for the first time.
         ensures no_memory { result ≡ Err NoMemory → (bytes : List ℕ) → HasRead self.old bytes
             → MayLackMemory (bytes ++ line.now) [] }
     {
@@ -140,8 +140,8 @@ impl<M: TaggedStore> Judge<M> {
         self.take_whole(line)
     }
 
-    /// `None` exactly while the lines so far begin a log, and otherwise the no that stands whatever lines
-    /// follow. It is never a yes, since after the end line of a log too a line may follow.
+    /// `None` exactly while the lines so far begin a log, and otherwise the `no` that stays whatever lines
+    /// follow. It is never a `yes`, since after the end line of a log too a line may follow.
     pub fn answer(&self) -> Option<Verdict>
         ensures stands { (bytes : List ℕ) → HasRead self.now bytes → Stands bytes result }
         ensures none { (bytes : List ℕ) → HasRead self.now bytes → BeginsWhole bytes → result ≡ None }
@@ -165,7 +165,7 @@ impl<M: TaggedStore> Judge<M> {
         }
     }
 
-    /// After a no for a step's result, the result that the rules give for that step; otherwise `None`.
+    /// After a `no` for a step's result, the result that the rules give for that step; otherwise `None`.
     pub fn expected(&self) -> Option<Expected>
         ensures expects { (bytes : List ℕ) → HasRead self.now bytes → Expects bytes result }
     {
@@ -178,7 +178,7 @@ impl<M: TaggedStore> Judge<M> {
         }
     }
 
-    /// What a register holds behind the lines so far, or before the line at fault. Register 0 is c0.
+    /// What a register holds after the lines so far, or before the faulty line. Register 0 is c0.
     pub fn register(&self, number: u8) -> Cap
         requires { number ≤ 31 }
         ensures holds { (bytes : List ℕ) → (read : HasRead self.now bytes)
@@ -187,7 +187,7 @@ impl<M: TaggedStore> Judge<M> {
         self.machine.register(number)
     }
 
-    /// What a granule holds behind the lines so far, or before the line at fault: the sixteen bytes from
+    /// What a granule holds after the lines so far, or before the faulty line: the sixteen bytes from
     /// address `16 * granule` on.
     pub fn granule(&self, granule: u64) -> Cap
         requires { granule < 2 ^ 60 }
@@ -197,7 +197,7 @@ impl<M: TaggedStore> Judge<M> {
         self.machine.granule(granule)
     }
 
-    // Takes the line of a step behind the header, or bytes of any kind.
+    // Takes the line of a step after the header, or bytes of any kind.
     #[inline(always)]
     fn take_body(&mut self, line: &[u8]) -> Result<(), TakeFault>
         requires body { self.old.stage ≡ Body }
@@ -253,7 +253,7 @@ impl<M: TaggedStore> Judge<M> {
         }
     }
 
-    // The verdict if no other bytes follow than these, which are less than a line: a yes, or the line at fault.
+    // The verdict if no other bytes follow than these, which are less than a line: a `yes`, or the faulty line.
     pub(crate) fn ending(&self, rest: &[u8]) -> Result<Verdict, Fault>
         ensures ends { (bytes : List ℕ) → HasRead self.now bytes → IsCut rest.now
             → EndsWith self.now.machine (bytes ++ rest.now) result }
@@ -275,14 +275,14 @@ impl<M: TaggedStore> Judge<M> {
         }
     }
 
-    /// The machine, as the lines so far left it, or those before the line at fault.
+    /// The machine, as the lines so far left it, or those before the faulty line.
     pub fn machine(&self) -> &Machine<M>
         ensures held { result.now ≡ (known_of self.now).held }
     {
         &self.machine
     }
 
-    /// The line at fault, where one is: its no stands whatever lines follow.
+    /// The faulty line, where one is: its `no` stays whatever lines follow.
     pub fn refused(&self) -> Option<Fault>
         ensures stands { (bytes : List ℕ) → HasRead self.now bytes
             → StandsIn (known_of self.now).held bytes result }
@@ -293,8 +293,9 @@ impl<M: TaggedStore> Judge<M> {
         }
     }
 
-    /// Takes a step by its numbers, as [`Judge::take_line`] takes the line that spells it, with its line feed. That line is written only where the step is refused, or is no step's place. Where
-    /// there is no memory nothing has changed, and the step may be handed over again.
+    /// Takes a step by its numbers, as [`Judge::take_line`] takes the line that spells it, with its line feed. The
+    /// line is only written if the step isn't made: it is refused, memory runs out, or a step doesn't belong there.
+    /// If memory runs out, nothing has changed, and the step may be handed over again.
     #[inline(always)]
     pub fn take_step<I: Instruction>(&mut self, step: I) -> Result<(), TakeFault>
         ensures taken { OnOk result ((bytes : List ℕ) → HasRead self.old bytes
@@ -313,7 +314,8 @@ impl<M: TaggedStore> Judge<M> {
         self.take_unmade(step)
     }
 
-    // Takes a step that was not made. The call gets a value of its own: so a step needn't stand in memory where it is made.
+    // Takes a step that was not made. The call gets a value of its own: so a step needn't stand in memory where it is
+    // made.
     #[inline(always)]
     fn take_unmade<I: Instruction>(&mut self, step: I) -> Result<(), TakeFault>
         ensures taken { OnOk result ((bytes : List ℕ) → HasRead self.old bytes
@@ -343,7 +345,7 @@ impl<M: TaggedStore> Judge<M> {
         self.take_line(&buffer[..length])
     }
 
-    /// Takes the steps at the front of some bytes, and then a line of any kind: what comes behind, and why it
+    /// Takes the steps at the front of some bytes, and then a line of any kind: what follows, and why it
     /// stopped, if it did.
     pub(crate) fn take_some<'a>(&mut self, bytes: &'a [u8]) -> (&'a [u8], Option<Stop>)
         ensures { (front : List ℕ) × (bytes.now ≡ front ++ result.0.now)
@@ -359,7 +361,7 @@ impl<M: TaggedStore> Judge<M> {
         }
     }
 
-    // Takes the steps at the front of some bytes: what comes behind, and how the step ends there that was not made.
+    // Takes the steps at the front of some bytes: what follows, and how the step ends there that was not made.
     #[inline(always)]
     fn take_front<'a>(&mut self, bytes: &'a [u8]) -> (&'a [u8], Option<StepEnd>)
         ensures taken { (front : List ℕ) × (bytes.now ≡ front ++ result.0.now)
@@ -373,7 +375,7 @@ impl<M: TaggedStore> Judge<M> {
         }
     }
 
-    /// Takes the line at the front of some bytes, whatever it is: what comes behind it.
+    /// Takes the line at the front of some bytes, whatever it is: what follows it.
     #[inline(never)]
     pub(crate) fn take_any<'a>(&mut self, bytes: &'a [u8]) -> Result<&'a [u8], Stop>
         ensures ok { IfOk result (λ rest. (text : List ℕ) × IsLine bytes.now text rest.now
@@ -393,7 +395,7 @@ impl<M: TaggedStore> Judge<M> {
         }
     }
 
-    // Whether a line was at fault.
+    // Whether a line was faulty.
     fn is_at_fault(&self) -> bool
         ensures at { result ≡ true → IsAtFault self.now.stage }
         ensures none { result ≡ false → IsAtFault self.now.stage → ⊥ }
@@ -436,7 +438,7 @@ impl<M: TaggedStore> Judge<M> {
         }
     }
 
-    // Takes the first line at fault.
+    // Takes the faulty line.
     #[inline(never)]
     fn refuse(&mut self, refusal: Refusal, bytes: &[u8])
         requires clear { IsAtFault self.old.stage → ⊥ }
@@ -448,7 +450,7 @@ impl<M: TaggedStore> Judge<M> {
         self.stage = Stage::Refused(self.fault(refusal, bytes));
     }
 
-    /// The next line, which these bytes begin with, as the line at fault.
+    /// The next line, which these bytes begin with, as the faulty line.
     pub(crate) fn fault(&self, refusal: Refusal, bytes: &[u8]) -> Fault
         requires clear { IsAtFault self.now.stage → ⊥ }
         ensures line { (beginning : Beginning) → IsAfter self.now.stage self.now.machine beginning
@@ -560,7 +562,7 @@ impl<M: TaggedStore> Judge<M> {
         }
     }
 
-    // Goes on by a line behind the header.
+    // Goes on by a line after the header.
     fn follow_body(&mut self, line: &Line) -> Result<(), StepEnd>
         requires body { self.old.stage ≡ Body }
         requires in_range { IsInRange line.now }
@@ -606,7 +608,7 @@ impl<M: TaggedStore> Judge<M> {
         Ok(())
     }
 
-    // Why a header's line is refused behind the header.
+    // Why a header's line is refused after the header.
     fn refusal_of_header(&self, line: &Line) -> Refusal
         ensures formed { (let held = self.now.machine in has_form held.rules line.now ≡ true) → result ≡ Misplaced }
         ensures formless { (let held = self.now.machine in has_form held.rules line.now ≡ false) → result ≡ BadLine }

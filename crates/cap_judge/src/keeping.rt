@@ -12,8 +12,8 @@ use crate::streams::{Judging, answered};
 use crate::verdict::{JudgeFault, Verdict};
 use tagmem::TaggedStore;
 
-/// Judges the bytes of a log as [`judge_bytes`](crate::judge_bytes) does, with the granules in a store that is empty, and
-/// gives the machine with the answer, as [`judge_keeping`](crate::judge_keeping) does.
+/// Judges the bytes of a log as [`judge_bytes`](crate::judge_bytes) does, with the granules in a store that is empty,
+/// and gives the machine with the answer, as [`judge_keeping`](crate::judge_keeping) does.
 pub fn judge_bytes_keeping<M: TaggedStore>(bytes: &[u8], memory: M) -> Judging<M>
     requires { map.len (M.contents memory) ≡ 0 }
     ensures judged { JudgedAll bytes.now result.answer result.machine (bytes_of result.fault) }
@@ -28,7 +28,7 @@ pub fn judge_bytes_keeping<M: TaggedStore>(bytes: &[u8], memory: M) -> Judging<M
     }
 }
 
-// Hands over all the bytes of a log: the answer, and after a no the line at fault.
+// Hands over all the bytes of a log: the answer, and after a `no` the faulty line.
 fn judge_all<M: TaggedStore>(
     judge: &mut Judge<M>,
     bytes: &[u8],

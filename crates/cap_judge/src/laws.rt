@@ -28,7 +28,7 @@ pub fn logs_clear_exactly()
         → IsLogOf bytes rules roots steps → IsRun rules (start roots) steps states → ClearsExactly rules roots steps states }
 {}
 
-/// Whatever bytes a verdict is of: where it is a no, it names `BoundsEscape` exactly where its line is a step
+/// Whatever bytes a verdict is of: where it is a `no`, it names `BoundsEscape` exactly where its line is a step
 /// that asks, by strict rules, for bounds beyond those of its tagged, unsealed source, before any rounding.
 pub fn escapes_are_named_exactly()
     ensures law { (verdict : Verdict) → NamesEscapes verdict }
@@ -56,8 +56,8 @@ pub fn some_verdict()
     ensures law { (bytes : List ℕ) → (verdict : Verdict) × IsVerdict bytes verdict }
 {}
 
-/// No bytes have two verdicts: none are both a log whose steps have a run and at fault in a line, a log has
-/// one number of steps and one of roots, and what is none has one first fault, with one refusal.
+/// No bytes have two verdicts: they aren't both a log whose steps have a run and a log with a faulty line. A log
+/// has one number of steps and one of roots, and any other bytes have one faulty line, with one refusal.
 pub fn one_verdict()
     ensures law { (bytes : List ℕ) (a b : Verdict) → IsVerdict bytes a → IsVerdict bytes b → a ≡ b }
 {}

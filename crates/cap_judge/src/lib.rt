@@ -1,9 +1,9 @@
-//! The judge: the grammar of whole logs, how a log is judged line by line, the verdicts with their texts and
-//! the laws of both, and the origins of what a log's last state holds.
+//! The judge: the grammar of whole logs, how a log is judged line by line, the verdicts and their texts, the laws
+//! of both, and the origins of what the last state of a log holds.
 //!
-//! A [`Judge`] is handed the bytes of a log, cut anywhere. [`judge`] judges what a source gives, and
-//! [`judge_bytes`] bytes in memory. [`judge_to`] and [`judge_origins`] write the verdict too. [`judge_keeping`]
-//! gives the machine with the answer, and the line that was refused.
+//! Hand the bytes of a log to a [`Judge`], cut anywhere. [`judge`] judges what a source gives, [`judge_bytes`]
+//! bytes in memory. [`judge_to`] and [`judge_origins`] also write the verdict. [`judge_keeping`] returns the
+//! machine with the answer, and after a `no` the refused line.
 #![tactic(auto)]
 
 mod expecting;

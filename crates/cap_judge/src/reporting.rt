@@ -26,7 +26,7 @@ pub fn judge_to<S: Source, K: Sink>(
 ) -> Result<Verdict, JudgeToFault>
     ensures reported { Reported (λ bytes _. Tells false bytes) S.gave S.ended K.took source.old source.new sink.old sink.new result }
 
-    // Whatever bytes it is the verdict of, a no names `BoundsEscape` exactly as `judge_bytes` says.
+    // Whatever bytes it is the verdict of, a `no` names `BoundsEscape` exactly as `judge_bytes` says.
     ensures escape { IfOk result NamesEscapes }
 
     // Each fault of the source or the sink ends the call, and nothing else counts one.
@@ -38,7 +38,7 @@ pub fn judge_to<S: Source, K: Sink>(
     Ok(verdict)
 }
 
-/// Judges as [`judge_to`] does, and after a yes pushes a line for each place that is tagged in the last state
+/// Judges as [`judge_to`] does, and after a `yes` pushes a line for each place that is tagged in the last state
 /// too, with the place of the one root that it descends from: the registers by number, and then the granules
 /// by address. Nothing is pushed before the verdict is known.
 pub fn judge_origins<S: Source, K: Sink>(
@@ -48,7 +48,7 @@ pub fn judge_origins<S: Source, K: Sink>(
 ) -> Result<Verdict, JudgeToFault>
     ensures reported { Reported (λ bytes _. Tells true bytes) S.gave S.ended K.took source.old source.new sink.old sink.new result }
 
-    // Whatever bytes it is the verdict of, a no names `BoundsEscape` exactly as `judge_bytes` says.
+    // Whatever bytes it is the verdict of, a `no` names `BoundsEscape` exactly as `judge_bytes` says.
     ensures escape { IfOk result NamesEscapes }
 
     // Each fault of the source or the sink ends the call, and nothing else counts one.
@@ -81,7 +81,7 @@ pub fn judge_origins_in<S: Source, M: TaggedStore, K: Sink>(
     Ok(verdict)
 }
 
-/// Pushes the line of a verdict, and after a yes those of the origins of what the machine holds.
+/// Pushes the line of a verdict, and after a `yes` those of the origins of what the machine holds.
 pub fn push_report<M: TaggedStore, K: Sink>(
     verdict: &Verdict,
     machine: &Machine<M>,

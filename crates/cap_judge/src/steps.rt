@@ -11,10 +11,10 @@ use tagmem::TaggedStore;
 // The most bytes that a line has, with its line feed.
 const MOST_BYTES: usize = 96;
 
-// The most bytes that a head has, with the space behind it.
+// The most bytes that a head has, with the space after it.
 const MOST_HEAD_BYTES: usize = 15;
 
-// Whether more bytes come behind a line.
+// Whether more bytes follow a line.
 #[inline(always)]
 fn goes_on(rest: &[u8]) -> bool
     ensures { result ≡ false → rest.now ≡ [] }
@@ -22,7 +22,7 @@ fn goes_on(rest: &[u8]) -> bool
     !rest.is_empty()
 }
 
-/// Takes the steps at the front of some bytes, as long as a line of any length has room: what comes behind them,
+/// Takes the steps at the front of some bytes, as long as a line of any length has room: what follows them,
 /// and how the step ends there that was not made. By that one nothing has changed.
 pub(crate) fn take_steps<'a, M: TaggedStore>(
     machine: &mut Machine<M>,
@@ -75,9 +75,9 @@ impl<'a, M: TaggedStore, const RARE: bool> ByKind<'a, Machine<M>> for AtFront<RA
 
     ghost does = { λ old bytes result new. TakesOne old bytes result new };
 
-    // Takes a step from behind its head. Where a line of any length had room, so many bytes are left that the test of them
-    // never holds; the compiler sees by it that no later one does. It is inlined: by a call a move takes 27 instructions
-    // more.
+    // Takes a step from after its head. Where a line of any length had room, so many bytes are left that the test of
+    // them never holds; the compiler sees by it that no later one does. It is inlined: by a call a move takes 27
+    // instructions more.
     #[inline(always)]
     fn with_kind<I: Instruction>(
         machine: &mut Machine<M>,
@@ -101,10 +101,11 @@ impl<'a, M: TaggedStore, const RARE: bool> ByKind<'a, Machine<M>> for AtFront<RA
     }
 }
 
-// Takes the step at the front of some bytes, only where a line of any length has room: what comes behind its line
-// feed, or `None`, and nothing has changed. Each kind of step is read and made by its own type: so no step goes through
-// memory. Nothing else tests how many bytes are left. The kinds that are rare are left out of the loop over the others, and
-// large ones are made in a function of their own: so that loop is small enough for the compiler to make one function of it.
+// Takes the step at the front of some bytes, only where a line of any length has room: what follows its line feed, or
+// `None`, and nothing has changed. Each kind of step is read and made by its own type: so no step goes through
+// memory. Nothing else tests how many bytes are left. The kinds that are rare are left out of the loop over the
+// others, and large ones are made in a function of their own: so that loop is small enough for the compiler to make
+// one function of it.
 #[inline(always)]
 fn take_step<'a, M: TaggedStore, const RARE: bool>(
     machine: &mut Machine<M>,
@@ -121,8 +122,8 @@ fn take_step<'a, M: TaggedStore, const RARE: bool>(
     by_head::<Machine<M>, AtFront<RARE>>(machine, head, operands)
 }
 
-// A step whose line is all that stands there. By the answer of `AtFront`, which has bytes, most lines take 9 instructions
-// more.
+// A step whose line is all that stands there. By the answer of `AtFront`, which has bytes, most lines take 9
+// instructions more.
 struct Alone;
 
 impl<'a, M: TaggedStore> ByKind<'a, Machine<M>> for Alone {

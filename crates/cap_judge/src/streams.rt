@@ -27,15 +27,15 @@ use tagmem::{PageStore, TaggedStore};
 pub fn judge_bytes(alloc: Global, bytes: &[u8]) -> Result<Verdict, JudgeFault>
     ensures verdict { IfOk result (IsVerdict bytes.now) }
 
-    // After a yes, at every moment each tagged capability in a register or memory has bounds inside and
+    // After a `yes`, at every moment each tagged capability in a register or memory has bounds inside and
     // permissions among those of the one root that it descends from, and each access lies inside them.
     ensures authority { IsGuarded bytes.now }
 
-    // A no names `BoundsEscape` exactly where its line is a step that asks, by strict rules, for bounds beyond
+    // A `no` names `BoundsEscape` exactly where its line is a step that asks, by strict rules, for bounds beyond
     // those of its tagged, unsealed source, before any rounding.
     ensures escape { IfOk result (EscapesExactly bytes.now) }
 
-    // There is no verdict only where a line that no test refuses names a granule for the first time.
+    // There is no verdict only where a line that no check refuses names a granule for the first time.
     ensures fault { IfErr result (IsFault bytes.now) }
     ensures answers { NamesNoGranules bytes.now → IsOk result }
 {
@@ -52,7 +52,7 @@ pub fn judge_bytes(alloc: Global, bytes: &[u8]) -> Result<Verdict, JudgeFault>
 pub fn judge<S: Source>(alloc: Global, source: &mut S) -> Result<Verdict, JudgeFault>
     ensures judged { Judged S.gave S.ended source.old source.new result }
 
-    // Whatever bytes it is the verdict of, a no names `BoundsEscape` exactly as `judge_bytes` says.
+    // Whatever bytes it is the verdict of, a `no` names `BoundsEscape` exactly as `judge_bytes` says.
     ensures escape { IfOk result NamesEscapes }
 
     // A fault of the source ends the call, and nothing else counts one.
@@ -71,19 +71,19 @@ pub fn judge_in<S: Source, M: TaggedStore>(source: &mut S, memory: M) -> Result<
     judge_keeping(source, memory).answer
 }
 
-/// What a judge leaves: its answer, the machine, and after a no the line that was refused.
+/// What a judge leaves: its answer, the machine, and after a `no` the line that was refused.
 #[derive(Drop)]
 pub struct Judging<M: TaggedStore> {
     /// The answer.
     pub answer: Result<Verdict, JudgeFault>,
     /// The machine, as the lines before the end or the refused line left it.
     pub machine: Machine<M>,
-    /// After a no, the line that was refused.
+    /// After a `no`, the line that was refused.
     pub fault: FaultLine,
 }
 
-/// Judges as [`judge_in`] does, and gives the machine with the answer: after a yes it is as the log's steps
-/// left it, and after a no as those before the line left it that was refused.
+/// Judges as [`judge_in`] does, and gives the machine with the answer: after a `yes` it is as the log's steps
+/// left it, and after a `no` as those before the line left it that was refused.
 pub fn judge_keeping<S: Source, M: TaggedStore>(source: &mut S, memory: M) -> Judging<M>
     requires { map.len (M.contents memory) ≡ 0 }
     ensures judged { JudgedBy S.gave S.ended source.old source.new result.answer result.machine (bytes_of result.fault) }
@@ -99,7 +99,7 @@ pub fn judge_keeping<S: Source, M: TaggedStore>(source: &mut S, memory: M) -> Ju
     }
 }
 
-// Hands over the bytes that a source gives: the answer, and after a no the line at fault.
+// Hands over the bytes that a source gives: the answer, and after a `no` the faulty line.
 fn judge_source<S: Source, M: TaggedStore>(
     judge: &mut Judge<M>,
     source: &mut S,
@@ -133,7 +133,7 @@ fn take_pulled<M: TaggedStore>(judge: &mut Judge<M>, pulled: &mut Pulled) -> Sto
     taken.stop
 }
 
-// A yes, or a no and its line.
+// A `yes`, or a `no` and its line.
 pub(crate) fn answered(end: Result<Verdict, Fault>) -> (Result<Verdict, JudgeFault>, FaultLine)
     ensures { IsAnswered end result.0 (bytes_of result.1) }
 {

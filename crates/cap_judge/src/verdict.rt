@@ -20,7 +20,7 @@ pub enum Verdict {
     },
     /// They are none.
     No {
-        /// The number of the first line at fault, from 1 on.
+        /// The number of the faulty line, from 1 on.
         line: u64,
         /// The first test that this line fails.
         refusal: Refusal,

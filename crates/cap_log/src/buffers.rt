@@ -8,7 +8,7 @@ ghost use Rattle.cap_log.specs.Parts.{Writes};
 use crate::lines::Place;
 use cap_word::{Word, word_text};
 
-/// Writes a text at an index of the buffer, and answers the index behind it. Nothing else of the buffer
+/// Writes a text at an index of the buffer, and returns the index after it. Nothing else of the buffer
 /// changes.
 #[inline(always)]
 pub fn put(buffer: &mut [u8], at: usize, text: &[u8]) -> usize
@@ -20,7 +20,7 @@ pub fn put(buffer: &mut [u8], at: usize, text: &[u8]) -> usize
     end
 }
 
-/// Writes a number in decimal at an index of the buffer, and answers the index behind it. Nothing else
+/// Writes a number in decimal at an index of the buffer, and returns the index after it. Nothing else
 /// of the buffer changes.
 pub fn put_decimal(buffer: &mut [u8], at: usize, number: u64) -> usize
     requires { at + length (decimal number) ≤ length buffer.old }
@@ -71,7 +71,7 @@ fn digit(value: u16) -> u8
 }
 
 /// Writes the last lower-case hexadecimal digits of a number, as many as `digits`, at an index of the
-/// buffer, and answers the index behind them. Nothing else of the buffer changes.
+/// buffer, and returns the index after them. Nothing else of the buffer changes.
 pub fn put_hex(buffer: &mut [u8], at: usize, digits: usize, number: u128) -> usize
     requires few { digits ≤ 32 }
     requires room { at + digits ≤ length buffer.old }
@@ -83,7 +83,7 @@ pub fn put_hex(buffer: &mut [u8], at: usize, digits: usize, number: u128) -> usi
     put(buffer, at, &text[32 - digits..])
 }
 
-/// Writes a tag, or another yes or no, as a digit at an index of the buffer, and answers the index behind it. Nothing
+/// Writes a tag, or another yes or no, as a digit at an index of the buffer, and returns the index after it. Nothing
 /// else of the buffer changes.
 pub fn put_flag(buffer: &mut [u8], at: usize, flag: bool) -> usize
     requires { at + 1 ≤ length buffer.old }
@@ -93,7 +93,7 @@ pub fn put_flag(buffer: &mut [u8], at: usize, flag: bool) -> usize
     put(buffer, at, if flag { b"1" } else { b"0" })
 }
 
-/// Writes a place as a log spells it at an index of the buffer, and answers the index behind it: any register,
+/// Writes a place as a log spells it at an index of the buffer, and returns the index after it: any register,
 /// and any granule. Nothing else of the buffer changes.
 #[tactic(auto, using(crate::proofs::ElementLemmas::few_digits))]
 pub fn put_place(buffer: &mut [u8], at: usize, place: Place) -> usize

@@ -1,4 +1,4 @@
-//! The kinds of steps and of other lines: the word that each begins with, and what stands behind it.
+//! The kinds of steps and of other lines: the word that each begins with, and what follows it.
 
 #![tactic(auto, using(crate::proofs::Shapes::behind_each), unfolding(crate::specs::Lines::spelling))]
 
@@ -124,7 +124,7 @@ impl Single for Head {
     ghost spaceless = { λ head fits. head-spaceless head };
 }
 
-// A head, and what comes behind it.
+// A head, and what follows it.
 type Found<'a> = Option<(Head, &'a [u8])>;
 
 // Takes this head, whose word this is.
@@ -193,8 +193,8 @@ pub enum Step {
     Store(Store),
 }
 
-/// Takes what stands behind a line's head and its space, with the line feed: the line, and what comes
-/// behind it. `None` where no operands of such a line and a line feed stand there.
+/// Takes what follows a line's head and its space, with the line feed: the line, and what comes
+/// after it. `None` where no operands of such a line and a line feed stand there.
 pub fn take_operands(head: Head, bytes: &[u8]) -> Option<(Line, &[u8])>
     ensures some { IfSome result (λ p. Begins IsInRange spelling 10 (head_spelling head ++ 32 ∷ bytes.now) p.0 p.1.now) }
     ensures none { IfNone result (BeginsWithNone IsInRange spelling 10 (head_spelling head ++ 32 ∷ bytes.now)) }

@@ -1,24 +1,23 @@
-//! The lines of a log of capability operations: their grammar, read and written, where a line ends,
-//! and where the bytes come from and a text goes.
+//! The lines of a log of capability operations: their grammar, how they are read and written, where a line ends,
+//! where the bytes come from and where a text goes. Nothing here allocates.
 //!
-//! A line is its words with a single space between each two. [`read_line`] answers the line that
-//! some bytes spell, [`take_line`] takes one with its line feed from the front of some bytes, and
-//! [`write_line`] writes a line's one spelling. [`front`] finds the line that some bytes begin with.
+//! A line is a list of words with one space between each two. [`read_line`] returns the line that some bytes spell.
+//! [`take_line`] takes a line with its line feed from the front of some bytes, and [`write_line`] writes a line's
+//! one spelling. [`front`] finds the line at the front of some bytes.
 //!
-//! A line can also be taken in two steps: its [`Head`], and by [`take_operands`] what stands behind that.
-//! Each kind of step has a type of its own, as [`Move`](kinds::Move), which a [`Step`] carries, and by which its
-//! [`Operands`] are taken alone.
+//! A line can also be taken in two steps: its first word, the [`Head`], and then the operands, by
+//! [`take_operands`]. Each kind of step has its own type, such as [`Move`](kinds::Move), which implements
+//! [`Operands`]. [`Step`] is the enum of all kinds.
 //!
-//! The numbers of a step have types of their own, by which they are in their ranges: [`Register`], [`Target`],
-//! [`Offset`], [`Size`] and [`Datum`], the number that a load or a store takes.
+//! The numbers of a step have their own types, whose values are always in range: [`Register`], [`Target`],
+//! [`Offset`], [`Size`], and [`Datum`], the number that a load or a store takes.
 //!
-//! The parts of a line are [`Part`]s: each takes itself from the front of some bytes, with the byte
-//! that ends it, and two with a space between them are one.
+//! The parts of a line are [`Part`]s. Each takes itself from the front of some bytes, with the byte that ends it.
+//! Two parts with a space between them are a part, too.
 //!
-//! A [`Source`] gives bytes a piece at a time, [`Pulled`] holds those that were not yet taken, and [`Lines`]
-//! are the lines of what it gives, however it is cut. A [`Sink`] takes bytes a piece at a time, and
-//! [`push_all`] pushes a whole text. The functions of [`buffers`] put texts and numbers into a buffer, one
-//! behind the other. Nothing here takes memory.
+//! A [`Source`] gives bytes a piece at a time, [`Pulled`] holds those not yet taken, and [`Lines`] are the lines of
+//! what it gives, however it is cut. A [`Sink`] takes bytes a piece at a time, and [`push_all`] pushes a whole
+//! text. The functions of [`buffers`] put texts and numbers into a buffer, one after the other.
 #![tactic(auto)]
 
 pub mod buffers;

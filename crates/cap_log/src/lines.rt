@@ -12,7 +12,7 @@ pub enum Place {
     Granule(u64),
 }
 
-/// What a machine does where a test of an operation on registers holds.
+/// What a machine does if a check of a register operation fails.
 #[derive(Clone, Copy, Debug, PartialEq, Eq)]
 pub enum Mode {
     /// It refuses the step.

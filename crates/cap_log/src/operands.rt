@@ -1,4 +1,4 @@
-//! What stands behind the first word of a step's line, whatever its kind.
+//! What follows the first word of a step's line, whatever its kind.
 
 ghost use Rattle.std.specs.Prelude.{◌≡◌, ◌≤◌, ◌∷◌, ◌++◌, length, IfSome, IfNone};
 ghost use Rattle.cap_log.specs.Heads.{head_spelling};
@@ -30,8 +30,8 @@ pub trait Operands: Copy {
     fn from_numbers(numbers: Self::Numbers) -> Option<Self>
         ensures made { IsMade step (meant numbers) result };
 
-    /// Takes what stands behind the head of such a line and its space, with the line feed: the operands, and
-    /// what comes behind them. `None` where no operands of such a step and a line feed stand there.
+    /// Takes the operands after the head of such a line and its space, with the line feed. Returns them and the
+    /// bytes after them, or `None` if there are no such operands with a line feed.
     fn take(bytes: &[u8]) -> Option<(Self, &[u8])>
         ensures some { IfSome result (λ p. Begins IsInRange spelling 10 (head_spelling head ++ 32 ∷ bytes.now)
             (lines.Step (step p.0)) p.1.now) }
@@ -51,7 +51,7 @@ pub trait Operands: Copy {
     }
 }
 
-/// Takes the parts that stand behind a head and its space, with the line feed. `None` where no such line stands there.
+/// Takes the parts that follow a head and its space, with the line feed. `None` where no such line stands there.
 #[inline(always)]
 pub(crate) fn take_parts<P: Part>(head: Head, bytes: &[u8]) -> Option<(P, &[u8])>
     requires { StandsBehind head P.fits P.spelled }
@@ -59,13 +59,13 @@ pub(crate) fn take_parts<P: Part>(head: Head, bytes: &[u8]) -> Option<(P, &[u8])
         (head_spelling head ++ 32 ∷ bytes.now) p.0 p.1.now) }
     ensures none { IfNone result (BeginsWithNone IsInRange spelling 10 (head_spelling head ++ 32 ∷ bytes.now)) }
 {
-    // No other parts stand behind this head.
+    // No other parts follow this head.
     let (parts, rest) = P::take(bytes, b'\n')?;
     Some((parts, rest))
 }
 
-/// Writes a line without its line feed, by its head and the parts behind it, at the front of the buffer, and answers where it
-/// ends.
+/// Writes a line without its line feed, by its head and the parts after it, at the front of the buffer, and answers
+/// where it ends.
 #[inline(always)]
 pub(crate) fn write_parts<P: Part>(line: &Line, head: Head, parts: P, buffer: &mut [u8]) -> usize
     requires in_range { IsInRange line.now }

@@ -23,7 +23,7 @@ pub trait Part: Drop {
     ghost spelled: { Self → List ℕ };
 
     /// Takes the part from the front of some bytes, with the byte that ends it: its value, and what
-    /// stands behind that byte. `None` where no value in range and this byte stand there.
+    /// follows that byte. `None` where no value in range and this byte stand there.
     fn take(bytes: &[u8], end: u8) -> Option<(Self, &[u8])>
         requires { IsEnd end }
         ensures some { IfSome result (λ p. Begins fits spelled end bytes.now p.0 p.1.now) }

@@ -7,7 +7,7 @@ use crate::sources::{PullFault, Source};
 
 pub(crate) const SIZE: usize = 32768;
 
-/// The bytes of a source that were pulled and not yet taken, and room behind them.
+/// The bytes of a source that were pulled and not yet taken, and room after them.
 #[derive(Drop)]
 pub struct Pulled {
     bytes: [u8; SIZE],
@@ -73,7 +73,7 @@ impl Pulled {
         self.end = end - start;
     }
 
-    /// Pulls once, and puts what comes behind what is held: how many bytes. None is the end of the source.
+    /// Pulls once, and puts what follows what is held: how many bytes. None is the end of the source.
     pub fn fill<S: Source>(&mut self, source: &mut S) -> Result<usize, PullFault>
         requires room { length (items self.old) < 32768 }
         ensures ok { IfOk result (λ n. (more : List ℕ) × (length more ≡ n) × (items self.new ≡ items self.old ++ more)

@@ -12,7 +12,7 @@ use crate::kinds::{Head, take_operands};
 use crate::lines::Line;
 use crate::parts::Part;
 
-/// Takes a line and its line feed from the front of some bytes: the line, and what comes behind it.
+/// Takes a line and its line feed from the front of some bytes: the line, and what follows it.
 /// `None` where no line and a line feed stand there.
 pub fn take_line(bytes: &[u8]) -> Option<(Line, &[u8])>
     ensures some { IfSome result (λ p. Begins IsInRange spelling 10 bytes.now p.0 p.1.now) }

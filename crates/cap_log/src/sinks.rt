@@ -19,8 +19,8 @@ pub trait Sink {
     /// How many pushes failed, modulo 2^64.
     ghost faults: { Self → ℕ };
 
-    /// Takes bytes from the front of the piece, and answers how many: at least one, unless the piece
-    /// is empty. A fault counts one more, and nothing was taken.
+    /// Takes bytes from the front of the piece, and returns how many: at least one, unless the piece is empty. A
+    /// failed push takes nothing, and is counted.
     fn push(&mut self, piece: &[u8]) -> Result<usize, PushFault>
         ensures fits { IfOk result (λ n. n ≤ length piece.now) }
         ensures some { IfOk result (λ n. 0 < length piece.now → 0 < n) }

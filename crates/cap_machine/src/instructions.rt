@@ -78,8 +78,8 @@ pub trait Operation: Operands {
         ensures request { result.request ≡ request_of (Self.step self) }
         ensures row { (state : State) → IsOperation (row_of state (Self.step self)) result };
 
-    /// How it ends by some rules: its result, or the first test that holds. The path by strict rules stands where the step is
-    /// made; the one in clear mode is called.
+    /// How it ends by some rules: its result, or its first failed check. The path by strict rules stands where the
+    /// step is made; the one in clear mode is called.
     fn outcome<M: TaggedStore>(self, rules: Rules, machine: &Machine<M>) -> Result<Cap, OpFault>
         ensures ends { let row = row_of (state_of machine.now) (Self.step self) in
             EndsBy rules row.tests (result_in row.writes) result };
@@ -144,7 +144,7 @@ impl<O: Operation> Instruction for O {
     }
 }
 
-// The result of an operation in clear mode, and the first test that holds. Where none does it is that of strict rules.
+// The result of an operation in clear mode, and the first failed check. Where none fails it is that of strict rules.
 fn cleared_with_fault<M: TaggedStore, O: Operation>(
     operation: O,
     machine: &Machine<M>,
@@ -445,7 +445,7 @@ pub trait ByKind<'a, T> {
         ensures done { (bytes : List ℕ) → does on.old bytes result on.new };
 }
 
-/// Does it by the head of a line, from behind which the operands are.
+/// Does it by a line's head: the operands are taken from the bytes after it.
 #[inline(always)]
 pub fn by_head<'a, T, K: ByKind<'a, T>>(on: &mut T, head: Head, operands: &'a [u8]) -> K::Answer
     ensures done { K.does on.old (head_spelling head ++ 32 ∷ operands.now) result on.new }

@@ -1,13 +1,13 @@
 //! The machine that a log is judged by: registers, tagged memory, and the steps on them.
 //!
-//! A [`Machine`] takes roots by `declare` and steps by `step`, over any store of granules. Each does what
-//! its definition says, or is refused for the first test that holds, and then nothing has changed. Every
-//! tagged word that a machine holds is sound. Only a granule named for the first time takes memory. Beside
-//! each capability it keeps the place of the root that it comes from: its origin. What a step shows of the state
-//! before it is told by `shown`, for reports. Each kind of step is an [`Instruction`]. The laws
-//! [`steps_stay_within`], [`bounds_are_cleared_exactly`], [`runs_clear_exactly`], [`authority_never_grows`],
-//! [`accesses_lie_inside`], [`runs_end_in_accounts`], [`origins_follow_descent`] and [`origins_are_roots`] are of
-//! single steps and of whole runs.
+//! A [`Machine`] takes roots by `declare` and steps by `step`, over any store of granules. Each does what its
+//! definition says, or is refused with its first failed check, and then nothing has changed. Every tagged word that
+//! a machine holds is sound. It allocates only when a granule is named for the first time. Beside each capability
+//! it keeps its origin: the place of the root that it descends from. `shown` tells what a step shows of the state
+//! before it, for reports. Each kind of step is an [`Instruction`]. The laws [`steps_stay_within`],
+//! [`bounds_are_cleared_exactly`], [`runs_clear_exactly`], [`authority_never_grows`], [`accesses_lie_inside`],
+//! [`runs_end_in_accounts`], [`origins_follow_descent`] and [`origins_are_roots`] are about single steps and whole
+//! runs.
 #![tactic(auto)]
 
 mod ends;

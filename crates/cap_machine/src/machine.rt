@@ -1,5 +1,5 @@
-//! The machine: registers and tagged memory, with counts of its roots and steps. What it holds, how roots are declared and
-//! steps are made, and its accesses to memory.
+//! The machine: registers and tagged memory, with counts of its roots and steps. What it holds, how roots are
+//! declared and steps are made, and its accesses to memory.
 
 ghost use Rattle.std.specs.Prelude.{◌≡◌, ◌≢◌, ◌↔◌, ◌<◌, ◌≤◌, ◌+◌, ◌/◌, ◌%◌, ◌^◌, not, nat_le, is_some, MatchResult, OnOk, OnErr};
 ghost use Rattle.std.specs.Prelude.{IfSome, IfOk, IsTrue, None, Err, true, false};
@@ -311,22 +311,26 @@ impl<M: TaggedStore> Machine<M> {
         }
     }
 
-    /// Makes a step and counts it. It is refused for the first of these that holds: the tests of its
-    /// operation or access, in their order; the log records another result or value than the machine's
-    /// (`WrongResult`); there are 4,294,967,295 steps, or it names a granule beyond those that the rules
-    /// allow (`LimitPassed`). In clear mode the tests of an operation on registers refuse nothing: its result
-    /// loses its tag where one holds. `NoMemory` comes only at a granule named for the first time. After an
-    /// error nothing has changed.
+    /// Performs a step and counts it, or refuses it and changes nothing. The refusal is the first of these:
+    ///
+    /// - a failed check of its operation or access, in their order; in clear mode a failed check of a register
+    ///   operation doesn't refuse the step, and its result loses its tag;
+    /// - `WrongResult`, if the log records another result or value than the machine's;
+    /// - `LimitPassed`, if there are 4,294,967,295 steps, or if it names a granule beyond those that the rules
+    ///   allow.
+    ///
+    /// Also changes nothing and returns `NoMemory` if an allocation fails, which only happens at a granule named
+    /// for the first time.
     ///
     /// A tagged result has the origin of the place that it comes from: the step's source, or for `lc` the
     /// granule, and never the authority. So a granule gets with `sc` the origin of the register that is stored,
     /// where that is tagged. What has no tag has no origin: `store` clears its granule's.
     ///
-    /// A step keeps every tagged word sound, and each tagged capability after it reaches no more than what the
-    /// place held before that it comes from. By strict rules a step is refused by `BoundsEscape` exactly where
-    /// it sets bounds of a tagged, unsealed source and those that it asks for, before any rounding, do not lie
-    /// inside the source's, which is the test of the instruction CSetBounds. In clear mode no step is, and
-    /// `setbounds` of such a source loses its tag exactly there.
+    /// A step keeps every tagged word sound, and each tagged capability after it reaches no more than its parent
+    /// place held before. By strict rules a step is refused as `BoundsEscape` if and only if it sets bounds of a
+    /// tagged, unsealed source and the requested bounds, before rounding, don't lie inside the source's; that is
+    /// the check of the instruction CSetBounds. In clear mode no step is refused so, and `setbounds` of such a
+    /// source loses its tag under exactly that condition.
     #[inline(always)]
     pub fn step(&mut self, step: &Step) -> Result<(), StepEnd>
         ensures outcome { AnswersStep self.old step.now result self.new }
@@ -517,8 +521,8 @@ fn overwrite(place: &mut Cap, cap: Cap)
     place.word = cap.word;
 }
 
-// The place of the root that a code of an origin is of, or `None` for 0. A code is the key of the root's place: a register's own
-// number, or a granule's and 32 more.
+// The place of the root that a code of an origin is of, or `None` for 0. A code is the key of the root's place: a
+// register's own number, or a granule's and 32 more.
 fn place_at(code: u64) -> Option<Place>
     ensures value { result ≡ place_at code }
 {

@@ -7,9 +7,9 @@ ghost use Rattle.std.specs.Prelude.{◌≡◌};
 pub enum Rules {
     /// Version 1.
     One,
-    /// Version 2, strict mode: a step of which a test holds is refused.
+    /// Version 2, strict mode: a step with a failed check is refused.
     TwoStrict,
-    /// Version 2, clear mode: where a test of an operation on registers holds, its result loses its tag.
+    /// Version 2, clear mode: if a check of an operation on registers fails, its result loses its tag.
     TwoClear,
 }
 

@@ -70,9 +70,9 @@ pub enum Given {
     Capability {
         /// The place that gets it.
         place: Place,
-        /// It, in clear mode. Where no test holds it is that of strict rules too.
+        /// The result in clear mode. If no check fails, it is also that of strict rules.
         cap: Cap,
-        /// The first test of an operation on registers that holds, which takes its tag.
+        /// The first check of an operation on registers that fails, which takes its tag.
         fault: Option<Refusal>,
         /// The recorded one.
         recorded: Cap,

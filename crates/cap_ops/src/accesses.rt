@@ -108,12 +108,12 @@ fn access_fault<const SOUND: bool>(authority: Cap, access: Access, address: u64)
     }
 }
 
-/// Whether an authority allows an access: where it does, the address, which is the authority's plus the
-/// offset, modulo 2^64.
+/// Whether an authority permits an access. If it does, returns the address: the authority's plus the offset, modulo
+/// 2^64.
 ///
-/// The tests come in this order: the authority is tagged, unsealed, has Load or Store, and holds all bytes
-/// in its bounds; the address is a multiple of the size; and where a tagged capability is stored, the
-/// authority has Store Capability, and Store Local Capability if the capability is not global.
+/// The checks, in order: the authority is tagged, is unsealed, has Load or Store, and holds all bytes in its
+/// bounds; the address is a multiple of the size; and if a tagged capability is stored, the authority has Store
+/// Capability, and Store Local Capability if the capability isn't global.
 #[inline(always)]
 pub fn may_access(authority: Cap, access: Access) -> Result<u64, OpFault>
     ensures outcome { MatchResult result

@@ -70,7 +70,7 @@ pub fn and_perm_clear(source: Cap, mask: u64) -> Cap
 }
 
 /// [`seal`] in clear mode. The source gets the low 18 bits of the authority's address as its object type,
-/// whatever the authority is, and loses its tag where a test of sealing holds.
+/// whatever the authority is, and loses its tag if a check of sealing fails.
 // Never inlined, for the same reason.
 #[inline(never)]
 pub fn seal_clear(source: Cap, authority: Cap) -> Cap
@@ -84,8 +84,8 @@ pub fn seal_clear(source: Cap, authority: Cap) -> Cap
     )
 }
 
-/// [`unseal`] in clear mode. The source becomes unsealed, Global only where the authority, tagged or not,
-/// is so too, and loses its tag where a test of unsealing holds.
+/// [`unseal`] in clear mode. The source becomes unsealed, and stays Global only if the authority, tagged or not, is
+/// Global too. It loses its tag if a check of unsealing fails.
 // Never inlined, for the same reason.
 #[inline(never)]
 pub fn unseal_clear(source: Cap, authority: Cap) -> Cap

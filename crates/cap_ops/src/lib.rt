@@ -1,6 +1,6 @@
-//! The operations on capabilities: each makes a capability from others, or refuses with the first test
-//! that holds. A tagged result of a sound source is sound, has bounds inside its source's, and has no
-//! permission that its source lacks. Nothing here takes memory.
+//! The operations on capabilities: each makes a capability from others, or refuses with the first check that fails.
+//! A tagged result of a sound source is sound, has bounds inside the source's, and has no permission that the
+//! source lacks. Nothing here allocates.
 #![tactic(auto)]
 
 mod access;

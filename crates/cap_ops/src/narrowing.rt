@@ -35,7 +35,7 @@ fn rounding_of(word: Word, length: u64) -> Rounded
     round(word.address(), length)
 }
 
-/// The rounding of the length from the source's address on, or the first test that refuses it.
+/// The rounding of the length from the source's address on, or the first check that refuses it.
 #[tactic(auto, unfolding(crate::specs::Operations::set_bounds_tests))]
 #[inline(always)]
 fn permitted(source: Cap, length: u64, exact: bool) -> Result<Rounded, OpFault>
@@ -78,7 +78,7 @@ fn rounding_inside(word: Word, length: u64) -> Option<Rounded>
     }
 }
 
-/// The same for a tagged source whose word is sound, and some addresses, by numbers of 64 bits alone.
+/// As [`permitted`], for a tagged source with a sound word and a length above 0, computed in 64 bits.
 #[tactic(auto, unfolding(crate::specs::Operations::set_bounds_tests))]
 #[inline(always)]
 fn permitted_soundly(source: Cap, length: u64, exact: bool) -> Result<Rounded, OpFault>
@@ -105,7 +105,7 @@ fn permitted_soundly(source: Cap, length: u64, exact: bool) -> Result<Rounded, O
     }
 }
 
-/// The answer to both.
+/// Calls [`permitted_soundly`] if `SOUND`, otherwise [`permitted`].
 #[inline(always)]
 fn permitted_by<const SOUND: bool>(
     source: Cap,
@@ -146,8 +146,8 @@ pub fn set_bounds(source: Cap, length: u64, exact: bool) -> Result<Cap, OpFault>
     narrowed_by::<false>(source, length, exact)
 }
 
-/// Answers as [`set_bounds`] does for a source whose word is sound where it is tagged, as each that a machine holds is:
-/// of a tagged one, and a length that is not 0, by numbers of 64 bits alone.
+/// As [`set_bounds`], for a source that is sound if it is tagged, as every capability of a machine is. For a tagged
+/// source and a length above 0 it computes in 64 bits.
 #[inline(always)]
 pub fn set_bounds_soundly(source: Cap, length: u64, exact: bool) -> Result<Cap, OpFault>
     requires sound { IsTrue source.tag → IsSound source.word.0 }
@@ -166,7 +166,8 @@ pub fn set_bounds_soundly(source: Cap, length: u64, exact: bool) -> Result<Cap, 
     }
 }
 
-/// [`set_bounds`], by a call. That gets a value of its own: so the source needn't stand in memory where it isn't made.
+/// [`set_bounds`], out of line. The callee gets its own copy of the source, so the caller needn't keep the source
+/// in memory if it doesn't call.
 #[inline(always)]
 fn set_bounds_apart(source: Cap, length: u64, exact: bool) -> Result<Cap, OpFault>
     ensures outcome { MatchResult result

@@ -4,7 +4,7 @@ ghost use Rattle.std.specs.Prelude.{◌≡◌, ◌≤◌, length};
 
 use crate::faults::OpFault;
 
-/// Why a log is refused: the first test that a line fails. The numbers and names are this profile's own.
+/// Why a line of a log is refused: the first check that fails. The numbers and names are this profile's own.
 #[derive(Debug, Clone, Copy, PartialEq, Eq)]
 pub enum Refusal {
     /// 1: The first line is neither `capcheck 1` nor `capcheck 2`.

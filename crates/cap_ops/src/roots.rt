@@ -35,12 +35,12 @@ fn is_view(view: u32) -> bool
     (view & 0xfff) + (((view >> 15) & 0xf) << 15) == view
 }
 
-/// The word of a root: unsealed, with the flag and the reserved bits 0, these permissions in the architectural view, and
-/// the rounded bounds of `length` bytes from `base` on, which is its address. The length may be 2^64, from base 0 on: that
-/// is the whole address space.
+/// The word of a root: unsealed, with the flag and the reserved bits 0, these permissions in the architectural
+/// view, and the rounded bounds of `length` bytes from `base`, which is its address. The length may be 2^64 at base
+/// 0: the whole address space.
 ///
-/// There is none where the request ends past 2^64, or where a bit of the view stands for no permission. Nothing grants this
-/// authority: it is for who makes a machine's first capabilities.
+/// Returns `None` if the request ends past 2^64, or if a bit of the view stands for no permission. Nothing grants
+/// this authority: the function is for whoever makes a machine's first capabilities.
 pub fn root_word(base: u64, length: u128, view: u32) -> Option<Word>
     ensures root { IsRootRequest base length view → MatchOption result ⊥ (λ word. IsRoot word.0 base length view) }
     ensures none { (result ≡ None) ↔ (¬ IsRootRequest base length view) }

@@ -1,5 +1,5 @@
-//! What the programs do alike: the faults with their statuses and lines, and the ways of texts to standard output and
-//! standard error.
+//! Code shared by the two programs: arguments, orders and how they are carried out, inputs and outputs, and faults
+//! with their statuses and lines.
 #![tactic(auto)]
 
 mod answering;

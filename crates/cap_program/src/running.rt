@@ -16,14 +16,14 @@ use cap_log::{Sink, Source, WriteSink};
 use std::alloc::Global;
 use std::io::{Read, Write};
 
-/// Does what an order says, and answers the exit status: 0 for yes or shown, 1 for no, 2 where there is
-/// no order or it has an operand that cannot be followed, and 3 where the input, the output or the memory
-/// failed. The input is the opened file or standard input, and `None` where it cannot be opened or the
-/// order reads none. A status above 1 comes with the line of its fault on `faults`, and with nothing else
-/// there; where that writer fails a beginning of the line stands there, and nothing else changes.
+/// Carries out an order, and returns the exit status: 0 for a `yes` or a text that was shown; 1 for a `no`; 2 if there
+/// is no order, or one with an operand that can't be followed; 3 if the input, the output or memory failed. The
+/// input is the opened file or standard input. It is `None` if it can't be opened or the order reads none. With a
+/// status above 1 the line of the fault is written to `faults`, and nothing else; if that writer fails, a beginning
+/// of the line is written, and nothing else changes.
 ///
-/// It is [`carry_out`] over a reader and two writers. Of these no contract says whether a call failed; so it is
-/// there that each fault stands exactly where a stream counted one.
+/// This is [`carry_out`] over a reader and two writers. No contract of a reader or writer says that a call failed.
+/// So it is `carry_out` that has each fault exactly if a stream counted one.
 pub fn run<C: Command, R: Read + Drop, O: Write, F: Write>(
     alloc: Global,
     order: Option<C>,
@@ -65,7 +65,8 @@ fn write_out<C: Command, S: Source, O: Write, F: Write>(
 }
 
 /// Does what an order says, over any source and any sinks: the status that goes with the text that was pushed, or the
-/// fault whose line was pushed to `faults`. A missing input is a read fault. With a status, all of the text was handed on.
+/// fault whose line was pushed to `faults`. A missing input is a read fault. With a status, all of the text was
+/// handed on.
 pub fn carry_out<C: Command, S: Source, K: Output, F: Sink>(
     alloc: Global,
     order: Option<C>,

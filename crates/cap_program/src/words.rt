@@ -25,7 +25,7 @@ pub fn collect_words(rt: &HostRuntime) -> Result<Option<Vec<String>>, AllocError
     Ok(Some(words))
 }
 
-/// Whether words begin with an option, and the words behind it.
+/// Whether words begin with an option, and the words after it.
 pub fn take_option<'w, 'a>(option: &str, words: &'w [&'a str]) -> (bool, &'w [&'a str])
     ensures taken { map (λ word. word.now) words.now ≡ option_word result.0 option.now ++ map (λ word. word.now) result.1.now }
     ensures absent { result.0 ≡ false → (rest : List (List ℕ)) → map (λ word. word.now) words.now ≡ option.now ∷ rest → ⊥ }

@@ -5,16 +5,16 @@ ghost use Rattle.cap_report.specs.Answers.{numbers_of, without_verdict};
 
 use cap_judge::Verdict;
 
-/// The state of lines of which none is at fault so far.
+/// The state of lines of which none is faulty so far.
 pub const GOES_ON: u8 = 0;
 
-/// The state of an answer that is a yes.
+/// The state of an answer that is a `yes`.
 pub const YES: u8 = 1;
 
-/// The state of an answer that is a no.
+/// The state of an answer that is a `no`.
 pub const NO: u8 = 2;
 
-/// The state of an answer without a verdict, for want of memory.
+/// The state of an answer without a verdict, since memory ran out.
 pub const NO_MEMORY: u8 = 3;
 
 /// The state of an answer of a handle that holds no judge.
@@ -27,16 +27,16 @@ pub const NO_LINE: u8 = 5;
 #[repr(C)]
 #[derive(Debug, Clone, Copy, PartialEq, Eq)]
 pub struct Answer {
-    /// After a no the number of the first line at fault, from 1 on, else 0.
+    /// After a `no` the number of the faulty line, from 1 on, else 0.
     pub line: u64,
-    /// After a yes how many step lines the log has, else 0.
+    /// After a `yes` how many step lines the log has, else 0.
     pub steps: u32,
-    /// After a yes how many root lines the log has, else 0.
+    /// After a `yes` how many root lines the log has, else 0.
     pub roots: u32,
-    /// 1 for a yes, 2 for a no, 0 where no line is at fault so far, 3 where memory for a granule was refused, and 4
+    /// 1 for a `yes`, 2 for a `no`, 0 where no line is faulty so far, 3 where memory for a granule was refused, and 4
     /// where there is no judge.
     pub state: u8,
-    /// After a no the number of the refusal, 1 to 25, else 0.
+    /// After a `no` the number of the refusal, 1 to 25, else 0.
     pub refusal: u8,
 }
 

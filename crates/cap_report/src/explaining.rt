@@ -1,4 +1,4 @@
-//! The judge that explains a no: what the machine held before the line that was refused.
+//! The judge that explains a `no`: what the machine held before the line that was refused.
 
 ghost use Rattle.std.specs.Prelude.{◌≡◌, ◌≢◌, ◌≤◌, ℕ, List, ◌++◌, length, take, true, Err, Option, IfOk, OnOk, OnErr};
 ghost use Rattle.std.specs.FinMap as map;
@@ -25,8 +25,8 @@ use cap_machine::{Machine, Refusal};
 use std::alloc::Global;
 use tagmem::{PageStore, TaggedStore};
 
-/// Judges the bytes that a source gives, pushes the line of the verdict, and after a no the report of the
-/// first fault: its line, and what the machine held before it and the rules would have given. After a yes
+/// Judges the bytes that a source gives, pushes the line of the verdict, and after a `no` the report of the
+/// first fault: its line, and what the machine held before it and the rules would have given. After a `yes`
 /// the origins are pushed where they are asked for, as by `judge_origins`.
 pub fn judge_why<S: Source, K: Sink>(
     alloc: Global,
@@ -36,7 +36,7 @@ pub fn judge_why<S: Source, K: Sink>(
 ) -> Result<Verdict, JudgeToFault>
     ensures explained { Reported (Explains origins) S.gave S.ended K.took source.old source.new sink.old sink.new result }
 
-    // Whatever bytes it is the verdict of, a no names `BoundsEscape` exactly as `judge_bytes` says.
+    // Whatever bytes it is the verdict of, a `no` names `BoundsEscape` exactly as `judge_bytes` says.
     ensures escape { IfOk result NamesEscapes }
 
     // Each fault of the source or the sink ends the call, and nothing else counts one.
@@ -99,9 +99,9 @@ pub fn judge_why_bytes<M: TaggedStore, K: Sink>(
     }
 }
 
-/// Pushes what belongs to the lines that a judge was handed: nothing while none of them is at fault, and otherwise the
-/// line of the no, and the report of the first fault. It is what [`judge_why`] pushes for these lines, whatever lines follow,
-/// and has at most 3,136 bytes.
+/// Pushes the answer for the lines handed to a judge so far: nothing while none is faulty; otherwise the line of
+/// the `no`, and the diagnosis of the faulty line. It is what [`judge_why`] pushes for these lines, whatever lines
+/// follow, and has at most 3,136 bytes.
 pub fn push_refused<M: TaggedStore, K: Sink>(
     judge: &Judge<M>,
     sink: &mut K,
@@ -124,7 +124,7 @@ pub fn push_refused<M: TaggedStore, K: Sink>(
     }
 }
 
-// Pushes the text of a verdict: after a yes with the origins where they are asked for, and after a no with
+// Pushes the text of a verdict: after a `yes` with the origins where they are asked for, and after a `no` with
 // the report of the line that was refused.
 fn push_why<M: TaggedStore, K: Sink>(
     verdict: &Verdict,

@@ -19,7 +19,7 @@ use cap_texts::text_lines::{put_decimal_line, put_hex_line};
 use cap_word::{Cap, Word, split};
 use tagmem::TaggedStore;
 
-/// Writes the report of a line that was refused at an index of the buffer, and answers the index behind it.
+/// Writes the report of a line that was refused at an index of the buffer, and returns the index after it.
 /// The machine is as it was before the line.
 pub fn put_report<M: TaggedStore>(
     machine: &Machine<M>,

@@ -25,14 +25,14 @@ pub enum Part {
     Rounded(u64, u128),
     /// The bounds at the address that is asked for.
     Moved(u64, u128),
-    /// The representable range of the source: where it starts, and behind its last address, not reduced
+    /// The representable range of the source: where it starts, and after its last address, not reduced
     /// modulo 2^64.
     Representable(u64, u128),
-    /// The bytes of an access: the address of the first, and that behind the last.
+    /// The bytes of an access: the address of the first, and that after the last.
     Access(u64, u128),
     /// The permissions that the authority needs, in the view.
     Needs(u32),
-    /// What the rules give for a place, without a tag where a test holds.
+    /// What the rules give for a place, without a tag if a check fails.
     Gives(Place, Cap),
     /// The test for which it has none.
     Cleared(Refusal),
@@ -42,7 +42,7 @@ pub enum Part {
     Differs(Cap, Cap),
 }
 
-/// Writes the lines of parts at an index of the buffer, and answers the index behind them. Nothing else of
+/// Writes the lines of parts at an index of the buffer, and returns the index after them. Nothing else of
 /// the buffer changes.
 pub fn put_parts(buffer: &mut [u8], at: usize, parts: &[Part]) -> usize
     requires { at + 256 * length parts.now ≤ length buffer.old }

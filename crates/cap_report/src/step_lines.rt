@@ -23,7 +23,7 @@ use cap_texts::text_lines::put_hex_line;
 use cap_word::{Cap, Word};
 use tagmem::TaggedStore;
 
-/// Writes the report on a step that was refused at an index of the buffer, and answers the index behind it.
+/// Writes the report on a step that was refused at an index of the buffer, and returns the index after it.
 /// The machine is as it was before the step.
 pub fn put_step_lines<M: TaggedStore>(
     machine: &Machine<M>,

@@ -14,7 +14,7 @@ use cap_log::buffers::{put, put_flag, put_hex, put_place};
 use cap_ops::perm_view;
 use cap_word::{Cap, split};
 
-/// Writes the lines of an operand that has this name in a report, and answers the index behind them: the
+/// Writes the lines of an operand that has this name in a report, and returns the index after them: the
 /// four of the capability that its place holds, and the place of the root that this descends from, where
 /// there is one. Nothing else of the buffer changes.
 #[tactic(auto, unfolding(crate::specs::CapLines::operand_lines))]
@@ -62,7 +62,7 @@ fn put_descent_line(buffer: &mut [u8], at: usize, name: &[u8], root: Place) -> u
     put(buffer, at, b"\n")
 }
 
-/// Writes the four lines of a capability that has this name in a report, and answers the index behind
+/// Writes the four lines of a capability that has this name in a report, and returns the index after
 /// them. Nothing else of the buffer changes.
 pub fn put_cap_lines(buffer: &mut [u8], at: usize, name: &[u8], place: Place, cap: Cap) -> usize
     requires name { length name.now ≤ 9 }
@@ -125,7 +125,7 @@ fn put_type_line(buffer: &mut [u8], at: usize, name: &[u8], otype: u32) -> usize
     put(buffer, at, b"\n")
 }
 
-/// Writes a line of two bounds behind a name and a word, and answers the index behind it. Nothing else of
+/// Writes a line of two bounds after a name and a word, and returns the index after it. Nothing else of
 /// the buffer changes.
 #[tactic(auto, unfolding(crate::specs::CapLines::bounds_line))]
 pub fn put_bounds_line(

@@ -16,7 +16,7 @@ use cap_word::{Word, split, to_memory, word_text};
 /// The object type of what is not sealed.
 const UNSEALED_TYPE: u32 = 0x3_ffff;
 
-/// The greatest object type for sealing: those above it, but for the unsealed one, are reserved.
+/// The greatest object type for sealing: those above it, except the unsealed one, are reserved.
 const GREATEST_TYPE: u32 = 0x3_fffb;
 
 /// Writes the fifteen lines that explain a capability at the front of the buffer, and answers their

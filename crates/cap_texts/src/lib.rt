@@ -1,4 +1,4 @@
-//! The texts that say what a capability's word means and what bounds a request gets: lines of a name and its
+//! The texts that say what a capability word means and what bounds a request gets. Each line is a name and its
 //! value.
 #![tactic(auto)]
 

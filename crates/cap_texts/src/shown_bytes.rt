@@ -6,7 +6,7 @@ ghost use Rattle.cap_texts.specs.ShownBytes.{shown, shown_byte, shown_line};
 
 use cap_log::buffers::{put, put_hex};
 
-/// Writes a line of a log so that it can be shown, behind its name, and answers the index behind it. Nothing
+/// Writes a line of a log so that it can be shown, after its name, and returns the index after it. Nothing
 /// else of the buffer changes.
 #[tactic(auto, unfolding(crate::specs::ShownBytes::shown_line, crate::specs::TextLines::text_line))]
 pub fn put_shown_line(buffer: &mut [u8], at: usize, text: &[u8]) -> usize
@@ -20,7 +20,7 @@ pub fn put_shown_line(buffer: &mut [u8], at: usize, text: &[u8]) -> usize
     put(buffer, at, b"\n")
 }
 
-/// Writes bytes at an index of the buffer so that they can be shown, and answers the index behind them: a
+/// Writes bytes at an index of the buffer so that they can be shown, and returns the index after them: a
 /// byte that is no character of ASCII, a control byte and a backslash are shown as `\x` and two digits.
 /// Nothing else of the buffer changes.
 pub fn put_shown(buffer: &mut [u8], at: usize, bytes: &[u8]) -> usize

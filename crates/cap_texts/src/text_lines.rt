@@ -7,7 +7,7 @@ ghost use Rattle.cap_texts.specs.TextLines.{text_line, yes_or_no};
 
 use cap_log::buffers::{put, put_decimal, put_hex};
 
-/// Writes a line whose value is text at an index of the buffer, and answers the index behind it. Nothing
+/// Writes a line whose value is text at an index of the buffer, and returns the index after it. Nothing
 /// else of the buffer changes.
 #[tactic(auto, unfolding(crate::specs::TextLines::text_line))]
 pub fn put_line(buffer: &mut [u8], at: usize, name: &[u8], value: &[u8]) -> usize

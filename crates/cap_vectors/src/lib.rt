@@ -1,5 +1,5 @@
-//! Files of vectors: lines that state what a word decodes to, or how a request is rounded, and whether all of
-//! them are true.
+//! Vector files: lines that state what a word decodes to, whether an address keeps its bounds, how a request is
+//! rounded or what a word's bytes in memory are; and whether all lines are true.
 #![tactic(auto)]
 
 mod files;

@@ -6,9 +6,9 @@ ghost use Rattle.cap_word.specs.Lanes.{IsLaneOf};
 
 use std::simd::prelude::*;
 
-/// The number of so many bytes, at most eight, that the lower-case digits at the front of a text spell, two for
-/// each byte. It is `None` where other bytes stand among them. What stands behind them is read too, since a
-/// vector is quickest read whole, and left out.
+/// The number of `size` bytes, at most eight, that the lower-case digits at the front of a text spell, two for each
+/// byte; `None` if there is another byte among them. All sixteen bytes are read, since a vector is read fastest as
+/// a whole, and those after the digits are ignored.
 #[inline(always)]
 pub(crate) fn read_front(text: &[u8; 16], size: u8) -> Option<u64>
     requires at_least { 1 ≤ size }

@@ -1,7 +1,7 @@
-//! The 128-bit capability word of CHERI Concentrate with 64-bit addresses: its fields, its layout
-//! in memory and its text.
+//! The 128-bit capability word of CHERI Concentrate with 64-bit addresses: its fields, its layout in memory and its
+//! text.
 //!
-//! A capability is a [`Word`] and one tag that stands outside it. Nothing here takes memory.
+//! A capability is a [`Word`] and a tag, which isn't part of the word. Nothing here allocates.
 #![tactic(auto)]
 
 mod digits;

@@ -28,8 +28,8 @@ pub fn read_word(text: &[u8]) -> Option<Word>
     Some(Word((u128::from(high) << 64) + u128::from(low)))
 }
 
-/// Takes a word from the front of some bytes: its text, the 32 lower-case hexadecimal digits of its register
-/// layout, and what stands behind them. It is `None` where no such digits stand there.
+/// Takes a word from the front of some bytes: its text, which is the 32 lower-case hexadecimal digits of its
+/// register layout. Returns the word and the bytes after it, or `None` if the bytes don't begin with such digits.
 #[inline(always)]
 pub fn take_word(bytes: &[u8]) -> Option<(Word, &[u8])>
     ensures some { IfSome result (λ p. bytes.now ≡ hex_digits 32 p.0.0 ++ p.1.now) }
@@ -52,7 +52,7 @@ pub fn word_text(word: Word) -> [u8; 32]
 }
 
 /// Takes a number of 64 bits from the front of some bytes: its sixteen lower-case hexadecimal digits, most
-/// significant first, and what stands behind them. It is `None` where no such digits stand there.
+/// significant first, and what follows them. It is `None` where no such digits stand there.
 #[inline(always)]
 pub fn take_u64(bytes: &[u8]) -> Option<(u64, &[u8])>
     ensures some { IfSome result (λ p. bytes.now ≡ hex_digits 16 p.0 ++ p.1.now) }
@@ -76,9 +76,9 @@ pub fn read_u64(text: &[u8]) -> Option<u64>
     if rest.is_empty() { Some(number) } else { None }
 }
 
-/// Takes a number of so many bytes, at most eight, from the front of some bytes: two lower-case hexadecimal
-/// digits for each, most significant first, and what stands behind them. It is `None` where no such digits
-/// stand there.
+/// Takes a number of `size` bytes, at most eight, from the front of some bytes: two lower-case hexadecimal digits
+/// for each byte, most significant first. Returns the number and the bytes after it, or `None` if the bytes don't
+/// begin with such digits.
 #[inline(always)]
 pub fn take_bytes(bytes: &[u8], size: u8) -> Option<(u64, &[u8])>
     requires at_least { 1 ≤ size }

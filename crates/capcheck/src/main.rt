@@ -1,5 +1,5 @@
-//! Explains CHERI capabilities, rounds requests for bounds, judges logs of what a program did with
-//! capabilities, and checks vector files.
+//! Explains capability words, rounds requests for bounds, judges logs of capability operations, and checks vector
+//! files.
 #![tactic(auto)]
 
 mod checking;

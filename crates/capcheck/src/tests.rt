@@ -10,7 +10,7 @@ const READ_FAULT: &[u8] = b"capcheck: read fault\n";
 
 const WRITE_FAULT: &[u8] = b"capcheck: write fault\n";
 
-// A reader that gives one byte a read, and fails behind the last.
+// A reader that gives one byte a read, and fails after the last.
 #[derive(Drop)]
 struct Failing<'a> {
     left: &'a [u8],
@@ -66,7 +66,7 @@ struct Worked<'a> {
     err: &'a [u8],
 }
 
-// The lines of a row behind a mark.
+// The lines of a row after a mark.
 fn lines_behind(alloc: Global, row: &str, mark: &str) -> Result<Vec<u8>, AllocError> {
     let mut text = Vec::new(alloc);
     for line in row.split('\n') {
@@ -78,7 +78,7 @@ fn lines_behind(alloc: Global, row: &str, mark: &str) -> Result<Vec<u8>, AllocEr
     Ok(text)
 }
 
-// The words of a line of a row, behind the status.
+// The words of a line of a row, after the status.
 fn words_of<'a>(alloc: Global, line: &'a str) -> Result<Vec<&'a str>, AllocError> {
     let mut words = Vec::new(alloc);
     for word in line.split(' ').skip(1) {
@@ -115,8 +115,8 @@ fn agrees(text: &[u8], wanted: &[u8]) -> bool {
     }
 }
 
-// Whether the run has its status and its texts. Where it is shown or judged, its output then fails behind each byte
-// and when it is handed on, and its input fails behind each byte, up to the one that decides.
+// Whether the run has its status and its texts. Where it is shown or judged, its output then fails after each byte
+// and when it is handed on, and its input fails after each byte, up to the one that decides.
 fn holds(alloc: Global, worked: Worked<'_>) -> Result<bool, AllocError> {
     let Worked {
         order,
@@ -184,7 +184,7 @@ fn inputs_fail(
             return false;
         }
     }
-    // A yes, a pass and a no on no bytes need the end of the input.
+    // A `yes`, a pass and a `no` on no bytes need the end of the input.
     is_decided == (status == 1 && !input.is_empty())
 }
 

@@ -61,7 +61,7 @@ fn access_from(authority: Capability, kind: Kind, offset: i64, size: u64) -> Acc
 }
 
 /// Whether an authority allows to load `size` bytes of data, 1, 2, 4 or 8, at an offset of -2048 to 2047
-/// from its address. Refused as the first of its tests that holds, 14 to 17 and 20, and as 255 where there is
+/// from its address. Refused with its first failed check, 14 to 17 and 20, and as 255 where there is
 /// no such access.
 #[unsafe(no_mangle)]
 pub extern "C" fn capcheck_may_load(authority: Capability, offset: i64, size: u64) -> AccessAnswer
@@ -71,7 +71,7 @@ pub extern "C" fn capcheck_may_load(authority: Capability, offset: i64, size: u6
 }
 
 /// Whether an authority allows to store `size` bytes of data, 1, 2, 4 or 8, at an offset of -2048 to 2047
-/// from its address. Refused as the first of its tests that holds, 14 to 17 and 20, and as 255 where there is
+/// from its address. Refused with its first failed check, 14 to 17 and 20, and as 255 where there is
 /// no such access.
 #[unsafe(no_mangle)]
 pub extern "C" fn capcheck_may_store(authority: Capability, offset: i64, size: u64) -> AccessAnswer
@@ -81,7 +81,7 @@ pub extern "C" fn capcheck_may_store(authority: Capability, offset: i64, size: u
 }
 
 /// Whether an authority allows to load a capability at an offset of -2048 to 2047 from its address. Refused
-/// as the first of its tests that holds, 14 to 17 and 20, and as 255 at any other offset.
+/// with its first failed check, 14 to 17 and 20, and as 255 at any other offset.
 #[unsafe(no_mangle)]
 pub extern "C" fn capcheck_may_load_cap(authority: Capability, offset: i64) -> AccessAnswer
     ensures answer { AnswersAccess (cap_of authority) kind.LoadCap offset 16 result }
@@ -90,7 +90,7 @@ pub extern "C" fn capcheck_may_load_cap(authority: Capability, offset: i64) -> A
 }
 
 /// Whether an authority allows to store this capability at an offset of -2048 to 2047 from its address.
-/// Refused as the first of its tests that holds, 14 to 17 and 20 to 22, and as 255 at any other offset.
+/// Refused with its first failed check, 14 to 17 and 20 to 22, and as 255 at any other offset.
 #[unsafe(no_mangle)]
 pub extern "C" fn capcheck_may_store_cap(
     authority: Capability,

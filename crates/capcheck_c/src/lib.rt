@@ -1,10 +1,9 @@
-//! The library for C: words, requests for bounds, operations, accesses and the lines of a log, called
-//! from C through `include/capcheck.h`.
+//! The C library: words, requests for bounds, operations, accesses and the lines of a log, called through
+//! `include/capcheck.h`.
 //!
-//! Each export makes what C passes into the types of the crates below, calls the function that it
-//! stands for, and has its clauses, in terms of the halves of a word. No number that C passes is out of
-//! an export's range: what the call would refuse to take, the export answers. Nothing here takes memory,
-//! and nothing keeps a pointer.
+//! Each export converts C's arguments to the types of the crates below, calls the function that it stands for, and
+//! has that function's clauses, in terms of the halves of a word. Every number is in an export's range: what the
+//! call below doesn't accept, the export refuses in its answer. Nothing here allocates or keeps a pointer.
 #![tactic(auto)]
 
 mod accesses;

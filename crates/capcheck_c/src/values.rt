@@ -117,7 +117,7 @@ pub struct AccessAnswer {
 #[repr(C)]
 #[derive(Debug, Clone, Copy, PartialEq, Eq)]
 pub struct RefusalName {
-    /// The name, and bytes 0 behind it.
+    /// The name, and bytes 0 after it.
     pub text: [u8; 24],
 }
 

@@ -6,8 +6,8 @@ ghost use Rattle.cap_report.specs.Sinks.{Took};
 ghost use Rattle.capcheck_freestanding.specs.Whys.{AnswersWhy, IsWhyOf};
 
 use cap_report::answers::{Answer, NO_MEMORY, numbers_of, without_verdict};
-use cap_report::texts::TextSink;
 use cap_report::judge_why_bytes;
+use cap_report::texts::TextSink;
 use tagmem_lent::{LentStore, Slot};
 
 /// What a judge answers that explains it (in C `capcheck_why`).
@@ -20,10 +20,10 @@ pub struct Why {
     pub length: u64,
 }
 
-/// Judges the bytes of a log, as [`capcheck_judge_bytes_in`](crate::judging::capcheck_judge_bytes_in) does, and writes
-/// what `capdiag why` prints of them: the line of the verdict, and after a no the report of the line at fault. After a
-/// yes the lines of the origins follow where they are asked for. The text stands at the front of its room where it fits.
-/// Where it doesn't, the room holds anything, and the length says what is needed.
+/// Judges the bytes of a log, as [`capcheck_judge_bytes_in`](crate::judging::capcheck_judge_bytes_in) does, and
+/// writes what `capdiag why` prints of them: the line of the verdict, and after a `no` the report of the faulty line.
+/// After a yes the lines of the origins follow where they are asked for. The text stands at the front of its room
+/// where it fits. Where it doesn't, the room holds anything, and the length says what is needed.
 #[unsafe(no_mangle)]
 pub extern "C" fn capcheck_judge_why(
     origins: bool,

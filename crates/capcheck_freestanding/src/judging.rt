@@ -2,12 +2,12 @@
 
 ghost use Rattle.cap_report.specs.Answers.{AnswersBytes, NamesEscapesIn};
 
-use cap_report::answers::{Answer, NO_MEMORY, numbers_of, without_verdict};
 use cap_judge::judge_bytes_keeping;
+use cap_report::answers::{Answer, NO_MEMORY, numbers_of, without_verdict};
 use tagmem_lent::{LentStore, Slot};
 
-/// Judges the bytes of a log, as `capcheck judge` does: it is a yes exactly for a log whose steps have a run from
-/// its roots, and otherwise a no with the first fault. The granules that its lines name are kept in the slots, one
+/// Judges the bytes of a log, as `capcheck judge` does: it is a `yes` exactly for a log whose steps have a run from
+/// its roots, and otherwise a `no` with the first fault. The granules that its lines name are kept in the slots, one
 /// in each. What the slots hold before doesn't matter.
 #[unsafe(no_mangle)]
 pub extern "C" fn capcheck_judge_bytes_in(bytes: &[u8], slots: &mut [Slot]) -> Answer

@@ -2,12 +2,12 @@
 
 ghost use Rattle.cap_report.specs.Answers.{AnswersBytes, NamesEscapesIn};
 
-use cap_report::answers::{Answer, NO_MEMORY, numbers_of, without_verdict};
 use cap_judge::judge_bytes;
+use cap_report::answers::{Answer, NO_MEMORY, numbers_of, without_verdict};
 use std::alloc::Global;
 
-/// Judges the bytes of a log, as `capcheck judge` does: it is a yes exactly for a log whose steps have a run from
-/// its roots, and otherwise a no with the first fault. Memory is taken only where a line names a granule for the
+/// Judges the bytes of a log, as `capcheck judge` does: it is a `yes` exactly for a log whose steps have a run from
+/// its roots, and otherwise a `no` with the first fault. Memory is taken only where a line names a granule for the
 /// first time, and given back before the call ends.
 #[unsafe(no_mangle)]
 pub extern "C" fn capcheck_judge_bytes(alloc: Global, bytes: &[u8]) -> Answer

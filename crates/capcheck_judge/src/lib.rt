@@ -1,8 +1,8 @@
-//! The judge for C: a log is judged by a call from C through `include/capcheck_judge.h`.
+//! The judge for C: judges a log through `include/capcheck_judge.h`.
 //!
-//! Each export calls the judge of the crate below and has its clauses, in terms of the numbers that C
-//! gets. No number that C passes is out of an export's range. Memory is taken from the C library, where a
-//! line names a granule for the first time; what keeps no judge open keeps none of it.
+//! Each export calls the judge of the crate below and has its clauses, in terms of the numbers that C gets. Every
+//! number is in an export's range. Memory comes from the functions of `judge/heap.c`, when a judge is opened and
+//! when a line names a granule for the first time. A call that keeps no judge open keeps none of it.
 #![tactic(auto)]
 
 mod answers;

@@ -7,10 +7,10 @@ ghost use Rattle.cap_report.specs.Answers.{NamesEscapesIn, without_verdict};
 ghost use Rattle.capcheck_judge.specs.Handles.{AnswersEnd, AnswersSoFar, Holds, held_in, known_in};
 
 use crate::handle::Handle;
+use cap_judge::{Judge, TakeFault};
 use cap_report::answers::{
     Answer, GOES_ON, NO, NO_JUDGE, NO_LINE, NO_MEMORY, numbers_of, without_verdict,
 };
-use cap_judge::{Judge, TakeFault};
 use std::alloc::Global;
 use tagmem::{PageStore, TaggedStore};
 
@@ -32,23 +32,23 @@ pub extern "C" fn capcheck_judge_open(alloc: Global, judge: &mut Handle) -> u8
     }
 }
 
-/// Hands over the next line, with its line feed. 0 where it was taken, and no line so far is at fault; 2 where it
-/// was taken, and it or one before it is; 3 where memory was refused, 4 where the handle holds no judge, and 5 where
-/// the bytes are neither one line with its line feed nor begin with more bytes than a line has. From 3 on nothing
-/// has changed, and the line may be handed over again.
+/// Takes the next line, with its line feed. Returns 0 if it was taken and no line so far is faulty, 2 if it was
+/// taken and it or an earlier line is faulty, 3 if memory ran out, and 4 if the handle holds no judge. Returns 5 if
+/// the bytes aren't one line with its line feed, unless they begin with more bytes than a line has. With 3, 4 and 5
+/// nothing has changed, and the line may be handed over again.
 #[unsafe(no_mangle)]
 pub extern "C" fn capcheck_judge_line(alloc: Global, judge: &mut Handle, line: &[u8]) -> u8
     ensures answers { result < 6 }
     ensures never_yes { result ≢ 1 }
 
-    // A line that is taken is taken behind all that was taken before.
+    // A line that is taken is taken after all that was taken before.
     ensures taken { result < 3 → (bytes : List ℕ) → Holds (held_in judge.old) bytes → Holds (held_in judge.new) (bytes ++ line.now) }
     ensures goes_on { result ≡ 0 → (bytes : List ℕ) → Holds (held_in judge.old) bytes → BeginsWhole (bytes ++ line.now) }
     ensures at_fault { result ≡ 2 → (bytes : List ℕ) → Holds (held_in judge.old) bytes → BeginsWhole (bytes ++ line.now) → ⊥ }
     ensures unchanged { 2 < result → known_in (held_in judge.new) ≡ known_in (held_in judge.old) }
     ensures still_holds { 2 < result → (bytes : List ℕ) → Holds (held_in judge.old) bytes → Holds (held_in judge.new) bytes }
 
-    // Memory is wanted only where this very line, which no test refuses, names a granule for the first time.
+    // Memory is wanted only where this very line, which no check refuses, names a granule for the first time.
     ensures no_memory { result ≡ 3 → (bytes : List ℕ) → Holds (held_in judge.old) bytes → MayLackMemory (bytes ++ line.now) [] }
     ensures no_judge { (result ≡ 4) ↔ (held_in judge.old ≡ None) }
     ensures no_line { (result ≡ 5) ↔ ((held_in judge.old ≢ None) × IsNoLine line.now) }
@@ -65,7 +65,7 @@ pub extern "C" fn capcheck_judge_line(alloc: Global, judge: &mut Handle, line: &
     }
 }
 
-/// How the lines so far stand: the state is 0 while none of them is at fault, and else 2 with the no that stands
+/// How the lines so far stand: the state is 0 while none of them is faulty, and else 2 with the `no` that stays
 /// whatever lines follow. It is 4 where the handle holds no judge.
 #[unsafe(no_mangle)]
 pub extern "C" fn capcheck_judge_answer(alloc: Global, judge: &mut Handle) -> Answer
@@ -87,8 +87,8 @@ pub extern "C" fn capcheck_judge_answer(alloc: Global, judge: &mut Handle) -> An
     }
 }
 
-/// The verdict on the lines so far as a whole log: the state is 1 for a yes and 2 for a no, and 4 where the handle
-/// holds no judge. Further lines may be handed over behind it.
+/// The verdict on the lines so far as a whole log: the state is 1 for a `yes` and 2 for a `no`, and 4 where the handle
+/// holds no judge. Further lines may be handed over after it.
 #[unsafe(no_mangle)]
 pub extern "C" fn capcheck_judge_end(alloc: Global, judge: &mut Handle) -> Answer
     ensures verdict { (bytes : List ℕ) → Holds (held_in judge.old) bytes → AnswersEnd bytes result }

@@ -12,7 +12,7 @@ use cap_judge::Expected;
 use cap_word::Cap;
 use std::alloc::Global;
 
-/// What a register holds behind the lines so far, or before the line at fault: 0 to 31, of which 0 is c0. There is
+/// What a register holds after the lines so far, or before the faulty line: 0 to 31, of which 0 is c0. There is
 /// none above 31, and none where the handle holds no judge.
 #[unsafe(no_mangle)]
 pub extern "C" fn capcheck_judge_register(
@@ -38,8 +38,8 @@ pub extern "C" fn capcheck_judge_register(
     }
 }
 
-/// What the sixteen bytes of memory in which an address lies hold behind the lines so far, or before the line at
-/// fault. There is none where the handle holds no judge.
+/// What the sixteen bytes of memory in which an address lies hold after the lines so far, or before the
+/// faulty line. There is none where the handle holds no judge.
 #[unsafe(no_mangle)]
 pub extern "C" fn capcheck_judge_granule(
     alloc: Global,
@@ -61,8 +61,8 @@ pub extern "C" fn capcheck_judge_granule(
     }
 }
 
-/// What the rules give for the step at fault, where its line records another result. There is none after any other
-/// fault, where no line is at fault so far, and where the handle holds no judge.
+/// What the rules give for the faulty step, where its line records another result. There is none after any other
+/// fault, where no line is faulty so far, and where the handle holds no judge.
 #[unsafe(no_mangle)]
 pub extern "C" fn capcheck_judge_expected(alloc: Global, judge: &mut Handle) -> Given
     ensures expected { (bytes : List ℕ) → Holds (held_in judge.old) bytes → AnswersExpected bytes result }

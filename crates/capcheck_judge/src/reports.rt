@@ -1,21 +1,21 @@
-//! What an open judge tells of the line at fault.
+//! What an open judge tells of the faulty line.
 
 ghost use Rattle.std.specs.Prelude.{◌≡◌, ℕ, List, None};
 ghost use Rattle.cap_judge.specs.Readings.{HasRead};
 ghost use Rattle.capcheck_judge.specs.Handles.{AnswersReport, Holds, held_in};
 
 use crate::handle::Handle;
-use cap_report::texts::TextSink;
 use cap_judge::Judge;
 use cap_log::PushFault;
 use cap_report::push_refused;
+use cap_report::texts::TextSink;
 use std::alloc::Global;
 use tagmem::{PageStore, TaggedStore};
 
-/// Writes what `capdiag why` prints of the lines so far, where one of them is at fault: the line of the no, and the
-/// report of the first fault. It answers how many bytes the text has: none where no line is at fault, or where the handle
-/// holds no judge, and never more than 3,136. The text stands at the front of its room where it fits. Where it doesn't, the
-/// room holds anything, and the answer says what is needed.
+/// Writes what `capdiag why` prints of the lines so far, where one of them is faulty: the line of the `no`, and the
+/// report of the first fault. It answers how many bytes the text has: none where no line is faulty, or where the
+/// handle holds no judge, and never more than 3,136. The text stands at the front of its room where it fits. Where it
+/// doesn't, the room holds anything, and the answer says what is needed.
 #[unsafe(no_mangle)]
 pub extern "C" fn capcheck_judge_report(alloc: Global, judge: &mut Handle, text: &mut [u8]) -> u64
     ensures report { (bytes : List ℕ) → Holds (held_in judge.old) bytes → AnswersReport bytes text.old text.new result }
@@ -33,7 +33,7 @@ pub extern "C" fn capcheck_judge_report(alloc: Global, judge: &mut Handle, text:
     }
 }
 
-// Writes the report of a judge's line at fault, and answers its length.
+// Writes the report of a judge's faulty line, and answers its length.
 fn write_report(judge: &Judge<PageStore>, text: &mut [u8]) -> u64
     ensures { (bytes : List ℕ) → HasRead judge.now bytes
         → AnswersReport bytes text.old text.new result }

@@ -1,7 +1,7 @@
 //! Steps handed over to a judge that C holds, without their lines.
 //!
-//! Each call answers as `capcheck_judge_line` does on the line that spells the step. Where a number is out of its range no
-//! line spells it: it answers 5, and nothing has changed.
+//! Each call answers as `capcheck_judge_line` does on the line that spells the step. Where a number is out of its
+//! range no line spells it: it answers 5, and nothing has changed.
 
 ghost use Rattle.std.specs.Prelude.{◌≡◌, ◌⊎◌, ◌<◌, ℕ, List, [], ◌∷◌, ◌++◌};
 ghost use Rattle.cap_log.specs.Lines.{spelling};
@@ -12,7 +12,6 @@ ghost use Rattle.cap_judge.specs.Readings.{BeginsWhole, HasRead, known_of};
 ghost use Rattle.capcheck_judge.specs.Handles.{HandsOver, held_in};
 
 use crate::handle::Handle;
-use cap_report::answers::{GOES_ON, NO, NO_JUDGE, NO_LINE, NO_MEMORY};
 use cap_halves::halves::taken;
 use cap_halves::values::Capability;
 use cap_judge::{Judge, TakeFault};
@@ -21,6 +20,7 @@ use cap_log::kinds::{
     StoreCap, Unseal,
 };
 use cap_machine::Instruction;
+use cap_report::answers::{GOES_ON, NO, NO_JUDGE, NO_LINE, NO_MEMORY};
 use std::alloc::Global;
 use tagmem::{PageStore, TaggedStore};
 
@@ -204,8 +204,7 @@ pub extern "C" fn capcheck_judge_store(
     hand_over::<Store>(alloc, judge, (authority, offset, size, value))
 }
 
-// Hands over the step that C's numbers make. Where they make none, it answers that they are no line, and nothing has
-/// changed.
+// Hands over the step that C's numbers make. If they make none, returns that they are no line, and nothing has changed.
 #[inline(always)]
 fn hand_over<I: Instruction>(alloc: Global, judge: &mut Handle, numbers: I::Numbers) -> u8
     ensures { HandsOver (line.Step (I.step (I.meant numbers))) (held_in judge.old) (held_in judge.new) result }

@@ -1,4 +1,4 @@
-//! Judging an input, and pushing the verdict with the report of a no.
+//! Judging an input, and pushing the verdict with the diagnosis.
 
 ghost use Rattle.std.specs.Prelude.{ℕ, List};
 ghost use Rattle.cap_program.specs.Doings.{IsCounted, IsDone};
@@ -11,8 +11,8 @@ use cap_report::judge_why;
 use cap_status::judged;
 use std::alloc::Global;
 
-/// Judges what a source gives, pushes the line of the verdict, after a no with the report and after a yes with the origins
-/// where they are asked for, and answers the status that goes with the verdict.
+/// Judges what a source gives, pushes the line of the verdict, after a `no` with the report and after a `yes` with
+/// the origins where they are asked for, and answers the status that goes with the verdict.
 pub fn explain_source<S: Source, K: Sink>(
     alloc: Global,
     origins: bool,

@@ -12,9 +12,9 @@ use cap_log::{Sink, Source};
 use cap_program::Fault;
 use std::alloc::Global;
 
-/// Judges what a source gives as an allocator's log, pushes the line of the verdict and, where they are asked for, after a
-/// yes the report of the log and after a no that of the line that was refused, and answers the status that goes with the
-/// verdict.
+/// Judges what a source gives as an allocator's log, pushes the line of the verdict and, where they are asked for,
+/// after a `yes` the report of the log and after a `no` that of the line that was refused, and answers the status
+/// that goes with the verdict.
 pub fn judge_heap_source<S: Source, K: Sink>(
     alloc: Global,
     report: bool,

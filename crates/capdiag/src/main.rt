@@ -1,5 +1,5 @@
-//! Says what is wrong with a log of what a program did with capabilities: judges it, and after a no reports what the
-//! machine held before the faulty line. Judges the log of an allocator: whether capabilities can guard its objects.
+//! Explains why a log was rejected: judges it, and after a `no` reports what the machine held before the faulty line.
+//! Also judges the log of an allocator: whether capabilities can guard its objects.
 #![tactic(auto)]
 
 mod explaining;

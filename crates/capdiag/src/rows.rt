@@ -1,9 +1,9 @@
 //! What the program prints for its words and its input, worked by hand. The tests of `run` go over these rows, and
 //! `examples/program/check.py` runs the built program for them.
 //!
-//! Each row has the words of one or more runs, each behind its exit status, with `''` for an empty word; the lines of
-//! the input behind `|`; those on standard output behind `=`, where `..` stands for any lines; and the line on standard
-//! error behind `!`. The input is standard input, and the file `log`. There is no file `gone`.
+//! Each row has the words of one or more runs, each after its exit status, with `''` for an empty word; the lines of
+//! the input after `|`; those on standard output after `=`, where `..` stands for any lines; and the line on standard
+//! error after `!`. The input is standard input, and the file `log`. There is no file `gone`.
 
 pub const ROWS: &str = r#"
 # words that have none of the forms

@@ -4,7 +4,7 @@ use crate::rows::ROWS;
 use crate::{Order, read_words, run};
 use std::alloc::{AllocError, Global};
 
-// The lines of a row behind a mark.
+// The lines of a row after a mark.
 fn lines_behind(alloc: Global, row: &str, mark: &str) -> Result<Vec<u8>, AllocError> {
     let mut text = Vec::new(alloc);
     for line in row.split('\n') {
@@ -16,7 +16,7 @@ fn lines_behind(alloc: Global, row: &str, mark: &str) -> Result<Vec<u8>, AllocEr
     Ok(text)
 }
 
-// The words of a line of a row, behind the status.
+// The words of a line of a row, after the status.
 fn words_of<'a>(alloc: Global, line: &'a str) -> Result<Vec<&'a str>, AllocError> {
     let mut words = Vec::new(alloc);
     for word in line.split(' ').skip(1) {

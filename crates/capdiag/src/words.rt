@@ -8,18 +8,19 @@ use cap_program::{is_operand, take_option};
 /// What the program was asked to do.
 #[derive(Debug, Clone, Copy, PartialEq, Eq)]
 pub enum Order<'a> {
-    /// `why [--origins] [FILE]`: judge the file, or standard input where no file is named, and report a no.
+    /// `why [--origins] [FILE]`: judge the file, or standard input where no file is named, and report a `no`.
     Why {
         /// Whether the root of each capability in the last state is asked for.
         origins: bool,
         /// The file's name, which does not begin with `-`.
         file: Option<&'a str>,
     },
-    /// `heap [--report] [--why] [FILE]`: judge the file, or standard input where no file is named, as an allocator's log.
+    /// `heap [--report] [--why] [FILE]`: judge the file, or standard input where no file is named, as an allocator's
+    /// log.
     Heap {
-        /// Whether after a yes the report is asked for.
+        /// Whether after a `yes` the report is asked for.
         report: bool,
-        /// Whether after a no the report is asked for.
+        /// Whether after a `no` the report is asked for.
         why: bool,
         /// The file's name, which does not begin with `-`.
         file: Option<&'a str>,

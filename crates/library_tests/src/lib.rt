@@ -1,6 +1,6 @@
-//! Tests of the libraries by their public calls: what no row of `worked` can say, as pulls, pushes and growths of
-//! memory that fail, and logs that are made as they are pulled. They stand apart from the crates that they test, so
-//! that these are proved once, and not once more with their tests.
+//! Tests of the libraries through their public calls, for what no row of `worked` can express: pulls, pushes and
+//! allocations that fail, and logs that are made as they are pulled. The tests are a crate of their own so that the
+//! crates they test are proved once, and not a second time with their tests.
 #![tactic(auto)]
 
 #[cfg(test)]

@@ -40,7 +40,7 @@ fn bytes_read_as_digits(rt: HostRuntime) {
     }
 }
 
-/// Whether the number of so many bytes at the front is taken as the plain reader reads it, with others behind
+/// Whether the number of so many bytes at the front is taken as the plain reader reads it, with others after
 /// its digits and with none.
 fn is_taken(text: &[u8; 32], size: u8) -> bool
     requires at_least { 1 ≤ size }
@@ -53,7 +53,7 @@ fn is_taken(text: &[u8; 32], size: u8) -> bool
     before_others == expected && alone == expected
 }
 
-// Each byte at each place among the digits and behind them.
+// Each byte at each place among the digits and after them.
 #[test]
 fn bytes_taken_as_digits(rt: HostRuntime) {
     for place in 0..16usize {

@@ -1,5 +1,5 @@
-//! The definitions of bounds and of roundings as plain programs, by divisions of signed numbers and by search, slow
-//! and short. Tests compare the fast ones with them.
+//! The definitions of bounds and roundings as plain programs, slow and short: by divisions of signed numbers and by
+//! search. Tests compare the fast functions with them.
 #![tactic(auto)]
 
 mod decoding;

@@ -106,7 +106,7 @@ impl Chains {
         link(&self.numbers, self.mask, &mut self.heads, &mut self.nexts);
     }
 
-    // Puts a number behind the others. Where they are half as many as the places, these are doubled first.
+    // Puts a number after the others. Where they are half as many as the places, these are doubled first.
     pub(crate) fn push(&mut self, number: u64)
         requires room { HasRoomFor self.old (length self.old.numbers.items + 1) }
         requires fits { length self.old.numbers.items < 4294967295 }
@@ -120,7 +120,7 @@ impl Chains {
         self.append(number);
     }
 
-    // Puts a number behind the others, and at the front of its chain.
+    // Puts a number after the others, and at the front of its chain.
     fn append(&mut self, number: u64)
         requires number { vec_len self.old.numbers < vec_capacity self.old.numbers }
         requires next { vec_len self.old.nexts < vec_capacity self.old.nexts }

@@ -1,4 +1,4 @@
-//! Tagged memory: stores of granules, each with a tag and sixteen bytes.
+//! Tagged memory: stores of granules, each granule with a tag and sixteen bytes.
 #![tactic(auto)]
 
 mod block;

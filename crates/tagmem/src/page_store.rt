@@ -14,12 +14,11 @@ use crate::room::make_room;
 use crate::store::{NoMemory, TaggedStore};
 use std::alloc::Global;
 
-/// A store that keeps its entries in pages: page `n` has the 256 granules from `256 * n` on. A put into a
-/// page that is there takes no memory, and a put that needs a new page changes nothing before it has all
-/// its memory.
+/// A store that keeps its entries in pages: page `n` has the 256 granules from `256 * n`. A put into an existing
+/// page allocates nothing. A put that needs a new page changes nothing until it has all its memory.
 ///
-/// A page is kept in 16 blocks of 16 granules, each of which has one that was put. The memory of its blocks
-/// is reserved with the page, and nothing is written to it before a block is there.
+/// A page has 16 blocks of 16 granules. The memory of all its blocks is reserved with the page. A block is made
+/// when one of its granules is put, and nothing is written to its memory before.
 #[derive(Drop)]
 pub struct PageStore {
     blocks: Vec<Block>,

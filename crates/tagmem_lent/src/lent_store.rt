@@ -29,12 +29,12 @@ impl Slot {
     };
 }
 
-/// A store that keeps its entries in slots that are lent to it, and takes no memory: a granule that is put for the first
-/// time gets `NoMemory` exactly where all slots are in use.
+/// A store that keeps its entries in lent slots, and never allocates. Putting a new granule fails with `NoMemory`
+/// if and only if all slots are in use.
 ///
-/// They stand in runs, each of them sorted: one for each digit of their number in base 16, of as many slots as the digit is
-/// worth. A new slot is merged with the runs that its carry joins. So a granule is found by a search in each run, and puts
-/// move, over all, each slot some 8 times for each digit, whatever the order in which granules come.
+/// The slots in use form sorted runs, one for each digit of their number in base 16; a run has as many slots as its
+/// digit is worth. A new slot is merged with the runs that its carry joins. So a granule is found by a search in
+/// each run, and in total each slot is moved about 8 times per digit, in whatever order granules come.
 #[derive(Drop)]
 pub struct LentStore<'a> {
     slots: &'a mut [Slot],
@@ -117,7 +117,7 @@ impl<'a> LentStore<'a> {
         self.slots[index] = slot;
     }
 
-    // Puts a slot of a granule that has none behind the others, and sorts the run that ends there now.
+    // Puts a slot of a granule that has none after the others, and sorts the run that ends there now.
     fn add(&mut self, slot: Slot) -> Result<(), NoMemory>
         requires stored { IsStored slot.granule (entry_of (listed_of slot)) }
         requires absent { IsUnused (in_use self.old) slot.granule }
@@ -291,7 +291,7 @@ fn last_at_most(run: &[Slot], granule: u64) -> usize
     start
 }
 
-// Puts a slot of a granule that has none behind those in use, and sorts the run that ends there now.
+// Puts a slot of a granule that has none after those in use, and sorts the run that ends there now.
 fn append(slots: &mut [Slot], used: usize, slot: Slot)
     requires free { used < length slots.old }
     requires few { used < 4294967295 }
@@ -313,7 +313,7 @@ fn append(slots: &mut [Slot], used: usize, slot: Slot)
     }
 }
 
-// Makes one run of the two at the front of slots. The slots behind them are overwritten.
+// Makes one run of the two at the front of slots. The slots after them are overwritten.
 fn merge(slots: &mut [Slot], middle: usize, end: usize)
     requires ordered { middle ≤ end }
     requires inside { end ≤ length slots.old }
@@ -330,7 +330,7 @@ fn merge(slots: &mut [Slot], middle: usize, end: usize)
     }
 }
 
-// Merges two runs from their ends on. The second goes behind them first, so that the place of the next slot is free.
+// Merges two runs from their ends on. The second goes after them first, so that the place of the next slot is free.
 fn merge_down(slots: &mut [Slot], middle: usize, end: usize)
     requires ordered { middle ≤ end }
     requires room { end + (end - middle) ≤ length slots.old }

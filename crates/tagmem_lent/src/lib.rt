@@ -1,4 +1,4 @@
-//! Tagged memory in slots that are lent: a store of `tagmem`'s kind that takes no memory.
+//! Tagged memory in lent slots: a `TaggedStore` of `tagmem` that never allocates.
 #![tactic(auto)]
 
 mod lent_store;

@@ -27,7 +27,7 @@ pub fn by_lines(alloc: Global, log: &[u8]) -> bool {
     true
 }
 
-// Whether a judge behind so many lines, on which there is this verdict, answers so.
+// Whether a judge after so many lines, on which there is this verdict, answers so.
 fn stands(
     judge: &Judge<PageStore>,
     verdict: Option<Verdict>,

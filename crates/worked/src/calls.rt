@@ -12,7 +12,7 @@ use crate::calls::lines::{line_answer, part_answer};
 use crate::calls::stores::stores_answer;
 use std::alloc::{AllocError, Global};
 
-/// Whether a call has the answer that is written behind it.
+/// Whether a call has the answer that is written after it.
 pub fn call_holds(alloc: Global, line: &str) -> Result<bool, AllocError> {
     let mut bytes = Vec::from_slice(alloc, line.as_bytes())?;
     for byte in bytes.iter_mut() {

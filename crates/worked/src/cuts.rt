@@ -5,7 +5,7 @@ use cap_judge::{Judge, Verdict, judge, judge_to};
 use cap_log::{Lines, Next, SliceSink, SliceSource};
 use std::alloc::Global;
 
-/// Whether a log with a yes has it, and its line, wherever it is cut: in one call, with its verdict written, and line
+/// Whether an accepted log has it, and its line, wherever it is cut: in one call, with its verdict written, and line
 /// by line.
 pub fn each_cut(alloc: Global, log: &[u8], verdict: Verdict, line: &[u8]) -> bool {
     for at in 1..log.len() {

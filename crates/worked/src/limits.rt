@@ -70,7 +70,7 @@ fn many_roots(alloc: Global, roots: u32, rest: &str) -> Result<Vec<u8>, AllocErr
     Ok(log)
 }
 
-// The first of 256 or 257 blocks and the one behind the last, the lines behind them, and the verdict.
+// The first of 256 or 257 blocks and the one after the last, the lines after them, and the verdict.
 const BLOCKS: [(u32, u32, &str, &str); 6] = [
     (0, 256, "end 65792\n", "yes 65792 1\n"),
     (0, 257, "", "no 65796 24 LimitPassed\n"),
@@ -103,7 +103,7 @@ const BLOCKS: [(u32, u32, &str, &str); 6] = [
     (1, 257, "store c1 2033 2 0000\n", "no 65795 20 Misaligned\n"),
 ];
 
-// How many roots, the lines behind them, and the verdict.
+// How many roots, the lines after them, and the verdict.
 const ROOTS: [(u32, &str, &str); 4] = [
     (4096, "end 0\n", "yes 0 4096\n"),
     (4097, "end 0\n", "no 4098 24 LimitPassed\n"),

@@ -1,16 +1,16 @@
-//! Makes worked calls of the libraries, judges worked logs and checks worked vector files in each way that there is, and
-//! names those that get another answer or text than is written behind them.
+//! Makes worked calls of the libraries, and judges worked logs and vector files in every way there is. Names each
+//! row that gets another answer or text than it states.
 //!
-//! A line of standard input behind `>` is a call: its name, its operands and its answer, with a bar between them. A
-//! word has 32 digits and a number sixteen; `~` stands for a line feed, and `^` for a carriage return. Where something
-//! is taken from the front of a text, the answer ends with what stands behind it, in brackets. Lines behind `:` say
+//! A line of standard input after `>` is a call: its name, its operands and its answer, with a bar between them. A
+//! word has 32 digits and a number sixteen; `~` stands for a line feed, and `^` for a carriage return. If a call
+//! takes something from the front of a text, the answer ends with what follows it, in brackets. Lines after `:` say
 //! what the calls below them are.
 //!
-//! Logs and vector files stand in rows with an empty line behind each. The first line of a row is a mark and a name:
-//! `#` or `*` for a log, `+` for a vector file. Then come its lines, each behind a mark: `|` for one that ends with a
-//! line feed, `~` for one that ends with a carriage return before it, and `!` for bytes without a line feed. Behind
-//! them stands the text, each line behind `=`: the verdict's line, and in a row with `*` also the origins after a yes,
-//! and the report on a no.
+//! Logs and vector files are rows, with an empty line after each. The first line of a row is a mark and a name: `#`
+//! or `*` for a log, `+` for a vector file. Then come its lines, each after a mark: `|` for one that ends with a
+//! line feed, `~` for one that ends with a carriage return before it, and `!` for bytes without a line feed. After
+//! them comes the text, each line after `=`: the verdict's line, and in a row with `*` also the origins after a
+//! `yes`, and the diagnosis.
 #![tactic(auto)]
 
 mod by_lines;

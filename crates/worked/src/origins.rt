@@ -9,7 +9,7 @@ use std::alloc::{AllocError, Global};
 use tagmem::ListStore;
 
 /// Whether a judge that tells origins tells this text of a log, in one piece and in pieces of one byte, with its
-/// granules in a list too, and with each pull and each push failing in turn; and whether, after a yes, a machine that
+/// granules in a list too, and with each pull and each push failing in turn; and whether, after a `yes`, a machine that
 /// takes the lines one by one has the same origins.
 pub fn origins_hold(alloc: Global, log: &[u8], text: &[u8]) -> Result<bool, AllocError> {
     Ok(
@@ -59,7 +59,7 @@ fn append_origins(machine: &Machine<ListStore>, out: &mut Vec<u8>) -> Result<(),
     Ok(())
 }
 
-// A machine that takes the lines of a log, one by one, has the origins that are told behind the verdict's line.
+// A machine that takes the lines of a log, one by one, has the origins that are told after the verdict's line.
 fn by_stepping(alloc: Global, log: &[u8], text: &[u8]) -> Result<bool, AllocError> {
     let mut machine = Machine::new(empty_list(alloc));
     for line in log.split(|byte| *byte == b'\n') {

@@ -50,7 +50,7 @@ pub fn over_a_list(alloc: Global, log: &[u8], verdict: Verdict) -> bool {
     judge_in(&mut SliceSource::new(log, &[]), empty_list(alloc)) == Ok(verdict)
 }
 
-/// Whether each beginning of a log that has a yes is cut, in the line that its bytes end in.
+/// Whether each beginning of an accepted log is cut, in the line that its bytes end in.
 pub fn cut(alloc: Global, log: &[u8]) -> bool {
     let mut line = 1u64;
     for at in 0..log.len() {
@@ -65,7 +65,7 @@ pub fn cut(alloc: Global, log: &[u8]) -> bool {
     true
 }
 
-/// Whether any byte that follows a short log that has a yes is misplaced on the line after the last.
+/// Whether any byte that follows a short accepted log is misplaced on the line after the last.
 pub fn longer(alloc: Global, log: &[u8]) -> bool {
     let feeds = log.iter().filter(|byte| **byte == b'\n').count();
     let line = (feeds as u64).saturating_add(1);

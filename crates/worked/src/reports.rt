@@ -1,4 +1,4 @@
-//! The reports on a no.
+//! The diagnoses.
 
 use crate::pieces::empty_list;
 use cap_judge::{Judge, JudgeToFault, Stop, judge_bytes, judge_origins};
@@ -6,9 +6,9 @@ use cap_log::{FailingSink, FailingSource, SliceSink, SliceSource};
 use cap_report::{judge_why, judge_why_bytes, judge_why_in, push_refused};
 use std::alloc::{AllocError, Global};
 
-/// Whether a judge that explains a no tells this text of a log, in one piece and in pieces of one byte, with its
-/// granules in a list too, of the bytes where they lie, by a judge that took its lines, and with each pull and each push
-/// failing in turn.
+/// Whether a judge that explains a `no` tells this text of a log, in one piece and in pieces of one byte, with its
+/// granules in a list too, of the bytes where they lie, by a judge that took its lines, and with each pull and each
+/// push failing in turn.
 pub fn report_holds(alloc: Global, log: &[u8], text: &[u8]) -> Result<bool, AllocError> {
     Ok(
         is_told(alloc, log, 512, text)?
@@ -49,7 +49,7 @@ fn is_told_of_bytes(alloc: Global, log: &[u8], text: &[u8]) -> bool {
     answer.ok() == judge_bytes(alloc, log).ok() && taken == text.len() && room.starts_with(text)
 }
 
-// Where a line is at fault it is told, and where the last one is cut nothing.
+// Where a line is faulty it is told, and where the last one is cut nothing.
 fn is_told_by_lines(alloc: Global, log: &[u8], text: &[u8]) -> bool {
     let mut judge = Judge::over_pages(alloc);
     let is_at_fault = judge.take(log).stop == Stop::Fault;

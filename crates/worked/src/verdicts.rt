@@ -24,7 +24,7 @@ pub fn line_behind(text: &[u8], from: usize) -> &[u8] {
 
 /// Whether the verdict on a log has this line, and is the same in pieces of one byte, and with its granules in a
 /// list. A short log also comes in pieces of up to eight bytes, and in pieces of one byte with each pull failing in
-/// turn, and line by line, and, with a yes, in two pieces, cut off, and with a byte more, each at each place.
+/// turn, and line by line, and, with a `yes`, in two pieces, cut off, and with a byte more, each at each place.
 pub fn verdict_holds(
     alloc: Global,
     log: &[u8],

@@ -6,9 +6,9 @@ use cap_heap::{
 };
 use std::alloc::{AllocError, Global};
 
-/// Whether the events of a log, taken one by one, come to the same end as its judge: each happens up to the line at fault,
-/// which is refused for the verdict's reason, and so many live after a yes. What overlaps a request is named exactly where
-/// it is refused for that.
+/// Whether the events of a log, taken one by one, come to the same end as its judge: each happens up to the faulty
+/// line, which is refused for the verdict's reason, and so many live after a `yes`. What overlaps a request is named
+/// exactly where it is refused for that.
 pub fn events_hold(alloc: Global, log: &[u8], verdict: HeapVerdict) -> Result<bool, AllocError> {
     apart_is_guarded();
     logs_have_no_fault();
@@ -73,7 +73,7 @@ fn ended(heap: &Heap, verdict: HeapVerdict) -> bool {
     }
 }
 
-// Whether a verdict is a no of an event.
+// Whether a verdict is a `no` of an event.
 fn is_of_event(verdict: HeapVerdict) -> bool {
     match verdict {
         HeapVerdict::Yes { .. } => true,
@@ -87,7 +87,7 @@ fn is_of_event(verdict: HeapVerdict) -> bool {
     }
 }
 
-/// Whether the lines of a report are written behind what a buffer has.
+/// Whether the lines of a report are written after what a buffer has.
 pub fn report_holds() -> bool {
     let report = HeapReport {
         objects: 1,

@@ -1,8 +1,8 @@
-//! Judges worked logs of allocators in each way that there is, and names those that get another verdict than is written
-//! before them.
+//! Judges worked logs of allocators in every way there is, and names those that get another verdict than their row
+//! states.
 //!
-//! A line of standard input is a row: the line of a verdict, and maybe a report behind it, a bar, and a log; `;` stands for
-//! a line feed. A line behind `#` says what the rows below it show.
+//! A line of standard input is a row: a verdict line, possibly with a report after it, a bar, and a log; `;` stands
+//! for a line feed. A line after `#` says what the rows below it show.
 #![tactic(auto)]
 
 mod events;

@@ -8,9 +8,9 @@ use cap_heap::{
 use cap_log::{FailingSink, FailingSource, SliceSink, SliceSource};
 use std::alloc::{AllocError, Global};
 
-/// Whether a log has the verdict that a text shows, whole and in pieces of up to eight bytes, with each pull and each push
-/// failing in turn, and, with a yes, cut and with a byte more. Where the text has more lines, they are the report. In both
-/// `;` stands for a line feed.
+/// Whether a log has the verdict that a text shows, whole and in pieces of up to eight bytes, with each pull and each
+/// push failing in turn, and, with a `yes`, cut and with a byte more. Where the text has more lines, they are the
+/// report. In both `;` stands for a line feed.
 pub fn row_holds(alloc: Global, told: &[u8], row: &[u8]) -> Result<bool, AllocError> {
     let log = with_feeds(alloc, row)?;
     let told = with_feeds(alloc, told)?;
@@ -54,8 +54,8 @@ fn with_feeds(alloc: Global, row: &[u8]) -> Result<Vec<u8>, AllocError> {
     Ok(text)
 }
 
-// Whether what judges that report write of a log begins with this text, and nothing is behind it where it is a report; and
-// whether they write the line of the verdict alone where the other one's report is asked for.
+// Whether what judges that report write of a log begins with this text, and nothing is after it where it is a report;
+// and whether they write the line of the verdict alone where the other one's report is asked for.
 fn report_holds(alloc: Global, log: &[u8], told: &[u8]) -> bool {
     let line = told.split(|byte| *byte == b'\n').next().unwrap_or(&[]);
     let is_yes = told.starts_with(b"yes");
@@ -81,8 +81,8 @@ fn report_holds(alloc: Global, log: &[u8], told: &[u8]) -> bool {
     answer.is_ok() && sink.taken() == told && other[..told] == room[..told]
 }
 
-// Whether a log in pieces of one byte, of which each pull fails in turn, has no verdict up to some pull, and the verdict
-// for each later one.
+// Whether a log in pieces of one byte, of which each pull fails in turn, has no verdict up to some pull, and the
+// verdict for each later one.
 fn each_pull(alloc: Global, log: &[u8], verdict: HeapVerdict) -> Result<bool, AllocError> {
     let lengths = vec![in alloc; 1usize; log.len()]?;
     let mut is_reached = false;
@@ -98,8 +98,8 @@ fn each_pull(alloc: Global, log: &[u8], verdict: HeapVerdict) -> Result<bool, Al
     Ok(is_reached)
 }
 
-// Whether each push that fails ends a judge that writes with a fault, and what the sink has then is a beginning of the line,
-// and whether a later one is never made.
+// Whether each push that fails ends a judge that writes with a fault, and what the sink has then is a beginning of
+// the line, and whether a later one is never made.
 fn each_push(alloc: Global, log: &[u8], verdict: HeapVerdict, line: &[u8]) -> bool {
     for at in 0..3u64 {
         let mut room = [b'.'; 64];
@@ -117,7 +117,7 @@ fn each_push(alloc: Global, log: &[u8], verdict: HeapVerdict, line: &[u8]) -> bo
     true
 }
 
-// Whether each beginning of a log that has a yes is cut, in the line that its bytes end in.
+// Whether each beginning of an accepted log is cut, in the line that its bytes end in.
 fn cut(alloc: Global, log: &[u8]) -> bool {
     let refusal = HeapRefusal::Truncated;
     let mut line = 1u64;
@@ -133,7 +133,7 @@ fn cut(alloc: Global, log: &[u8]) -> bool {
     true
 }
 
-// Whether any byte that follows a log that has a yes is misplaced on the line after the last.
+// Whether any byte that follows an accepted log is misplaced on the line after the last.
 fn longer(alloc: Global, log: &[u8]) -> Result<bool, AllocError> {
     let feeds = log.iter().filter(|byte| **byte == b'\n').count();
     let line = (feeds as u64).saturating_add(1);

@@ -3,7 +3,7 @@
 ghost use Rattle.std.specs.Prelude.{◌≡◌, ◌∷◌, ◌++◌, IfNone, IfSome};
 ghost use Rattle.cap_log.specs.Parts.{BeginsWithout};
 
-/// What stands behind a text at the front of some bytes and the byte that ends it, or `None` where they
+/// What follows a text at the front of some bytes and the byte that ends it, or `None` where they
 /// do not stand there.
 #[inline(always)]
 pub fn behind<'a, const N: usize>(bytes: &'a [u8], text: &[u8; N], end: u8) -> Option<&'a [u8]>

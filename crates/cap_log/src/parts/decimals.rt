@@ -57,7 +57,7 @@ pub fn take_decimal<const MOST: usize, const LEAST: u64, const BOUND: u64>(
     Some((value as u32, &bytes[count + 1..]))
 }
 
-// Whether so many digits, of which this is the first, are a number's, where the byte behind them ends it or
+// Whether so many digits, of which this is the first, are a number's, where the byte after them ends it or
 // not, and it lies in its range or not.
 #[inline(always)]
 fn is_number(first: u8, count: usize, is_ended: bool, is_in_range: bool) -> bool

@@ -129,7 +129,7 @@ impl Part for Place {
     }
 }
 
-// Takes a register's name and the byte that ends it: the register's number, and what stands behind that byte.
+// Takes a register's name and the byte that ends it: the register's number, and what follows that byte.
 #[inline(always)]
 fn take_number(bytes: &[u8], end: u8) -> Option<(u8, &[u8])>
     requires { IsEnd end }

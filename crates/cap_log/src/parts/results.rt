@@ -12,7 +12,7 @@ use cap_word::{Cap, Word, read_word, word_text};
 /// How many digits a word has.
 const WORD_DIGITS: usize = 32;
 
-/// A result's word begins behind so many bytes: `= `, a tag and a space.
+/// A result's word begins after so many bytes: `= `, a tag and a space.
 const WORD_START: usize = 4;
 
 /// How many bytes a result has. The byte that ends it is looked at first, so that those before it are known

@@ -122,8 +122,7 @@ fn fits(size: Size, value: u64) -> bool
     }
 }
 
-/// What stands at the end of a load's or a store's line: the size, `= ` where it is a load's, and the value's
-/// digits.
+/// The end of a load's or a store's line: the size, `= ` for a load, and the digits of the value.
 #[derive(Clone, Copy)]
 pub struct Accessed<const IS_LOAD: bool>(pub Datum);
 

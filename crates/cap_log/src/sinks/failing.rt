@@ -17,7 +17,7 @@ pub struct FailingSink<K: Sink> {
 }
 
 impl<K: Sink> FailingSink<K> {
-    /// The inner sink, but for push number `at`, counted from 0: that one fails without asking it.
+    /// The inner sink, except push number `at`, counted from 0: that one fails without asking it.
     pub fn new(inner: K, at: u64) -> FailingSink<K>
         ensures inner { inner_sink result ≡ inner }
         ensures waits { pushes_left result ≡ Some at }

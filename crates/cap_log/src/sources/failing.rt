@@ -19,7 +19,7 @@ pub struct FailingSource<S: Source> {
 }
 
 impl<S: Source> FailingSource<S> {
-    /// The inner source, but for pull number `at`, counted from 0: that one fails without asking it.
+    /// The inner source, except pull number `at`, counted from 0: that one fails without asking it.
     pub fn new(inner: S, at: u64) -> FailingSource<S>
         ensures inner { inner_source result ≡ inner }
         ensures waits { pulls_left result ≡ Some at }

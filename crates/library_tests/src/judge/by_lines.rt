@@ -48,7 +48,7 @@ fn behind(rt: &impl Abort, alloc: Global, lines: &[&[u8]]) -> Judge<PageStore> {
     judge
 }
 
-// What the machine holds behind a line, and before a line at fault.
+// What the machine holds after a line, and before a faulty line.
 #[test]
 fn what_the_machine_holds(rt: HostRuntime) {
     let root = Word(0xffff_1fff_fc01_8004_0000_0000_0000_0000);
@@ -97,7 +97,7 @@ fn number_in(expected: Expected) -> Option<(u64, u8)> {
     }
 }
 
-// What the rules give for a line that records another result: nothing before it, and the same behind further lines.
+// What the rules give for a line that records another result: nothing before it, and the same after further lines.
 #[test]
 fn what_the_rules_give(rt: HostRuntime) {
     let mut judge = behind(

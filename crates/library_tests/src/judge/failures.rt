@@ -107,7 +107,7 @@ fn each_pull_up_to_a_line_that_is_too_long(rt: HostRuntime) {
     pulls(&rt, rt.alloc(), &log, 11 + 96, verdict);
 }
 
-// Behind the end line, up to 95 bytes without a line feed are not yet a line: the answer waits for more.
+// After the end line, up to 95 bytes without a line feed are not yet a line: the answer waits for more.
 // With 96 it is there before any further pull.
 #[test]
 fn a_fault_behind_the_end_line(rt: HostRuntime) {
@@ -193,7 +193,7 @@ fn each_growth(rt: HostRuntime) {
     }
 }
 
-// A fault behind the line whose memory is refused is not looked for.
+// A fault after the line whose memory is refused is not looked for.
 #[test]
 fn each_growth_up_to_the_first_fault(rt: HostRuntime) {
     let log = b"capcheck 1\n\

@@ -1,10 +1,10 @@
-//! What is told after a yes, and of any bytes.
+//! What is told after a `yes`, and of any bytes.
 
 use cap_judge::Verdict;
 use cap_log::{SliceSink, SliceSource};
 use cap_report::judge_why;
 
-// After a yes nothing is explained, and the origins come where they are asked for.
+// After a `yes` nothing is explained, and the origins come where they are asked for.
 #[test]
 fn texts_after_a_yes(rt: HostRuntime) {
     let log = b"capcheck 1\nroot c1 ffff1ffffc0180040000000000000000\nend 0\n";

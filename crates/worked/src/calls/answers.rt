@@ -25,7 +25,7 @@ pub fn word_answer(alloc: Global, found: Option<Word>) -> Result<String, AllocEr
     }
 }
 
-/// A number by its digits, and what stands behind it.
+/// A number by its digits, and what follows it.
 pub fn number_taken(alloc: Global, found: Option<(u128, &[u8])>) -> Result<String, AllocError> {
     match found {
         Some((number, rest)) => {
@@ -36,7 +36,7 @@ pub fn number_taken(alloc: Global, found: Option<(u128, &[u8])>) -> Result<Strin
     }
 }
 
-/// A value, and what stands behind it.
+/// A value, and what follows it.
 pub fn taken<T: Debug + Drop>(
     alloc: Global,
     found: Option<(T, &[u8])>,

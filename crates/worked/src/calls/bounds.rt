@@ -10,7 +10,7 @@ use cap_word::{
 };
 use std::alloc::{AllocError, Global};
 
-// A word, and the numbers behind it.
+// A word, and the numbers after it.
 struct Operands {
     word: Word,
     numbers: [u64; 3],

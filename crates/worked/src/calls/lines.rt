@@ -49,7 +49,7 @@ fn line_read(alloc: Global, text: &[u8]) -> Result<String, AllocError> {
     }
 }
 
-// What stands behind the head that the first operand spells.
+// What follows the head that the first operand spells.
 fn operands_taken(alloc: Global, operands: &[&[u8]], text: &[u8]) -> Result<String, AllocError> {
     match Head::take(operands.first().copied().unwrap_or(b""), b'\n') {
         Some((head, _)) => match take_operands(head, text) {
@@ -60,7 +60,7 @@ fn operands_taken(alloc: Global, operands: &[&[u8]], text: &[u8]) -> Result<Stri
     }
 }
 
-// The line at the front of a text, and what stands behind it.
+// The line at the front of a text, and what follows it.
 fn line_taken(alloc: Global, text: &[u8]) -> Result<String, AllocError> {
     match take_line(text) {
         Some((line, rest)) => shown(alloc, &line, rest),
@@ -68,7 +68,7 @@ fn line_taken(alloc: Global, text: &[u8]) -> Result<String, AllocError> {
     }
 }
 
-// A line, and what stands behind it.
+// A line, and what follows it.
 fn shown(alloc: Global, line: &Line, rest: &[u8]) -> Result<String, AllocError> {
     let rest = String::from_utf8_lossy(alloc, rest)?;
     format!(in alloc; "{line:?} [{rest}]")
