@@ -9,7 +9,7 @@ all that it prints; a line `..` stands for any lines. A page's commands run one 
 own, in which the tree's files stand by their names. Other commands of the pages are those of ELSEWHERE, which says
 where each is run. Rows that give the verdict of an example or of a log are judged too, blocks that show a file of the
 tree are compared with it, each link has to lead to a file and a heading, and `judge/heap.c` has to have as many lines
-as is said. The phrases of PHRASES are looked for in the pages, the manual pages, the headers, and the comments of the
+as is said. The manual pages and the changelog have to have the header's version. The phrases of PHRASES are looked for in the pages, the manual pages, the headers, and the comments of the
 crates and of the C examples; text in code font isn't read. The status is 1 where anything differs."""
 import glob
 import os
@@ -23,7 +23,7 @@ ROOT = os.path.join(os.path.dirname(os.path.abspath(__file__)), "..")
 os.chdir(ROOT)
 ROOT = os.getcwd()
 PAGES = ["README.md", "CONTRIBUTING.md", "docs/FIRST_HOUR.md", "docs/FORMAT.md", "docs/WORDS.md", "docs/MACHINE.md", "docs/RECORDING.md"]
-PAGES += ["docs/ALLOCATORS.md", "docs/STANDARD.md", "docs/C.md", "docs/PROOFS.md", "docs/DECISIONS.md", "docs/INTERNALS.md", "examples/README.md", "web/README.md", "bench/README.md"]
+PAGES += ["docs/ALLOCATORS.md", "docs/STANDARD.md", "docs/C.md", "docs/GLOSSARY.md", "docs/PROOFS.md", "docs/DECISIONS.md", "docs/INTERNALS.md", "CHANGELOG.md", "examples/README.md", "web/README.md", "bench/README.md"]
 
 # Commands that no session runs, and where they are run.
 ELSEWHERE = {
@@ -64,6 +64,12 @@ PHRASES = {
     r"room to room|(?:a|the) tree before": "CHANGELOG.md, for what was before",
 }
 COMMAND = re.compile(r"(\$|cc|sh|bash|cd|rt|python3|capcheck|capdiag|make|cat|git) ")
+
+# How a block of a page is run, by the word of its fence.
+PROGRAMS = {
+    "python": "python3 block.python",
+    "c": "cc -x c block.c $(pkg-config --cflags --libs capcheck) -o block && ./block",
+}
 
 # Files of the tree that pages show whole.
 SHOWN = {
@@ -121,6 +127,7 @@ def run(command, folder, given=None):
 def place(work):
     """A folder in which the tree's files stand by their names, and a home in which what is built is installed."""
     os.environ.update(HOME=f"{work}/home", LD_LIBRARY_PATH=f"{work}/home/.local/lib", PATH=f"{work}/home/.local/bin:{os.environ['PATH']}")
+    os.environ.update(PKG_CONFIG_PATH=f"{work}/home/.local/lib/pkgconfig")
     subprocess.run(["sh", "install.sh", f"{work}/home/.local"], check=True, stdout=subprocess.DEVNULL)
     folder = f"{work}/tree"
     os.makedirs(folder)
@@ -183,16 +190,18 @@ def shown(page, text):
     return wrong, len(SHOWN.get(page, []))
 
 
-def python(page, text, folder):
-    """Runs the blocks of Python over the shared library, each with what the page says that it prints."""
+def programs(page, text, folder):
+    """Runs the blocks of Python and C that a sentence follows, "It prints `..`", over the installed libraries."""
     wrong, count = [], 0
     for first, word, lines in blocks(text):
-        if word != "python":
+        m = re.match(r"```\n\nIt prints `([^`]+)`", text[text.index("\n".join(lines)) + len("\n".join(lines)) + 1 :])
+        if not m or word not in PROGRAMS:
             continue
         count += 1
-        m = re.search(r"```\n\nIt prints `([^`]+)`", text[text.index("\n".join(lines)) :])
-        given = subprocess.run([sys.executable, "-c", "\n".join(lines)], cwd=folder, stdout=subprocess.PIPE, stderr=subprocess.STDOUT, text=True).stdout
-        if not m or given != f"{m[1]}\n":
+        with open(f"{folder}/block.{word}", "w", encoding="utf-8") as it:
+            it.write("\n".join([*lines, ""]))
+        given = run(PROGRAMS[word], folder)
+        if given != f"{m[1]}\n":
             wrong.append(f"{page}:{first}: the block prints\n{given}")
     return wrong, count
 
@@ -258,8 +267,22 @@ def phrases(path):
             yield f"{path}:{text.count(chr(10), 0, m.start()) + 1}: '{' '.join(m[0].split())}': {better}"
 
 
+def versions():
+    """The places whose version isn't that of the header."""
+    with open("include/capcheck.h", encoding="utf-8") as it:
+        header = it.read()
+    number, version = int(re.search(r"CAPCHECK_VERSION (\d+)", header)[1]), re.search(r'VERSION_STRING "([^"]+)"', header)[1]
+    if f"{number // 10000}.{number // 100 % 100}." != version[: version.rindex(".") + 1]:
+        yield f"include/capcheck.h: CAPCHECK_VERSION is {number}, and the version as text {version}"
+    for path, form in (("docs/capcheck.1", r'"capcheck (\S+)"'), ("docs/capdiag.1", r'"capcheck (\S+)"'), ("CHANGELOG.md", r"(?m)^## (\d\S*)")):
+        with open(path, encoding="utf-8") as it:
+            found = re.search(form, it.read())
+        if not found or found[1] != version:
+            yield f"{path}: the version isn't {version}, as include/capcheck.h has it"
+
+
 def main(pages):
-    wrong, count = [], 0
+    wrong, count = [*versions()], 0
     read = [it for it in PAGES if it != "docs/STANDARD.md"] + glob.glob("docs/*.1") + glob.glob("include/*.h") + glob.glob("judge/*.c")
     for path in pages or sorted([*read, *glob.glob("crates/*/src/**/*.rt", recursive=True), *glob.glob("examples/*/*.c")]):
         wrong += phrases(path)
@@ -271,7 +294,7 @@ def main(pages):
             with tempfile.TemporaryDirectory(dir=work) as room:
                 folder = f"{room}/tree"
                 shutil.copytree(tree, folder, symlinks=True)
-                for bad, tried in (sessions(page, text, folder), rows(page, text, folder), shown(page, text), python(page, text, folder), links(page, text), counted(page, text)):
+                for bad, tried in (sessions(page, text, folder), rows(page, text, folder), shown(page, text), programs(page, text, folder), links(page, text), counted(page, text)):
                     wrong += bad
                     count += tried
     print("\n".join([*wrong, f"{count} commands, rows, files and links of the pages tried, {len(wrong)} otherwise than the pages say"]))
