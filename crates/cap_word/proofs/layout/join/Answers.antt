@@ -10,6 +10,20 @@ bit_of-le false = omega arith
 pub returns-clause-word : goal.returns-clause-word
 returns-clause-word c =
     let given = c.args.fields.now in
-    omega (arith, bit_of-le given.flag, bit_of-le given.ie, and_mask given.e 3, c.fits-fields, c.from.ensures, c.from-2.ensures,
-    c.from-3.ensures, c.from-4.ensures, c.from-ie.ensures, c.from-t_field.ensures, c.from-5.ensures, c.from-b_field.ensures,
-    c.from-6.ensures, c.from-7.ensures)
+    omega (
+      arith,
+      bit_of-le given.flag,
+      bit_of-le given.ie,
+      and_mask given.e 3,
+      c.fits-fields,
+      c.from.ensures,
+      c.from-2.ensures,
+      c.from-3.ensures,
+      c.from-4.ensures,
+      c.from-ie.ensures,
+      c.from-t_field.ensures,
+      c.from-5.ensures,
+      c.from-b_field.ensures,
+      c.from-6.ensures,
+      c.from-7.ensures,
+    )
