@@ -1,0 +1,66 @@
+#!/usr/bin/env python3
+"""Judges logs with `capcheck` and with the baseline, a judge in plain Rust that proves nothing, and compares their times.
+
+    python3 bench/ratio.py LOG.. [--rounds N] [--program PATH]
+
+The two programs run in turns, fifteen rounds unless N is given. A row says for each log what `capcheck` takes for a line
+at least, in ns of CPU time, its throughput, where 1.00 is the baseline's, and the greatest memory of both. The last line is
+the geometric mean of the throughputs. It needs `cargo`, and builds the baseline in bench/out."""
+import argparse
+import math
+import os
+import resource
+import subprocess
+import sys
+
+TOP = os.path.join(os.path.dirname(os.path.abspath(__file__)), "..")
+OUT = f"{TOP}/bench/out/baseline"
+
+
+def built():
+    manifest = f"{TOP}/bench/baseline/Cargo.toml"
+    subprocess.run(["cargo", "build", "--quiet", "--release", "--manifest-path", manifest, "--target-dir", OUT], check=True)
+    return f"{OUT}/release/baseline"
+
+
+def once(program, log):
+    """The CPU time of one run, and its verdict."""
+    before = resource.getrusage(resource.RUSAGE_CHILDREN)
+    said = subprocess.run([program, "judge", log], capture_output=True, text=True).stdout
+    after = resource.getrusage(resource.RUSAGE_CHILDREN)
+    return after.ru_utime + after.ru_stime - before.ru_utime - before.ru_stime, said
+
+
+def peak(program, log):
+    """The greatest memory of one run, in units of 10^6 bytes."""
+    ran = subprocess.run(["/usr/bin/time", "-f", "%M", program, "judge", log], capture_output=True, text=True)
+    return int(ran.stderr.strip().split("\n")[-1]) * 1024 / 1e6
+
+
+def main(words):
+    parser = argparse.ArgumentParser(usage=__doc__)
+    parser.add_argument("logs", nargs="+")
+    parser.add_argument("--rounds", type=int, default=15)
+    parser.add_argument("--program", default=f"{TOP}/crates/capcheck/out/capcheck")
+    given = parser.parse_args(words)
+    programs, ratios = [given.program, built()], []
+    for log in given.logs:
+        times, verdicts = [[], []], [set(), set()]
+        for _ in range(given.rounds):
+            for at, program in enumerate(programs):
+                time, verdict = once(program, log)
+                times[at].append(time)
+                verdicts[at].add(verdict)
+        if verdicts[0] != verdicts[1]:
+            print(f"{log}: the verdicts differ: {verdicts}")
+            return 1
+        with open(log, "rb") as it:
+            lines = sum(1 for _ in it)
+        own, other = map(min, times)
+        ratios.append(other / own)
+        print(f"{os.path.basename(log):24} {1e9 * own / lines:6.0f} ns a line  {other / own:5.2f}  {peak(programs[0], log):6.1f} MB, the baseline {peak(programs[1], log):6.1f} MB", flush=True)
+    print(f"geometric mean {math.exp(sum(map(math.log, ratios)) / len(ratios)):.2f}")
+    return 0
+
+
+sys.exit(main(sys.argv[1:]))
