@@ -1,6 +1,5 @@
 -- What a judge answers on all the bytes of a log.
-use Rattle.std.proofs.Common.{◌≡◌, ◌≢◌, ℕ, List, [], ◌++◌, true, sym, ap, subst, ◌∙◌, append-nil, arith, refl, Result, Ok, Err, take, drop}
-use Rattle.std.specs.Prelude.{IfErr}
+use Rattle.std.proofs.Common.{◌≡◌, ◌≢◌, ℕ, List, [], ◌++◌, true, sym, ap, subst, ◌∙◌, append-nil, arith, Result, Ok, Err, take, drop}
 use Rattle.std.proofs.lemmas.List.{take-append-drop}
 use Rattle.std.proofs.lemmas.List.Elements.{All-nil}
 use Rattle.cap_log.specs.Front.{IsCut}
@@ -8,10 +7,10 @@ use Rattle.cap_machine.specs.Helds.{Held}
 use Rattle.cap_judge.specs.declared.judges.Stop.TheVariants as stops
 use Rattle.cap_judge.specs.declared.faults.Fault.{Fault}
 use Rattle.cap_judge.specs.declared.verdict.JudgeFault.{JudgeFault}
-use Rattle.cap_judge.specs.declared.verdict.JudgeFault.TheVariants.{NoMemory, Pull}
+use Rattle.cap_judge.specs.declared.verdict.JudgeFault.TheVariants.{NoMemory}
 use Rattle.cap_judge.specs.declared.verdict.Verdict.{Verdict}
 use Rattle.cap_judge.specs.declared.verdict.Verdict.TheVariants.{Yes, No}
-use Rattle.cap_judge.specs.Judgings.{IsFaultOf, JudgedAll, StopsBefore}
+use Rattle.cap_judge.specs.Judgings.{JudgedAll, StopsBefore}
 use Rattle.cap_judge.specs.Readings.{EndsWith, IsAnswered, Known, Read, StopsAt}
 use Rattle.cap_judge.specs.Verdicts.{IsFault}
 use Rattle.cap_judge.proofs.SourceLemmas.{answer_memory, answer_ok}
@@ -54,10 +53,3 @@ all_lack bytes text held lack = record {
   stops = tt;
   pulls_nothing = λ e. cc;
 }
-
--- there is no verdict only for want of memory
-pub all_fault : (bytes : List ℕ) (answer : Result Verdict JudgeFault) → IfErr answer (IsFaultOf bytes) → answer ≢ Err Pull
-    → IfErr answer (IsFault bytes)
-all_fault bytes (Ok verdict) fault pulled = tt
-all_fault bytes (Err Pull) fault pulled = absurd (pulled refl)
-all_fault bytes (Err NoMemory) fault pulled = fault

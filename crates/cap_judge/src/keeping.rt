@@ -1,4 +1,4 @@
-//! Judging bytes in memory where the machine of the judge is kept.
+//! Judging bytes in memory all at once, where the machine of the judge is kept.
 
 ghost use Rattle.std.specs.Prelude.{◌≡◌, []};
 ghost use Rattle.std.specs.FinMap as map;

@@ -14,9 +14,8 @@ ghost use Rattle.cap_judge.specs.declared.verdict.JudgeFault.TheVariants.{Pull};
 use crate::fault_lines::FaultLine;
 use crate::faults::Fault;
 use crate::judges::{Judge, Stop};
-use crate::keeping::judge_bytes_keeping;
 use crate::verdict::{JudgeFault, Verdict};
-use cap_log::{PullFault, Pulled, Source};
+use cap_log::{PullFault, Pulled, SliceSource, Source};
 use cap_machine::Machine;
 use std::alloc::Global;
 use tagmem::{PageStore, TaggedStore};
@@ -39,7 +38,7 @@ pub fn judge_bytes(alloc: Global, bytes: &[u8]) -> Result<Verdict, JudgeFault>
     ensures fault { IfErr result (IsFault bytes.now) }
     ensures answers { NamesNoGranules bytes.now → IsOk result }
 {
-    judge_bytes_keeping(bytes, PageStore::new(alloc)).answer
+    judge(alloc, &mut SliceSource::new(bytes, &[]))
 }
 
 /// Judges the bytes that a source gives, each line as soon as it is there. It is `Yes` exactly where they

@@ -1,3 +1,4 @@
+pub mod AnswerLemmas
 mod DetailLemmas
 mod StepLemmas
 pub mod TextLemmas

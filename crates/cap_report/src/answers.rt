@@ -1,9 +1,11 @@
 //! What the judge answers to C: structs of plain numbers.
 
 ghost use Rattle.std.specs.Prelude.{◌≡◌};
-ghost use Rattle.cap_report.specs.Answers.{numbers_of, without_verdict};
+ghost use Rattle.std.specs.FinMap as map;
+ghost use Rattle.cap_report.specs.Answers.{AnswersBytes, NamesEscapesIn, numbers_of, without_verdict};
 
-use cap_judge::Verdict;
+use cap_judge::{Verdict, judge_bytes_keeping};
+use tagmem::TaggedStore;
 
 /// The state of lines of which none is faulty so far.
 pub const GOES_ON: u8 = 0;
@@ -38,6 +40,19 @@ pub struct Answer {
     pub state: u8,
     /// After a `no` the number of the refusal, 1 to 25, else 0.
     pub refusal: u8,
+}
+
+/// The answer on the bytes of a log, by a judge over a store that is empty.
+#[inline(always)]
+pub fn answer_on<M: TaggedStore>(bytes: &[u8], memory: M) -> Answer
+    requires { map.len (M.contents memory) ≡ 0 }
+    ensures answer { AnswersBytes bytes.now result }
+    ensures escape { NamesEscapesIn result }
+{
+    match judge_bytes_keeping(bytes, memory).answer {
+        Ok(verdict) => numbers_of(verdict),
+        Err(_) => without_verdict(NO_MEMORY),
+    }
 }
 
 /// A verdict as C gets it.

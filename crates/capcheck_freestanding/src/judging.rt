@@ -2,8 +2,7 @@
 
 ghost use Rattle.cap_report.specs.Answers.{AnswersBytes, NamesEscapesIn};
 
-use cap_judge::judge_bytes_keeping;
-use cap_report::answers::{Answer, NO_MEMORY, numbers_of, without_verdict};
+use cap_report::answers::{Answer, answer_on};
 use tagmem_lent::{LentStore, Slot};
 
 /// Judges the bytes of a log, as `capcheck judge` does: it is a `yes` exactly for a log whose steps have a run from
@@ -14,8 +13,5 @@ pub extern "C" fn capcheck_judge_bytes_in(bytes: &[u8], slots: &mut [Slot]) -> A
     ensures answer { AnswersBytes bytes.now result }
     ensures escape { NamesEscapesIn result }
 {
-    match judge_bytes_keeping(bytes, LentStore::new(slots)).answer {
-        Ok(verdict) => numbers_of(verdict),
-        Err(_) => without_verdict(NO_MEMORY),
-    }
+    answer_on(bytes, LentStore::new(slots))
 }

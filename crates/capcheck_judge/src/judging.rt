@@ -2,9 +2,9 @@
 
 ghost use Rattle.cap_report.specs.Answers.{AnswersBytes, NamesEscapesIn};
 
-use cap_judge::judge_bytes;
-use cap_report::answers::{Answer, NO_MEMORY, numbers_of, without_verdict};
+use cap_report::answers::{Answer, answer_on};
 use std::alloc::Global;
+use tagmem::PageStore;
 
 /// Judges the bytes of a log, as `capcheck judge` does: it is a `yes` exactly for a log whose steps have a run from
 /// its roots, and otherwise a `no` with the first fault. Memory is taken only where a line names a granule for the
@@ -14,8 +14,5 @@ pub extern "C" fn capcheck_judge_bytes(alloc: Global, bytes: &[u8]) -> Answer
     ensures answer { AnswersBytes bytes.now result }
     ensures escape { NamesEscapesIn result }
 {
-    match judge_bytes(alloc, bytes) {
-        Ok(verdict) => numbers_of(verdict),
-        Err(_) => without_verdict(NO_MEMORY),
-    }
+    answer_on(bytes, PageStore::new(alloc))
 }

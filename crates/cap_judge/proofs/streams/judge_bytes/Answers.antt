@@ -1,25 +1,23 @@
-use Rattle.std.proofs.Common.{ap, ◌∙◌}
-use Rattle.std.specs.FinMap.{len, len-empty}
-use Rattle.std.specs.Ordering.{nat_cmp}
-use Rattle.tagmem.specs.Granules.{Entry}
+use Rattle.std.proofs.Common.{IfErr, IfOk, arith, rules}
+use Rattle.cap_judge.specs.Verdicts.{IsFault, IsVerdict}
 use Rattle.cap_judge.proofs.EscapeLaws.{escapes_of}
-use Rattle.cap_judge.proofs.JudgeLemmas.{answered}
-use Rattle.cap_judge.proofs.KeepingLemmas.{all_fault}
+use Rattle.cap_judge.proofs.JudgeLemmas.{answered, guarded}
+use Rattle.cap_judge.proofs.SourceLemmas.{of_all}
 use Rattle.cap_judge.proofs.streams.judge_bytes.Goals as goal
 
-pub judge_bytes_keeping-requires : goal.judge_bytes_keeping-requires
-judge_bytes_keeping-requires c = ap len c.new.ensures.empty ∙ len-empty nat_cmp Entry
+-- a slice counts no fault
+both : (c : goal.After-judge) → IfOk c.judge.result (IsVerdict c.args.bytes.now) × IfErr c.judge.result (IsFault c.args.bytes.now)
+both c =
+    let judged = c.judge.ensures.judged in
+    of_all c.args.bytes.now judged.given c.judge.new.source.rest.now c.judge.new.source.is_ended c.judge.result (search rules)
+    c.judge.new.source.all_given judged.answer
+    (λ e. let grew = c.judge.ensures.counted.1 e in omega (arith, grew))
 
 pub returns : goal.returns
-returns c =
-    let bytes = c.args.bytes.now in
-    let answer = c.judge_bytes_keeping.result.answer in
-    let is = c.judge_bytes_keeping.ensures.judged in
-    let lack = all_fault bytes answer is.answer.fault is.pulls_nothing in
-    record {
-      verdict = is.answer.verdict;
-      authority = is.answer.authority;
-      escape = escapes_of bytes answer;
-      fault = lack;
-      answers = answered bytes answer lack;
-    }
+returns c = record {
+  verdict = (both c).0;
+  authority = guarded c.args.bytes.now;
+  escape = escapes_of c.args.bytes.now c.judge.result;
+  fault = (both c).1;
+  answers = answered c.args.bytes.now c.judge.result (both c).1;
+}

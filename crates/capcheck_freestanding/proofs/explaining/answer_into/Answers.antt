@@ -3,7 +3,8 @@ use Rattle.std.specs.FinMap.{len, len-empty}
 use Rattle.std.specs.Ordering.{nat_cmp}
 use Rattle.cap_report.specs.Sinks.{Took}
 use Rattle.tagmem.specs.Granules.{Entry}
-use Rattle.capcheck_freestanding.proofs.WholeLemmas.{of_verdict, of_why_fault}
+use Rattle.cap_report.proofs.AnswerLemmas.{of_verdict}
+use Rattle.capcheck_freestanding.proofs.WholeLemmas.{of_why_fault}
 use Rattle.capcheck_freestanding.proofs.explaining.answer_into.Goals as goal
 
 pub judge_why_bytes-requires : goal.judge_why_bytes-requires

@@ -1,0 +1,30 @@
+-- An answer on all the bytes of a log, in numbers.
+use Rattle.std.proofs.Common.{◌≡◌, ℕ, List, true, refl, Err, Ok}
+use Rattle.std.specs.Prelude.{None, Some}
+use Rattle.cap_report.specs.Answers.{AnswersBytes, numbers_of, without_verdict}
+use Rattle.cap_report.specs.declared.answers.Answer.{Answer}
+use Rattle.cap_judge.specs.declared.verdict.JudgeFault.TheVariants.{NoMemory}
+use Rattle.cap_judge.specs.declared.verdict.Verdict.{Verdict}
+use Rattle.cap_judge.specs.Judgings.{IsAnswerOf}
+
+abbrev pub of_verdict : (bytes : List ℕ) (verdict : Verdict) (answer : Answer) → IsAnswerOf bytes true (Ok verdict)
+    → answer ≡ numbers_of verdict → AnswersBytes bytes answer
+of_verdict bytes verdict answer judged is = record {
+  verdict = Some verdict;
+  numbers = is;
+  is_verdict = judged.verdict;
+  authority = judged.authority;
+  no_memory = tt;
+  answers = λ none. refl;
+}
+
+abbrev pub of_lack : (bytes : List ℕ) (answer : Answer) → IsAnswerOf bytes true (Err NoMemory) → answer ≡ without_verdict 3
+    → AnswersBytes bytes answer
+of_lack bytes answer judged is = record {
+  verdict = None;
+  numbers = is;
+  is_verdict = tt;
+  authority = judged.authority;
+  no_memory = judged.fault;
+  answers = λ none. absurd (judged.answers none refl);
+}

@@ -1,0 +1,11 @@
+use Rattle.cap_judge.proofs.EscapeLaws.{named}
+use Rattle.cap_report.proofs.AnswerLemmas.{of_verdict}
+use Rattle.cap_report.proofs.answers.answer_on.Goals as goal
+
+pub returns-in-Ok-clause-answer : goal.returns-in-Ok-clause-answer
+returns-in-Ok-clause-answer g c =
+    of_verdict c.args.bytes.now c.in-Ok.verdict c.numbers_of.result (rw c.in-Ok.is at c.judge_bytes_keeping.ensures.judged.answer)
+    c.numbers_of.ensures.value
+
+pub returns-in-Ok-clause-escape : goal.returns-in-Ok-clause-escape
+returns-in-Ok-clause-escape g c = λ verdict is. named verdict
