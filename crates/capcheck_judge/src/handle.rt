@@ -16,10 +16,9 @@ use std::marker::Model;
 use std::{mem, ptr};
 use tagmem::PageStore;
 
-/// A judge, or none (in C `capcheck_judge`). All bytes 0 is none. It has no drop: what holds a judge has to be
-/// closed.
+/// A judge, or none (in C `capcheck_judge`). All bytes 0 is none. It isn't `Drop`: a judge that is put in has to be
+/// taken out, and dropped, before the handle can be given up.
 #[repr(C)]
-#[derive(Drop)]
 pub struct Handle {
     at: *mut u8,
     held: bool,
@@ -38,17 +37,15 @@ impl Handle {
         ensures taken { MatchOption result (self.old.judge ≡ None) (λ judge. self.old.judge ≡ Some judge.value) }
         ensures left { self.new.judge ≡ None }
     {
-        match mem::replace(self, Handle::none(alloc)).into_held() {
-            Some(judge) => Some(own(judge)),
-            None => None,
-        }
+        mem::replace(self, Handle::none(alloc)).into_box()
     }
 
-    /// Puts a judge in. One that was there is forgotten.
+    /// Puts a judge in where there is none.
     pub(crate) fn put(&mut self, judge: Box<Judge<PageStore>>)
+        requires empty { self.old.judge ≡ None }
         ensures { self.new.judge ≡ Some judge.value }
     {
-        *self = Handle::of(keep(judge));
+        drop(mem::replace(self, Handle::of(keep(judge))).into_box());
     }
 
     // No judge.
@@ -74,7 +71,17 @@ impl Handle {
         }
     }
 
-    // The judge of a handle, where there is one.
+    // The judge of a handle, where there is one, as its owner.
+    fn into_box(self) -> Option<Box<Judge<PageStore>>>
+        ensures { MatchOption result (self.judge ≡ None) (λ judge. self.judge ≡ Some judge.value) }
+    {
+        match self.into_held() {
+            Some(judge) => Some(own(judge)),
+            None => None,
+        }
+    }
+
+    // The judge of a handle, where there is one, and where it stays.
     fn into_held(self) -> Option<Held<Judge<PageStore>, Global>>
         ensures { MatchOption result (self.judge ≡ None) (λ judge. self.judge ≡ Some judge.value) }
     {

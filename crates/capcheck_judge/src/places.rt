@@ -22,6 +22,7 @@ pub extern "C" fn capcheck_judge_register(
 ) -> OptionalCap
     ensures register { number ≤ 31 → (bytes : List ℕ) → (holds : Holds (held_in judge.old) bytes)
         → (result.present ≡ 1) × (cap_of result.cap ≡ state_behind holds number) }
+    ensures tag { result.cap.tag ≤ 1 }
     ensures none { (31 < number) ⊎ (held_in judge.old ≡ None) → (result.present ≡ 0) × (cap_of result.cap ≡ no_cap) }
     ensures kept { held_in judge.new ≡ held_in judge.old }
 {
@@ -48,6 +49,7 @@ pub extern "C" fn capcheck_judge_granule(
 ) -> OptionalCap
     ensures granule { (bytes : List ℕ) → (holds : Holds (held_in judge.old) bytes)
         → (result.present ≡ 1) × (cap_of result.cap ≡ state_behind holds (granule_key (address / 16))) }
+    ensures tag { result.cap.tag ≤ 1 }
     ensures none { held_in judge.old ≡ None → (result.present ≡ 0) × (cap_of result.cap ≡ no_cap) }
     ensures kept { held_in judge.new ≡ held_in judge.old }
 {
@@ -66,6 +68,7 @@ pub extern "C" fn capcheck_judge_granule(
 #[unsafe(no_mangle)]
 pub extern "C" fn capcheck_judge_expected(alloc: Global, judge: &mut Handle) -> Given
     ensures expected { (bytes : List ℕ) → Holds (held_in judge.old) bytes → AnswersExpected bytes result }
+    ensures tag { result.cap.tag ≤ 1 }
     ensures none { held_in judge.old ≡ None → IsGiven None result }
     ensures kept { held_in judge.new ≡ held_in judge.old }
 {
@@ -81,7 +84,8 @@ pub extern "C" fn capcheck_judge_expected(alloc: Global, judge: &mut Handle) -> 
 
 /// What the rules give, as C gets it.
 fn given_of(expected: Option<Expected>) -> Given
-    ensures { IsGiven expected result }
+    ensures given { IsGiven expected result }
+    ensures tag { result.cap.tag ≤ 1 }
 {
     match expected {
         Some(expected) => given_by(expected),
@@ -96,7 +100,8 @@ fn given_of(expected: Option<Expected>) -> Given
 
 /// A capability or a number that the rules give, as C gets it.
 fn given_by(expected: Expected) -> Given
-    ensures { IsGiven (Some expected) result }
+    ensures given { IsGiven (Some expected) result }
+    ensures tag { result.cap.tag ≤ 1 }
 {
     match expected {
         Expected::Capability(cap) => Given {
@@ -118,6 +123,7 @@ fn given_by(expected: Expected) -> Given
 fn there(cap: Cap) -> OptionalCap
     ensures present { result.present ≡ 1 }
     ensures cap { cap_of result.cap ≡ cap }
+    ensures tag { result.cap.tag ≤ 1 }
 {
     OptionalCap {
         cap: given(cap),
@@ -129,6 +135,7 @@ fn there(cap: Cap) -> OptionalCap
 fn nothing() -> OptionalCap
     ensures present { result.present ≡ 0 }
     ensures cap { cap_of result.cap ≡ no_cap }
+    ensures tag { result.cap.tag ≤ 1 }
 {
     OptionalCap {
         cap: no_capability(),

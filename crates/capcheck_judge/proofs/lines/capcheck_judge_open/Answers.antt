@@ -1,5 +1,4 @@
 use Rattle.std.proofs.Common.{◌≡◌, [], rules, subst, sym}
-use Rattle.tagmem.specs.contracts.page_store.PageStoreTaggedStore.TheImpl.{ghosts}
 use Rattle.cap_judge.specs.Readings.{HasRead}
 use Rattle.capcheck_judge.proofs.HandleLemmas.{J}
 use Rattle.capcheck_judge.proofs.lines.capcheck_judge_open.Goals as goal

@@ -9,6 +9,6 @@ returns-in-Some-clause-expected c = λ bytes holds.
     let taken = held_taken c.args.judge.now.judge bytes holds c.deref.result.now is in
     record {
       expected = c.expected-expected.result;
-      numbers = c.given_of.ensures;
+      numbers = c.given_of.ensures.given;
       expects = c.expected-expected.ensures.expects bytes taken;
     }
