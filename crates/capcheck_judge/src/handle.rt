@@ -37,7 +37,10 @@ impl Handle {
         ensures taken { MatchOption result (self.old.judge ≡ None) (λ judge. self.old.judge ≡ Some judge.value) }
         ensures left { self.new.judge ≡ None }
     {
-        mem::replace(self, Handle::none(alloc)).into_box()
+        match mem::replace(self, Handle::none(alloc)).into_held() {
+            Some(judge) => Some(own(judge)),
+            None => None,
+        }
     }
 
     /// Puts a judge in where there is none.
@@ -45,7 +48,9 @@ impl Handle {
         requires empty { self.old.judge ≡ None }
         ensures { self.new.judge ≡ Some judge.value }
     {
-        drop(mem::replace(self, Handle::of(keep(judge))).into_box());
+        if let Some(_judge) = mem::replace(self, Handle::of(keep(judge))).into_held() {
+            unreachable!()
+        }
     }
 
     // No judge.
@@ -71,17 +76,7 @@ impl Handle {
         }
     }
 
-    // The judge of a handle, where there is one, as its owner.
-    fn into_box(self) -> Option<Box<Judge<PageStore>>>
-        ensures { MatchOption result (self.judge ≡ None) (λ judge. self.judge ≡ Some judge.value) }
-    {
-        match self.into_held() {
-            Some(judge) => Some(own(judge)),
-            None => None,
-        }
-    }
-
-    // The judge of a handle, where there is one, and where it stays.
+    // The judge of a handle, where there is one.
     fn into_held(self) -> Option<Held<Judge<PageStore>, Global>>
         ensures { MatchOption result (self.judge ≡ None) (λ judge. self.judge ≡ Some judge.value) }
     {
