@@ -37,6 +37,11 @@ pub trait Operands: Copy {
             (lines.Step (step p.0)) p.1.now) }
         ensures none { IfNone result (BeginsWithNone IsInRange spelling 10 (head_spelling head ++ 32 ∷ bytes.now)) };
 
+    /// Writes the step's line, without its line feed, at the front of the buffer, and answers where it ends.
+    fn write(&self, buffer: &mut [u8]) -> usize
+        requires { 95 ≤ length buffer.old }
+        ensures written { Writes 0 (spelling (lines.Step (step self.now))) buffer.old buffer.new result };
+
     /// The step that has them: its numbers are in their ranges.
     fn into_step(self) -> Step
         ensures step { result ≡ step self }

@@ -26,7 +26,8 @@ pub fn write_line(line: &Line, buffer: &mut [u8; 96]) -> usize
 pub fn write_step<O: Operands>(step: O, buffer: &mut [u8; 96]) -> usize
     ensures line { IsLineAt (line.Step (O.step step)) buffer.old buffer.new result }
 {
-    let words = write_words(&Line::Step(step.into_step()), buffer);
+    step.in_range();
+    let words = step.write(buffer);
     put(buffer, words, b"\n")
 }
 

@@ -17,9 +17,9 @@ use Rattle.cap_log.specs.declared.lines.Place.{Place}
 use Rattle.cap_log.specs.declared.lines.Place.TheVariants.{Register, Granule}
 use Rattle.cap_log.specs.declared.kinds.Step.{Step}
 use Rattle.cap_log.specs.declared.kinds.Step.TheVariants as steps
-use Rattle.cap_log.specs.declared.kinds.Load.{Load}
-use Rattle.cap_log.specs.declared.kinds.Store.{Store}
-use Rattle.cap_log.specs.declared.kinds.StoreCap.{StoreCap}
+use Rattle.cap_log.specs.declared.kinds.accesses.Load.{Load}
+use Rattle.cap_log.specs.declared.kinds.accesses.Store.{Store}
+use Rattle.cap_log.specs.declared.kinds.accesses.StoreCap.{StoreCap}
 use Rattle.cap_log.specs.Lines.{IsStepInRange}
 use Rattle.cap_ops.specs.declared.faults.OpFault.{OpFault}
 use Rattle.cap_ops.specs.Tests.{first_of}
