@@ -1,21 +1,13 @@
-//! Tests of the libraries through their public calls, for what no row of `worked` can express: pulls, pushes and
-//! allocations that fail, and logs that are made as they are pulled. The tests are a crate of their own so that the
-//! crates they test are proved once, and not a second time with their tests.
+//! Tests of the libraries that no row of `worked` can say: bounds beside plain programs of their definitions and beside
+//! worked values, lines, growths that `rt try --test --fail-alloc N` refuses, and readers and writers that are interrupted. They stand apart from the
+//! crates that they test, so that these are proved once, and not once more with their tests.
 #![tactic(auto)]
 
 #[cfg(test)]
 mod bounds;
 #[cfg(test)]
-mod fakes;
-#[cfg(test)]
-mod judge;
-#[cfg(test)]
-mod log;
-#[cfg(test)]
-mod machine;
+mod lines;
 #[cfg(test)]
 mod stores;
 #[cfg(test)]
-mod texts;
-#[cfg(test)]
-mod word;
+mod streams;

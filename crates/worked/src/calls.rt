@@ -1,25 +1,18 @@
-//! Worked calls on words, bounds, lines and stores.
+//! Calls of judges, each in a line with its answer.
 
-mod answers;
-mod bounds;
-mod digits;
-mod lines;
-mod stores;
+mod heaps;
+mod memory;
 
-use crate::calls::bounds::bounds_answer;
-use crate::calls::digits::digits_answer;
-use crate::calls::lines::{line_answer, part_answer};
-use crate::calls::stores::stores_answer;
+use crate::calls::heaps::heap_answer;
+use crate::calls::memory::{again_answer, judge_answer};
 use std::alloc::{AllocError, Global};
 
-/// Whether a call has the answer that is written after it.
+/// Whether the call of a line has the answer that is written after it.
 pub fn call_holds(alloc: Global, line: &str) -> Result<bool, AllocError> {
-    let mut bytes = Vec::from_slice(alloc, line.as_bytes())?;
+    let mut bytes = Vec::from_slice(alloc, line.trim_start_matches('>').as_bytes())?;
     for byte in bytes.iter_mut() {
-        match *byte {
-            b'~' => *byte = b'\n',
-            b'^' => *byte = b'\r',
-            _ => {}
+        if *byte == b'~' {
+            *byte = b'\n';
         }
     }
     let mut parts = Vec::new(alloc);
@@ -37,30 +30,26 @@ pub fn call_holds(alloc: Global, line: &str) -> Result<bool, AllocError> {
 
 // A part of a call without the space on each of its sides.
 fn bare(part: &[u8]) -> &[u8] {
-    let part = match part {
-        [b' ', rest @ ..] => rest,
-        _ => part,
-    };
-    match part {
-        [rest @ .., b' '] => rest,
-        _ => part,
-    }
+    let part = part.strip_prefix(b" ").unwrap_or(part);
+    part.strip_suffix(b" ").unwrap_or(part)
 }
 
 // The answer of a call, whose last operand may be a text.
 fn answer(alloc: Global, call: &[u8], operands: &[&[u8]]) -> Result<String, AllocError> {
     let text = operands.last().copied().unwrap_or(b"");
-    if let Some(answer) = digits_answer(alloc, call, operands, text) {
-        return answer;
+    match call {
+        b"judge" => judge_answer(alloc, operands),
+        b"again" => again_answer(alloc, text),
+        b"heap" => heap_answer(alloc, text, false),
+        _ => heap_answer(alloc, text, true),
     }
-    if let Some(answer) = line_answer(alloc, call, text) {
-        return answer;
+}
+
+// The answer over a list, or both where that over pages is another.
+fn agreed(alloc: Global, list: String, pages: String) -> Result<String, AllocError> {
+    if list.as_bytes() == pages.as_bytes() {
+        Ok(list)
+    } else {
+        format!(in alloc; "{list}, and pages: {pages}")
     }
-    if let Some(answer) = part_answer(alloc, call, operands, text) {
-        return answer;
-    }
-    if call == b"stores".as_slice() {
-        return stores_answer(alloc, operands);
-    }
-    bounds_answer(alloc, call, operands)
 }

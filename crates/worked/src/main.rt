@@ -1,10 +1,8 @@
-//! Makes worked calls of the libraries, and judges worked logs and vector files in every way there is. Names each
-//! row that gets another answer or text than it states.
+//! Judges worked logs, of machines and of allocators, and checks worked vector files. It names each row that gets another
+//! answer or text than it states.
 //!
-//! A line of standard input after `>` is a call: its name, its operands and its answer, with a bar between them. A
-//! word has 32 digits and a number sixteen; `~` stands for a line feed, and `^` for a carriage return. If a call
-//! takes something from the front of a text, the answer ends with what follows it, in brackets. Lines after `:` say
-//! what the calls below them are.
+//! A line of standard input after `>` is a call: its name, its operands and its answer, with a bar between them, and `~`
+//! for a line feed. A call after `>>` has more than some 10,000 steps. Lines after `:` say what the calls below them are.
 //!
 //! Logs and vector files are rows, with an empty line after each. The first line of a row is a mark and a name: `#`
 //! or `*` for a log, `+` for a vector file. Then come its lines, each after a mark: `|` for one that ends with a
@@ -13,19 +11,15 @@
 //! `yes`, and the diagnosis.
 #![tactic(auto)]
 
-mod by_lines;
 mod calls;
-mod cuts;
-mod limits;
-mod origins;
-mod pieces;
-mod reports;
+mod made;
+mod refusing;
 mod rows;
+mod told;
 mod vector_files;
-mod verdicts;
+mod ways;
 
 use crate::calls::call_holds;
-use crate::limits::limits_hold;
 use crate::rows::Row;
 use std::io;
 
@@ -34,9 +28,9 @@ fn main(rt: HostRuntime) -> io::Result<()> {
     let mut rows = 0u32;
     let mut row = Row::new(rt.alloc());
     for line in text.split('\n') {
-        if let Some(call) = line.strip_prefix("> ") {
-            if !call_holds(rt.alloc(), call)? {
-                println!(rt; "another answer: {call}")?;
+        if line.starts_with('>') {
+            if !call_holds(rt.alloc(), line)? {
+                println!(rt; "another answer: {line}")?;
             }
             rows = rows.saturating_add(1);
         } else if !line.is_empty() {
@@ -48,9 +42,6 @@ fn main(rt: HostRuntime) -> io::Result<()> {
             rows = rows.saturating_add(1);
             row = Row::new(rt.alloc());
         }
-    }
-    if !limits_hold(rt.alloc())? {
-        println!(rt; "another text at a limit")?;
     }
     println!(rt; "{rows} rows")
 }

@@ -1,10 +1,9 @@
 //! Worked logs and vector files, as the program reads them.
 
-use crate::origins::origins_hold;
-use crate::reports::report_holds;
+use crate::told::text_holds;
 use crate::vector_files::vectors_hold;
-use crate::verdicts::{line_behind, verdict_holds};
-use cap_judge::{Verdict, judge_bytes};
+use crate::ways::{line_from, verdict_holds};
+use cap_judge::judge_bytes;
 use std::alloc::{AllocError, Global};
 
 /// A log or a vector file, and the text that belongs to it.
@@ -63,20 +62,11 @@ impl<'a> Row<'a> {
         let Ok(verdict) = judge_bytes(alloc, log) else {
             return Ok(false);
         };
-        let line = line_behind(text, 0);
+        let line = line_from(text, 0);
         if !verdict_holds(alloc, log, verdict, line)? {
             return Ok(false);
         }
-        if !self.is_whole {
-            return Ok(true);
-        }
-        match verdict {
-            Verdict::Yes { steps: _, roots: _ } => origins_hold(alloc, log, text),
-            Verdict::No {
-                line: _,
-                refusal: _,
-            } => Ok(origins_hold(alloc, log, line)? && report_holds(alloc, log, text)?),
-        }
+        Ok(!self.is_whole || text_holds(alloc, log, verdict, text))
     }
 }
 
