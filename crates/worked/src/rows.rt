@@ -12,8 +12,6 @@ pub struct Row<'a> {
     name: &'a str,
     log: Vec<u8>,
     text: Vec<u8>,
-    // Whether the text is all that is told of the log, and not the verdict's line alone.
-    is_whole: bool,
 }
 
 impl<'a> Row<'a> {
@@ -23,7 +21,6 @@ impl<'a> Row<'a> {
             name: "",
             log: Vec::new(alloc),
             text: Vec::new(alloc),
-            is_whole: false,
         }
     }
 
@@ -47,13 +44,12 @@ impl<'a> Row<'a> {
             [b'=', b' ', rest @ ..] => append(&mut self.text, rest, b"\n"),
             _ => {
                 self.name = line;
-                self.is_whole = line.starts_with('*');
                 Ok(())
             }
         }
     }
 
-    /// Whether the log or the vector file gets its text in each way.
+    /// Whether the log or the vector file gets its text.
     pub fn holds(&self, alloc: Global) -> Result<bool, AllocError> {
         let (log, text) = (self.log.as_slice(), self.text.as_slice());
         if self.name.starts_with('+') {
@@ -63,10 +59,10 @@ impl<'a> Row<'a> {
             return Ok(false);
         };
         let line = line_from(text, 0);
-        if !verdict_holds(alloc, log, verdict, line)? {
+        if !verdict_holds(alloc, log, verdict, line, self.name.starts_with('#'))? {
             return Ok(false);
         }
-        Ok(!self.is_whole || text_holds(alloc, log, verdict, text))
+        Ok(!self.name.starts_with('*') || text_holds(alloc, log, verdict, text))
     }
 }
 

@@ -28,13 +28,14 @@ pub fn line_from(text: &[u8], from: usize) -> &[u8] {
 }
 
 /// Whether the verdict on a log has this line, and is the same in pieces of one byte, and with its granules in a
-/// list. A short log also comes in pieces of up to eight bytes, with each pull failing in turn, and
+/// list. In `each_way` a short log also comes in pieces of up to eight bytes, with each pull failing in turn, and
 /// line by line, and, with a `yes`, in two pieces, cut off, and with a byte more, each at each place.
 pub fn verdict_holds(
     alloc: Global,
     log: &[u8],
     verdict: Verdict,
     line: &[u8],
+    each_way: bool,
 ) -> Result<bool, AllocError> {
     if !is_line_of(verdict, line)
         || !in_pieces(alloc, log, 1, verdict)?
@@ -42,7 +43,7 @@ pub fn verdict_holds(
     {
         return Ok(false);
     }
-    if log.len() >= SHORT {
+    if !each_way || log.len() >= SHORT {
         return Ok(true);
     }
     for size in 2..9 {
