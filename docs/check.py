@@ -1,9 +1,9 @@
 #!/usr/bin/env python3
 """Runs the commands of the pages, compares what they print with what the pages say, and looks for phrases that confuse.
 
-    python3 docs/check.py [PAGE..]
+    python3 docs/check.py [--unproved] [PAGE..]
 
-It wants the programs and the library for C built, or builds them. A block of a page that has lines beginning with
+With `--unproved` it takes the programs that CAPCHECK and CAPDIAG name, and leaves out what needs a library for C. It wants the programs and the library for C built, or builds them. A block of a page that has lines beginning with
 `$ ` is a session: each such line is a command, lines that begin with `> ` go on with it, and the lines below it are
 all that it prints; a line `..` stands for any lines. A page's commands run one after another in a folder of their
 own, in which the tree's files stand by their names. Other commands of the pages are those of ELSEWHERE, which says
@@ -28,6 +28,7 @@ PAGES += ["docs/ALLOCATORS.md", "docs/STANDARD.md", "docs/C.md", "docs/GLOSSARY.
 # Commands that no session runs, and where they are run.
 ELSEWHERE = {
     "sh install.sh ~/.local": "examples/emulator/installed.sh, into another folder",
+    "sh test.sh": "by hand",
     "bash .ci/run": "the gate",
     "cd crates/capcheck_c && rt lib": "examples/emulator/check.sh",
     "sh judge/build.sh": "examples/emulator/check.sh",
@@ -63,6 +64,8 @@ PHRASES = {
     r"let through": "permitted",
     r"room to room|(?:a|the) tree before": "CHANGELOG.md, for what was before",
 }
+# Commands that need a proof. After one that builds over a library for C no command of its page can run without it.
+BUILT = re.compile(r"install\.sh|libcapcheck_|pkg-config|\brt ")
 COMMAND = re.compile(r"(\$|cc|sh|bash|cd|rt|python3|capcheck|capdiag|make|cat|git) ")
 
 # How a block of a page is run, by the word of its fence.
@@ -124,11 +127,16 @@ def run(command, folder, given=None):
     return ran.stdout.decode("utf-8", "replace")
 
 
-def place(work):
+def place(work, unproved):
     """A folder in which the tree's files stand by their names, and a home in which what is built is installed."""
     os.environ.update(HOME=f"{work}/home", LD_LIBRARY_PATH=f"{work}/home/.local/lib", PATH=f"{work}/home/.local/bin:{os.environ['PATH']}")
     os.environ.update(PKG_CONFIG_PATH=f"{work}/home/.local/lib/pkgconfig")
-    subprocess.run(["sh", "install.sh", f"{work}/home/.local"], check=True, stdout=subprocess.DEVNULL)
+    if unproved:
+        os.makedirs(f"{work}/home/.local/bin")
+        for name in ("capcheck", "capdiag"):
+            os.symlink(os.path.abspath(os.environ[name.upper()]), f"{work}/home/.local/bin/{name}")
+    else:
+        subprocess.run(["sh", "install.sh", f"{work}/home/.local"], check=True, stdout=subprocess.DEVNULL)
     folder = f"{work}/tree"
     os.makedirs(folder)
     for name in os.listdir("."):
@@ -137,12 +145,17 @@ def place(work):
     return folder
 
 
-def sessions(page, text, folder):
+def sessions(page, text, folder, unproved):
     """Runs the sessions of a page; what is wrong, a line each, and how many commands it ran."""
-    wrong, count = [], 0
+    wrong, count, is_left = [], 0, False
     for first, _, lines in blocks(text):
         found = commands(first, lines)
         for number, command, wanted in found:
+            if unproved and BUILT.search(command[0]):
+                is_left = is_left or "install.sh" not in command[0] and "rt " not in command[0]
+                continue
+            if is_left:
+                continue
             count += 1
             given = run("\n".join(command), folder)
             if not agrees(wanted, given.rstrip("\n").split("\n") if given else []):
@@ -281,20 +294,22 @@ def versions():
             yield f"{path}: the version isn't {version}, as include/capcheck.h has it"
 
 
-def main(pages):
-    wrong, count = [*versions()], 0
+def main(words):
+    wrong, count, unproved = [*versions()], 0, "--unproved" in words
+    pages = [it for it in words if it != "--unproved"]
     read = [it for it in PAGES if it != "docs/STANDARD.md"] + glob.glob("docs/*.1") + glob.glob("include/*.h") + glob.glob("judge/*.c")
     for path in pages or sorted([*read, *glob.glob("crates/*/src/**/*.rt", recursive=True), *glob.glob("examples/*/*.c")]):
         wrong += phrases(path)
     with tempfile.TemporaryDirectory() as work:
-        tree = place(work)
+        tree = place(work, unproved)
         for page in pages or PAGES:
             with open(page, encoding="utf-8") as it:
                 text = it.read()
             with tempfile.TemporaryDirectory(dir=work) as room:
                 folder = f"{room}/tree"
                 shutil.copytree(tree, folder, symlinks=True)
-                for bad, tried in (sessions(page, text, folder), rows(page, text, folder), shown(page, text), programs(page, text, folder), links(page, text), counted(page, text)):
+                run_blocks = ([], 0) if unproved else programs(page, text, folder)
+                for bad, tried in (sessions(page, text, folder, unproved), rows(page, text, folder), shown(page, text), run_blocks, links(page, text), counted(page, text)):
                     wrong += bad
                     count += tried
     print("\n".join([*wrong, f"{count} commands, rows, files and links of the pages tried, {len(wrong)} otherwise than the pages say"]))

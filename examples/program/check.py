@@ -4,7 +4,7 @@ worked by hand: for the rows of src/rows.rt in their crates, and where their inp
 
     python3 examples/program/check.py [PROGRAM..]
 
-The status is 1 where anything differs."""
+CAPCHECK and CAPDIAG name built programs, where these are not those of `rt ci`. The status is 1 where anything differs."""
 import os
 import re
 import resource
@@ -63,7 +63,8 @@ class Room:
         how = {"input": given} if isinstance(given, bytes) else {"stdin": given}
         # At a limit Python's own signals stay: a write above it is then an error, and no signal that ends the program.
         how.update(preexec_fn=prepare, restore_signals=room is None, timeout=60)
-        ran = subprocess.run([f"{os.path.abspath(ROOT)}/crates/{self.program}/out/{self.program}", *words], cwd=self.folder, stdout=out, stderr=err, **how)
+        file = os.environ.get(self.program.upper()) or f"crates/{self.program}/out/{self.program}"
+        ran = subprocess.run([os.path.join(os.path.abspath(ROOT), file), *words], cwd=self.folder, stdout=out, stderr=err, **how)
         return ran.returncode, ran.stdout, ran.stderr
 
     def wants(self, what, ran, wanted):
