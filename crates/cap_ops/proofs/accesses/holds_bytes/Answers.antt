@@ -12,6 +12,7 @@ returns-else-this-ne0 g c =
     same_from_decides _ (covers w c.args.address end) c.contains.ensures.inside (
       λ test. let inside = IsInside-covers w c.args.address end test in (
         omega (arith, held.base, inside.0),
-        omega (arith, held.top, inside.1)),
+        omega (arith, held.top, inside.1),
+      ),
       λ inside. covers-inside w c.args.address end (omega (arith, held.base, inside.0), omega (arith, held.top, inside.1)),
     )

@@ -12,6 +12,7 @@ returns c =
     same_from_decides _ (covers w given.base given.top) c.contains.ensures.inside (
       λ test. let inside = IsInside-covers w given.base given.top test in (
         omega (arith, held.base, inside.0),
-        omega (arith, held.top, inside.1)),
+        omega (arith, held.top, inside.1),
+      ),
       λ inside. covers-inside w given.base given.top (omega (arith, held.base, inside.0), omega (arith, held.top, inside.1)),
     )
