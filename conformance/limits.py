@@ -1,0 +1,56 @@
+#!/usr/bin/env python3
+"""Makes the logs of the limits, which are too long to be kept here: python3 limits.py FOLDER"""
+import os
+import sys
+
+HIGH = "ffff1ffffc018004"  # the upper half of a word with all permissions and the whole address space
+WHOLE, UNSOUND = HIGH + "0" * 16, "ffff1ffffc01a0030000000000000000"
+ONE, STRICT, CLEAR = "capcheck 1\n", "capcheck 2\nmode strict\n", "capcheck 2\nmode clear\n"
+
+
+def roots(more, header=ONE):
+    """4,095 roots in memory, and these lines."""
+    return header + "".join(f"root @{n:015x}0 {WHOLE}\n" for n in range(4095)) + more
+
+
+def moved(address):
+    return f"setaddr c1 c1 {address:016x} = 1 {HIGH}{address:016x}\n"
+
+
+def granules(more, header=ONE, count=65536):
+    """A root, a store of a byte to each of the first granules, and these steps."""
+    lines = []
+    for first in range(0, count, 256):
+        lines.append(moved(16 * first + 2048))
+        lines += [f"store c1 {16 * n - 2048} 1 00\n" for n in range(256)]
+    lines += more
+    return f"{header}root c1 {WHOLE}\n" + "".join(lines) + f"end {len(lines)}\n"
+
+
+def logs():
+    """The name of each log, and its text."""
+    far, near = moved(2**40), moved(0)
+    yield "03.15-8-unsound-before-limit", roots(f"root c1 {WHOLE}\nroot c2 {UNSOUND}\nend 0\n")
+    yield "08.1-4096-roots", roots(f"root c1 {WHOLE}\nend 0\n")
+    for mode, header in (("v1", ONE), ("strict", STRICT), ("clear", CLEAR)):
+        yield f"08.1-24-4097-roots-{mode}", roots(f"root c1 {WHOLE}\nroot c2 {WHOLE}\nend 0\n", header)
+    yield "08.2-65536-granules", granules([near, "store c1 0 1 ff\n"])
+    yield "08.2-24-65537-granules-v1", granules([far, "store c1 0 1 00\n"])
+    yield "08.2-24-sc-at-the-limit", granules([far, "sc c0 c1 0\n"])
+    yield "08.2-65537-granules-strict", granules([far, "store c1 0 1 00\n"], STRICT)
+    yield "08.2-1048576-granules-clear", granules([near, "store c1 0 1 ff\n"], CLEAR, 2**20)
+    yield "08.2-24-1048577-granules-strict", granules([far, "store c1 0 1 00\n"], STRICT, 2**20)
+    yield "08.2-24-1048577-granules-clear", granules([far, "sc c0 c1 0\n"], CLEAR, 2**20)
+    yield "08.10-load-names-no-granule", granules([far, "load c1 0 1 = 00\n"])
+    yield "08.16-20-alignment-before-limit", granules([far, "store c1 1 2 0000\n"])
+
+
+def make(folder):
+    os.makedirs(folder, exist_ok=True)
+    for name, text in logs():
+        with open(os.path.join(folder, f"{name}.log"), "w", encoding="ascii") as it:
+            it.write(text)
+
+
+if __name__ == "__main__":
+    make(sys.argv[1])
