@@ -1,121 +1,66 @@
 #!/usr/bin/env python3
-"""The definitions of docs/STANDARD.md on words, bounds and rounding, once more in Python, under their names.
+"""Compares the definitions in Python, bench/transcribed.py, with the page, the relations that they stand for, and the programs.
 
-    CAPCHECK=crates/capcheck/out/capcheck python3 bench/transcription.py
+    CAPCHECK=crates/capcheck/out/capcheck python3 bench/transcription.py [LOGS]
 
-Closed forms are compared with the relations that they stand for; then `capcheck vectors` has to pass on what they say of
-10,000 words and requests drawn at random, and they have to pass on the files of examples/vectors. So whoever reads no
-Rattle can check what the definitions say. The status is 1 where anything differs."""
+- Each definition of the page's core has its name there, except those of ELSEWHERE.
+- Closed forms are compared with the relations that they stand for, on 10,000 words and requests drawn at random and on the
+  vector files of examples/ and conformance/. `capcheck vectors` has to pass on all of them.
+- Verdicts and origins on the corpus have to be those of its index. On the examples and on LOGS logs drawn at random (100,
+  if none are given) they have to be those of `capcheck judge --origins`.
+- What is found is asked of the definitions: whether the verdict is one, whether it names BoundsEscape exactly, and on logs of
+  at most 60 steps whether authority never grows and each access lies inside its root.
+
+The status is 1 if anything differs."""
 import glob
 import os
 import random
+import re
 import subprocess
 import sys
 import tempfile
+import types
 
-NULL = 0x00001FFFFC0180040000000000000000
+from transcribed import *  # noqa: F403
 
-# The word
-def ie_of(w): return w // 2**90 % 2 == 1
-def t_field(w): return w // 2**78 % 2**12
-def b_field(w): return w // 2**64 % 2**14
-def address_of(w): return w % 2**64
-def bit_of(flag): return 1 if flag else 0
-def e_of(w): return t_field(w) % 8 * 8 + b_field(w) % 8 if ie_of(w) else 0
-def b_of(w): return b_field(w) // 8 * 8 if ie_of(w) else b_field(w)
-def t_of(w): return t_field(w) // 8 * 8 if ie_of(w) else t_field(w)
-def memory_of(w): return [(w ^ NULL) // 256**i % 256 for i in range(16)]
+# Definitions that speak of sources, of memory that is lacking, and of proofs: there is nothing to compute in them.
+ELSEWHERE = set("Judged IsAnswerOf IsVerdictOf IsFaultOf BeginsLog IsBehind NamesEscapes CountsOnly next_count IsFault MayLackMemory NamesNoGranules".split())
+# Definitions that Python has: a record or a form is a tuple, and a function with another value is an assignment.
+OWN = set("Beginning Recorded Datum put HasRounding".split())
+HIGH = 0xFFFF1FFFFC018004 << 64
 
 
-# Bounds. What may begin below 0 is given 2^66 higher.
-def IsResidue(low, size, value, x): return low <= x < low + size and x % size == value % size
-def span_of(b, t): return (t + 2**14 - b) % 2**14
+def unnamed():
+    """The names of the core's definitions that transcribed.py lacks."""
+    with open("docs/STANDARD.md", encoding="utf-8") as it:
+        core = it.read().partition("\n## Annex 19")[0]
+    names = re.findall(r"^-- \d+\.\d+\. .*\n(?:--   .*\n)*(?:record |data )?(\w+)", core, re.M)
+    return [f"transcribed.py lacks {name}" for name in names if name not in globals() and name not in ELSEWHERE | OWN]
 
 
-def IsMantissa(b, low, ie, t):
-    return t < 2**14 and t % 2**12 == low and 2**12 * bit_of(ie) <= span_of(b, t) < 2**12 * bit_of(ie) + 2**12
+# Vectors
 
 
-def span_at(b, low, ie): return 2**12 * bit_of(ie) + (low + 2**14 - b) % 2**12
-def mantissa_of(b, low, ie): return (b + span_at(b, low, ie)) % 2**14
-def cut_exponent_of(w): return min(e_of(w), 52)
-def unit_of(w): return 2 ** cut_exponent_of(w)
-def window_size(w): return 2 ** (cut_exponent_of(w) + 14)
-
-
-def IsWindow(w, start):
-    return (start <= address_of(w) + 2**66 < start + window_size(w)
-            and start % window_size(w) == (b_of(w) // 2**11 + 7) % 8 * 2**11 * unit_of(w) % window_size(w))
-
-
-def AreBounds(w, base, top):
-    (mantissa,) = [t for t in range(t_of(w), 2**14, 2**12) if IsMantissa(b_of(w), t_of(w), ie_of(w), t)]
-    size, near = window_size(w), address_of(w) + 2**66
-    offset = (b_of(w) // 2**11 + 7) % 8 * 2**11 * unit_of(w)
-    start = near - (near - offset) % size
-    raw_base, raw_top = (start + (value * unit_of(w) - start) % size for value in (b_of(w), mantissa))
-    if not (IsWindow(w, start) and IsResidue(start, size, b_of(w) * unit_of(w), raw_base) and IsResidue(start, size, mantissa * unit_of(w), raw_top)):
-        return False
-    if cut_exponent_of(w) <= 50:
-        return base == raw_base % 2**64 and IsResidue(base, 2**64, raw_top, top)
-    return base == raw_base % 2**64 and top == raw_top % 2**65
-
-
-def raw_base_at(e, b, address): return (2**14 * (((address + 2**66) // 2 ** (e + 11) + 1 - b // 2**11) // 8) + b) * 2**e
-def top_at(e, raw_base, length): return raw_base % 2**64 + length if e <= 50 else (raw_base + length) % 2**65
-def length_of(w): return (2**12 * bit_of(ie_of(w)) + (t_of(w) + 2**14 - b_of(w)) % 2**12) * 2 ** cut_exponent_of(w)
-def base_of(w): return raw_base_at(cut_exponent_of(w), b_of(w), address_of(w)) % 2**64
-def top_of(w): return top_at(cut_exponent_of(w), raw_base_at(cut_exponent_of(w), b_of(w), address_of(w)), length_of(w))
-def is_sound(w): return base_of(w) + length_of(w) == top_of(w) and top_of(w) <= 2**64
-def with_address(w, a): return w - address_of(w) + a
-def KeepsBounds(w, a): return base_of(with_address(w, a)) == base_of(w) and top_of(with_address(w, a)) == top_of(w)
-
-
-# Rounding
-def div_up(n, v): return (n + v - 1) // v
-def units_of(base, length, e): return div_up(base + length, 2 ** (e + 3)) - base // 2 ** (e + 3)
-
-
-def IsLeastExponent(base, length, e):
-    return e <= 52 and units_of(base, length, e) < 1024 and all(units_of(base, length, k) >= 1024 for k in range(e))
-
-
-def rounded_ie(length): return length >= 4096
-def rounded_exponent(base, length): return next(e for e in range(53) if units_of(base, length, e) < 1024) if rounded_ie(length) else 0
-
-
-def rounded_base(base, length):
-    unit = 2 ** (rounded_exponent(base, length) + 3)
-    return base // unit * unit if rounded_ie(length) else base
-
-
-def rounded_top(base, length):
-    unit = 2 ** (rounded_exponent(base, length) + 3)
-    return div_up(base + length, unit) * unit if rounded_ie(length) else base + length
-
-
-def IsExact(base, length): return rounded_base(base, length) == base and rounded_top(base, length) == base + length
-
-
-# Lines of vectors, as the definitions have them
 def line_of(kind, *numbers):
+    """A line of a vector file, as the definitions have it."""
     if kind == "bounds":
         (w,) = numbers
         fields = b_of(w), t_of(w), ie_of(w)
         assert AreBounds(w, base_of(w), top_of(w)) and IsMantissa(*fields, mantissa_of(*fields))
         assert length_of(w) == span_of(b_of(w), mantissa_of(*fields)) * unit_of(w)
-        return f"bounds {w:032x} = {base_of(w):016x} {top_of(w):017x} {bit_of(is_sound(w))}"
+        return f"bounds {w:032x} = {base_of(w):016x} {top_of(w):017x} {bit_of(IsSound(w))}"
     if kind == "keeps":
         return f"keeps {numbers[0]:032x} {numbers[1]:016x} = {bit_of(KeepsBounds(*numbers))}"
     if kind == "memory":
+        assert stored_word(memory_of(numbers[0])) == numbers[0]
         return f"memory {numbers[0]:032x} = {bytes(memory_of(numbers[0])).hex()}"
     assert not rounded_ie(numbers[1]) or IsLeastExponent(*numbers, rounded_exponent(*numbers))
     return (f"round {numbers[0]:016x} {numbers[1]:016x} = {rounded_base(*numbers):016x} {rounded_top(*numbers):017x} "
             f"{bit_of(rounded_ie(numbers[1]))} {rounded_exponent(*numbers)} {bit_of(IsExact(*numbers))}")
 
 
-def drawn(count):
-    """Lines of words and requests at random, with as many of each exponent and around the ends of the address space."""
+def drawn_lines(count):
+    """Lines of words and requests at random, also around the ends of the address space."""
     rng = random.Random(1)
     for n in range(count // 4):
         w = rng.getrandbits(128) if n % 4 else rng.getrandbits(64) << 64 | rng.choice([0, 2**64 - 1, 2**63])
@@ -125,26 +70,142 @@ def drawn(count):
         yield line_of("round", base, min(length, 2**64 - base, 2**64 - 1))
 
 
-def main():
-    program, wrong = os.environ.get("CAPCHECK") or "crates/capcheck/out/capcheck", []
-    lines = [*drawn(10000)]
+def compare_vectors(program):
+    """What differs on vectors, and how many lines there were."""
+    wrong, lines = [], [*drawn_lines(10000)]
     with tempfile.NamedTemporaryFile("w", suffix=".vectors") as it:
         it.write("".join(f"{line}\n" for line in lines))
         it.flush()
         said = subprocess.run([program, "vectors", it.name], capture_output=True, text=True).stdout
     if said != f"pass {len(lines)}\n":
         wrong.append(f"{program} says {said.strip()} of {len(lines)} lines drawn at random")
-    for path in sorted(glob.glob("examples/vectors/*.vectors")):
+    for path in sorted(glob.glob("examples/vectors/*.vectors")) + [f"conformance/{name}" for name, answer, _ in index() if answer.startswith("pass")]:
         with open(path, encoding="utf-8") as it:
             for line in it.read().splitlines():
                 kind, *numbers = line.split(" = ")[0].split()
                 if line_of(kind, *(int(number, 16) for number in numbers)) != line:
                     wrong.append(f"{path}: {line}")
                 lines.append(line)
-    print("\n".join([*wrong, f"{len(lines)} lines of vectors by the definitions in Python, {len(wrong)} otherwise"]))
+    return wrong, len(lines)
+
+
+# Logs
+
+
+def index():
+    """The files of the corpus, each with its answer and its origins."""
+    with open("conformance/INDEX.tsv", encoding="utf-8") as it:
+        rows = [line.split("\t") for line in it.read().splitlines()[1:]]
+    return [(name, answer, origins.split() if origins != "-" else []) for name, answer, _, origins in rows]
+
+
+def judged(data):
+    """What `judge --origins` prints by the definitions, and which statements don't hold of it."""
+    verdict, beginning, account = verdict_of(data)
+    wrong = [] if IsVerdict(data, verdict, beginning) else ["is no verdict"]
+    if not EscapesExactly(data, verdict, beginning, account):
+        wrong.append("names BoundsEscape wrongly")
+    if beginning[0] in ("Body", "Whole") and len(beginning[3]) <= 60 and not IsGuarded(*beginning[1:]):
+        wrong.append("authority grows")
+    return [verdict_line(verdict), *(origin_lines(account) if verdict[0] == "Yes" else [])], wrong
+
+
+def printed(program, data):
+    return subprocess.run([program, "judge", "--origins"], input=data, stdout=subprocess.PIPE, check=False).stdout.decode().splitlines()
+
+
+def near(rng, *places):
+    """An address near one of some places, or anywhere."""
+    return (rng.choice(places) + rng.choice([0, 0, 0, 1, -1, 8, 16, rng.getrandbits(12), rng.getrandbits(64) >> rng.randrange(64)])) % 2**64
+
+
+def drawn_step(rng, state):
+    """A step on registers 0 to 7, with the result that the machine has, most of the time."""
+    step, tagged_ones = types.SimpleNamespace(kind=rng.choice([*OPERANDS])), [n for n in range(1, 8) if state[n].tag]
+
+    def register():
+        return rng.choice(tagged_ones) if tagged_ones and rng.random() < 0.9 else rng.randrange(8)
+
+    for name in OPERANDS[step.kind].split():
+        cap = state[getattr(step, "authority", getattr(step, "source", 1))]
+        base, top, address = base_of(cap.word), top_of(cap.word), address_of(cap.word)
+        setattr(step, name, {
+            "target": lambda: rng.randrange(1, 8), "source": register, "authority": register,
+            "length": lambda: rng.choice([near(rng, 0, 4096), (top - address) % 2**64, near(rng, (top - address) % 2**64)]),
+            "address": lambda: near(rng, base, top, address, 2**18 - 4), "mask": lambda: rng.choice([rng.getrandbits(64), 2**64 - 1 - 2 ** rng.randrange(19)]),
+            "offset": lambda: rng.choice([0, 0, 16, -16, 8, rng.randrange(-2048, 2048)]), "size": lambda: rng.choice([1, 2, 4, 8])}[name]())
+    if step.kind in ("load", "store"):
+        step.value = rng.getrandbits(8 * step.size)
+    elif step.kind != "sc":
+        step.result = untagged_null
+    return step
+
+
+def recorded(rng, rules, state, step):
+    """The step with the result or value that the machine has, and now and then another."""
+    row = row_by(rules, row_of(state, step))
+    if rng.random() < 0.99 and row.records[0] == "Written":
+        step.result = row.writes[1]
+    elif rng.random() < 0.99 and row.records[0] == "Read":
+        step.value = row.records[2]
+    return step
+
+
+def drawn_log(rng):
+    """A log of roots and steps. Most of the steps that strict rules refuse are left out."""
+    rules, words = rng.choice(["One", "TwoStrict", "TwoClear"]), [HIGH, HIGH | 2**64 - 1]
+    words += [rounded_word(HIGH, near(rng, 0, 4096, 2**32, 2**63), near(rng, 0, 4096, 2**20) >> rng.randrange(64)) for _ in range(3)]
+    words += [with_perms(rng.choice(words), rng.getrandbits(16)) for _ in range(2)] + [with_type(rng.choice(words), rng.getrandbits(18)), rng.getrandbits(128)]
+    places = [("Register", n) for n in range(1, 8)] + [("Granule", n) for n in (0, 1, 2**28, 2**60 - 1)]
+    roots = [DeclaredRoot(place, rng.choice(words)) for place in rng.sample(places, 5) if rng.random() < 0.8]
+    roots = [root for root in roots if is_sound(root.word) or rng.random() < 0.02]
+    state, steps = start(roots), []
+    for _ in range(rng.randrange(40)):
+        step = recorded(rng, rules, state, drawn_step(rng, state))
+        row = row_by(rules, row_of(state, step))
+        if first_of(row.tests) is None or rng.random() < 0.04:
+            steps.append(step)
+            state = state_with(state, row.writes)
+    data = text_of([*body_lines(rules, roots, steps), ("End", len(steps) + (rng.random() < 0.02))])
+    if rng.random() < 0.2:
+        at = rng.randrange(len(data))
+        data = data[:at] + rng.choice([b"", b"\n", b" ", b"0", b"f", b"x" * 96, data[at : at + 1].upper()]) + data[at + rng.randrange(3) :]
+    return data
+
+
+def compare_logs(program, count):
+    """What differs on logs, and how many logs there were."""
+    wrong, rng, logs = [], random.Random(1), []
+    for name, answer, origins in index():
+        if name.startswith(("accepted/", "rejected/")):
+            with open(f"conformance/{name}", "rb") as it:
+                logs.append((name, it.read(), [answer, *(f"origin {it.replace('=', ' ')}" for it in origins)]))
+    for path in sorted(glob.glob("examples/*.log")):
+        with open(path, "rb") as it:
+            data = it.read()
+        logs.append((path, data, printed(program, data)))
+    for kind in ("moves", "memory", "mixed", "scattered"):
+        data = subprocess.run([sys.executable, "bench/random_log.py", kind, "400"], stdout=subprocess.PIPE, check=True).stdout
+        logs.append((f"bench/random_log.py {kind} 400", data, printed(program, data)))
+    for number in range(count):
+        data = drawn_log(rng)
+        logs.append((f"log {number} drawn at random", data, printed(program, data)))
+    for name, data, wanted in logs:
+        said, refuted = judged(data)
+        if said != wanted or refuted:
+            wrong.append(f"{name}: {' / '.join([*said, *refuted])}, not {' / '.join(wanted)}")
+    return wrong, len(logs)
+
+
+def main(words):
+    program = os.environ.get("CAPCHECK") or "crates/capcheck/out/capcheck"
+    wrong_lines, lines = compare_vectors(program)
+    wrong_logs, logs = compare_logs(program, int(words[0]) if words else 100)
+    wrong = [*unnamed(), *wrong_lines, *wrong_logs]
+    print("\n".join([*wrong, f"{lines} lines of vectors and {logs} logs by the definitions in Python, {len(wrong)} otherwise"]))
     return 1 if wrong else 0
 
 
 if __name__ == "__main__":
     os.chdir(os.path.join(os.path.dirname(os.path.abspath(__file__)), ".."))
-    sys.exit(main())
+    sys.exit(main(sys.argv[1:]))
