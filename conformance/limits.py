@@ -30,7 +30,7 @@ def granules(more, header=ONE, count=65536):
 def logs():
     """The name of each log, and its text."""
     far, near = moved(2**40), moved(0)
-    yield "03.15-8-unsound-before-limit", roots(f"root c1 {WHOLE}\nroot c2 {UNSOUND}\nend 0\n")
+    yield "03.9-8-unsound-before-limit", roots(f"root c1 {WHOLE}\nroot c2 {UNSOUND}\nend 0\n")
     yield "08.1-4096-roots", roots(f"root c1 {WHOLE}\nend 0\n")
     for mode, header in (("v1", ONE), ("strict", STRICT), ("clear", CLEAR)):
         yield f"08.1-24-4097-roots-{mode}", roots(f"root c1 {WHOLE}\nroot c2 {WHOLE}\nend 0\n", header)
