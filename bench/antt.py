@@ -257,7 +257,7 @@ class Evaluator:
         return None
 
 
-# What a line is broken at, from the best place on: the mark, whether the break is behind it, and its rank.
+# What a line is broken at, from the best place on: the mark, whether the break comes after it, and its rank.
 BREAKS = [("→", False, 0), ("in", True, 1), ("×", False, 1), ("⊎", False, 1), ("|", False, 1), ("=", True, 2), ("then", False, 2), ("else", False, 2),
           ("++", False, 3), ("∷", False, 3), ("&&", False, 4)]
 
@@ -273,9 +273,9 @@ def wrapped(line, width):
             continue
         depth += (it in "({[") - (it in ")}]")
         if it == " " and indent < at:
-            for mark, behind, rank in BREAKS:
+            for mark, is_after, rank in BREAKS:
                 if line.startswith(mark + " ", at + 1) and (mark != "=" or not depth):
-                    places.append((8 * depth + rank, at + 2 + len(mark) if behind else at + 1))
+                    places.append((8 * depth + rank, at + 2 + len(mark) if is_after else at + 1))
             rank = 3 if line[at - 1] == ";" else 5 if line[at - 1] == "," else 25
             places.append((8 * depth + rank, at + 1))
     places = [it for it in places if indent + 4 < it[1] <= width]

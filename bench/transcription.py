@@ -1,9 +1,9 @@
 #!/usr/bin/env python3
-"""Compares the definitions in Python, bench/transcribed.py, with the page, the relations that they stand for, and the programs.
+"""Compares the definitions in Python, bench/transcribed.py, with docs/STANDARD.md and with capcheck.
 
     CAPCHECK=crates/capcheck/out/capcheck python3 bench/transcription.py [LOGS]
 
-- Each definition of the page's core has its name there, except those of ELSEWHERE.
+- Each definition of the page's core stands there with its number, except those of OTHERS.
 - Closed forms are compared with the relations that they stand for, on 10,000 words and requests drawn at random and on the
   vector files of examples/ and conformance/. `capcheck vectors` has to pass on all of them.
 - Verdicts and origins on the corpus have to be those of its index. On the examples and on LOGS logs drawn at random (100,
@@ -23,19 +23,23 @@ import types
 
 from transcribed import *  # noqa: F403
 
-# Definitions that speak of sources, of memory that is lacking, and of proofs: there is nothing to compute in them.
-ELSEWHERE = set("Judged IsAnswerOf IsVerdictOf IsFaultOf BeginsLog IsBehind NamesEscapes CountsOnly next_count IsFault MayLackMemory NamesNoGranules".split())
-# Definitions that Python has: a record or a form is a tuple, and a function with another value is an assignment.
-OWN = set("Beginning Recorded Datum put HasRounding".split())
+# Definitions that say something of a source, of memory that is lacking or of all bytes: there is nothing to compute.
+OTHERS = set("Judged IsAnswerOf IsVerdictOf IsFaultOf BeginsLog IsBehind NamesEscapes CountsOnly next_count IsFault MayLackMemory NamesNoGranules".split())
+# Types whose values are tuples in Python, and a function for which Python has assignments.
+OTHERS |= set("Beginning Recorded Datum put".split())
 HIGH = 0xFFFF1FFFFC018004 << 64
 
 
 def unnamed():
-    """The names of the core's definitions that transcribed.py lacks."""
-    with open("docs/STANDARD.md", encoding="utf-8") as it:
-        core = it.read().partition("\n## Annex 19")[0]
-    names = re.findall(r"^-- \d+\.\d+\. .*\n(?:--   .*\n)*(?:record |data )?(\w+)", core, re.M)
-    return [f"transcribed.py lacks {name}" for name in names if name not in globals() and name not in ELSEWHERE | OWN]
+    """The definitions of the core, sections 3 to 18 without the library, that transcribed.py lacks under their number."""
+    with open("docs/STANDARD.md", encoding="utf-8") as page, open("bench/transcribed.py", encoding="utf-8") as it:
+        index = page.read().rpartition("## Annex: Index")[2]
+        here = {number: name for name, number in re.findall(r"^(?:def |class )?(?:permit_(?=global))?(\w+)\b.*  # (\d+\.\d+)$", it.read(), re.M)}
+    there = {number: name for name, numbers in re.findall(r"`(\w+)` ([\d. and]+)", index) for number in numbers.split(" and ")}
+    core = {number: name for number, name in there.items() if 3 <= int(number.split(".")[0]) <= 18 and not number.startswith("17.")}
+    for number in sorted(here.keys() | core.keys()):
+        if here.get(number) != core.get(number) and core.get(number) not in OTHERS:
+            yield f"{number} is {core.get(number)} in docs/STANDARD.md and {here.get(number)} in bench/transcribed.py"
 
 
 # Vectors
@@ -100,7 +104,7 @@ def index():
 
 
 def judged(data):
-    """What `judge --origins` prints by the definitions, and which statements don't hold of it."""
+    """What `judge --origins` prints by the definitions, and which theorems are refuted by it."""
     verdict, beginning, account = verdict_of(data)
     wrong = [] if IsVerdict(data, verdict, beginning) else ["is no verdict"]
     if not EscapesExactly(data, verdict, beginning, account):
