@@ -23,7 +23,7 @@ ROOT = os.path.join(os.path.dirname(os.path.abspath(__file__)), "..")
 os.chdir(ROOT)
 ROOT = os.getcwd()
 PAGES = ["README.md", "CONTRIBUTING.md", "docs/FIRST_HOUR.md", "docs/FORMAT.md", "docs/WORDS.md", "docs/MACHINE.md", "docs/RECORDING.md"]
-PAGES += ["docs/ALLOCATORS.md", "docs/STANDARD.md", "docs/C.md", "docs/GLOSSARY.md", "docs/PROOFS.md", "docs/DECISIONS.md", "docs/INTERNALS.md", "CHANGELOG.md", "examples/README.md", "conformance/README.md", "web/README.md", "bench/README.md"]
+PAGES += ["docs/ALLOCATORS.md", "docs/STANDARD.md", "docs/C.md", "docs/GLOSSARY.md", "docs/PROOFS.md", "docs/DECISIONS.md", "docs/INTERNALS.md", "CHANGELOG.md", "examples/README.md", "examples/qemu/README.md", "conformance/README.md", "web/README.md", "bench/README.md"]
 
 # Commands that no session runs, and where they are run.
 ELSEWHERE = {
@@ -40,6 +40,7 @@ ELSEWHERE = {
     "cc -Iinclude program.c crates/capcheck_c/out/libcapcheck_c.a -o program": "examples/emulator/check.sh, with another program",
     "cc -ffreestanding -Iinclude program.c crates/capcheck_freestanding/out/libcapcheck_freestanding.a -o program": "examples/emulator/check.sh, with another program",
     "cc -shared -fPIC -Iinclude recorder.c judge/out/libcapcheck_judge.a crates/capcheck_c/out/libcapcheck_c.a -Wl,--exclude-libs,ALL -o recorder.so": "by hand, as examples/qemu/README.md has it",
+    "cc -std=c11 -shared -fPIC -O2 -Iinclude -I/path/to/qemu/include/qemu examples/qemu/recorder.c judge/out/libcapcheck_judge.a crates/capcheck_c/out/libcapcheck_c.a -Wl,--exclude-libs,ALL -o recorder.so": "by hand, where QEMU is",
     "sh web/build.sh": "web/check.sh",
     "sh web/check.sh": "the gate",
     "sh web/test.sh": "by hand, in a browser",

@@ -164,7 +164,7 @@ static void finished(qemu_plugin_id_t id, void *none) {
     if (has_ended)
         return;
     capcheck_answer answer = capcheck_judge_answer(&judge);
-    tell("recorder: %u log%s, and no line at fault\n", logs, logs == 1 ? "" : "s");
+    tell("recorder: %u log%s, and no line refused\n", logs, logs == 1 ? "" : "s");
     if (answer.state == CAPCHECK_GOES_ON)
         end();
 }
