@@ -10,13 +10,13 @@ from tree import KIT, WIDTH, comment_of, fail, text_of
 # The modules in which names are looked for.
 CORE = {(crate, name) for crate, names in {
     "cap_word": "Fields Word Memory Digits", "cap_bounds": "Bounds Rounding Range", "tagmem": "Granules",
-    "cap_ops": "Tests Permissions Operations Accesses Authority Refusals", "cap_log": "Lines Ranges Front Streams",
+    "cap_ops": "Checks Permissions Operations Accesses Authority Refusals", "cap_log": "Lines Ranges Front Streams",
     "cap_machine": "States Steps Accounts Runs RunAccounts Origins Escapes", "cap_judge": "Logs Verdicts Judgings VerdictLines"}.items() for name in names.split()}
-CHECKS = "authority_tests type_authority_tests seal_tests unseal_tests set_bounds_tests set_addr_tests and_perm_tests stored_tests access_tests"
-ROWS = CHECKS + " permission_for operation access_through address_through row_of"
+CHECKS = "authority_checks type_authority_checks seal_checks unseal_checks set_bounds_checks set_addr_checks and_perm_checks stored_checks access_checks"
+ROWS = CHECKS + " permission_for operation access_through address_through granule_through row_of"
 STEPS = "Move ClearTag SetBounds SetBoundsExact SetAddr AndPerm Seal Unseal LoadCap StoreCap Load Store".split()
 FIELDS = {"perms_of": "perms", "reserved_of": "res", "flag_of": "f", "otype_of": "otype", "ie_of": "IE", "t_field": "T field", "b_field": "B field", "address_of": "address"}
-PERMISSIONS = "global permit_load permit_store permit_load_capability permit_store_capability permit_store_local_capability permit_seal permit_unseal".split()
+PERMISSIONS = "permit_global permit_load permit_store permit_load_capability permit_store_capability permit_store_local_capability permit_seal permit_unseal".split()
 LIMITS = "most_roots most_granules most_steps".split()
 # The operands and the recorded results of a step, as a line of the page has them.
 NAMED = {"step.target": "cD", "step.source": "cS", "step.authority": "cA", "step.length": "LENGTH", "step.address": "ADDRESS", "step.mask": "MASK",
@@ -55,7 +55,7 @@ def refusals():
     """Number and name of each refusal, and what its declaration says of it."""
     module = ("cap_ops", "Refusals")
     numbers = dict(re.findall(r"refusal_number (\w+) = (\d+)", "\n".join(text_of(module, "refusal_number"))))
-    names = dict(re.findall(r'name_of (\w+) = codes "(\w+)"', "\n".join(text_of(module, "name_of"))))
+    names = dict(re.findall(r'refusal_name (\w+) = codes "(\w+)"', "\n".join(text_of(module, "refusal_name"))))
     source = read("crates/cap_ops/src/refusal.rt")
     told = {m[2]: (m[3], re.sub(r"\s*\n\s*/// ", " ", m[1])) for m in re.finditer(r"    /// \d+: ((?:[^\n]*\n    /// )*[^\n]*)\n    (\w+) = (\d+),", source)}
     if not set(numbers) == set(names) == set(told) or any(names[it] != it or told[it][0] != numbers[it] for it in numbers):
@@ -99,7 +99,7 @@ def in_short(tree):
 
 def checks_cell(row):
     """The numbers of a step's checks, with the permission that an authority needs."""
-    names, conditions, on_tagged = checks_of(row["tests"])
+    names, conditions, on_tagged = checks_of(row["checks"])
     numbers = [str(refusals()[it][0]) for it in names]
     if names[:4] == ["AuthorityUntagged", "AuthoritySealed", "AuthorityPermission", "AuthorityBounds"]:
         permission = next(it for it in antt.show(conditions[2]).rstrip(")").split() if it.startswith("permit"))
@@ -112,7 +112,7 @@ def steps_table(first):
     rows, words, found = step_rows(), step_words(), []
     for number, kind in zip(numbers_from(first), STEPS):
         row = rows[kind]
-        tests = evaluated("operation access_through row_of", f"row_of state ({kind} step)")[2]["tests"]
+        tests = evaluated("operation access_through row_of", f"row_of state ({kind} step)")[2]["checks"]
         defined = f"`{in_short(tests).replace('kinds.', '')}`" if tests[0] == "app" else ""
         writes = row["writes"][2][1:] if row["writes"][0] == "app" else None
         parent = in_short(row["parent"][2]) if row["parent"][0] == "app" else "none"
@@ -127,7 +127,7 @@ def steps_table(first):
 
 def line_checks(argument):
     """The checks of a line of some form, and whether those of a step come first."""
-    tree = evaluated("line_tests root_tests step_tests", f"line_tests account ({argument})")
+    tree = evaluated("line_checks root_checks step_checks", f"line_checks account ({argument})")
     return [it[2][1] for it in (tree[3] if tree[0] == "op" else tree)[1]], tree[0] == "op"
 
 
@@ -136,7 +136,7 @@ def places_of_refusals(rows):
     found = {it: [] for it in refusals()}
     heads = {kind: operand(words[0]) for kind, words in step_words().items()}
     for kind, row in rows.items():
-        for name in checks_of(row["tests"])[0]:
+        for name in checks_of(row["checks"])[0]:
             found[name].append(f"`{heads[kind]}`")
     for text, line in (("`root`", "Root place word"), ("`end`", "End count"), ("version and mode lines", "Version version"), ("each step", "Step step")):
         for name in line_checks(line)[0]:
@@ -153,7 +153,7 @@ def refusals_table():
     rows = step_rows()
     found, told = places_of_refusals(rows), []
     is_access = {kind: row["access"] != ("name", "None") for kind, row in rows.items()}
-    with_access, without = ({it for kind, row in rows.items() if is_access[kind] == wanted for it in checks_of(row["tests"])[0]} for wanted in (True, False))
+    with_access, without = ({it for kind, row in rows.items() if is_access[kind] == wanted for it in checks_of(row["checks"])[0]} for wanted in (True, False))
     for name, (number, text) in refusals().items():
         where = found[name]
         if len(where) == 6 and "`seal`" in where:
@@ -260,7 +260,7 @@ PARTS = {
 }
 NOTES = {"register": "c0 to c31", "target": "c1 to c31", "place": "a register, or the address of a granule", "offset": "-2048 to 2047", "count": "below 2 ^ 32"}
 # What the grammar takes for granted of the ranges.
-RANGES = {"IsTarget": "(1 ≤ n) × (n ≤ 31)", "IsOffset": "(negsuc 2047 ≤ℤ z) × (z ≤ℤ pos 2047)", "IsDataSize": "(size ≡ 1) ⊎ ((size ≡ 2) ⊎ ((size ≡ 4) ⊎ (size ≡ 8)))",
+RANGES = {"IsRegister": "n ≤ 31", "IsTarget": "(1 ≤ n) × (n ≤ 31)", "IsWord": "n < 2 ^ 128", "IsNumber": "n < 2 ^ 64", "IsVersion": "(version ≡ 1) ⊎ (version ≡ 2)", "IsOffset": "(negsuc 2047 ≤ℤ z) × (z ≤ℤ pos 2047)", "IsDataSize": "(size ≡ 1) ⊎ ((size ≡ 2) ⊎ ((size ≡ 4) ⊎ (size ≡ 8)))",
           "IsDataValue": "value < 256 ^ size", "IsDatum": "IsDataSize datum.size × IsDataValue datum.size datum.value"}
 
 
@@ -270,12 +270,12 @@ def part_of(tree, ranges):
         return f'"{tree[2][1]}"'
     head, value = tree[1][1], antt.show(tree[-1])
     limit = ranges.get(value, "")
-    rule = {("register_spelling", f"IsTarget {value}"): "target", ("register_spelling", f"{value} ≤ 31"): "register",
+    rule = {("register_spelling", f"IsTarget {value}"): "target", ("register_spelling", f"IsRegister {value}"): "register",
             ("signed_decimal", f"IsOffset {value}"): "offset", ("place_spelling", f"IsPlace {value}"): "place",
             ("tag_spelling", ""): "tag", ("decimal", f"{value} < {2**32}"): "count", ("mode_spelling", ""): "mode",
-            ("decimal", f"({value} ≡ 1) ⊎ ({value} ≡ 2)"): '( "1" / "2" )'}.get((head, limit))
+            ("decimal", f"IsVersion {value}"): '( "1" / "2" )'}.get((head, limit))
     if head == "hex_digits":
-        rule = {("16", f"{value} < {2**64}"): "number", ("32", f"{value} < {2**128}"): "word"}.get((antt.show(tree[2]), limit))
+        rule = {("16", f"IsNumber {value}"): "number", ("32", f"IsWord {value}"): "word"}.get((antt.show(tree[2]), limit))
     return rule or fail(f"no rule for {antt.show(tree)} in the range {limit}")
 
 
@@ -309,7 +309,7 @@ def step_rule(kind, words):
 def grammar():
     """The grammar of the log, made of the definitions of how lines are spelled and which numbers they have."""
     for name, wanted in RANGES.items():
-        if text_of(("cap_log", "Ranges"), name)[1].split(" = ", 1)[1] != wanted:
+        if text_of(("cap_log", "Ranges" if name in SPECS["cap_log", "Ranges"][0] else "Lines"), name)[1].split(" = ", 1)[1] != wanted:
             fail(f"the grammar has {wanted} for {name}")
     lines, rules = {}, {operand(words[0]): step_rule(kind, words) for kind, words in step_words().items()}
     for name, argument in (("version", "Version version"), ("root", "Root place word"), ("end", "End steps"), ("mode-line", "Moding mode")):

@@ -63,7 +63,8 @@ def AreBounds(w, base, top):  # 15.1
     return base == raw_base % 2**64 and top == raw_top % 2**65
 
 
-def raw_base_at(e, b, address): return (2**14 * (((address + 2**66) // 2 ** (e + 11) + 1 - b // 2**11) // 8) + b) * 2**e  # 15.11
+def windows_at(e, b, address): return ((address + 2**66) // 2 ** (e + 11) + 1 - b // 2**11) // 8  # 15.18
+def raw_base_at(e, b, address): return (2**14 * windows_at(e, b, address) + b) * 2**e  # 15.11
 def top_at(e, raw_base, length): return raw_base % 2**64 + length if e <= 50 else (raw_base + length) % 2**65  # 15.12
 def length_of(w): return (2**12 * bit_of(ie_of(w)) + (t_of(w) + 2**14 - b_of(w)) % 2**12) * 2 ** cut_exponent_of(w)  # 15.13
 def base_of(w): return raw_base_at(cut_exponent_of(w), b_of(w), address_of(w)) % 2**64  # 15.9
@@ -146,20 +147,20 @@ def tagged(word): return Cap(True, word)  # 9.5
 def cleared(cap): return Cap(False, cap.word)  # 12.15
 def with_word(cap, w): return Cap(cap.tag, w)  # 12.16
 def covers(w, base, top): return IsInside(base, top, base_of(w), top_of(w))  # 12.17
-def on_tagged(source, tests): return tests if source.tag else []  # 12.13
-def first_of(tests): return next((refusal for test, refusal in tests if test), None)  # 5.1
+def on_tagged(source, checks): return checks if source.tag else []  # 12.13
+def first_of(checks): return next((refusal for test, refusal in checks if test), None)  # 5.1
 
 
-def authority_tests(authority, permission, base, top):  # 12.11
+def authority_checks(authority, permission, base, top):  # 12.11
     return [(not authority.tag, "AuthorityUntagged"), (is_sealed(authority.word), "AuthoritySealed"),
             (not has_permission(authority.word, permission), "AuthorityPermission"), (not covers(authority.word, base, top), "AuthorityBounds")]
 
 
-def type_authority_tests(authority, permission):  # 12.12
-    return authority_tests(authority, permission, address_of(authority.word), address_of(authority.word) + 1)
+def type_authority_checks(authority, permission):  # 12.12
+    return authority_checks(authority, permission, address_of(authority.word), address_of(authority.word) + 1)
 
 
-def set_bounds_tests(source, length, exact):  # 12.1
+def set_bounds_checks(source, length, exact):  # 12.1
     base = address_of(source.word)
     return on_tagged(source, [(is_sealed(source.word), "SourceSealed"),
                               (not covers(source.word, rounded_base(base, length), rounded_top(base, length)), "BoundsEscape"),
@@ -169,29 +170,29 @@ def set_bounds_tests(source, length, exact):  # 12.1
 def set_bounds_result(source, length): return with_word(source, rounded_word(source.word, address_of(source.word), length))  # 12.2
 
 
-def set_addr_tests(source, address):  # 12.3
+def set_addr_checks(source, address):  # 12.3
     return on_tagged(source, [(is_sealed(source.word), "SourceSealed"), (not is_kept_at(source.word, address), "NotRepresentable")])
 
 
 def set_addr_result(source, address): return with_word(source, with_address(source.word, address))  # 12.4
-def and_perm_tests(source): return on_tagged(source, [(is_sealed(source.word), "SourceSealed")])  # 12.5
+def and_perm_checks(source): return on_tagged(source, [(is_sealed(source.word), "SourceSealed")])  # 12.5
 
 
 def and_perm_result(source, mask):  # 12.6
     return with_word(source, with_perms(source.word, perms_from_view(perm_view_of(source.word) & mask)))
 
 
-def seal_tests(source, authority):  # 12.7
-    return type_authority_tests(authority, permit_seal) + [(greatest_type < address_of(authority.word), "TypeOutOfRange"),
+def seal_checks(source, authority):  # 12.7
+    return type_authority_checks(authority, permit_seal) + [(greatest_type < address_of(authority.word), "TypeOutOfRange"),
                                                            (not source.tag, "SourceUntagged"), (is_sealed(source.word), "SourceSealed")]
 
 
 def seal_result(source, authority): return with_word(source, with_type(source.word, address_of(authority.word) % 2**18))  # 12.8
 
 
-def unseal_tests(source, authority):  # 12.9
+def unseal_checks(source, authority):  # 12.9
     is_type = otype_of(source.word) == address_of(authority.word) and otype_of(source.word) <= greatest_type
-    return type_authority_tests(authority, permit_unseal) + [(not source.tag, "SourceUntagged"), (not is_type, "TypeMismatch")]
+    return type_authority_checks(authority, permit_unseal) + [(not source.tag, "SourceUntagged"), (not is_type, "TypeMismatch")]
 
 
 def perms_with_common_global(w, other):  # 12.20
@@ -203,7 +204,7 @@ def unseal_result(source, authority):  # 12.10
     return with_word(source, with_type(with_perms(source.word, perms), unsealed_type))
 
 
-def clear_result(tests, result): return cleared(result) if first_of(tests) is not None else result  # 12.14
+def clear_result(checks, result): return cleared(result) if first_of(checks) is not None else result  # 12.14
 
 
 # Accesses. A kind is LoadData, StoreData, LoadCap, or StoreCap with what is stored.
@@ -211,7 +212,7 @@ def permission_for(kind): return permit_store if kind[0] in ("StoreData", "Store
 def access_address(w, offset): return (address_of(w) + offset % 2**64) % 2**64  # 11.2
 
 
-def stored_tests(w, kind):  # 11.4
+def stored_checks(w, kind):  # 11.4
     if kind[0] != "StoreCap":
         return []
     is_local = not has_permission(kind[1].word, permit_global)
@@ -219,10 +220,10 @@ def stored_tests(w, kind):  # 11.4
             (kind[1].tag and is_local and not has_permission(w, permit_store_local_capability), "StoreLocalPermission")]
 
 
-def access_tests(authority, kind, offset, size):  # 11.1
+def access_checks(authority, kind, offset, size):  # 11.1
     address = access_address(authority.word, offset)
-    return (authority_tests(authority, permission_for(kind), address, address + size)
-            + [(address % size != 0, "Misaligned")] + stored_tests(authority.word, kind))
+    return (authority_checks(authority, permission_for(kind), address, address + size)
+            + [(address % size != 0, "Misaligned")] + stored_checks(authority.word, kind))
 
 
 def loaded_result(authority, stored): return stored._replace(tag=stored.tag and has_permission(authority.word, permit_load_capability))  # 11.5
@@ -236,8 +237,9 @@ class State(dict):  # 9.1
 
 DeclaredRoot = collections.namedtuple("DeclaredRoot", "place word")  # 9.3
 Access = collections.namedtuple("Access", "authority address size permission")  # 9.10
-Row = collections.namedtuple("Row", "tests writes parent records access")  # 9.8
-def key_of(place): return place[1] if place[0] == "Register" else place[1] + 32  # 9.2
+Row = collections.namedtuple("Row", "checks writes parent records access")  # 9.8
+def granule_key(granule): return granule + 32  # 9.19
+def key_of(place): return place[1] if place[0] == "Register" else granule_key(place[1])  # 9.2
 def overwritten(data, at, new): return data[:at] + new + data[at + len(new) :]  # 9.13
 
 
@@ -254,16 +256,17 @@ def with_value(cap, at, size, value):  # 9.12
 
 
 # The twelve steps. A step has its kind, and the operands of its line.
-def operation(step, tests, result):  # 18.23
-    return Row(tests, (("Register", step.target), result), ("Register", step.source), ("Written", step.result), None)
+def operation(step, checks, result):  # 18.23
+    return Row(checks, (("Register", step.target), result), ("Register", step.source), ("Written", step.result), None)
 
 
 def address_through(state, authority, offset): return access_address(state[authority].word, offset)  # 18.25
+def granule_through(state, authority, offset): return address_through(state, authority, offset) // 16  # 18.26
 
 
 def access_through(state, register, kind, offset, size):  # 18.24
     access = Access(register, address_through(state, register, offset), size, permission_for(kind))
-    return Row(access_tests(state[register], kind, offset, size), None, None, ("Nothing",), access)
+    return Row(access_checks(state[register], kind, offset, size), None, None, ("Nothing",), access)
 
 
 def row_of(state, step):  # 18.22
@@ -275,20 +278,20 @@ def row_of(state, step):  # 18.22
     if step.kind == "cleartag":
         return operation(step, [], cleared(source))
     if step.kind in ("setbounds", "setboundsexact"):
-        return operation(step, set_bounds_tests(source, step.length, step.kind == "setboundsexact"), set_bounds_result(source, step.length))
+        return operation(step, set_bounds_checks(source, step.length, step.kind == "setboundsexact"), set_bounds_result(source, step.length))
     if step.kind == "setaddr":
-        return operation(step, set_addr_tests(source, step.address), set_addr_result(source, step.address))
+        return operation(step, set_addr_checks(source, step.address), set_addr_result(source, step.address))
     if step.kind == "andperm":
-        return operation(step, and_perm_tests(source), and_perm_result(source, step.mask))
+        return operation(step, and_perm_checks(source), and_perm_result(source, step.mask))
     authority = state[step.authority]
     if step.kind == "seal":
-        return operation(step, seal_tests(source, authority), seal_result(source, authority))
-    return operation(step, unseal_tests(source, authority), unseal_result(source, authority))
+        return operation(step, seal_checks(source, authority), seal_result(source, authority))
+    return operation(step, unseal_checks(source, authority), unseal_result(source, authority))
 
 
 def row_of_access(state, step):
     address = address_through(state, step.authority, step.offset)
-    granule = ("Granule", address // 16)
+    granule = ("Granule", granule_through(state, step.authority, step.offset))
     if step.kind == "lc":
         row = access_through(state, step.authority, ("LoadCap",), step.offset, 16)
         result = loaded_result(state[step.authority], state[key_of(granule)])
@@ -298,13 +301,13 @@ def row_of_access(state, step):
         return row._replace(writes=(granule, state[step.source]), parent=("Register", step.source))
     if step.kind == "load":
         row = access_through(state, step.authority, ("LoadData",), step.offset, step.size)
-        return row._replace(records=("Read", step.value, value_at(state, address, step.size)))
+        return row._replace(records=("ReadNumber", step.value, value_at(state, address, step.size)))
     row = access_through(state, step.authority, ("StoreData",), step.offset, step.size)
     return row._replace(writes=(granule, with_value(state[key_of(granule)], address % 16, step.size, step.value)))
 
 
 def clear_row(access, row):  # 9.16
-    return row if access else row._replace(tests=[], writes=(row.writes[0], clear_result(row.tests, row.writes[1])))
+    return row if access else row._replace(checks=[], writes=(row.writes[0], clear_result(row.checks, row.writes[1])))
 
 
 def row_by(rules, row): return clear_row(row.access, row) if rules == "TwoClear" else row  # 9.15
@@ -327,7 +330,7 @@ def state_with(state, writes):  # 9.18
 def Leads(rules, state, step):  # 9.14
     """Whether the step leads to a state, which the old one then is."""
     row = row_by(rules, row_of(state, step))
-    return first_of(row.tests) is None and agrees(row.writes, row.records) and state_with(state, row.writes) is state
+    return first_of(row.checks) is None and agrees(row.writes, row.records) and state_with(state, row.writes) is state
 
 
 def IsRun(rules, state, steps):  # 7.1
@@ -407,6 +410,9 @@ def granule_of(place): return place[1] if place[0] == "Granule" else None  # 8.1
 def named_by(row): return granule_of(row.writes[0]) if row.writes else None  # 8.10
 
 
+def row_in(account, step): return row_by(account.rules, row_of(account.state, step))  # 8.17
+
+
 def naming(account, granule):  # 8.9
     if granule is not None:
         account.named.add(granule)
@@ -416,7 +422,7 @@ def is_new(account, named): return named is not None and named not in account.na
 def named_by_line(account, line):  # 3.14
     """The granule that a line names."""
     if line[0] == "Step":
-        return named_by(row_by(account.rules, row_of(account.state, line[1])))
+        return named_by(row_in(account, line[1]))
     return granule_of(line[1].place) if line[0] == "Root" else None
 
 
@@ -432,7 +438,7 @@ def with_root(account, root):  # 8.7
 
 
 def with_step(account, step):  # 8.8
-    row = row_by(account.rules, row_of(account.state, step))
+    row = row_in(account, step)
     naming(account, named_by(row))
     account.origin = origins_after(account.origin, row)
     account.state = state_with(account.state, row.writes)
@@ -451,14 +457,14 @@ def account_after(rules, roots, steps):  # 8.6
     return functools.reduce(with_step, steps, functools.reduce(with_root, roots, no_account(rules)))
 
 
-def root_tests(account, place, word):  # 8.15
+def root_checks(account, place, word):  # 8.15
     return [(account.state[key_of(place)].tag, "PlaceTaken"), (not is_sound(word), "UnsoundRoot"),
             (most_roots <= account.roots or passes_granule_limit(account, granule_of(place)), "LimitPassed")]
 
 
-def step_tests(account, step):  # 8.16
-    row = row_by(account.rules, row_of(account.state, step))
-    return row.tests + [(not agrees(row.writes, row.records), "WrongResult"),
+def step_checks(account, step):  # 8.16
+    row = row_in(account, step)
+    return row.checks + [(not agrees(row.writes, row.records), "WrongResult"),
                         (most_steps <= account.steps or passes_granule_limit(account, named_by(row)), "LimitPassed")]
 
 
@@ -502,24 +508,28 @@ def Spells(data, line): return IsInRange(*line) and data == spelling(line)  # 3.
 def text_of(lines): return b"".join(spelling(line) + b"\n" for line in lines)  # 3.5
 
 
+def IsRegister(n): return 0 <= n <= 31  # 18.27
 def IsTarget(n): return 1 <= n <= 31  # 18.14
 def IsOffset(z): return -2048 <= z <= 2047  # 18.15
 def IsDataSize(size): return size in (1, 2, 4, 8)  # 18.18
 def IsDataValue(size, value): return 0 <= value < 256**size  # 18.19
 def IsDatum(size, value): return IsDataSize(size) and IsDataValue(size, value)  # 18.16
+def IsWord(n): return 0 <= n < 2**128  # 18.28
+def IsNumber(n): return 0 <= n < 2**64  # 18.29
+def IsVersion(version): return version in (1, 2)  # 18.30
 def IsPlace(place): return IsTarget(place[1]) if place[0] == "Register" else 0 <= place[1] < 2**60  # 18.12
 
 
 def IsStepInRange(step):  # 18.13
-    ranges = {"target": IsTarget, "source": lambda n: 0 <= n <= 31, "authority": lambda n: 0 <= n <= 31, "offset": IsOffset,
-              "result": lambda cap: 0 <= cap.word < 2**128, "size": lambda size: IsDatum(size, step.value)}
+    ranges = {"target": IsTarget, "source": IsRegister, "authority": IsRegister, "offset": IsOffset,
+              "result": lambda cap: IsWord(cap.word), "size": lambda size: IsDatum(size, step.value)}
     names = [*OPERANDS[step.kind].split(), *["result"][: hasattr(step, "result")]]
-    return all(ranges.get(name, lambda n: 0 <= n < 2**64)(getattr(step, name)) for name in names)
+    return all(ranges.get(name, IsNumber)(getattr(step, name)) for name in names)
 
 
 def IsInRange(form, *parts):  # 18.11
-    return {"Version": lambda version: version in (1, 2), "Mode": lambda mode: True, "End": lambda steps: 0 <= steps < 2**32,
-            "Root": lambda root: IsPlace(root.place) and 0 <= root.word < 2**128, "Step": IsStepInRange}[form](*parts)
+    return {"Version": IsVersion, "Mode": lambda mode: True, "End": lambda steps: 0 <= steps < 2**32,
+            "Root": lambda root: IsPlace(root.place) and IsWord(root.word), "Step": IsStepInRange}[form](*parts)
 
 
 def has_form(rules, line): return line[0] not in ("Version", "Mode") or rules != "One" or line == ("Version", 1)  # 3.8
@@ -556,7 +566,7 @@ def line_from(data):
         return None
 
 
-# The log and its verdict. A beginning is Nothing, NoMode, or Body or Whole with its rules, roots and steps.
+# The log and its verdict. A beginning is Empty, NoMode, or Body or Whole with its rules, roots and steps.
 def header_lines(rules): return [("Version", 1)] if rules == "One" else [("Version", 2), ("Mode", rules[3:])]  # 3.4
 
 
@@ -565,7 +575,7 @@ def body_lines(rules, roots, steps):  # 3.3
 
 
 def lines_of(form, *body):  # 4.5
-    if form in ("Nothing", "NoMode"):
+    if form in ("Empty", "NoMode"):
         return [("Version", 2)] if form == "NoMode" else []
     return body_lines(*body) + ([("End", len(body[2]))] if form == "Whole" else [])
 
@@ -576,15 +586,16 @@ def RunsBy(rules, roots, steps):  # 3.2
             and len(account_after(rules, roots, steps).named) <= most_granules(rules) and IsRun(rules, start(roots), steps))
 
 
-def IsAccepted(form, *body): return form in ("Nothing", "NoMode") or RunsBy(*body)  # 4.6
+def IsAccepted(form, *body): return form in ("Empty", "NoMode") or RunsBy(*body)  # 4.6
 def IsLogOf(data, rules, roots, steps): return data == text_of([*body_lines(rules, roots, steps), ("End", len(steps))]) and RunsBy(rules, roots, steps)  # 3.1
 def HasNoFeed(data): return 10 not in data  # 3.17
 def IsCut(data): return len(data) <= 95 and HasNoFeed(data)  # 3.18
+def IsTooLong(data): return len(data) >= 96 and HasNoFeed(data[:96])  # 3.19
 def IsLine(data, line, rest): return data == line + b"\n" + rest and HasNoFeed(line) and len(line) <= 95  # 3.16
 
 
 def FrontIs(data, at_too_long, at_cut, at_line):  # 3.15
-    if len(data) >= 96 and HasNoFeed(data[:96]):
+    if IsTooLong(data):
         return at_too_long
     if IsCut(data):
         return at_cut
@@ -593,24 +604,24 @@ def FrontIs(data, at_too_long, at_cut, at_line):  # 3.15
     return at_line(line)
 
 
-def line_tests(account, line):  # 3.13
+def line_checks(account, line):  # 3.13
     if line[0] == "Root":
-        return [(account.steps > 0, "Misplaced")] + root_tests(account, line[1].place, line[1].word)
+        return [(account.steps > 0, "Misplaced")] + root_checks(account, line[1].place, line[1].word)
     if line[0] == "Step":
-        return step_tests(account, line[1])
+        return step_checks(account, line[1])
     return [(line[1] != account.steps, "WrongCount")] if line[0] == "End" else [(True, "Misplaced")]
 
 
 def RefusesLine(account, data):  # 4.9
     line = line_from(data)
-    return first_of(line_tests(account, line)) if SpellsBy(account.rules, data, line) else "BadLine"
+    return first_of(line_checks(account, line)) if SpellsBy(account.rules, data, line) else "BadLine"
 
 
 def RefusesWhole(form, account, data):  # 4.8
     line = line_from(data) or ("",)
     if form == "Body":
         return RefusesLine(account, data)
-    return None if line[0] == {"Nothing": "Version", "NoMode": "Mode"}[form] else {"Nothing": "BadHeader", "NoMode": "BadMode"}[form]
+    return None if line[0] == {"Empty": "Version", "NoMode": "Mode"}[form] else {"Empty": "BadHeader", "NoMode": "BadMode"}[form]
 
 
 def Refuses(form, account, rest):  # 4.7
@@ -640,7 +651,7 @@ def IsVerdict(data, verdict, beginning):  # 4.1
 
 def verdict_of(data):
     """The verdict of some bytes with the beginning that it rests on and its account: lines are read in turn."""
-    form, body, account, at = "Nothing", [], None, 0
+    form, body, account, at = "Empty", [], None, 0
     while True:
         refusal = Refuses(form, account, data[at : at + 96])
         if refusal:
@@ -684,11 +695,11 @@ REFUSALS = ("BadHeader LineTooLong BadLine Misplaced Truncated WrongCount PlaceT
             "NotRepresentable AuthorityUntagged AuthoritySealed AuthorityPermission AuthorityBounds TypeOutOfRange TypeMismatch Misaligned "
             "StoreCapPermission StoreLocalPermission WrongResult LimitPassed BadMode").split()
 def refusal_number(refusal): return REFUSALS.index(refusal) + 1  # 18.20
-def name_of(refusal): return refusal  # 18.21
+def refusal_name(refusal): return refusal  # 18.21
 
 
 def verdict_line(verdict):  # 4.10
-    return f"yes {verdict[1]} {verdict[2]}" if verdict[0] == "Yes" else f"no {verdict[1]} {refusal_number(verdict[2])} {name_of(verdict[2])}"
+    return f"yes {verdict[1]} {verdict[2]}" if verdict[0] == "Yes" else f"no {verdict[1]} {refusal_number(verdict[2])} {refusal_name(verdict[2])}"
 
 
 def origin_lines(account):

@@ -24,7 +24,7 @@ import types
 from transcribed import *  # noqa: F403
 
 # Definitions that say something of a source, of memory that is lacking or of all bytes: there is nothing to compute.
-OTHERS = set("Judged IsAnswerOf IsVerdictOf IsFaultOf BeginsLog IsBehind NamesEscapes CountsOnly next_count IsFault MayLackMemory NamesNoGranules".split())
+OTHERS = set("Judged IsAnswerOf IsVerdictOf NoVerdictOf BeginsLog IsBehind NamesEscapes CountsOnly next_count NoVerdictIn MayLackMemory NamesNoGranules".split())
 # Types whose values are tuples in Python, and a function for which Python has assignments.
 OTHERS |= set("Beginning Recorded Datum put".split())
 HIGH = 0xFFFF1FFFFC018004 << 64
@@ -34,7 +34,7 @@ def unnamed():
     """The definitions of the core, sections 3 to 18 without the library, that transcribed.py lacks under their number."""
     with open("docs/STANDARD.md", encoding="utf-8") as page, open("bench/transcribed.py", encoding="utf-8") as it:
         index = page.read().rpartition("## Annex: Index")[2]
-        here = {number: name for name, number in re.findall(r"^(?:def |class )?(?:permit_(?=global))?(\w+)\b.*  # (\d+\.\d+)$", it.read(), re.M)}
+        here = {number: name for name, number in re.findall(r"^(?:def |class )?(\w+)\b.*  # (\d+\.\d+)$", it.read(), re.M)}
     there = {number: name for name, numbers in re.findall(r"`(\w+)` ([\d. and]+)", index) for number in numbers.split(" and ")}
     core = {number: name for number, name in there.items() if 3 <= int(number.split(".")[0]) <= 18 and not number.startswith("17.")}
     for number in sorted(here.keys() | core.keys()):
@@ -150,7 +150,7 @@ def recorded(rng, rules, state, step):
     row = row_by(rules, row_of(state, step))
     if rng.random() < 0.99 and row.records[0] == "Written":
         step.result = row.writes[1]
-    elif rng.random() < 0.99 and row.records[0] == "Read":
+    elif rng.random() < 0.99 and row.records[0] == "ReadNumber":
         step.value = row.records[2]
     return step
 
@@ -167,7 +167,7 @@ def drawn_log(rng):
     for _ in range(rng.randrange(40)):
         step = recorded(rng, rules, state, drawn_step(rng, state))
         row = row_by(rules, row_of(state, step))
-        if first_of(row.tests) is None or rng.random() < 0.04:
+        if first_of(row.checks) is None or rng.random() < 0.04:
             steps.append(step)
             state = state_with(state, row.writes)
     data = text_of([*body_lines(rules, roots, steps), ("End", len(steps) + (rng.random() < 0.02))])

@@ -164,7 +164,7 @@ pub AreBounds-exists : (w : ℕ) → AreBounds w (base_of w) (top_of w)
 unfolding base_of
 AreBounds-exists w = record {
   mantissa = mantissa_of (b_of w) (t_of w) (ie_of w);
-  start = window_start w;
+  first = window_start w;
   raw_base = raw_base_at (cut_exponent_of w) (b_of w) (address_of w);
   raw_top = raw_top_of w;
   mantissa_is = IsMantissa-mantissa_of (b_of w) (t_of w) (ie_of w) (b_of-lt w) (t_of-lt w);
@@ -182,14 +182,14 @@ unfolding base_of
 AreBounds-unique w base top h =
     let mantissa : h.mantissa
     ≡ mantissa_of (b_of w) (t_of w) (ie_of w) = IsMantissa-unique (b_of w) (t_of w) (ie_of w) h.mantissa (b_of-lt w) h.mantissa_is in
-    let start : h.start ≡ window_start w = IsWindow-unique w h.start h.window in
+    let start : h.first ≡ window_start w = IsWindow-unique w h.first h.window in
     let raw_base : h.raw_base ≡ raw_base_at (cut_exponent_of w) (b_of w) (address_of w) =
     IsResidue-unique (window_start w) (window_size w) (b_of w * unit_of w) h.raw_base _
     (subst (λ (x : ℕ). IsResidue x (window_size w) (b_of w * unit_of w) h.raw_base) start h.raw_base_is) (raw_base_of-residue w) in
     let raw_top : h.raw_top ≡ raw_top_of w =
     IsResidue-unique (window_start w) (window_size w) (mantissa_of (b_of w) (t_of w) (ie_of w) * unit_of w) h.raw_top _
     (subst (λ (x : ℕ). IsResidue x (window_size w) (mantissa_of (b_of w) (t_of w) (ie_of w) * unit_of w) h.raw_top) start
-    (subst (λ (x : ℕ). IsResidue h.start (window_size w) (x * unit_of w) h.raw_top) mantissa h.raw_top_is)) (raw_top_of-residue w) in
+    (subst (λ (x : ℕ). IsResidue h.first (window_size w) (x * unit_of w) h.raw_top) mantissa h.raw_top_is)) (raw_top_of-residue w) in
     let base_is : base ≡ base_of w = h.base_is ∙ ap (λ (x : ℕ). x % 2 ^ 64) raw_base in (
       base_is,
       elim (cases_lt 50 (cut_exponent_of w)) [

@@ -6,7 +6,7 @@
 use Rattle.std.specs.Prelude.{◌≡◌, ℕ, ◌+◌, ◌-◌, ◌*◌, ◌/◌, ◌%◌, ◌^◌, ◌<◌, ◌≤◌, min, Bool, ◌==◌, ◌&&◌, nat_le, if◌then◌else◌}
 use Rattle.cap_word.specs.Fields.{bit_of, ie_of, e_of, b_of, t_of, address_of}
 
--- x is the number of low .. low + size - 1 that is congruent to value modulo size (this profile's own)
+-- x is the number from low to low + size - 1 that is congruent to value modulo size (this profile's own)
 pub record IsResidue (low size value x : ℕ) : Type 0 where
   pub from : low ≤ x
   pub below : x < low + size
@@ -16,8 +16,8 @@ pub record IsResidue (low size value x : ℕ) : Type 0 where
 abbrev pub span_of : ℕ → ℕ → ℕ
 span_of b t = (t + 2 ^ 14 - b) % 2 ^ 14
 
--- t is the mantissa T: 14 bits, of which the word has the low twelve, and its span is below 4096
--- without IE, and in 4096 .. 8191 with it (the two bits that Sail's `capBitsToCapability` rebuilds)
+-- t is the mantissa T: it has these low twelve bits, and its span is 0 to 4095 if IE is 0, 4096 to 8191 if IE is 1
+-- (Sail: `capBitsToCapability`)
 pub record IsMantissa (b low : ℕ) (ie : Bool) (t : ℕ) : Type 0 where
   pub fits : t < 2 ^ 14
   pub low_bits : t % 2 ^ 12 ≡ low
@@ -32,7 +32,7 @@ span_at b low ie = 2 ^ 12 * bit_of ie + (low + 2 ^ 14 - b) % 2 ^ 12
 unfoldable pub mantissa_of : ℕ → ℕ → Bool → ℕ
 mantissa_of b low ie = (b + span_at b low ie) % 2 ^ 14
 
--- the cut exponent of a word: E as it stands there, or 52 where that is more (Sail CHERI-RISC-V: `cap_max_E`)
+-- the cut exponent: E, but at most 52 (Sail CHERI-RISC-V: `cap_max_E`)
 abbrev pub cut_exponent_of : ℕ → ℕ
 cut_exponent_of w = min (e_of w) 52
 
@@ -44,64 +44,63 @@ unit_of w = 2 ^ cut_exponent_of w
 abbrev pub window_size : ℕ → ℕ
 window_size w = 2 ^ (cut_exponent_of w + 14)
 
--- start begins the window of a word: the window holds the word's address, and begins at a number that
--- is congruent, modulo the window's size, to as many times 2 ^ 11 units as B's three high bits less one
--- say (UCAM-CL-TR-987, the representable region of CHERI Concentrate)
-pub record IsWindow (w start : ℕ) : Type 0 where
-  pub begins : start ≤ address_of w + 2 ^ 66
-  pub ends : address_of w + 2 ^ 66 < start + window_size w
-  pub aligned : start % window_size w ≡ (b_of w / 2 ^ 11 + 7) % 8 * 2 ^ 11 * unit_of w
+-- first is where the window of w begins: the window holds the address, and first is congruent, modulo the window's
+-- size, to (B's three high bits - 1) times 2 ^ 11 units (UCAM-CL-TR-987, the representable region of CHERI Concentrate)
+pub record IsWindow (w first : ℕ) : Type 0 where
+  pub begins : first ≤ address_of w + 2 ^ 66
+  pub ends : address_of w + 2 ^ 66 < first + window_size w
+  pub aligned : first % window_size w ≡ (b_of w / 2 ^ 11 + 7) % 8 * 2 ^ 11 * unit_of w
 
--- base and top are the bounds of a word. The raw bounds are the numbers of the window congruent to B
--- and to T units. The base is cut to 64 bits. Up to the cut exponent 50 the top is corrected: it follows
--- the base within 2 ^ 64. From 51 on it is not, and is cut to 65 bits (the cuts, and where the correction
--- ends, are this profile's own)
+-- base and top are the bounds of word w: the numbers of its window that are congruent to B and to T units, the base
+-- cut to 64 bits. Up to the cut exponent 50 the top follows the base within 2 ^ 64; from 51 on it is cut to 65 bits
+-- (the cuts, and 51, are this profile's own)
 pub record AreBounds (w base top : ℕ) : Type 0 where
   pub mantissa : ℕ
-  pub start : ℕ
+  pub first : ℕ
   pub raw_base : ℕ
   pub raw_top : ℕ
   pub mantissa_is : IsMantissa (b_of w) (t_of w) (ie_of w) mantissa
-  pub window : IsWindow w start
-  pub raw_base_is : IsResidue start (window_size w) (b_of w * unit_of w) raw_base
-  pub raw_top_is : IsResidue start (window_size w) (mantissa * unit_of w) raw_top
+  pub window : IsWindow w first
+  pub raw_base_is : IsResidue first (window_size w) (b_of w * unit_of w) raw_base
+  pub raw_top_is : IsResidue first (window_size w) (mantissa * unit_of w) raw_top
   pub base_is : base ≡ raw_base % 2 ^ 64
   pub corrected_top : cut_exponent_of w ≤ 50 → IsResidue base (2 ^ 64) raw_top top
   pub uncorrected_top : 51 ≤ cut_exponent_of w → top ≡ raw_top % 2 ^ 65
 
--- closed form of where the window of an address starts, 2 ^ 66 higher, from the cut exponent, B and the
--- address: `reach` ties it to `IsWindow`
+-- how many windows of the word lie below that of an address, 2 ^ 66 higher, of the cut exponent, B and the address
+abbrev pub windows_at : ℕ → ℕ → ℕ → ℕ
+windows_at e b address = ((address + 2 ^ 66) / 2 ^ (e + 11) + 1 - b / 2 ^ 11) / 8
+
+-- where the window of an address starts, 2 ^ 66 higher: closed form, tied to `IsWindow` by `reach`
 abbrev pub window_start_at : ℕ → ℕ → ℕ → ℕ
-window_start_at e b address =
-    let windows = ((address + 2 ^ 66) / 2 ^ (e + 11) + 1 - b / 2 ^ 11) / 8 in
-    (8 * windows + b / 2 ^ 11 - 1) * 2 ^ (e + 11)
+window_start_at e b address = (8 * windows_at e b address + b / 2 ^ 11 - 1) * 2 ^ (e + 11)
 
--- closed form of the raw base, from the cut exponent, B and the address; `bounds` ties it to `AreBounds`
+-- the raw base, of the cut exponent, B and the address
 unfoldable pub raw_base_at : ℕ → ℕ → ℕ → ℕ
-raw_base_at e b address = (2 ^ 14 * (((address + 2 ^ 66) / 2 ^ (e + 11) + 1 - b / 2 ^ 11) / 8) + b) * 2 ^ e
+raw_base_at e b address = (2 ^ 14 * windows_at e b address + b) * 2 ^ e
 
--- closed form of the top, from the cut exponent, the raw base and the length; `bounds` ties it to `AreBounds`
+-- the top, of the cut exponent, the raw base and the length
 unfoldable pub top_at : ℕ → ℕ → ℕ → ℕ
-top_at e raw_base length = if nat_le e 50 then raw_base % 2 ^ 64 + length else (raw_base + length) % 2 ^ 65
+top_at e raw_base size = if nat_le e 50 then raw_base % 2 ^ 64 + size else (raw_base + size) % 2 ^ 65
 
--- the length of a word: how far T lies above B in units, 4096 or more with IE (this profile's own); `bounds_are_unique` ties it to `IsMantissa`
+-- the length: the span in units, 4096 or more with IE; tied to `IsMantissa` by `bounds_are_unique` (this profile's
+-- own)
 unfoldable pub length_of : ℕ → ℕ
-length_of w = (2 ^ 12 * bit_of (ie_of w) + (t_of w + 2 ^ 14 - b_of w) % 2 ^ 12) * 2 ^ cut_exponent_of w
+length_of w = span_at (b_of w) (t_of w) (ie_of w) * unit_of w
 
--- the base of a word, of these closed forms; `bounds` ties it to `AreBounds`
+-- the base: closed form, tied to `AreBounds` by `bounds`
 unfoldable pub base_of : ℕ → ℕ
 base_of w = raw_base_at (cut_exponent_of w) (b_of w) (address_of w) % 2 ^ 64
 
--- the top of a word, of these closed forms; `bounds` ties it to `AreBounds`
+-- the top: closed form, tied to `AreBounds` by `bounds`
 unfoldable pub top_of : ℕ → ℕ
 top_of w = top_at (cut_exponent_of w) (raw_base_at (cut_exponent_of w) (b_of w) (address_of w)) (length_of w)
 
--- a word is sound: its top is its base plus its length, and lies in the address space (this
--- profile's own)
+-- w is sound: base + length is the top, and the top is at most 2 ^ 64 (this profile's own)
 abbrev pub IsSound : ℕ → Type 0
 IsSound w = (base_of w + length_of w ≡ top_of w) × (top_of w ≤ 2 ^ 64)
 
--- whether a word is sound, as a test (this profile's own)
+-- w is sound, as a test (this profile's own)
 abbrev pub is_sound : ℕ → Bool
 is_sound w = base_of w + length_of w == top_of w && nat_le (top_of w) (2 ^ 64)
 

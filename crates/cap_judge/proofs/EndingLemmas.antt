@@ -19,7 +19,7 @@ use Rattle.cap_judge.specs.declared.verdict.Verdict.{Verdict}
 use Rattle.cap_judge.specs.declared.verdict.Verdict.TheVariants.{Yes, No}
 use Rattle.cap_judge.specs.FaultLines.{bytes_of}
 use Rattle.cap_judge.specs.Judgings.{IsLastFront, StopsBefore}
-use Rattle.cap_judge.specs.Logs.{Beginning, Nothing, NoMode, Body, Whole, header_lines, body_lines, lines_of, text_of, IsFirstFault}
+use Rattle.cap_judge.specs.Logs.{Beginning, Empty, NoMode, Body, Whole, header_lines, body_lines, lines_of, text_of, IsFirstFault}
 use Rattle.cap_judge.specs.Logs.{IsAccepted, MayLackMemory}
 use Rattle.cap_judge.specs.Readings.{Reaches, EndsWith, IsAfter, IsAtFault, IsFaultAt, IsRest, Known, Read, BeginsWhole, EndsStepAt, GoesOn}
 use Rattle.cap_judge.specs.Readings.{IsNoLine, Stands, StopsAt, TakesStep}
@@ -130,7 +130,7 @@ few_body rules_are roots steps =
     )
 
 pub few_lines : (beginning : Beginning) → IsAccepted beginning → length (lines_of beginning) ≤ 4294971394
-few_lines Nothing accepted = omega arith
+few_lines Empty accepted = omega arith
 few_lines NoMode accepted = omega arith
 few_lines (Body rules_are roots steps) accepted =
     omega (arith, accepted.few_roots, accepted.few_steps, few_header rules_are, few_body rules_are roots steps)
@@ -175,7 +175,7 @@ lines_read (stages.Refused fault) held = 0
 
 pub count_read : (stage : Stage) (held : Held) (beginning : Beginning) → (IsAtFault stage → ⊥) → IsAfter stage held beginning
     → lines_read stage held ≡ length (lines_of beginning)
-count_read stages.Version held Nothing clear after = refl
+count_read stages.Version held Empty clear after = refl
 count_read stages.Mode held NoMode clear after = refl
 count_read stages.Body held (Body rules_are roots steps) clear after = body_count held rules_are roots steps after
 count_read stages.Ended held (Whole rules_are roots steps) clear after = whole_count held rules_are roots steps after
@@ -225,7 +225,7 @@ pub record GoesToYes (bytes : List ℕ) : Type 0 where
   pub log : IsYes (bytes ++ more) steps roots
 
 goes_to_yes : (beginning : Beginning) → IsAccepted beginning → GoesToYes (text_of (lines_of beginning))
-goes_to_yes Nothing accepted =
+goes_to_yes Empty accepted =
     record { more = text_of (lines_of (Whole One [] [])); steps = 0; roots = 0; log = yes_of _ One [] [] refl (no_roots One) }
 goes_to_yes NoMode accepted =
     let more = lines.Mode modes.Strict ∷ lines.End 0 ∷ [] in record {

@@ -9,20 +9,20 @@ use Rattle.cap_log.specs.declared.kinds.Step.{Step}
 use Rattle.cap_log.specs.Front.{FrontIs, IsLine}
 use Rattle.cap_log.proofs.FrontLemmas.{IsLine-same, IsLine-not_too_long, IsLine-not_cut}
 use Rattle.cap_log.proofs.SpellingLemmas.{one_spelling}
-use Rattle.cap_ops.specs.Tests.{first_of}
+use Rattle.cap_ops.specs.Checks.{first_of}
 use Rattle.cap_ops.specs.declared.refusal.Refusal.{Refusal}
 use Rattle.cap_ops.specs.declared.refusal.Refusal.TheVariants.{BoundsEscape, LimitPassed, LineTooLong, Misplaced, PlaceTaken, Truncated}
 use Rattle.cap_ops.specs.declared.refusal.Refusal.TheVariants.{UnsoundRoot, WrongCount, WrongResult}
 use Rattle.cap_machine.specs.declared.rules.Rules.{Rules}
 use Rattle.cap_machine.specs.States.{DeclaredRoot, start}
-use Rattle.cap_machine.specs.Accounts.{Account, step_tests}
+use Rattle.cap_machine.specs.Accounts.{Account, step_checks}
 use Rattle.cap_machine.specs.Parents.{IsSoundState}
 use Rattle.cap_machine.specs.Escapes.{Escapes}
 use Rattle.cap_machine.proofs.AuthorityLemmas.{sound_along, start_sound}
 use Rattle.cap_machine.proofs.EscapeLemmas.{escapes_first}
 use Rattle.cap_judge.specs.declared.verdict.Verdict.{Verdict}
 use Rattle.cap_judge.specs.declared.verdict.Verdict.TheVariants.{Yes, No}
-use Rattle.cap_judge.specs.Logs.{Beginning, Nothing, NoMode, Body, Whole, SpellsBy, account_after, line_tests, IsAccepted, RunsBy}
+use Rattle.cap_judge.specs.Logs.{Beginning, Empty, NoMode, Body, Whole, SpellsBy, account_after, line_checks, IsAccepted, RunsBy}
 use Rattle.cap_judge.specs.Logs.{RefusesLine, Refuses}
 use Rattle.cap_judge.specs.Verdicts.{EscapesExactly, FaultEscapes, NamesEscapes}
 use Rattle.cap_judge.proofs.LogLemmas.{last_state}
@@ -57,8 +57,8 @@ end_test true refusal h = ap is_of_step (sym (same_Some WrongCount refusal h))
 end_test false refusal h = cc
 
 pub is_step : (account : Account) (line : Line) (refusal : Refusal) → is_of_step refusal ≡ true
-    → first_of (line_tests account line) ≡ Some refusal
-    → (step : Step) × (line ≡ lines.Step step) × (first_of (step_tests account step) ≡ Some refusal)
+    → first_of (line_checks account line) ≡ Some refusal
+    → (step : Step) × (line ≡ lines.Step step) × (first_of (step_checks account step) ≡ Some refusal)
 is_step account (lines.Step step) refusal own h = (step, refl, h)
 is_step account (lines.Root place word) refusal own h = absurd (false≢true (sym (root_test _ _ _ _ refusal h) ∙ own))
 is_step account (lines.End count) refusal own h = absurd (false≢true (sym (end_test _ refusal h) ∙ own))
@@ -90,7 +90,7 @@ escape_refused account text step refusal sound spelled escapes (inl none) = absu
 escape_refused account text step refusal sound spelled escapes (inr found) =
     let same = one_spelling text found.0 (lines.Step step) found.1.0 spelled.0 in
     let first = (escapes_first account step spelled.0.0 sound).1 escapes in
-    same_Some _ _ (sym found.2 ∙ ap (λ (line : Line). first_of (line_tests account line)) same ∙ first)
+    same_Some _ _ (sym found.2 ∙ ap (λ (line : Line). first_of (line_checks account line)) same ∙ first)
 
 body_escapes : (rules_are : Rules) (roots : List DeclaredRoot) (steps : List Step) (rest : List ℕ) (refusal : Refusal)
     → RunsBy rules_are roots steps
@@ -111,7 +111,7 @@ body_escapes rules_are roots steps rest refusal runs (inr (inr line)) =
 
 fault_escapes : (beginning : Beginning) (rest : List ℕ) (refusal : Refusal) → IsAccepted beginning → Refuses beginning rest refusal
     → (refusal ≡ BoundsEscape) ↔ FaultEscapes beginning rest
-fault_escapes Nothing rest refusal accepted refused =
+fault_escapes Empty rest refusal accepted refused =
     (λ h. never_front rest refusal _ (ap is_of_step h) (λ text whole. ap is_of_step whole.1) refused, λ none. absurd none)
 fault_escapes NoMode rest refusal accepted refused =
     (λ h. never_front rest refusal _ (ap is_of_step h) (λ text whole. ap is_of_step whole.1) refused, λ none. absurd none)

@@ -16,7 +16,7 @@ use Rattle.cap_log.specs.Lines.{Spells}
 use Rattle.cap_log.proofs.FrontLemmas.{IsLine-same, IsLine-not_too_long}
 use Rattle.cap_ops.specs.Operations.{clear_result}
 use Rattle.cap_ops.proofs.ClearLemmas.{clear_result-none}
-use Rattle.cap_ops.specs.Tests.{first_of}
+use Rattle.cap_ops.specs.Checks.{first_of}
 use Rattle.cap_ops.proofs.TestLemmas.{first_of-append}
 use Rattle.cap_machine.proofs.EscapeLemmas.{never_wrong}
 use Rattle.cap_ops.specs.declared.refusal.Refusal.{Refusal}
@@ -24,17 +24,17 @@ use Rattle.cap_ops.specs.declared.refusal.Refusal.TheVariants.{WrongResult, Limi
 use Rattle.cap_machine.specs.declared.rules.Rules.{Rules}
 use Rattle.cap_machine.specs.declared.rules.Rules.TheVariants.{TwoClear}
 use Rattle.cap_machine.specs.States.{State, DeclaredRoot}
-use Rattle.cap_machine.specs.Steps.{Access, Recorded, Row, Nothing as Unrecorded, Read, Written, clear_row, row_by, row_of}
+use Rattle.cap_machine.specs.Steps.{Access, Recorded, Row, Nothing as Unrecorded, ReadNumber, Written, clear_row, row_by, row_of}
 use Rattle.cap_machine.proofs.StepLemmas.{is_recorded}
 use Rattle.cap_machine.specs.Shown.{given_by, given_for as shown_for}
-use Rattle.cap_machine.specs.Accounts.{Account, row_in, step_tests}
+use Rattle.cap_machine.specs.Accounts.{Account, row_in, step_checks}
 use Rattle.cap_machine.specs.Helds.{Held, account_of}
 use Rattle.cap_judge.specs.declared.verdict.Expected.{Expected}
 use Rattle.cap_judge.specs.declared.verdict.Expected.TheVariants.{Capability, Number}
 use Rattle.cap_judge.specs.declared.verdict.Verdict.TheVariants.{Yes, No}
 use Rattle.cap_judge.specs.declared.faults.Fault.{Fault}
 use Rattle.cap_judge.specs.FaultLines.{bytes_of}
-use Rattle.cap_judge.specs.Logs.{Beginning, Nothing, NoMode, Body, Whole, IsFirstFault, Refuses, account_after, body_lines, IsAccepted}
+use Rattle.cap_judge.specs.Logs.{Beginning, Empty, NoMode, Body, Whole, IsFirstFault, Refuses, account_after, body_lines, IsAccepted}
 use Rattle.cap_judge.specs.Logs.{RunsBy, lines_of, text_of}
 use Rattle.cap_judge.specs.Judgings.{IsLastFront, account_before}
 use Rattle.cap_judge.specs.Expectations.{Expects, IsExpected, GivesFor, GivesForText, expected_of, given_in}
@@ -54,18 +54,18 @@ other_recorded true false h = cc
 other_recorded false limit h = refl
 
 -- no test of a step that is refused for its result holds, and its line records another
-wrong : (account : Account) (step : Step) → first_of (step_tests account step) ≡ Some WrongResult
-    → (first_of (row_in account step).tests ≡ None) × (is_recorded (row_in account step) ≡ false)
+wrong : (account : Account) (step : Step) → first_of (step_checks account step) ≡ Some WrongResult
+    → (first_of (row_in account step).checks ≡ None) × (is_recorded (row_in account step) ≡ false)
 wrong account step h =
-    elim (first_of-append (row_in account step).tests _ WrongResult h) [
+    elim (first_of-append (row_in account step).checks _ WrongResult h) [
       | inl found ↦ absurd (never_wrong account step found)
       | inr last ↦ (last.0, other_recorded _ _ last.1)
     ]
 
 -- a number is read through an access, and nothing written
 abbrev ReadsThrough : Option (Place × Cap) → Recorded → Option Access → Type 0
-ReadsThrough None (Read recorded in_memory) (Some access) = Unit {0}
-ReadsThrough writes (Read recorded in_memory) access = ⊥
+ReadsThrough None (ReadNumber recorded in_memory) (Some access) = Unit {0}
+ReadsThrough writes (ReadNumber recorded in_memory) access = ⊥
 ReadsThrough writes records access = Unit {0}
 
 reads_through : (state : State) (step : Step) → let row = row_of state step in ReadsThrough row.writes row.records row.access
@@ -75,46 +75,46 @@ reads_through state step = tt
 -- what is shown of a row is what the rules give, where no test of it holds and its line records another result
 abbrev AreSame : Row → Row → Type 0
 AreSame shown by =
-    first_of by.tests ≡ None → is_recorded by ≡ false
+    first_of by.checks ≡ None → is_recorded by ≡ false
     → (expected : Expected) × (expected_of (given_by shown) ≡ Some expected) × (given_in by ≡ Some expected)
 
 abbrev row_with : List (Bool × Refusal) → Option (Place × Cap) → Option Place → Recorded → Option Access → Row
-row_with tests_are write from recorded reached =
-    record { tests = tests_are; writes = write; parent = from; records = recorded; access = reached }
+row_with checks_are write from recorded reached =
+    record { checks = checks_are; writes = write; parent = from; records = recorded; access = reached }
 
-strictly : (tests : List (Bool × Refusal)) (writes : Option (Place × Cap)) (from : Option Place) (records : Recorded) (access : Option Access)
-    → ReadsThrough writes records access → AreSame (row_with tests writes from records access) (row_with tests writes from records access)
-strictly tests (Some write) from (Written recorded) None through free other =
-    (Capability write.1, ap (λ (cap : Cap). Some (Capability cap)) (clear_result-none tests write.1 free), refl)
-strictly tests (Some write) from (Written recorded) (Some access) through free other = (Capability write.1, refl, refl)
-strictly tests None from (Read recorded in_memory) (Some access) through free other = (
+strictly : (checks : List (Bool × Refusal)) (writes : Option (Place × Cap)) (from : Option Place) (records : Recorded) (access : Option Access)
+    → ReadsThrough writes records access → AreSame (row_with checks writes from records access) (row_with checks writes from records access)
+strictly checks (Some write) from (Written recorded) None through free other =
+    (Capability write.1, ap (λ (cap : Cap). Some (Capability cap)) (clear_result-none checks write.1 free), refl)
+strictly checks (Some write) from (Written recorded) (Some access) through free other = (Capability write.1, refl, refl)
+strictly checks None from (ReadNumber recorded in_memory) (Some access) through free other = (
   Number in_memory access.size,
-  ap (λ (fault : Option Refusal). expected_of (shown_for None (Read recorded in_memory) (Some access) fault None)) free,
+  ap (λ (fault : Option Refusal). expected_of (shown_for None (ReadNumber recorded in_memory) (Some access) fault None)) free,
   refl,
 )
-strictly tests None from (Written recorded) access through free other = absurd (false≢true (sym other))
-strictly tests None from (Read recorded in_memory) None through free other = absurd through
-strictly tests (Some write) from (Read recorded in_memory) access through free other = absurd through
-strictly tests writes from Unrecorded access through free other = absurd (false≢true (sym other))
+strictly checks None from (Written recorded) access through free other = absurd (false≢true (sym other))
+strictly checks None from (ReadNumber recorded in_memory) None through free other = absurd through
+strictly checks (Some write) from (ReadNumber recorded in_memory) access through free other = absurd through
+strictly checks writes from Unrecorded access through free other = absurd (false≢true (sym other))
 
-in_clear_mode : (tests : List (Bool × Refusal)) (writes : Option (Place × Cap)) (from : Option Place) (records : Recorded)
-    → ReadsThrough writes records None → AreSame (row_with tests writes from records None) (clear_row None (row_with tests writes from records None))
-in_clear_mode tests (Some write) from (Written recorded) through free other = (Capability (clear_result tests write.1), refl, refl)
-in_clear_mode tests None from (Written recorded) through free other = absurd (false≢true (sym other))
-in_clear_mode tests None from (Read recorded in_memory) through free other = absurd through
-in_clear_mode tests (Some write) from (Read recorded in_memory) through free other = absurd through
-in_clear_mode tests writes from Unrecorded through free other = absurd (false≢true (sym other))
+in_clear_mode : (checks : List (Bool × Refusal)) (writes : Option (Place × Cap)) (from : Option Place) (records : Recorded)
+    → ReadsThrough writes records None → AreSame (row_with checks writes from records None) (clear_row None (row_with checks writes from records None))
+in_clear_mode checks (Some write) from (Written recorded) through free other = (Capability (clear_result checks write.1), refl, refl)
+in_clear_mode checks None from (Written recorded) through free other = absurd (false≢true (sym other))
+in_clear_mode checks None from (ReadNumber recorded in_memory) through free other = absurd through
+in_clear_mode checks (Some write) from (ReadNumber recorded in_memory) through free other = absurd through
+in_clear_mode checks writes from Unrecorded through free other = absurd (false≢true (sym other))
 
-by_rules : (rules_are : Rules) (tests : List (Bool × Refusal)) (writes : Option (Place × Cap)) (from : Option Place) (records : Recorded)
+by_rules : (rules_are : Rules) (checks : List (Bool × Refusal)) (writes : Option (Place × Cap)) (from : Option Place) (records : Recorded)
     (access : Option Access) → ReadsThrough writes records access
-    → AreSame (row_with tests writes from records access) (row_by rules_are (row_with tests writes from records access))
-by_rules TwoClear tests writes from records None through = in_clear_mode tests writes from records through
-by_rules TwoClear tests writes from records (Some access) through = strictly tests writes from records (Some access) through
-by_rules rules_are tests writes from records access through = strictly tests writes from records access through
+    → AreSame (row_with checks writes from records access) (row_by rules_are (row_with checks writes from records access))
+by_rules TwoClear checks writes from records None through = in_clear_mode checks writes from records through
+by_rules TwoClear checks writes from records (Some access) through = strictly checks writes from records (Some access) through
+by_rules rules_are checks writes from records access through = strictly checks writes from records access through
 
 -- what a step shows is what the rules give, where it is refused for its result
 gives : (account : Account) (step : Step) (shown : Option Expected)
-    → (first_of (step_tests account step) ≡ Some WrongResult
+    → (first_of (step_checks account step) ≡ Some WrongResult
     → (expected : Expected) × (shown ≡ Some expected) × (given_in (row_in account step) ≡ Some expected))
     → GivesFor account step shown
 gives account step None is = λ wrong_now. none-some _ (is wrong_now).1
@@ -124,7 +124,7 @@ pub gives_shown : (account : Account) (step : Step) → GivesFor account step (e
 gives_shown account step =
     let row = row_of account.state step in
     gives account step (expected_of (given_by row))
-    (λ wrong_now. by_rules account.rules row.tests row.writes row.parent row.records row.access (reads_through account.state step)
+    (λ wrong_now. by_rules account.rules row.checks row.writes row.parent row.records row.access (reads_through account.state step)
     (wrong account step wrong_now).0 (wrong account step wrong_now).1)
 
 -- which step a text spells
@@ -179,7 +179,7 @@ text_is rest text line more (inr (inr front)) whole = front.3 ∙ (IsLine-same r
 -- what is given for it
 given_at : (account : Account) (step : Step) (bytes : List ℕ) (result : Option Expected)
     → ((expected : Expected) → given_in (row_in account step) ≡ Some expected → IsExpected bytes expected)
-    → first_of (step_tests account step) ≡ Some WrongResult → GivesFor account step result → Expects bytes result
+    → first_of (step_checks account step) ≡ Some WrongResult → GivesFor account step result → Expects bytes result
 given_at account step bytes None is wrong gives = absurd (gives wrong)
 given_at account step bytes (Some expected) is wrong gives = is expected (gives wrong)
 
@@ -217,7 +217,7 @@ body_expects rules_are roots steps_are rest bytes text result is runs (inr (inr 
 by_beginning : (held : Held) (beginning : Beginning) (rest bytes text : List ℕ) (result : Option Expected)
     → account_of held ≡ account_before beginning → bytes ≡ text_of (lines_of beginning) ++ rest → IsAccepted beginning
     → Refuses beginning rest WrongResult → IsLastFront rest false text → GivesForText (account_of held) text result → Expects bytes result
-by_beginning held Nothing rest bytes text result account is accepted refused front gives =
+by_beginning held Empty rest bytes text result account is accepted refused front gives =
     absurd (never_front rest WrongResult _ refl (λ text whole. ap is_of_step whole.1) refused)
 by_beginning held NoMode rest bytes text result account is accepted refused front gives =
     absurd (never_front rest WrongResult _ refl (λ text whole. ap is_of_step whole.1) refused)

@@ -11,9 +11,9 @@ use Rattle.cap_machine.specs.declared.rules.Rules.TheVariants.{One}
 use Rattle.cap_machine.specs.Accounts.{Account, no_account}
 use Rattle.cap_machine.specs.Helds.{Held, account_of}
 use Rattle.cap_judge.specs.declared.verdict.Verdict.TheVariants.{No}
-use Rattle.cap_judge.specs.Logs.{Beginning, Nothing, NoMode, Body, Whole, lines_of, text_of, IsFirstFault}
+use Rattle.cap_judge.specs.Logs.{Beginning, Empty, NoMode, Body, Whole, lines_of, text_of, IsFirstFault}
 use Rattle.cap_judge.specs.Judgings.{IsBehind, IsVerdictOf, account_before, IsLastFront, StopsBefore}
-use Rattle.cap_judge.specs.FaultLines.{IsFrontText}
+use Rattle.cap_log.specs.Front.{IsFrontText}
 use Rattle.cap_judge.proofs.LogLemmas.{accepted_in_range}
 use Rattle.cap_judge.proofs.OneVerdict.{text_cons, same_front}
 use Rattle.cap_judge.specs.Turns.{Stage, Unread, Versioned, Within, Ended, Reads, behind}
@@ -45,7 +45,7 @@ account_at (Ended account) = account
 
 at_beginning : (beginning : Beginning) → account_at (stage_of beginning) ≡ account_before beginning
 unfolding account_at
-at_beginning Nothing = refl
+at_beginning Empty = refl
 at_beginning NoMode = refl
 at_beginning (Body rules_are roots steps) = refl
 at_beginning (Whole rules_are roots steps) = refl

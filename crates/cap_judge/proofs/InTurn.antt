@@ -11,11 +11,11 @@ use Rattle.cap_machine.specs.declared.rules.Rules.{Rules}
 use Rattle.cap_machine.specs.declared.rules.Rules.TheVariants.{One, TwoStrict, TwoClear}
 use Rattle.cap_machine.specs.States.{DeclaredRoot, State, start, key_of, tagged}
 use Rattle.cap_machine.specs.Steps.{Leads}
-use Rattle.cap_machine.specs.Accounts.{Account, no_account, with_step, root_tests, most_roots, most_granules, most_steps, with_root}
+use Rattle.cap_machine.specs.Accounts.{Account, no_account, with_step, root_checks, most_roots, most_granules, most_steps, with_root}
 use Rattle.cap_machine.proofs.AccountLemmas.{account_after-grows, first_of-none, after_roots, with_root-grows, with_step-grows}
 use Rattle.cap_machine.proofs.AccountLemmas.{after_roots-grows, after_steps-grows, root_free, step_free, after_steps}
-use Rattle.cap_judge.specs.Logs.{Beginning, Nothing, NoMode, Body, Whole, header_lines, body_lines, lines_of, account_after, RunsBy}
-use Rattle.cap_judge.specs.Logs.{IsAccepted, line_tests, has_form}
+use Rattle.cap_judge.specs.Logs.{Beginning, Empty, NoMode, Body, Whole, header_lines, body_lines, lines_of, account_after, RunsBy}
+use Rattle.cap_judge.specs.Logs.{IsAccepted, line_checks, has_form}
 use Rattle.cap_judge.specs.Turns.{Stage, Unread, Within, Reads, behind, Versioned, Ended, Allows}
 use Rattle.cap_judge.proofs.LogLemmas.{after_roots-push, after_steps-push, steps_push, roots_push, accepted_in_range, step_runs, root_runs}
 use Rattle.cap_judge.proofs.LogLemmas.{no_roots}
@@ -26,7 +26,7 @@ use Rattle.cap_word.specs.declared.word.Cap.{Cap}
 use Rattle.cap_machine.specs.Runs.{IsRun}
 use Rattle.cap_machine.proofs.OriginLemmas.{keys, IsFree, roots_start}
 use Rattle.std.proofs.lemmas.Option.{none-some}
-use Rattle.cap_ops.specs.Tests.{first_of}
+use Rattle.cap_ops.specs.Checks.{first_of}
 use Rattle.cap_ops.specs.declared.refusal.Refusal.TheVariants.{Misplaced}
 use Rattle.cap_log.specs.declared.lines.Mode.TheVariants.{Strict, Clear}
 use Rattle.cap_log.specs.declared.lines.Place.{Place}
@@ -80,7 +80,7 @@ roots_read rules_are account (root ∷ roots) same none distinct free sound few_
     let most = ap most_granules same in
     let untagged = false_from_ne_true _ (λ held. eqb-false (key_of root.place) _ (free (key_of root.place) held).0 refl) in
     let unrefused = root_free account root.place root.word untagged sound.0 (omega arith) (omega arith) in (
-      (formed account.rules line refl, first_of-none (line_tests account line) (le-ltb 0 account.steps (omega arith), unrefused)),
+      (formed account.rules line refl, first_of-none (line_checks account line) (le-ltb 0 account.steps (omega arith), unrefused)),
       roots_read rules_are after roots (one.rules_stay ∙ same) (omega arith) distinct.1 (still_free account root roots distinct.0 free)
           sound.1 (omega arith) few_granules,
     )
@@ -129,20 +129,20 @@ body_read rules_are roots steps runs =
 
 -- the stage behind a beginning
 abbrev pub stage_of : Beginning → Stage
-stage_of Nothing = Unread
+stage_of Empty = Unread
 stage_of NoMode = Versioned
 stage_of (Body rules_are roots steps) = Within (account_after rules_are roots steps)
 stage_of (Whole rules_are roots steps) = Ended (account_after rules_are roots steps)
 
 pub accepted_read : (beginning : Beginning) → IsAccepted beginning → Reads Unread (lines_of beginning) (stage_of beginning)
-accepted_read Nothing accepted = refl
+accepted_read Empty accepted = refl
 accepted_read NoMode accepted = (tt, refl)
 accepted_read (Body rules_are roots steps) runs = body_read rules_are roots steps runs
 accepted_read (Whole rules_are roots steps) runs =
     let last = account_after rules_are roots steps in
     let end = End (length steps) in
     let counts = account_after-grows rules_are roots steps in
-    let free = first_of-none (line_tests last end) (ap not (eq-eqb (length steps) last.steps (omega arith)), tt) in
+    let free = first_of-none (line_checks last end) (ap not (eq-eqb (length steps) last.steps (omega arith)), tt) in
     Reads-append Unread (Within last) (Ended last) (body_lines rules_are roots steps) (end ∷ []) (body_read rules_are roots steps runs)
     ((formed last.rules end refl, free), refl)
 
@@ -150,7 +150,7 @@ accepted_read (Whole rules_are roots steps) runs =
 
 -- the beginning with one line more
 abbrev pub with_line : Beginning → Line → Beginning
-with_line Nothing (Version version) = if version == 1 then Body One [] [] else NoMode
+with_line Empty (Version version) = if version == 1 then Body One [] [] else NoMode
 with_line NoMode (Mode mode) = Body (rules_of mode) [] []
 with_line (Body rules_are roots steps) (Root place word) = Body rules_are (roots ++ record { place = place; word = word } ∷ []) steps
 with_line (Body rules_are roots steps) (Step step) = Body rules_are roots (steps ++ step ∷ [])
@@ -165,33 +165,33 @@ pub record Longer (beginning : Beginning) (line : Line) : Type 0 where
 
 -- a root is declared before the first step
 no_root : (rules_are : Rules) (roots : List DeclaredRoot) (step : steps_module.Step) (steps : List steps_module.Step) (place : Place)
-    (word : Word) → first_of (line_tests (account_after rules_are roots (step ∷ steps)) (Root place word)) ≡ None → ⊥
+    (word : Word) → first_of (line_checks (account_after rules_are roots (step ∷ steps)) (Root place word)) ≡ None → ⊥
 no_root rules_are roots step steps place word free =
     let account = account_after rules_are roots (step ∷ steps) in
     let counted = (account_after-grows rules_are roots (step ∷ steps)).steps_are in
-    false≢true (sym (none_hold (line_tests account (Root place word)) free).0 ∙ lt-ltb 0 account.steps (omega arith))
+    false≢true (sym (none_hold (line_checks account (Root place word)) free).0 ∙ lt-ltb 0 account.steps (omega arith))
 
 -- the end line counts the steps
 end_counts : (rules_are : Rules) (roots : List DeclaredRoot) (steps : List steps_module.Step) (count : ℕ)
-    → first_of (line_tests (account_after rules_are roots steps) (End count)) ≡ None → length steps ≡ count
+    → first_of (line_checks (account_after rules_are roots steps) (End count)) ≡ None → length steps ≡ count
 end_counts rules_are roots steps count free =
     let account = account_after rules_are roots steps in
     let counted = (account_after-grows rules_are roots steps).steps_are in
-    let is = eqb-true count account.steps (not-false _ (none_hold (line_tests account (End count)) free).0) in
+    let is = eqb-true count account.steps (not-false _ (none_hold (line_checks account (End count)) free).0) in
     omega (arith, is)
 
 pub longer : (beginning : Beginning) (line : Line) → IsAccepted beginning → IsInRange line → Allows (stage_of beginning) line
     → Longer beginning line
-longer Nothing (Version version) accepted (inl is) allowed =
-    subst (λ (v : ℕ). Longer Nothing (Version v)) (sym is) (record { accepted = no_roots One; lines_are = refl; stage_is = refl })
-longer Nothing (Version version) accepted (inr is) allowed =
-    subst (λ (v : ℕ). Longer Nothing (Version v)) (sym is) (record { accepted = tt; lines_are = refl; stage_is = refl })
+longer Empty (Version version) accepted (inl is) allowed =
+    subst (λ (v : ℕ). Longer Empty (Version v)) (sym is) (record { accepted = no_roots One; lines_are = refl; stage_is = refl })
+longer Empty (Version version) accepted (inr is) allowed =
+    subst (λ (v : ℕ). Longer Empty (Version v)) (sym is) (record { accepted = tt; lines_are = refl; stage_is = refl })
 longer NoMode (Mode Strict) accepted range allowed = record { accepted = no_roots TwoStrict; lines_are = refl; stage_is = refl }
 longer NoMode (Mode Clear) accepted range allowed = record { accepted = no_roots TwoClear; lines_are = refl; stage_is = refl }
 longer (Body rules_are roots []) (Root place word) runs range allowed =
     let account = account_after rules_are roots [] in
     let root : DeclaredRoot = record { place = place; word = word } in
-    let free = first_of-none (root_tests account place word) (none_hold (line_tests account (Root place word)) allowed.1).1 in
+    let free = first_of-none (root_checks account place word) (none_hold (line_checks account (Root place word)) allowed.1).1 in
     record {
       accepted = root_runs rules_are roots root runs range.0 range.1 free;
       lines_are = roots_push rules_are roots root;
@@ -248,21 +248,21 @@ behind_header rules_are roots steps lines =
     ∙ roots_back rules_are [] roots (map Step steps ++ lines) ∙ steps_back rules_are roots [] steps lines
 
 body_back : (rules_are : Rules) (roots : List DeclaredRoot) (steps : List steps_module.Step) (lines : List Line)
-    → with_lines Nothing (body_lines rules_are roots steps ++ lines) ≡ with_lines (Body rules_are roots steps) lines
+    → with_lines Empty (body_lines rules_are roots steps ++ lines) ≡ with_lines (Body rules_are roots steps) lines
 body_back One roots steps lines = behind_header One roots steps lines
 body_back TwoStrict roots steps lines = behind_header TwoStrict roots steps lines
 body_back TwoClear roots steps lines = behind_header TwoClear roots steps lines
 
-lines_back : (beginning : Beginning) → with_lines Nothing (lines_of beginning) ≡ beginning
-lines_back Nothing = refl
+lines_back : (beginning : Beginning) → with_lines Empty (lines_of beginning) ≡ beginning
+lines_back Empty = refl
 lines_back NoMode = refl
 lines_back (Body rules_are roots steps) =
-    ap (with_lines Nothing) (sym (append-nil (body_lines rules_are roots steps))) ∙ body_back rules_are roots steps []
+    ap (with_lines Empty) (sym (append-nil (body_lines rules_are roots steps))) ∙ body_back rules_are roots steps []
 lines_back (Whole rules_are roots steps) = body_back rules_are roots steps (End (length steps) ∷ [])
 
 pub accepted_in_turn : (beginning : Beginning)
     → IsAccepted beginning ↔ (AllByRecursion IsInRange (lines_of beginning) × ((stage : Stage) × Reads Unread (lines_of beginning) stage))
 accepted_in_turn beginning = (
   λ accepted. (accepted_in_range beginning accepted, (stage_of beginning, accepted_read beginning accepted)),
-  λ h. subst IsAccepted (lines_back beginning) (all_longer Nothing (lines_of beginning) h.1.0 tt h.0 h.1.1),
+  λ h. subst IsAccepted (lines_back beginning) (all_longer Empty (lines_of beginning) h.1.0 tt h.0 h.1.1),
 )

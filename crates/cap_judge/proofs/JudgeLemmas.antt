@@ -28,7 +28,7 @@ use Rattle.cap_judge.specs.declared.verdict.JudgeFault.TheVariants as faults
 use Rattle.cap_judge.specs.Logs.{Beginning, Whole, header_lines, body_lines, lines_of, text_of, account_after, RunsBy, RefusesWhole}
 use Rattle.cap_judge.specs.Logs.{Refuses, IsFirstFault, MayLackMemory, IsLogOf, NamesNoGranules, named_by_line}
 use Rattle.cap_machine.specs.Escapes.{ClearsExactly}
-use Rattle.cap_judge.specs.Verdicts.{IsYes, IsGuarded, IsFault}
+use Rattle.cap_judge.specs.Verdicts.{IsYes, IsGuarded, NoVerdictIn}
 use Rattle.cap_judge.specs.Judgings.{IsBehind}
 
 -- one line more
@@ -89,7 +89,7 @@ no_lack bytes more none lack =
     (none lines lack.text more lack.line account lack.runs.grammar lack.bytes_are lack.spelled.0) lack.first
 
 -- a log without lines that name granules has a verdict
-pub answered : (bytes : List ℕ) (result : Result Verdict JudgeFault) → IfErr result (IsFault bytes) → NamesNoGranules bytes → IsOk result
+pub answered : (bytes : List ℕ) (result : Result Verdict JudgeFault) → IfErr result (NoVerdictIn bytes) → NamesNoGranules bytes → IsOk result
 answered bytes (Ok verdict) fault none = refl
 answered bytes (Err faults.Pull) fault none = absurd fault
 answered bytes (Err faults.NoMemory) fault none = absurd (no_lack bytes fault.0 none fault.1)

@@ -12,7 +12,7 @@ use Rattle.cap_judge.specs.declared.verdict.Verdict.{Verdict}
 use Rattle.cap_judge.specs.declared.verdict.Verdict.TheVariants.{Yes, No}
 use Rattle.cap_judge.specs.Judgings.{JudgedAll, StopsBefore}
 use Rattle.cap_judge.specs.Readings.{EndsWith, IsAnswered, Known, Read, StopsAt}
-use Rattle.cap_judge.specs.Verdicts.{IsFault}
+use Rattle.cap_judge.specs.Verdicts.{NoVerdictIn}
 use Rattle.cap_judge.proofs.SourceLemmas.{answer_memory, answer_ok}
 
 -- the bytes that were taken end with those behind them
@@ -46,7 +46,7 @@ all_judged bytes text held (Err fault) answer is ends =
     })
 
 -- want of memory
-pub all_lack : (bytes text : List ℕ) (held : Held) → IsFault bytes NoMemory → JudgedAll bytes (Err NoMemory) held text
+pub all_lack : (bytes text : List ℕ) (held : Held) → NoVerdictIn bytes NoMemory → JudgedAll bytes (Err NoMemory) held text
 all_lack bytes text held lack = record {
   answer = answer_memory bytes lack.0 true lack.1;
   leads = tt;

@@ -15,5 +15,5 @@ mod ExpectedLemmas
 mod ReachLemmas
 mod HeadLemmas
 mod ReadingLemmas
-mod EndingLemmas
+pub mod EndingLemmas
 mod KeepingLemmas

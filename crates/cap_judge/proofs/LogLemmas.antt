@@ -13,15 +13,15 @@ use Rattle.cap_machine.specs.States.{State, DeclaredRoot, key_of, tagged, is_tak
 use Rattle.cap_machine.specs.Steps.{Leads}
 use Rattle.cap_machine.specs.declared.rules.Rules.{Rules}
 use Rattle.cap_machine.specs.Accounts.{Account, with_root, with_step, no_account, most_roots, most_granules, most_steps, granule_of}
-use Rattle.cap_machine.specs.Accounts.{named_by, row_in, passes_granule_limit, naming, root_tests, step_tests}
+use Rattle.cap_machine.specs.Accounts.{named_by, row_in, passes_granule_limit, naming, root_checks, step_checks}
 use Rattle.cap_machine.specs.Runs.{IsRun, last_of}
 use Rattle.cap_machine.proofs.OriginLemmas.{last_after, roots_start}
-use Rattle.cap_judge.specs.Logs.{RunsBy, body_lines, account_after, Beginning, Nothing, NoMode, Body, Whole, lines_of, IsAccepted}
+use Rattle.cap_judge.specs.Logs.{RunsBy, body_lines, account_after, Beginning, Empty, NoMode, Body, Whole, lines_of, IsAccepted}
 use Rattle.cap_machine.proofs.AccountLemmas.{after_roots, after_steps, account_after-grows}
 use Rattle.cap_bounds.specs.Bounds.{is_sound}
 use Rattle.cap_word.specs.declared.word.Word.{Word}
 use Rattle.cap_log.specs.Lines.{IsInRange, IsStepInRange, IsPlace}
-use Rattle.cap_ops.specs.Tests.{first_of}
+use Rattle.cap_ops.specs.Checks.{first_of}
 use Rattle.cap_ops.proofs.TestLemmas.{first_of-append_free, none_hold}
 use Rattle.cap_machine.specs.declared.rules.Rules.TheVariants.{One, TwoStrict, TwoClear}
 use Rattle.cap_machine.proofs.StepLemmas.{is_recorded}
@@ -102,19 +102,19 @@ naming_few account (Some granule) within few =
     few_named (account.is_named granule) account.granules (most_granules account.rules) within few
 
 -- no test of a step's row holds where none of its tests does, and neither does one of the last two
-rest_free : (account : Account) (step : steps_module.Step) → first_of (step_tests account step) ≡ None
-    → (let row = row_in account step in (first_of row.tests ≡ None) × (is_recorded row ≡ true)
+rest_free : (account : Account) (step : steps_module.Step) → first_of (step_checks account step) ≡ None
+    → (let row = row_in account step in (first_of row.checks ≡ None) × (is_recorded row ≡ true)
     × (nat_le most_steps account.steps ≡ false) × (passes_granule_limit account (named_by row) ≡ false))
 rest_free account step free =
     let row = row_in account step in
-    let both = first_of-append_free row.tests _ free in
+    let both = first_of-append_free row.checks _ free in
     let limit = nat_le most_steps account.steps || passes_granule_limit account (named_by row) in
     let last = none_hold (ending (is_recorded row) limit) both.1 in
     let limits = or_parts _ _ last.1.0 in (both.0, not-false _ last.0, limits.0, limits.1)
 
 -- a run goes on by a step of which no test holds
 pub step_runs : (rules_are : Rules) (roots : List DeclaredRoot) (steps : List steps_module.Step) (step : steps_module.Step)
-    → RunsBy rules_are roots steps → IsStepInRange step → first_of (step_tests (account_after rules_are roots steps) step) ≡ None
+    → RunsBy rules_are roots steps → IsStepInRange step → first_of (step_checks (account_after rules_are roots steps) step) ≡ None
     → RunsBy rules_are roots (steps ++ step ∷ [])
 step_runs rules_are roots steps step runs range free =
     let account = account_after rules_are roots steps in
@@ -142,17 +142,17 @@ step_runs rules_are roots steps step runs range free =
     }
 
 -- the tests of a root that none refuses
-root_free : (account : Account) (place : Place) (word : Word) → first_of (root_tests account place word) ≡ None
+root_free : (account : Account) (place : Place) (word : Word) → first_of (root_checks account place word) ≡ None
     → ((account.state (key_of place)).tag ≡ false) × IsTrue (is_sound word.0) × (nat_le most_roots account.roots ≡ false)
     × (passes_granule_limit account (granule_of place) ≡ false)
 root_free account place word free =
-    let none = none_hold (root_tests account place word) free in
+    let none = none_hold (root_checks account place word) free in
     let last = or_parts _ _ none.1.1.0 in
     (none.0, not-false _ none.1.0, last.0, last.1)
 
 -- roots go on by one of which no test holds
 pub root_runs : (rules_are : Rules) (roots : List DeclaredRoot) (root : DeclaredRoot) → RunsBy rules_are roots [] → IsPlace root.place
-    → root.word.0 < 2 ^ 128 → first_of (root_tests (account_after rules_are roots []) root.place root.word) ≡ None
+    → root.word.0 < 2 ^ 128 → first_of (root_checks (account_after rules_are roots []) root.place root.word) ≡ None
     → RunsBy rules_are (roots ++ root ∷ []) []
 root_runs rules_are roots root runs place_range word_range free =
     let account = account_after rules_are roots [] in
@@ -200,7 +200,7 @@ no_roots rules_are = record {
 
 -- the lines of what is accepted are in range
 pub accepted_in_range : (beginning : Beginning) → IsAccepted beginning → AllByRecursion IsInRange (lines_of beginning)
-accepted_in_range Nothing accepted = tt
+accepted_in_range Empty accepted = tt
 accepted_in_range NoMode accepted = (inr refl, tt)
 accepted_in_range (Body rules_are roots steps) runs = runs.grammar
 accepted_in_range (Whole rules_are roots steps) runs =

@@ -9,12 +9,12 @@ use Rattle.cap_log.specs.Lines.{spelling, IsInRange}
 use Rattle.cap_log.specs.Front.{IsLine, IsTooLong, IsCut}
 use Rattle.cap_log.proofs.FrontLemmas.{IsLine-same, IsLine-not_too_long, IsLine-not_cut, IsTooLong-not_cut}
 use Rattle.cap_log.proofs.SpellingLemmas.{one_spelling, IsLine-spelling}
-use Rattle.cap_ops.specs.Tests.{first_of}
+use Rattle.cap_ops.specs.Checks.{first_of}
 use Rattle.cap_ops.specs.declared.refusal.Refusal.{Refusal}
 use Rattle.cap_ops.specs.declared.refusal.Refusal.TheVariants.{LineTooLong, Misplaced, Truncated}
 use Rattle.cap_judge.specs.declared.verdict.Verdict.{Verdict}
 use Rattle.cap_judge.specs.declared.verdict.Verdict.TheVariants.{Yes, No}
-use Rattle.cap_judge.specs.Logs.{Nothing, NoMode, text_of, line_tests, RefusesLine, RefusesWhole, Beginning, Whole, lines_of, IsAccepted}
+use Rattle.cap_judge.specs.Logs.{Empty, NoMode, text_of, line_checks, RefusesLine, RefusesWhole, Beginning, Whole, lines_of, IsAccepted}
 use Rattle.cap_judge.specs.Logs.{Refuses}
 use Rattle.cap_machine.proofs.AccountLemmas.{account_after-grows}
 use Rattle.cap_judge.specs.Verdicts.{IsVerdict}
@@ -28,7 +28,7 @@ Stops stage rest = (line : Line) (more : List ℕ) → IsInRange line → Allows
 
 -- a whole line is refused at a stage: the same as after a beginning that is read so far
 abbrev pub RefusesText : Stage → List ℕ → Refusal → Type 0
-RefusesText Unread text refusal = RefusesWhole Nothing text refusal
+RefusesText Unread text refusal = RefusesWhole Empty text refusal
 RefusesText Versioned text refusal = RefusesWhole NoMode text refusal
 RefusesText (Within account) text refusal = RefusesLine account text refusal
 RefusesText (Ended account) text refusal = ⊥
@@ -94,7 +94,7 @@ not_refused Versioned (Mode mode) refusal range allowed refused = refused.0 mode
 not_refused (Within account) line refusal range allowed (inl none) = none.0 line ((range, refl), allowed.0)
 not_refused (Within account) line refusal range allowed (inr found) =
     let same = one_spelling (spelling line) found.0 line found.1.0 (range, refl) in
-    none-some refusal (sym allowed.1 ∙ ap (λ (l : Line). first_of (line_tests account l)) (sym same) ∙ found.2)
+    none-some refusal (sym allowed.1 ∙ ap (λ (l : Line). first_of (line_checks account l)) (sym same) ∙ found.2)
 not_refused (Ended account) line refusal range allowed refused = refused
 not_refused stage line refusal range allowed refused = absurd allowed
 
@@ -118,7 +118,7 @@ one_text (Within account) text a b (inl h) (inl k) = h.1 ∙ sym k.1
 one_text (Within account) text a b (inl h) (inr k) = absurd (h.0 k.0 k.1)
 one_text (Within account) text a b (inr h) (inl k) = absurd (k.0 h.0 h.1)
 one_text (Within account) text a b (inr h) (inr k) =
-    same_Some a b (sym h.2 ∙ ap (λ (line : Line). first_of (line_tests account line)) (one_spelling text h.0 k.0 h.1.0 k.1.0) ∙ k.2)
+    same_Some a b (sym h.2 ∙ ap (λ (line : Line). first_of (line_checks account line)) (one_spelling text h.0 k.0 h.1.0 k.1.0) ∙ k.2)
 one_text (Ended account) text a b h k = absurd h
 
 -- and so is what follows: too long, cut and a whole line exclude one another
@@ -154,7 +154,7 @@ record Reading (bytes : List ℕ) (verdict : Verdict) : Type 0 where
 -- a first fault is an answer at the stage behind its beginning
 refused : (beginning : Beginning) (rest : List ℕ) (number line : ℕ) (refusal : Refusal) → line ≡ number → Refuses beginning rest refusal
     → Answers (stage_of beginning) rest number (No line refusal)
-refused Nothing rest number line refusal is refuses = (is, refuses)
+refused Empty rest number line refusal is refuses = (is, refuses)
 refused beginning rest number line refusal is refuses = (is, refuses)
 
 -- each verdict comes from a reading

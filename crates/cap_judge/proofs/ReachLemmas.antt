@@ -5,13 +5,13 @@ use Rattle.cap_log.specs.declared.lines.Line.TheVariants.{Step}
 use Rattle.cap_log.specs.declared.kinds.Step as steps_module
 use Rattle.cap_log.specs.Lines.{IsInRange, IsStepInRange, spelling}
 use Rattle.cap_log.specs.Parts.{Begins}
-use Rattle.cap_ops.specs.Tests.{first_of}
+use Rattle.cap_ops.specs.Checks.{first_of}
 use Rattle.cap_machine.specs.declared.ends.StepEnd.{StepEnd}
 use Rattle.cap_machine.specs.declared.ends.StepEnd.TheVariants.{Refused, NoMemory}
 use Rattle.cap_machine.specs.declared.rules.Rules.{Rules}
 use Rattle.cap_machine.specs.declared.rules.Rules.TheVariants.{One}
 use Rattle.cap_machine.specs.States.{DeclaredRoot}
-use Rattle.cap_machine.specs.Accounts.{Account, no_account, with_step, step_tests}
+use Rattle.cap_machine.specs.Accounts.{Account, no_account, with_step, step_checks}
 use Rattle.cap_machine.specs.Helds.{Held, AnswersStep, Makes, EndsStep, account_of}
 use Rattle.cap_machine.proofs.AccountLemmas.{account_after-grows, after_roots}
 use Rattle.cap_judge.specs.Logs.{has_form, RunsBy, account_after, text_of}
@@ -46,7 +46,7 @@ pub step_on : (rules_are : Rules) (roots : List DeclaredRoot) (steps : List step
 step_on rules_are roots steps old new step reaches range makes =
     let at = reaches.account in
     reached new rules_are roots (steps ++ step ∷ [])
-    (step_runs rules_are roots steps step reaches.runs range (subst (λ (a : Account). first_of (step_tests a step) ≡ None) at makes.tests))
+    (step_runs rules_are roots steps step reaches.runs range (subst (λ (a : Account). first_of (step_checks a step) ≡ None) at makes.checks))
     (makes.account
     ∙ ap (λ (a : Account). with_step a step) at
     ∙ sym (after_steps-push (after_roots (no_account rules_are) roots) steps step))

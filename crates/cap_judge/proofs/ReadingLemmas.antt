@@ -11,15 +11,15 @@ use Rattle.cap_log.specs.declared.lines.Mode.{Mode}
 use Rattle.cap_log.specs.declared.lines.Mode.TheVariants as modes
 use Rattle.cap_log.specs.declared.kinds.Step.{Step}
 use Rattle.cap_log.specs.Lines.{IsInRange, Spells, spelling, IsPlace, IsStepInRange}
-use Rattle.cap_log.specs.Front.{IsCut, IsLine, IsTooLong}
+use Rattle.cap_log.specs.Front.{IsCut, IsFrontText, IsLine, IsTooLong}
 use Rattle.cap_log.proofs.FrontLemmas.{IsLine-more, IsLine-not_cut, IsTooLong-more}
 use Rattle.cap_log.proofs.SpellingLemmas.{IsLine-spelling, one_spelling}
-use Rattle.cap_ops.specs.Tests.{first_of}
+use Rattle.cap_ops.specs.Checks.{first_of}
 use Rattle.cap_ops.specs.declared.refusal.Refusal.{Refusal}
 use Rattle.cap_ops.specs.declared.refusal.Refusal.TheVariants.{BadHeader, BadLine, BadMode, LineTooLong, Misplaced}
 use Rattle.cap_machine.specs.declared.ends.StepEnd.{StepEnd}
 use Rattle.cap_machine.specs.declared.ends.StepEnd.TheVariants as ends
-use Rattle.cap_machine.specs.Accounts.{Account, is_new, no_account, with_root, root_tests}
+use Rattle.cap_machine.specs.Accounts.{Account, is_new, no_account, with_root, root_checks}
 use Rattle.cap_machine.specs.Helds.{Held, account_of, Makes, TakesRoot}
 use Rattle.cap_machine.specs.States.{DeclaredRoot}
 use Rattle.cap_machine.specs.declared.rules.Rules.{Rules}
@@ -27,12 +27,12 @@ use Rattle.cap_machine.specs.declared.rules.Rules.TheVariants.{One, TwoStrict, T
 use Rattle.cap_judge.specs.declared.judges.Stage.{Stage}
 use Rattle.cap_judge.specs.declared.judges.Stage.TheVariants as stages
 use Rattle.cap_judge.specs.declared.faults.Fault.{Fault}
-use Rattle.cap_judge.specs.FaultLines.{bytes_of, IsFrontText}
+use Rattle.cap_judge.specs.FaultLines.{bytes_of}
 use Rattle.cap_judge.specs.Readings.{rules_of, EndsFor, Reaches, EndsAt, EndsBehind, EndsFrom, EndsStepAt, Faults, GoesOn, IsAfter}
 use Rattle.cap_judge.specs.Readings.{IsAtFault, IsRest, Known, Read, TakesSteps, StopsAt, TakesStep}
 use Rattle.cap_judge.specs.Judgings.{IsLastFront, account_before}
-use Rattle.cap_judge.specs.Logs.{Beginning, Nothing, NoMode, Body, Whole, body_lines, lines_of, text_of, has_form, SpellsBy, IsAccepted}
-use Rattle.cap_judge.specs.Logs.{Refuses, RefusesWhole, line_tests, named_by_line, MayLackMemory}
+use Rattle.cap_judge.specs.Logs.{Beginning, Empty, NoMode, Body, Whole, body_lines, lines_of, text_of, has_form, SpellsBy, IsAccepted}
+use Rattle.cap_judge.specs.Logs.{Refuses, RefusesWhole, line_checks, named_by_line, MayLackMemory}
 use Rattle.cap_judge.proofs.JudgeLemmas.{IsUnended, front_refused}
 use Rattle.cap_judge.proofs.ReachLemmas.{same_rules, step_formed, reached, steps_more, steps_none, step_on}
 use Rattle.std.proofs.lemmas.List.Prefix.{end_rest}
@@ -51,7 +51,7 @@ at stage held = record { held = held; stage = stage }
 
 -- what a judge is after is accepted, and has the account of what its machine holds
 pub accepted_after : (stage : Stage) (held : Held) (beginning : Beginning) → IsAfter stage held beginning → IsAccepted beginning
-accepted_after stages.Version held Nothing after = tt
+accepted_after stages.Version held Empty after = tt
 accepted_after stages.Mode held NoMode after = tt
 accepted_after stages.Body held (Body rules_are roots steps) after = after.runs
 accepted_after stages.Ended held (Whole rules_are roots steps) after = after.runs
@@ -60,7 +60,7 @@ accepted_after stage held beginning after = absurd after
 
 pub account_stands : (stage : Stage) (held : Held) (beginning : Beginning) → IsAfter stage held beginning
     → account_of held ≡ account_before beginning
-account_stands stages.Version held Nothing after = after
+account_stands stages.Version held Empty after = after
 account_stands stages.Mode held NoMode after = after
 account_stands stages.Body held (Body rules_are roots steps) after = after.account
 account_stands stages.Ended held (Whole rules_are roots steps) after = after.account
@@ -102,7 +102,7 @@ text_read known beginning clear after = (
 
 -- nothing was read
 pub nothing_read : (held : Held) → account_of held ≡ no_account One → Read (at stages.Version held) []
-nothing_read held account = (text_read (at stages.Version held) Nothing (λ fault. fault) account).0
+nothing_read held account = (text_read (at stages.Version held) Empty (λ fault. fault) account).0
 
 -- what was read of the same bytes, with what stands behind the lines
 pub moved : (known : Known) (rest : List ℕ) {bytes same : List ℕ} → bytes ≡ same → (now : Read known bytes) × (now.rest ≡ rest)
@@ -144,7 +144,7 @@ IsAt stage held turn = ⊥
 -- it stands where a beginning ends that it is after, and is after each that is accepted and ends there
 is_at : (stage : Stage) (held : Held) (beginning : Beginning) → (IsAtFault stage → ⊥) → IsAfter stage held beginning
     → IsAt stage held (stage_of beginning)
-is_at stages.Version held Nothing clear after = after
+is_at stages.Version held Empty clear after = after
 is_at stages.Mode held NoMode clear after = after
 is_at stages.Body held (Body rules_are roots steps) clear after = after.account
 is_at stages.Ended held (Whole rules_are roots steps) clear after = after.account
@@ -153,7 +153,7 @@ is_at stage held beginning clear after = absurd after
 
 is_after : (stage : Stage) (held : Held) (beginning : Beginning) → IsAccepted beginning → IsAt stage held (stage_of beginning)
     → IsAfter stage held beginning
-is_after stages.Version held Nothing accepted is = is
+is_after stages.Version held Empty accepted is = is
 is_after stages.Mode held NoMode accepted is = is
 is_after stages.Body held (Body rules_are roots steps) runs is = reached held rules_are roots steps runs is
 is_after stages.Ended held (Whole rules_are roots steps) runs is = reached held rules_are roots steps runs is
@@ -234,7 +234,7 @@ root_allowed : (old new : Held) (place : Place) (word : Word) → old.steps ≡ 
     → IsAt stages.Body old turn
     → turns.Allows turn (lines.Root place word) × IsAt stages.Body new (turns.behind turn (lines.Root place word))
 root_allowed old new place word none takes (turns.Within account) is =
-    let free = ap (λ (n : ℕ). first_of ((nat_lt 0 n, Misplaced) ∷ root_tests (account_of old) place word)) none ∙ takes.tests in
+    let free = ap (λ (n : ℕ). first_of ((nat_lt 0 n, Misplaced) ∷ root_checks (account_of old) place word)) none ∙ takes.checks in
     subst (λ (a : Account). turns.Allows (turns.Within a) (lines.Root place word) × (account_of new ≡ with_root a place word)) is
     ((root_formed place word old.rules, free), takes.account)
 root_allowed old new place word none takes turn is = absurd is
@@ -252,7 +252,7 @@ end_allowed : (held : Held) (count : ℕ) → count ≡ held.steps → (turn : t
     → turns.Allows turn (lines.End count) × IsAt stages.Ended held (turns.behind turn (lines.End count))
 end_allowed held count counted (turns.Within account) is =
     let same = eq-eqb count account.steps (counted ∙ ap (λ (a : Account). a.steps) is) in
-    ((end_formed count account.rules, first_of-none (line_tests account (lines.End count)) (ap not same, tt)), is)
+    ((end_formed count account.rules, first_of-none (line_checks account (lines.End count)) (ap not same, tt)), is)
 end_allowed held count counted turn is = absurd is
 
 pub end_goes : (stage : Stage) (held : Held) (count : ℕ) → stage ≡ stages.Body → count ≡ held.steps → count < 2 ^ 32
@@ -357,7 +357,7 @@ refused_at bytes text rest beginning refusal goes whole refused more =
 
 pub version_ends : (held : Held) (bytes text rest : List ℕ) → IsLine bytes text rest
     → ((version : ℕ) → Spells text (lines.Version version) → ⊥) → EndsAt (at stages.Version held) bytes (ends.Refused BadHeader)
-version_ends held bytes text rest whole none Nothing after = refused_at bytes text rest Nothing BadHeader tt whole (none, refl)
+version_ends held bytes text rest whole none Empty after = refused_at bytes text rest Empty BadHeader tt whole (none, refl)
 version_ends held bytes text rest whole none beginning after = absurd after
 
 pub mode_ends : (held : Held) (bytes text rest : List ℕ) → IsLine bytes text rest
@@ -391,7 +391,7 @@ line_ends held bytes rest line (ends.Refused refusal) rules_are roots steps reac
     (inr (
       line,
       subst (λ (a : Account). SpellsBy a.rules (spelling line) line) reaches.account spells,
-      subst (λ (a : Account). first_of (line_tests a line) ≡ Some refusal) reaches.account found,
+      subst (λ (a : Account). first_of (line_checks a line) ≡ Some refusal) reaches.account found,
     ))
 line_ends held bytes rest line ends.NoMemory rules_are roots steps reaches whole spells found = (
   spelling line,
@@ -408,7 +408,7 @@ line_ends held bytes rest line ends.NoMemory rules_are roots steps reaches whole
         ∙ sym (append_assoc (text_of (body_lines rules_are roots steps)) (spelling line) (10 ∷ rest));
     runs = reaches.runs;
     spelled = subst (λ (r : Rules). SpellsBy r (spelling line) line) (same_rules held rules_are roots steps reaches) spells;
-    free = subst (λ (a : Account). first_of (line_tests a line) ≡ None) reaches.account found.0;
+    free = subst (λ (a : Account). first_of (line_checks a line) ≡ None) reaches.account found.0;
     first = subst (λ (a : Account). IsTrue (is_new a (named_by_line a line))) reaches.account found.1;
   },
 )
@@ -462,10 +462,10 @@ ended_by stage clear (inl is) = is
 ended_by stage clear (inr fault) = absurd (clear (subst IsAtFault (sym fault.1) tt))
 
 -- the lines of a header
-pub header_tests : (account : Account) (line : Line) → ((version : ℕ) × (line ≡ lines.Version version)) ⊎ ((mode : Mode) × (line ≡ lines.Mode mode))
-    → first_of (line_tests account line) ≡ Some Misplaced
-header_tests account line (inl version) = ap (λ (l : Line). first_of (line_tests account l)) version.1
-header_tests account line (inr mode) = ap (λ (l : Line). first_of (line_tests account l)) mode.1
+pub header_checks : (account : Account) (line : Line) → ((version : ℕ) × (line ≡ lines.Version version)) ⊎ ((mode : Mode) × (line ≡ lines.Mode mode))
+    → first_of (line_checks account line) ≡ Some Misplaced
+header_checks account line (inl version) = ap (λ (l : Line). first_of (line_checks account l)) version.1
+header_checks account line (inr mode) = ap (λ (l : Line). first_of (line_checks account l)) mode.1
 
 pub version_other : (stage : Stage) (held : Held) (line : Line) → stage ≡ stages.Version → IsInRange line
     → ((version : ℕ) → line ≡ lines.Version version → ⊥) → EndsFrom (at stage held) line (ends.Refused BadHeader)
@@ -498,23 +498,23 @@ from_known stage held line known (Err end) same is range formed found =
 
 -- a header's line behind the header
 header_by : (form : Bool) (stage : Stage) (held : Held) (line : Line) (refusal : Refusal) → has_form held.rules line ≡ form
-    → stage ≡ stages.Body → IsInRange line → first_of (line_tests (account_of held) line) ≡ Some Misplaced
+    → stage ≡ stages.Body → IsInRange line → first_of (line_checks (account_of held) line) ≡ Some Misplaced
     → (form ≡ true → refusal ≡ Misplaced) → (form ≡ false → refusal ≡ BadLine)
     → EndsFrom (at stage held) line (ends.Refused refusal)
-header_by true stage held line refusal formed is range tests misplaced bad bytes rest whole =
+header_by true stage held line refusal formed is range checks misplaced bad bytes rest whole =
     subst (λ (r : Refusal). EndsAt (at stage held) bytes (ends.Refused r)) (sym (misplaced refl))
-    (from_body stage held line (ends.Refused Misplaced) is range formed tests bytes rest whole)
-header_by false stage held line refusal formed is range tests misplaced bad bytes rest whole =
+    (from_body stage held line (ends.Refused Misplaced) is range formed checks bytes rest whole)
+header_by false stage held line refusal formed is range checks misplaced bad bytes rest whole =
     subst (λ (s : Stage). EndsAt (at s held) bytes (ends.Refused refusal)) (sym is)
     (subst (λ (r : Refusal). EndsAt (at stages.Body held) bytes (ends.Refused r)) (sym (bad refl))
     (formless_ends held bytes (spelling line) rest whole
     (no_form held.rules (spelling line) line (range, refl) formed)))
 
 pub header_from : (stage : Stage) (held : Held) (line : Line) (refusal : Refusal) → stage ≡ stages.Body → IsInRange line
-    → first_of (line_tests (account_of held) line) ≡ Some Misplaced → (has_form held.rules line ≡ true → refusal ≡ Misplaced)
+    → first_of (line_checks (account_of held) line) ≡ Some Misplaced → (has_form held.rules line ≡ true → refusal ≡ Misplaced)
     → (has_form held.rules line ≡ false → refusal ≡ BadLine) → EndsFrom (at stage held) line (ends.Refused refusal)
-header_from stage held line refusal is range tests misplaced bad =
-    header_by (has_form held.rules line) stage held line refusal refl is range tests misplaced bad
+header_from stage held line refusal is range checks misplaced bad =
+    header_by (has_form held.rules line) stage held line refusal refl is range checks misplaced bad
 
 -- Behind the end line
 

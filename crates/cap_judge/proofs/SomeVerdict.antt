@@ -3,7 +3,7 @@ use Rattle.std.proofs.Common.{◌≡◌, ℕ, zero, suc, ◌+◌, ◌<◌, Bool,
 use Rattle.std.proofs.Common.{None, refl, sym, ap, ◌∙◌, append-nil, arith}
 use Rattle.std.proofs.lemmas.Bool.{false≢true}
 use Rattle.std.proofs.lemmas.List.{length-append}
-use Rattle.cap_ops.specs.Tests.{first_of}
+use Rattle.cap_ops.specs.Checks.{first_of}
 use Rattle.cap_ops.specs.declared.refusal.Refusal.{Refusal}
 use Rattle.cap_ops.specs.declared.refusal.Refusal.TheVariants.{BadHeader, BadMode, BadLine, LineTooLong, Misplaced, Truncated}
 use Rattle.cap_log.specs.declared.lines.Line.{Line}
@@ -19,8 +19,8 @@ use Rattle.cap_machine.specs.Accounts.{Account}
 use Rattle.cap_log.specs.declared.kinds.Step as steps_module
 use Rattle.cap_judge.specs.declared.verdict.Verdict.{Verdict}
 use Rattle.cap_judge.specs.declared.verdict.Verdict.TheVariants.{Yes, No}
-use Rattle.cap_judge.specs.Logs.{Beginning, Nothing, NoMode, Body, Whole, lines_of, text_of, account_after, IsAccepted, has_form}
-use Rattle.cap_judge.specs.Logs.{line_tests, RefusesLine, RefusesWhole, Refuses}
+use Rattle.cap_judge.specs.Logs.{Beginning, Empty, NoMode, Body, Whole, lines_of, text_of, account_after, IsAccepted, has_form}
+use Rattle.cap_judge.specs.Logs.{line_checks, RefusesLine, RefusesWhole, Refuses}
 use Rattle.cap_judge.specs.Judgings.{IsBehind}
 use Rattle.cap_judge.specs.Verdicts.{IsVerdict}
 use Rattle.cap_judge.proofs.JudgeLemmas.{IsUnended, fault_behind, front_refused, text_push, yes_of}
@@ -52,7 +52,7 @@ no_version text line spells other version is =
 no_mode : (text : List ℕ) (line : Line) → Spells text line → is_mode line ≡ false → (mode : modes_module.Mode) → Spells text (Mode mode) → ⊥
 no_mode text line spells other mode is = false≢true (sym other ∙ ap is_mode (one_spelling text line (Mode mode) spells is))
 
-first_turn : (text : List ℕ) (line : Line) → Spells text line → Turn Nothing text
+first_turn : (text : List ℕ) (line : Line) → Spells text line → Turn Empty text
 first_turn text (Version version) spells = inr (Version version, spells, tt)
 first_turn text line spells = inl (BadHeader, (no_version text line spells refl, refl))
 
@@ -68,7 +68,7 @@ formless account text line spells none = inl (no_form account.rules text line sp
 -- the first test that holds, or none
 by_tests : (rules_are : Rules) (roots : List DeclaredRoot) (steps : List steps_module.Step) (text : List ℕ) (line : Line)
     → let account = account_after rules_are roots steps in Spells text line → has_form account.rules line ≡ true
-    → (first : Option Refusal) → first_of (line_tests account line) ≡ first → Turn (Body rules_are roots steps) text
+    → (first : Option Refusal) → first_of (line_checks account line) ≡ first → Turn (Body rules_are roots steps) text
 by_tests rules_are roots steps text line spells formed (Some refusal) found = inl (refusal, inr (line, (spells, formed), found))
 by_tests rules_are roots steps text line spells formed None free = inr (line, spells, (formed, free))
 
@@ -81,8 +81,8 @@ by_form rules_are roots steps text line spells false none =
 
 turn : (beginning : Beginning) → IsUnended beginning → (text : List ℕ)
     → ((line : Line) × Spells text line) ⊎ ((line : Line) → Spells text line → ⊥) → Turn beginning text
-turn Nothing unended text (inl found) = first_turn text found.0 found.1
-turn Nothing unended text (inr none) = inl (BadHeader, (λ version. none (Version version), refl))
+turn Empty unended text (inl found) = first_turn text found.0 found.1
+turn Empty unended text (inr none) = inl (BadHeader, (λ version. none (Version version), refl))
 turn NoMode unended text (inl found) = mode_turn text found.0 found.1
 turn NoMode unended text (inr none) = inl (BadMode, (λ mode. none (Mode mode), refl))
 turn (Body rules_are roots steps) unended text (inl found) = by_form rules_are roots steps text found.0 found.1 _ refl
@@ -157,4 +157,4 @@ verdict_from (suc fuel) bytes beginning rest few here =
     from_here fuel bytes (verdict_from fuel bytes) beginning rest few here (follows beginning tt rest here.accepted)
 
 pub some_verdict : (bytes : List ℕ) → (verdict : Verdict) × IsVerdict bytes verdict
-some_verdict bytes = verdict_from (length bytes + 1) bytes Nothing bytes (omega arith) (record { bytes_are = refl; accepted = tt })
+some_verdict bytes = verdict_from (length bytes + 1) bytes Empty bytes (omega arith) (record { bytes_are = refl; accepted = tt })

@@ -7,7 +7,7 @@ use Rattle.cap_judge.specs.declared.verdict.Verdict.TheVariants.{Yes, No}
 use Rattle.cap_judge.specs.declared.verdict.JudgeFault.{JudgeFault}
 use Rattle.cap_judge.specs.declared.verdict.JudgeFault.TheVariants.{Pull, NoMemory}
 use Rattle.cap_judge.specs.Logs.{lines_of, MayLackMemory, IsFirstFault, text_of}
-use Rattle.cap_judge.specs.Verdicts.{IsVerdict, IsFault}
+use Rattle.cap_judge.specs.Verdicts.{IsVerdict, NoVerdictIn}
 use Rattle.cap_judge.specs.Judgings.{IsVerdictOf, BeginsLog, IsAnswerOf, JudgedBy, StopsBefore}
 use Rattle.cap_judge.proofs.JudgeLemmas.{guarded, no_lack}
 use Rattle.std.proofs.lemmas.Bool.{false≢true}
@@ -65,7 +65,7 @@ whole_verdict given rest false (No line refusal) end is = is rest
 
 whole_answer : (given rest : List ℕ) (ended : Bool) (result : Result Verdict JudgeFault) → (ended ≡ true → rest ≡ [])
     → IsAnswerOf given ended result → result ≢ Err Pull
-    → IfOk result (IsVerdict (given ++ rest)) × IfErr result (IsFault (given ++ rest))
+    → IfOk result (IsVerdict (given ++ rest)) × IfErr result (NoVerdictIn (given ++ rest))
 whole_answer given rest ended (Ok verdict) end answer no_pull = (whole_verdict given rest ended verdict end answer.verdict, tt)
 whole_answer given rest ended (Err Pull) end answer no_pull = absurd (no_pull refl)
 whole_answer given rest ended (Err NoMemory) end answer no_pull =
@@ -74,9 +74,9 @@ whole_answer given rest ended (Err NoMemory) end answer no_pull =
 -- what an answer for bytes given out of all bytes says of all
 pub of_all : (bytes given rest : List ℕ) (ended : Bool) (result : Result Verdict JudgeFault) → bytes ≡ given ++ rest
     → (ended ≡ true → rest ≡ []) → IsAnswerOf given ended result
-    → result ≢ Err Pull → IfOk result (IsVerdict bytes) × IfErr result (IsFault bytes)
+    → result ≢ Err Pull → IfOk result (IsVerdict bytes) × IfErr result (NoVerdictIn bytes)
 of_all bytes given rest ended result are end answer no_pull =
-    subst (λ (b : List ℕ). IfOk result (IsVerdict b) × IfErr result (IsFault b)) (sym are)
+    subst (λ (b : List ℕ). IfOk result (IsVerdict b) × IfErr result (NoVerdictIn b)) (sym are)
     (whole_answer given rest ended result end answer no_pull)
 
 -- where nothing was read no line is at fault
@@ -226,7 +226,7 @@ closer old new taken front kept more rest clear still was is split cut left some
 -- Bytes that are handed over at once
 
 module _ (old new : Known) (bytes : List ℕ) (count : ℕ) (begun : Read old []) where
-  pub bytes_lack : StopsAt old (take count bytes) (drop count bytes) stops.NoMemory new → IsFault bytes judge_faults.NoMemory
+  pub bytes_lack : StopsAt old (take count bytes) (drop count bytes) stops.NoMemory new → NoVerdictIn bytes judge_faults.NoMemory
   bytes_lack stop =
       let lack = stop.1 [] begun in
       (lack.1, subst (λ (b : List ℕ). MayLackMemory b lack.1) (take-append-drop count bytes) lack.3)

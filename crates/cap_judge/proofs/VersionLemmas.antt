@@ -12,7 +12,7 @@ use Rattle.cap_machine.specs.declared.rules.Rules.TheVariants.{One, TwoStrict, T
 use Rattle.cap_machine.specs.States.{DeclaredRoot}
 use Rattle.cap_judge.specs.declared.verdict.Verdict.{Verdict}
 use Rattle.cap_judge.specs.declared.verdict.Verdict.TheVariants.{Yes, No}
-use Rattle.cap_judge.specs.Logs.{Beginning, Nothing, NoMode, Body, Whole, Refuses, lines_of, text_of}
+use Rattle.cap_judge.specs.Logs.{Beginning, Empty, NoMode, Body, Whole, Refuses, lines_of, text_of}
 use Rattle.cap_judge.specs.Verdicts.{IsVerdict, IsOfVersionOne, BeginsOne, IsByVersionOne, RefusesOne, IsVerdictOne}
 use Rattle.cap_judge.proofs.JudgeLemmas.{text_push}
 
@@ -29,7 +29,7 @@ behind roots steps = map (λ (root : DeclaredRoot). Root root.place root.word) r
 begins_one : (bytes rest : List ℕ) (beginning : Beginning) → IsOfVersionOne bytes → bytes ≡ text_of (lines_of beginning) ++ rest
     → BeginsOne beginning
 unfolding behind
-begins_one bytes rest Nothing one are = tt
+begins_one bytes rest Empty one are = tt
 begins_one bytes rest NoMode one are = absurd (not_two bytes rest [] one are)
 begins_one bytes rest (Body One roots steps) one are = refl
 begins_one bytes rest (Body TwoStrict roots steps) one are = absurd (not_two bytes rest (Mode Strict ∷ behind roots steps) one are)
@@ -48,9 +48,9 @@ by_version_one bytes (No line refusal) one is = begins_one bytes is.rest is.begi
 
 -- what is refused by all rules at the start of these bytes, and by version 1
 to_one : (rest : List ℕ) (beginning : Beginning) (refusal : Refusal) → Refuses beginning rest refusal → RefusesOne beginning rest refusal
-to_one rest Nothing refusal (inl long) = inl long
-to_one rest Nothing refusal (inr (inl cut)) = inr (inl cut)
-to_one rest Nothing refusal (inr (inr line)) = inr (inr (line.0, line.1, line.2, (line.3.0 1, line.3.1)))
+to_one rest Empty refusal (inl long) = inl long
+to_one rest Empty refusal (inr (inl cut)) = inr (inl cut)
+to_one rest Empty refusal (inr (inr line)) = inr (inr (line.0, line.1, line.2, (line.3.0 1, line.3.1)))
 to_one rest beginning refusal refused = refused
 
 -- no version line of these bytes is another than that of version 1
@@ -67,9 +67,9 @@ no_other bytes line more one whole none version spells = elim (spells.0) [
 
 from_one : (bytes rest : List ℕ) (beginning : Beginning) (refusal : Refusal) → IsOfVersionOne bytes
     → bytes ≡ text_of (lines_of beginning) ++ rest → RefusesOne beginning rest refusal → Refuses beginning rest refusal
-from_one bytes rest Nothing refusal one are (inl long) = inl long
-from_one bytes rest Nothing refusal one are (inr (inl cut)) = inr (inl cut)
-from_one bytes rest Nothing refusal one are (inr (inr line)) =
+from_one bytes rest Empty refusal one are (inl long) = inl long
+from_one bytes rest Empty refusal one are (inr (inl cut)) = inr (inl cut)
+from_one bytes rest Empty refusal one are (inr (inr line)) =
     let whole = subst (λ (b : List ℕ). IsLine b line.0 line.1) (sym are) line.2 in
     inr (inr (line.0, line.1, line.2, (no_other bytes line.0 line.1 one whole line.3.0, line.3.1)))
 from_one bytes rest beginning refusal one are refused = refused

@@ -5,14 +5,14 @@ use Rattle.cap_log.specs.declared.lines.Line.TheVariants as lines
 use Rattle.cap_log.specs.declared.lines.Place.{Place}
 use Rattle.cap_log.specs.declared.kinds.Step.{Step}
 use Rattle.cap_log.specs.Lines.{Spells}
-use Rattle.cap_ops.specs.Tests.{first_of}
+use Rattle.cap_ops.specs.Checks.{first_of}
 use Rattle.cap_ops.specs.declared.refusal.Refusal.TheVariants.{WrongResult}
 use Rattle.cap_machine.specs.declared.rules.Rules.{Rules}
 use Rattle.cap_machine.specs.declared.shown.Given.{Given}
 use Rattle.cap_machine.specs.declared.shown.Given.TheVariants as givens
 use Rattle.cap_machine.specs.States.{DeclaredRoot}
-use Rattle.cap_machine.specs.Steps.{Access, Recorded, Row, Written, Read}
-use Rattle.cap_machine.specs.Accounts.{Account, row_in, step_tests}
+use Rattle.cap_machine.specs.Steps.{Access, Recorded, Row, Written, ReadNumber}
+use Rattle.cap_machine.specs.Accounts.{Account, row_in, step_checks}
 use Rattle.cap_judge.specs.declared.verdict.Expected.{Expected}
 use Rattle.cap_judge.specs.declared.verdict.Expected.TheVariants.{Capability, Number}
 use Rattle.cap_judge.specs.Logs.{RunsBy, IsFirstFault, account_after, body_lines, text_of}
@@ -20,7 +20,7 @@ use Rattle.cap_judge.specs.Logs.{RunsBy, IsFirstFault, account_after, body_lines
 -- what is written, or the number in memory, where a line records it
 abbrev pub given_for : Option (Place × Cap) → Recorded → Option Access → Option Expected
 given_for (Some write) (Written recorded) access = Some (Capability write.1)
-given_for writes (Read recorded in_memory) (Some access) = Some (Number in_memory access.size)
+given_for writes (ReadNumber recorded in_memory) (Some access) = Some (Number in_memory access.size)
 given_for writes records access = None
 
 -- what the rules give in a row of the machine's table
@@ -38,7 +38,7 @@ pub record IsExpected (bytes : List ℕ) (expected : Expected) : Type 0 where
   pub bytes_are : bytes ≡ text_of (body_lines rules roots steps) ++ text ++ 10 ∷ more
   pub runs : RunsBy rules roots steps
   pub spelled : Spells text (lines.Step step)
-  pub refused : first_of (step_tests (account_after rules roots steps) step) ≡ Some WrongResult
+  pub refused : first_of (step_checks (account_after rules roots steps) step) ≡ Some WrongResult
   pub given : given_in (row_in (account_after rules roots steps) step) ≡ Some expected
 
 -- what the rules give for the first fault of the bytes: nothing exactly where it isn't refused for its result
@@ -48,9 +48,9 @@ Expects bytes (Some expected) = IsExpected bytes expected
 
 -- what the rules give for a step, if it is refused for its result
 abbrev pub GivesFor : Account → Step → Option Expected → Type 0
-GivesFor account step None = first_of (step_tests account step) ≡ Some WrongResult → ⊥
+GivesFor account step None = first_of (step_checks account step) ≡ Some WrongResult → ⊥
 GivesFor account step (Some expected) =
-    first_of (step_tests account step) ≡ Some WrongResult → given_in (row_in account step) ≡ Some expected
+    first_of (step_checks account step) ≡ Some WrongResult → given_in (row_in account step) ≡ Some expected
 
 -- what they give for the step that a text spells
 abbrev pub GivesForText : Account → List ℕ → Option Expected → Type 0

@@ -11,11 +11,11 @@ use Rattle.cap_judge.specs.declared.verdict.Verdict.{Verdict}
 use Rattle.cap_judge.specs.declared.verdict.Verdict.TheVariants.{Yes, No}
 use Rattle.cap_judge.specs.declared.verdict.JudgeFault.{JudgeFault}
 use Rattle.cap_judge.specs.declared.verdict.JudgeFault.TheVariants.{Pull, NoMemory}
-use Rattle.cap_judge.specs.Logs.{Beginning, Nothing, NoMode, Body, Whole, lines_of, text_of, account_after, IsAccepted, IsLogOf}
+use Rattle.cap_judge.specs.Logs.{Beginning, Empty, NoMode, Body, Whole, lines_of, text_of, account_after, IsAccepted, IsLogOf}
 use Rattle.cap_judge.specs.Logs.{IsFirstFault, MayLackMemory, NamesNoGranules}
 use Rattle.cap_judge.specs.Verdicts.{IsVerdict, IsGuarded}
 
--- the verdict on these bytes, where their source has ended; where it has not, a no that stands whatever bytes follow
+-- the verdict on these bytes, if their source has ended; otherwise a `no` that holds whatever bytes follow
 abbrev pub IsVerdictOf : List ℕ → Bool → Verdict → Type 0
 IsVerdictOf bytes true verdict = IsVerdict bytes verdict
 IsVerdictOf bytes false (Yes steps roots) = ⊥
@@ -28,7 +28,7 @@ pub record IsBehind (bytes : List ℕ) (beginning : Beginning) (rest : List ℕ)
 
 -- the account after a beginning; before the header is read it is an empty one
 abbrev pub account_before : Beginning → Account
-account_before Nothing = no_account One
+account_before Empty = no_account One
 account_before NoMode = no_account One
 account_before (Body rules roots steps) = account_after rules roots steps
 account_before (Whole rules roots steps) = account_after rules roots steps
@@ -52,24 +52,24 @@ abbrev pub StopsIn : List ℕ → Bool → Held → List ℕ → Verdict → Typ
 StopsIn bytes ended held text (Yes steps roots) = Unit {0}
 StopsIn bytes ended held text (No line refusal) = StopsBefore bytes ended held line text
 
--- the whole lines begin a log whose steps have a run, and less than a line follows them
+-- whole lines that begin a log whose steps have a run, and less than a line after them
 pub record BeginsLog (bytes : List ℕ) : Type 0 where
   pub beginning : Beginning
   pub rest : List ℕ
   pub behind : IsBehind bytes beginning rest
   pub cut : IsCut rest
 
--- why there is no verdict: the source failed behind whole lines that begin a log; or behind such lines one that no test refuses names a
--- granule for the first time
-abbrev pub IsFaultOf : List ℕ → JudgeFault → Type 0
-IsFaultOf bytes Pull = BeginsLog bytes
-IsFaultOf bytes NoMemory = (more : List ℕ) × MayLackMemory bytes more
+-- there is no verdict: the source failed after lines that begin a log; or a line that fails no check names a granule
+-- for the first time
+abbrev pub NoVerdictOf : List ℕ → JudgeFault → Type 0
+NoVerdictOf bytes Pull = BeginsLog bytes
+NoVerdictOf bytes NoMemory = (more : List ℕ) × MayLackMemory bytes more
 
 -- what an answer says of the bytes given, and of whether their source has ended
 pub record IsAnswerOf (bytes : List ℕ) (ended : Bool) (result : Result Verdict JudgeFault) : Type 0 where
   pub verdict : IfOk result (IsVerdictOf bytes ended)
   pub authority : IsGuarded bytes
-  pub fault : IfErr result (IsFaultOf bytes)
+  pub fault : IfErr result (NoVerdictOf bytes)
   pub answers : NamesNoGranules bytes → result ≢ Err NoMemory
 
 -- an answer is that of the bytes that the source gave in the call

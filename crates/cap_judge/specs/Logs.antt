@@ -10,7 +10,7 @@ use Rattle.cap_log.specs.declared.lines.Mode.TheVariants.{Strict, Clear}
 use Rattle.cap_log.specs.declared.kinds.Step as steps_module
 use Rattle.cap_log.specs.Lines.{spelling, IsInRange, Spells}
 use Rattle.cap_log.specs.Front.{FrontIs}
-use Rattle.cap_ops.specs.Tests.{first_of}
+use Rattle.cap_ops.specs.Checks.{first_of}
 use Rattle.cap_ops.specs.declared.refusal.Refusal.{Refusal}
 use Rattle.cap_ops.specs.declared.refusal.Refusal.TheVariants.{BadHeader, LineTooLong, BadLine, Misplaced, Truncated}
 use Rattle.cap_ops.specs.declared.refusal.Refusal.TheVariants.{WrongCount, BadMode}
@@ -18,15 +18,14 @@ use Rattle.cap_machine.specs.declared.rules.Rules.{Rules}
 use Rattle.cap_machine.specs.declared.rules.Rules.TheVariants.{One, TwoStrict, TwoClear}
 use Rattle.cap_machine.specs.States.{State, DeclaredRoot, key_of, start}
 use Rattle.cap_machine.specs.Accounts.{Account, most_roots, most_granules, most_steps, granule_of, named_by, is_new}
-use Rattle.cap_machine.specs.Steps.{row_by, row_of}
-use Rattle.cap_machine.specs.Accounts.{root_tests, step_tests}
+use Rattle.cap_machine.specs.Accounts.{root_checks, row_in, step_checks}
 pub use Rattle.cap_machine.specs.RunAccounts.{account_after}
 use Rattle.cap_machine.specs.Runs.{IsRun}
 
--- how a log begins: not at all; with the version line of version 2 and no mode line; with its header, roots and steps; or with all of
--- these and its end line
+-- how a log begins: not at all; with the version line of version 2 alone; with its header, roots and steps; or with
+-- its end line too
 pub data Beginning : Type 0 where
-  Nothing : Beginning
+  Empty : Beginning
   NoMode : Beginning
   Body : (rules_are : Rules) (roots : List DeclaredRoot) (steps : List steps_module.Step) → Beginning
   Whole : (rules_are : Rules) (roots : List DeclaredRoot) (steps : List steps_module.Step) → Beginning
@@ -43,7 +42,7 @@ body_lines rules roots steps = header_lines rules ++ (map (λ root. Root root.pl
 
 -- the lines of a beginning
 abbrev pub lines_of : Beginning → List Line
-lines_of Nothing = []
+lines_of Empty = []
 lines_of NoMode = Version 2 ∷ []
 lines_of (Body rules roots steps) = body_lines rules roots steps
 lines_of (Whole rules roots steps) = body_lines rules roots steps ++ End (length steps) ∷ []
@@ -52,8 +51,8 @@ lines_of (Whole rules roots steps) = body_lines rules roots steps ++ End (length
 abbrev pub text_of : List Line → List ℕ
 text_of lines = flat_map (λ line. spelling line ++ 10 ∷ []) lines
 
--- roots and steps that keep to the grammar and the limits, with sound roots at distinct places, and whose steps have a run, by the
--- rules, from the state that the roots make
+-- roots and steps in range and within the limits, with sound roots at distinct places, whose steps have a run by the
+-- rules
 pub record RunsBy (rules : Rules) (roots : List DeclaredRoot) (steps : List steps_module.Step) : Type 0 where
   pub grammar : AllByRecursion IsInRange (body_lines rules roots steps)
   pub distinct : IsDistinct nat_eq (map (λ root. key_of root.place) roots)
@@ -84,39 +83,40 @@ has_form rules line = true
 abbrev pub SpellsBy : Rules → List ℕ → Line → Type 0
 SpellsBy rules bytes line = Spells bytes line × IsTrue (has_form rules line)
 
--- the tests of a line that has a form, in order, after a body with this account
-abbrev pub line_tests : Account → Line → List (Bool × Refusal)
-line_tests account (Root place word) = (nat_lt 0 account.steps, Misplaced) ∷ root_tests account place word
-line_tests account (Step step) = step_tests account step
-line_tests account (End count) = (not (count == account.steps), WrongCount) ∷ []
-line_tests account line = (true, Misplaced) ∷ []
+-- the checks of a line with a form, after a body with this account
+abbrev pub line_checks : Account → Line → List (Bool × Refusal)
+line_checks account (Root place word) = (nat_lt 0 account.steps, Misplaced) ∷ root_checks account place word
+line_checks account (Step step) = step_checks account step
+line_checks account (End count) = (not (count == account.steps), WrongCount) ∷ []
+line_checks account line = (true, Misplaced) ∷ []
 
 -- the granule that a line names: a root's, an sc's or a store's
 abbrev pub named_by_line : Account → Line → Option ℕ
 named_by_line account (Root place word) = granule_of place
-named_by_line account (Step step) = named_by (row_by account.rules (row_of account.state step))
+named_by_line account (Step step) = named_by (row_in account step)
 named_by_line account line = None
 
--- the bytes have no form, or a form of which a test holds: the refusal is the first
+-- the bytes have no form, or a form whose first failed check is this refusal
 abbrev pub RefusesLine : Account → List ℕ → Refusal → Type 0
 RefusesLine account bytes refusal =
     (((line : Line) → SpellsBy account.rules bytes line → ⊥) × (refusal ≡ BadLine))
-    ⊎ ((line : Line) × SpellsBy account.rules bytes line × (first_of (line_tests account line) ≡ Some refusal))
+    ⊎ ((line : Line) × SpellsBy account.rules bytes line × (first_of (line_checks account line) ≡ Some refusal))
 
 -- a whole line after a beginning is refused
 abbrev pub RefusesWhole : Beginning → List ℕ → Refusal → Type 0
-RefusesWhole Nothing bytes refusal = ((version : ℕ) → Spells bytes (Version version) → ⊥) × (refusal ≡ BadHeader)
+RefusesWhole Empty bytes refusal = ((version : ℕ) → Spells bytes (Version version) → ⊥) × (refusal ≡ BadHeader)
 RefusesWhole NoMode bytes refusal = ((mode : modes_module.Mode) → Spells bytes (Mode mode) → ⊥) × (refusal ≡ BadMode)
 RefusesWhole (Body rules roots steps) bytes refusal = RefusesLine (account_after rules roots steps) bytes refusal
 RefusesWhole (Whole rules roots steps) bytes refusal = ⊥
 
--- what follows a beginning is refused: after the end line any byte is misplaced; before it the front is too long, or cut, or a whole
--- line that is refused
+-- what follows a beginning is refused: any byte after the end line; before it a line that is too long, cut, or
+-- refused as a whole
 abbrev pub Refuses : Beginning → List ℕ → Refusal → Type 0
 Refuses (Whole rules roots steps) rest refusal = (rest ≢ []) × (refusal ≡ Misplaced)
 Refuses beginning rest refusal = FrontIs rest (refusal ≡ LineTooLong) (refusal ≡ Truncated) (λ line. RefusesWhole beginning line refusal)
 
--- the bytes are the text of a beginning that is accepted, and a rest that is refused: the line after the beginning is the first fault
+-- the bytes are the text of an accepted beginning, and a rest that is refused: the line after the beginning is the
+-- first faulty one
 pub record IsFirstFault (bytes : List ℕ) (number : ℕ) (refusal : Refusal) : Type 0 where
   pub beginning : Beginning
   pub rest : List ℕ
@@ -125,8 +125,8 @@ pub record IsFirstFault (bytes : List ℕ) (number : ℕ) (refusal : Refusal) : 
   pub number_is : number ≡ length (lines_of beginning) + 1
   pub refused : Refuses beginning rest refusal
 
--- the bytes are the text of a body whose steps have a run, a line that no test refuses then and that names a granule for the first
--- time, and what comes behind it
+-- the bytes are the text of a body whose steps have a run, a line that fails no check and names a granule for the
+-- first time, and more
 pub record MayLackMemory (bytes more : List ℕ) : Type 0 where
   pub rules : Rules
   pub roots : List DeclaredRoot
@@ -136,10 +136,10 @@ pub record MayLackMemory (bytes more : List ℕ) : Type 0 where
   pub bytes_are : bytes ≡ text_of (body_lines rules roots steps) ++ text ++ 10 ∷ more
   pub runs : RunsBy rules roots steps
   pub spelled : SpellsBy rules text line
-  pub free : first_of (line_tests (account_after rules roots steps) line) ≡ None
+  pub free : first_of (line_checks (account_after rules roots steps) line) ≡ None
   pub first : IsTrue (is_new (account_after rules roots steps) (named_by_line (account_after rules roots steps) line))
 
--- no line of the bytes, after whole lines in range, names a granule, whatever the account is
+-- no line of the bytes, after lines in range, names a granule, whatever the account
 abbrev pub NamesNoGranules : List ℕ → Type 0
 NamesNoGranules bytes =
     (lines : List Line) (text more : List ℕ) (line : Line) (account : Account) → AllByRecursion IsInRange lines

@@ -9,7 +9,7 @@ use Rattle.cap_log.specs.declared.lines.Line.TheVariants as lines
 use Rattle.cap_log.specs.declared.lines.Mode as modes_module
 use Rattle.cap_log.specs.declared.lines.Mode.TheVariants as modes
 use Rattle.cap_log.specs.declared.kinds.Step.{Step}
-use Rattle.cap_ops.specs.Tests.{first_of}
+use Rattle.cap_ops.specs.Checks.{first_of}
 use Rattle.cap_machine.specs.Accounts.{is_new, no_account}
 use Rattle.cap_machine.specs.Helds.{Held, account_of}
 use Rattle.cap_machine.specs.States.{DeclaredRoot}
@@ -29,7 +29,7 @@ use Rattle.cap_judge.specs.declared.verdict.Verdict.TheVariants.{Yes, No}
 use Rattle.cap_judge.specs.FaultLines.{bytes_of}
 use Rattle.cap_judge.specs.Judgings.{IsBehind, IsLastFront, IsVerdictOf, LeadsTo, StopsBefore, account_before}
 use Rattle.cap_judge.specs.Logs.{Beginning, lines_of, text_of, IsAccepted, IsFirstFault, Refuses, MayLackMemory, RunsBy, account_after}
-use Rattle.cap_judge.specs.Logs.{line_tests, named_by_line}
+use Rattle.cap_judge.specs.Logs.{line_checks, named_by_line}
 use Rattle.cap_judge.specs.Logs as logs
 use Rattle.cap_judge.specs.Verdicts.{IsYes}
 
@@ -45,11 +45,12 @@ pub record Reaches (held : Held) (rules : Rules) (roots : List DeclaredRoot) (st
   pub roots_are : held.roots ≡ length roots
   pub steps_are : held.steps ≡ length steps
 
--- how a line ends in what a machine holds: at its first test that holds; or no test holds and it names a granule for the first time
+-- how a line ends in what a machine holds: at its first check that fails; or no check fails and it names a granule
+-- for the first time
 abbrev pub EndsFor : Held → Line → StepEnd → Type 0
-EndsFor held line (ends.Refused refusal) = first_of (line_tests (account_of held) line) ≡ Some refusal
+EndsFor held line (ends.Refused refusal) = first_of (line_checks (account_of held) line) ≡ Some refusal
 EndsFor held line ends.NoMemory =
-    (first_of (line_tests (account_of held) line) ≡ None) × IsTrue (is_new (account_of held) (named_by_line (account_of held) line))
+    (first_of (line_checks (account_of held) line) ≡ None) × IsTrue (is_new (account_of held) (named_by_line (account_of held) line))
 
 -- what a judge knows: what its machine holds, and what the next line has to be
 pub record Known : Type 0 where
@@ -68,7 +69,7 @@ IsAtFault stage = ⊥
 -- the lines of a beginning lead to what a machine holds, and what the next line has to be is what may follow them; where a line is at
 -- fault, they are those before it
 abbrev pub IsAfter : Stage → Held → Beginning → Type 0
-IsAfter Version held logs.Nothing = account_of held ≡ no_account One
+IsAfter Version held logs.Empty = account_of held ≡ no_account One
 IsAfter Mode held logs.NoMode = account_of held ≡ no_account One
 IsAfter Body held (logs.Body rules roots steps) = Reaches held rules roots steps
 IsAfter Ended held (logs.Whole rules roots steps) = Reaches held rules roots steps
@@ -108,8 +109,8 @@ abbrev pub Faults : Known → List ℕ → List ℕ → Known → Type 0
 Faults old front rest new =
     (before : List ℕ) → (read : Read old before) → (now : Read new (before ++ (front ++ rest))) × (now.rest ≡ read.rest ++ rest)
 
--- why what stands behind a beginning is not taken: it is refused, whatever follows it; or a whole line, which no test refuses, names a
--- granule for the first time
+-- why what follows a beginning is not taken: it is refused, whatever follows it; or a whole line, which fails no
+-- check, names a granule for the first time
 abbrev pub EndsBehind : Beginning → List ℕ → StepEnd → Type 0
 EndsBehind beginning rest (ends.Refused refusal) = (more : List ℕ) → Refuses beginning (rest ++ more) refusal
 EndsBehind beginning rest ends.NoMemory =
@@ -123,8 +124,8 @@ EndsAt known rest end = (beginning : Beginning) → IsAfter known.stage known.he
 abbrev pub EndsFrom : Known → Line → StepEnd → Type 0
 EndsFrom known line end = (bytes rest : List ℕ) → IsLine bytes (spelling line) rest → EndsAt known bytes end
 
--- a judge that was handed a front and a rest took the front and stopped: the rest is less than a line; or begins with a line at fault,
--- and was taken too; or with a line that no test refuses and that names a granule for the first time
+-- a judge that was handed a front and a rest took the front and stopped: the rest is less than a line; or begins with a
+-- faulty line, and was taken too; or with a line that fails no check and names a granule for the first time
 abbrev pub StopsAt : Known → List ℕ → List ℕ → Stop → Known → Type 0
 StopsAt old front rest Cut new = GoesOn old front new × IsCut rest × (IsAtFault new.stage → ⊥)
 StopsAt old front rest Fault new = Faults old front rest new × IsAtFault new.stage

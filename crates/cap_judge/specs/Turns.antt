@@ -3,10 +3,10 @@ use Rattle.std.specs.Prelude.{◌≡◌, ◌==◌, if◌then◌else◌, List, []
 use Rattle.cap_log.specs.declared.lines.Line.{Line}
 use Rattle.cap_log.specs.declared.lines.Line.TheVariants.{Version, Mode, Root, Step, End}
 use Rattle.cap_log.specs.declared.lines.Mode.TheVariants.{Strict, Clear}
-use Rattle.cap_ops.specs.Tests.{first_of}
+use Rattle.cap_ops.specs.Checks.{first_of}
 use Rattle.cap_machine.specs.declared.rules.Rules.TheVariants.{One, TwoStrict, TwoClear}
 use Rattle.cap_machine.specs.Accounts.{Account, no_account, with_root, with_step}
-use Rattle.cap_judge.specs.Logs.{has_form, line_tests}
+use Rattle.cap_judge.specs.Logs.{has_form, line_checks}
 
 -- how far a log is read: not at all; past the version line of version 2; past its header, to an account; past its end line
 pub data Stage : Type 0 where
@@ -19,7 +19,7 @@ pub data Stage : Type 0 where
 abbrev pub Allows : Stage → Line → Type 0
 Allows Unread (Version version) = Unit {0}
 Allows Versioned (Mode mode) = Unit {0}
-Allows (Within account) line = IsTrue (has_form account.rules line) × (first_of (line_tests account line) ≡ None)
+Allows (Within account) line = IsTrue (has_form account.rules line) × (first_of (line_checks account line) ≡ None)
 Allows stage line = ⊥
 
 -- the stage behind a line that is allowed

@@ -2,10 +2,10 @@
 use Rattle.std.specs.Prelude.{ℕ, List, ◌++◌, codes, decimal}
 use Rattle.cap_judge.specs.declared.verdict.Verdict.{Verdict}
 use Rattle.cap_judge.specs.declared.verdict.Verdict.TheVariants.{Yes, No}
-use Rattle.cap_ops.specs.Refusals.{refusal_number, name_of}
+use Rattle.cap_ops.specs.Refusals.{refusal_number, refusal_name}
 
--- the verdict in words and decimal numbers, with its line feed (this profile's own)
+-- the verdict as a line (this profile's own)
 abbrev pub verdict_line : Verdict → List ℕ
 verdict_line (Yes steps roots) = codes "yes " ++ decimal steps ++ codes " " ++ decimal roots ++ codes "\n"
 verdict_line (No line refusal) =
-    codes "no " ++ decimal line ++ codes " " ++ decimal (refusal_number refusal) ++ codes " " ++ name_of refusal ++ codes "\n"
+    codes "no " ++ decimal line ++ codes " " ++ decimal (refusal_number refusal) ++ codes " " ++ refusal_name refusal ++ codes "\n"

@@ -18,10 +18,10 @@ use Rattle.cap_judge.specs.declared.verdict.Verdict.{Verdict}
 use Rattle.cap_judge.specs.declared.verdict.Verdict.TheVariants.{Yes, No}
 use Rattle.cap_judge.specs.declared.verdict.JudgeFault.{JudgeFault}
 use Rattle.cap_judge.specs.declared.verdict.JudgeFault.TheVariants.{Pull, NoMemory}
-use Rattle.cap_judge.specs.Logs.{Beginning, Nothing, NoMode, Body, Whole, SpellsBy, account_after, lines_of, text_of, IsAccepted, IsLogOf}
+use Rattle.cap_judge.specs.Logs.{Beginning, Empty, NoMode, Body, Whole, SpellsBy, account_after, lines_of, text_of, IsAccepted, IsLogOf}
 use Rattle.cap_judge.specs.Logs.{Refuses, IsFirstFault, MayLackMemory}
 
--- the bytes are a log of so many steps and roots, whose steps have a run
+-- the bytes are a log with this many steps and roots, whose steps have a run
 pub record IsYes (bytes : List ℕ) (step_count root_count : ℕ) : Type 0 where
   pub rules : Rules
   pub roots : List DeclaredRoot
@@ -30,20 +30,21 @@ pub record IsYes (bytes : List ℕ) (step_count root_count : ℕ) : Type 0 where
   pub step_count_is : step_count ≡ length steps
   pub root_count_is : root_count ≡ length roots
 
--- yes for a log whose steps have a run, with its numbers, and otherwise no with the first fault (this profile's own)
+-- `yes` for a log whose steps have a run; otherwise `no` with the first faulty line (this profile's own)
 abbrev pub IsVerdict : List ℕ → Verdict → Type 0
 IsVerdict bytes (Yes steps roots) = IsYes bytes steps roots
 IsVerdict bytes (No line refusal) = IsFirstFault bytes line refusal
 
--- along every run that the bytes as a log have, authority never grows and each access lies inside its root (this profile's own)
+-- along each run that the bytes have as a log, authority never grows and each access lies inside its root (this
+-- profile's own)
 abbrev pub IsGuarded : List ℕ → Type 0
 IsGuarded bytes = (rules : Rules) (roots : List DeclaredRoot) (steps : List Step) (states : List State) → IsLogOf bytes rules roots steps
     → IsRun rules (start roots) steps states → AuthorityNeverGrows roots steps states × AccessesLieInside roots steps states
 
--- why there is no verdict: behind lines that begin a log, one that no test refuses names a granule for the first time
-abbrev pub IsFault : List ℕ → JudgeFault → Type 0
-IsFault bytes Pull = ⊥
-IsFault bytes NoMemory = (more : List ℕ) × MayLackMemory bytes more
+-- there is no verdict: after lines that begin a log, a line that fails no check names a granule for the first time
+abbrev pub NoVerdictIn : List ℕ → JudgeFault → Type 0
+NoVerdictIn bytes Pull = ⊥
+NoVerdictIn bytes NoMemory = (more : List ℕ) × MayLackMemory bytes more
 
 -- what a line that the machine does not take makes the answer
 abbrev pub answer_at : ℕ → StepEnd → Result Verdict JudgeFault
@@ -56,7 +57,7 @@ IsOfVersionOne bytes = (more : List ℕ) → bytes ≢ codes "capcheck 2\n" ++ m
 
 -- a beginning of a log of version 1
 abbrev pub BeginsOne : Beginning → Type 0
-BeginsOne Nothing = Unit {0}
+BeginsOne Empty = Unit {0}
 BeginsOne NoMode = ⊥
 BeginsOne (Body rules roots steps) = rules ≡ One
 BeginsOne (Whole rules roots steps) = rules ≡ One
@@ -68,7 +69,7 @@ IsByVersionOne bytes (No line refusal) fault = BeginsOne fault.beginning
 
 -- what follows a beginning is refused by version 1, whose header is its version line alone
 abbrev pub RefusesOne : Beginning → List ℕ → Refusal → Type 0
-RefusesOne Nothing rest refusal =
+RefusesOne Empty rest refusal =
     FrontIs rest (refusal ≡ LineTooLong) (refusal ≡ Truncated) (λ line. (Spells line (Version 1) → ⊥) × (refusal ≡ BadHeader))
 RefusesOne beginning rest refusal = Refuses beginning rest refusal
 
@@ -87,7 +88,7 @@ abbrev pub IsVerdictOne : List ℕ → Verdict → Type 0
 IsVerdictOne bytes (Yes steps roots) = (log : IsYes bytes steps roots) × (log.rules ≡ One)
 IsVerdictOne bytes (No line refusal) = IsFirstFaultOne bytes line refusal
 
--- the line at fault is a step that asks for bounds beyond those of its tagged, unsealed source, in what the log has led to
+-- the faulty line is a step, under strict rules, that asks for bounds beyond those of its tagged, unsealed source
 abbrev pub FaultEscapes : Beginning → List ℕ → Type 0
 FaultEscapes (Body rules roots steps) rest =
     let account = account_after rules roots steps in
@@ -95,12 +96,13 @@ FaultEscapes (Body rules roots steps) rest =
     × SpellsBy account.rules text (Stepping step) × ((account.rules ≢ TwoClear) × AsksBeyond account.state (asked_by step))
 FaultEscapes beginning rest = ⊥
 
--- a no names BoundsEscape exactly for such a line: the test of CSetBounds (UCAM-CL-TR-987)
+-- a `no` names BoundsEscape exactly for a line that asks for bounds beyond its source's (the check of CSetBounds,
+-- UCAM-CL-TR-987)
 abbrev pub EscapesExactly : List ℕ → Verdict → Type 0
 EscapesExactly bytes (Yes steps roots) = Unit {0}
 EscapesExactly bytes (No line refusal) =
     (fault : IsFirstFault bytes line refusal) → (refusal ≡ BoundsEscape) ↔ FaultEscapes fault.beginning fault.rest
 
--- the same, whatever bytes the verdict is of
+-- `EscapesExactly`, whatever bytes the verdict is on
 abbrev pub NamesEscapes : Verdict → Type 0
 NamesEscapes verdict = (bytes : List ℕ) → EscapesExactly bytes verdict

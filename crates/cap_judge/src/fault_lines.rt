@@ -14,7 +14,8 @@ pub struct FaultLine {
 }
 
 impl FaultLine {
-    ghost use Rattle.cap_judge.specs.FaultLines.{IsFrontText, bytes_of};
+    ghost use Rattle.cap_judge.specs.FaultLines.{bytes_of};
+    ghost use Rattle.cap_log.specs.Front.{IsFrontText};
 
     /// No bytes.
     pub fn new() -> FaultLine

@@ -3,8 +3,8 @@
 
 ghost use Rattle.std.specs.Prelude.{◌≡◌, ◌≤◌, ◌<◌, ◌^◌, ◌↔◌, ◌⊎◌, ℕ, List, [], ◌++◌, length, take, drop, true, false, Err, None, IfSome};
 ghost use Rattle.std.specs.Prelude.{OnOk, IfErr, ◌≢◌, ◌∷◌, ◌+◌, IfOk};
-ghost use Rattle.cap_log.specs.Front.{IsCut, IsLine, IsTooLong};
-ghost use Rattle.cap_machine.specs.States.{granule_key};
+ghost use Rattle.cap_log.specs.Front.{IsCut, IsFrontText, IsLine, IsTooLong};
+ghost use Rattle.cap_machine.specs.States.{granule_key, key_of};
 ghost use Rattle.cap_judge.specs.Expectations.{Expects};
 ghost use Rattle.cap_judge.specs.Judgings.{account_before};
 ghost use Rattle.cap_judge.specs.Logs.{MayLackMemory, Beginning, has_form, header_lines, lines_of};
@@ -20,7 +20,7 @@ ghost use Rattle.cap_log.specs.declared.lines.Line.{Line};
 ghost use Rattle.cap_machine.specs.Helds.{account_of};
 ghost use Rattle.cap_machine.specs.declared.ends.StepEnd.TheVariants.{Refused};
 ghost use Rattle.cap_ops.specs.declared.refusal.Refusal.TheVariants.{BadLine, Misplaced};
-ghost use Rattle.cap_judge.specs.FaultLines.{IsFrontText, bytes_of};
+ghost use Rattle.cap_judge.specs.FaultLines.{bytes_of};
 ghost use Rattle.std.specs.FinMap as map;
 ghost use Rattle.cap_log.specs.declared.lines.Line.TheVariants as lines;
 ghost use Rattle.cap_judge.specs.declared.judges.Stop.TheVariants as stops;
@@ -197,6 +197,17 @@ impl<M: TaggedStore> Judge<M> {
         self.machine.granule(granule)
     }
 
+    /// The place of the root that a place's capability descends from, after the lines so far or before the faulty
+    /// line. `None` if it is untagged.
+    pub fn origin(&self, place: Place) -> Option<Place>
+        requires { IsPlace place }
+        ensures holds { (bytes : List ℕ) → (read : HasRead self.now bytes)
+            → result ≡ (account_before read.beginning).origin (key_of place) }
+        ensures in_range { IfSome result IsPlace }
+    {
+        self.machine.origin(place)
+    }
+
     // Takes the line of a step after the header, or bytes of any kind.
     #[inline(always)]
     fn take_body(&mut self, line: &[u8]) -> Result<(), TakeFault>
@@ -253,8 +264,8 @@ impl<M: TaggedStore> Judge<M> {
         }
     }
 
-    // The verdict if no other bytes follow than these, which are less than a line: a `yes`, or the faulty line.
-    pub(crate) fn ending(&self, rest: &[u8]) -> Result<Verdict, Fault>
+    /// The verdict if no other bytes follow than these, which are less than a line: a `yes`, or the faulty line.
+    pub fn ending(&self, rest: &[u8]) -> Result<Verdict, Fault>
         ensures ends { (bytes : List ℕ) → HasRead self.now bytes → IsCut rest.now
             → EndsWith self.now.machine (bytes ++ rest.now) result }
         ensures fault { (fault : FaultIn) → self.now.stage ≡ RefusedIn fault → result ≡ Err fault }

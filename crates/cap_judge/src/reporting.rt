@@ -1,6 +1,6 @@
 //! The judges that write into a sink: the verdict, and the origins of a log's last state.
 
-ghost use Rattle.std.specs.Prelude.{◌≡◌, ℕ, take, Err, IfOk, OnOk, OnErr, true, false};
+ghost use Rattle.std.specs.Prelude.{◌≡◌, ◌≤◌, ℕ, length, take, Err, IfOk, OnOk, OnErr, true, false};
 ghost use Rattle.std.specs.FinMap as map;
 ghost use Rattle.cap_log.specs.Streams.{CountsFault, CountsOnly};
 ghost use Rattle.cap_judge.specs.OriginLists.{report_text};
@@ -107,6 +107,7 @@ pub fn push_report<M: TaggedStore, K: Sink>(
 pub fn push_verdict<K: Sink>(verdict: &Verdict, sink: &mut K) -> Result<(), PushFault>
     ensures ok { OnOk result (K.took sink.old sink.new (verdict_line verdict.now)) }
     ensures err { OnErr result ((n : ℕ) × K.took sink.old sink.new (take n (verdict_line verdict.now))) }
+    ensures few { length (verdict_line verdict.now) ≤ 64 }
     ensures counted { CountsFault (K.faults sink.old) (K.faults sink.new) result }
 {
     let mut text = [0u8; 64];

@@ -8,7 +8,7 @@ ghost use Rattle.cap_judge.specs.FaultLines.{bytes_of};
 ghost use Rattle.cap_judge.specs.Judgings.{Judged, JudgedBy};
 ghost use Rattle.cap_judge.specs.Logs.{NamesNoGranules};
 ghost use Rattle.cap_judge.specs.Readings.{HasRead, IsAnswered, StopsAt, known_of};
-ghost use Rattle.cap_judge.specs.Verdicts.{EscapesExactly, IsFault, IsGuarded, IsVerdict, NamesEscapes};
+ghost use Rattle.cap_judge.specs.Verdicts.{EscapesExactly, NoVerdictIn, IsGuarded, IsVerdict, NamesEscapes};
 ghost use Rattle.cap_judge.specs.declared.verdict.JudgeFault.TheVariants.{Pull};
 
 use crate::fault_lines::FaultLine;
@@ -35,7 +35,7 @@ pub fn judge_bytes(alloc: Global, bytes: &[u8]) -> Result<Verdict, JudgeFault>
     ensures escape { IfOk result (EscapesExactly bytes.now) }
 
     // There is no verdict only where a line that no check refuses names a granule for the first time.
-    ensures fault { IfErr result (IsFault bytes.now) }
+    ensures fault { IfErr result (NoVerdictIn bytes.now) }
     ensures answers { NamesNoGranules bytes.now → IsOk result }
 {
     judge(alloc, &mut SliceSource::new(bytes, &[]))

@@ -7,7 +7,7 @@ use Rattle.cap_log.specs.declared.lines.Front.TheVariants.{Line, TooLong, Cut}
 abbrev pub HasNoFeed : List ℕ → Type 0
 HasNoFeed bytes = All (λ b. b ≢ 10) bytes
 
--- the bytes are this line, its line feed and this rest; a line has at most 95 bytes (this profile's own)
+-- the bytes are a line of at most 95 bytes, its line feed, and a rest (this profile's own)
 pub record IsLine (bytes line rest : List ℕ) : Type 0 where
   pub whole : bytes ≡ line ++ 10 ∷ rest
   pub one : HasNoFeed line
@@ -21,13 +21,18 @@ IsTooLong bytes = (96 ≤ length bytes) × HasNoFeed (take 96 bytes)
 abbrev pub IsCut : List ℕ → Type 0
 IsCut bytes = (length bytes ≤ 95) × HasNoFeed bytes
 
--- the first 96 bytes hold no line feed, or the bytes end before a line does, or they begin with a whole line of which a fact holds; each with
--- what is said there (this profile's own)
+-- the first 96 bytes have no line feed, or the bytes end before a line does, or they begin with a line; each with
+-- its statement (this profile's own)
 abbrev pub FrontIs : List ℕ → Type 0 → Type 0 → (List ℕ → Type 0) → Type 0
 FrontIs bytes AtTooLong AtCut AtLine =
-    (((96 ≤ length bytes) × HasNoFeed (take 96 bytes)) × AtTooLong)
-    ⊎ (((length bytes ≤ 95) × HasNoFeed bytes) × AtCut)
+    (IsTooLong bytes × AtTooLong)
+    ⊎ (IsCut bytes × AtCut)
     ⊎ ((line : List ℕ) × (rest : List ℕ) × IsLine bytes line rest × AtLine line)
+
+-- the text is the line that the bytes begin with, without its line feed: the first 96 bytes if it is too long, and all
+-- bytes if it is cut (this profile's own)
+abbrev pub IsFrontText : List ℕ → List ℕ → Type 0
+IsFrontText bytes text = FrontIs bytes (text ≡ take 96 bytes) (text ≡ bytes) (λ line. text ≡ line)
 
 -- which of the three a front is; a line is named by its length (this profile's own)
 abbrev pub IsFront : List ℕ → Front → Type 0

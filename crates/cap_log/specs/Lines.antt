@@ -91,26 +91,26 @@ line_words (End steps) = codes "end" ∷ decimal steps ∷ []
 unfoldable pub spelling : Line → List ℕ
 spelling line = join_with_byte 32 (line_words line)
 
--- the numbers of a step are such as a step has: what is written is a register but c0, what is read any
+-- the numbers of a step are in range: it writes c1 to c31, and reads c0 to c31
 abbrev pub IsStepInRange : Step → Type 0
-IsStepInRange (Move step) = IsTarget step.target × (step.source ≤ 31) × (step.result.word.0 < 2 ^ 128)
-IsStepInRange (ClearTag step) = IsTarget step.target × (step.source ≤ 31) × (step.result.word.0 < 2 ^ 128)
-IsStepInRange (SetBounds step) = IsTarget step.target × (step.source ≤ 31) × (step.length < 2 ^ 64) × (step.result.word.0 < 2 ^ 128)
-IsStepInRange (SetBoundsExact step) = IsTarget step.target × (step.source ≤ 31) × (step.length < 2 ^ 64) × (step.result.word.0 < 2 ^ 128)
-IsStepInRange (SetAddr step) = IsTarget step.target × (step.source ≤ 31) × (step.address < 2 ^ 64) × (step.result.word.0 < 2 ^ 128)
-IsStepInRange (AndPerm step) = IsTarget step.target × (step.source ≤ 31) × (step.mask < 2 ^ 64) × (step.result.word.0 < 2 ^ 128)
-IsStepInRange (Seal step) = IsTarget step.target × (step.source ≤ 31) × (step.authority ≤ 31) × (step.result.word.0 < 2 ^ 128)
-IsStepInRange (Unseal step) = IsTarget step.target × (step.source ≤ 31) × (step.authority ≤ 31) × (step.result.word.0 < 2 ^ 128)
-IsStepInRange (LoadCap step) = IsTarget step.target × (step.authority ≤ 31) × IsOffset step.offset × (step.result.word.0 < 2 ^ 128)
-IsStepInRange (StoreCap step) = (step.source ≤ 31) × (step.authority ≤ 31) × IsOffset step.offset
-IsStepInRange (Load step) = (step.authority ≤ 31) × IsOffset step.offset × IsDatum step.datum
-IsStepInRange (Store step) = (step.authority ≤ 31) × IsOffset step.offset × IsDatum step.datum
+IsStepInRange (Move step) = IsTarget step.target × IsRegister step.source × IsWord step.result.word.0
+IsStepInRange (ClearTag step) = IsTarget step.target × IsRegister step.source × IsWord step.result.word.0
+IsStepInRange (SetBounds step) = IsTarget step.target × IsRegister step.source × IsNumber step.length × IsWord step.result.word.0
+IsStepInRange (SetBoundsExact step) = IsTarget step.target × IsRegister step.source × IsNumber step.length × IsWord step.result.word.0
+IsStepInRange (SetAddr step) = IsTarget step.target × IsRegister step.source × IsNumber step.address × IsWord step.result.word.0
+IsStepInRange (AndPerm step) = IsTarget step.target × IsRegister step.source × IsNumber step.mask × IsWord step.result.word.0
+IsStepInRange (Seal step) = IsTarget step.target × IsRegister step.source × IsRegister step.authority × IsWord step.result.word.0
+IsStepInRange (Unseal step) = IsTarget step.target × IsRegister step.source × IsRegister step.authority × IsWord step.result.word.0
+IsStepInRange (LoadCap step) = IsTarget step.target × IsRegister step.authority × IsOffset step.offset × IsWord step.result.word.0
+IsStepInRange (StoreCap step) = IsRegister step.source × IsRegister step.authority × IsOffset step.offset
+IsStepInRange (Load step) = IsRegister step.authority × IsOffset step.offset × IsDatum step.datum
+IsStepInRange (Store step) = IsRegister step.authority × IsOffset step.offset × IsDatum step.datum
 
--- the numbers of a line are such as a line has
+-- the numbers of a line are in range
 abbrev pub IsInRange : Line → Type 0
-IsInRange (Version version) = (version ≡ 1) ⊎ (version ≡ 2)
+IsInRange (Version version) = IsVersion version
 IsInRange (Moding mode) = Unit {0}
-IsInRange (Root place word) = IsPlace place × (word.0 < 2 ^ 128)
+IsInRange (Root place word) = IsPlace place × IsWord word.0
 IsInRange (Stepping step) = IsStepInRange step
 IsInRange (End steps) = steps < 2 ^ 32
 

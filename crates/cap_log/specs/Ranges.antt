@@ -18,15 +18,15 @@ IsRegisterFrom (suc least) n = (suc least ≤ n) × IsRegister n
 abbrev pub IsOffset : ℤ → Type 0
 IsOffset z = (negsuc 2047 ≤ℤ z) × (z ≤ℤ pos 2047)
 
--- how many bytes a load or a store of data takes
+-- the sizes of data
 abbrev pub IsDataSize : ℕ → Type 0
 IsDataSize size = (size ≡ 1) ⊎ ((size ≡ 2) ⊎ ((size ≡ 4) ⊎ (size ≡ 8)))
 
--- the number of so many bytes
+-- a value fits in size bytes
 abbrev pub IsDataValue : ℕ → ℕ → Type 0
 IsDataValue size value = value < 256 ^ size
 
--- a number of so many bytes, with their count
+-- a number of size bytes, with its size
 pub record Datum : Type 0 where
   pub size : ℕ
   pub value : ℕ

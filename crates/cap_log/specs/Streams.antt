@@ -1,7 +1,7 @@
 -- What a pull and a push count and tell. All of it is this profile's own.
 use Rattle.std.specs.Prelude.{◌≡◌, ◌≢◌, ℕ, ◌+◌, ◌%◌, ◌^◌, Bool, ◌&&◌, ◌==◌, nat_lt, Result, Ok, Err}
 
--- one fault more, in 64 bits
+-- a count of faults raised by one, in 64 bits
 abbrev pub next_count : ℕ → ℕ
 next_count n = (n + 1) % 2 ^ 64
 
@@ -10,7 +10,7 @@ abbrev pub CountsFault : {A E : Type 0} → ℕ → ℕ → Result A E → Type 
 CountsFault before after (Ok value) = after ≡ before
 CountsFault before after (Err fault) = after ≡ next_count before
 
--- from one count of faults to the next: this one answer counts one more, and no other does
+-- this answer raises the count of faults by one, and no other does
 abbrev pub CountsOnly : {R : Type 0} → R → ℕ → ℕ → R → Type 0
 CountsOnly fault before after answer = (answer ≢ fault → after ≡ before) × (answer ≡ fault → after ≡ next_count before)
 

@@ -9,8 +9,8 @@ use Rattle.cap_log.specs.declared.kinds.Step.TheVariants.{LoadCap, StoreCap, Loa
 use Rattle.cap_log.specs.Lines.{IsStepInRange}
 use Rattle.cap_ops.specs.declared.kinds.Kind.{Kind}
 use Rattle.cap_ops.specs.declared.kinds.Kind.TheVariants as kinds
-use Rattle.cap_ops.specs.Tests.{first_of}
-use Rattle.cap_ops.specs.Accesses.{IsAllowed, access_tests, access_address, permission_for}
+use Rattle.cap_ops.specs.Checks.{first_of}
+use Rattle.cap_ops.specs.Accesses.{IsAllowed, access_checks, access_address, permission_for}
 use Rattle.cap_ops.proofs.AccessLemmas.{IsAllowed-access}
 use Rattle.cap_ops.proofs.TestLemmas.{none_hold}
 use Rattle.cap_machine.specs.declared.rules.Rules.{Rules}
@@ -25,13 +25,13 @@ pub record IsGranted (state : State) (access : Access) : Type 0 where
   pub tag : (state access.authority).tag ≡ true
   pub allowed : IsAllowed (state access.authority).word.0 access.address access.size access.permission
 
-tag_tested : (authority : Cap) (kind : Kind) (offset : ℤ) (size : ℕ) → first_of (access_tests authority kind offset size) ≡ None
+tag_tested : (authority : Cap) (kind : Kind) (offset : ℤ) (size : ℕ) → first_of (access_checks authority kind offset size) ≡ None
     → authority.tag ≡ true
-unfolding access_tests
-tag_tested authority kind offset size free = not-false authority.tag (none_hold (access_tests authority kind offset size) free).0
+unfolding access_checks
+tag_tested authority kind offset size free = not-false authority.tag (none_hold (access_checks authority kind offset size) free).0
 
 granted_to : (state : State) (register : ℕ) (kind : Kind) (offset : ℤ) (bytes : ℕ) (access : Access)
-    → first_of (access_tests (state register) kind offset bytes) ≡ None
+    → first_of (access_checks (state register) kind offset bytes) ≡ None
     → Some (record {
       authority = register;
       address = access_address (state register).word.0 offset;
@@ -47,7 +47,7 @@ granted_to state register kind offset bytes access free is =
           (state register) kind offset bytes free;
     })
 
-pub granted : (state : State) (step : Step) (access : Access) → first_of (row_of state step).tests ≡ None
+pub granted : (state : State) (step : Step) (access : Access) → first_of (row_of state step).checks ≡ None
     → (row_of state step).access ≡ Some access → IsGranted state access
 granted state (LoadCap step) access free is = granted_to state step.authority kinds.LoadCap step.offset 16 access free is
 granted state (StoreCap step) access free is =
@@ -59,11 +59,11 @@ granted state step access free is = absurd (none-some access is)
 -- the step at a moment of a run leads from the state there
 pub leads_at : (rules : Rules) (state : State) (steps : List Step) (states : List State) (moment : ℕ) (step : Step)
     → IsRun rules state steps states → slice_get steps moment ≡ Some step
-    → first_of (row_by rules (row_of (state_at state states moment) step)).tests ≡ None
+    → first_of (row_by rules (row_of (state_at state states moment) step)).checks ≡ None
 leads_at rules state [] states moment step run is = absurd (none-some step is)
 leads_at rules state (first ∷ steps) [] moment step run is = absurd run
 leads_at rules state (first ∷ steps) (next ∷ states) zero step run is =
-    subst (λ (s : Step). first_of (row_by rules (row_of state s)).tests ≡ None) (same_Some first step is) run.0.allowed
+    subst (λ (s : Step). first_of (row_by rules (row_of state s)).checks ≡ None) (same_Some first step is) run.0.allowed
 leads_at rules state (first ∷ steps) (next ∷ states) (suc moment) step run is = leads_at rules next steps states moment step run.1 is
 
 in_range : (steps : List Step) (moment : ℕ) (step : Step) → slice_get steps moment ≡ Some step → moment < length steps
@@ -77,7 +77,7 @@ pub lie_inside : (rules : Rules) (roots : List DeclaredRoot) (steps : List Step)
     → AccessesLieInside roots steps states
 lie_inside rules roots steps states sound ranges run moment step access at is =
     let state = state_at (start roots) states moment in
-    let free = ap (λ (row : Row). first_of row.tests) (sym (row_by-access rules (row_of state step) access is))
+    let free = ap (λ (row : Row). first_of row.checks) (sym (row_by-access rules (row_of state step) access is))
     ∙ leads_at rules (start roots) steps states moment step run at in
     let grant = granted state step access free is in
     let below = in_range steps moment step at in

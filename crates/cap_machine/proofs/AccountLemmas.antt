@@ -8,14 +8,14 @@ use Rattle.cap_word.specs.declared.word.Word.{Word}
 use Rattle.cap_bounds.specs.Bounds.{is_sound}
 use Rattle.cap_log.specs.declared.lines.Place.{Place}
 use Rattle.cap_log.specs.declared.kinds.Step.{Step}
-use Rattle.cap_ops.specs.Tests.{first_of}
+use Rattle.cap_ops.specs.Checks.{first_of}
 use Rattle.cap_ops.proofs.TestLemmas.{NoneHold}
 use Rattle.cap_machine.specs.States.{State, DeclaredRoot, key_of}
 use Rattle.cap_machine.specs.Steps.{Leads}
 use Rattle.cap_machine.proofs.StepLemmas.{is_recorded}
 use Rattle.cap_machine.specs.Accounts.{Account, no_account, most_roots, most_granules, most_steps, granule_of, named_by}
-use Rattle.cap_machine.specs.Accounts.{row_in, passes_granule_limit, naming, with_root, with_step, root_tests}
-use Rattle.cap_machine.specs.Accounts.{step_tests}
+use Rattle.cap_machine.specs.Accounts.{row_in, passes_granule_limit, naming, with_root, with_step, root_checks}
+use Rattle.cap_machine.specs.Accounts.{step_checks}
 use Rattle.cap_machine.specs.declared.rules.Rules.{Rules}
 use Rattle.cap_machine.specs.RunAccounts.{account_after}
 use Rattle.cap_ops.proofs.TestLemmas.{first_of-append_none}
@@ -91,15 +91,15 @@ within account None few = refl
 within account (Some granule) few = not_passed (account.is_named granule) account.granules (most_granules account.rules) few
 
 -- the first of tests of which none holds
-pub first_of-none : {F : Type 0} (tests : List (Bool × F)) → NoneHold tests → first_of tests ≡ None
+pub first_of-none : {F : Type 0} (checks : List (Bool × F)) → NoneHold checks → first_of checks ≡ None
 first_of-none [] free = refl
-first_of-none ((true, found) ∷ tests) free = absurd (false≢true (sym free.0))
-first_of-none ((false, found) ∷ tests) free = first_of-none tests free.1
+first_of-none ((true, found) ∷ checks) free = absurd (false≢true (sym free.0))
+first_of-none ((false, found) ∷ checks) free = first_of-none checks free.1
 
 -- no test holds of a sound root at a place without a tag, where the account with it keeps to the limits
 pub root_free : (account : Account) (place : Place) (word : Word) → (account.state (key_of place)).tag ≡ false → is_sound word.0 ≡ true
     → account.roots < most_roots → (naming account (granule_of place)).granules ≤ most_granules account.rules
-    → NoneHold (root_tests account place word)
+    → NoneHold (root_checks account place word)
 root_free account place word untagged sound few_roots few_granules =
     let limit = or_from _ _ (lt-leb most_roots account.roots few_roots) (within account (granule_of place) few_granules) in
     (untagged, (ap not sound, (limit, tt)))
@@ -107,10 +107,10 @@ root_free account place word untagged sound few_roots few_granules =
 -- no test holds of a step that leads on, where the account with it keeps to the limits
 pub step_free : (account : Account) (step : Step) (next : State) → Leads account.rules account.state step next
     → account.steps < most_steps → (naming account (named_by (row_in account step))).granules ≤ most_granules account.rules
-    → first_of (step_tests account step) ≡ None
+    → first_of (step_checks account step) ≡ None
 step_free account step next leads few_steps few_granules =
     let row = row_in account step in
     let limit = or_from _ _ (lt-leb most_steps account.steps few_steps) (within account (named_by row) few_granules) in
-    first_of-append_none row.tests _ leads.allowed
+    first_of-append_none row.checks _ leads.allowed
     ∙ first_of-none (ending (is_recorded row) (nat_le most_steps account.steps || passes_granule_limit account (named_by row)))
     (ap not leads.recorded, (limit, tt))

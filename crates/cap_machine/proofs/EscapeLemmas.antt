@@ -13,13 +13,13 @@ use Rattle.cap_log.specs.declared.kinds.Step.TheVariants.{Move, ClearTag, SetBou
 use Rattle.cap_log.specs.declared.kinds.Step.TheVariants.{Seal, Unseal, LoadCap, StoreCap, Load, Store}
 use Rattle.cap_log.specs.Lines.{IsStepInRange}
 use Rattle.cap_ops.specs.declared.refusal.Refusal.{Refusal}
-use Rattle.cap_ops.specs.Tests.{first_of}
+use Rattle.cap_ops.specs.Checks.{first_of}
 use Rattle.cap_ops.specs.declared.kinds.Kind.{Kind}
 use Rattle.cap_ops.specs.declared.kinds.Kind.TheVariants.{LoadData, StoreData}
 use Rattle.cap_ops.specs.declared.kinds.Kind.TheVariants.{LoadCap as LoadCapability, StoreCap as StoreCapability}
-use Rattle.cap_ops.specs.Accesses.{access_tests}
-use Rattle.cap_ops.specs.Operations.{clear_result, set_bounds_tests, set_bounds_result, set_addr_tests, and_perm_tests}
-use Rattle.cap_ops.specs.Operations.{seal_tests, unseal_tests}
+use Rattle.cap_ops.specs.Accesses.{access_checks}
+use Rattle.cap_ops.specs.Operations.{clear_result, set_bounds_checks, set_bounds_result, set_addr_checks, and_perm_checks}
+use Rattle.cap_ops.specs.Operations.{seal_checks, unseal_checks}
 use Rattle.cap_ops.proofs.ClearLemmas.{untagged_where_beyond}
 use Rattle.cap_ops.specs.Permissions.{is_sealed}
 use Rattle.cap_ops.proofs.TestLemmas.{first_of-append, first_of-append_some}
@@ -31,8 +31,8 @@ use Rattle.cap_machine.specs.declared.rules.Rules.{Rules}
 use Rattle.cap_machine.specs.declared.rules.Rules.TheVariants.{One, TwoStrict, TwoClear}
 use Rattle.cap_machine.specs.States.{State, DeclaredRoot, put, start}
 use Rattle.cap_machine.specs.Steps.{Access, Leads, Row, Written, clear_row, row_by, row_of, state_with}
-use Rattle.cap_machine.specs.Accounts.{Account, row_in, step_tests}
-use Rattle.cap_machine.specs.Helds.{Held, state_of, account_of, tests_by}
+use Rattle.cap_machine.specs.Accounts.{Account, row_in, step_checks}
+use Rattle.cap_machine.specs.Helds.{Held, state_of, account_of, checks_by}
 use Rattle.cap_machine.specs.Parents.{IsSoundState, StaysWithinParents}
 use Rattle.cap_machine.specs.Runs.{AreSound, IsRun, state_at}
 use Rattle.cap_machine.specs.Escapes.{HasRoomFor, AsksBeyond, ClearsBeyond, ClearsExactly, Escapes, asked_by}
@@ -42,7 +42,7 @@ use Rattle.cap_machine.proofs.MadeLemmas.{EndsIn, ending, row_by-written}
 -- the first test of new bounds that holds
 escapes : (source : Cap) (length : ℕ) (exact : Bool) → length < 2 ^ 64 → source.tag ≡ true → is_sealed source.word.0 ≡ false
     → IsSound source.word.0
-    → (first_of (set_bounds_tests source length exact) ≡ Some BoundsEscape) ↔ (HasRoomFor source length → ⊥)
+    → (first_of (set_bounds_checks source length exact) ≡ Some BoundsEscape) ↔ (HasRoomFor source length → ⊥)
 escapes source length exact fits tagged unsealed sound =
     (first_escapes_beyond source length exact fits tagged unsealed sound, first_escapes source length exact fits tagged unsealed sound)
 
@@ -52,31 +52,31 @@ no_last_test true false h = cc
 no_last_test false limit h = cc
 
 -- the tests of a step begin with those of its operation
-of_operation : (account : Account) (step : Step) → first_of (step_tests account step) ≡ Some BoundsEscape
-    → first_of ((row_in account step).tests) ≡ Some BoundsEscape
+of_operation : (account : Account) (step : Step) → first_of (step_checks account step) ≡ Some BoundsEscape
+    → first_of ((row_in account step).checks) ≡ Some BoundsEscape
 of_operation account step h =
-    elim (first_of-append (row_in account step).tests _ BoundsEscape h) [
+    elim (first_of-append (row_in account step).checks _ BoundsEscape h) [
       | inl found ↦ found
       | inr last ↦ absurd (no_last_test _ _ last.1)
     ]
 
 answers : (old new : Held) (step : Step) (result : Result (Unit {0}) StepEnd) → EndsIn old step result new
     → result ≡ Err (Refused BoundsEscape)
-    → first_of (step_tests (account_of old) step) ≡ Some BoundsEscape
+    → first_of (step_checks (account_of old) step) ≡ Some BoundsEscape
 answers old new step (Ok done) ends h = cc
 answers old new step (Err (Refused refusal)) ends h = let found = ends.0 in cc
 answers old new step (Err NoMemory) ends h = cc
 
 answered : (old new : Held) (step : Step) (result : Result (Unit {0}) StepEnd) → EndsIn old step result new
-    → first_of (step_tests (account_of old) step) ≡ Some BoundsEscape → result ≡ Err (Refused BoundsEscape)
-answered old new step (Ok done) ends h = let free = ends.tests in cc
+    → first_of (step_checks (account_of old) step) ≡ Some BoundsEscape → result ≡ Err (Refused BoundsEscape)
+answered old new step (Ok done) ends h = let free = ends.checks in cc
 answered old new step (Err (Refused refusal)) ends h = let found = ends.0 in cc
 answered old new step (Err NoMemory) ends h = let free = ends.0 in cc
 
 -- the same by any rules
 escapes_by : (rules : Rules) (source : Cap) (length : ℕ) (exact : Bool) → length < 2 ^ 64 → source.tag ≡ true
     → is_sealed source.word.0 ≡ false → IsSound source.word.0
-    → (first_of (tests_by rules (set_bounds_tests source length exact)) ≡ Some BoundsEscape)
+    → (first_of (checks_by rules (set_bounds_checks source length exact)) ≡ Some BoundsEscape)
     ↔ ((rules ≢ TwoClear) × (HasRoomFor source length → ⊥))
 escapes_by One source length exact fits held unsealed sound =
     let both = escapes source length exact fits held unsealed sound in (λ h. (λ e. cc, both.0 h), λ p. both.1 p.1)
@@ -86,7 +86,7 @@ escapes_by TwoClear source length exact fits held unsealed sound = (λ h. cc, λ
 
 -- what a step that sets bounds asks for
 asks : (rules : Rules) (state : State) (source length : ℕ) (exact : Bool) → length < 2 ^ 64 → IsSoundState state
-    → first_of (tests_by rules (set_bounds_tests (state source) length exact)) ≡ Some BoundsEscape
+    → first_of (checks_by rules (set_bounds_checks (state source) length exact)) ≡ Some BoundsEscape
     → (rules ≢ TwoClear) × AsksBeyond state (Some (source, length))
 asks TwoClear state source length exact fits sound h = cc
 asks One state source length exact fits sound h =
@@ -97,15 +97,15 @@ asks TwoStrict state source length exact fits sound h =
     ((λ e. cc), (is.0, is.1, (escapes (state source) length exact fits is.0 is.1 (sound source is.0)).0 h))
 
 narrowed : (account : Account) (step : Step) (source length : ℕ) (exact : Bool)
-    → (row_in account step).tests ≡ tests_by account.rules (set_bounds_tests (account.state source) length exact) → length < 2 ^ 64
+    → (row_in account step).checks ≡ checks_by account.rules (set_bounds_checks (account.state source) length exact) → length < 2 ^ 64
     → IsSoundState account.state
-    → (first_of (step_tests account step) ≡ Some BoundsEscape) ↔ ((account.rules ≢ TwoClear)
+    → (first_of (step_checks account step) ≡ Some BoundsEscape) ↔ ((account.rules ≢ TwoClear)
     × AsksBeyond account.state (Some (source, length)))
 narrowed account step source length exact same fits sound = (
   λ h. asks account.rules account.state source length exact fits sound (sym (ap first_of same) ∙ of_operation account step h),
   λ beyond.
       let by = escapes_by account.rules (account.state source) length exact fits beyond.1.0 beyond.1.1 (sound source beyond.1.0) in
-      first_of-append_some ((row_in account step).tests) _ BoundsEscape (ap first_of same ∙ by.1 (beyond.0, beyond.1.2)),
+      first_of-append_some ((row_in account step).checks) _ BoundsEscape (ap first_of same ∙ by.1 (beyond.0, beyond.1.2)),
 )
 
 -- whether a refusal is that of a test of an operation or of an access: its result is none, and its bounds only where it asks for some
@@ -116,30 +116,30 @@ is_own asks refusal = true
 
 abbrev all_own : Bool → List (Bool × Refusal) → Bool
 all_own asks [] = true
-all_own asks (test ∷ tests) = is_own asks test.1 && all_own asks tests
+all_own asks (test ∷ checks) = is_own asks test.1 && all_own asks checks
 
-first_own : (asks : Bool) (tests : List (Bool × Refusal)) (refusal : Refusal) → all_own asks tests ≡ true → first_of tests ≡ Some refusal
+first_own : (asks : Bool) (checks : List (Bool × Refusal)) (refusal : Refusal) → all_own asks checks ≡ true → first_of checks ≡ Some refusal
     → is_own asks refusal ≡ true
 first_own asks [] refusal own h = absurd (none-some refusal h)
-first_own asks ((true, other) ∷ tests) refusal own h =
-    ap (is_own asks) (sym (same_Some _ _ h)) ∙ (and_parts (is_own asks other) (all_own asks tests) own).0
-first_own asks ((false, other) ∷ tests) refusal own h =
-    first_own asks tests refusal (and_parts (is_own asks other) (all_own asks tests) own).1 h
+first_own asks ((true, other) ∷ checks) refusal own h =
+    ap (is_own asks) (sym (same_Some _ _ h)) ∙ (and_parts (is_own asks other) (all_own asks checks) own).0
+first_own asks ((false, other) ∷ checks) refusal own h =
+    first_own asks checks refusal (and_parts (is_own asks other) (all_own asks checks) own).1 h
 
-own_where : (asks tag : Bool) (tests : List (Bool × Refusal)) → all_own asks tests ≡ true → all_own asks (if tag then tests else []) ≡ true
-own_where asks true tests own = own
-own_where asks false tests own = refl
+own_where : (asks tag : Bool) (checks : List (Bool × Refusal)) → all_own asks checks ≡ true → all_own asks (if tag then checks else []) ≡ true
+own_where asks true checks own = own
+own_where asks false checks own = refl
 
-access_own : (authority : Cap) (kind : Kind) (offset : ℤ) (size : ℕ) → all_own false (access_tests authority kind offset size) ≡ true
-unfolding access_tests
+access_own : (authority : Cap) (kind : Kind) (offset : ℤ) (size : ℕ) → all_own false (access_checks authority kind offset size) ≡ true
+unfolding access_checks
 access_own authority LoadData offset size = refl
 access_own authority StoreData offset size = refl
 access_own authority LoadCapability offset size = refl
 access_own authority (StoreCapability stored) offset size = refl
 
 -- so it is in each row
-row_own : (state : State) (step : Step) → all_own (is_some (asked_by step)) (row_of state step).tests ≡ true
-unfolding set_bounds_tests set_addr_tests and_perm_tests seal_tests unseal_tests
+row_own : (state : State) (step : Step) → all_own (is_some (asked_by step)) (row_of state step).checks ≡ true
+unfolding set_bounds_checks set_addr_checks and_perm_checks seal_checks unseal_checks
 row_own state (Move step) = refl
 row_own state (ClearTag step) = refl
 row_own state (SetBounds step) = own_where true (state step.source).tag _ refl
@@ -153,26 +153,26 @@ row_own state (StoreCap step) = access_own (state step.authority) (StoreCapabili
 row_own state (Load step) = access_own (state step.authority) LoadData step.offset step.datum.size
 row_own state (Store step) = access_own (state step.authority) StoreData step.offset step.datum.size
 
-own_by : (rules : Rules) (row : Row) (asks : Bool) → all_own asks row.tests ≡ true → all_own asks (row_by rules row).tests ≡ true
+own_by : (rules : Rules) (row : Row) (asks : Bool) → all_own asks row.checks ≡ true → all_own asks (row_by rules row).checks ≡ true
 own_by One row asks own = own
 own_by TwoStrict row asks own = own
 own_by TwoClear row asks own = cleared_own row.access row own where
-  cleared_own : (access : Option Access) (row : Row) → all_own asks row.tests ≡ true → all_own asks (clear_row access row).tests ≡ true
+  cleared_own : (access : Option Access) (row : Row) → all_own asks row.checks ≡ true → all_own asks (clear_row access row).checks ≡ true
   cleared_own None row own = refl
   cleared_own (Some access) row own = own
 
-refused_own : (account : Account) (step : Step) (refusal : Refusal) → first_of (row_in account step).tests ≡ Some refusal
+refused_own : (account : Account) (step : Step) (refusal : Refusal) → first_of (row_in account step).checks ≡ Some refusal
     → is_own (is_some (asked_by step)) refusal ≡ true
 refused_own account step refusal h =
     let row = row_of account.state step in
-    first_own _ (row_in account step).tests refusal (own_by account.rules row (is_some (asked_by step)) (row_own account.state step)) h
+    first_own _ (row_in account step).checks refusal (own_by account.rules row (is_some (asked_by step)) (row_own account.state step)) h
 
 -- no test of an operation or of an access is that of the result
-pub never_wrong : (account : Account) (step : Step) → first_of (row_in account step).tests ≡ Some WrongResult → ⊥
+pub never_wrong : (account : Account) (step : Step) → first_of (row_in account step).checks ≡ Some WrongResult → ⊥
 never_wrong account step h = false≢true (refused_own account step WrongResult h)
 
 never : (account : Account) (step : Step) → asked_by step ≡ None
-    → (first_of (step_tests account step) ≡ Some BoundsEscape) ↔ ((account.rules ≢ TwoClear) × ⊥)
+    → (first_of (step_checks account step) ≡ Some BoundsEscape) ↔ ((account.rules ≢ TwoClear) × ⊥)
 never account step none = (
   λ h. absurd (false≢true (sym (ap is_some none) ∙ refused_own account step BoundsEscape (of_operation account step h))),
   λ beyond. absurd beyond.1,
@@ -180,14 +180,14 @@ never account step none = (
 
 -- which steps are refused for their bounds, by the account before them
 pub escapes_first : (account : Account) (step : Step) → IsStepInRange step → IsSoundState account.state
-    → (first_of (step_tests account step) ≡ Some BoundsEscape) ↔ Escapes account.rules account.state step
+    → (first_of (step_checks account step) ≡ Some BoundsEscape) ↔ Escapes account.rules account.state step
 escapes_first account (SetBounds step) range sound =
     narrowed account (SetBounds step) step.source step.length false
-    (ap (λ (row : Row). row.tests) (row_by-written account.rules _ (Register step.target) _ (Some (Register step.source)) (Written step.result) None))
+    (ap (λ (row : Row). row.checks) (row_by-written account.rules _ (Register step.target) _ (Some (Register step.source)) (Written step.result) None))
     range.2 sound
 escapes_first account (SetBoundsExact step) range sound =
     narrowed account (SetBoundsExact step) step.source step.length true
-    (ap (λ (row : Row). row.tests) (row_by-written account.rules _ (Register step.target) _ (Some (Register step.source)) (Written step.result) None))
+    (ap (λ (row : Row). row.checks) (row_by-written account.rules _ (Register step.target) _ (Some (Register step.source)) (Written step.result) None))
     range.2 sound
 escapes_first account (Move step) range sound = never account (Move step) refl
 escapes_first account (ClearTag step) range sound = never account (ClearTag step) refl
@@ -216,7 +216,7 @@ pub clears : (rules : Rules) (old : State) (step : Step) (new : State) → IsSte
     → ClearsBeyond rules old step new
 clears rules old (SetBounds step) new range sound leads = λ mode held unsealed.
     let row = row_of old (SetBounds step) in
-    let made = clear_result (set_bounds_tests (old step.source) step.length false) (set_bounds_result (old step.source) step.length) in
+    let made = clear_result (set_bounds_checks (old step.source) step.length false) (set_bounds_result (old step.source) step.length) in
     let after : new ≡ put old step.target made = leads.after ∙ ap (λ (r : Rules). state_with old (row_by r row).writes) mode in
     let is : new step.target ≡ made = ap (λ (s : State). s step.target) after ∙ put_there old step.target made in
     untagged_where_beyond (old step.source) step.length false (new step.target) range.2 is refl held unsealed (sound step.source held)

@@ -22,7 +22,7 @@ use Rattle.cap_log.specs.declared.kinds.accesses.Store.{Store}
 use Rattle.cap_log.specs.declared.kinds.accesses.StoreCap.{StoreCap}
 use Rattle.cap_log.specs.Lines.{IsStepInRange}
 use Rattle.cap_ops.specs.declared.faults.OpFault.{OpFault}
-use Rattle.cap_ops.specs.Tests.{first_of}
+use Rattle.cap_ops.specs.Checks.{first_of}
 use Rattle.cap_ops.proofs.TestLemmas.{first_of-append_none, first_of-append_some}
 use Rattle.tagmem.specs.Granules.{Entry, AreStored, bytes_at, overwritten}
 use Rattle.tagmem.proofs.Granules.{len-put, length-bytes_at, bytes_at_fit}
@@ -37,14 +37,14 @@ use Rattle.cap_machine.proofs.StepLemmas.{is_recorded}
 use Rattle.cap_machine.specs.Steps.{address_through, with_value}
 use Rattle.cap_machine.specs.declared.rules.Rules.{Rules}
 use Rattle.cap_machine.specs.declared.rules.Rules.TheVariants.{One, TwoStrict, TwoClear}
-use Rattle.cap_machine.specs.Accounts.{Account, step_tests, named_by, row_in, naming, is_new}
+use Rattle.cap_machine.specs.Accounts.{Account, step_checks, named_by, row_in, naming, is_new}
 use Rattle.cap_machine.specs.Accounts.{passes_granule_limit, most_steps}
 use Rattle.std.specs.Option.{option_and_then}
 use Rattle.cap_machine.specs.Origins.{Origins, origins_after}
 use Rattle.cap_machine.specs.Places.{AreCoded, IsCoded, codes_of, place_at}
 use Rattle.cap_machine.specs.Parents.{IsSoundCap, IsSoundState}
-use Rattle.cap_machine.specs.Helds.{Held, Makes, EndsStep, state_of, code_in, account_of, tests_by, value_by, granule_cap}
-use Rattle.cap_machine.specs.Changes.{Derives, EndsPut, IsParentsCode, WritesRegister, code_for, is_same_cap, last_tests, rules_for}
+use Rattle.cap_machine.specs.Helds.{Held, Makes, EndsStep, state_of, code_in, account_of, checks_by, value_by, granule_cap}
+use Rattle.cap_machine.specs.Changes.{Derives, EndsPut, IsParentsCode, WritesRegister, code_for, is_same_cap, last_checks, rules_for}
 use Rattle.cap_machine.specs.Changes.{is_past_limits, result_in, with_register, with_cap_put, with_value_put}
 use Rattle.cap_machine.specs.Values.{number_at}
 use Rattle.cap_machine.proofs.GranuleLemmas.{cap_of}
@@ -68,18 +68,18 @@ neither true false h = (refl, refl)
 neither false limit h = absurd (none-some WrongResult (sym h))
 
 -- the tests of a step whose operation none refuses
-step_tests-free : (old : Held) (step : Step) → first_of (row_in (account_of old) step).tests ≡ None
-    → first_of (step_tests (account_of old) step)
+step_checks-free : (old : Held) (step : Step) → first_of (row_in (account_of old) step).checks ≡ None
+    → first_of (step_checks (account_of old) step)
     ≡ first_of (ending (is_recorded (row_in (account_of old) step)) (nat_le most_steps old.steps || passes_granule_limit (account_of old)
     (named_by (row_in (account_of old) step))))
-step_tests-free old step free = first_of-append_none ((row_in (account_of old) step).tests) _ free
+step_checks-free old step free = first_of-append_none ((row_in (account_of old) step).checks) _ free
 
 -- a step that names no granule
 tail_unnamed : (old : Held) (step : Step) (recorded : Bool) → named_by (row_in (account_of old) step) ≡ None
     → is_recorded (row_in (account_of old) step) ≡ recorded
     → first_of (ending (is_recorded (row_in (account_of old) step)) (nat_le most_steps old.steps || passes_granule_limit (account_of old)
     (named_by (row_in (account_of old) step))))
-    ≡ first_of (last_tests old recorded)
+    ≡ first_of (last_checks old recorded)
 tail_unnamed old step recorded named same =
     ap (λ (r : Bool). first_of (ending r (nat_le most_steps old.steps || passes_granule_limit (account_of old)
     (named_by (row_in (account_of old) step))))) same
@@ -110,9 +110,9 @@ stepped_on old step granule =
 made : (old : Held) (step : Step) (target : ℕ) (value recorded : Cap) (code : ℕ) → named_by (row_in (account_of old) step) ≡ None
     → (row_in (account_of old) step).writes ≡ Some (Register target, value)
     → is_recorded (row_in (account_of old) step) ≡ is_same_cap recorded value
-    → length old.registers ≡ 32 → length old.codes ≡ 32 → target ≤ 31 → first_of (row_in (account_of old) step).tests ≡ None
+    → length old.registers ≡ 32 → length old.codes ≡ 32 → target ≤ 31 → first_of (row_in (account_of old) step).checks ≡ None
     → IsFrom old step value code
-    → first_of (last_tests old (is_same_cap recorded value)) ≡ None → Makes old step (with_register old target value code)
+    → first_of (last_checks old (is_same_cap recorded value)) ≡ None → Makes old step (with_register old target value code)
 made old step target value recorded code named writes same sized coded_so low free from last =
     let next = state_with (state_of old) (row_in (account_of old) step).writes in
     let codes = set old.codes target (code_for value.tag code) in
@@ -120,7 +120,7 @@ made old step target value recorded code named writes same sized coded_so low fr
     let origins = ap origins_by (codes-register old.codes old.memory target (code_for value.tag code) coded_so low)
     ∙ origins-put (code_in old) target (code_for value.tag code) ∙ origin-written old step (Register target) value code writes from in
     record {
-      tests = step_tests-free old step free ∙ tail_unnamed old step (is_same_cap recorded value) named same ∙ last;
+      checks = step_checks-free old step free ∙ tail_unnamed old step (is_same_cap recorded value) named same ∙ last;
       leads = record { allowed = free; recorded = same ∙ (neither _ _ last).0; after = after };
       account =
           ap (λ (s : State). account_with old.rules s (origins_by (codes_of codes old.memory)) old.roots (old.steps + 1)
@@ -134,27 +134,27 @@ EndsIn old step result new = MatchResult result (λ _. Makes old step new) (λ e
 
 -- a row that writes a place
 abbrev written : List (Bool × Refusal) → Place → Cap → Option Place → Recorded → Option Access → Row
-written tests_are place value parent_is recorded access_is =
-    record { tests = tests_are; writes = Some (place, value); parent = parent_is; records = recorded; access = access_is }
+written checks_are place value parent_is recorded access_is =
+    record { checks = checks_are; writes = Some (place, value); parent = parent_is; records = recorded; access = access_is }
 
 -- it, by the rules
-pub row_by-written : (rules : Rules) (tests : List (Bool × Refusal)) (place : Place) (value : Cap) (parent : Option Place)
+pub row_by-written : (rules : Rules) (checks : List (Bool × Refusal)) (place : Place) (value : Cap) (parent : Option Place)
     (recorded : Recorded) (access : Option Access)
-    → row_by rules (written tests place value parent recorded access)
-    ≡ written (tests_by (rules_for rules access) tests) place (value_by (rules_for rules access) tests value) parent recorded access
-row_by-written One tests place value parent recorded None = refl
-row_by-written One tests place value parent recorded (Some access) = refl
-row_by-written TwoStrict tests place value parent recorded None = refl
-row_by-written TwoStrict tests place value parent recorded (Some access) = refl
-row_by-written TwoClear tests place value parent recorded None = refl
-row_by-written TwoClear tests place value parent recorded (Some access) = refl
+    → row_by rules (written checks place value parent recorded access)
+    ≡ written (checks_by (rules_for rules access) checks) place (value_by (rules_for rules access) checks value) parent recorded access
+row_by-written One checks place value parent recorded None = refl
+row_by-written One checks place value parent recorded (Some access) = refl
+row_by-written TwoStrict checks place value parent recorded None = refl
+row_by-written TwoStrict checks place value parent recorded (Some access) = refl
+row_by-written TwoClear checks place value parent recorded None = refl
+row_by-written TwoClear checks place value parent recorded (Some access) = refl
 
 -- a row of a step that writes a register, by the rules
 abbrev row_for : Held → Step → ℕ → Cap → Row
 row_for old step target recorded =
     let row = row_of (state_of old) step in
     let by = rules_for old.rules row.access in
-    written (tests_by by row.tests) (Register target) (value_by by row.tests (result_in row.writes)) row.parent (Written recorded)
+    written (checks_by by row.checks) (Register target) (value_by by row.checks (result_in row.writes)) row.parent (Written recorded)
     row.access
 
 written_row : (old : Held) (step : Step) (target : ℕ) (recorded : Cap) → WritesRegister (state_of old) step target recorded
@@ -162,15 +162,15 @@ written_row : (old : Held) (step : Step) (target : ℕ) (recorded : Cap) → Wri
 written_row old step target recorded is =
     let row = row_of (state_of old) step in
     ap (λ (w : Option (Place × Cap)). row_by old.rules (record row { writes = w })) is.0
-    ∙ ap (λ (r : Recorded). row_by old.rules (written row.tests (Register target) (result_in row.writes) row.parent r row.access)) is.1
-    ∙ row_by-written old.rules row.tests (Register target) (result_in row.writes) row.parent (Written recorded) row.access
+    ∙ ap (λ (r : Recorded). row_by old.rules (written row.checks (Register target) (result_in row.writes) row.parent r row.access)) is.1
+    ∙ row_by-written old.rules row.checks (Register target) (result_in row.writes) row.parent (Written recorded) row.access
 
 -- what a step that writes a register comes to, where its operation or access refuses nothing
 pub record Concluded (old : Held) (step : Step) (target : ℕ) (recorded derived : Cap) : Type 0 where
   pub named : named_by (row_in (account_of old) step) ≡ None
   pub writes : (row_in (account_of old) step).writes ≡ Some (Register target, derived)
   pub same : is_recorded (row_in (account_of old) step) ≡ is_same_cap recorded derived
-  pub free : first_of (row_in (account_of old) step).tests ≡ None
+  pub free : first_of (row_in (account_of old) step).checks ≡ None
 
 pub concluded : (old : Held) (step : Step) (target : ℕ) (recorded derived : Cap)
     → WritesRegister (state_of old) step target recorded → Derives old step (Ok derived) → Concluded old step target recorded derived
@@ -180,7 +180,7 @@ concluded old step target recorded derived is derives =
       named = ap named_by row;
       writes = ap (λ (r : Row). r.writes) row ∙ ap (λ (c : Cap). Some (Register target, c)) (sym derives.1);
       same = ap is_recorded row ∙ ap (is_same_cap recorded) (sym derives.1);
-      free = ap (λ (r : Row). first_of r.tests) row ∙ derives.0;
+      free = ap (λ (r : Row). first_of r.checks) row ∙ derives.0;
     }
 
 -- its result is sound, and so is its code
@@ -232,9 +232,9 @@ concluded_made old step target recorded derived code is sized coded_so low paren
 -- it is refused: its line records another result, or the limit on steps is passed
 concluded_refused : (old : Held) (step : Step) (target : ℕ) (recorded derived : Cap) (refusal : Refusal)
     → Concluded old step target recorded derived
-    → first_of (last_tests old (is_same_cap recorded derived)) ≡ Some refusal → EndsStep old step (Refused refusal) old
+    → first_of (last_checks old (is_same_cap recorded derived)) ≡ Some refusal → EndsStep old step (Refused refusal) old
 concluded_refused old step target recorded derived refusal is found =
-    (step_tests-free old step is.free ∙ tail_unnamed old step (is_same_cap recorded derived) is.named is.same ∙ found, refl)
+    (step_checks-free old step is.free ∙ tail_unnamed old step (is_same_cap recorded derived) is.named is.same ∙ found, refl)
 
 pub concluded_unlike : (old : Held) (step : Step) (target : ℕ) (recorded derived : Cap) → Concluded old step target recorded derived
     → not (is_same_cap recorded derived) ≡ true → EndsStep old step (Refused WrongResult) old
@@ -255,7 +255,7 @@ pub concluded_faulted : (old : Held) (step : Step) (target : ℕ) (recorded : Ca
     → EndsStep old step (Refused refusal) old
 concluded_faulted old step target recorded fault refusal is derives same =
     let row = written_row old step target recorded is in (
-      first_of-append_some (row_in (account_of old) step).tests _ (refusal_of fault) (ap (λ (r : Row). first_of r.tests) row ∙ derives)
+      first_of-append_some (row_in (account_of old) step).checks _ (refusal_of fault) (ap (λ (r : Row). first_of r.checks) row ∙ derives)
           ∙ ap (λ (r : Refusal). Some r) (sym same),
       refl,
     )
@@ -265,7 +265,7 @@ put_made : (old : Held) (step : Step) (granule : ℕ) (entry : Entry) (value : C
     → named_by (row_in (account_of old) step) ≡ Some granule
     → (row_in (account_of old) step).writes ≡ Some (Granule granule, value) → is_recorded (row_in (account_of old) step) ≡ true
     → cap_of entry ≡ value
-    → entry.2 ≡ code_for value.tag code → IsFrom old step value code → first_of (row_in (account_of old) step).tests ≡ None
+    → entry.2 ≡ code_for value.tag code → IsFrom old step value code → first_of (row_in (account_of old) step).checks ≡ None
     → is_past_limits old granule ≡ false
     → Makes old step (record old { memory = fin.insert old.memory granule entry; steps = old.steps + 1 })
 put_made old step granule entry value code named writes same holds code_is from free within =
@@ -280,7 +280,7 @@ put_made old step granule entry value code named writes same holds code_is from 
     ∙ ap (λ (n : ℕ). put (origins_by (code_in old)) (granule_key granule) (place_at n)) code_is
     ∙ origin-written old step (Granule granule) value code writes from in
     record {
-      tests = step_tests-free old step free ∙ tail_named old step granule false named same within;
+      checks = step_checks-free old step free ∙ tail_named old step granule false named same within;
       leads = record { allowed = free; recorded = same; after = after };
       account =
           ap (λ (s : State). account_with old.rules s (origins_by (codes_of old.codes memory)) old.roots (old.steps + 1)
@@ -295,11 +295,11 @@ put_made old step granule entry value code named writes same holds code_is from 
 
 put_ended : (old new : Held) (step : Step) (granule : ℕ) (end : StepEnd) → named_by (row_in (account_of old) step) ≡ Some granule
     → is_recorded (row_in (account_of old) step) ≡ true
-    → first_of (row_in (account_of old) step).tests ≡ None → EndsPut old granule end new → EndsStep old step end new
+    → first_of (row_in (account_of old) step).checks ≡ None → EndsPut old granule end new → EndsStep old step end new
 put_ended old new step granule (Refused refusal) named same free end =
-    (step_tests-free old step free ∙ tail_named old step granule true named same end.0 ∙ ap (λ (r : Refusal). Some r) (sym end.1), end.2)
+    (step_checks-free old step free ∙ tail_named old step granule true named same end.0 ∙ ap (λ (r : Refusal). Some r) (sym end.1), end.2)
 put_ended old new step granule NoMemory named same free end =
-    (step_tests-free old step free ∙ tail_named old step granule false named same end.0, ap (is_new (account_of old)) named ∙ end.1, end.2)
+    (step_checks-free old step free ∙ tail_named old step granule false named same end.0, ap (is_new (account_of old)) named ∙ end.1, end.2)
 
 abbrev pub EndsPutIn : Held → ℕ → Held → Result (Unit {0}) StepEnd → Held → Type 0
 EndsPutIn old granule after result new =
@@ -309,7 +309,7 @@ put_finished : (old new : Held) (step : Step) (granule : ℕ) (entry : Entry) (v
     → named_by (row_in (account_of old) step) ≡ Some granule → (row_in (account_of old) step).writes ≡ Some (Granule granule, value)
     → is_recorded (row_in (account_of old) step) ≡ true
     → cap_of entry ≡ value → entry.2 ≡ code_for value.tag code → IsFrom old step value code
-    → first_of (row_in (account_of old) step).tests ≡ None
+    → first_of (row_in (account_of old) step).checks ≡ None
     → EndsPutIn old granule (record old { memory = fin.insert old.memory granule entry; steps = old.steps + 1 }) result new
     → EndsIn old step result new
 put_finished old new step granule entry value code (Ok done) named writes same holds code_is from free put_is =
@@ -322,7 +322,7 @@ put_finished old new step granule entry value code (Err end) named writes same h
 pub stored : (old new : Held) (store : StoreCap) (result : Result (Unit {0}) StepEnd)
     → (state_of old store.source).word.0 < 2 ^ 128
     → store.source ≤ 31 → IsCoded (state_of old store.source).tag (code_in old store.source)
-    → first_of (row_of (state_of old) (steps.StoreCap store)).tests ≡ None
+    → first_of (row_of (state_of old) (steps.StoreCap store)).checks ≡ None
     → EndsPutIn old (address_through (state_of old) store.authority store.offset / 16)
     (with_cap_put old (address_through (state_of old) store.authority store.offset / 16) (state_of old store.source) (get_or old.codes store.source 0)) result new
     → EndsIn old (steps.StoreCap store) result new
@@ -336,7 +336,7 @@ stored old new store result fits low coded free put_is =
     (ap named_by row) (ap (λ (r : Row). r.writes) row) (ap is_recorded row)
     (ap (λ (n : ℕ). let c : Cap = record { tag = cap_is.tag; word = record { 0 = n } } in c) (stored_word-memory_of cap_is.word.0 fits))
     (sym (code_for-coded cap_is.tag code (subst (IsCoded cap_is.tag) same coded))) (λ held. ap place_at same)
-    (ap (λ (r : Row). first_of r.tests) row ∙ free) put_is
+    (ap (λ (r : Row). first_of r.checks) row ∙ free) put_is
 
 byte_small : (bytes : List ℕ) (i : ℕ) → All (λ byte. byte < 256) bytes → get_or bytes i 0 < 256
 byte_small bytes i small =
@@ -361,7 +361,7 @@ granule_bytes held granule stored_all =
 -- a stored value
 pub stored_value : (old new : Held) (store : Store) (result : Result (Unit {0}) StepEnd)
     → AreStored old.memory
-    → first_of (row_of (state_of old) (steps.Store store)).tests ≡ None
+    → first_of (row_of (state_of old) (steps.Store store)).checks ≡ None
     → EndsPutIn old (address_through (state_of old) store.authority store.offset / 16)
     (with_value_put old (address_through (state_of old) store.authority store.offset / 16)
     (address_through (state_of old) store.authority store.offset % 16) store.datum.size store.datum.value) result new
@@ -385,7 +385,7 @@ stored_value old new store result stored_all free put_is =
       };
     } in c) (sym (granule_bytes old g stored_all)))
     refl (λ held. absurd (false≢true held))
-    (ap (λ (r : Row). first_of r.tests) row ∙ free) put_is
+    (ap (λ (r : Row). first_of r.checks) row ∙ free) put_is
 
 -- the value that a load reads is the number of the granule's bytes
 pub value_in : (held : Held) (address size : ℕ) → AreStored held.memory
@@ -402,18 +402,18 @@ value_read held load address read at is = is ∙ ap (λ (a : ℕ). value_at (sta
 
 -- a load is made
 pub loaded_value : (old : Held) (load : Load)
-    → first_of (row_of (state_of old) (steps.Load load)).tests ≡ None
+    → first_of (row_of (state_of old) (steps.Load load)).checks ≡ None
     → load.datum.value ≡ value_at (state_of old) (address_through (state_of old) load.authority load.offset) load.datum.size → old.steps < most_steps
     → Makes old (steps.Load load) (record old { steps = old.steps + 1 })
 loaded_value old load free same few =
     let step = steps.Load load in
     let row = same_row old step _ refl in
     let recorded = ap is_recorded row ∙ eq-eqb load.datum.value _ same in
-    let allowed = ap (λ (r : Row). first_of r.tests) row ∙ free in
+    let allowed = ap (λ (r : Row). first_of r.checks) row ∙ free in
     let after = sym (ap (λ (r : Row). state_with (state_of old) r.writes) row) in
     record {
-      tests =
-          step_tests-free old step allowed
+      checks =
+          step_checks-free old step allowed
           ∙ tail_unnamed old step true (ap named_by row) recorded
           ∙ ap (λ (b : Bool). first_of (ending true b)) (lt-leb most_steps old.steps few);
       leads = record { allowed = allowed; recorded = recorded; after = after };
@@ -425,14 +425,14 @@ loaded_value old load free same few =
 
 -- a load is refused
 pub load_refused : (old : Held) (load : Load) (recorded : Bool) (refusal : Refusal)
-    → first_of (row_of (state_of old) (steps.Load load)).tests ≡ None
+    → first_of (row_of (state_of old) (steps.Load load)).checks ≡ None
     → is_recorded (row_of (state_of old) (steps.Load load)) ≡ recorded
-    → first_of (last_tests old recorded) ≡ Some refusal
+    → first_of (last_checks old recorded) ≡ Some refusal
     → EndsStep old (steps.Load load) (Refused refusal) old
 load_refused old load recorded refusal free same found =
     let step = steps.Load load in
     let row = same_row old step _ refl in (
-      step_tests-free old step (ap (λ (r : Row). first_of r.tests) row ∙ free)
+      step_checks-free old step (ap (λ (r : Row). first_of r.checks) row ∙ free)
           ∙ tail_unnamed old step recorded (ap named_by row) (ap is_recorded row ∙ same) ∙ found,
       refl,
     )
@@ -440,10 +440,10 @@ load_refused old load recorded refusal free same found =
 -- an access that is refused
 pub faulted_as : (old : Held) (step : Step) (access : Access) (fault : OpFault) (refusal : Refusal)
     → (row_of (state_of old) step).access ≡ Some access
-    → first_of (row_of (state_of old) step).tests ≡ Some (refusal_of fault) → refusal ≡ refusal_of fault → EndsStep old step (Refused refusal) old
+    → first_of (row_of (state_of old) step).checks ≡ Some (refusal_of fault) → refusal ≡ refusal_of fault → EndsStep old step (Refused refusal) old
 faulted_as old step access fault refusal accesses found is =
     let row = same_row old step access accesses in (
-      first_of-append_some (row_in (account_of old) step).tests _ (refusal_of fault) (ap (λ (r : Row). first_of r.tests) row ∙ found)
+      first_of-append_some (row_in (account_of old) step).checks _ (refusal_of fault) (ap (λ (r : Row). first_of r.checks) row ∙ found)
           ∙ ap (λ (r : Refusal). Some r) (sym is),
       refl,
     )

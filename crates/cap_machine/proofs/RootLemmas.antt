@@ -8,11 +8,11 @@ use Rattle.cap_word.proofs.Bytes.{stored_word-memory_of}
 use Rattle.cap_log.specs.declared.lines.Place.{Place}
 use Rattle.cap_log.specs.declared.lines.Place.TheVariants.{Register, Granule}
 use Rattle.cap_log.specs.Lines.{IsPlace}
-use Rattle.cap_ops.specs.Tests.{first_of}
+use Rattle.cap_ops.specs.Checks.{first_of}
 use Rattle.tagmem.specs.Granules.{Entry}
 use Rattle.tagmem.proofs.Granules.{len-put}
 use Rattle.cap_machine.specs.States.{State, granule_key, put, tagged}
-use Rattle.cap_machine.specs.Accounts.{root_tests}
+use Rattle.cap_machine.specs.Accounts.{root_checks}
 use Rattle.cap_machine.specs.Places.{codes_of}
 use Rattle.cap_machine.specs.Origins.{Origins}
 use Rattle.cap_machine.specs.Helds.{Held, TakesRoot, state_of, code_in, account_of}
@@ -22,10 +22,10 @@ use Rattle.cap_machine.proofs.StateLemmas.{named-put, named_in, also_named}
 use Rattle.cap_machine.proofs.CodeLemmas.{origins_by, origins-put, place_at-key}
 
 pub took : (old : Held) (place : Place) (word : Word) → length old.registers ≡ 32 → length old.codes ≡ 32 → IsPlace place → word.0 < 2 ^ 128
-    → first_of (root_tests (account_of old) place word) ≡ None
+    → first_of (root_checks (account_of old) place word) ≡ None
     → TakesRoot old place word (let after = placed old place word in record after { roots = after.roots + 1 })
 took old (Register n) word sized coded_so range fits free = record {
-  tests = free;
+  checks = free;
   account =
       let state = put (state_of old) n (tagged word) in
       ap (λ (s : State). account_with old.rules s (origins_by (codes_of (set old.codes n n) old.memory)) (old.roots + 1) old.steps
@@ -36,7 +36,7 @@ took old (Register n) word sized coded_so range fits free = record {
       ∙ ap (put (origins_by (code_in old)) n) (place_at-key (Register n) range));
 }
 took old (Granule g) word sized coded_so range fits free = record {
-  tests = free;
+  checks = free;
   account =
       let key = granule_key g in
       let entry : Entry = (true, memory_of word.0, key) in

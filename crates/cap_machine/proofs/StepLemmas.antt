@@ -8,7 +8,7 @@ use Rattle.cap_log.specs.declared.kinds.Step.TheVariants.{Seal, Unseal, LoadCap,
 use Rattle.cap_log.specs.Lines.{IsStepInRange}
 use Rattle.cap_ops.specs.declared.refusal.Refusal.{Refusal}
 use Rattle.cap_ops.specs.Operations.{clear_result}
-use Rattle.cap_ops.specs.Tests.{first_of}
+use Rattle.cap_ops.specs.Checks.{first_of}
 use Rattle.cap_ops.proofs.ClearLemmas.{StaysWithin-clear, clear_result-none, clear_result-some}
 use Rattle.cap_ops.specs.Authority.{StaysWithin}
 use Rattle.cap_ops.proofs.ReachLemmas.{StaysWithin-refl}
@@ -36,7 +36,7 @@ WritesWithin state parent None = Unit {0}
 WritesWithin state None (Some write) = write.1.tag ≡ true → ⊥
 WritesWithin state (Some from) (Some write) = StaysWithin write.1 (state (key_of from))
 
-pub writes_within : (state : State) (step : Step) → IsStepInRange step → first_of (row_of state step).tests ≡ None
+pub writes_within : (state : State) (step : Step) → IsStepInRange step → first_of (row_of state step).checks ≡ None
     → WritesWithin state (row_of state step).parent (row_of state step).writes
 writes_within state (Move step) range free = StaysWithin-refl (state step.source)
 writes_within state (ClearTag step) range free = StaysWithin-cleared (state step.source)
@@ -56,27 +56,27 @@ writes_within state (Store step) range free = λ held. false≢true held
 
 -- what is written in clear mode
 abbrev clear_write : List (Bool × Refusal) → Option (Place × Cap) → Option (Place × Cap)
-clear_write tests write = option_map (λ (w : Place × Cap). (w.0, clear_result tests w.1)) write
+clear_write checks write = option_map (λ (w : Place × Cap). (w.0, clear_result checks w.1)) write
 
-clear_write_within : (state : State) (tests : List (Bool × Refusal)) (parent : Option Place) (write : Option (Place × Cap))
-    → (first_of tests ≡ None → WritesWithin state parent write) → WritesWithin state parent (clear_write tests write)
-clear_write_within state tests parent None within = tt
-clear_write_within state tests (Some from) (Some write) within = StaysWithin-clear tests write.1 (state (key_of from)) within
-clear_write_within state tests None (Some write) within =
-    elim (first_of tests) as (λ o. first_of tests ≡ o → (clear_result tests write.1).tag ≡ true → ⊥) [
-      | None ↦ λ free held. within free (ap (λ (cap : Cap). cap.tag) (sym (clear_result-none tests write.1 free)) ∙ held)
-      | Some fault ↦ λ found held. false≢true (ap (λ (cap : Cap). cap.tag) (sym (clear_result-some tests write.1 fault found)) ∙ held)
+clear_write_within : (state : State) (checks : List (Bool × Refusal)) (parent : Option Place) (write : Option (Place × Cap))
+    → (first_of checks ≡ None → WritesWithin state parent write) → WritesWithin state parent (clear_write checks write)
+clear_write_within state checks parent None within = tt
+clear_write_within state checks (Some from) (Some write) within = StaysWithin-clear checks write.1 (state (key_of from)) within
+clear_write_within state checks None (Some write) within =
+    elim (first_of checks) as (λ o. first_of checks ≡ o → (clear_result checks write.1).tag ≡ true → ⊥) [
+      | None ↦ λ free held. within free (ap (λ (cap : Cap). cap.tag) (sym (clear_result-none checks write.1 free)) ∙ held)
+      | Some fault ↦ λ found held. false≢true (ap (λ (cap : Cap). cap.tag) (sym (clear_result-some checks write.1 fault found)) ∙ held)
     ] refl
 
 clear_row_within : (state : State) (row : Row) (access : Option Access)
-    → (first_of row.tests ≡ None → WritesWithin state row.parent row.writes)
-    → first_of (clear_row access row).tests ≡ None → WritesWithin state row.parent (clear_row access row).writes
-clear_row_within state row None within free = clear_write_within state row.tests row.parent row.writes within
+    → (first_of row.checks ≡ None → WritesWithin state row.parent row.writes)
+    → first_of (clear_row access row).checks ≡ None → WritesWithin state row.parent (clear_row access row).writes
+clear_row_within state row None within free = clear_write_within state row.checks row.parent row.writes within
 clear_row_within state row (Some access) within free = within free
 
 -- what a step writes by any rules
 pub writes_within_by : (rules : Rules) (state : State) (step : Step) → IsStepInRange step
-    → first_of (row_by rules (row_of state step)).tests ≡ None
+    → first_of (row_by rules (row_of state step)).checks ≡ None
     → WritesWithin state (row_of state step).parent (row_by rules (row_of state step)).writes
 writes_within_by One state step range free = writes_within state step range free
 writes_within_by TwoStrict state step range free = writes_within state step range free
@@ -88,13 +88,13 @@ abbrev pub parent_in : Bool → Bool → Option Place → ℕ → Option ℕ
 parent_in hit held parent key = if hit then (if held then option_map key_of parent else None) else Some key
 
 -- rules change no place
-hits-clear_write : (tests : List (Bool × Refusal)) (write : Option (Place × Cap)) (key : ℕ)
-    → hits (clear_write tests write) key ≡ hits write key
-hits-clear_write tests None key = refl
-hits-clear_write tests (Some write) key = refl
+hits-clear_write : (checks : List (Bool × Refusal)) (write : Option (Place × Cap)) (key : ℕ)
+    → hits (clear_write checks write) key ≡ hits write key
+hits-clear_write checks None key = refl
+hits-clear_write checks (Some write) key = refl
 
 hits-clear_row : (access : Option Access) (row : Row) (key : ℕ) → hits (clear_row access row).writes key ≡ hits row.writes key
-hits-clear_row None row key = hits-clear_write row.tests row.writes key
+hits-clear_row None row key = hits-clear_write row.checks row.writes key
 hits-clear_row (Some access) row key = refl
 
 pub hits-row_by : (rules : Rules) (row : Row) (key : ℕ) → hits (row_by rules row).writes key ≡ hits row.writes key

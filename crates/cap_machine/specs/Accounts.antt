@@ -1,5 +1,5 @@
--- What a machine's tests see: its rules, its state, and what the limits are measured by; and the tests of roots and steps in their order
--- (this profile's own).
+-- What a machine's checks see: its rules, its state, and what the limits are measured by; and the checks of roots and
+-- steps in their order (this profile's own).
 use Rattle.std.specs.Prelude.{ℕ, ◌+◌, Bool, false, ◌==◌, ◌&&◌, ◌||◌, not, nat_le, if◌then◌else◌, List, [], ◌∷◌, ◌++◌, Option}
 use Rattle.std.specs.Prelude.{Some, None}
 use Rattle.std.specs.Option.{option_map_or}
@@ -16,8 +16,8 @@ pub use Rattle.cap_machine.specs.Steps.{granule_of, named_by}
 use Rattle.cap_machine.specs.Steps.{Row, row_of, row_by, agrees, state_with}
 use Rattle.cap_machine.specs.Origins.{origins_after}
 
--- an account of a machine: its rules and its state, the place of the root that each capability comes from, how many roots were
--- declared and steps made, which granules a root, an sc or a store has named, and how many these are
+-- what checks see: the rules, the state, each place's root, the numbers of roots and steps, and which granules were
+-- named and how many
 pub record Account : Type 0 where
   pub rules : Rules
   pub state : State
@@ -27,7 +27,7 @@ pub record Account : Type 0 where
   pub is_named : ℕ → Bool
   pub granules : ℕ
 
--- before anything was declared
+-- the account before any root
 abbrev pub no_account : Rules → Account
 no_account rules_are =
     record { rules = rules_are; state = start []; origin = λ key. None; roots = 0; steps = 0; is_named = λ granule. false; granules = 0 }
@@ -65,7 +65,7 @@ naming account (Some granule) = record account {
   granules = if account.is_named granule then account.granules else account.granules + 1;
 }
 
--- the account after one root more, which is its own origin
+-- the account after one more root, which is its own origin
 abbrev pub with_root : Account → Place → Word → Account
 with_root account place word = record (naming account (granule_of place)) {
   state = put account.state (key_of place) (tagged word);
@@ -73,24 +73,24 @@ with_root account place word = record (naming account (granule_of place)) {
   roots = account.roots + 1;
 }
 
--- the account after one step more: each place has the origin that its parent had
+-- the account after one more step: each place has the origin of its parent
 abbrev pub with_step : Account → Step → Account
 with_step account step =
-    let row = row_by account.rules (row_of account.state step) in
+    let row = row_in account step in
     let named = naming account (named_by row) in
     let next = state_with account.state row.writes in
     record named { state = next; origin = origins_after account.origin account.state step next; steps = account.steps + 1 }
 
--- the tests of a root, in order: its place has a tagged capability already, its word is not sound, a limit is passed
-abbrev pub root_tests : Account → Place → Word → List (Bool × Refusal)
-root_tests account place word =
+-- a root: its place holds no tagged capability, its word is sound, no limit is passed
+abbrev pub root_checks : Account → Place → Word → List (Bool × Refusal)
+root_checks account place word =
     ((account.state (key_of place)).tag, PlaceTaken)
     ∷ (not (is_sound word.0), UnsoundRoot)
     ∷ (nat_le most_roots account.roots || passes_granule_limit account (granule_of place), LimitPassed) ∷ []
 
--- the tests of a step, in order: its row's, then whether its line records another result than the machine's, and whether a limit is passed
-abbrev pub step_tests : Account → Step → List (Bool × Refusal)
-step_tests account step =
-    let row = row_by account.rules (row_of account.state step) in
-    row.tests ++ (not (agrees row.writes row.records), WrongResult)
+-- a step: its row's checks, then the recorded result, then the limits
+abbrev pub step_checks : Account → Step → List (Bool × Refusal)
+step_checks account step =
+    let row = row_in account step in
+    row.checks ++ (not (agrees row.writes row.records), WrongResult)
     ∷ (nat_le most_steps account.steps || passes_granule_limit account (named_by row), LimitPassed) ∷ []

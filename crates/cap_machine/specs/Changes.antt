@@ -10,9 +10,9 @@ use Rattle.cap_log.specs.declared.lines.Place.TheVariants.{Register, Granule}
 use Rattle.cap_log.specs.declared.kinds.Step.{Step}
 use Rattle.cap_ops.specs.declared.faults.OpFault.{OpFault}
 use Rattle.cap_ops.specs.declared.kinds.Kind.{Kind}
-use Rattle.cap_ops.specs.Accesses.{access_tests}
+use Rattle.cap_ops.specs.Accesses.{access_checks}
 use Rattle.cap_ops.specs.Refusals.{refusal_of}
-use Rattle.cap_ops.specs.Tests.{first_of}
+use Rattle.cap_ops.specs.Checks.{first_of}
 use Rattle.tagmem.specs.Granules.{with_cap, with_bytes}
 use Rattle.cap_ops.specs.declared.refusal.Refusal.{Refusal}
 use Rattle.cap_ops.specs.declared.refusal.Refusal.TheVariants.{WrongResult, LimitPassed}
@@ -59,12 +59,12 @@ result_in (Some write) = write.1
 
 -- a row is that of an operation from a register to a register with these parts
 abbrev pub IsOperation : Row → OperationParts → Type 0
-IsOperation row parts = row ≡ operation parts.target parts.source parts.recorded row.tests (result_in row.writes)
+IsOperation row parts = row ≡ operation parts.target parts.source parts.recorded row.checks (result_in row.writes)
 
--- an operation gave its result where no test holds, and otherwise the first that does
+-- an operation gave its result if no check fails, and otherwise the first that fails
 abbrev pub GivesByTests : List (Bool × Refusal) → Cap → Result Cap OpFault → Type 0
-GivesByTests tests result outcome =
-    MatchResult outcome (λ cap. (first_of tests ≡ None) × (cap ≡ result)) (λ fault. first_of tests ≡ Some (refusal_of fault))
+GivesByTests checks result outcome =
+    MatchResult outcome (λ cap. (first_of checks ≡ None) × (cap ≡ result)) (λ fault. first_of checks ≡ Some (refusal_of fault))
 
 -- a step writes this register, and its line records this result
 abbrev pub WritesRegister : State → Step → ℕ → Cap → Type 0
@@ -80,7 +80,7 @@ rules_for rules (Some access) = TwoStrict
 -- the operation, or the access, gave this
 abbrev pub Derives : Held → Step → Result Cap OpFault → Type 0
 Derives held step outcome =
-    let row = row_of (state_of held) step in EndsBy (rules_for held.rules row.access) row.tests (result_in row.writes) outcome
+    let row = row_of (state_of held) step in EndsBy (rules_for held.rules row.access) row.checks (result_in row.writes) outcome
 
 -- where it gave a tagged result, this is the code of the origin of the place that the result comes from
 abbrev pub IsParentsCode : Held → Step → Result Cap OpFault → ℕ → Type 0
@@ -91,7 +91,7 @@ IsParentsCode held step outcome code =
 -- a row is that of this access through a register
 abbrev pub IsAccess : Row → ℕ → Kind → ℤ → ℕ → State → Type 0
 IsAccess row authority kind offset size state =
-    (row.tests ≡ access_tests (state authority) kind offset size)
+    (row.checks ≡ access_checks (state authority) kind offset size)
     × (row.access ≡ (let through = access_through state authority kind offset size in through.access))
 
 -- the address of an access
@@ -99,9 +99,9 @@ abbrev pub address_in : Option Access → ℕ
 address_in None = 0
 address_in (Some access) = access.address
 
--- the last tests of a step that names no granule: the log records another result than the machine's, or the limit on steps is passed
-abbrev pub last_tests : Held → Bool → List (Bool × Refusal)
-last_tests held recorded = (not recorded, WrongResult) ∷ (nat_le most_steps held.steps, LimitPassed) ∷ []
+-- the last checks of a step that names no granule: the recorded result, then the limit on steps
+abbrev pub last_checks : Held → Bool → List (Bool × Refusal)
+last_checks held recorded = (not recorded, WrongResult) ∷ (nat_le most_steps held.steps, LimitPassed) ∷ []
 
 -- whether one step more that names a granule passes a limit
 abbrev pub is_past_limits : Held → ℕ → Bool

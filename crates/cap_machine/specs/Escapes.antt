@@ -11,7 +11,7 @@ use Rattle.cap_machine.specs.declared.rules.Rules.TheVariants.{TwoClear}
 use Rattle.cap_machine.specs.States.{State, DeclaredRoot, start}
 use Rattle.cap_machine.specs.Runs.{state_at}
 
--- the register that a step takes new bounds from, and the length that it asks for
+-- the register that a step takes bounds from, and the requested length
 abbrev pub asked_by : Step → Option (ℕ × ℕ)
 asked_by (SetBounds step) = Some (step.source, step.length)
 asked_by (SetBoundsExact step) = Some (step.source, step.length)
@@ -21,13 +21,13 @@ asked_by step = None
 abbrev pub HasRoomFor : Cap → ℕ → Type 0
 HasRoomFor cap length = IsInside (address_of cap.word.0) (address_of cap.word.0 + length) (base_of cap.word.0) (top_of cap.word.0)
 
--- the bounds that are asked for, before any rounding, do not lie inside those of a tagged, unsealed source
+-- the requested bounds, before rounding, do not lie inside those of a tagged, unsealed source
 abbrev pub AsksBeyond : State → Option (ℕ × ℕ) → Type 0
 AsksBeyond state None = ⊥
 AsksBeyond state (Some asked) =
     IsTrue (state asked.0).tag × IsFalse (is_sealed (state asked.0).word.0) × (HasRoomFor (state asked.0) asked.1 → ⊥)
 
--- a step is refused for its bounds: by strict rules, where it asks for bounds beyond its source's (the test of CSetBounds, UCAM-CL-TR-987)
+-- a step is refused for its bounds: by strict rules, if it asks for bounds beyond its source's (the check of CSetBounds, UCAM-CL-TR-987)
 abbrev pub Escapes : Rules → State → Step → Type 0
 Escapes rules state step = (rules ≢ TwoClear) × AsksBeyond state (asked_by step)
 

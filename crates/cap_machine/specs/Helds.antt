@@ -9,7 +9,7 @@ use Rattle.cap_log.specs.declared.kinds.Step.{Step}
 use Rattle.cap_ops.specs.declared.faults.OpFault.{OpFault}
 use Rattle.cap_ops.specs.Operations.{clear_result}
 use Rattle.cap_ops.specs.Refusals.{refusal_of}
-use Rattle.cap_ops.specs.Tests.{first_of}
+use Rattle.cap_ops.specs.Checks.{first_of}
 use Rattle.cap_ops.specs.declared.refusal.Refusal.{Refusal}
 use Rattle.tagmem.specs.Granules.{Granules}
 use Rattle.cap_machine.specs.declared.ends.StepEnd.{StepEnd}
@@ -21,7 +21,7 @@ use Rattle.cap_machine.specs.Parents.{IsSoundState}
 use Rattle.cap_machine.specs.Places.{AreCoded, places_of, codes_of, place_at}
 use Rattle.cap_machine.specs.States.{State, untagged_null}
 use Rattle.cap_machine.specs.Steps.{Leads}
-use Rattle.cap_machine.specs.Accounts.{Account, granule_of, named_by, row_in, is_new, with_root, with_step, root_tests, step_tests}
+use Rattle.cap_machine.specs.Accounts.{Account, granule_of, named_by, row_in, is_new, with_root, with_step, root_checks, step_checks}
 
 -- what a machine holds: its rules, its registers and the codes of their origins, the granules that were put, with such codes, and its
 -- counts of roots and steps
@@ -107,36 +107,37 @@ account_of held = record {
   granules = map.len held.memory;
 }
 
--- the tests of an operation on registers that refuse it, by the rules
-abbrev pub tests_by : Rules → List (Bool × Refusal) → List (Bool × Refusal)
-tests_by One tests = tests
-tests_by TwoStrict tests = tests
-tests_by TwoClear tests = []
+-- the checks of an operation on registers, by the rules
+abbrev pub checks_by : Rules → List (Bool × Refusal) → List (Bool × Refusal)
+checks_by One checks = checks
+checks_by TwoStrict checks = checks
+checks_by TwoClear checks = []
 
 -- its result, by the rules
 abbrev pub value_by : Rules → List (Bool × Refusal) → Cap → Cap
-value_by One tests result = result
-value_by TwoStrict tests result = result
-value_by TwoClear tests result = clear_result tests result
+value_by One checks result = result
+value_by TwoStrict checks result = result
+value_by TwoClear checks result = clear_result checks result
 
 -- how an operation on registers ends, by the rules
 abbrev pub EndsBy : Rules → List (Bool × Refusal) → Cap → Result Cap OpFault → Type 0
-EndsBy rules_are tests result outcome =
+EndsBy rules_are checks result outcome =
     MatchResult outcome
-    (λ cap. (first_of (tests_by rules_are tests) ≡ None) × (cap ≡ value_by rules_are tests result))
-    (λ fault. first_of (tests_by rules_are tests) ≡ Some (refusal_of fault))
+    (λ cap. (first_of (checks_by rules_are checks) ≡ None) × (cap ≡ value_by rules_are checks result))
+    (λ fault. first_of (checks_by rules_are checks) ≡ Some (refusal_of fault))
 
--- the machine made the step: no test of it holds, it leads to the new state, and the account is that after it
+-- the machine made the step: none of its checks fails, it leads to the new state, and the account is that after it
 pub record Makes (old : Held) (step : Step) (new : Held) : Type 0 where
-  pub tests : first_of (step_tests (account_of old) step) ≡ None
+  pub checks : first_of (step_checks (account_of old) step) ≡ None
   pub leads : Leads old.rules (state_of old) step (state_of new)
   pub account : account_of new ≡ with_step (account_of old) step
 
--- the machine refused the step for its first test that holds; or no test holds and it names a granule for the first time; nothing changed
+-- the machine refused the step for its first check that fails; or no check fails and it names a granule for the first
+-- time; nothing changed
 abbrev pub EndsStep : Held → Step → StepEnd → Held → Type 0
-EndsStep old step (Refused refusal) new = (first_of (step_tests (account_of old) step) ≡ Some refusal) × (new ≡ old)
+EndsStep old step (Refused refusal) new = (first_of (step_checks (account_of old) step) ≡ Some refusal) × (new ≡ old)
 EndsStep old step NoMemory new =
-    (first_of (step_tests (account_of old) step) ≡ None)
+    (first_of (step_checks (account_of old) step) ≡ None)
     × IsTrue (is_new (account_of old) (named_by (row_in (account_of old) step)))
     × (new ≡ old)
 
@@ -144,13 +145,14 @@ EndsStep old step NoMemory new =
 abbrev pub AnswersStep : {A : Type 0} → Held → Step → Result A StepEnd → Held → Type 0
 AnswersStep old step result new = MatchResult result (λ _. Makes old step new) (λ end. EndsStep old step end new)
 
--- the machine took the root: no test of it holds, and the account is that after it
+-- the machine took the root: none of its checks fails, and the account is that after it
 pub record TakesRoot (old : Held) (place : Place) (word : Word) (new : Held) : Type 0 where
-  pub tests : first_of (root_tests (account_of old) place word) ≡ None
+  pub checks : first_of (root_checks (account_of old) place word) ≡ None
   pub account : account_of new ≡ with_root (account_of old) place word
 
--- the machine refused the root for its first test that holds; or no test holds and it names a granule for the first time; nothing changed
+-- the machine refused the root for its first check that fails; or no check fails and it names a granule for the first
+-- time; nothing changed
 abbrev pub EndsRoot : Held → Place → Word → StepEnd → Held → Type 0
-EndsRoot old place word (Refused refusal) new = (first_of (root_tests (account_of old) place word) ≡ Some refusal) × (new ≡ old)
+EndsRoot old place word (Refused refusal) new = (first_of (root_checks (account_of old) place word) ≡ Some refusal) × (new ≡ old)
 EndsRoot old place word NoMemory new =
-    (first_of (root_tests (account_of old) place word) ≡ None) × IsTrue (is_new (account_of old) (granule_of place)) × (new ≡ old)
+    (first_of (root_checks (account_of old) place word) ≡ None) × IsTrue (is_new (account_of old) (granule_of place)) × (new ≡ old)

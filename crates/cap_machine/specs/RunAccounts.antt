@@ -7,7 +7,7 @@ use Rattle.cap_machine.specs.States.{State, DeclaredRoot}
 use Rattle.cap_machine.specs.Accounts.{Account, no_account, with_root, with_step}
 use Rattle.cap_machine.specs.Runs.{DescendsFrom}
 
--- the account after roots and steps, one after another
+-- the account after roots and steps
 abbrev pub account_after : Rules → List DeclaredRoot → List Step → Account
 account_after rules roots steps =
     fold with_step (fold (λ account root. with_root account root.place root.word) (no_account rules) roots) steps

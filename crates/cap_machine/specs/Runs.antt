@@ -11,13 +11,13 @@ use Rattle.cap_machine.specs.States.{State, DeclaredRoot, key_of, start}
 pub use Rattle.cap_machine.specs.Steps.{Access}
 use Rattle.cap_machine.specs.Steps.{Leads, row_of}
 
--- the states after each step in turn are, by the rules, a run of the steps from this state (this profile's own, as are all below)
+-- these are the states after each step, each led to from the one before (this profile's own, as are all below)
 abbrev pub IsRun : Rules → State → List Step → List State → Type 0
 IsRun rules state [] [] = Unit {0}
 IsRun rules state (step ∷ steps) (next ∷ states) = Leads rules state step next × IsRun rules next steps states
 IsRun rules state steps states = ⊥
 
--- the state at a moment: the first at moment 0, and the one after step k at moment k
+-- the state at a moment: the start at 0, the one after step k at k
 abbrev pub state_at : State → List State → ℕ → State
 state_at state states zero = state
 state_at state [] (suc moment) = state
@@ -28,15 +28,14 @@ abbrev pub last_of : State → List State → State
 last_of state [] = state
 last_of state (next ∷ states) = last_of next states
 
--- the place, by its key, that a place's capability comes from in a step from a state to the next: the step's parent place where the
--- step wrote to it and it is tagged then, none where the step wrote to it and it is not, and the place itself where the step did not
--- write to it
+-- the key of the place that a place's capability comes from in a step: the place itself if the step didn't write it;
+-- otherwise the row's parent if it is now tagged, and none if not
 abbrev pub parent_of : State → Step → State → ℕ → Option ℕ
 parent_of state step next key =
     let row = row_of state step in
     if option_map_or (λ to. key_of to.0 == key) row.writes false then (if (next key).tag then option_map key_of row.parent else None) else Some key
 
--- the chain of parents from a place after a run of steps leads back to a place before it, both by their keys
+-- the chain of parents from a place after a run leads back to a place before it, both by their keys
 abbrev pub Descends : State → List Step → List State → ℕ → ℕ → Type 0
 Descends state [] states key from = key ≡ from
 Descends state (step ∷ steps) [] key from = ⊥
@@ -50,8 +49,8 @@ pub record DescendsFrom (roots : List DeclaredRoot) (steps : List Step) (states 
   pub descends : Descends (start roots) (take moment steps) (take moment states) key (key_of root.place)
   pub only : (from : ℕ) → Descends (start roots) (take moment steps) (take moment states) key from → from ≡ key_of root.place
 
--- authority never grows: at every moment each tagged place, a register or memory, has bounds inside and permissions among those of
--- the one root that it descends from
+-- authority never grows: at each moment each tagged place has bounds inside, and permissions among, those of the one
+-- root it descends from
 abbrev pub AuthorityNeverGrows : List DeclaredRoot → List Step → List State → Type 0
 AuthorityNeverGrows roots steps states =
     (moment : ℕ) → moment ≤ length steps → (key : ℕ) → IsTrue (state_at (start roots) states moment key).tag
@@ -63,7 +62,7 @@ pub record LiesInside (access : Access) (root : DeclaredRoot) : Type 0 where
   pub inside : IsInside access.address (access.address + access.size) (base_of root.word.0) (top_of root.word.0)
   pub permitted : IsTrue (has_permission root.word.0 access.permission)
 
--- each access of a run, at the moment before its step, lies inside the one root that its authority descends from
+-- each access lies inside the one root that its authority descends from at the moment before its step
 abbrev pub AccessesLieInside : List DeclaredRoot → List Step → List State → Type 0
 AccessesLieInside roots steps states =
     (moment : ℕ) (step : Step) (access : Access) → slice_get steps moment ≡ Some step

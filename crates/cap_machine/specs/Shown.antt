@@ -5,9 +5,9 @@ use Rattle.cap_log.specs.declared.lines.Place.{Place}
 use Rattle.cap_log.specs.declared.lines.Place.TheVariants.{Register, Granule}
 use Rattle.cap_log.specs.declared.kinds.Step.{Step}
 use Rattle.cap_log.specs.declared.kinds.Step.TheVariants.{SetBounds, SetBoundsExact, SetAddr, Seal, Unseal, StoreCap}
-use Rattle.cap_ops.specs.Permissions.{has_permission, global, permit_store, permit_store_capability, permit_store_local_capability}
+use Rattle.cap_ops.specs.Permissions.{has_permission, permit_global, permit_store, permit_store_capability, permit_store_local_capability}
 use Rattle.cap_ops.specs.Permissions.{permit_seal, permit_unseal}
-use Rattle.cap_ops.specs.Tests.{first_of}
+use Rattle.cap_ops.specs.Checks.{first_of}
 use Rattle.cap_ops.specs.declared.refusal.Refusal.{Refusal}
 use Rattle.cap_machine.specs.declared.shown.Given.{Given}
 use Rattle.cap_machine.specs.declared.shown.Given.TheVariants as givens
@@ -15,7 +15,7 @@ use Rattle.cap_machine.specs.declared.shown.Request.{Request}
 use Rattle.cap_machine.specs.declared.shown.Request.TheVariants as requests
 use Rattle.cap_machine.specs.declared.shown.Shown.{Shown}
 use Rattle.cap_machine.specs.States.{State}
-use Rattle.cap_machine.specs.Steps.{Access, Recorded, Written, Read, Row, row_of, clear_row}
+use Rattle.cap_machine.specs.Steps.{Access, Recorded, Written, ReadNumber, Row, row_of, clear_row}
 
 -- what an operation on registers asks for: bounds of a length, an address, or an authority over object types with a permission
 abbrev pub request_of : Step → Request
@@ -30,7 +30,7 @@ request_of step = requests.Nothing
 abbrev pub needs_to_store : Cap → ℕ
 needs_to_store stored =
     if stored.tag
-    then (if has_permission stored.word.0 global
+    then (if has_permission stored.word.0 permit_global
     then 2 ^ permit_store + 2 ^ permit_store_capability
     else 2 ^ permit_store + 2 ^ permit_store_capability + 2 ^ permit_store_local_capability)
     else 2 ^ permit_store
@@ -40,23 +40,23 @@ abbrev pub needed_by : State → Step → Access → ℕ
 needed_by state (StoreCap step) access = needs_to_store (state step.source)
 needed_by state step access = 2 ^ access.permission
 
--- the test for which the result of an operation on registers has no tag in clear mode: an access has no such test
+-- the check for which the result of an operation on registers is untagged in clear mode: an access has none
 abbrev pub lost_for : Option Access → Row → Option Refusal
-lost_for None row = first_of row.tests
+lost_for None row = first_of row.checks
 lost_for (Some access) row = None
 
--- what the rules give where a line records a result: what is written in clear mode, which is that of strict rules where no test holds;
--- or the number in memory, where no test refuses the access
+-- what the rules give if a line records a result: what is written in clear mode, which is that of strict rules if no
+-- check fails; or the number in memory, if the access fails no check
 abbrev pub given_for : Option (Place × Cap) → Recorded → Option Access → Option Refusal → Option Refusal → Given
 given_for (Some write) (Written recorded) access fault lost = givens.Capability write.0 write.1 lost recorded
-given_for writes (Read recorded in_memory) (Some access) None lost = givens.Number in_memory access.size recorded
+given_for writes (ReadNumber recorded in_memory) (Some access) None lost = givens.Number in_memory access.size recorded
 given_for writes records access fault lost = givens.Nothing
 
 -- what the rules give in a row of the machine's table
 abbrev pub given_by : Row → Given
 given_by row =
     let cleared = clear_row row.access row in
-    given_for cleared.writes row.records row.access (first_of row.tests) (lost_for row.access row)
+    given_for cleared.writes row.records row.access (first_of row.checks) (lost_for row.access row)
 
 -- what a step shows
 abbrev pub shown_of : State → Step → Shown

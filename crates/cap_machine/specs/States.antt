@@ -16,24 +16,24 @@ untagged_null = record { tag = false; word = record { 0 = null_word } }
 abbrev pub tagged : Word → Cap
 tagged word = record { tag = true; word = word }
 
--- the key of a granule: its number and 32 more (this profile's own)
+-- the key of a granule: its number plus 32 (this profile's own)
 abbrev pub granule_key : ℕ → ℕ
 granule_key granule = granule + 32
 
--- the key of a place, which is its number among all places: a register's own, and for memory its granule's (this profile's own)
+-- the key of a place: a register's number, or a granule's key
 abbrev pub key_of : Place → ℕ
 key_of (Register n) = n
-key_of (Granule g) = g + 32
+key_of (Granule g) = granule_key g
 
--- what each place holds, by the place's key. Key 0 is that of c0, which is no place: it reads as NULL, and nothing writes it
+-- what each place holds, by its key. Key 0 is c0, which is no place: it reads as NULL, and nothing writes it
 abbrev pub State : Type 0
 State = ℕ → Cap
 
--- what is told of each key, with something else told of one: a state with another capability there, say
+-- a function with another value at one key
 abbrev pub put : {A : Type 0} → (ℕ → A) → ℕ → A → ℕ → A
 put told key value = λ other. if key == other then value else told other
 
--- a root of a log: a tagged capability that a place holds from the start
+-- a root: a capability that a place holds, tagged, at the start
 pub record DeclaredRoot : Type 0 where
   pub place : Place
   pub word : Word
@@ -42,11 +42,11 @@ pub record DeclaredRoot : Type 0 where
 abbrev pub is_taken : List DeclaredRoot → Place → Bool
 is_taken roots place = list_any (λ root. key_of root.place == key_of place) roots
 
--- the state after the roots were declared: each root's word, tagged, at its place, and NULL without a tag elsewhere
+-- the state at the start: each root's word, tagged, at its place, and untagged NULL elsewhere
 abbrev pub start : List DeclaredRoot → State
 start [] = λ key. untagged_null
 start (root ∷ roots) = put (start roots) (key_of root.place) (tagged root.word)
 
--- the number that so many bytes of a granule of memory spell, from an address on, the least significant first
+-- the number that size bytes of a granule are, from an address on, the least significant first
 abbrev pub value_at : State → ℕ → ℕ → ℕ
 value_at state address size = number_of (take size (drop (address % 16) (memory_of (state (key_of (Granule (address / 16)))).word.0)))

@@ -12,32 +12,32 @@ use Rattle.cap_log.specs.declared.kinds.Step.TheVariants.{LoadCap, StoreCap, Loa
 use Rattle.cap_ops.specs.declared.refusal.Refusal.{Refusal}
 use Rattle.cap_ops.specs.declared.kinds.Kind.{Kind}
 use Rattle.cap_ops.specs.declared.kinds.Kind.TheVariants as kinds
-use Rattle.cap_ops.specs.Tests.{first_of}
-use Rattle.cap_ops.specs.Operations.{with_word, cleared, clear_result, set_bounds_tests, set_bounds_result, set_addr_tests, set_addr_result}
-use Rattle.cap_ops.specs.Operations.{and_perm_tests, and_perm_result, seal_tests, seal_result, unseal_tests, unseal_result}
-use Rattle.cap_ops.specs.Accesses.{access_address, access_tests, loaded_result, permission_for}
+use Rattle.cap_ops.specs.Checks.{first_of}
+use Rattle.cap_ops.specs.Operations.{with_word, cleared, clear_result, set_bounds_checks, set_bounds_result, set_addr_checks, set_addr_result}
+use Rattle.cap_ops.specs.Operations.{and_perm_checks, and_perm_result, seal_checks, seal_result, unseal_checks, unseal_result}
+use Rattle.cap_ops.specs.Accesses.{access_address, access_checks, loaded_result, permission_for}
 use Rattle.tagmem.specs.Granules.{overwritten}
 use Rattle.cap_machine.specs.declared.rules.Rules.{Rules}
 use Rattle.cap_machine.specs.declared.rules.Rules.TheVariants.{TwoClear}
 use Rattle.cap_machine.specs.States.{State, key_of, put, value_at}
 
--- an access to memory: the register that is its authority, its address and size, and the permission that it needs
+-- an access: the register that is its authority, its address, its size, and the permission it needs
 pub record Access : Type 0 where
   pub authority : ℕ
   pub address : ℕ
   pub size : ℕ
   pub permission : ℕ
 
--- what a line records of its step: nothing, what the step writes, or the value that it reads, beside the one in memory
+-- what a line records: nothing, the capability written, or a number read, beside the one in memory
 pub data Recorded : Type 0 where
   Nothing : Recorded
   Written : (cap : Cap) → Recorded
-  Read : (value in_memory : ℕ) → Recorded
+  ReadNumber : (value in_memory : ℕ) → Recorded
 
--- a row of the machine's table: the tests of a step, in order; the place that it writes, and what that holds then; the place that
--- a tagged result comes from; what its line records; and its access
+-- a row of the table: the checks in order; the place written and what it then holds; the place that a tagged result
+-- comes from; what the line records; the access
 pub record Row : Type 0 where
-  pub tests : List (Bool × Refusal)
+  pub checks : List (Bool × Refusal)
   pub writes : Option (Place × Cap)
   pub parent : Option Place
   pub records : Recorded
@@ -45,8 +45,8 @@ pub record Row : Type 0 where
 
 -- the row of an operation from a register to a register
 abbrev pub operation : ℕ → ℕ → Cap → List (Bool × Refusal) → Cap → Row
-operation target source recorded tests_are result = record {
-  tests = tests_are;
+operation target source recorded checks_are result = record {
+  checks = checks_are;
   writes = Some (Register target, result);
   parent = Some (Register source);
   records = Written recorded;
@@ -57,66 +57,68 @@ operation target source recorded tests_are result = record {
 abbrev pub address_through : State → ℕ → ℤ → ℕ
 address_through state authority offset = access_address (state authority).word.0 offset
 
+-- the granule that an access through a register reaches
+abbrev pub granule_through : State → ℕ → ℤ → ℕ
+granule_through state authority offset = address_through state authority offset / 16
+
 -- the row of an access of a kind through a register, where nothing is written and nothing recorded
 abbrev pub access_through : State → ℕ → Kind → ℤ → ℕ → Row
-access_through state register kind offset bytes =
+access_through state register kind offset size_is =
     let reached = address_through state register offset in
     record {
-      tests = access_tests (state register) kind offset bytes;
+      checks = access_checks (state register) kind offset size_is;
       writes = None;
       parent = None;
       records = Nothing;
-      access = Some (record { authority = register; address = reached; size = bytes; permission = permission_for kind });
+      access = Some (record { authority = register; address = reached; size = size_is; permission = permission_for kind });
     }
 
--- a granule's capability after a write of a value's bytes, least significant first, from a byte index on: its tag is clear
+-- a granule after a store of a value's bytes, the least significant first, from a byte index on: untagged
 abbrev pub with_value : Cap → ℕ → ℕ → ℕ → Cap
 with_value cap byte_index size value =
     with_word (cleared cap) (stored_word (overwritten (memory_of cap.word.0) byte_index (low_bytes size value)))
 
--- the machine's table: the row of each step in a state. The result is the machine's own, whatever the line records
+-- the machine's table: the row of a step in a state. The result is the machine's own, whatever the line records
 abbrev pub row_of : State → Step → Row
 row_of state (Move step) = operation step.target step.source step.result [] (state step.source)
 row_of state (ClearTag step) = operation step.target step.source step.result [] (cleared (state step.source))
 row_of state (SetBounds step) =
-    operation step.target step.source step.result (set_bounds_tests (state step.source) step.length false) (set_bounds_result (state step.source) step.length)
+    operation step.target step.source step.result (set_bounds_checks (state step.source) step.length false) (set_bounds_result (state step.source) step.length)
 row_of state (SetBoundsExact step) =
-    operation step.target step.source step.result (set_bounds_tests (state step.source) step.length true) (set_bounds_result (state step.source) step.length)
+    operation step.target step.source step.result (set_bounds_checks (state step.source) step.length true) (set_bounds_result (state step.source) step.length)
 row_of state (SetAddr step) =
-    operation step.target step.source step.result (set_addr_tests (state step.source) step.address) (set_addr_result (state step.source) step.address)
+    operation step.target step.source step.result (set_addr_checks (state step.source) step.address) (set_addr_result (state step.source) step.address)
 row_of state (AndPerm step) =
-    operation step.target step.source step.result (and_perm_tests (state step.source)) (and_perm_result (state step.source) step.mask)
+    operation step.target step.source step.result (and_perm_checks (state step.source)) (and_perm_result (state step.source) step.mask)
 row_of state (Seal step) =
-    operation step.target step.source step.result (seal_tests (state step.source) (state step.authority)) (seal_result (state step.source) (state step.authority))
+    operation step.target step.source step.result (seal_checks (state step.source) (state step.authority)) (seal_result (state step.source) (state step.authority))
 row_of state (Unseal step) =
-    operation step.target step.source step.result (unseal_tests (state step.source) (state step.authority)) (unseal_result (state step.source) (state step.authority))
+    operation step.target step.source step.result (unseal_checks (state step.source) (state step.authority)) (unseal_result (state step.source) (state step.authority))
 row_of state (LoadCap step) =
-    let granule = address_through state step.authority step.offset / 16 in record (access_through state step.authority kinds.LoadCap step.offset 16) {
+    let granule = granule_through state step.authority step.offset in
+    record (access_through state step.authority kinds.LoadCap step.offset 16) {
       writes = Some (Register step.target, loaded_result (state step.authority) (state (key_of (Granule granule))));
       parent = Some (Granule granule);
       records = Written step.result;
     }
 row_of state (StoreCap step) = record (access_through state step.authority (kinds.StoreCap (state step.source)) step.offset 16) {
-  writes = Some (Granule (address_through state step.authority step.offset / 16), state step.source);
+  writes = Some (Granule (granule_through state step.authority step.offset), state step.source);
   parent = Some (Register step.source);
 }
 row_of state (Load step) = record (access_through state step.authority kinds.LoadData step.offset step.datum.size) {
-  records = Read step.datum.value (value_at state (address_through state step.authority step.offset) step.datum.size);
+  records = ReadNumber step.datum.value (value_at state (address_through state step.authority step.offset) step.datum.size);
 }
 row_of state (Store step) =
-    let granule = address_through state step.authority step.offset / 16 in record (access_through state step.authority kinds.StoreData step.offset step.datum.size) {
+    let granule = granule_through state step.authority step.offset in
+    record (access_through state step.authority kinds.StoreData step.offset step.datum.size) {
       writes = Some (Granule granule, with_value (state (key_of (Granule granule))) (address_through state step.authority step.offset % 16) step.datum.size step.datum.value);
     }
 
--- the granule that an access through a register reaches
-abbrev pub granule_through : State → ℕ → ℤ → ℕ
-granule_through state authority offset = address_through state authority offset / 16
-
--- whether what is written, or read, is what a line records
+-- what is written, or read, is what the line records
 abbrev pub agrees : Option (Place × Cap) → Recorded → Bool
 agrees write Nothing = true
 agrees write (Written cap) = option_map_or (λ to. beq cap.tag to.1.tag && (cap.word.0 == to.1.word.0)) write true
-agrees write (Read value in_memory) = value == in_memory
+agrees write (ReadNumber value in_memory) = value == in_memory
 
 -- the granule that a place is
 abbrev pub granule_of : Place → Option ℕ
@@ -131,9 +133,10 @@ named_by row = option_and_then (λ write. granule_of write.0) row.writes
 abbrev pub state_with : State → Option (Place × Cap) → State
 state_with state write = option_map_or (λ to. put state (key_of to.0) to.1) write state
 
--- a row in clear mode: an operation on registers meets no test, and its result loses its tag where one holds; an access stays as it is
+-- a row in clear mode: an operation on registers has no checks, and its result is untagged if one would fail; an
+-- access is unchanged
 abbrev pub clear_row : Option Access → Row → Row
-clear_row None row = record row { tests = []; writes = option_map (λ write. (write.0, clear_result row.tests write.1)) row.writes }
+clear_row None row = record row { checks = []; writes = option_map (λ write. (write.0, clear_result row.checks write.1)) row.writes }
 clear_row (Some access) row = row
 
 -- a row by the rules
@@ -141,9 +144,9 @@ abbrev pub row_by : Rules → Row → Row
 row_by TwoClear row = clear_row row.access row
 row_by rules row = row
 
--- the step leads, by the rules, from one state to the next: no test of it holds, the line records what the machine has, and the place
--- that it writes is all that changes
+-- a step leads from a state to the next: no check fails, the line records what the machine has, and only the place
+-- written changes
 pub record Leads (rules : Rules) (old : State) (step : Step) (new : State) : Type 0 where
-  pub allowed : first_of (row_by rules (row_of old step)).tests ≡ None
+  pub allowed : first_of (row_by rules (row_of old step)).checks ≡ None
   pub recorded : IsTrue (agrees (row_by rules (row_of old step)).writes (row_by rules (row_of old step)).records)
   pub after : new ≡ state_with old (row_by rules (row_of old step)).writes

@@ -9,8 +9,8 @@ ghost use Rattle.cap_machine.specs.Helds.{AnswersStep, EndsBy, state_of};
 ghost use Rattle.cap_machine.specs.Shown.{IsShown, needs_to_store, request_of, shown_of};
 ghost use Rattle.cap_machine.specs.States.{State};
 ghost use Rattle.cap_machine.specs.Steps.{row_of};
-ghost use Rattle.cap_ops.specs.Operations.{clear_result, set_bounds_result, set_bounds_tests};
-ghost use Rattle.cap_ops.specs.Tests.{first_of};
+ghost use Rattle.cap_ops.specs.Operations.{clear_result, set_bounds_result, set_bounds_checks};
+ghost use Rattle.cap_ops.specs.Checks.{first_of};
 
 use crate::ends::StepEnd;
 use crate::machine::{MOST_STEPS, Machine};
@@ -82,7 +82,7 @@ pub trait Operation: Operands {
     /// step is made; the one in clear mode is called.
     fn outcome<M: TaggedStore>(self, rules: Rules, machine: &Machine<M>) -> Result<Cap, OpFault>
         ensures ends { let row = row_of (state_of machine.now) (Self.step self) in
-            EndsBy rules row.tests (result_in row.writes) result };
+            EndsBy rules row.checks (result_in row.writes) result };
 }
 
 /// The parts of an operation from a register to a register.
@@ -150,9 +150,9 @@ fn cleared_with_fault<M: TaggedStore, O: Operation>(
     machine: &Machine<M>,
 ) -> (Cap, Option<Refusal>)
     ensures cap { let row = row_of (state_of machine.now) (O.step operation) in
-        result.0 ≡ clear_result row.tests (result_in row.writes) }
+        result.0 ≡ clear_result row.checks (result_in row.writes) }
     ensures fault { let row = row_of (state_of machine.now) (O.step operation) in
-        result.1 ≡ first_of row.tests }
+        result.1 ≡ first_of row.checks }
 {
     match operation.outcome(Rules::TwoStrict, machine) {
         Ok(cap) => (cap, None),
@@ -167,7 +167,7 @@ fn cleared_with_fault<M: TaggedStore, O: Operation>(
 // where it isn't made.
 #[inline(always)]
 fn set_bounds_cleared(source: Cap, length: u64, exact: bool) -> Cap
-    ensures value { result ≡ clear_result (set_bounds_tests source length exact) (set_bounds_result source length) }
+    ensures value { result ≡ clear_result (set_bounds_checks source length exact) (set_bounds_result source length) }
 {
     let Cap { tag, word } = source;
     set_bounds_clear(Cap { tag, word }, length, exact)

@@ -8,9 +8,9 @@ ghost use Rattle.tagmem.specs.Granules.{AreStored, HasRoom, IsCodeFor, IsNextPut
 ghost use Rattle.cap_word.specs.Memory.{low_bytes, memory_of};
 ghost use Rattle.cap_bounds.specs.Bounds.{IsSound};
 ghost use Rattle.cap_ops.specs.Sizes.{size_fits};
-ghost use Rattle.cap_ops.specs.Tests.{first_of};
+ghost use Rattle.cap_ops.specs.Checks.{first_of};
 ghost use Rattle.cap_log.specs.Lines.{IsPlace, IsStepInRange};
-ghost use Rattle.cap_machine.specs.Accounts.{granule_of, is_new, no_account, passes_granule_limit, root_tests};
+ghost use Rattle.cap_machine.specs.Accounts.{granule_of, is_new, no_account, passes_granule_limit, root_checks};
 ghost use Rattle.cap_machine.specs.Changes.{Derives, EndsPut, IsAccess, IsParentsCode, Placed, WritesRegister};
 ghost use Rattle.cap_machine.specs.Changes.{address_in, is_past_limits, with_cap_put, with_value_put};
 ghost use Rattle.cap_machine.specs.Escapes.{ClearsBeyond, Escapes};
@@ -244,7 +244,7 @@ impl<M: TaggedStore> Machine<M> {
     // The first test that refuses a root.
     fn root_fault(&self, place: Place, word: Word) -> Option<Refusal>
         requires { IsPlace place }
-        ensures { result ≡ first_of (root_tests (account_of self.now) place word) }
+        ensures { result ≡ first_of (root_checks (account_of self.now) place word) }
     {
         if self.holds(place).tag {
             Some(Refusal::PlaceTaken)
@@ -401,7 +401,7 @@ impl<M: TaggedStore> Machine<M> {
         ensures outcome { let held = self.now in
             MatchResult result
             (λ address. let row = row_of (state_of held) (O.step step.now) in
-            (first_of row.tests ≡ None) × (address ≡ address_in row.access))
+            (first_of row.checks ≡ None) × (address ≡ address_in row.access))
             (λ end. EndsStep held (O.step step.now) end held) }
         ensures in_one_granule { IfOk result (λ address. address % 16 + size ≤ 16) }
         ensures range { IsStepInRange (O.step step.now) }

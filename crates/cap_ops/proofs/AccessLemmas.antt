@@ -4,18 +4,18 @@ use Rattle.std.proofs.lemmas.Bool.{not-false, or_cases, eqb-true}
 use Rattle.cap_word.specs.declared.word.Cap.{Cap}
 use Rattle.cap_ops.specs.declared.kinds.Kind.{Kind}
 use Rattle.cap_ops.specs.declared.kinds.Kind.TheVariants.{LoadData, StoreData, LoadCap, StoreCap}
-use Rattle.cap_ops.specs.Accesses.{IsAllowed, access_address, access_tests, permission_for}
+use Rattle.cap_ops.specs.Accesses.{IsAllowed, access_address, access_checks, permission_for}
 use Rattle.cap_ops.specs.Sizes.{is_data_size, size_fits}
-use Rattle.cap_ops.specs.Tests.{first_of}
+use Rattle.cap_ops.specs.Checks.{first_of}
 use Rattle.cap_ops.proofs.TestLemmas.{none_hold, IsInside-covers}
 
 -- an access that no test refuses is allowed
-pub IsAllowed-access : (authority : Cap) (kind : Kind) (offset : ℤ) (size : ℕ) → first_of (access_tests authority kind offset size) ≡ None
+pub IsAllowed-access : (authority : Cap) (kind : Kind) (offset : ℤ) (size : ℕ) → first_of (access_checks authority kind offset size) ≡ None
     → IsAllowed authority.word.0 (access_address authority.word.0 offset) size (permission_for kind)
-unfolding access_tests
+unfolding access_checks
 IsAllowed-access authority kind offset size h =
     let address = access_address authority.word.0 offset in
-    let fail = none_hold (access_tests authority kind offset size) h in
+    let fail = none_hold (access_checks authority kind offset size) h in
     let bounds = IsInside-covers authority.word.0 address (address + size) (not-false _ fail.1.1.1.0) in
     record { from = bounds.0; until = bounds.1; aligned = eqb-true _ _ (not-false _ fail.1.1.1.1.0); permits = not-false _ fail.1.1.0 }
 

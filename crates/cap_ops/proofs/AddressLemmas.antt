@@ -12,10 +12,10 @@ use Rattle.cap_ops.specs.declared.faults.OpFault.TheVariants as faults
 use Rattle.cap_ops.specs.declared.refusal.Refusal.{Refusal}
 use Rattle.cap_ops.specs.declared.refusal.Refusal.TheVariants.{SourceSealed, NotRepresentable}
 use Rattle.cap_ops.specs.Authority.{StaysWithin}
-use Rattle.cap_ops.specs.Operations.{is_kept_at, set_addr_tests, set_addr_result}
+use Rattle.cap_ops.specs.Operations.{is_kept_at, set_addr_checks, set_addr_result}
 use Rattle.cap_ops.specs.Permissions.{is_sealed}
 use Rattle.cap_ops.specs.Refusals.{refusal_of}
-use Rattle.cap_ops.specs.Tests.{first_of}
+use Rattle.cap_ops.specs.Checks.{first_of}
 use Rattle.cap_ops.proofs.ReplacedFields.{perms_of-high}
 use Rattle.cap_ops.proofs.ReachLemmas.{ReachesNoMore-same, StaysWithin-words}
 use Rattle.cap_ops.proofs.PermissionLemmas.{IsFewer-same}
@@ -30,9 +30,9 @@ unfolding is_kept_at
 kept-KeepsBounds w address h = and_from _ _ (eq-eqb _ _ h.0) (eq-eqb _ _ h.1)
 
 -- a new address that no test refuses leaves the source's authority
-pub StaysWithin-set_addr : (source : Cap) (address : ℕ) → address < 2 ^ 64 → first_of (set_addr_tests source address) ≡ None
+pub StaysWithin-set_addr : (source : Cap) (address : ℕ) → address < 2 ^ 64 → first_of (set_addr_checks source address) ≡ None
     → StaysWithin (set_addr_result source address) source
-unfolding set_addr_tests set_addr_result
+unfolding set_addr_checks set_addr_result
 StaysWithin-set_addr source address fits h =
     let w = source.word.0 in
     let v = with_address w address in
@@ -47,9 +47,9 @@ first_fault : Bool → Bool → Bool → Option Refusal
 first_fault tagged is_sealed kept =
     if tagged then (if is_sealed then Some SourceSealed else (if not kept then Some NotRepresentable else None)) else None
 
-first_of-set_addr : (source : Cap) (address : ℕ) → first_of (set_addr_tests source address)
+first_of-set_addr : (source : Cap) (address : ℕ) → first_of (set_addr_checks source address)
     ≡ first_fault source.tag (is_sealed source.word.0) (is_kept_at source.word.0 address)
-unfolding set_addr_tests first_fault
+unfolding set_addr_checks first_fault
 first_of-set_addr source address =
     first_of-on_tagged source ((is_sealed source.word.0, SourceSealed) ∷ (not (is_kept_at source.word.0 address), NotRepresentable) ∷ [])
 
@@ -76,7 +76,7 @@ lost_since true true kept h = cc
 lost_since false seal kept h = cc
 
 -- where a new address is refused for itself, it does not keep the bounds
-lost : (source : Cap) (address : ℕ) → first_of (set_addr_tests source address) ≡ Some NotRepresentable
+lost : (source : Cap) (address : ℕ) → first_of (set_addr_checks source address) ≡ Some NotRepresentable
     → KeepsBounds source.word.0 address → ⊥
 lost source address h keeps =
     let not_kept = lost_since source.tag (is_sealed source.word.0) (is_kept_at source.word.0 address)
@@ -90,7 +90,7 @@ same_fault fault h = cc
 
 -- a new address is refused exactly outside the representable range
 pub NotRepresentable-exact : (source : Cap) (address : ℕ) (result : Result Cap OpFault) → address < 2 ^ 64
-    → EndsWith result (set_addr_tests source address) (set_addr_result source address)
+    → EndsWith result (set_addr_checks source address) (set_addr_result source address)
     → source.tag ≡ true → is_sealed source.word.0 ≡ false → (result ≡ Err faults.NotRepresentable) ↔ (IsRepresentable source.word.0 address → ⊥)
 NotRepresentable-exact source address (Ok cap) fits ends tagged unsealed =
     let w = source.word.0 in
@@ -105,7 +105,7 @@ NotRepresentable-exact source address (Err fault) fits ends tagged unsealed =
 
 -- and so never from the base to the top
 pub NotRepresentable-near : (source : Cap) (address : ℕ) (result : Result Cap OpFault) → address < 2 ^ 64
-    → EndsWith result (set_addr_tests source address) (set_addr_result source address)
+    → EndsWith result (set_addr_checks source address) (set_addr_result source address)
     → base_of source.word.0 ≤ address → address ≤ top_of source.word.0 → result ≡ Err faults.NotRepresentable → ⊥
 NotRepresentable-near source address (Ok cap) fits ends from until e = cc
 NotRepresentable-near source address (Err fault) fits ends from until e =

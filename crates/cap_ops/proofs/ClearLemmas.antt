@@ -9,9 +9,9 @@ use Rattle.cap_bounds.specs.Bounds.{IsInside, IsSound, base_of, top_of}
 use Rattle.cap_ops.specs.declared.faults.OpFault.{OpFault}
 use Rattle.cap_ops.specs.declared.refusal.Refusal.{Refusal}
 use Rattle.cap_ops.specs.Authority.{StaysWithin}
-use Rattle.cap_ops.specs.Operations.{Clears, IsStrictWhereTagged, clear_result, cleared, set_bounds_tests, set_bounds_result}
+use Rattle.cap_ops.specs.Operations.{Clears, IsStrictWhereTagged, clear_result, cleared, set_bounds_checks, set_bounds_result}
 use Rattle.cap_ops.specs.Permissions.{is_sealed}
-use Rattle.cap_ops.specs.Tests.{first_of}
+use Rattle.cap_ops.specs.Checks.{first_of}
 use Rattle.cap_ops.proofs.NarrowingLemmas.{first_escapes, inside_passes}
 use Rattle.cap_ops.proofs.TestLemmas.{EndsWith}
 
@@ -23,38 +23,38 @@ StaysWithin-untagged cap source = record {
   sound = λ held sound. absurd (false≢true held);
 }
 
-pub clear_result-none : (tests : List (Bool × Refusal)) (result : Cap) → first_of tests ≡ None → clear_result tests result ≡ result
-clear_result-none tests result free = ap (λ (o : Option Refusal). if is_some o then cleared result else result) free
+pub clear_result-none : (checks : List (Bool × Refusal)) (result : Cap) → first_of checks ≡ None → clear_result checks result ≡ result
+clear_result-none checks result free = ap (λ (o : Option Refusal). if is_some o then cleared result else result) free
 
-pub clear_result-some : (tests : List (Bool × Refusal)) (result : Cap) (fault : Refusal) → first_of tests ≡ Some fault
-    → clear_result tests result ≡ cleared result
-clear_result-some tests result fault found = ap (λ (o : Option Refusal). if is_some o then cleared result else result) found
+pub clear_result-some : (checks : List (Bool × Refusal)) (result : Cap) (fault : Refusal) → first_of checks ≡ Some fault
+    → clear_result checks result ≡ cleared result
+clear_result-some checks result fault found = ap (λ (o : Option Refusal). if is_some o then cleared result else result) found
 
 -- what stays within a source where no test holds, stays within it in clear mode
-pub StaysWithin-clear : (tests : List (Bool × Refusal)) (result source : Cap) → (first_of tests ≡ None → StaysWithin result source)
-    → StaysWithin (clear_result tests result) source
-StaysWithin-clear tests result source within =
-    elim (first_of tests) as (λ o. first_of tests ≡ o → StaysWithin (clear_result tests result) source) [
-      | None ↦ λ free. subst (λ (cap : Cap). StaysWithin cap source) (sym (clear_result-none tests result free)) (within free)
-      | Some fault ↦ λ found. subst (λ (cap : Cap). StaysWithin cap source) (sym (clear_result-some tests result fault found))
+pub StaysWithin-clear : (checks : List (Bool × Refusal)) (result source : Cap) → (first_of checks ≡ None → StaysWithin result source)
+    → StaysWithin (clear_result checks result) source
+StaysWithin-clear checks result source within =
+    elim (first_of checks) as (λ o. first_of checks ≡ o → StaysWithin (clear_result checks result) source) [
+      | None ↦ λ free. subst (λ (cap : Cap). StaysWithin cap source) (sym (clear_result-none checks result free)) (within free)
+      | Some fault ↦ λ found. subst (λ (cap : Cap). StaysWithin cap source) (sym (clear_result-some checks result fault found))
           (StaysWithin-untagged result source)
     ] refl
 
 -- a call's outcome, or the result without its tag
-pub clear_result-outcome : (outcome : Result Cap OpFault) (tests : List (Bool × Refusal)) (result made : Cap)
-    → EndsWith outcome tests result → Clears outcome result made
-    → made ≡ clear_result tests result
-clear_result-outcome (Ok cap) tests result made ends clears = clears ∙ ends.1 ∙ sym (clear_result-none tests result ends.0)
-clear_result-outcome (Err fault) tests result made ends clears = clears ∙ sym (clear_result-some tests result _ ends)
+pub clear_result-outcome : (outcome : Result Cap OpFault) (checks : List (Bool × Refusal)) (result made : Cap)
+    → EndsWith outcome checks result → Clears outcome result made
+    → made ≡ clear_result checks result
+clear_result-outcome (Ok cap) checks result made ends clears = clears ∙ ends.1 ∙ sym (clear_result-none checks result ends.0)
+clear_result-outcome (Err fault) checks result made ends clears = clears ∙ sym (clear_result-some checks result _ ends)
 
 -- what has a tag in clear mode is the strict result
-pub strict_where_tagged : (tests : List (Bool × Refusal)) (result made : Cap) → made ≡ clear_result tests result
-    → IsStrictWhereTagged tests result made
-strict_where_tagged tests result made is =
-    elim (first_of tests) as (λ o. first_of tests ≡ o → IsStrictWhereTagged tests result made) [
-      | None ↦ λ free. λ held. (free, is ∙ clear_result-none tests result free)
+pub strict_where_tagged : (checks : List (Bool × Refusal)) (result made : Cap) → made ≡ clear_result checks result
+    → IsStrictWhereTagged checks result made
+strict_where_tagged checks result made is =
+    elim (first_of checks) as (λ o. first_of checks ≡ o → IsStrictWhereTagged checks result made) [
+      | None ↦ λ free. λ held. (free, is ∙ clear_result-none checks result free)
       | Some fault ↦ λ found. λ held. absurd (false≢true (sym (ap (λ (cap : Cap). cap.tag)
-          (is ∙ clear_result-some tests result fault found)) ∙ held))
+          (is ∙ clear_result-some checks result fault found)) ∙ held))
     ] refl
 
 set_bounds_tag : (source : Cap) (length : ℕ) → (set_bounds_result source length).tag ≡ source.tag
@@ -63,16 +63,16 @@ set_bounds_tag source length = refl
 
 -- new bounds of a tagged, unsealed source lose its tag exactly where the requested ones do not lie inside its own
 pub untagged_where_beyond : (source : Cap) (length : ℕ) (exact : Bool) (made : Cap) → length < 2 ^ 64
-    → made ≡ clear_result (set_bounds_tests source length exact) (set_bounds_result source length)
+    → made ≡ clear_result (set_bounds_checks source length exact) (set_bounds_result source length)
     → exact ≡ false → source.tag ≡ true → is_sealed source.word.0 ≡ false → IsSound source.word.0
     → (made.tag ≡ false) ↔ (IsInside (address_of source.word.0) (address_of source.word.0 + length)
     (base_of source.word.0) (top_of source.word.0) → ⊥)
 untagged_where_beyond source length exact made fits is inexact tagged unsealed sound =
-    let tests = set_bounds_tests source length exact in
+    let checks = set_bounds_checks source length exact in
     let result = set_bounds_result source length in
     let tag_of = λ (cap : Cap). cap.tag in (
       λ lost inside.
-          let same = is ∙ clear_result-none tests result (inside_passes source length exact fits tagged unsealed sound inexact inside) in
+          let same = is ∙ clear_result-none checks result (inside_passes source length exact fits tagged unsealed sound inexact inside) in
           false≢true (sym lost ∙ ap tag_of same ∙ set_bounds_tag source length ∙ tagged),
-      λ outside. ap tag_of (is ∙ clear_result-some tests result _ (first_escapes source length exact fits tagged unsealed sound outside)),
+      λ outside. ap tag_of (is ∙ clear_result-some checks result _ (first_escapes source length exact fits tagged unsealed sound outside)),
     )

@@ -16,10 +16,10 @@ use Rattle.cap_ops.specs.declared.faults.OpFault.TheVariants as faults
 use Rattle.cap_ops.specs.declared.refusal.Refusal.{Refusal}
 use Rattle.cap_ops.specs.declared.refusal.Refusal.TheVariants.{SourceSealed, BoundsEscape, NotExact}
 use Rattle.cap_ops.specs.Authority.{ReachesNoMore, StaysWithin}
-use Rattle.cap_ops.specs.Operations.{covers, is_exact, set_bounds_tests, set_bounds_result, with_word}
+use Rattle.cap_ops.specs.Operations.{covers, is_exact, set_bounds_checks, set_bounds_result, with_word}
 use Rattle.cap_ops.specs.Permissions.{is_sealed}
 use Rattle.cap_ops.specs.Refusals.{refusal_of}
-use Rattle.cap_ops.specs.Tests.{first_of}
+use Rattle.cap_ops.specs.Checks.{first_of}
 use Rattle.cap_ops.proofs.ReplacedFields.{perms_of-high}
 use Rattle.cap_ops.proofs.ReachLemmas.{StaysWithin-words}
 use Rattle.cap_ops.proofs.PermissionLemmas.{IsFewer-same}
@@ -65,8 +65,8 @@ covers-escaping w base length outside = false_from_ne_true (covers w (rounded_ba
 
 -- new bounds that no test refuses leave the source's authority
 pub StaysWithin-set_bounds : (source : Cap) (length : ℕ) (exact : Bool) → length < 2 ^ 64
-    → first_of (set_bounds_tests source length exact) ≡ None → StaysWithin (set_bounds_result source length) source
-unfolding set_bounds_tests set_bounds_result
+    → first_of (set_bounds_checks source length exact) ≡ None → StaysWithin (set_bounds_result source length) source
+unfolding set_bounds_checks set_bounds_result
 StaysWithin-set_bounds source length exact fits h =
     let w = source.word.0 in
     let base = address_of w in
@@ -83,10 +83,10 @@ first_fault : Bool → Bool → Bool → Bool → Option Refusal
 first_fault tagged is_sealed covered rounds = if tagged then (if is_sealed then Some SourceSealed else
     (if not covered then Some BoundsEscape else (if rounds then Some NotExact else None))) else None
 
-first_of-set_bounds : (source : Cap) (length : ℕ) (exact : Bool) → first_of (set_bounds_tests source length exact)
+first_of-set_bounds : (source : Cap) (length : ℕ) (exact : Bool) → first_of (set_bounds_checks source length exact)
     ≡ first_fault source.tag (is_sealed source.word.0) (covers source.word.0 (rounded_base (address_of source.word.0) length)
     (rounded_top (address_of source.word.0) length)) (exact && not (is_exact (address_of source.word.0) length))
-unfolding set_bounds_tests first_fault
+unfolding set_bounds_checks first_fault
 first_of-set_bounds source length exact =
     let w = source.word.0 in
     let base = address_of w in
@@ -111,7 +111,7 @@ held_since true true covered rounds h = cc
 held_since false seal covered rounds h = cc
 
 -- only a tagged, unsealed source meets that test
-pub BoundsEscape-source : (source : Cap) (length : ℕ) (exact : Bool) → first_of (set_bounds_tests source length exact) ≡ Some BoundsEscape
+pub BoundsEscape-source : (source : Cap) (length : ℕ) (exact : Bool) → first_of (set_bounds_checks source length exact) ≡ Some BoundsEscape
     → (source.tag ≡ true) × (is_sealed source.word.0 ≡ false)
 BoundsEscape-source source length exact h =
     held_since source.tag (is_sealed source.word.0) _ _ (sym (first_of-set_bounds source length exact) ∙ h)
@@ -136,7 +136,7 @@ escaped_since false seal covered rounds h = cc
 -- new bounds are refused for themselves exactly where the requested ones do not lie inside a sound source's
 module _ (source : Cap) (length : ℕ) (exact : Bool) (fits : length < 2 ^ 64) (tagged : source.tag ≡ true)
     (unsealed : is_sealed source.word.0 ≡ false) (sound : IsSound source.word.0) where
-  pub escapes_first : first_of (set_bounds_tests source length exact) ≡ Some BoundsEscape
+  pub escapes_first : first_of (set_bounds_checks source length exact) ≡ Some BoundsEscape
       → IsInside (address_of source.word.0) (address_of source.word.0 + length) (base_of source.word.0) (top_of source.word.0) → ⊥
   escapes_first h inside =
       let w = source.word.0 in
@@ -147,7 +147,7 @@ module _ (source : Cap) (length : ℕ) (exact : Bool) (fits : length < 2 ^ 64) (
       (IsInside-rounded w base length fits sound inside))
 
   pub first_escapes : (IsInside (address_of source.word.0) (address_of source.word.0 + length) (base_of source.word.0)
-      (top_of source.word.0) → ⊥) → first_of (set_bounds_tests source length exact) ≡ Some BoundsEscape
+      (top_of source.word.0) → ⊥) → first_of (set_bounds_checks source length exact) ≡ Some BoundsEscape
   first_escapes outside =
       let w = source.word.0 in
       let base = address_of w in
@@ -159,7 +159,7 @@ module _ (source : Cap) (length : ℕ) (exact : Bool) (fits : length < 2 ^ 64) (
   -- requested bounds inside the source's pass, where they may be rounded
   pub inside_passes : exact ≡ false → IsInside (address_of source.word.0) (address_of source.word.0 + length)
       (base_of source.word.0) (top_of source.word.0)
-      → first_of (set_bounds_tests source length exact) ≡ None
+      → first_of (set_bounds_checks source length exact) ≡ None
   inside_passes inexact inside =
       let w = source.word.0 in
       let base = address_of w in
@@ -174,7 +174,7 @@ same_fault faults.BoundsEscape h = refl
 same_fault fault h = cc
 
 pub BoundsEscape-exact : (source : Cap) (length : ℕ) (exact : Bool) (result : Result Cap OpFault) → length < 2 ^ 64
-    → EndsWith result (set_bounds_tests source length exact) (set_bounds_result source length)
+    → EndsWith result (set_bounds_checks source length exact) (set_bounds_result source length)
     → source.tag ≡ true → is_sealed source.word.0 ≡ false → IsSound source.word.0
     → (result ≡ Err faults.BoundsEscape) ↔ (IsInside (address_of source.word.0) (address_of source.word.0 + length)
     (base_of source.word.0) (top_of source.word.0) → ⊥)

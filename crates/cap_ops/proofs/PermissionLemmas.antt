@@ -7,7 +7,7 @@ use Rattle.std.proofs.lemmas.Bool.{eqb-true, eq-eqb}
 use Rattle.std.specs.Prelude.{bit_and, nat_eq}
 use Rattle.std.specs.Int.{bit_at}
 use Rattle.cap_word.specs.Fields.{perms_of, bit_of}
-use Rattle.cap_ops.specs.Permissions.{perm_view_of, perms_from_view, has_permission, global, with_perms}
+use Rattle.cap_ops.specs.Permissions.{perm_view_of, perms_from_view, has_permission, permit_global, with_perms}
 use Rattle.cap_ops.specs.Operations.{perms_with_common_global}
 use Rattle.cap_ops.proofs.ReplacedFields.{perms_of-with_perms}
 
@@ -112,13 +112,13 @@ global_odd w h = omega (arith, eqb-true _ _ h, bit_at_lowest (perm_view_of w))
 
 -- a word with Global only where another has it too has no permission more
 pub IsFewer-common : (x y other : ℕ) → perms_of x ≡ perms_with_common_global y other → IsFewer x y
-IsFewer-common x y other e = by_cases (has_permission y global) (has_permission other global) refl refl where
-  at_bits : (g h : Bool) → has_permission y global ≡ g → has_permission other global ≡ h → perms_of x ≡ perms_of y / 2 * 2 + bit_of (g && h)
+IsFewer-common x y other e = by_cases (has_permission y permit_global) (has_permission other permit_global) refl refl where
+  at_bits : (g h : Bool) → has_permission y permit_global ≡ g → has_permission other permit_global ≡ h → perms_of x ≡ perms_of y / 2 * 2 + bit_of (g && h)
   at_bits g h p q =
-      e ∙ ap (λ (b : Bool). perms_of y / 2 * 2 + bit_of (b && has_permission other global)) p
+      e ∙ ap (λ (b : Bool). perms_of y / 2 * 2 + bit_of (b && has_permission other permit_global)) p
       ∙ ap (λ (b : Bool). perms_of y / 2 * 2 + bit_of (g && b)) q
 
-  by_cases : (g h : Bool) → has_permission y global ≡ g → has_permission other global ≡ h → IsFewer x y
+  by_cases : (g h : Bool) → has_permission y permit_global ≡ g → has_permission other permit_global ≡ h → IsFewer x y
   by_cases true true p q = IsFewer-same x y (omega (arith, at_bits true true p q, global_odd y p))
   by_cases true false p q = IsFewer-even x y (omega (arith, at_bits true false p q))
   by_cases false h p q = IsFewer-even x y (omega (arith, at_bits false h p q))
@@ -136,4 +136,4 @@ bit_of-lt true = omega arith
 bit_of-lt false = omega arith
 
 pub perms_with_common_global-lt : (w other : ℕ) → perms_with_common_global w other < 2 ^ 16
-perms_with_common_global-lt w other = omega (arith, bit_of-lt (has_permission w global && has_permission other global))
+perms_with_common_global-lt w other = omega (arith, bit_of-lt (has_permission w permit_global && has_permission other permit_global))

@@ -6,9 +6,9 @@ use Rattle.std.proofs.lemmas.Nat.Bits.{bit_at_lowest}
 use Rattle.cap_word.specs.declared.word.Cap.{Cap}
 use Rattle.cap_word.specs.Fields.{address_of, bit_of, otype_of, perms_of}
 use Rattle.cap_bounds.specs.Range.{with_address}
-use Rattle.cap_ops.specs.Operations.{seal_tests, seal_result, unseal_tests, unseal_result, set_addr_result, perms_with_common_global}
-use Rattle.cap_ops.specs.Permissions.{has_permission, is_sealed, perm_view_of, with_perms, with_type, global, greatest_type, unsealed_type}
-use Rattle.cap_ops.specs.Tests.{first_of}
+use Rattle.cap_ops.specs.Operations.{seal_checks, seal_result, unseal_checks, unseal_result, set_addr_result, perms_with_common_global}
+use Rattle.cap_ops.specs.Permissions.{has_permission, is_sealed, perm_view_of, with_perms, with_type, permit_global, greatest_type, unsealed_type}
+use Rattle.cap_ops.specs.Checks.{first_of}
 use Rattle.cap_ops.proofs.PermissionLemmas.{perms_with_common_global-lt}
 use Rattle.cap_ops.proofs.ReplacedFields.{perms_of-with_perms, perms_of-with_type}
 use Rattle.cap_ops.proofs.TestLemmas.{none_hold}
@@ -33,12 +33,12 @@ sealed_with_type w otype h =
     ap (λ (t : ℕ). not (t == unsealed_type)) is ∙ ap not (unequal otype unsealed_type (omega arith))
 
 -- the fields of what was sealed
-pub sealed_so : (source authority cap : Cap) → first_of (seal_tests source authority) ≡ None → cap ≡ seal_result source authority
+pub sealed_so : (source authority cap : Cap) → first_of (seal_checks source authority) ≡ None → cap ≡ seal_result source authority
     → IsTrue cap.tag × IsTrue (is_sealed cap.word.0) × (otype_of cap.word.0 ≡ address_of authority.word.0)
     × (address_of cap.word.0 ≡ address_of source.word.0)
-unfolding seal_tests seal_result
+unfolding seal_checks seal_result
 sealed_so source authority cap free is =
-    let none = none_hold (seal_tests source authority) free in
+    let none = none_hold (seal_checks source authority) free in
     let w = source.word.0 in
     let a = address_of authority.word.0 in
     let small : a ≤ greatest_type = ltb-false greatest_type a none.1.1.1.1.0 in
@@ -51,7 +51,7 @@ sealed_so source authority cap free is =
     )
 
 -- Global is the lowest bit of the field
-has_global : (w : ℕ) → has_permission w global ≡ (perms_of w % 2 == 1)
+has_global : (w : ℕ) → has_permission w permit_global ≡ (perms_of w % 2 == 1)
 unfolding has_permission perm_view_of
 has_global w =
     let low : (perms_of w % 2 ^ 12 + perms_of w / 2 ^ 12 * 2 ^ 15) % 2 ≡ perms_of w % 2 = omega arith in
@@ -61,20 +61,20 @@ bit_told : (b : Bool) → (bit_of b == 1) ≡ b
 bit_told true = refl
 bit_told false = refl
 
-common_global : (w other : ℕ) → perms_with_common_global w other % 2 ≡ bit_of (has_permission w global && has_permission other global)
-common_global w other = odd (has_permission w global && has_permission other global) where
+common_global : (w other : ℕ) → perms_with_common_global w other % 2 ≡ bit_of (has_permission w permit_global && has_permission other permit_global)
+common_global w other = odd (has_permission w permit_global && has_permission other permit_global) where
   odd : (b : Bool) → (perms_of w / 2 * 2 + bit_of b) % 2 ≡ bit_of b
   odd true = omega arith
   odd false = omega arith
 
 -- the fields of what was unsealed
-pub unsealed_so : (source authority cap : Cap) → first_of (unseal_tests source authority) ≡ None → cap ≡ unseal_result source authority
+pub unsealed_so : (source authority cap : Cap) → first_of (unseal_checks source authority) ≡ None → cap ≡ unseal_result source authority
     → IsTrue cap.tag × IsFalse (is_sealed cap.word.0)
-    × (has_permission cap.word.0 global ≡ (has_permission source.word.0 global && has_permission authority.word.0 global))
+    × (has_permission cap.word.0 permit_global ≡ (has_permission source.word.0 permit_global && has_permission authority.word.0 permit_global))
     × (address_of cap.word.0 ≡ address_of source.word.0)
-unfolding unseal_tests unseal_result is_sealed
+unfolding unseal_checks unseal_result is_sealed
 unsealed_so source authority cap free is =
-    let none = none_hold (unseal_tests source authority) free in
+    let none = none_hold (unseal_checks source authority) free in
     let w = source.word.0 in
     let other = authority.word.0 in
     let kept = perms_with_common_global w other in

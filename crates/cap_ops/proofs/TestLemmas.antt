@@ -8,38 +8,38 @@ use Rattle.cap_ops.specs.declared.faults.OpFault.{OpFault}
 use Rattle.cap_ops.specs.declared.refusal.Refusal.{Refusal}
 use Rattle.cap_ops.specs.Refusals.{refusal_of}
 use Rattle.cap_ops.specs.Operations.{covers, on_tagged}
-use Rattle.cap_ops.specs.Tests.{first_of}
+use Rattle.cap_ops.specs.Checks.{first_of}
 
 -- no test of a list holds
 abbrev pub NoneHold : {F : Type 0} → List (Bool × F) → Type 0
 NoneHold [] = Unit {0}
-NoneHold (test ∷ tests) = (test.0 ≡ false) × NoneHold tests
+NoneHold (test ∷ checks) = (test.0 ≡ false) × NoneHold checks
 
-head_fails : {F : Type 0} (test : Bool) (fault : F) (tests : List (Bool × F)) → first_of ((test, fault) ∷ tests) ≡ None
-    → (test ≡ false) × (first_of tests ≡ None)
-head_fails true fault tests h = cc
-head_fails false fault tests h = (refl, h)
+head_fails : {F : Type 0} (test : Bool) (fault : F) (checks : List (Bool × F)) → first_of ((test, fault) ∷ checks) ≡ None
+    → (test ≡ false) × (first_of checks ≡ None)
+head_fails true fault checks h = cc
+head_fails false fault checks h = (refl, h)
 
-pub none_hold : {F : Type 0} (tests : List (Bool × F)) → first_of tests ≡ None → NoneHold tests
+pub none_hold : {F : Type 0} (checks : List (Bool × F)) → first_of checks ≡ None → NoneHold checks
 none_hold [] h = tt
-none_hold (test ∷ tests) h = let p = head_fails test.0 test.1 tests h in (p.0, none_hold tests p.1)
+none_hold (test ∷ checks) h = let p = head_fails test.0 test.1 checks h in (p.0, none_hold checks p.1)
 
-if_tagged : {F : Type 0} (tagged : Bool) (tests : List (Bool × F)) → first_of (if tagged then tests else [])
-    ≡ (if tagged then first_of tests else None)
-if_tagged true tests = refl
-if_tagged false tests = refl
+if_tagged : {F : Type 0} (tagged : Bool) (checks : List (Bool × F)) → first_of (if tagged then checks else [])
+    ≡ (if tagged then first_of checks else None)
+if_tagged true checks = refl
+if_tagged false checks = refl
 
 -- a tagged source meets the tests for one, and an untagged one none
-pub first_of-on_tagged : (source : Cap) (tests : List (Bool × Refusal))
-    → first_of (on_tagged source tests) ≡ (if source.tag then first_of tests else None)
-first_of-on_tagged source tests = if_tagged source.tag tests
+pub first_of-on_tagged : (source : Cap) (checks : List (Bool × Refusal))
+    → first_of (on_tagged source checks) ≡ (if source.tag then first_of checks else None)
+first_of-on_tagged source checks = if_tagged source.tag checks
 
-pub on_tagged-true : (source : Cap) (tests : List (Bool × Refusal)) → source.tag ≡ true → first_of (on_tagged source tests) ≡ first_of tests
-on_tagged-true source tests h = first_of-on_tagged source tests ∙ ap (λ (b : Bool). if b then first_of tests else None) h
+pub on_tagged-true : (source : Cap) (checks : List (Bool × Refusal)) → source.tag ≡ true → first_of (on_tagged source checks) ≡ first_of checks
+on_tagged-true source checks h = first_of-on_tagged source checks ∙ ap (λ (b : Bool). if b then first_of checks else None) h
 
-pub none_hold-tagged : (source : Cap) (tests : List (Bool × Refusal)) → source.tag ≡ true
-    → first_of (on_tagged source tests) ≡ None → NoneHold tests
-none_hold-tagged source tests t h = none_hold tests (sym (on_tagged-true source tests t) ∙ h)
+pub none_hold-tagged : (source : Cap) (checks : List (Bool × Refusal)) → source.tag ≡ true
+    → first_of (on_tagged source checks) ≡ None → NoneHold checks
+none_hold-tagged source checks t h = none_hold checks (sym (on_tagged-true source checks t) ∙ h)
 
 -- a word covers what lies inside its bounds
 pub IsInside-covers : (w base top : ℕ) → covers w base top ≡ true → IsInside base top (base_of w) (top_of w)
@@ -52,7 +52,7 @@ covers-inside w base top h = and_from _ _ (le-leb _ _ h.0) (le-leb _ _ h.1)
 
 -- how a call ends that answers the first test that holds, or a capability where none does
 abbrev pub EndsWith : Result Cap OpFault → List (Bool × Refusal) → Cap → Type 0
-EndsWith result tests cap = MatchResult result (λ made. (first_of tests ≡ None) × (made ≡ cap)) (λ fault. first_of tests ≡ Some (refusal_of fault))
+EndsWith result checks cap = MatchResult result (λ made. (first_of checks ≡ None) × (made ≡ cap)) (λ fault. first_of checks ≡ Some (refusal_of fault))
 
 -- where no test of a first list holds, the first of both is the second's
 pub first_of-append_none : {F : Type 0} (xs ys : List (Bool × F)) → first_of xs ≡ None → first_of (xs ++ ys) ≡ first_of ys

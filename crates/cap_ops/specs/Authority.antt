@@ -4,8 +4,7 @@ use Rattle.cap_word.specs.declared.word.Cap.{Cap}
 use Rattle.cap_bounds.specs.Bounds.{base_of, top_of, IsInside, IsSound}
 use Rattle.cap_ops.specs.Permissions.{has_permission}
 
--- a word reaches no more than another: its bounds lie inside the other's, and it has no permission that
--- the other lacks
+-- a word reaches no more than another: its bounds lie inside, and it has no permission that the other lacks
 pub record ReachesNoMore (word other : ℕ) : Type 0 where
   pub inside : IsInside (base_of word) (top_of word) (base_of other) (top_of other)
   pub fewer : (permission : ℕ) → IsTrue (has_permission word permission) → IsTrue (has_permission other permission)

@@ -1,9 +1,9 @@
 pub mod Accesses
 pub mod Authority
+pub mod Checks
 pub mod Faults
 pub mod Operations
 pub mod Permissions
 pub mod Refusals
 pub mod Roots
 pub mod Sizes
-pub mod Tests

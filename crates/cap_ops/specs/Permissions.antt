@@ -9,7 +9,7 @@ use Rattle.cap_word.specs.Fields.{perms_of, otype_of}
 unfoldable pub perm_view_of : ℕ → ℕ
 perm_view_of w = perms_of w % 2 ^ 12 + perms_of w / 2 ^ 12 * 2 ^ 15
 
--- the field with the permissions of a view: bits 12..14 and those from 19 on stand for none
+-- the field with the permissions of a view: bits 12 to 14, and from 19 on, stand for none
 unfoldable pub perms_from_view : ℕ → ℕ
 perms_from_view view = view % 2 ^ 12 + view / 2 ^ 15 % 2 ^ 4 * 2 ^ 12
 
@@ -18,8 +18,8 @@ unfoldable pub has_permission : ℕ → ℕ → Bool
 has_permission w permission = bit_at (perm_view_of w) permission == 1
 
 -- Global: the capability may be stored anywhere
-abbrev pub global : ℕ
-global = 0
+abbrev pub permit_global : ℕ
+permit_global = 0
 
 -- Load: data may be read
 abbrev pub permit_load : ℕ
@@ -53,7 +53,7 @@ permit_unseal = 9
 abbrev pub unsealed_type : ℕ
 unsealed_type = 0x3ffff
 
--- the greatest object type for sealing; those above it are reserved (Sail CHERI-RISC-V: `cap_max_otype`)
+-- the greatest object type that `seal` gives; those above it are reserved (Sail CHERI-RISC-V: `cap_max_otype`)
 abbrev pub greatest_type : ℕ
 greatest_type = 0x3fffb
 

@@ -1,14 +1,14 @@
 //! Accesses to memory through an authority.
 
 ghost use Rattle.std.specs.Prelude.{◌≡◌, ◌<◌, ◌≤◌, ◌%◌, ◌+◌, ◌↔◌, None, Some, true, MatchResult, IfOk, IsTrue, option_map};
-ghost use Rattle.cap_ops.specs.Accesses.{IsAllowed, access_address, access_tests, loaded_result};
-ghost use Rattle.cap_ops.specs.Accesses.{permission_for, stored_tests};
+ghost use Rattle.cap_ops.specs.Accesses.{IsAllowed, access_address, access_checks, loaded_result};
+ghost use Rattle.cap_ops.specs.Accesses.{permission_for, stored_checks};
 ghost use Rattle.cap_bounds.specs.Bounds.{IsSound};
 ghost use Rattle.cap_ops.specs.Authority.{StaysWithin};
 ghost use Rattle.cap_ops.specs.Operations.{covers};
 ghost use Rattle.cap_ops.specs.Sizes.{size_fits};
 ghost use Rattle.cap_ops.specs.Refusals.{refusal_of};
-ghost use Rattle.cap_ops.specs.Tests.{first_of};
+ghost use Rattle.cap_ops.specs.Checks.{first_of};
 
 use crate::access::Access;
 use crate::bits::{
@@ -59,7 +59,7 @@ fn is_aligned(address: u64, access: Access) -> bool
 /// The first test that refuses to store a capability.
 #[inline(always)]
 fn stored_fault(authority: Word, kind: Kind) -> Option<OpFault>
-    ensures { option_map refusal_of result ≡ first_of (stored_tests authority.0 kind) }
+    ensures { option_map refusal_of result ≡ first_of (stored_checks authority.0 kind) }
 {
     let Kind::StoreCap(stored) = kind else {
         return None;
@@ -85,12 +85,12 @@ fn target_of(authority: Word, offset: i16) -> u64
 }
 
 /// The first test that refuses an access at an address.
-#[tactic(auto, unfolding(crate::specs::Accesses::access_tests))]
+#[tactic(auto, unfolding(crate::specs::Accesses::access_checks))]
 #[inline(always)]
 fn access_fault<const SOUND: bool>(authority: Cap, access: Access, address: u64) -> Option<OpFault>
     requires sound { SOUND ≡ true → IsTrue authority.tag → IsSound authority.word.0 }
     requires address { address ≡ access_address authority.word.0 access.offset }
-    ensures { option_map refusal_of result ≡ first_of (access_tests authority access.kind access.offset access.size) }
+    ensures { option_map refusal_of result ≡ first_of (access_checks authority access.kind access.offset access.size) }
 {
     let word = authority.word;
     if !authority.tag {
@@ -117,9 +117,9 @@ fn access_fault<const SOUND: bool>(authority: Cap, access: Access, address: u64)
 #[inline(always)]
 pub fn may_access(authority: Cap, access: Access) -> Result<u64, OpFault>
     ensures outcome { MatchResult result
-        (λ address. (first_of (access_tests authority access.kind access.offset access.size) ≡ None)
+        (λ address. (first_of (access_checks authority access.kind access.offset access.size) ≡ None)
         × (address ≡ access_address authority.word.0 access.offset))
-        (λ fault. first_of (access_tests authority access.kind access.offset access.size) ≡ Some (refusal_of fault)) }
+        (λ fault. first_of (access_checks authority access.kind access.offset access.size) ≡ Some (refusal_of fault)) }
     ensures allowed { IfOk result (λ address. IsAllowed authority.word.0 address access.size (permission_for access.kind)) }
     ensures in_one_granule { IfOk result (λ address. address % 16 + access.size ≤ 16) }
 {
@@ -132,9 +132,9 @@ pub fn may_access(authority: Cap, access: Access) -> Result<u64, OpFault>
 pub fn may_access_soundly(authority: Cap, access: Access) -> Result<u64, OpFault>
     requires sound { IsTrue authority.tag → IsSound authority.word.0 }
     ensures outcome { MatchResult result
-        (λ address. (first_of (access_tests authority access.kind access.offset access.size) ≡ None)
+        (λ address. (first_of (access_checks authority access.kind access.offset access.size) ≡ None)
         × (address ≡ access_address authority.word.0 access.offset))
-        (λ fault. first_of (access_tests authority access.kind access.offset access.size) ≡ Some (refusal_of fault)) }
+        (λ fault. first_of (access_checks authority access.kind access.offset access.size) ≡ Some (refusal_of fault)) }
     ensures allowed { IfOk result (λ address. IsAllowed authority.word.0 address access.size (permission_for access.kind)) }
     ensures in_one_granule { IfOk result (λ address. address % 16 + access.size ≤ 16) }
 {
@@ -146,9 +146,9 @@ pub fn may_access_soundly(authority: Cap, access: Access) -> Result<u64, OpFault
 fn access_by<const SOUND: bool>(authority: Cap, access: Access) -> Result<u64, OpFault>
     requires sound { SOUND ≡ true → IsTrue authority.tag → IsSound authority.word.0 }
     ensures outcome { MatchResult result
-        (λ address. (first_of (access_tests authority access.kind access.offset access.size) ≡ None)
+        (λ address. (first_of (access_checks authority access.kind access.offset access.size) ≡ None)
         × (address ≡ access_address authority.word.0 access.offset))
-        (λ fault. first_of (access_tests authority access.kind access.offset access.size) ≡ Some (refusal_of fault)) }
+        (λ fault. first_of (access_checks authority access.kind access.offset access.size) ≡ Some (refusal_of fault)) }
     ensures allowed { IfOk result (λ address. IsAllowed authority.word.0 address access.size (permission_for access.kind)) }
     ensures in_one_granule { IfOk result (λ address. address % 16 + access.size ≤ 16) }
 {

@@ -5,10 +5,10 @@ ghost use Rattle.cap_word.specs.Fields.{address_of};
 ghost use Rattle.cap_bounds.specs.Bounds.{base_of, top_of};
 ghost use Rattle.cap_bounds.specs.Range.{IsRepresentable, with_address};
 ghost use Rattle.cap_ops.specs.Authority.{StaysWithin};
-ghost use Rattle.cap_ops.specs.Operations.{is_kept_at, set_addr_result, set_addr_tests};
+ghost use Rattle.cap_ops.specs.Operations.{is_kept_at, set_addr_result, set_addr_checks};
 ghost use Rattle.cap_ops.specs.Permissions.{is_sealed};
 ghost use Rattle.cap_ops.specs.Refusals.{refusal_of};
-ghost use Rattle.cap_ops.specs.Tests.{first_of};
+ghost use Rattle.cap_ops.specs.Checks.{first_of};
 
 use crate::faults::OpFault;
 use crate::sealing::sealed;
@@ -30,9 +30,9 @@ fn replace_address(word: Word, address: u64) -> Word
 }
 
 /// The first test that refuses a new address.
-#[tactic(auto, unfolding(crate::specs::Operations::set_addr_tests))]
+#[tactic(auto, unfolding(crate::specs::Operations::set_addr_checks))]
 fn set_addr_fault(source: Cap, address: u64) -> Option<OpFault>
-    ensures { option_map refusal_of result ≡ first_of (set_addr_tests source address) }
+    ensures { option_map refusal_of result ≡ first_of (set_addr_checks source address) }
 {
     if !source.tag {
         None
@@ -62,8 +62,8 @@ pub(crate) fn moved(source: Cap, address: u64) -> Cap
 /// exactly outside its representable range, and so never from its base to its top.
 pub fn set_addr(source: Cap, address: u64) -> Result<Cap, OpFault>
     ensures outcome { MatchResult result
-        (λ cap. (first_of (set_addr_tests source address) ≡ None) × (cap ≡ set_addr_result source address))
-        (λ fault. first_of (set_addr_tests source address) ≡ Some (refusal_of fault)) }
+        (λ cap. (first_of (set_addr_checks source address) ≡ None) × (cap ≡ set_addr_result source address))
+        (λ fault. first_of (set_addr_checks source address) ≡ Some (refusal_of fault)) }
     ensures moved_so { IfOk result (λ cap. (cap.tag ≡ source.tag) × (address_of cap.word.0 ≡ address)) }
     ensures stays_within { IfOk result (λ cap. StaysWithin cap source) }
     ensures range { IsTrue source.tag → IsFalse (is_sealed source.word.0)

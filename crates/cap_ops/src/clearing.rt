@@ -7,10 +7,10 @@ ghost use Rattle.cap_word.specs.Fields.{address_of};
 ghost use Rattle.cap_bounds.specs.Bounds.{IsInside, IsSound, base_of, top_of};
 ghost use Rattle.cap_ops.specs.Authority.{StaysWithin};
 ghost use Rattle.cap_ops.specs.Permissions.{is_sealed};
-ghost use Rattle.cap_ops.specs.Operations.{Clears, IsStrictWhereTagged, and_perm_result, and_perm_tests};
-ghost use Rattle.cap_ops.specs.Operations.{clear_result, seal_result, seal_tests, set_addr_result};
-ghost use Rattle.cap_ops.specs.Operations.{set_addr_tests, set_bounds_result, set_bounds_tests};
-ghost use Rattle.cap_ops.specs.Operations.{unseal_result, unseal_tests};
+ghost use Rattle.cap_ops.specs.Operations.{Clears, IsStrictWhereTagged, and_perm_result, and_perm_checks};
+ghost use Rattle.cap_ops.specs.Operations.{clear_result, seal_result, seal_checks, set_addr_result};
+ghost use Rattle.cap_ops.specs.Operations.{set_addr_checks, set_bounds_result, set_bounds_checks};
+ghost use Rattle.cap_ops.specs.Operations.{unseal_result, unseal_checks};
 
 use crate::addresses::{moved, set_addr};
 use crate::faults::OpFault;
@@ -35,8 +35,8 @@ fn or_cleared(outcome: Result<Cap, OpFault>, unchecked: Cap) -> Cap
 // Never inlined, so that the path by strict rules stands alone where a judge makes a step.
 #[inline(never)]
 pub fn set_bounds_clear(source: Cap, length: u64, exact: bool) -> Cap
-    ensures result_is { result ≡ clear_result (set_bounds_tests source length exact) (set_bounds_result source length) }
-    ensures strict { IsStrictWhereTagged (set_bounds_tests source length exact) (set_bounds_result source length) result }
+    ensures result_is { result ≡ clear_result (set_bounds_checks source length exact) (set_bounds_result source length) }
+    ensures strict { IsStrictWhereTagged (set_bounds_checks source length exact) (set_bounds_result source length) result }
     ensures stays_within { StaysWithin result source }
     ensures escape { exact ≡ false → IsTrue source.tag → IsFalse (is_sealed source.word.0) → IsSound source.word.0
         → IsFalse result.tag ↔ (¬ IsInside (address_of source.word.0)
@@ -50,8 +50,8 @@ pub fn set_bounds_clear(source: Cap, length: u64, exact: bool) -> Cap
 // Never inlined, for the same reason.
 #[inline(never)]
 pub fn set_addr_clear(source: Cap, address: u64) -> Cap
-    ensures result_is { result ≡ clear_result (set_addr_tests source address) (set_addr_result source address) }
-    ensures strict { IsStrictWhereTagged (set_addr_tests source address) (set_addr_result source address) result }
+    ensures result_is { result ≡ clear_result (set_addr_checks source address) (set_addr_result source address) }
+    ensures strict { IsStrictWhereTagged (set_addr_checks source address) (set_addr_result source address) result }
     ensures stays_within { StaysWithin result source }
 {
     or_cleared(set_addr(source, address), moved(source, address))
@@ -62,8 +62,8 @@ pub fn set_addr_clear(source: Cap, address: u64) -> Cap
 // Never inlined, for the same reason.
 #[inline(never)]
 pub fn and_perm_clear(source: Cap, mask: u64) -> Cap
-    ensures result_is { result ≡ clear_result (and_perm_tests source) (and_perm_result source mask) }
-    ensures strict { IsStrictWhereTagged (and_perm_tests source) (and_perm_result source mask) result }
+    ensures result_is { result ≡ clear_result (and_perm_checks source) (and_perm_result source mask) }
+    ensures strict { IsStrictWhereTagged (and_perm_checks source) (and_perm_result source mask) result }
     ensures stays_within { StaysWithin result source }
 {
     or_cleared(and_perm(source, mask), masked(source, mask))
@@ -74,8 +74,8 @@ pub fn and_perm_clear(source: Cap, mask: u64) -> Cap
 // Never inlined, for the same reason.
 #[inline(never)]
 pub fn seal_clear(source: Cap, authority: Cap) -> Cap
-    ensures result_is { result ≡ clear_result (seal_tests source authority) (seal_result source authority) }
-    ensures strict { IsStrictWhereTagged (seal_tests source authority) (seal_result source authority) result }
+    ensures result_is { result ≡ clear_result (seal_checks source authority) (seal_result source authority) }
+    ensures strict { IsStrictWhereTagged (seal_checks source authority) (seal_result source authority) result }
     ensures stays_within { StaysWithin result source }
 {
     or_cleared(
@@ -89,8 +89,8 @@ pub fn seal_clear(source: Cap, authority: Cap) -> Cap
 // Never inlined, for the same reason.
 #[inline(never)]
 pub fn unseal_clear(source: Cap, authority: Cap) -> Cap
-    ensures result_is { result ≡ clear_result (unseal_tests source authority) (unseal_result source authority) }
-    ensures strict { IsStrictWhereTagged (unseal_tests source authority) (unseal_result source authority) result }
+    ensures result_is { result ≡ clear_result (unseal_checks source authority) (unseal_result source authority) }
+    ensures strict { IsStrictWhereTagged (unseal_checks source authority) (unseal_result source authority) result }
     ensures stays_within { StaysWithin result source }
 {
     or_cleared(unseal(source, authority), without_type(source, authority))

@@ -5,10 +5,10 @@ ghost use Rattle.cap_word.specs.Fields.{address_of};
 ghost use Rattle.cap_bounds.specs.Bounds.{IsInside, IsSound, base_of, top_of};
 ghost use Rattle.cap_bounds.specs.Rounding.{HasRounding, rounded_base, rounded_top};
 ghost use Rattle.cap_ops.specs.Authority.{StaysWithin};
-ghost use Rattle.cap_ops.specs.Operations.{covers, is_exact, set_bounds_result, set_bounds_tests};
+ghost use Rattle.cap_ops.specs.Operations.{covers, is_exact, set_bounds_result, set_bounds_checks};
 ghost use Rattle.cap_ops.specs.Permissions.{is_sealed};
 ghost use Rattle.cap_ops.specs.Refusals.{refusal_of};
-ghost use Rattle.cap_ops.specs.Tests.{first_of};
+ghost use Rattle.cap_ops.specs.Checks.{first_of};
 
 use crate::faults::OpFault;
 use crate::sealing::sealed;
@@ -36,13 +36,13 @@ fn rounding_of(word: Word, length: u64) -> Rounded
 }
 
 /// The rounding of the length from the source's address on, or the first check that refuses it.
-#[tactic(auto, unfolding(crate::specs::Operations::set_bounds_tests))]
+#[tactic(auto, unfolding(crate::specs::Operations::set_bounds_checks))]
 #[inline(always)]
 fn permitted(source: Cap, length: u64, exact: bool) -> Result<Rounded, OpFault>
     ensures { MatchResult result
-        (λ rounded. (first_of (set_bounds_tests source length exact) ≡ None)
+        (λ rounded. (first_of (set_bounds_checks source length exact) ≡ None)
         × HasRounding rounded.ie rounded.e rounded.b rounded.t (address_of source.word.0) length)
-        (λ fault. first_of (set_bounds_tests source length exact) ≡ Some (refusal_of fault)) }
+        (λ fault. first_of (set_bounds_checks source length exact) ≡ Some (refusal_of fault)) }
 {
     let rounded = rounding_of(source.word, length);
     if !source.tag {
@@ -79,16 +79,16 @@ fn rounding_inside(word: Word, length: u64) -> Option<Rounded>
 }
 
 /// As [`permitted`], for a tagged source with a sound word and a length above 0, computed in 64 bits.
-#[tactic(auto, unfolding(crate::specs::Operations::set_bounds_tests))]
+#[tactic(auto, unfolding(crate::specs::Operations::set_bounds_checks))]
 #[inline(always)]
 fn permitted_soundly(source: Cap, length: u64, exact: bool) -> Result<Rounded, OpFault>
     requires tagged { IsTrue source.tag }
     requires sound { IsSound source.word.0 }
     requires some { 0 < length }
     ensures { MatchResult result
-        (λ rounded. (first_of (set_bounds_tests source length exact) ≡ None)
+        (λ rounded. (first_of (set_bounds_checks source length exact) ≡ None)
         × HasRounding rounded.ie rounded.e rounded.b rounded.t (address_of source.word.0) length)
-        (λ fault. first_of (set_bounds_tests source length exact) ≡ Some (refusal_of fault)) }
+        (λ fault. first_of (set_bounds_checks source length exact) ≡ Some (refusal_of fault)) }
 {
     if sealed(source.word) {
         return Err(OpFault::SourceSealed);
@@ -116,9 +116,9 @@ fn permitted_by<const SOUND: bool>(
     requires sound { SOUND ≡ true → IsSound source.word.0 }
     requires some { SOUND ≡ true → 0 < length }
     ensures { MatchResult result
-        (λ rounded. (first_of (set_bounds_tests source length exact) ≡ None)
+        (λ rounded. (first_of (set_bounds_checks source length exact) ≡ None)
         × HasRounding rounded.ie rounded.e rounded.b rounded.t (address_of source.word.0) length)
-        (λ fault. first_of (set_bounds_tests source length exact) ≡ Some (refusal_of fault)) }
+        (λ fault. first_of (set_bounds_checks source length exact) ≡ Some (refusal_of fault)) }
 {
     if SOUND {
         permitted_soundly(source, length, exact)
@@ -136,8 +136,8 @@ fn permitted_by<const SOUND: bool>(
 #[inline(always)]
 pub fn set_bounds(source: Cap, length: u64, exact: bool) -> Result<Cap, OpFault>
     ensures outcome { MatchResult result
-        (λ cap. (first_of (set_bounds_tests source length exact) ≡ None) × (cap ≡ set_bounds_result source length))
-        (λ fault. first_of (set_bounds_tests source length exact) ≡ Some (refusal_of fault)) }
+        (λ cap. (first_of (set_bounds_checks source length exact) ≡ None) × (cap ≡ set_bounds_result source length))
+        (λ fault. first_of (set_bounds_checks source length exact) ≡ Some (refusal_of fault)) }
     ensures stays_within { IfOk result (λ cap. StaysWithin cap source) }
     ensures escape { IsTrue source.tag → IsFalse (is_sealed source.word.0) → IsSound source.word.0
         → (result ≡ Err OpFault.BoundsEscape) ↔ (¬ IsInside (address_of source.word.0)
@@ -152,8 +152,8 @@ pub fn set_bounds(source: Cap, length: u64, exact: bool) -> Result<Cap, OpFault>
 pub fn set_bounds_soundly(source: Cap, length: u64, exact: bool) -> Result<Cap, OpFault>
     requires sound { IsTrue source.tag → IsSound source.word.0 }
     ensures outcome { MatchResult result
-        (λ cap. (first_of (set_bounds_tests source length exact) ≡ None) × (cap ≡ set_bounds_result source length))
-        (λ fault. first_of (set_bounds_tests source length exact) ≡ Some (refusal_of fault)) }
+        (λ cap. (first_of (set_bounds_checks source length exact) ≡ None) × (cap ≡ set_bounds_result source length))
+        (λ fault. first_of (set_bounds_checks source length exact) ≡ Some (refusal_of fault)) }
     ensures stays_within { IfOk result (λ cap. StaysWithin cap source) }
     ensures escape { IsTrue source.tag → IsFalse (is_sealed source.word.0) → IsSound source.word.0
         → (result ≡ Err OpFault.BoundsEscape) ↔ (¬ IsInside (address_of source.word.0)
@@ -171,8 +171,8 @@ pub fn set_bounds_soundly(source: Cap, length: u64, exact: bool) -> Result<Cap, 
 #[inline(always)]
 fn set_bounds_apart(source: Cap, length: u64, exact: bool) -> Result<Cap, OpFault>
     ensures outcome { MatchResult result
-        (λ cap. (first_of (set_bounds_tests source length exact) ≡ None) × (cap ≡ set_bounds_result source length))
-        (λ fault. first_of (set_bounds_tests source length exact) ≡ Some (refusal_of fault)) }
+        (λ cap. (first_of (set_bounds_checks source length exact) ≡ None) × (cap ≡ set_bounds_result source length))
+        (λ fault. first_of (set_bounds_checks source length exact) ≡ Some (refusal_of fault)) }
     ensures stays_within { IfOk result (λ cap. StaysWithin cap source) }
     ensures escape { IsTrue source.tag → IsFalse (is_sealed source.word.0) → IsSound source.word.0
         → (result ≡ Err OpFault.BoundsEscape) ↔ (¬ IsInside (address_of source.word.0)
@@ -189,8 +189,8 @@ fn set_bounds_apart(source: Cap, length: u64, exact: bool) -> Result<Cap, OpFaul
 #[inline(never)]
 fn set_bounds_called(source: Cap, length: u64, exact: bool) -> Result<Cap, OpFault>
     ensures outcome { MatchResult result
-        (λ cap. (first_of (set_bounds_tests source length exact) ≡ None) × (cap ≡ set_bounds_result source length))
-        (λ fault. first_of (set_bounds_tests source length exact) ≡ Some (refusal_of fault)) }
+        (λ cap. (first_of (set_bounds_checks source length exact) ≡ None) × (cap ≡ set_bounds_result source length))
+        (λ fault. first_of (set_bounds_checks source length exact) ≡ Some (refusal_of fault)) }
     ensures stays_within { IfOk result (λ cap. StaysWithin cap source) }
     ensures escape { IsTrue source.tag → IsFalse (is_sealed source.word.0) → IsSound source.word.0
         → (result ≡ Err OpFault.BoundsEscape) ↔ (¬ IsInside (address_of source.word.0)
@@ -206,8 +206,8 @@ fn narrowed_by<const SOUND: bool>(source: Cap, length: u64, exact: bool) -> Resu
     requires sound { SOUND ≡ true → IsSound source.word.0 }
     requires some { SOUND ≡ true → 0 < length }
     ensures outcome { MatchResult result
-        (λ cap. (first_of (set_bounds_tests source length exact) ≡ None) × (cap ≡ set_bounds_result source length))
-        (λ fault. first_of (set_bounds_tests source length exact) ≡ Some (refusal_of fault)) }
+        (λ cap. (first_of (set_bounds_checks source length exact) ≡ None) × (cap ≡ set_bounds_result source length))
+        (λ fault. first_of (set_bounds_checks source length exact) ≡ Some (refusal_of fault)) }
     ensures stays_within { IfOk result (λ cap. StaysWithin cap source) }
     ensures escape { IsTrue source.tag → IsFalse (is_sealed source.word.0) → IsSound source.word.0
         → (result ≡ Err OpFault.BoundsEscape) ↔ (¬ IsInside (address_of source.word.0)

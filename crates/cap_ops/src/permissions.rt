@@ -2,10 +2,10 @@
 
 ghost use Rattle.std.specs.Prelude.{◌≡◌, None, Some, MatchResult, IfOk, bit_and, option_map};
 ghost use Rattle.cap_ops.specs.Authority.{StaysWithin};
-ghost use Rattle.cap_ops.specs.Operations.{and_perm_result, and_perm_tests, cleared};
+ghost use Rattle.cap_ops.specs.Operations.{and_perm_result, and_perm_checks, cleared};
 ghost use Rattle.cap_ops.specs.Permissions.{perm_view_of, perms_from_view};
 ghost use Rattle.cap_ops.specs.Refusals.{refusal_of};
-ghost use Rattle.cap_ops.specs.Tests.{first_of};
+ghost use Rattle.cap_ops.specs.Checks.{first_of};
 
 use crate::bits::replace_permissions;
 use crate::faults::OpFault;
@@ -40,9 +40,9 @@ pub fn clear_tag(source: Cap) -> Cap
 }
 
 /// The first test that refuses to take permissions from a source.
-#[tactic(auto, unfolding(crate::specs::Operations::and_perm_tests))]
+#[tactic(auto, unfolding(crate::specs::Operations::and_perm_checks))]
 fn and_perm_fault(source: Cap) -> Option<OpFault>
-    ensures { option_map refusal_of result ≡ first_of (and_perm_tests source) }
+    ensures { option_map refusal_of result ≡ first_of (and_perm_checks source) }
 {
     if source.tag && sealed(source.word) {
         Some(OpFault::SourceSealed)
@@ -68,8 +68,8 @@ pub(crate) fn masked(source: Cap, mask: u64) -> Cap
 /// A tagged source that is sealed is refused, as `SourceSealed`.
 pub fn and_perm(source: Cap, mask: u64) -> Result<Cap, OpFault>
     ensures outcome { MatchResult result
-        (λ cap. (first_of (and_perm_tests source) ≡ None) × (cap ≡ and_perm_result source mask))
-        (λ fault. first_of (and_perm_tests source) ≡ Some (refusal_of fault)) }
+        (λ cap. (first_of (and_perm_checks source) ≡ None) × (cap ≡ and_perm_result source mask))
+        (λ fault. first_of (and_perm_checks source) ≡ Some (refusal_of fault)) }
     ensures view { IfOk result (λ cap. perm_view_of cap.word.0 ≡ bit_and (perm_view_of source.word.0) mask) }
     ensures stays_within { IfOk result (λ cap. StaysWithin cap source) }
 {

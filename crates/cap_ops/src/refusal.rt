@@ -13,8 +13,8 @@ pub enum Refusal {
     LineTooLong = 2,
     /// 3: A line after the header has none of the forms of the log's version.
     BadLine = 3,
-    /// 4: A root after a step, a second version line, in version 2 a second mode line, or anything after the
-    /// end line.
+    /// 4: A root after a step; a second version line; in version 2 a second mode line; any byte after the end
+    /// line.
     Misplaced = 4,
     /// 5: The bytes end before a line feed, or before the end line.
     Truncated = 5,
@@ -24,15 +24,15 @@ pub enum Refusal {
     PlaceTaken = 7,
     /// 8: The root's word is not sound.
     UnsoundRoot = 8,
-    /// 9: The source has no tag, where the step needs one.
+    /// 9: The source is untagged, and the step needs a tagged one.
     SourceUntagged = 9,
-    /// 10: The source is sealed, where the step needs an unsealed one.
+    /// 10: The source is sealed, and the step needs an unsealed one.
     SourceSealed = 10,
     /// 11: The rounded bounds do not lie inside the source's bounds.
     BoundsEscape = 11,
-    /// 12: The requested bounds cannot be had exactly.
+    /// 12: Rounding changes the requested bounds.
     NotExact = 12,
-    /// 13: The new address does not keep the bounds.
+    /// 13: The new address doesn't keep the source's bounds.
     NotRepresentable = 13,
     /// 14: The authority has no tag.
     AuthorityUntagged = 14,
@@ -40,11 +40,11 @@ pub enum Refusal {
     AuthoritySealed = 15,
     /// 16: The authority lacks the permission that the step needs.
     AuthorityPermission = 16,
-    /// 17: The address or the access does not lie inside the authority's bounds.
+    /// 17: The authority's address, or a byte of the access, lies outside the authority's bounds.
     AuthorityBounds = 17,
     /// 18: The authority's address is above the greatest ordinary object type.
     TypeOutOfRange = 18,
-    /// 19: The source's object type is not the authority's address, or is no ordinary type.
+    /// 19: The source's object type is not the authority's address, or is reserved.
     TypeMismatch = 19,
     /// 20: The address of the access is no multiple of its size.
     Misaligned = 20,
@@ -52,7 +52,7 @@ pub enum Refusal {
     StoreCapPermission = 21,
     /// 22: A tagged capability that is not Global is stored without Store Local Capability.
     StoreLocalPermission = 22,
-    /// 23: The recorded result or value is not the one that the machine has.
+    /// 23: The recorded result or value is not the machine's.
     WrongResult = 23,
     /// 24: A limit on roots, granules or steps is passed.
     LimitPassed = 24,
@@ -61,7 +61,7 @@ pub enum Refusal {
 }
 
 impl Refusal {
-    ghost use Rattle.cap_ops.specs.Refusals.{name_of, refusal_number};
+    ghost use Rattle.cap_ops.specs.Refusals.{refusal_name, refusal_number};
 
     /// The number that a verdict line shows, 1 to 25.
     pub fn number(&self) -> u8
@@ -73,7 +73,7 @@ impl Refusal {
 
     /// The name that a verdict line shows, as the variant is spelled.
     pub fn name(&self) -> &'static str
-        ensures name { result.now ≡ name_of self.now }
+        ensures name { result.now ≡ refusal_name self.now }
         ensures short { length result.now ≤ 20 }
     {
         match self {

@@ -4,11 +4,11 @@ ghost use Rattle.std.specs.Prelude.{◌≡◌, ◌+◌, ◌<◌, ◌==◌, ◌&&
 ghost use Rattle.cap_word.specs.Fields.{address_of, otype_of};
 ghost use Rattle.cap_ops.specs.Authority.{StaysWithin};
 ghost use Rattle.cap_ops.specs.Operations.{covers, perms_with_common_global};
-ghost use Rattle.cap_ops.specs.Operations.{seal_result, seal_tests, type_authority_tests, unseal_result};
-ghost use Rattle.cap_ops.specs.Operations.{unseal_tests};
-ghost use Rattle.cap_ops.specs.Permissions.{global, greatest_type, has_permission, is_sealed};
+ghost use Rattle.cap_ops.specs.Operations.{seal_result, seal_checks, type_authority_checks, unseal_result};
+ghost use Rattle.cap_ops.specs.Operations.{unseal_checks};
+ghost use Rattle.cap_ops.specs.Permissions.{greatest_type, has_permission, is_sealed, permit_global};
 ghost use Rattle.cap_ops.specs.Refusals.{refusal_of};
-ghost use Rattle.cap_ops.specs.Tests.{first_of};
+ghost use Rattle.cap_ops.specs.Checks.{first_of};
 
 use crate::bits::{GLOBAL, PERMIT_SEAL, PERMIT_UNSEAL, permits, replace_permissions, replace_type};
 use crate::faults::OpFault;
@@ -42,7 +42,7 @@ fn holds(word: Word, address: u64) -> bool
 #[inline(always)]
 fn authority_fault(authority: Cap, permission: u32) -> Option<OpFault>
     requires { permission < 12 }
-    ensures { option_map refusal_of result ≡ first_of (type_authority_tests authority permission) }
+    ensures { option_map refusal_of result ≡ first_of (type_authority_checks authority permission) }
 {
     let word = authority.word;
     if !authority.tag {
@@ -59,10 +59,10 @@ fn authority_fault(authority: Cap, permission: u32) -> Option<OpFault>
 }
 
 /// The first test that refuses a sealing.
-#[tactic(auto, unfolding(crate::specs::Operations::seal_tests))]
+#[tactic(auto, unfolding(crate::specs::Operations::seal_checks))]
 #[inline(always)]
 fn seal_fault(source: Cap, authority: Cap) -> Option<OpFault>
-    ensures { option_map refusal_of result ≡ first_of (seal_tests source authority) }
+    ensures { option_map refusal_of result ≡ first_of (seal_checks source authority) }
 {
     if let Some(fault) = authority_fault(authority, PERMIT_SEAL) {
         return Some(fault);
@@ -98,8 +98,8 @@ pub(crate) fn with_authority_type(source: Cap, authority: Cap) -> Cap
 #[inline(always)]
 pub fn seal(source: Cap, authority: Cap) -> Result<Cap, OpFault>
     ensures outcome { MatchResult result
-        (λ cap. (first_of (seal_tests source authority) ≡ None) × (cap ≡ seal_result source authority))
-        (λ fault. first_of (seal_tests source authority) ≡ Some (refusal_of fault)) }
+        (λ cap. (first_of (seal_checks source authority) ≡ None) × (cap ≡ seal_result source authority))
+        (λ fault. first_of (seal_checks source authority) ≡ Some (refusal_of fault)) }
     ensures sealed_so { IfOk result (λ cap. IsTrue cap.tag × IsTrue (is_sealed cap.word.0)
         × (otype_of cap.word.0 ≡ address_of authority.word.0) × (address_of cap.word.0 ≡ address_of source.word.0)) }
     ensures stays_within { IfOk result (λ cap. StaysWithin cap source) }
@@ -120,10 +120,10 @@ fn sealed_with(word: Word, address: u64) -> bool
 }
 
 /// The first test that refuses an unsealing.
-#[tactic(auto, unfolding(crate::specs::Operations::unseal_tests))]
+#[tactic(auto, unfolding(crate::specs::Operations::unseal_checks))]
 #[inline(always)]
 fn unseal_fault(source: Cap, authority: Cap) -> Option<OpFault>
-    ensures { option_map refusal_of result ≡ first_of (unseal_tests source authority) }
+    ensures { option_map refusal_of result ≡ first_of (unseal_checks source authority) }
 {
     if let Some(fault) = authority_fault(authority, PERMIT_UNSEAL) {
         return Some(fault);
@@ -168,10 +168,10 @@ pub(crate) fn without_type(source: Cap, authority: Cap) -> Cap
 #[inline(always)]
 pub fn unseal(source: Cap, authority: Cap) -> Result<Cap, OpFault>
     ensures outcome { MatchResult result
-        (λ cap. (first_of (unseal_tests source authority) ≡ None) × (cap ≡ unseal_result source authority))
-        (λ fault. first_of (unseal_tests source authority) ≡ Some (refusal_of fault)) }
+        (λ cap. (first_of (unseal_checks source authority) ≡ None) × (cap ≡ unseal_result source authority))
+        (λ fault. first_of (unseal_checks source authority) ≡ Some (refusal_of fault)) }
     ensures unsealed_so { IfOk result (λ cap. IsTrue cap.tag × IsFalse (is_sealed cap.word.0)
-        × (has_permission cap.word.0 global ≡ (has_permission source.word.0 global && has_permission authority.word.0 global))
+        × (has_permission cap.word.0 permit_global ≡ (has_permission source.word.0 permit_global && has_permission authority.word.0 permit_global))
         × (address_of cap.word.0 ≡ address_of source.word.0)) }
     ensures stays_within { IfOk result (λ cap. StaysWithin cap source) }
 {

@@ -6,7 +6,7 @@ use Rattle.cap_program.specs.declared.faults.Fault.{Fault}
 use Rattle.cap_program.specs.declared.faults.Fault.TheVariants.{BadWords, BadWord, BadRequest, Read, Write, NoMemory}
 use Rattle.cap_program.specs.Doings.{IsDone}
 use Rattle.cap_program.specs.Faults.{exit_status, status_of}
-use Rattle.cap_program.specs.Runs.{IsFaultOf, Ran}
+use Rattle.cap_program.specs.Runs.{TellsFault, Ran}
 
 -- nothing was gained
 kept : (a b : Option (List ℕ)) → Appends a b [] → Keeps a b
@@ -30,7 +30,7 @@ module _ (shows : List ℕ → ℕ → Type 0) (fails : List ℕ → Fault → T
     (unfaulty : (text : List ℕ) (status : ℕ) → shows text status → faulty → ⊥)
     (asked : (fault : Fault) → fails given fault → (status_of fault ≡ 2) ↔ faulty) where
   failed : (fault : Fault) → fails given fault → Appends before after []
-      → IsFaultOf prints fails input fault → Ran prints (IsFaultOf prints fails input) faulty before after (Err fault) (status_of fault)
+      → TellsFault prints fails input fault → Ran prints (TellsFault prints fails input) faulty before after (Err fault) (status_of fault)
   failed fault fail nothing belongs = record {
     range = at_most fault;
     low = tt;
@@ -50,7 +50,7 @@ module _ (shows : List ℕ → ℕ → Type 0) (fails : List ℕ → Fault → T
       at_most NoMemory = omega arith
 
   pub ran_by : (done : Result ℕ Fault) → IsDone shows (fails given) (Appends before after) done
-      → Ran prints (IsFaultOf prints fails input) faulty before after done (exit_status done)
+      → Ran prints (TellsFault prints fails input) faulty before after done (exit_status done)
   ran_by (Ok status) d =
       let low = few d.0 status d.1 in record {
         range = omega arith;

@@ -12,9 +12,9 @@ BeginsText prints written =
     (written ≡ []) ⊎ ((text : List ℕ) × (status : ℕ) × prints text status × (n : ℕ) × (written ≡ take n text))
 
 -- the fault that belongs to an input: there was a text that could not be written, or another fault of bytes that were read
-abbrev pub IsFaultOf : (List ℕ → ℕ → Type 0) → (List ℕ → Fault → Type 0) → Option (List ℕ) → Fault → Type 0
-IsFaultOf prints fails input Write = (text : List ℕ) × (status : ℕ) × prints text status
-IsFaultOf prints fails input fault = (given : List ℕ) × (rest : Option (List ℕ)) × Consumes input rest given × fails given fault
+abbrev pub TellsFault : (List ℕ → ℕ → Type 0) → (List ℕ → Fault → Type 0) → Option (List ℕ) → Fault → Type 0
+TellsFault prints fails input Write = (text : List ℕ) × (status : ℕ) × prints text status
+TellsFault prints fails input fault = (given : List ℕ) × (rest : Option (List ℕ)) × Consumes input rest given × fails given fault
 
 -- what was written for an order by the exit status, and the fault that was told
 pub record Ran (prints : List ℕ → ℕ → Type 0) (belongs : Fault → Type 0) (faulty : Type 0) (before after : Option (List ℕ))
@@ -41,5 +41,5 @@ pub record IsRan {C : Type 0} (m : Meaning C) (order : Option C) (input : Option
   -- at status 0 and 1 no fault was told; at 2 and 3 a beginning of the line of the fault that belongs to the order, its input and the status.
   -- But for a fault of the output, that kept what it had
   pub silent : status ≤ 1 → Keeps faults faults_after
-  pub told : 2 ≤ status → (fault : Fault) × IsFaultOf (m.prints order input) (m.fails order) input fault × (status_of fault ≡ status)
+  pub told : 2 ≤ status → (fault : Fault) × TellsFault (m.prints order input) (m.fails order) input fault × (status_of fault ≡ status)
       × (n : ℕ) × Appends faults faults_after (take n (fault_line m.program fault)) × (fault ≢ Write → Keeps before after)

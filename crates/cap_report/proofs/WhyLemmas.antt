@@ -9,14 +9,14 @@ use Rattle.cap_judge.specs.declared.verdict.Verdict.{Verdict}
 use Rattle.cap_judge.specs.declared.verdict.Verdict.TheVariants.{Yes, No}
 use Rattle.cap_judge.specs.Judgings.{IsVerdictOf, IsAnswerOf, LeadsAfter, StopsBefore, StopsIn}
 use Rattle.cap_judge.specs.FaultLines.{bytes_of}
-use Rattle.cap_judge.specs.Readings.{StandsIn}
+use Rattle.cap_judge.specs.Readings.{EndsWith, StandsIn}
 use Rattle.cap_judge.specs.Reports.{Tells}
 use Rattle.cap_judge.specs.OriginLists.{report_text}
 use Rattle.cap_judge.specs.VerdictLines.{verdict_line}
 use Rattle.cap_judge.proofs.FaultPlaces.{at_fault}
 use Rattle.cap_judge.proofs.ReportLemmas.{IsHeld, tells}
 use Rattle.cap_report.specs.FaultReports.{IsLineReport, IsReport}
-use Rattle.cap_report.specs.Whys.{Explains, ExplainsSoFar, IsWhyText}
+use Rattle.cap_report.specs.Whys.{Explains, ExplainsEnd, ExplainsSoFar, IsWhyText}
 
 -- where a judge stopped, the report of that line is the report of the first fault, whatever bytes follow where the source has not ended
 pub reported : (given : List ℕ) (ended : Bool) (held : Held) (line : ℕ) (refusal : Refusal) (text report : List ℕ)
@@ -73,3 +73,18 @@ so_far bytes held fault report stands told = (
   stands.0,
   (report, reported bytes false held fault.line fault.refusal (bytes_of fault.text) report stands.0 stands.1 told, refl),
 )
+
+-- the text of a verdict on bytes that end after lines that a judge was handed
+pub yes_at_end : (held : Held) (bytes : List ℕ) (end : Result Verdict Fault) (verdict : Verdict) → end ≡ Ok verdict
+    → EndsWith held bytes end → ExplainsEnd bytes verdict (verdict_line verdict)
+yes_at_end held bytes end (Yes steps roots) is ends = ((subst (EndsWith held bytes) is ends).0, refl)
+yes_at_end held bytes end (No line refusal) is ends = absurd (subst (EndsWith held bytes) is ends)
+
+pub no_at_end : (held : Held) (bytes : List ℕ) (end : Result Verdict Fault) (fault : Fault) (report : List ℕ) → end ≡ Err fault
+    → EndsWith held bytes end → IsLineReport (account_of held) (bytes_of fault.text) fault.refusal report
+    → ExplainsEnd bytes (No fault.line fault.refusal) (verdict_line (No fault.line fault.refusal) ++ report)
+no_at_end held bytes end fault report is ends told =
+    let stops = subst (EndsWith held bytes) is ends in (
+      stops.0,
+      (report, reported bytes true held fault.line fault.refusal (bytes_of fault.text) report stops.0 stops.1 told, refl),
+    )

@@ -21,8 +21,8 @@ abbrev pub Answers : Option Verdict → Answer → Type 0
 Answers (Some verdict) answer = answer ≡ numbers_of verdict
 Answers None answer = answer ≡ without_verdict 3
 
--- C gets the verdict on these bytes, with what follows from it; or it learns that there is none, only where behind lines that begin a log
--- one that no test refuses names a granule for the first time
+-- C gets the verdict on these bytes, with what follows from it; or it learns that there is none, only if after lines
+-- that begin a log one that fails no check names a granule for the first time
 pub record AnswersBytes (bytes : List ℕ) (answer : Answer) : Type 0 where
   pub verdict : Option Verdict
   pub numbers : Answers verdict answer

@@ -13,7 +13,7 @@ use Rattle.cap_machine.specs.Accounts.{Account}
 use Rattle.cap_machine.specs.States.{key_of, tagged}
 use Rattle.cap_judge.specs.Logs.{SpellsBy, IsFirstFault}
 use Rattle.cap_texts.specs.TextLines.{text_line}
-use Rattle.cap_judge.specs.FaultLines.{IsFrontText}
+use Rattle.cap_log.specs.Front.{IsFrontText}
 use Rattle.cap_texts.specs.ShownBytes.{shown_line}
 use Rattle.cap_texts.specs.CapLines.{cap_lines, operand_lines}
 use Rattle.cap_report.specs.StepLines.{step_lines}
@@ -40,7 +40,7 @@ known_lines account (lines.Step step) refusal = step_lines account step refusal
 known_lines account line refusal = []
 
 -- what is told of a line for its refusal, after what was taken before it: nothing where it has no form; how much was taken where that
--- decides; and otherwise what its tests saw
+-- decides; and otherwise what its checks saw
 abbrev pub AreDetails : Account → List ℕ → Refusal → List ℕ → Type 0
 AreDetails account text BadHeader details = details ≡ []
 AreDetails account text LineTooLong details = details ≡ []

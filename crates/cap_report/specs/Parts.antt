@@ -5,7 +5,7 @@ use Rattle.cap_word.specs.Digits.{hex_digits}
 use Rattle.cap_word.specs.Fields.{address_of, perms_of, reserved_of, flag_of, otype_of, ie_of, e_of, b_of, t_of}
 use Rattle.cap_word.specs.declared.word.Cap.{Cap}
 use Rattle.cap_ops.specs.declared.refusal.Refusal.{Refusal}
-use Rattle.cap_ops.specs.Refusals.{refusal_number, name_of}
+use Rattle.cap_ops.specs.Refusals.{refusal_number, refusal_name}
 use Rattle.cap_texts.specs.TextLines.{text_line}
 use Rattle.cap_texts.specs.CapLines.{cap_lines, bounds_line, operand_lines}
 use Rattle.cap_report.specs.declared.parts.Part.{Part}
@@ -36,7 +36,7 @@ differs_line a b =
 
 -- the number and the name of a refusal
 unfoldable pub cleared_line : Refusal → List ℕ
-cleared_line refusal = codes "cleared " ++ decimal (refusal_number refusal) ++ codes " " ++ name_of refusal ++ codes "\n"
+cleared_line refusal = codes "cleared " ++ decimal (refusal_number refusal) ++ codes " " ++ refusal_name refusal ++ codes "\n"
 
 -- the lines of a part
 abbrev pub part_lines : Part → List ℕ

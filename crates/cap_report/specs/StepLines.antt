@@ -75,13 +75,14 @@ access_parts account (Some access) =
 abbrev pub asked_parts : Account → Shown → List Part
 asked_parts account shown = operand_parts account shown.source shown.request ++ access_parts account shown.access
 
--- the test for which a result has no tag, where there is one
+-- the check for which a result is untagged, if there is one
 abbrev pub cleared_parts : Option Refusal → List Part
 cleared_parts None = []
 cleared_parts (Some fault) = parts.Cleared fault ∷ []
 
--- what the rules give, what the line records, and in which fields two capabilities differ. The result of an operation on registers is
--- that of clear mode: it has no tag where a test holds, which is named then; where none holds it is that of strict rules too
+-- what the rules give, what the line records, and in which fields two capabilities differ. The result of an operation
+-- on registers is that of clear mode: it is untagged if a check fails, which is named then; if none fails it is that of
+-- strict rules too
 abbrev pub given_lines : Given → List ℕ
 given_lines (Capability place given fault recorded) =
     lines_of_parts ((parts.Gives place given ∷ cleared_parts fault) ++ parts.Recorded place recorded ∷ parts.Differs given recorded ∷ [])

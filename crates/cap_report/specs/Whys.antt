@@ -30,3 +30,7 @@ IsWhyText origins held line (No number refusal) told =
 abbrev pub ExplainsSoFar : List ℕ → Option Verdict → List ℕ → Type 0
 ExplainsSoFar bytes None text = BeginsWhole bytes × (text ≡ [])
 ExplainsSoFar bytes (Some verdict) text = IsVerdictOf bytes false verdict × Explains false bytes false verdict text
+
+-- the text of the verdict on these bytes as a whole log, as a judge that explains writes it without origins
+abbrev pub ExplainsEnd : List ℕ → Verdict → List ℕ → Type 0
+ExplainsEnd bytes verdict text = IsVerdictOf bytes true verdict × Explains false bytes true verdict text

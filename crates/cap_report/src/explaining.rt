@@ -2,6 +2,7 @@
 
 ghost use Rattle.std.specs.Prelude.{◌≡◌, ◌≢◌, ◌≤◌, ℕ, List, ◌++◌, length, take, true, Err, Option, IfOk, OnOk, OnErr};
 ghost use Rattle.std.specs.FinMap as map;
+ghost use Rattle.cap_log.specs.Front.{IsCut};
 ghost use Rattle.cap_log.specs.Streams.{CountsFault, CountsOnly};
 ghost use Rattle.cap_machine.specs.Helds.{account_of};
 ghost use Rattle.cap_judge.specs.FaultLines.{bytes_of};
@@ -10,13 +11,14 @@ ghost use Rattle.cap_judge.specs.Readings.{HasRead};
 ghost use Rattle.cap_judge.specs.Reports.{IsPushedFor, Reported};
 ghost use Rattle.cap_judge.specs.VerdictLines.{verdict_line};
 ghost use Rattle.cap_judge.specs.Verdicts.{NamesEscapes};
-ghost use Rattle.cap_report.specs.Whys.{Explains, ExplainsSoFar, IsWhyText};
+ghost use Rattle.cap_report.specs.Whys.{Explains, ExplainsEnd, ExplainsSoFar, IsWhyText};
 ghost use Rattle.cap_judge.specs.declared.verdict.JudgeToFault.TheVariants.{Pull, Push};
 ghost use Rattle.cap_judge.specs.declared.verdict.Verdict.{Verdict};
+ghost use Rattle.cap_judge.specs.declared.verdict.Verdict.TheVariants.{No};
 
 use crate::fault_reports::put_report;
 use cap_judge::{
-    FaultLine, Judge, JudgeToFault, Judging, Verdict, judge_bytes_keeping, judge_keeping,
+    Fault, FaultLine, Judge, JudgeToFault, Judging, Verdict, judge_bytes_keeping, judge_keeping,
     push_report, push_verdict, verdict_text,
 };
 use cap_log::buffers::put;
@@ -113,15 +115,47 @@ pub fn push_refused<M: TaggedStore, K: Sink>(
     ensures counted { CountsFault (K.faults sink.old) (K.faults sink.new) result }
 {
     match judge.refused() {
-        Some(fault) => push_no(
-            &fault.verdict(),
-            judge.machine(),
-            &fault.text,
-            fault.refusal,
-            sink,
-        ),
+        Some(fault) => push_fault(judge.machine(), &fault, sink),
         None => Ok(()),
     }
+}
+
+/// Pushes the answer for the lines handed to a judge so far, if only these bytes follow, which are less than a line:
+/// the line of the verdict, and after a `no` the diagnosis of the faulty line. It is what [`judge_why`] pushes for
+/// these bytes without origins, and has at most 3,136 bytes.
+pub fn push_ending<M: TaggedStore, K: Sink>(
+    judge: &Judge<M>,
+    rest: &[u8],
+    sink: &mut K,
+) -> Result<(), PushFault>
+    ensures ok { OnOk result ((bytes : List ℕ) → HasRead judge.now bytes → IsCut rest.now → (verdict : Verdict)
+        × (told : List ℕ) × ExplainsEnd (bytes ++ rest.now) verdict told × K.took sink.old sink.new told × (length told ≤ 3136)) }
+    ensures err { OnErr result ((bytes : List ℕ) → HasRead judge.now bytes → IsCut rest.now → (verdict : Verdict)
+        × (told : List ℕ) × ExplainsEnd (bytes ++ rest.now) verdict told × (n : ℕ) × K.took sink.old sink.new (take n told)) }
+    ensures counted { CountsFault (K.faults sink.old) (K.faults sink.new) result }
+{
+    match judge.ending(rest) {
+        Ok(verdict) => push_verdict(&verdict, sink),
+        Err(fault) => push_fault(judge.machine(), &fault, sink),
+    }
+}
+
+// Pushes the line of the `no` for a faulty line, and its diagnosis.
+fn push_fault<M: TaggedStore, K: Sink>(
+    machine: &Machine<M>,
+    fault: &Fault,
+    sink: &mut K,
+) -> Result<(), PushFault>
+    ensures ok { OnOk result ((report : List ℕ)
+        × IsLineReport (account_of machine.now) (bytes_of fault.now.text) fault.now.refusal report
+        × K.took sink.old sink.new (verdict_line (No fault.now.line fault.now.refusal) ++ report)
+        × (length (verdict_line (No fault.now.line fault.now.refusal) ++ report) ≤ 3136)) }
+    ensures err { OnErr result ((report : List ℕ)
+        × IsLineReport (account_of machine.now) (bytes_of fault.now.text) fault.now.refusal report
+        × (n : ℕ) × K.took sink.old sink.new (take n (verdict_line (No fault.now.line fault.now.refusal) ++ report))) }
+    ensures counted { CountsFault (K.faults sink.old) (K.faults sink.new) result }
+{
+    push_no(&fault.verdict(), machine, &fault.text, fault.refusal, sink)
 }
 
 // Pushes the text of a verdict: after a `yes` with the origins where they are asked for, and after a `no` with

@@ -2,7 +2,8 @@
 //! which root that descends, and, if the line records another result, what the rules give.
 //!
 //! [`judge_why`] judges what a source gives, and pushes the verdict, after a `no` with its diagnosis.
-//! [`judge_why_bytes`] judges bytes in memory. [`push_refused`] pushes the `no` of a judge that is handed lines.
+//! [`judge_why_bytes`] judges bytes in memory. [`push_refused`] pushes the `no` of a judge that is handed lines,
+//! and [`push_ending`] its verdict on these lines as a whole log.
 //!
 //! The libraries that judge for C stand on it too: [`answers`] are verdicts as C gets them, and [`texts`] writes a
 //! text into the room that C has for it.
@@ -16,4 +17,4 @@ mod parts;
 mod step_lines;
 pub mod texts;
 
-pub use crate::explaining::{judge_why, judge_why_bytes, judge_why_in, push_refused};
+pub use crate::explaining::{judge_why, judge_why_bytes, judge_why_in, push_ending, push_refused};

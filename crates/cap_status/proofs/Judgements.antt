@@ -6,7 +6,7 @@ use Rattle.cap_judge.specs.declared.verdict.JudgeToFault.{JudgeToFault}
 use Rattle.cap_judge.specs.declared.verdict.JudgeToFault.TheVariants.{Pull, NoMemory, Push}
 use Rattle.cap_judge.specs.declared.verdict.Verdict.TheVariants.{Yes, No}
 use Rattle.cap_judge.specs.Judgings.{BeginsLog, IsVerdictOf}
-use Rattle.cap_judge.specs.Logs.{Nothing}
+use Rattle.cap_judge.specs.Logs.{Empty}
 use Rattle.cap_judge.specs.Reports.{IsPushedFor, Tells}
 use Rattle.cap_program.specs.declared.faults.Fault.TheVariants as faults
 use Rattle.cap_program.specs.Doings.{IsCounted, IsDone}
@@ -56,7 +56,7 @@ verdict_few (No line refusal) = omega arith
 -- no bytes begin a log
 pub begins_nothing : BeginsLog []
 begins_nothing = record {
-  beginning = Nothing;
+  beginning = Empty;
   rest = [];
   behind = record { bytes_are = refl; accepted = tt };
   cut = (omega arith, λ k d below. absurd (omega (arith, below)));

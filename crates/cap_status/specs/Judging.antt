@@ -5,7 +5,7 @@ use Rattle.cap_judge.specs.declared.verdict.Verdict.TheVariants.{Yes, No}
 use Rattle.cap_judge.specs.declared.verdict.JudgeFault.TheVariants as judge_faults
 use Rattle.cap_judge.specs.declared.verdict.JudgeToFault.{JudgeToFault}
 use Rattle.cap_judge.specs.declared.verdict.JudgeToFault.TheVariants as judging
-use Rattle.cap_judge.specs.Judgings.{IsAnswerOf, IsFaultOf}
+use Rattle.cap_judge.specs.Judgings.{IsAnswerOf, NoVerdictOf}
 use Rattle.cap_judge.specs.Logs.{NamesNoGranules}
 use Rattle.cap_program.specs.declared.faults.Fault.{Fault}
 use Rattle.cap_program.specs.declared.faults.Fault.TheVariants.{Read, Write, NoMemory}
@@ -30,6 +30,6 @@ ShowsVerdict tells given ended text status =
 -- why the bytes given were not judged: reading failed behind lines that begin a log; or memory was wanted at a line that names a granule
 -- for the first time
 abbrev pub StopsJudging : List ℕ → Fault → Type 0
-StopsJudging given Read = IsFaultOf given judge_faults.Pull
-StopsJudging given NoMemory = IsFaultOf given judge_faults.NoMemory × (NamesNoGranules given → ⊥)
+StopsJudging given Read = NoVerdictOf given judge_faults.Pull
+StopsJudging given NoMemory = NoVerdictOf given judge_faults.NoMemory × (NamesNoGranules given → ⊥)
 StopsJudging given fault = ⊥

@@ -6,7 +6,8 @@ use Rattle.std.proofs.lemmas.List.{drop_at, length-append, take_at}
 use Rattle.cap_word.specs.Digits.{hex_digits}
 use Rattle.cap_word.proofs.DigitLemmas.{length-hex_digits}
 use Rattle.cap_texts.specs.TextLines.{bytes_text}
-use Rattle.cap_vectors.specs.Vectors.{Bounds, Keeps, Round, Memory, Holds, States, spelling, flag_digit}
+use Rattle.cap_vectors.specs.Vectors.{Bounds, Keeps, Round, Memory, Holds, IsLineOf, spelling}
+use Rattle.cap_log.specs.Lines.{tag_spelling}
 
 -- what stands behind a front, as a slice
 pub slice_at : (line front middle rest : List ℕ) (at k : ℕ) → line ≡ front ++ (middle ++ rest) → length front ≡ at → length middle ≡ k
@@ -30,16 +31,16 @@ front_of_two head k n m is =
 pub bounds_word : (w base top : ℕ) (answer : Bool)
     → (rest : List ℕ) × (spelling (Bounds w base top answer) ≡ codes "bounds " ++ (hex_digits 32 w ++ rest))
 bounds_word w base top answer =
-    (codes " = " ++ (hex_digits 16 base ++ (codes " " ++ (hex_digits 17 top ++ (codes " " ++ flag_digit answer)))), simp append_assoc)
+    (codes " = " ++ (hex_digits 16 base ++ (codes " " ++ (hex_digits 17 top ++ (codes " " ++ tag_spelling answer)))), simp append_assoc)
 
 pub keeps_word : (w address : ℕ) (answer : Bool)
     → (rest : List ℕ) × (spelling (Keeps w address answer) ≡ codes "keeps " ++ (hex_digits 32 w ++ rest))
-keeps_word w address answer = (codes " " ++ (hex_digits 16 address ++ (codes " = " ++ flag_digit answer)), simp append_assoc)
+keeps_word w address answer = (codes " " ++ (hex_digits 16 address ++ (codes " = " ++ tag_spelling answer)), simp append_assoc)
 
 pub keeps_address : (w address : ℕ) (answer : Bool)
     → (rest : List ℕ) × (spelling (Keeps w address answer) ≡ (codes "keeps " ++ hex_digits 32 w ++ codes " ")
     ++ (hex_digits 16 address ++ rest))
-keeps_address w address answer = (codes " = " ++ flag_digit answer, simp append_assoc)
+keeps_address w address answer = (codes " = " ++ tag_spelling answer, simp append_assoc)
 
 pub memory_word : (w : ℕ) (bytes : List ℕ) → (rest : List ℕ) × (spelling (Memory w bytes) ≡ codes "memory " ++ (hex_digits 32 w ++ rest))
 memory_word w bytes = (codes " = " ++ bytes_text bytes, simp append_assoc)
@@ -47,8 +48,8 @@ memory_word w bytes = (codes " = " ++ bytes_text bytes, simp append_assoc)
 -- what is written of a rounding
 abbrev pub rounding_text : (base_rounded top_rounded : ℕ) (ie : Bool) (e : ℕ) (exact : Bool) → List ℕ
 rounding_text base_rounded top_rounded ie e exact =
-    codes " = " ++ hex_digits 16 base_rounded ++ codes " " ++ hex_digits 17 top_rounded ++ codes " " ++ flag_digit ie ++ codes " "
-    ++ decimal e ++ codes " " ++ flag_digit exact
+    codes " = " ++ hex_digits 16 base_rounded ++ codes " " ++ hex_digits 17 top_rounded ++ codes " " ++ tag_spelling ie ++ codes " "
+    ++ decimal e ++ codes " " ++ tag_spelling exact
 
 pub round_base : (base size base_rounded top_rounded : ℕ) (ie : Bool) (e : ℕ) (exact : Bool)
     → (rest : List ℕ) × (spelling (Round base size base_rounded top_rounded ie e exact) ≡ codes "round " ++ (hex_digits 16 base ++ rest))
@@ -67,13 +68,13 @@ round_length base size base_rounded top_rounded ie e exact = (
   rounding_text base_rounded top_rounded ie e exact,
   three_then_more (codes "round ") (hex_digits 16 base) (codes " ") (hex_digits 16 size) (codes " = ") (hex_digits 16 base_rounded)
       (codes " ") (hex_digits 17 top_rounded) (codes " ")
-      (flag_digit ie) (codes " ") (decimal e) (codes " ") (flag_digit exact),
+      (tag_spelling ie) (codes " ") (decimal e) (codes " ") (tag_spelling exact),
 )
 
 -- operands have one true line
 pub same_bounds : (line written : List ℕ) (w v base top base' top' : ℕ) (answer answer' : Bool) → v ≡ w
-    → States line (Bounds w base top answer)
-    → States written (Bounds v base' top' answer') → line ≡ written
+    → IsLineOf line (Bounds w base top answer)
+    → IsLineOf written (Bounds v base' top' answer') → line ≡ written
 same_bounds line written w v base top base' top' answer answer' is h k =
     let first = h.true_vector.holds in
     let second = subst (λ (x : ℕ). Holds (Bounds x base' top' answer')) is k.true_vector.holds in
@@ -82,8 +83,8 @@ same_bounds line written w v base top base' top' answer answer' is h k =
     h.spelled ∙ ap spelling one ∙ sym k.spelled
 
 pub same_keeps : (line written : List ℕ) (w v address address' : ℕ) (answer answer' : Bool) → v ≡ w → address' ≡ address
-    → States line (Keeps w address answer)
-    → States written (Keeps v address' answer') → line ≡ written
+    → IsLineOf line (Keeps w address answer)
+    → IsLineOf written (Keeps v address' answer') → line ≡ written
 same_keeps line written w v address address' answer answer' is also h k =
     let first = h.true_vector.holds in
     let second = subst (λ (x : ℕ). Holds (Keeps w x answer')) also (subst (λ (x : ℕ). Holds (Keeps x address' answer'))
@@ -94,8 +95,8 @@ same_keeps line written w v address address' answer answer' is also h k =
 
 pub same_round : (line written : List ℕ) (base size base' size' base_rounded top_rounded base_rounded' top_rounded' : ℕ) (ie ie' : Bool)
     (e e' : ℕ) (exact exact' : Bool)
-    → base' ≡ base → size' ≡ size → States line (Round base size base_rounded top_rounded ie e exact)
-    → States written (Round base' size' base_rounded' top_rounded' ie' e' exact') → line ≡ written
+    → base' ≡ base → size' ≡ size → IsLineOf line (Round base size base_rounded top_rounded ie e exact)
+    → IsLineOf written (Round base' size' base_rounded' top_rounded' ie' e' exact') → line ≡ written
 same_round line written base size base' size' base_rounded top_rounded base_rounded' top_rounded' ie ie' e e' exact exact' is also h k =
     let first = h.true_vector.holds in
     let second =
@@ -105,8 +106,8 @@ same_round line written base size base' size' base_rounded top_rounded base_roun
     let one : Round base size base_rounded top_rounded ie e exact ≡ Round base' size' base_rounded' top_rounded' ie' e' exact' = cc in
     h.spelled ∙ ap spelling one ∙ sym k.spelled
 
-pub same_memory : (line written : List ℕ) (w v : ℕ) (bytes bytes' : List ℕ) → v ≡ w → States line (Memory w bytes)
-    → States written (Memory v bytes') → line ≡ written
+pub same_memory : (line written : List ℕ) (w v : ℕ) (bytes bytes' : List ℕ) → v ≡ w → IsLineOf line (Memory w bytes)
+    → IsLineOf written (Memory v bytes') → line ≡ written
 same_memory line written w v bytes bytes' is h k =
     let first = h.true_vector.holds in
     let second = k.true_vector.holds in

@@ -38,27 +38,23 @@ pub record IsTrueVector (vector : Vector) : Type 0 where
   pub in_range : IsInRange vector
   pub holds : Holds vector
 
--- a yes or a no as a digit
-abbrev pub flag_digit : Bool → List ℕ
-flag_digit flag = tag_spelling flag
-
 -- the one line of a vector, without its line feed
 abbrev pub spelling : Vector → List ℕ
 spelling (Bounds word base top sound) =
     codes "bounds " ++ hex_digits 32 word ++ codes " = " ++ hex_digits 16 base
-    ++ codes " " ++ hex_digits 17 top ++ codes " " ++ flag_digit sound
+    ++ codes " " ++ hex_digits 17 top ++ codes " " ++ tag_spelling sound
 spelling (Keeps word address keeps) =
-    codes "keeps " ++ hex_digits 32 word ++ codes " " ++ hex_digits 16 address ++ codes " = " ++ flag_digit keeps
+    codes "keeps " ++ hex_digits 32 word ++ codes " " ++ hex_digits 16 address ++ codes " = " ++ tag_spelling keeps
 spelling (Round base size base_rounded top_rounded ie e exact) =
     codes "round " ++ hex_digits 16 base ++ codes " " ++ hex_digits 16 size ++ codes " = " ++ hex_digits 16 base_rounded ++ codes " "
-    ++ hex_digits 17 top_rounded ++ codes " " ++ flag_digit ie ++ codes " " ++ decimal e ++ codes " " ++ flag_digit exact
+    ++ hex_digits 17 top_rounded ++ codes " " ++ tag_spelling ie ++ codes " " ++ decimal e ++ codes " " ++ tag_spelling exact
 spelling (Memory word bytes) = codes "memory " ++ hex_digits 32 word ++ codes " = " ++ bytes_text bytes
 
--- a line is that of a vector, which is true
-pub record States (line : List ℕ) (vector : Vector) : Type 0 where
+-- the line is that of this vector, and the vector is true
+pub record IsLineOf (line : List ℕ) (vector : Vector) : Type 0 where
   pub spelled : line ≡ spelling vector
   pub true_vector : IsTrueVector vector
 
 -- a line states something true
 abbrev pub IsTrueLine : List ℕ → Type 0
-IsTrueLine line = (vector : Vector) × States line vector
+IsTrueLine line = (vector : Vector) × IsLineOf line vector

@@ -1,7 +1,7 @@
 //! Whether a line of a vector file states something true: it is the one true line that has its operands.
 
 ghost use Rattle.std.specs.Prelude.{◌≡◌, ℕ, Bool, List, IsTrue, ◌↔◌};
-ghost use Rattle.cap_vectors.specs.Vectors.{Bounds, Keeps, Round, Memory, IsTrueLine, States};
+ghost use Rattle.cap_vectors.specs.Vectors.{Bounds, Keeps, Round, Memory, IsTrueLine, IsLineOf};
 
 use crate::operands::{number_at, word_at};
 use crate::writing::{write_bounds, write_keeps, write_memory, write_round};
@@ -19,7 +19,7 @@ pub fn is_true_line(line: &[u8]) -> bool
 // Whether a line states what a word decodes to.
 fn states_bounds(line: &[u8]) -> bool
     ensures yes { IsTrue result → IsTrueLine line.now }
-    ensures no { (w base top : ℕ) (answer : Bool) → States line.now (Bounds w base top answer) → IsTrue result }
+    ensures no { (w base top : ℕ) (answer : Bool) → IsLineOf line.now (Bounds w base top answer) → IsTrue result }
 {
     let Some(word) = word_at(line, 7) else {
         return false;
@@ -32,7 +32,7 @@ fn states_bounds(line: &[u8]) -> bool
 // Whether a line states whether an address keeps a word's bounds.
 fn states_keeps(line: &[u8]) -> bool
     ensures yes { IsTrue result → IsTrueLine line.now }
-    ensures no { (w address : ℕ) (answer : Bool) → States line.now (Keeps w address answer) → IsTrue result }
+    ensures no { (w address : ℕ) (answer : Bool) → IsLineOf line.now (Keeps w address answer) → IsTrue result }
 {
     let Some(word) = word_at(line, 6) else {
         return false;
@@ -49,7 +49,7 @@ fn states_keeps(line: &[u8]) -> bool
 fn states_round(line: &[u8]) -> bool
     ensures yes { IsTrue result → IsTrueLine line.now }
     ensures no { (base size base_rounded top_rounded : ℕ) (ie : Bool) (e : ℕ) (exact : Bool)
-        → States line.now (Round base size base_rounded top_rounded ie e exact) → IsTrue result }
+        → IsLineOf line.now (Round base size base_rounded top_rounded ie e exact) → IsTrue result }
 {
     let Some(base) = number_at(line, 6) else {
         return false;
@@ -68,7 +68,7 @@ fn states_round(line: &[u8]) -> bool
 // Whether a line states the bytes of a word in memory.
 fn states_memory(line: &[u8]) -> bool
     ensures yes { IsTrue result → IsTrueLine line.now }
-    ensures no { (w : ℕ) (bytes : List ℕ) → States line.now (Memory w bytes) → IsTrue result }
+    ensures no { (w : ℕ) (bytes : List ℕ) → IsLineOf line.now (Memory w bytes) → IsTrue result }
 {
     let Some(word) = word_at(line, 7) else {
         return false;

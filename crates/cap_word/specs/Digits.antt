@@ -5,7 +5,7 @@ use Rattle.std.specs.Prelude.{◌≡◌, ℕ, suc, zero, ◌/◌, ◌%◌, ◌^�
 abbrev pub hex_digit : ℕ → ℕ
 hex_digit d = slice_index (codes "0123456789abcdef") d
 
--- the last k hexadecimal digits of a number, in lower case, most significant first (this profile's own)
+-- the last k hexadecimal digits of n, lower case, the most significant first (this profile's own)
 unfoldable pub hex_digits : ℕ → ℕ → List ℕ
 hex_digits zero n = []
 hex_digits (suc k) n = slice_index (codes "0123456789abcdef") (n / 16 ^ k % 16) ∷ hex_digits k n

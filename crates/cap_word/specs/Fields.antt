@@ -39,15 +39,15 @@ b_field w = w / 2 ^ 64 % 2 ^ 14
 abbrev pub address_of : ℕ → ℕ
 address_of w = w % 2 ^ 64
 
--- E: 0 without IE; with it, six bits, the low three of the T field above the low three of the B field
+-- E: 0 if IE is 0; otherwise six bits, the low three of the T field above the low three of the B field
 abbrev pub e_of : ℕ → ℕ
 e_of w = if ie_of w then t_field w % 8 * 8 + b_field w % 8 else 0
 
--- B: the B field, with zeros where the bits of E stand
+-- B: the B field, with zeros in place of the bits of E
 abbrev pub b_of : ℕ → ℕ
 b_of w = if ie_of w then b_field w / 8 * 8 else b_field w
 
--- the low twelve bits of T: the T field, with zeros where the bits of E stand
+-- the low twelve bits of T: the T field, with zeros in place of the bits of E
 abbrev pub t_of : ℕ → ℕ
 t_of w = if ie_of w then t_field w / 8 * 8 else t_field w
 

@@ -1,12 +1,20 @@
 -- What is read at the front of some bytes.
-use Rattle.std.proofs.Common.{◌≡◌, ◌+◌, ◌∙◌, ℕ, List, ◌∷◌, ap, arith, length, refl, subst, sym}
-use Rattle.std.proofs.lemmas.List.{length-append}
+use Rattle.std.proofs.Common.{◌≡◌, ◌≢◌, ◌+◌, ◌-◌, ◌≤◌, ◌∙◌, ℕ, List, [], ◌∷◌, ◌++◌, ap, append_assoc, arith, drop, length, refl, subst, sym, take}
+use Rattle.std.proofs.lemmas.List.{length-append, take-append-drop}
+use Rattle.std.proofs.Math.Seq.{drop-append_seam}
 use Rattle.cap_log.specs.declared.lines.Line.{Line}
+use Rattle.cap_log.specs.declared.lines.Line.TheVariants as lines
+use Rattle.cap_log.specs.declared.lines.Mode.TheVariants.{Strict, Clear}
+use Rattle.cap_log.specs.declared.lines.Place.TheVariants.{Register, Granule}
+use Rattle.cap_log.specs.declared.kinds.Step.{Step}
+use Rattle.cap_log.specs.declared.kinds.Step.TheVariants as steps
 use Rattle.cap_log.specs.Front.{IsLine}
 use Rattle.cap_log.specs.Lines.{IsInRange, spelling}
-use Rattle.cap_log.specs.Parts.{Begins}
+use Rattle.cap_log.specs.Parts.{Begins, BeginsWithNone}
 use Rattle.cap_log.proofs.FrontLemmas.{IsLine-same}
 use Rattle.cap_log.proofs.SpellingLemmas.{IsLine-spelling, one_spelling}
+use Rattle.capcheck_c.specs.LinesRead.{IsLineRead, IsStepRead, ReadsFront, ReadsLines}
+use Rattle.capcheck_c.specs.declared.values.LineRead.{LineRead}
 
 -- bytes begin with one line, and one rest follows it
 pub one_front : (bytes : List ℕ) (a b : Line) (rest other : List ℕ) → Begins IsInRange spelling 10 bytes a rest
@@ -23,3 +31,62 @@ pub front_length : (bytes : List ℕ) (line : Line) (rest : List ℕ) → Begins
 front_length bytes line rest begins =
     let all = ap length begins.1 ∙ length-append (spelling line) (10 ∷ rest) in
     omega (arith, all)
+
+-- one line more was read
+pub reads_more : (bytes : List ℕ) (reads : List LineRead) (rest : List ℕ) (read : LineRead) → ReadsLines bytes reads rest
+    → (read.kind ≢ 0) → ReadsFront rest read → ReadsLines bytes (reads ++ read ∷ []) (drop read.length rest)
+reads_more bytes [] rest read before some front =
+    (some, subst (λ (b : List ℕ). ReadsFront b read) (sym before) front, ap (drop read.length) before)
+reads_more bytes (first ∷ reads) rest read before some front =
+    (before.0, before.1, reads_more (drop first.length bytes) reads rest read before.2 some front)
+
+-- what was read lies in front of the rest
+reads_front : (bytes : List ℕ) (reads : List LineRead) (rest : List ℕ) → ReadsLines bytes reads rest
+    → (front : List ℕ) × (bytes ≡ front ++ rest)
+reads_front bytes [] rest all = ([], all)
+reads_front bytes (read ∷ reads) rest all =
+    let more = reads_front (drop read.length bytes) reads rest all.2 in (
+      take read.length bytes ++ more.0,
+      sym (take-append-drop read.length bytes) ∙ ap (λ (b : List ℕ). take read.length bytes ++ b) more.1
+          ∙ sym (append_assoc (take read.length bytes) more.0 rest),
+    )
+
+-- so the rest is what is left of the bytes by its length
+pub rest_of : (bytes : List ℕ) (reads : List LineRead) (rest : List ℕ) → ReadsLines bytes reads rest
+    → (length rest ≤ length bytes) × (drop (length bytes - length rest) bytes ≡ rest)
+rest_of bytes reads rest all =
+    let front = reads_front bytes reads rest all in
+    let long = ap length front.1 ∙ length-append front.0 rest in
+    let same : length bytes - length rest ≡ length front.0 = omega (arith, long) in (
+      omega (arith, long),
+      ap (λ (n : ℕ). drop n bytes) same ∙ ap (drop (length front.0)) front.1 ∙ drop-append_seam front.0 rest,
+    )
+
+-- a line that was read has a kind
+step_kind : (step : Step) (read : LineRead) → IsStepRead step read → read.kind ≡ 0 → ⊥
+step_kind (steps.Move step) read is none = omega (arith, none, is.0.kind_is)
+step_kind (steps.ClearTag step) read is none = omega (arith, none, is.0.kind_is)
+step_kind (steps.SetBounds step) read is none = omega (arith, none, is.0.kind_is)
+step_kind (steps.SetBoundsExact step) read is none = omega (arith, none, is.0.kind_is)
+step_kind (steps.SetAddr step) read is none = omega (arith, none, is.0.kind_is)
+step_kind (steps.AndPerm step) read is none = omega (arith, none, is.0.kind_is)
+step_kind (steps.Seal step) read is none = omega (arith, none, is.0.kind_is)
+step_kind (steps.Unseal step) read is none = omega (arith, none, is.0.kind_is)
+step_kind (steps.LoadCap step) read is none = omega (arith, none, is.0.kind_is)
+step_kind (steps.StoreCap step) read is none = omega (arith, none, is.0.kind_is)
+step_kind (steps.Load step) read is none = omega (arith, none, is.0.kind_is)
+step_kind (steps.Store step) read is none = omega (arith, none, is.0.kind_is)
+
+line_kind : (line : Line) (read : LineRead) → IsLineRead line read → read.kind ≡ 0 → ⊥
+line_kind (lines.Version version) read is none = omega (arith, none, is.0.kind_is)
+line_kind (lines.Mode Strict) read is none = omega (arith, none, is.0.kind_is)
+line_kind (lines.Mode Clear) read is none = omega (arith, none, is.0.kind_is)
+line_kind (lines.Root (Register register) word) read is none = omega (arith, none, is.0.kind_is)
+line_kind (lines.Root (Granule granule) word) read is none = omega (arith, none, is.0.kind_is)
+line_kind (lines.Step step) read is none = step_kind step read is none
+line_kind (lines.End steps) read is none = omega (arith, none, is.0.kind_is)
+
+-- bytes of which none was read begin with none
+pub none_read : (bytes : List ℕ) (read : LineRead) → ReadsFront bytes read → read.kind ≡ 0
+    → BeginsWithNone IsInRange spelling 10 bytes
+none_read bytes read front none line rest begins = line_kind line read (front.line line rest begins).0 none

@@ -1,22 +1,23 @@
--- What the operations and the tests of accesses answer to C (this profile's own).
+-- What the operations and accesses answer to C (this profile's own).
 use Rattle.std.specs.Prelude.{◌≡◌, ◌↔◌, ℕ, ◌+◌, ◌-◌, ◌%◌, ◌≤◌, Bool, ℤ, pos, neg_ℤ, ◌≤ℤ◌, List, ◌++◌, length, replicate}
 use Rattle.std.specs.Prelude.{MatchOption, IsTrue}
 use Rattle.cap_word.specs.declared.word.Cap.{Cap}
 use Rattle.cap_ops.specs.declared.refusal.Refusal.{Refusal}
 use Rattle.cap_ops.specs.declared.kinds.Kind.{Kind}
-use Rattle.cap_ops.specs.Accesses.{IsAllowed, access_address, access_tests, permission_for}
+use Rattle.cap_ops.specs.Accesses.{IsAllowed, access_address, access_checks, permission_for}
 use Rattle.cap_ops.specs.Refusals.{refusal_number}
 use Rattle.cap_ops.specs.Sizes.{size_fits}
-use Rattle.cap_ops.specs.Tests.{first_of}
+use Rattle.cap_ops.specs.Checks.{first_of}
 use Rattle.cap_halves.specs.Passed.{cap_of, no_cap}
+use Rattle.capcheck_c.specs.Names.{c_string_in}
 use Rattle.capcheck_c.specs.declared.values.AccessAnswer.{AccessAnswer}
 use Rattle.capcheck_c.specs.declared.values.Made.{Made}
 
--- what an operation with these tests and this result answers: the result and 0 where no test holds, else
--- NULL without a tag and the number of the first test that holds
+-- what an operation with these checks and this result answers: the result and 0 if no check fails, otherwise
+-- untagged NULL and the number of the first check that fails
 abbrev pub Answers : List (Bool × Refusal) → Cap → Made → Type 0
-Answers tests result made =
-    MatchOption (first_of tests)
+Answers checks result made =
+    MatchOption (first_of checks)
     ((made.refusal ≡ 0) × (cap_of made.cap ≡ result))
     (λ refusal. (made.refusal ≡ refusal_number refusal) × (cap_of made.cap ≡ no_cap))
 
@@ -28,11 +29,11 @@ IsAccess kind offset size = (neg_ℤ (pos 2048) ≤ℤ offset) × (offset ≤ℤ
 abbrev pub bad_argument : ℕ
 bad_argument = 255
 
--- what the test of an access answers: its address and 0 where no test holds, else 0 and the number of the
--- first test that holds; an access that is let through is in the authority's bounds, has its permission, is
+-- what an access answers: its address and 0 if no check fails, otherwise 0 and the number of the
+-- first check that fails; an access that is permitted is in the authority's bounds, has its permission, is
 -- aligned, and lies in one granule; and what is no access is refused with a number of its own
 pub record AnswersAccess (authority : Cap) (kind : Kind) (offset : ℤ) (size : ℕ) (answer : AccessAnswer) : Type 0 where
-  pub outcome : IsAccess kind offset size → MatchOption (first_of (access_tests authority kind offset size))
+  pub outcome : IsAccess kind offset size → MatchOption (first_of (access_checks authority kind offset size))
       ((answer.refusal ≡ 0) × (answer.address ≡ access_address authority.word.0 offset))
       (λ refusal. (answer.refusal ≡ refusal_number refusal) × (answer.address ≡ 0))
   pub allowed : answer.refusal ≡ 0 → IsAllowed authority.word.0 answer.address size (permission_for kind)
@@ -40,6 +41,6 @@ pub record AnswersAccess (authority : Cap) (kind : Kind) (offset : ℤ) (size : 
   pub bad : (answer.refusal ≡ bad_argument) ↔ (¬ IsAccess kind offset size)
   pub zero : ¬ IsAccess kind offset size → answer.address ≡ 0
 
--- 24 bytes that hold a text as a C string: the text, and bytes 0 behind it
+-- the 24 bytes of a name as a C string
 abbrev pub c_string : List ℕ → List ℕ
-c_string text = text ++ replicate (24 - length text) 0
+c_string text = c_string_in 24 text

@@ -1,4 +1,5 @@
 pub mod Answers
 pub mod LinesRead
 pub mod LinesWritten
+pub mod Names
 pub mod WordFields

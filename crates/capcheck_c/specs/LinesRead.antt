@@ -1,5 +1,5 @@
 -- What reading a line gives (this profile's own, as are all below).
-use Rattle.std.specs.Prelude.{◌≡◌, ◌≢◌, ℕ, ◌+◌, ◌*◌, ℤ, pos, true, List, length}
+use Rattle.std.specs.Prelude.{◌≡◌, ◌≢◌, ℕ, ◌+◌, ◌*◌, ℤ, pos, true, List, [], ◌∷◌, drop, length}
 use Rattle.cap_word.specs.declared.word.Cap.{Cap}
 use Rattle.cap_log.specs.Lines.{IsInRange, spelling}
 use Rattle.cap_log.specs.Parts.{Begins, BeginsWithNone}
@@ -62,3 +62,8 @@ pub record ReadsFront (bytes : List ℕ) (read : LineRead) : Type 0 where
       → IsLineRead line read × (read.length ≡ length (spelling line) + 1)
   pub kind : read.kind ≢ 0 → (line : Line) × (rest : List ℕ) × Begins IsInRange spelling 10 bytes line rest
   pub none : BeginsWithNone IsInRange spelling 10 bytes → Reads 0 0 0 0 0 no_cap read × (read.length ≡ 0)
+
+-- what was read, line after line, from the front of bytes, before this rest
+abbrev pub ReadsLines : List ℕ → List LineRead → List ℕ → Type 0
+ReadsLines bytes [] rest = bytes ≡ rest
+ReadsLines bytes (read ∷ reads) rest = (read.kind ≢ 0) × ReadsFront bytes read × ReadsLines (drop read.length bytes) reads rest

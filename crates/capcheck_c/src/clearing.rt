@@ -25,8 +25,8 @@ pub extern "C" fn capcheck_set_bounds_clear(
     exact: u8,
 ) -> Capability
     ensures result_is { cap_of result
-        ≡ ops.clear_result (ops.set_bounds_tests (cap_of source) length (is_set exact)) (ops.set_bounds_result (cap_of source) length) }
-    ensures strict { ops.IsStrictWhereTagged (ops.set_bounds_tests (cap_of source) length (is_set exact)) (ops.set_bounds_result (cap_of source) length)
+        ≡ ops.clear_result (ops.set_bounds_checks (cap_of source) length (is_set exact)) (ops.set_bounds_result (cap_of source) length) }
+    ensures strict { ops.IsStrictWhereTagged (ops.set_bounds_checks (cap_of source) length (is_set exact)) (ops.set_bounds_result (cap_of source) length)
         (cap_of result) }
     ensures tag { result.tag ≤ 1 }
     ensures stays_within { StaysWithin (cap_of result) (cap_of source) }
@@ -41,8 +41,8 @@ pub extern "C" fn capcheck_set_bounds_clear(
 #[unsafe(no_mangle)]
 pub extern "C" fn capcheck_set_addr_clear(source: Capability, address: u64) -> Capability
     ensures result_is { cap_of result
-        ≡ ops.clear_result (ops.set_addr_tests (cap_of source) address) (ops.set_addr_result (cap_of source) address) }
-    ensures strict { ops.IsStrictWhereTagged (ops.set_addr_tests (cap_of source) address) (ops.set_addr_result (cap_of source) address)
+        ≡ ops.clear_result (ops.set_addr_checks (cap_of source) address) (ops.set_addr_result (cap_of source) address) }
+    ensures strict { ops.IsStrictWhereTagged (ops.set_addr_checks (cap_of source) address) (ops.set_addr_result (cap_of source) address)
         (cap_of result) }
     ensures tag { result.tag ≤ 1 }
     ensures stays_within { StaysWithin (cap_of result) (cap_of source) }
@@ -54,8 +54,8 @@ pub extern "C" fn capcheck_set_addr_clear(source: Capability, address: u64) -> C
 #[unsafe(no_mangle)]
 pub extern "C" fn capcheck_and_perm_clear(source: Capability, mask: u64) -> Capability
     ensures result_is { cap_of result
-        ≡ ops.clear_result (ops.and_perm_tests (cap_of source)) (ops.and_perm_result (cap_of source) mask) }
-    ensures strict { ops.IsStrictWhereTagged (ops.and_perm_tests (cap_of source)) (ops.and_perm_result (cap_of source) mask)
+        ≡ ops.clear_result (ops.and_perm_checks (cap_of source)) (ops.and_perm_result (cap_of source) mask) }
+    ensures strict { ops.IsStrictWhereTagged (ops.and_perm_checks (cap_of source)) (ops.and_perm_result (cap_of source) mask)
         (cap_of result) }
     ensures tag { result.tag ≤ 1 }
     ensures stays_within { StaysWithin (cap_of result) (cap_of source) }
@@ -68,8 +68,8 @@ pub extern "C" fn capcheck_and_perm_clear(source: Capability, mask: u64) -> Capa
 #[unsafe(no_mangle)]
 pub extern "C" fn capcheck_seal_clear(source: Capability, authority: Capability) -> Capability
     ensures result_is { cap_of result
-        ≡ ops.clear_result (ops.seal_tests (cap_of source) (cap_of authority)) (ops.seal_result (cap_of source) (cap_of authority)) }
-    ensures strict { ops.IsStrictWhereTagged (ops.seal_tests (cap_of source) (cap_of authority)) (ops.seal_result (cap_of source) (cap_of authority))
+        ≡ ops.clear_result (ops.seal_checks (cap_of source) (cap_of authority)) (ops.seal_result (cap_of source) (cap_of authority)) }
+    ensures strict { ops.IsStrictWhereTagged (ops.seal_checks (cap_of source) (cap_of authority)) (ops.seal_result (cap_of source) (cap_of authority))
         (cap_of result) }
     ensures tag { result.tag ≤ 1 }
     ensures stays_within { StaysWithin (cap_of result) (cap_of source) }
@@ -81,8 +81,8 @@ pub extern "C" fn capcheck_seal_clear(source: Capability, authority: Capability)
 #[unsafe(no_mangle)]
 pub extern "C" fn capcheck_unseal_clear(source: Capability, authority: Capability) -> Capability
     ensures result_is { cap_of result
-        ≡ ops.clear_result (ops.unseal_tests (cap_of source) (cap_of authority)) (ops.unseal_result (cap_of source) (cap_of authority)) }
-    ensures strict { ops.IsStrictWhereTagged (ops.unseal_tests (cap_of source) (cap_of authority))
+        ≡ ops.clear_result (ops.unseal_checks (cap_of source) (cap_of authority)) (ops.unseal_result (cap_of source) (cap_of authority)) }
+    ensures strict { ops.IsStrictWhereTagged (ops.unseal_checks (cap_of source) (cap_of authority))
         (ops.unseal_result (cap_of source) (cap_of authority)) (cap_of result) }
     ensures tag { result.tag ≤ 1 }
     ensures stays_within { StaysWithin (cap_of result) (cap_of source) }

@@ -1,14 +1,16 @@
 //! The bounds that a word has.
 
-ghost use Rattle.std.specs.Prelude.{◌≡◌, ◌<◌, ◌^◌, ◌↔◌, IsTrue};
-ghost use Rattle.cap_bounds.specs.Bounds.{AreBounds, IsSound, base_of, length_of, top_of};
+ghost use Rattle.std.specs.Prelude.{◌≡◌, ◌<◌, ◌^◌, ◌↔◌, ℕ, IsTrue};
+ghost use Rattle.cap_word.specs.Fields.{b_of, ie_of, t_of};
+ghost use Rattle.cap_bounds.specs.Bounds.{AreBounds, IsMantissa, IsSound, base_of, length_of, top_of};
 ghost use Rattle.cap_bounds.specs.SailDecoding.{sail_base, sail_top};
 ghost use Rattle.cap_halves.specs.Passed.{whole_of};
 
 use crate::values::Bounds;
-use cap_bounds::{bounds, sound};
+use cap_bounds::{bounds, mantissa, sound};
 use cap_halves::halves::{halves_of, word_of};
 use cap_halves::values::Halves;
+use cap_word::split;
 
 /// The bounds of a word, for all 2^128 of them.
 #[unsafe(no_mangle)]
@@ -27,6 +29,16 @@ pub extern "C" fn capcheck_decode(word: Halves) -> Bounds
         base: interval.base,
         top: halves_of(interval.top),
     }
+}
+
+/// The mantissa T of a word's top, all fourteen bits: the word has the low twelve, and the two others follow from B
+/// and IE.
+#[unsafe(no_mangle)]
+pub extern "C" fn capcheck_mantissa(word: Halves) -> u16
+    ensures relation { IsMantissa (b_of (whole_of word)) (t_of (whole_of word)) (ie_of (whole_of word)) result }
+    ensures unique { (t : ℕ) → IsMantissa (b_of (whole_of word)) (t_of (whole_of word)) (ie_of (whole_of word)) t → t ≡ result }
+{
+    mantissa(&split(word_of(word)))
 }
 
 /// Whether a word is sound: its top is its base plus its length, and is at most 2^64.

@@ -9,7 +9,9 @@
 mod accesses;
 mod clearing;
 mod decoding;
+mod explaining;
 mod header_lines;
+mod names;
 mod operations;
 mod ranges;
 mod read_lines;

@@ -7,7 +7,7 @@ ghost use Rattle.cap_bounds.specs.Range.{IsRepresentable};
 ghost use Rattle.cap_ops.specs.Authority.{StaysWithin};
 ghost use Rattle.cap_ops.specs.Faults.{fault_number};
 ghost use Rattle.cap_ops.specs.Operations as ops;
-ghost use Rattle.cap_ops.specs.Permissions.{global, has_permission, is_sealed, perm_view_of};
+ghost use Rattle.cap_ops.specs.Permissions.{permit_global, has_permission, is_sealed, perm_view_of};
 ghost use Rattle.capcheck_c.specs.Answers.{Answers};
 ghost use Rattle.cap_halves.specs.Passed.{cap_of, is_set, no_cap, whole_of};
 
@@ -43,7 +43,7 @@ fn made_from(outcome: Result<Cap, OpFault>) -> Made
 /// own (11), then where they are to be exact and are not (12).
 #[unsafe(no_mangle)]
 pub extern "C" fn capcheck_set_bounds(source: Capability, length: u64, exact: u8) -> Made
-    ensures outcome { Answers (ops.set_bounds_tests (cap_of source) length (is_set exact)) (ops.set_bounds_result (cap_of source) length) result }
+    ensures outcome { Answers (ops.set_bounds_checks (cap_of source) length (is_set exact)) (ops.set_bounds_result (cap_of source) length) result }
     ensures tag { result.cap.tag ≤ 1 }
     ensures stays_within { StaysWithin (cap_of result.cap) (cap_of source) }
     ensures escape { source.tag ≢ 0 → IsFalse (is_sealed (whole_of source.word)) → IsSound (whole_of source.word)
@@ -59,7 +59,7 @@ pub extern "C" fn capcheck_set_bounds(source: Capability, length: u64, exact: u8
 /// (13).
 #[unsafe(no_mangle)]
 pub extern "C" fn capcheck_set_addr(source: Capability, address: u64) -> Made
-    ensures outcome { Answers (ops.set_addr_tests (cap_of source) address) (ops.set_addr_result (cap_of source) address) result }
+    ensures outcome { Answers (ops.set_addr_checks (cap_of source) address) (ops.set_addr_result (cap_of source) address) result }
     ensures tag { result.cap.tag ≤ 1 }
     ensures moved_so { result.refusal ≡ 0 → ((cap_of result.cap).tag ≡ is_set source.tag)
         × (address_of (whole_of result.cap.word) ≡ address) }
@@ -76,7 +76,7 @@ pub extern "C" fn capcheck_set_addr(source: Capability, address: u64) -> Made
 /// refused (10).
 #[unsafe(no_mangle)]
 pub extern "C" fn capcheck_and_perm(source: Capability, mask: u64) -> Made
-    ensures outcome { Answers (ops.and_perm_tests (cap_of source)) (ops.and_perm_result (cap_of source) mask) result }
+    ensures outcome { Answers (ops.and_perm_checks (cap_of source)) (ops.and_perm_result (cap_of source) mask) result }
     ensures tag { result.cap.tag ≤ 1 }
     ensures view { result.refusal ≡ 0
         → perm_view_of (whole_of result.cap.word) ≡ bit_and (perm_view_of (whole_of source.word)) mask }
@@ -92,7 +92,7 @@ pub extern "C" fn capcheck_and_perm(source: Capability, mask: u64) -> Made
 /// untagged (9) or sealed (10).
 #[unsafe(no_mangle)]
 pub extern "C" fn capcheck_seal(source: Capability, authority: Capability) -> Made
-    ensures outcome { Answers (ops.seal_tests (cap_of source) (cap_of authority)) (ops.seal_result (cap_of source) (cap_of authority)) result }
+    ensures outcome { Answers (ops.seal_checks (cap_of source) (cap_of authority)) (ops.seal_result (cap_of source) (cap_of authority)) result }
     ensures tag { result.cap.tag ≤ 1 }
     ensures sealed_so { result.refusal ≡ 0 → (result.cap.tag ≡ 1) × IsTrue (is_sealed (whole_of result.cap.word))
         × (otype_of (whole_of result.cap.word) ≡ address_of (whole_of authority.word))
@@ -109,11 +109,11 @@ pub extern "C" fn capcheck_seal(source: Capability, authority: Capability) -> Ma
 /// or a reserved one (19).
 #[unsafe(no_mangle)]
 pub extern "C" fn capcheck_unseal(source: Capability, authority: Capability) -> Made
-    ensures outcome { Answers (ops.unseal_tests (cap_of source) (cap_of authority)) (ops.unseal_result (cap_of source) (cap_of authority)) result }
+    ensures outcome { Answers (ops.unseal_checks (cap_of source) (cap_of authority)) (ops.unseal_result (cap_of source) (cap_of authority)) result }
     ensures tag { result.cap.tag ≤ 1 }
     ensures unsealed_so { result.refusal ≡ 0 → (result.cap.tag ≡ 1) × IsFalse (is_sealed (whole_of result.cap.word))
-        × (has_permission (whole_of result.cap.word) global
-        ≡ (has_permission (whole_of source.word) global && has_permission (whole_of authority.word) global))
+        × (has_permission (whole_of result.cap.word) permit_global
+        ≡ (has_permission (whole_of source.word) permit_global && has_permission (whole_of authority.word) permit_global))
         × (address_of (whole_of result.cap.word) ≡ address_of (whole_of source.word)) }
     ensures stays_within { StaysWithin (cap_of result.cap) (cap_of source) }
 {

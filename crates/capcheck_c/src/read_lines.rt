@@ -1,13 +1,14 @@
 //! A line read: the inverse of the calls that write lines.
 
-ghost use Rattle.std.specs.Prelude.{◌≡◌, ◌≢◌, ◌<◌, ◌≤◌, ◌*◌, ◌^◌, true, pos};
-ghost use Rattle.cap_log.specs.Lines.{IsInRange, IsPlace};
+ghost use Rattle.std.specs.Prelude.{◌≡◌, ◌≢◌, ◌<◌, ◌≤◌, ◌*◌, ◌^◌, drop, length, take, true, pos};
+ghost use Rattle.cap_log.specs.Lines.{IsInRange, IsPlace, spelling};
+ghost use Rattle.cap_log.specs.Parts.{BeginsWithNone};
 ghost use Rattle.cap_log.specs.declared.lines.Line.TheVariants as lines;
 ghost use Rattle.cap_halves.specs.Passed.{cap_of, no_cap};
-ghost use Rattle.capcheck_c.specs.LinesRead.{IsLineRead, IsStepRead, Reads, ReadsFront};
+ghost use Rattle.capcheck_c.specs.LinesRead.{IsLineRead, IsStepRead, Reads, ReadsFront, ReadsLines};
 
 use crate::step_lines::step_read;
-use crate::values::LineRead;
+use crate::values::{LineRead, LinesCount};
 use cap_log::{Line, Mode, Place, Step, take_line};
 use cap_word::{Cap, Word};
 
@@ -34,6 +35,33 @@ pub extern "C" fn capcheck_read_line(bytes: &[u8]) -> LineRead
     match take_line(bytes) {
         Some((line, rest)) => line_read(line, bytes.len() - rest.len()),
         None => LineRead::numbered(NO_LINE, 0, 0),
+    }
+}
+
+/// Reads lines from the front of some bytes, each with its line feed, until one is none or there is no room for more:
+/// how many, and how many bytes they have. They stand at the front of `lines`, each as [`capcheck_read_line`] reads it,
+/// and the rest of `lines` is as it was.
+#[unsafe(no_mangle)]
+pub extern "C" fn capcheck_read_lines(bytes: &[u8], lines: &mut [LineRead]) -> LinesCount
+    ensures few { (result.lines ≤ length lines.new) × (result.bytes ≤ length bytes.now) }
+    ensures read { ReadsLines bytes.now (take result.lines lines.new) (drop result.bytes bytes.now) }
+    ensures rest { drop result.lines lines.new ≡ drop result.lines lines.old }
+    ensures stops { result.lines < length lines.new → BeginsWithNone IsInRange spelling 10 (drop result.bytes bytes.now) }
+{
+    let mut rest = bytes;
+    let mut count = 0;
+    while count < lines.len() {
+        let line = capcheck_read_line(rest);
+        if line.kind == NO_LINE {
+            break;
+        }
+        lines[count] = line;
+        rest = rest.split_at(line.length).1;
+        count += 1;
+    }
+    LinesCount {
+        lines: count as u64,
+        bytes: (bytes.len() - rest.len()) as u64,
     }
 }
 

@@ -1,11 +1,13 @@
-//! The names of refusals.
+//! The names of refusals, and a sentence for each.
 
 ghost use Rattle.std.specs.Prelude.{◌≡◌, ◌≢◌, ◌≤◌, [], codes, length, MatchOption};
-ghost use Rattle.cap_ops.specs.Refusals.{name_of, refusal_number};
+ghost use Rattle.cap_ops.specs.Refusals.{refusal_name, refusal_number};
 ghost use Rattle.cap_ops.specs.declared.refusal.Refusal.{Refusal};
 ghost use Rattle.capcheck_c.specs.Answers.{bad_argument, c_string};
+ghost use Rattle.capcheck_c.specs.Names.{c_string_in, refusal_sentence};
 
-use crate::values::RefusalName;
+use crate::names::{as_c_string, as_sentence};
+use crate::values::{RefusalName, Sentence};
 use cap_ops::Refusal;
 
 /// The refusal that a number stands for.
@@ -43,21 +45,11 @@ fn refusal_of(number: u8) -> Option<Refusal>
     }
 }
 
-/// A text as a C string.
-fn as_c_string(text: &str) -> RefusalName
-    requires { length text.now ≤ 20 }
-    ensures { result.text ≡ c_string text.now }
-{
-    let mut bytes = [0u8; 24];
-    bytes[..text.len()].copy_from_slice(text.as_bytes());
-    RefusalName { text: bytes }
-}
-
 /// The name of a refusal by its number, as a C string: of each that a verdict line can show, 1 to 25;
 /// `BadArgument` of 255; and an empty string of every other number.
 #[unsafe(no_mangle)]
 pub extern "C" fn capcheck_refusal_name(refusal: u8) -> RefusalName
-    ensures named { (of : Refusal) → refusal ≡ refusal_number of → result.text ≡ c_string (name_of of) }
+    ensures named { (of : Refusal) → refusal ≡ refusal_number of → result.text ≡ c_string (refusal_name of) }
     ensures bad_argument { refusal ≡ bad_argument → result.text ≡ c_string (codes "BadArgument") }
     ensures other { refusal ≢ bad_argument → ((of : Refusal) → refusal ≢ refusal_number of) → result.text ≡ c_string [] }
 {
@@ -65,5 +57,56 @@ pub extern "C" fn capcheck_refusal_name(refusal: u8) -> RefusalName
         Some(of) => as_c_string(of.name()),
         None if refusal == 255 => as_c_string("BadArgument"),
         None => as_c_string(""),
+    }
+}
+
+/// Why a line is refused, in a sentence as a C string, by the number of the refusal; an empty string of a number that no
+/// verdict line can show.
+#[unsafe(no_mangle)]
+pub extern "C" fn capcheck_refusal_sentence(refusal: u8) -> Sentence
+    ensures told { (of : Refusal) → refusal ≡ refusal_number of → result.text ≡ c_string_in 96 (refusal_sentence of) }
+    ensures other { ((of : Refusal) → refusal ≢ refusal_number of) → result.text ≡ c_string_in 96 [] }
+{
+    match refusal_of(refusal) {
+        Some(of) => as_sentence(sentence_of(of)),
+        None => as_sentence(""),
+    }
+}
+
+/// Why a line is refused.
+fn sentence_of(refusal: Refusal) -> &'static str
+    ensures sentence { result.now ≡ refusal_sentence refusal }
+    ensures short { length result.now ≤ 95 }
+{
+    match refusal {
+        Refusal::BadHeader => "The first line is neither `capcheck 1` nor `capcheck 2`.",
+        Refusal::LineTooLong => "The line has more than 95 bytes.",
+        Refusal::BadLine => "The line has none of the forms of the log's version.",
+        Refusal::Misplaced => "The line may not stand here.",
+        Refusal::Truncated => "The bytes end before a line feed, or before the end line.",
+        Refusal::WrongCount => "The end line's number isn't the number of steps.",
+        Refusal::PlaceTaken => "The root's place has a root already.",
+        Refusal::UnsoundRoot => "The root's word isn't sound.",
+        Refusal::SourceUntagged => "The source is untagged, and the step needs a tagged one.",
+        Refusal::SourceSealed => "The source is sealed, and the step needs an unsealed one.",
+        Refusal::BoundsEscape => "The rounded bounds don't lie inside the source's bounds.",
+        Refusal::NotExact => "Rounding changes the requested bounds.",
+        Refusal::NotRepresentable => "The new address doesn't keep the source's bounds.",
+        Refusal::AuthorityUntagged => "The authority is untagged.",
+        Refusal::AuthoritySealed => "The authority is sealed.",
+        Refusal::AuthorityPermission => "The authority lacks the permission that the step needs.",
+        Refusal::AuthorityBounds =>
+            "The authority's address, or a byte of the access, lies outside the authority's bounds.",
+        Refusal::TypeOutOfRange =>
+            "The authority's address is above the greatest ordinary object type.",
+        Refusal::TypeMismatch =>
+            "The source's object type isn't the authority's address, or is reserved.",
+        Refusal::Misaligned => "The address of the access is no multiple of its size.",
+        Refusal::StoreCapPermission => "A tagged capability is stored without Store Capability.",
+        Refusal::StoreLocalPermission =>
+            "A tagged capability that isn't Global is stored without Store Local Capability.",
+        Refusal::WrongResult => "The recorded result or value isn't the machine's.",
+        Refusal::LimitPassed => "A limit on roots, granules or steps is passed.",
+        Refusal::BadMode => "The line after the version line of version 2 is no mode line.",
     }
 }

@@ -113,12 +113,30 @@ pub struct AccessAnswer {
     pub refusal: u8,
 }
 
-/// The name of a refusal (in C `capcheck_name`).
+/// A name (in C `capcheck_name`).
 #[repr(C)]
 #[derive(Debug, Clone, Copy, PartialEq, Eq)]
 pub struct RefusalName {
     /// The name, and bytes 0 after it.
     pub text: [u8; 24],
+}
+
+/// A sentence (in C `capcheck_sentence`).
+#[repr(C)]
+#[derive(Debug, Clone, Copy, PartialEq, Eq)]
+pub struct Sentence {
+    /// The sentence, and bytes 0 after it.
+    pub text: [u8; 96],
+}
+
+/// How many lines were read (in C `capcheck_read`).
+#[repr(C)]
+#[derive(Debug, Clone, Copy, PartialEq, Eq)]
+pub struct LinesCount {
+    /// The number of lines.
+    pub lines: u64,
+    /// The number of their bytes, with their line feeds.
+    pub bytes: u64,
 }
 
 /// A line that was read (in C `capcheck_line`).

@@ -1,19 +1,20 @@
 -- What a handle holds, by the judge that was taken out of it.
 use Rattle.std.proofs.Common.{◌≡◌, ◌<◌, ◌⊎◌, ◌∙◌, inl, inr, ℕ, List, [], ◌∷◌, ◌++◌, ap, arith, sym, subst}
 use Rattle.std.proofs.lemmas.Bool.{false≢true}
-use Rattle.std.specs.Prelude.{None, is_some}
+use Rattle.std.specs.Prelude.{None, Option, is_some}
 use denote.RattleType.{RattleType}
 use Rattle.std.specs.declared.option.Option.TheVariants.{Some}
 use Rattle.cap_word.specs.declared.word.Cap.{Cap}
 use Rattle.cap_log.specs.Lines.{IsInRange, spelling}
 use Rattle.cap_log.specs.declared.lines.Line.{Line}
+use Rattle.cap_log.specs.declared.lines.Place.{Place}
 use Rattle.tagmem.specs.contracts.page_store.PageStore.{the_row as store_row}
 use Rattle.tagmem.specs.contracts.page_store.PageStoreTaggedStore.TheImpl.{ghosts}
 use Rattle.cap_judge.specs.contracts.judges.Judge.{the_row as judge_row}
 use Rattle.cap_judge.specs.Judgings.{account_before}
 use Rattle.cap_judge.specs.Logs.{MayLackMemory}
 use Rattle.cap_judge.specs.Readings.{BeginsWhole, HasRead, Known, Read, known_of}
-use Rattle.capcheck_judge.specs.Handles.{HandsOver, Held, Holds, known_in, state_behind}
+use Rattle.capcheck_judge.specs.Handles.{HandsOver, Held, Holds, known_in, origin_behind, state_behind}
 
 -- a judge over pages
 abbrev pub J : Type 0
@@ -37,6 +38,14 @@ held_state held bytes holds judge is cap key told =
     subst (λ (j : J). (taken : HasRead j bytes)
     → cap ≡ (account_before taken.beginning).state key) (one_held held bytes holds judge is) (told bytes) holds.taken
 
+-- the origin of what a place of its machine holds is that in the handle's
+pub held_origin : (held : Held) (bytes : List ℕ) (holds : Holds held bytes) (judge : J) → held ≡ Some judge → (root : Option Place)
+    (key : ℕ) → ((bytes : List ℕ) → (taken : HasRead judge bytes) → root ≡ (account_before taken.beginning).origin key)
+    → root ≡ origin_behind holds key
+held_origin held bytes holds judge is root key told =
+    subst (λ (j : J). (taken : HasRead j bytes)
+    → root ≡ (account_before taken.beginning).origin key) (one_held held bytes holds judge is) (told bytes) holds.taken
+
 -- a judge took a step, by the line that spells it
 pub record Stepped (line : Line) (old new : J) (state : ℕ) : Type 0 where
   pub answers : (state ≡ 0) ⊎ ((state ≡ 2) ⊎ (state ≡ 3))
@@ -58,7 +67,7 @@ not_one state (inr (inl two)) one = omega (arith, two, one)
 not_one state (inr (inr three)) one = omega (arith, three, one)
 
 -- what holds a judge isn't without one
-there : (held : Held) (judge : J) → held ≡ Some judge → held ≡ None → ⊥
+pub there : (held : Held) (judge : J) → held ≡ Some judge → held ≡ None → ⊥
 there held judge is none = false≢true (ap is_some (sym none ∙ is))
 
 -- so the handle's judge took it

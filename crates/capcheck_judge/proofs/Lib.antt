@@ -1,3 +1,4 @@
 pub mod HandleFields
 pub mod HandleLemmas
 pub mod HeldFields
+mod TakingLemmas

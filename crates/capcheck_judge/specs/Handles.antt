@@ -1,28 +1,34 @@
 -- What a handle of C holds, and what the calls on it answer (this profile's own, as are all below).
-use Rattle.std.specs.Prelude.{◌≡◌, ◌≢◌, ◌<◌, ◌≤◌, ◌↔◌, ℕ, length, List, [], ◌∷◌, ◌++◌, Option, None, Some}
+use Rattle.std.specs.Prelude.{◌≡◌, ◌≢◌, ◌<◌, ◌≤◌, ◌↔◌, ◌*◌, ℕ, length, drop, take, List, [], ◌∷◌, ◌++◌, Option, None, Some}
 use denote.RattleType.{RattleType}
 use Rattle.cap_machine.specs.States.{State}
 use Rattle.tagmem.specs.contracts.page_store.PageStore.{the_row as store_row}
 use Rattle.tagmem.specs.contracts.page_store.PageStoreTaggedStore.TheImpl.{ghosts}
 use Rattle.cap_judge.specs.contracts.judges.Judge.{the_row as judge_row}
 use Rattle.cap_word.specs.declared.word.Cap.{Cap}
+use Rattle.cap_log.specs.Front.{IsCut}
 use Rattle.cap_log.specs.Lines.{IsInRange, spelling}
 use Rattle.cap_log.specs.declared.lines.Line.{Line}
+use Rattle.cap_log.specs.declared.lines.Place.{Place}
+use Rattle.cap_log.specs.declared.lines.Place.TheVariants.{Register, Granule}
 use Rattle.cap_halves.specs.Passed.{cap_of, no_cap}
 use Rattle.cap_judge.specs.declared.verdict.Expected.{Expected}
 use Rattle.cap_judge.specs.declared.verdict.Expected.TheVariants.{Capability, Number}
 use Rattle.cap_judge.specs.declared.verdict.Verdict.{Verdict}
 use Rattle.cap_judge.specs.Expectations.{Expects}
-use Rattle.cap_judge.specs.Judgings.{account_before}
-use Rattle.cap_judge.specs.Logs.{MayLackMemory}
+use Rattle.cap_ops.specs.declared.refusal.Refusal.{Refusal}
+use Rattle.cap_judge.specs.Judgings.{IsBehind, account_before}
+use Rattle.cap_judge.specs.Logs.{Beginning, MayLackMemory, Refuses}
 use Rattle.cap_judge.specs.Readings.{BeginsWhole, HasRead, Known, Stands, known_of}
 use Rattle.cap_judge.specs.Verdicts.{IsVerdict, IsGuarded}
-use Rattle.cap_report.specs.Whys.{ExplainsSoFar}
+use Rattle.cap_report.specs.Whys.{ExplainsEnd, ExplainsSoFar}
 use Rattle.cap_report.specs.Answers.{numbers_of, without_verdict}
 use Rattle.cap_report.specs.Texts.{IsTold}
 use Rattle.cap_report.specs.declared.answers.Answer.{Answer}
 use Rattle.capcheck_judge.specs.declared.handle.Handle.{Handle}
 use Rattle.capcheck_judge.specs.declared.answers.Given.{Given}
+use Rattle.capcheck_judge.specs.declared.answers.LinesTaken.{LinesTaken}
+use Rattle.capcheck_judge.specs.declared.answers.PassedPlace.{PassedPlace}
 
 -- what a handle holds: a judge, or none
 abbrev pub Held : Type 0
@@ -61,6 +67,41 @@ pub record HandsOver (line : Line) (old new : Held) (state : ℕ) : Type 0 where
   pub no_judge : (state ≡ 4) ↔ (old ≡ None)
   pub no_line : (state ≡ 5) ↔ ((old ≢ None) × (¬ IsInRange line))
   pub held : (new ≡ None) ↔ (old ≡ None)
+
+-- a front is the text of accepted lines, and the line that begins the rest is refused, whatever follows
+abbrev pub IsRefusedAfter : List ℕ → List ℕ → Type 0
+IsRefusedAfter front rest =
+    (beginning : Beginning) × (refusal : Refusal) × IsBehind (front ++ rest) beginning rest
+    × ((more : List ℕ) → Refuses beginning (rest ++ more) refusal)
+
+-- what a call answers that hands over as many whole lines as some bytes begin with: how many bytes were taken; and that no line so far
+-- is faulty, and less than a line is left; that a line is faulty, the next one unless it was an earlier one; that memory ran out at the
+-- next line, which may be handed over again with all after it; or that there is no judge
+pub record HandsOverLines (given : List ℕ) (old new : Held) (answer : LinesTaken) : Type 0 where
+  pub few : answer.bytes ≤ length given
+  pub answers : answer.state < 5
+  pub never_yes : answer.state ≢ 1
+  pub taken : answer.state ≢ 2 → (bytes : List ℕ) → Holds old bytes → Holds new (bytes ++ take answer.bytes given)
+  pub goes_on : answer.state ≡ 0 → (bytes : List ℕ) → Holds old bytes
+      → BeginsWhole (bytes ++ take answer.bytes given) × IsCut (drop answer.bytes given)
+  pub read_all : answer.state ≡ 2 → (bytes : List ℕ) → Holds old bytes → Holds new (bytes ++ given)
+  pub at_fault : answer.state ≡ 2 → (bytes : List ℕ) → Holds old bytes → BeginsWhole (bytes ++ given) → ⊥
+  pub faulty : answer.state ≡ 2 → (bytes : List ℕ) → Holds old bytes → BeginsWhole bytes
+      → IsRefusedAfter (bytes ++ take answer.bytes given) (drop answer.bytes given)
+  pub no_memory : answer.state ≡ 3 → (bytes : List ℕ) → Holds old bytes → (more : List ℕ) × MayLackMemory (bytes ++ given) more
+  pub no_judge : (answer.state ≡ 4) ↔ (old ≡ None)
+  pub nothing : old ≡ None → answer.bytes ≡ 0
+  pub held : (new ≡ None) ↔ (old ≡ None)
+
+-- the place of the root that a place's capability descends from, behind these bytes, or before their faulty line
+abbrev pub origin_behind : {held : Held} {bytes : List ℕ} → Holds held bytes → ℕ → Option Place
+origin_behind holds = (account_before holds.taken.beginning).origin
+
+-- a place in numbers: the kind 1 is a register, 2 the granule with this address, and 0 none
+abbrev pub IsPassed : Option Place → PassedPlace → Type 0
+IsPassed None passed = (passed.kind ≡ 0) × (passed.number ≡ 0)
+IsPassed (Some (Register n)) passed = (passed.kind ≡ 1) × (passed.number ≡ n)
+IsPassed (Some (Granule n)) passed = (passed.kind ≡ 2) × (passed.number ≡ 16 * n)
 
 -- how the bytes stand, in numbers: the state 0 says that none of their lines is at fault
 abbrev pub Standing : Option Verdict → Answer → Type 0
@@ -102,5 +143,13 @@ pub record AnswersReport (bytes old new : List ℕ) (count : ℕ) : Type 0 where
   pub verdict : Option Verdict
   pub text : List ℕ
   pub explains : ExplainsSoFar bytes verdict text
+  pub few : length text ≤ 3136
+  pub told : IsTold 0 count text old new
+
+-- C gets the text of the verdict on these bytes as a whole log, where there is room for it: never more than 3,136 bytes
+pub record AnswersEndReport (bytes old new : List ℕ) (count : ℕ) : Type 0 where
+  pub verdict : Verdict
+  pub text : List ℕ
+  pub explains : ExplainsEnd bytes verdict text
   pub few : length text ≤ 3136
   pub told : IsTold 0 count text old new

@@ -4,10 +4,12 @@ ghost use Rattle.std.specs.Prelude.{◌≡◌, ◌≢◌, ◌↔◌, ◌⊎◌, 
 ghost use Rattle.cap_judge.specs.Logs.{MayLackMemory};
 ghost use Rattle.cap_judge.specs.Readings.{BeginsWhole, HasRead, IsNoLine, known_of};
 ghost use Rattle.cap_report.specs.Answers.{NamesEscapesIn, without_verdict};
-ghost use Rattle.capcheck_judge.specs.Handles.{AnswersEnd, AnswersSoFar, Holds, held_in, known_in};
+ghost use Rattle.capcheck_judge.specs.Handles.{AnswersEnd, AnswersSoFar, HandsOverLines, Holds, held_in, known_in};
+ghost use Rattle.capcheck_judge.specs.Takings.{TakesLines};
 
+use crate::answers::LinesTaken;
 use crate::handle::Handle;
-use cap_judge::{Judge, TakeFault};
+use cap_judge::{Judge, Stop, TakeFault};
 use cap_report::answers::{
     Answer, GOES_ON, NO, NO_JUDGE, NO_LINE, NO_MEMORY, numbers_of, without_verdict,
 };
@@ -62,6 +64,32 @@ pub extern "C" fn capcheck_judge_line(alloc: Global, judge: &mut Handle, line: &
             state
         }
         None => NO_JUDGE,
+    }
+}
+
+/// Takes as many whole lines as some bytes begin with, each with its line feed, and answers how many bytes they have.
+/// The state is 0 if no line so far is faulty: what is left is less than a line. It is 2 if a line is faulty: the next
+/// one after those bytes, or one that was handed over before. It is 3 if memory ran out at the next line, which may be
+/// handed over again with all after it; and 4 if the handle holds no judge.
+#[unsafe(no_mangle)]
+pub extern "C" fn capcheck_judge_lines(
+    alloc: Global,
+    judge: &mut Handle,
+    bytes: &[u8],
+) -> LinesTaken
+    ensures handed { HandsOverLines bytes.now (held_in judge.old) (held_in judge.new) result }
+{
+    match judge.take(alloc) {
+        Some(held) => {
+            let mut held = held;
+            let taken = take_lines(&mut held, bytes);
+            judge.put(held);
+            taken
+        }
+        None => LinesTaken {
+            bytes: 0,
+            state: NO_JUDGE,
+        },
     }
 }
 
@@ -136,5 +164,20 @@ fn take_line(judge: &mut Judge<PageStore>, line: &[u8]) -> u8
         },
         Err(TakeFault::NoMemory) => NO_MEMORY,
         Err(TakeFault::NoLine) => NO_LINE,
+    }
+}
+
+/// Hands lines to a judge, as [`capcheck_judge_lines`] says.
+fn take_lines(judge: &mut Judge<PageStore>, bytes: &[u8]) -> LinesTaken
+    ensures taken { TakesLines judge.old bytes.now result judge.new }
+{
+    let taken = judge.take(bytes);
+    LinesTaken {
+        bytes: taken.count as u64,
+        state: match taken.stop {
+            Stop::Cut => GOES_ON,
+            Stop::Fault => NO,
+            Stop::NoMemory => NO_MEMORY,
+        },
     }
 }

@@ -1,16 +1,24 @@
 //! What the machine of an open judge holds, and what it gives.
 
-ghost use Rattle.std.specs.Prelude.{◌≡◌, ◌⊎◌, ◌<◌, ◌≤◌, ◌/◌, ℕ, List, None, Some};
+ghost use Rattle.std.specs.Prelude.{◌≡◌, ◌≢◌, ◌⊎◌, ◌<◌, ◌≤◌, ◌/◌, ℕ, IfSome, List, None, Some};
+ghost use Rattle.cap_log.specs.Lines.{IsPlace};
+ghost use Rattle.cap_log.specs.declared.lines.Place.TheVariants.{Register, Granule};
 ghost use Rattle.cap_halves.specs.Passed.{cap_of, no_cap};
 ghost use Rattle.cap_machine.specs.States.{granule_key};
-ghost use Rattle.capcheck_judge.specs.Handles.{AnswersExpected, Holds, IsGiven, held_in, state_behind};
+ghost use Rattle.capcheck_judge.specs.Handles.{AnswersExpected, Holds, IsGiven, IsPassed, held_in, origin_behind, state_behind};
 
-use crate::answers::{Given, OptionalCap};
+use crate::answers::{Given, OptionalCap, PassedPlace};
 use crate::handle::Handle;
 use cap_halves::halves::{given, no_capability};
 use cap_judge::Expected;
+use cap_log::Place;
 use cap_word::Cap;
 use std::alloc::Global;
+
+// The kinds of places, as C has them, and 0 for none.
+const REGISTER: u8 = 1;
+
+const GRANULE: u8 = 2;
 
 /// What a register holds after the lines so far, or before the faulty line: 0 to 31, of which 0 is c0. There is
 /// none above 31, and none where the handle holds no judge.
@@ -60,6 +68,72 @@ pub extern "C" fn capcheck_judge_granule(
             there(cap)
         }
         None => nothing(),
+    }
+}
+
+/// The place of the root that the capability in a place descends from, after the lines so far, or before the faulty
+/// line. The place is a register, 1 to 31, or the granule that an address lies in. There is none if it holds no tagged
+/// capability, if the numbers name no place, and if the handle holds no judge.
+#[unsafe(no_mangle)]
+pub extern "C" fn capcheck_judge_origin(
+    alloc: Global,
+    judge: &mut Handle,
+    place: PassedPlace,
+) -> PassedPlace
+    ensures register { place.kind ≡ 1 → 1 ≤ place.number → place.number ≤ 31 → (bytes : List ℕ)
+        → (holds : Holds (held_in judge.old) bytes) → IsPassed (origin_behind holds place.number) result }
+    ensures granule { place.kind ≡ 2 → (bytes : List ℕ) → (holds : Holds (held_in judge.old) bytes)
+        → IsPassed (origin_behind holds (granule_key (place.number / 16))) result }
+    ensures no_place { (place.kind ≢ 1) × (place.kind ≢ 2) → IsPassed None result }
+    ensures no_register { (place.kind ≡ 1) × ((place.number ≡ 0) ⊎ (31 < place.number)) → IsPassed None result }
+    ensures no_judge { held_in judge.old ≡ None → IsPassed None result }
+    ensures kept { held_in judge.new ≡ held_in judge.old }
+{
+    let Some(of) = place_of(place) else {
+        return passed(None);
+    };
+    match judge.take(alloc) {
+        Some(held) => {
+            let root = held.origin(of);
+            judge.put(held);
+            passed(root)
+        }
+        None => passed(None),
+    }
+}
+
+/// The place that C names.
+fn place_of(place: PassedPlace) -> Option<Place>
+    ensures in_range { IfSome result IsPlace }
+    ensures register { place.kind ≡ 1 → 1 ≤ place.number → place.number ≤ 31 → result ≡ Some (Register place.number) }
+    ensures granule { place.kind ≡ 2 → result ≡ Some (Granule (place.number / 16)) }
+    ensures no_place { (place.kind ≢ 1) × (place.kind ≢ 2) → result ≡ None }
+    ensures no_register { (place.kind ≡ 1) × ((place.number ≡ 0) ⊎ (31 < place.number)) → result ≡ None }
+{
+    match place.kind {
+        REGISTER if 0 < place.number && place.number < 32 => {
+            Some(Place::Register(place.number as u8))
+        }
+        GRANULE => Some(Place::Granule(place.number / 16)),
+        _ => None,
+    }
+}
+
+/// A place as C gets it.
+fn passed(place: Option<Place>) -> PassedPlace
+    requires { IfSome place IsPlace }
+    ensures passed { IsPassed place result }
+{
+    match place {
+        Some(Place::Register(register)) => PassedPlace {
+            number: u64::from(register),
+            kind: REGISTER,
+        },
+        Some(Place::Granule(granule)) => PassedPlace {
+            number: 16 * granule,
+            kind: GRANULE,
+        },
+        None => PassedPlace { number: 0, kind: 0 },
     }
 }
 

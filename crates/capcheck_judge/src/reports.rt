@@ -2,13 +2,13 @@
 
 ghost use Rattle.std.specs.Prelude.{◌≡◌, ℕ, List, None};
 ghost use Rattle.cap_judge.specs.Readings.{HasRead};
-ghost use Rattle.capcheck_judge.specs.Handles.{AnswersReport, Holds, held_in};
+ghost use Rattle.capcheck_judge.specs.Handles.{AnswersEndReport, AnswersReport, Holds, held_in};
 
 use crate::handle::Handle;
 use cap_judge::Judge;
 use cap_log::PushFault;
-use cap_report::push_refused;
 use cap_report::texts::TextSink;
+use cap_report::{push_ending, push_refused};
 use std::alloc::Global;
 use tagmem::{PageStore, TaggedStore};
 
@@ -30,6 +30,43 @@ pub extern "C" fn capcheck_judge_report(alloc: Global, judge: &mut Handle, text:
             length
         }
         None => 0,
+    }
+}
+
+/// Writes what `capdiag why` prints of the lines so far as a whole log: the line of the verdict, and after a `no` the
+/// diagnosis of the faulty line. It answers how many bytes the text has, never more than 3,136, and none where the
+/// handle holds no judge. The text stands at the front of its room where it fits. Where it doesn't, the room holds
+/// anything. Further lines may be handed over after it.
+#[unsafe(no_mangle)]
+pub extern "C" fn capcheck_judge_end_report(
+    alloc: Global,
+    judge: &mut Handle,
+    text: &mut [u8],
+) -> u64
+    ensures report { (bytes : List ℕ) → Holds (held_in judge.old) bytes → AnswersEndReport bytes text.old text.new result }
+    ensures none { held_in judge.old ≡ None → result ≡ 0 }
+    ensures nothing_written { held_in judge.old ≡ None → text.new ≡ text.old }
+    ensures kept { held_in judge.new ≡ held_in judge.old }
+{
+    match judge.take(alloc) {
+        Some(held) => {
+            let length = write_end_report(&held, text);
+            judge.put(held);
+            length
+        }
+        None => 0,
+    }
+}
+
+// Writes the text of the verdict on a judge's lines as a whole log, and answers its length.
+fn write_end_report(judge: &Judge<PageStore>, text: &mut [u8]) -> u64
+    ensures { (bytes : List ℕ) → HasRead judge.now bytes
+        → AnswersEndReport bytes text.old text.new result }
+{
+    let mut sink = TextSink::new(text);
+    match push_ending(judge, &[], &mut sink) {
+        Ok(()) => sink.length(),
+        Err(PushFault) => 0,
     }
 }
 

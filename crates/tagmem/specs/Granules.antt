@@ -46,7 +46,7 @@ code_at m granule = let entry = entry_at m granule in entry.2
 abbrev pub IsCodeFor : Bool → ℕ → Type 0
 IsCodeFor tag code = (code ≡ 0) ↔ (tag ≡ false)
 
--- the bytes after a write of new ones from a byte index on: those before and after them stay (this profile's own)
+-- bytes with new ones from a byte index on (this profile's own)
 abbrev pub overwritten : List ℕ → ℕ → List ℕ → List ℕ
 overwritten bytes byte_index new = take byte_index bytes ++ new ++ drop (byte_index + length new) bytes
 

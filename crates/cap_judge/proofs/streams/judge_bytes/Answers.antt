@@ -1,12 +1,12 @@
 use Rattle.std.proofs.Common.{IfErr, IfOk, arith, rules}
-use Rattle.cap_judge.specs.Verdicts.{IsFault, IsVerdict}
+use Rattle.cap_judge.specs.Verdicts.{NoVerdictIn, IsVerdict}
 use Rattle.cap_judge.proofs.EscapeLaws.{escapes_of}
 use Rattle.cap_judge.proofs.JudgeLemmas.{answered, guarded}
 use Rattle.cap_judge.proofs.SourceLemmas.{of_all}
 use Rattle.cap_judge.proofs.streams.judge_bytes.Goals as goal
 
 -- a slice counts no fault
-both : (c : goal.After-judge) → IfOk c.judge.result (IsVerdict c.args.bytes.now) × IfErr c.judge.result (IsFault c.args.bytes.now)
+both : (c : goal.After-judge) → IfOk c.judge.result (IsVerdict c.args.bytes.now) × IfErr c.judge.result (NoVerdictIn c.args.bytes.now)
 both c =
     let judged = c.judge.ensures.judged in
     of_all c.args.bytes.now judged.given c.judge.new.source.rest.now c.judge.new.source.is_ended c.judge.result (search rules)

@@ -6,15 +6,15 @@ use Rattle.cap_word.specs.declared.word.Cap.{Cap}
 use Rattle.cap_ops.specs.declared.faults.OpFault.{OpFault}
 use Rattle.cap_ops.specs.declared.access.Access.{Access}
 use Rattle.cap_ops.specs.Refusals.{refusal_of}
-use Rattle.cap_ops.specs.Tests.{first_of}
-use Rattle.cap_ops.specs.Accesses.{IsAllowed, access_address, access_tests, permission_for}
+use Rattle.cap_ops.specs.Checks.{first_of}
+use Rattle.cap_ops.specs.Accesses.{IsAllowed, access_address, access_checks, permission_for}
 use Rattle.cap_ops.proofs.AccessLemmas.{IsAllowed-access, in_granule}
 use Rattle.cap_ops.proofs.accesses.access_by.Goals as goal
 
 -- what the tests that all failed leave
 allowed : (authority : Cap) (access : Access) (target : ℕ) (fault : Option OpFault) → FitsSigned w16 access.offset
     → target ≡ access_address authority.word.0 (cast_signed w16 (cast_unsigned w16 access.offset))
-    → option_map refusal_of fault ≡ first_of (access_tests authority access.kind access.offset access.size) → fault ≡ None
+    → option_map refusal_of fault ≡ first_of (access_checks authority access.kind access.offset access.size) → fault ≡ None
     → IsAllowed authority.word.0 target access.size (permission_for access.kind)
 allowed authority access target fault fits at first none =
     let w = authority.word.0 in

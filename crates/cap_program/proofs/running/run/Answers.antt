@@ -2,7 +2,7 @@ use Rattle.std.proofs.Common.{List, Option, ℕ, subst}
 use Rattle.std.specs.Io.KnownBytes.{Appends, Consumes}
 use Rattle.cap_program.specs.Doings.{ended_by, known_bytes}
 use Rattle.cap_program.specs.Faults.{fault_line}
-use Rattle.cap_program.specs.Runs.{IsFaultOf}
+use Rattle.cap_program.specs.Runs.{TellsFault}
 use Rattle.cap_program.proofs.Doing.{given_of}
 use Rattle.cap_program.proofs.RunLemmas.{ran_at, ran_by, ran_missing, ran_silent, ran_told}
 use Rattle.cap_program.proofs.running.run.Goals as goal
@@ -21,7 +21,7 @@ returns g c =
     d.0 d.1 in
     let gives = subst (λ (left : Option (List ℕ)). Consumes left k.0 d.0) c.opened-input.ensures.known k.1 in
     let prints = m.prints order input in
-    let belongs = IsFaultOf prints (m.fails order) input in
+    let belongs = TellsFault prints (m.fails order) input in
     let faulty = m.is_faulty order in
     let r = ran_at prints belongs faulty before after c.write_out.result c.exit_status.result
     (ran_by (m.shows order d.0 ended) (m.fails order) prints faulty input k.0 d.0 before after gives

@@ -1,4 +1,4 @@
-use Rattle.std.proofs.Common.{◌++◌, ◌≤◌, length, Some, subst, take}
+use Rattle.std.proofs.Common.{◌++◌, Some, subst}
 use Rattle.cap_machine.specs.Helds.{account_of}
 use Rattle.cap_judge.specs.FaultLines.{bytes_of}
 use Rattle.cap_judge.specs.Readings.{known_of}
@@ -12,24 +12,24 @@ pub returns-in-Some-clause-ok : goal.returns-in-Some-clause-ok
 returns-in-Some-clause-ok g c =
     let fault = c.in-Some.fault in
     let held = (known_of c.args.judge.now).held in
-    on_ok c.push_no.result (λ p. λ bytes read. (
-      Some (No fault.line fault.refusal),
-      verdict_line (No fault.line fault.refusal) ++ p.0,
-      so_far bytes held fault p.0 (c.in-Some.ensures.stands bytes read)
-          (subst (λ h. IsLineReport (account_of h) (bytes_of fault.text) fault.refusal p.0) c.machine.ensures.held p.1),
-      subst (λ v. g.K.Sink.took c.args.sink.now c.push_no.new.sink (verdict_line v ++ p.0)) c.verdict.ensures.value p.2,
-      subst (λ v. length (verdict_line v ++ p.0) ≤ 3136) c.verdict.ensures.value p.3,
-    )) c.push_no.ensures.ok
-
-pub returns-in-Some-clause-err : goal.returns-in-Some-clause-err
-returns-in-Some-clause-err g c =
-    let fault = c.in-Some.fault in
-    let held = (known_of c.args.judge.now).held in
-    on_err c.push_no.result (λ p. λ bytes read. (
+    on_ok c.push_fault.result (λ p. λ bytes read. (
       Some (No fault.line fault.refusal),
       verdict_line (No fault.line fault.refusal) ++ p.0,
       so_far bytes held fault p.0 (c.in-Some.ensures.stands bytes read)
           (subst (λ h. IsLineReport (account_of h) (bytes_of fault.text) fault.refusal p.0) c.machine.ensures.held p.1),
       p.2,
-      subst (λ v. g.K.Sink.took c.args.sink.now c.push_no.new.sink (take p.2 (verdict_line v ++ p.0))) c.verdict.ensures.value p.3,
-    )) c.push_no.ensures.err
+      p.3,
+    )) c.push_fault.ensures.ok
+
+pub returns-in-Some-clause-err : goal.returns-in-Some-clause-err
+returns-in-Some-clause-err g c =
+    let fault = c.in-Some.fault in
+    let held = (known_of c.args.judge.now).held in
+    on_err c.push_fault.result (λ p. λ bytes read. (
+      Some (No fault.line fault.refusal),
+      verdict_line (No fault.line fault.refusal) ++ p.0,
+      so_far bytes held fault p.0 (c.in-Some.ensures.stands bytes read)
+          (subst (λ h. IsLineReport (account_of h) (bytes_of fault.text) fault.refusal p.0) c.machine.ensures.held p.1),
+      p.2,
+      p.3,
+    )) c.push_fault.ensures.err

@@ -5,7 +5,7 @@ use Rattle.cap_log.specs.declared.lines.Line.{Line}
 use Rattle.cap_log.specs.declared.lines.Line.TheVariants as lines
 use Rattle.cap_judge.specs.Readings.{EndsFor, GoesOn, known_of}
 use Rattle.cap_judge.proofs.ReachLemmas.{step_ended}
-use Rattle.cap_judge.proofs.ReadingLemmas.{at, end_formed, from_known, header_from, header_tests, root_formed, step_forms, step_goes}
+use Rattle.cap_judge.proofs.ReadingLemmas.{at, end_formed, from_known, header_from, header_checks, root_formed, step_forms, step_goes}
 use Rattle.cap_judge.proofs.ResultLemmas.{err_part, ok_part}
 use Rattle.cap_judge.proofs.judges.Judge.follow_body.Goals as goal
 
@@ -13,7 +13,7 @@ pub returns-in-Version-clause-err : goal.returns-in-Version-clause-err
 returns-in-Version-clause-err g c =
     let held = c.args.self.now.machine in
     header_from c.args.self.now.stage held c.args.line.now c.refusal_of_header.result c.requires.body c.requires.in_range
-    (header_tests (account_of held) c.args.line.now c.in-Version.is)
+    (header_checks (account_of held) c.args.line.now c.in-Version.is)
     c.refusal_of_header.ensures.formed c.refusal_of_header.ensures.formless
 
 pub returns-in-Root-clause-err : goal.returns-in-Root-clause-err

@@ -1,10 +1,10 @@
 use Rattle.std.proofs.Common.{◌≡◌, ◌+◌, ◌<◌, Some, sym, ◌∙◌, refl, rules, subst, true, false}
 use Rattle.std.proofs.lemmas.Bool.{eq-eqb, ne_eqb}
 use Rattle.cap_log.specs.declared.kinds.Step.TheVariants.{Load}
-use Rattle.cap_ops.specs.Tests.{first_of}
+use Rattle.cap_ops.specs.Checks.{first_of}
 use Rattle.cap_ops.specs.declared.refusal.Refusal.TheVariants.{LimitPassed}
 use Rattle.cap_machine.specs.Accounts.{most_steps}
-use Rattle.cap_machine.specs.Changes.{last_tests}
+use Rattle.cap_machine.specs.Changes.{last_checks}
 use Rattle.cap_machine.specs.Helds.{Held, Makes}
 use Rattle.cap_machine.proofs.MadeLemmas.{loaded_value, load_refused, value_read}
 use Rattle.cap_machine.proofs.instructions.LoadInstruction.perform.Goals as goal
@@ -22,7 +22,7 @@ returns-then-machine-ge-MOST_STEPS-clause-outcome g c =
     let out = c.in_ok-address.ensures.outcome in
     let read = value_read old c.args.self _ _ out.1 (rw c.size-size.ensures.size at c.value-number.ensures.value) in
     load_refused old c.args.self true _ out.0 (eq-eqb c.args.self.datum.value _ (sym (c.if-number-recorded.false ∙ c.value-recorded.ensures.value) ∙ read))
-    (subst (λ (held : Held). first_of (last_tests held true) ≡ Some LimitPassed) c.machine.view_is (search rules))
+    (subst (λ (held : Held). first_of (last_checks held true) ≡ Some LimitPassed) c.machine.view_is (search rules))
 
 pub returns-clause-outcome : goal.returns-clause-outcome
 returns-clause-outcome g c =

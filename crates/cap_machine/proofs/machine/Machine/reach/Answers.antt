@@ -2,9 +2,9 @@ use Rattle.std.proofs.Common.{◌≡◌, ℤ, Some, refl, rules, subst}
 use Rattle.std.proofs.lemmas.Int.{to_z-of_z}
 use Rattle.std.specs.Prelude.{FitsSigned}
 use Rattle.std.specs.Int.{w16}
-use Rattle.cap_ops.specs.Accesses.{access_tests}
+use Rattle.cap_ops.specs.Accesses.{access_checks}
 use Rattle.cap_ops.specs.Refusals.{refusal_of}
-use Rattle.cap_ops.specs.Tests.{first_of}
+use Rattle.cap_ops.specs.Checks.{first_of}
 use Rattle.cap_machine.specs.Helds.{state_of}
 use Rattle.cap_machine.proofs.MadeLemmas.{faulted_as}
 use Rattle.cap_machine.proofs.machine.Machine.reach.Goals as goal
@@ -14,8 +14,8 @@ returns-in-Err-clause-outcome g c =
     let old = c.args.self.now in
     let fault = c.in-Err.fault in
     let fits : FitsSigned w16 c.args.offset = search rules in
-    let found : first_of (access_tests (state_of old c.args.authority) c.args.kind c.args.offset c.args.size) ≡ Some (refusal_of fault) =
-    subst (λ (z : ℤ). first_of (access_tests (state_of old c.args.authority) c.args.kind z c.args.size) ≡ Some (refusal_of fault))
+    let found : first_of (access_checks (state_of old c.args.authority) c.args.kind c.args.offset c.args.size) ≡ Some (refusal_of fault) =
+    subst (λ (z : ℤ). first_of (access_checks (state_of old c.args.authority) c.args.kind z c.args.size) ≡ Some (refusal_of fault))
     (to_z-of_z w16 c.args.offset fits) (rw (c.register.ensures.holds, c.number-2.ensures.number, c.number.ensures.number) at c.in-Err.ensures.outcome) in
     rw c.from.ensures (faulted_as old (g.O.Operands.step c.args.step.now) _ fault (refusal_of fault) c.requires.row.1
     (rw (c.requires.row.0) found) refl)

@@ -1,0 +1,14 @@
+use Rattle.std.proofs.Common.{length, ◌-◌, ◌≡◌, ◌≤◌, drop, take}
+use Rattle.capcheck_c.specs.LinesRead.{ReadsLines}
+use Rattle.capcheck_c.proofs.read_lines.capcheck_read_lines.Given as goal
+
+abbrev pub invariant-loop-count : goal.invariant-loop-count
+invariant-loop-count l = record {
+  fits : l.count ≤ length l.fn.lines;
+  long : length l.lines ≡ length l.fn.lines;
+  read : ReadsLines l.fn.bytes (take l.count l.lines) l.rest;
+  after : drop l.count l.lines ≡ drop l.count l.fn.lines;
+}
+
+abbrev pub decreases-loop-count : goal.decreases-loop-count
+decreases-loop-count l = length l.initial.lines - l.count

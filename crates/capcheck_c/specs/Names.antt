@@ -1,0 +1,90 @@
+-- The names of what C knows by number, as C strings, and a sentence for each (this profile's own, as are all below).
+use Rattle.std.specs.Prelude.{ℕ, zero, suc, ◌-◌, List, [], ◌∷◌, ◌++◌, codes, length, replicate}
+use Rattle.cap_ops.specs.declared.refusal.Refusal.{Refusal}
+use Rattle.cap_ops.specs.declared.refusal.Refusal.TheVariants.{BadHeader, LineTooLong, BadLine, Misplaced, Truncated}
+use Rattle.cap_ops.specs.declared.refusal.Refusal.TheVariants.{WrongCount, PlaceTaken, UnsoundRoot, SourceUntagged, SourceSealed}
+use Rattle.cap_ops.specs.declared.refusal.Refusal.TheVariants.{BoundsEscape, NotExact, NotRepresentable, AuthorityUntagged, AuthoritySealed}
+use Rattle.cap_ops.specs.declared.refusal.Refusal.TheVariants.{AuthorityPermission, AuthorityBounds, TypeOutOfRange, TypeMismatch, Misaligned}
+use Rattle.cap_ops.specs.declared.refusal.Refusal.TheVariants.{StoreCapPermission, StoreLocalPermission, WrongResult, LimitPassed, BadMode}
+
+-- bytes that hold a text as a C string: the text, and zeros after it
+abbrev pub c_string_in : ℕ → List ℕ → List ℕ
+c_string_in size text = text ++ replicate (size - length text) 0
+
+-- the text with a number, counted from 0, and none after the last
+abbrev pub text_at : List (List ℕ) → ℕ → List ℕ
+text_at [] number = []
+text_at (text ∷ texts) zero = text
+text_at (text ∷ texts) (suc number) = text_at texts number
+
+-- the states of an answer
+abbrev pub state_names : List (List ℕ)
+state_names =
+    codes "GoesOn" ∷ codes "Yes" ∷ codes "No" ∷ codes "NoMemory" ∷ codes "NoJudge" ∷ codes "NoLine" ∷ []
+
+abbrev pub state_sentences : List (List ℕ)
+state_sentences =
+    codes "No line so far is faulty."
+    ∷ codes "The log is accepted: its steps have a run from its roots."
+    ∷ codes "The log is rejected: a line is faulty."
+    ∷ codes "Out of memory: there is no verdict."
+    ∷ codes "The judge isn't open."
+    ∷ codes "The bytes aren't one line with its line feed, or a number is out of range."
+    ∷ []
+
+-- the kinds of lines, from 0, which is none: each has the word that its lines begin with
+abbrev pub kind_names : List (List ℕ)
+kind_names =
+    [] ∷ codes "capcheck" ∷ codes "mode" ∷ codes "root" ∷ codes "root" ∷ codes "move" ∷ codes "cleartag"
+    ∷ codes "setbounds" ∷ codes "setboundsexact" ∷ codes "setaddr" ∷ codes "andperm" ∷ codes "seal" ∷ codes "unseal"
+    ∷ codes "lc" ∷ codes "sc" ∷ codes "load" ∷ codes "store" ∷ codes "end" ∷ []
+
+abbrev pub kind_sentences : List (List ℕ)
+kind_sentences =
+    []
+    ∷ codes "The first line: the version of the log."
+    ∷ codes "The second line of a log of version 2: strict or clear mode."
+    ∷ codes "A capability that a register holds at the start."
+    ∷ codes "A capability that a granule of memory holds at the start."
+    ∷ codes "Copies a register."
+    ∷ codes "Copies a register without its tag."
+    ∷ codes "Narrows the bounds, rounded."
+    ∷ codes "Narrows the bounds, and is refused if they are rounded."
+    ∷ codes "Sets the address."
+    ∷ codes "Removes permissions."
+    ∷ codes "Seals a capability with an authority's object type."
+    ∷ codes "Unseals a capability with an authority of its object type."
+    ∷ codes "Loads a capability."
+    ∷ codes "Stores a capability."
+    ∷ codes "Loads data."
+    ∷ codes "Stores data, and clears the tag of the granule."
+    ∷ codes "The last line: the number of steps."
+    ∷ []
+
+-- why a line is refused
+abbrev pub refusal_sentence : Refusal → List ℕ
+refusal_sentence BadHeader = codes "The first line is neither `capcheck 1` nor `capcheck 2`."
+refusal_sentence LineTooLong = codes "The line has more than 95 bytes."
+refusal_sentence BadLine = codes "The line has none of the forms of the log's version."
+refusal_sentence Misplaced = codes "The line may not stand here."
+refusal_sentence Truncated = codes "The bytes end before a line feed, or before the end line."
+refusal_sentence WrongCount = codes "The end line's number isn't the number of steps."
+refusal_sentence PlaceTaken = codes "The root's place has a root already."
+refusal_sentence UnsoundRoot = codes "The root's word isn't sound."
+refusal_sentence SourceUntagged = codes "The source is untagged, and the step needs a tagged one."
+refusal_sentence SourceSealed = codes "The source is sealed, and the step needs an unsealed one."
+refusal_sentence BoundsEscape = codes "The rounded bounds don't lie inside the source's bounds."
+refusal_sentence NotExact = codes "Rounding changes the requested bounds."
+refusal_sentence NotRepresentable = codes "The new address doesn't keep the source's bounds."
+refusal_sentence AuthorityUntagged = codes "The authority is untagged."
+refusal_sentence AuthoritySealed = codes "The authority is sealed."
+refusal_sentence AuthorityPermission = codes "The authority lacks the permission that the step needs."
+refusal_sentence AuthorityBounds = codes "The authority's address, or a byte of the access, lies outside the authority's bounds."
+refusal_sentence TypeOutOfRange = codes "The authority's address is above the greatest ordinary object type."
+refusal_sentence TypeMismatch = codes "The source's object type isn't the authority's address, or is reserved."
+refusal_sentence Misaligned = codes "The address of the access is no multiple of its size."
+refusal_sentence StoreCapPermission = codes "A tagged capability is stored without Store Capability."
+refusal_sentence StoreLocalPermission = codes "A tagged capability that isn't Global is stored without Store Local Capability."
+refusal_sentence WrongResult = codes "The recorded result or value isn't the machine's."
+refusal_sentence LimitPassed = codes "A limit on roots, granules or steps is passed."
+refusal_sentence BadMode = codes "The line after the version line of version 2 is no mode line."

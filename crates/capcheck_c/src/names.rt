@@ -1,0 +1,123 @@
+//! The names of what C knows by number, and a sentence for each.
+
+ghost use Rattle.std.specs.Prelude.{◌≡◌, ◌≤◌, codes, length};
+ghost use Rattle.capcheck_c.specs.Answers.{c_string};
+ghost use Rattle.capcheck_c.specs.Names.{c_string_in, kind_names, kind_sentences, state_names, state_sentences, text_at};
+
+use crate::values::{RefusalName, Sentence};
+
+/// The version of this library, that of `include/capcheck.h`.
+const VERSION: &str = "1.2.0";
+
+/// A text as a C string.
+pub(crate) fn as_c_string(text: &str) -> RefusalName
+    requires { length text.now ≤ 23 }
+    ensures { result.text ≡ c_string text.now }
+{
+    let mut bytes = [0u8; 24];
+    bytes[..text.len()].copy_from_slice(text.as_bytes());
+    RefusalName { text: bytes }
+}
+
+/// A sentence as a C string.
+pub(crate) fn as_sentence(text: &str) -> Sentence
+    requires { length text.now ≤ 95 }
+    ensures { result.text ≡ c_string_in 96 text.now }
+{
+    let mut bytes = [0u8; 96];
+    bytes[..text.len()].copy_from_slice(text.as_bytes());
+    Sentence { text: bytes }
+}
+
+/// The version of the library, as `1.2.0`.
+#[unsafe(no_mangle)]
+pub extern "C" fn capcheck_version() -> RefusalName
+    ensures version { result.text ≡ c_string (codes "1.2.0") }
+{
+    as_c_string(VERSION)
+}
+
+/// The name of a state of an answer, as `GoesOn`, and an empty string of a number that is none.
+#[unsafe(no_mangle)]
+pub extern "C" fn capcheck_state_name(state: u8) -> RefusalName
+    ensures name { result.text ≡ c_string (text_at state_names state) }
+{
+    as_c_string(match state {
+        0 => "GoesOn",
+        1 => "Yes",
+        2 => "No",
+        3 => "NoMemory",
+        4 => "NoJudge",
+        5 => "NoLine",
+        _ => "",
+    })
+}
+
+/// The word that a line of a kind begins with, as `setbounds`, and an empty string of a number that is no kind.
+#[unsafe(no_mangle)]
+pub extern "C" fn capcheck_kind_name(kind: u8) -> RefusalName
+    ensures name { result.text ≡ c_string (text_at kind_names kind) }
+{
+    as_c_string(match kind {
+        1 => "capcheck",
+        2 => "mode",
+        3 | 4 => "root",
+        5 => "move",
+        6 => "cleartag",
+        7 => "setbounds",
+        8 => "setboundsexact",
+        9 => "setaddr",
+        10 => "andperm",
+        11 => "seal",
+        12 => "unseal",
+        13 => "lc",
+        14 => "sc",
+        15 => "load",
+        16 => "store",
+        17 => "end",
+        _ => "",
+    })
+}
+
+/// What a state says, in a sentence, and an empty string of a number that is none.
+#[unsafe(no_mangle)]
+pub extern "C" fn capcheck_state_sentence(state: u8) -> Sentence
+    ensures sentence { result.text ≡ c_string_in 96 (text_at state_sentences state) }
+{
+    as_sentence(match state {
+        0 => "No line so far is faulty.",
+        1 => "The log is accepted: its steps have a run from its roots.",
+        2 => "The log is rejected: a line is faulty.",
+        3 => "Out of memory: there is no verdict.",
+        4 => "The judge isn't open.",
+        5 => "The bytes aren't one line with its line feed, or a number is out of range.",
+        _ => "",
+    })
+}
+
+/// What a kind of line is, in a sentence, and an empty string of a number that is no kind.
+#[unsafe(no_mangle)]
+pub extern "C" fn capcheck_kind_sentence(kind: u8) -> Sentence
+    ensures sentence { result.text ≡ c_string_in 96 (text_at kind_sentences kind) }
+{
+    as_sentence(match kind {
+        1 => "The first line: the version of the log.",
+        2 => "The second line of a log of version 2: strict or clear mode.",
+        3 => "A capability that a register holds at the start.",
+        4 => "A capability that a granule of memory holds at the start.",
+        5 => "Copies a register.",
+        6 => "Copies a register without its tag.",
+        7 => "Narrows the bounds, rounded.",
+        8 => "Narrows the bounds, and is refused if they are rounded.",
+        9 => "Sets the address.",
+        10 => "Removes permissions.",
+        11 => "Seals a capability with an authority's object type.",
+        12 => "Unseals a capability with an authority of its object type.",
+        13 => "Loads a capability.",
+        14 => "Stores a capability.",
+        15 => "Loads data.",
+        16 => "Stores data, and clears the tag of the granule.",
+        17 => "The last line: the number of steps.",
+        _ => "",
+    })
+}
