@@ -1,0 +1,85 @@
+"use strict";
+// What is wrong in a refused line, in a sentence with the numbers of its report.
+
+const bytesIn = (count) => (count === 1n ? "one byte" : counted(count, "byte"));
+const listed = (parts) => parts.join(", ").replace(/, ([^,]*)$/, " and $1");
+const boundsOf = ({ bounds: [base, top] }) => ({ base, top });
+const addressOf = ({ word }) => ox(BigInt(`0x${word.slice(16)}`));
+
+/** How far a range goes beyond another one, or nothing. */
+function beyond(range, within) {
+    const below = within.base - range.base;
+    const above = range.top - within.top;
+    return listed([
+        ...(below > 0n ? [`begins ${bytesIn(below)} below`] : []),
+        ...(above > 0n ? [`ends ${bytesIn(above)} above`] : []),
+    ]);
+}
+
+/** Each check of a step that fails, by its refusal, with what it compares. */
+const FAILED = {
+    SourceUntagged: ({ source }) => `${source.place} has no tag`,
+    SourceSealed: ({ source }) => `${source.place} is sealed with type 0x${source.otype[0]}`,
+    BoundsEscape: ({ source }, { request, rounded }) => {
+        const asked = beyond(request, boundsOf(source));
+        return `${asked ? "the request" : "rounded, the request"} ${asked || beyond(rounded, boundsOf(source))} ${source.place}'s bounds`;
+    },
+    NotExact: (caps, { request, rounded }) => `rounded, the request ${beyond(rounded, request)} what it asks for`,
+    NotRepresentable: ({ source }, { representable }, { parts }) =>
+        `0x${parts.address.replace(/^0*(?=.)/, "")} isn't an address that keeps ${source.place}'s bounds: these are ${span(representable)}`,
+    AuthorityUntagged: ({ authority }) => `${authority.place} has no tag`,
+    AuthoritySealed: ({ authority }) => `${authority.place} is sealed with type 0x${authority.otype[0]}`,
+    AuthorityPermission: ({ authority }, spans, { needs }) =>
+        `${authority.place} lacks ${listed(permissionNames(parseInt(needs, 16) & ~parseInt(authority.perms[0], 16)))}`,
+    AuthorityBounds: ({ authority }, { access }) => (access
+        ? `the access ${beyond(access, boundsOf(authority))} ${authority.place}'s bounds`
+        : `${authority.place}'s address, ${addressOf(authority)}, is outside its bounds`),
+    TypeOutOfRange: ({ authority }) => `${authority.place}'s address, ${addressOf(authority)}, is above the greatest object type`,
+    TypeMismatch: ({ source, authority }) =>
+        `${source.place}'s object type is 0x${source.otype.join(" ")}, and ${authority.place}'s address ${addressOf(authority)}`,
+    Misaligned: (caps, { access: { base, top } }) => `the address ${ox(base)} isn't a multiple of ${decimal(top - base)}`,
+    StoreCapPermission: ({ source, authority }) => `${source.place} has a tag, and ${authority.place} lacks Store Capability`,
+    StoreLocalPermission: ({ source, authority }) =>
+        `${source.place} has a tag and lacks Global, and ${authority.place} lacks Store Local Capability`,
+};
+
+/** What a capability has in fields that differ from another one's. */
+function differing(cap, other, differs) {
+    const view = (it) => parseInt(it.perms[0], 16);
+    const more = permissionNames(view(cap) & ~view(other));
+    const one = {
+        tag: () => `tag ${cap.tag}`,
+        perms: () => (more.length ? `the permission${more.length > 1 ? "s" : ""} ${listed(more)}`
+            : `no permission ${permissionNames(view(other) & ~view(cap)).join(" or ")}`),
+        otype: () => `type 0x${cap.otype[0]}`,
+        address: () => `address ${addressOf(cap)}`,
+        ie: () => `bounds ${span(boundsOf(cap))}`,
+    };
+    const isBound = (field) => ["ie", "e", "b", "t"].includes(field);
+    const fields = [...new Set(differs.map((field) => (isBound(field) ? "ie" : field)))];
+    return listed(fields.map((field) => one[field]?.() ?? `another ${field} field`));
+}
+
+function wrongResult({ caps, values, differs, cleared, spans }, parts) {
+    if (values.recorded) return `it records 0x${values.recorded}; memory holds 0x${values.gives}`;
+    const { gives, recorded } = caps;
+    if (!gives || !recorded) return REFUSALS.WrongResult;
+    const records = `it records ${differing(recorded, gives, differs)}`;
+    const why = cleared && FAILED[cleared.split(" ")[1]];
+    if (differs.join() === "tag" && why) return `${records}; the rules clear it: ${why(caps, spans, { parts })}`;
+    return `${records}; the rules give ${differing(gives, recorded, differs)}`;
+}
+
+/** The sentence of a report. `text` is the refused line. */
+function faultSentence(report, text) {
+    const { refusal, caps, spans, counts, needs } = report;
+    const parts = partsOf(text);
+    const says = {
+        WrongResult: () => wrongResult(report, parts),
+        WrongCount: () => `it says ${counted(parts.steps, "step")}; the log has ${counts.steps}`,
+        PlaceTaken: () => `${caps.holds.place} has a root already`,
+        UnsoundRoot: () => `its word isn't sound: ${factsOf(c, { word: read(caps.root.word), tag: 1 }).why}`,
+    }[refusal] ?? (FAILED[refusal] && (() => FAILED[refusal](caps, spans, { parts, needs })));
+    const found = says ? says() : REFUSALS[refusal] ?? "";
+    return found && `${found[0].toUpperCase()}${found.slice(1)}.`;
+}
