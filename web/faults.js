@@ -43,31 +43,45 @@ const FAILED = {
         `${source.place} has a tag and lacks Global, and ${authority.place} lacks Store Local Capability`,
 };
 
-/** What a capability has in fields that differ from another one's. */
-function differing(cap, other, differs) {
-    const view = (it) => parseInt(it.perms[0], 16);
-    const more = permissionNames(view(cap) & ~view(other));
-    const one = {
-        tag: () => `tag ${cap.tag}`,
-        perms: () => (more.length ? `the permission${more.length > 1 ? "s" : ""} ${listed(more)}`
-            : `no permission ${permissionNames(view(other) & ~view(cap)).join(" or ")}`),
-        otype: () => `type 0x${cap.otype[0]}`,
-        address: () => `address ${addressOf(cap)}`,
-        ie: () => `bounds ${span(boundsOf(cap))}`,
-    };
-    const isBound = (field) => ["ie", "e", "b", "t"].includes(field);
-    const fields = [...new Set(differs.map((field) => (isBound(field) ? "ie" : field)))];
-    return listed(fields.map((field) => one[field]?.() ?? `another ${field} field`));
+// The fields of a capability that can differ, as a reader knows them.
+const FIELD_OF = { ie: "bounds", e: "bounds", b: "bounds", t: "bounds", perms: "permissions", otype: "object type" };
+
+const FIELD_SHOWN = {
+    tag: ({ tag }) => `tag ${tag}`,
+    permissions: ({ perms }) => `permissions 0x${perms[0]}`,
+    "object type": ({ otype }) => `object type 0x${otype[0]}`,
+    bounds: (cap) => `bounds ${span(boundsOf(cap))}`,
+    address: (cap) => `address ${addressOf(cap)}`,
+};
+
+/** Permissions that only one of two capabilities has, where these are few and nothing else differs. */
+function permissionsAlone(recorded, gives) {
+    const [one, other] = [recorded, gives].map((cap) => parseInt(cap.perms[0], 16));
+    const [more, less] = [permissionNames(one & ~other), permissionNames(other & ~one)];
+    if (more.length + less.length > 2) return null;
+    return listed([
+        ...(more.length ? [`records ${listed(more)}, which the rules take away`] : []),
+        ...(less.length ? [`lacks ${listed(less)}, which the rules keep`] : []),
+    ]);
 }
 
 function wrongResult({ caps, values, differs, cleared, spans }, parts) {
     if (values.recorded) return `it records 0x${values.recorded}; memory holds 0x${values.gives}`;
     const { gives, recorded } = caps;
-    if (!gives || !recorded) return REFUSALS.WrongResult;
-    const records = `it records ${differing(recorded, gives, differs)}`;
-    const why = cleared && FAILED[cleared.split(" ")[1]];
-    if (differs.join() === "tag" && why) return `${records}; the rules clear it: ${why(caps, spans, { parts })}`;
-    return `${records}; the rules give ${differing(gives, recorded, differs)}`;
+    const fields = [...new Set(differs.map((field) => FIELD_OF[field] ?? field))];
+    const isLoad = parts.kind === "lc";
+    const giver = isLoad ? "memory holds" : "the rules give";
+    if (fields.join() === "tag" && cleared) {
+        return `it records tag ${recorded.tag}; the rules clear it: ${FAILED[cleared.split(" ")[1]](caps, spans, { parts })}`;
+    }
+    if (fields.join() === "tag" && isLoad && caps.source.tag === "1" && gives.tag === "0") {
+        return `it records tag 1; the rules clear it: ${caps.authority.place} lacks Load Capability`;
+    }
+    const alone = fields.join() === "permissions" && !isLoad && permissionsAlone(recorded, gives);
+    if (alone) return `it ${alone}`;
+    if (fields.length > 2 || fields.some((field) => !FIELD_SHOWN[field])) return `it records another word than ${giver}: ${listed(fields)} differ${fields.length > 1 ? "" : "s"}`;
+    const [records, has] = [recorded, gives].map((cap) => listed(fields.map((field) => FIELD_SHOWN[field](cap))));
+    return `it records ${records}; ${giver} ${has}`;
 }
 
 /** The sentence of a report. `text` is the refused line. */
@@ -81,5 +95,5 @@ function faultSentence(report, text) {
         UnsoundRoot: () => `its word isn't sound: ${factsOf(c, { word: read(caps.root.word), tag: 1 }).why}`,
     }[refusal] ?? (FAILED[refusal] && (() => FAILED[refusal](caps, spans, { parts, needs })));
     const found = says ? says() : REFUSALS[refusal] ?? "";
-    return found && `${found[0].toUpperCase()}${found.slice(1)}.`;
+    return found && `${/^(c\d|@|0x)/.test(found) ? found[0] : found[0].toUpperCase()}${found.slice(1)}.`;
 }

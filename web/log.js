@@ -8,8 +8,6 @@ const FEW = 500; // origins shown
 /** A worker with one log. What it tells goes to `told`; what it is asked is answered later. */
 class Beside {
     constructor(blob, told) {
-        Beside.address ??= URL.createObjectURL(new Blob(
-            ["words", "lines", "trace", "judging", "shortest", "working"].map((name) => byId(`${name}-script`).textContent)));
         this.asked = new Map();
         this.worker = new Worker(Beside.address);
         this.worker.onmessage = ({ data }) => {
@@ -126,7 +124,7 @@ function showVerdict() {
         : state === 2 ? faultSentence(log.report, log.faulty) : "There wasn't memory enough.";
     byId("verdict").className = `verdict ${state === 1 ? "yes" : "no"}`;
     const facts = [...(log.name ? [log.name] : []), counted(count, "line"), sizeOf(log.size), `judged in ${decimal(Math.ceil(took))} ms`];
-    const faulty = state === 2 ? [make("code", { class: "faulty" }, make("i", {}, `line ${decimal(line)}: `), ...marked(log.faulty))] : [];
+    const faulty = state === 2 ? [make("code", { class: "faulty" }, make("i", {}, `line ${decimal(line)}: `), ...marked(log.faulty, (it) => it))] : [];
     byId("verdict").replaceChildren(make("b", {}, first), " ", make("span", {}, second), " ", ...faulty, make("small", {}, facts.join(", ")));
     byId("allocator").hidden = !(refusal === 1 && /^(\\xef\\xbb\\xbf)?heap \d/i.test(log.faulty));
     byId("why").replaceChildren(...(log.report ? reportShown(log.report) : []));
@@ -153,7 +151,7 @@ const ODD = {
 async function askEvened() {
     const { beside } = log;
     const evened = await beside.ask({ ask: "evened" });
-    if (log.beside !== beside || !evened || evened.verdict === log.judged.text.split("\n")[0]) return;
+    if (log.beside !== beside || !evened || evened.verdict === log.judged?.text.split("\n")[0]) return;
     log.evened = evened;
     showEvened();
 }
@@ -187,7 +185,6 @@ function reportShown(report) {
     if (bars.length > 1) {
         const says = bars.map(({ name, ...it }) => `${name} ${span(it)}`).join("; ");
         shown.push(make("div", { class: "drawing", role: "img", "aria-label": says }, axisDrawing(bars, widthOf("why"))));
-        shown.push(make("p", { class: "gloss" }, UP_TO));
     }
     const others = Object.entries(caps).filter(([name]) => name !== "gives" && name !== "recorded");
     if (others.length) shown.push(make("div", { class: "cards" }, ...others.map(card)));
@@ -247,7 +244,7 @@ function digitsMarked(digits, other) {
     return runsOf(pieces).map(({ text, is }) => (is ? make("span", { class: "differs" }, text) : text));
 }
 
-/** Letters put together that are alike in being wrong. */
+/** Letters put together, those that are wrong and those that aren't. */
 function runsOf(letters) {
     const runs = [];
     for (const { digit, is } of letters) {
@@ -323,7 +320,7 @@ function showShortest() {
     byId("link-shortest").hidden ||= text.length > SMALL;
     if (!text) return;
     URL.revokeObjectURL(byId("save-shortest").href);
-    byId("save-shortest").href = URL.createObjectURL(new Blob([text]));
+    byId("save-shortest").href = URL.createObjectURL(new Blob([Uint8Array.from(text, (letter) => letter.charCodeAt(0))]));
 }
 
 // ---- The link ----

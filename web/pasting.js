@@ -45,7 +45,7 @@ function lettered(text) {
     });
 }
 
-/** The digits of a word, with a tag before or behind them. */
+/** The digits of a word, with a tag before or after them. */
 function digitsIn(text) {
     const parts = text.split(/[\s,:|_]+/).map((it) => it.replace(/^0x/i, "").toLowerCase()).filter((it) => it !== "");
     if (parts.some((it) => !/^[0-9a-f]+$/.test(it))) return null;

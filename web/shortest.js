@@ -258,10 +258,17 @@ class Shortening {
             size = now;
         }
         const size = this.put(best);
-        const text = latin.decode(this.judge.bytes(this.judge.log, size));
+        const text = textOf8(this.judge.bytes(this.judge.log, size));
         const [verdict] = this.judge.why(size).text.split("\n");
         return { text, verdict, lines: text.split(/\n(?=.)/s).length, isShortest: !best.isLate };
     }
+}
+
+/** A letter for each byte. */
+function textOf8(bytes) {
+    let text = "";
+    for (let at = 0; at < bytes.length; at += 8192) text += ascii(bytes.subarray(at, at + 8192));
+    return text;
 }
 
 const hex8 = (number) => number.toString(16).padStart(8, "0");

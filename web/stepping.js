@@ -18,7 +18,9 @@ function stepTo(wanted) {
             const granule = passed() ? null : await beside.ask({ ask: "granule", line });
             if (passed() || !granule) return;
             log.granule = granule;
+            if (line === log.judged.line) log.wrote = granule;
             showStep();
+            showWrote();
         }, 60);
     });
 }
@@ -34,13 +36,20 @@ function showStep() {
     const { registers, line } = at;
     const parts = partsOf(at.texts[line - at.from] ?? "");
     byId("before-says").textContent = registers === null
-        ? `The judge stopped at line ${decimal(judged.line)}, and nothing is known of what comes behind.`
-        : registers.length ? "Each register is as the line beside it left it; the judge found that line right."
+        ? `The judge stopped at line ${decimal(judged.line)}: nothing is known of the lines after it.`
+        : registers.length ? "What the step reads comes first. Each register is as the line beside it made it; the judge found that line right."
             : "No register was written so far.";
     byId("step-link").replaceChildren(...stepLink(parts, registers));
-    const rows = (registers ?? []).map((it) => heldRow(`c${it.number}`, it, parts, it.by));
-    if (log.granule) rows.push(heldRow(log.granule.place, log.granule, null, 0));
-    byId("held").tBodies[0].replaceChildren(...rows);
+    const rows = (registers ?? []).map((it) => heldRow(it, parts));
+    if (log.granule) rows.push(granuleRow(log.granule));
+    const isRead = (it) => it.classList.contains("read");
+    byId("held").tBodies[0].replaceChildren(...rows.filter(isRead), ...rows.filter((it) => !isRead(it)));
+    showMarks();
+    // On a narrow screen what is marked in the faulty line may be far to the right.
+    const [code, mark] = [byId("code"), document.querySelector("#code mark")];
+    if (!mark) return;
+    const [left, right] = [mark.offsetLeft - 80, mark.offsetLeft + mark.offsetWidth + 16];
+    code.scrollLeft = right > code.clientWidth ? Math.min(left, right - code.clientWidth) : 0;
 }
 
 function codeLine(line, text) {
@@ -53,8 +62,8 @@ function codeLine(line, text) {
 
 const escaped = (text) => text.replace(/[^ -[\]-~]/g, (it) => `\\x${hex(it.charCodeAt(0), 2)}`);
 
-/** The line at fault, with what is wrong in it marked: the digits that differ, or the operand that the refusal is about. */
-function marked(text) {
+/** The faulty line, with what is wrong in it marked: the digits that differ, or the operand that the refusal is about. */
+function marked(text, shown = escaped) {
     const { refusal, caps, values } = log.report;
     const parts = partsOf(text);
     const wrong = new Set();
@@ -70,28 +79,77 @@ function marked(text) {
         if (about) markPart(about);
         else for (let k = 0; k < text.length; k++) wrong.add(k);
     }
-    const pieces = [];
-    [...text].forEach((letter, k) => {
-        const last = pieces.at(-1);
-        if (last && last.wrong === wrong.has(k)) last.text += letter;
-        else pieces.push({ wrong: wrong.has(k), text: letter });
-    });
-    return pieces.map((it) => (it.wrong ? make("mark", {}, escaped(it.text)) : escaped(it.text)));
+    return runsOf([...text].map((digit, k) => ({ digit, is: wrong.has(k) })))
+        .map((it) => (it.is ? make("mark", {}, shown(it.text)) : shown(it.text)));
 }
 
-function heldRow(place, { tag, word, by }, parts, from) {
-    const role = parts ? ["source", "authority", "target"].filter((name) => parts[name] === place) : ["granule"];
-    const bounds = c.decode(read(word));
-    const cells = [
+/** What a register holds, the line that made it, and a way to the next line that uses it. */
+function heldRow({ number, tag, word, by }, parts) {
+    const place = `c${number}`;
+    const role = ["source", "authority", "target"].filter((name) => parts?.[name] === place);
+    const isRead = role.some((it) => it !== "target");
+    const next = make("button", { type: "button", class: "small", "aria-label": `next line that uses ${place}` }, "next use");
+    next.addEventListener("click", () => stepToUse(number));
+    const bounds = `${tag ? "" : "no tag; "}${span(c.decode(read(word)))}`;
+    return make("tr", isRead ? { class: "read" } : {}, make("th", { scope: "row" }, place), make("td", {},
         make("a", { href: linkOf(word, tag), class: "mono" }, `${tag} ${word}`),
-        make("small", {}, `${span(bounds)}${role.length ? `; the step's ${role.join(" and ")}` : ""}`),
-    ];
-    if (from) {
-        const go = make("button", { type: "button", class: "small" }, `line ${decimal(by)}`);
-        go.addEventListener("click", () => stepTo(by));
-        cells.push(go);
-    }
-    return make("tr", role.length ? { class: "read" } : {}, make("th", { scope: "row" }, place), make("td", {}, ...cells));
+        make("small", {}, `${bounds}${role.length ? `; the step's ${role.join(" and ")}` : ""}`),
+        make("span", { class: "ways" }, lineButton(by), next)));
+}
+
+/** What the granule holds that the step reaches. Without a tag it is data. */
+function granuleRow({ place, tag, word, ...history }) {
+    const says = tag ? `${span(c.decode(read(word)))}; the memory that the step reaches`
+        : `data, by address: ${dataOf(word)}; the memory that the step reaches`;
+    return make("tr", { class: "read" }, make("th", { scope: "row" }, place), make("td", {},
+        make("a", { href: linkOf(word, tag), class: "mono" }, `${tag} ${word}`), make("small", {}, says),
+        make("small", {}, ...historyOf({ place, tag, ...history }))));
+}
+
+async function stepToUse(register) {
+    const { beside, line } = log;
+    const next = await beside.ask({ ask: "nextUse", line, register });
+    if (log.beside !== beside) return;
+    tellWay(next ? "" : `No line after ${decimal(line)} uses c${register}.`);
+    if (next) stepTo(next);
+}
+
+async function find(backward) {
+    const { beside, line } = log;
+    const text = byId("search").value;
+    if (text === "") return tellWay("Type what to look for.");
+    const found = await beside.ask({ ask: "find", text, line, backward });
+    if (log.beside !== beside) return;
+    const around = found && (backward ? found >= line : found <= line) ? ` ${backward ? "It is the last" : "It is the first"} one of the log.` : "";
+    tellWay(found ? `Line ${decimal(found)} has it.${around}` : `No line has “${text}”.`);
+    if (found) stepTo(found);
+}
+
+const tellWay = (text) => (byId("way").textContent = text);
+
+// ---- Marked lines ----
+
+const marks = () => chosen.marks.split(",").filter((it) => it !== "").map(Number);
+
+/** Marks the line that is shown, or takes its mark away. The link has the marks. */
+function turnMark() {
+    const others = marks().filter((it) => it !== log.line);
+    const all = others.length < marks().length ? others : [...others, log.line].slice(-FEW_MARKS);
+    chosen.marks = all.sort((one, other) => one - other).join(",");
+    changed();
+}
+
+const FEW_MARKS = 50;
+
+/** A button for the refused line and for each marked one. */
+function showMarks() {
+    const { count, line: fault } = log.judged;
+    const here = marks().filter((it) => it >= 1 && it <= count && it !== fault);
+    byId("mark").textContent = marks().includes(log.line) ? "Unmark this line" : "Mark this line";
+    byId("marks").hidden = !fault && here.length === 0;
+    const button = (line) => lineButton(line, line === fault ? `line ${decimal(line)}, refused` : `line ${decimal(line)}`);
+    byId("marks").replaceChildren("Refused and marked lines: ",
+        ...[...here, ...(fault ? [fault] : [])].sort((one, other) => one - other).flatMap((line) => [button(line), " "]));
 }
 
 /** A link to the operation of a step, with what its operands hold; and to the capability of a root. */
@@ -117,6 +175,10 @@ function listenToSteps() {
         first: () => 1, back: () => log.line - 1, next: () => log.line + 1, last: () => log.judged.count, "to-fault": () => log.judged.line,
     };
     for (const [id, to] of Object.entries(steps)) byId(id).addEventListener("click", () => stepTo(to()));
+    byId("mark").addEventListener("click", turnMark);
+    byId("find-next").addEventListener("click", () => find(false));
+    byId("find-back").addEventListener("click", () => find(true));
+    byId("search").addEventListener("keydown", (event) => { if (event.key === "Enter") find(event.shiftKey); });
     byId("code").addEventListener("click", (event) => {
         const line = event.target.closest("[data-line]");
         if (line) stepTo(Number(line.dataset.line));

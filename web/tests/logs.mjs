@@ -69,7 +69,7 @@ function sentenceOf(verdict) {
     const decimal = (number) => number.replace(/\B(?=(\d{3})+$)/g, ",");
     const many = (number, what) => `${decimal(number)} ${what}${number === "1" ? "" : "s"}`;
     return answer === "yes" ? `Yes: a run of the machine. ${many(first, "step")} from ${many(second, "root")}.`
-        : `No: line ${decimal(first)} is at fault. ${second} ${third}: `;
+        : `No: line ${decimal(first)} is refused: ${second} ${third}. `;
 }
 
 export async function logsAreJudged(page) {
