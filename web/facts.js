@@ -33,7 +33,7 @@ function mantissa(c, fields) {
     return { t: c.round(base, units).t, units };
 }
 
-/** What an exponent that stands in a word means: the one that decoding takes, the step on which bounds lie,
+/** What the exponent of a word means: the one that decoding takes, the step on which bounds lie,
  * 8 units, and the least length, 512 steps. They are bounds of words with small mantissas. */
 function scaleOf(c, exponent) {
     const word = (b) => c.join({ ...c.split(c.nothing()), b, t: b, e: exponent, ie: 1, address: 0n }).word;

@@ -2,7 +2,7 @@
 // What is wrong in a refused line, in a sentence with the numbers of its report.
 
 const bytesIn = (count) => (count === 1n ? "one byte" : counted(count, "byte"));
-const listed = (parts) => parts.join(", ").replace(/, ([^,]*)$/, " and $1");
+const listed = (parts) => (parts.length > 1 ? `${parts.slice(0, -1).join(", ")} and ${parts.at(-1)}` : parts[0] ?? "");
 const boundsOf = ({ bounds: [base, top] }) => ({ base, top });
 const addressOf = ({ word }) => ox(BigInt(`0x${word.slice(16)}`));
 

@@ -1,7 +1,7 @@
 "use strict";
 // A log: how it is opened, and what is shown of what the judge beside the page says.
 
-const SMALL = 4000; // as many letters of a log stand in a link as they are
+const SMALL = 4000; // as many letters of a log are in a link as they are
 const AROUND = 6; // lines shown on either side of one
 const FEW = 500; // origins shown
 
@@ -320,7 +320,7 @@ function showShortest() {
     byId("link-shortest").hidden ||= text.length > SMALL;
     if (!text) return;
     URL.revokeObjectURL(byId("save-shortest").href);
-    byId("save-shortest").href = URL.createObjectURL(new Blob([Uint8Array.from(text, (letter) => letter.charCodeAt(0))]));
+    byId("save-shortest").href = URL.createObjectURL(log.made.blob);
 }
 
 // ---- The link ----

@@ -9,7 +9,7 @@ const make = (tag, attributes, ...children) => {
     return made;
 };
 
-/** What is typed and can't be taken; its text stands beside the field. */
+/** What is typed and can't be taken; its text is beside the field. */
 class Refused extends Error {}
 
 let c = null;
@@ -55,7 +55,7 @@ function wordDigits(text) {
     return exactly(hexadecimal(digits), 32);
 }
 
-/** Bytes may stand apart by spaces, commas or underscores, and each may have its own `0x`. */
+/** Bytes may be separated by spaces, commas or underscores, and each may have its own `0x`. */
 function bytesOf(text) {
     const parts = text.trim().toLowerCase().split(/[\s,_]+/).filter((part) => part !== "");
     const digits = parts.map((part) => {
@@ -455,7 +455,7 @@ function linkTo() {
     return `#${new URLSearchParams([["show", view], ...values])}`;
 }
 
-/** Takes the fields from the part of the address behind `#`; what isn't there is as at the start. */
+/** Takes the fields from the part of the address after `#`; what isn't there is as at the start. */
 function restore() {
     clearTimeout(writing);
     const parts = new URLSearchParams(location.hash.slice(1));

@@ -3,7 +3,7 @@
 // counts. It begins with the lines that the faulty line's operands come from, makes operands by roots where that is
 // shorter, and then leaves lines out as long as the fault stays. Whether it does, the judge says of each log.
 
-const TIME = 4000; // milliseconds
+const TIME = 3500; // milliseconds
 
 // Their reports count the lines before them.
 const COUNTING = ["Misplaced", "Truncated", "WrongCount", "LimitPassed"];
@@ -258,9 +258,11 @@ class Shortening {
             size = now;
         }
         const size = this.put(best);
-        const text = textOf8(this.judge.bytes(this.judge.log, size));
+        const bytes = this.judge.bytes(this.judge.log, size);
+        const blob = new Blob([bytes]);
+        const text = textOf8(bytes);
         const [verdict] = this.judge.why(size).text.split("\n");
-        return { text, verdict, lines: text.split(/\n(?=.)/s).length, isShortest: !best.isLate };
+        return { text, blob, verdict, lines: text.split(/\n(?=.)/s).length, isShortest: !best.isLate };
     }
 }
 

@@ -106,7 +106,7 @@ class Trace {
         this.held.tag[register] = before === codeOf("0") && this.bytes[end - 35] === SPACE_CODE ? 0 : 1;
     }
 
-    /** For each register the last line before one that wrote it, or 0. Register 0 stands for none. */
+    /** For each register the last line before one that wrote it, or 0. Register 0 means none. */
     writers(line) {
         const found = new Uint32Array(32);
         let left = 31;

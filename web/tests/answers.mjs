@@ -133,7 +133,7 @@ export async function layoutIsTheHeaders(page) {
         check(declared.includes(` capcheck_${name}(`), `the header has ${name}`);
 }
 
-/** The example logs' operations on registers, from the results that stand in them. */
+/** The example logs' operations on registers, from their results. */
 export async function logsAreFollowed(page) {
     const wanted = [];
     for (const name of fs.readdirSync(file("examples")).filter((it) => it.endsWith(".log"))) {

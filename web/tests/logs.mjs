@@ -14,7 +14,8 @@ export const examples = fs.readdirSync(file("examples")).filter((name) => name.e
 /** What a program prints of a log: its verdict, and the report or the origins. */
 export function printed(program, words, log) {
     const { stdout, error } = spawnSync(program, words, { input: Buffer.from(log, "latin1"), maxBuffer: 1 << 28 });
-    if (error) throw new Error(`${program}: ${error.message}; build it, or name one by CAPCHECK and CAPDIAG`);
+    // It reads nothing after a refused line.
+    if (error && error.code !== "EPIPE") throw new Error(`${program}: ${error.message}; build it, or name one by CAPCHECK and CAPDIAG`);
     return stdout.toString();
 }
 

@@ -46,7 +46,7 @@ export async function changedModules(page) {
         check(got.every(([shown]) => shown.length > 200), `the page isn't blank without ${name}`);
     }
     const at = bytes.indexOf("BoundsEscape");
-    check(at > 0, "the names stand in the module's data");
+    check(at > 0, "the names are in the module's data");
     const renamed = await shownWith(at, "C".charCodeAt(0));
     check(renamed.at(-1)[0].includes("11 CoundsEscape") && !renamed.at(-1)[0].includes("BoundsEscape"),
         "a name comes from the module's data");
@@ -100,7 +100,7 @@ export async function changedModules(page) {
     return `${differed} changed answers shown`;
 }
 
-/** Where the body of each exported function begins, behind its locals. */
+/** Where the body of each exported function begins, after its locals. */
 function bodiesOf(bytes) {
     let at = 8;
     const number = () => {

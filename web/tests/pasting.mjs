@@ -1,4 +1,4 @@
-// What people paste: each form gives the word that it stands for, or is refused.
+// What people paste: each form gives its word, or is refused.
 import { address, capability, check, hash, same, tools } from "./given.mjs";
 
 const HIGH = "ffff1ffffbffd000";
@@ -63,7 +63,7 @@ const PARTS = [
 ];
 
 export async function pastedIsTaken(page) {
-    // The tag stands the other way before.
+    // The tag is the other way before.
     const shown = (forms) => forms.map(([text, , tag]) => {
         turn("capability");
         order("register");
@@ -222,7 +222,7 @@ async function capabilityIsSaid(page) {
         const got = await page.run(
             () => [seen("means"), rows("lines").length, seen("type"), document.querySelectorAll("#perms li").length]);
         same(got[0], wanted, `${word} in a sentence`);
-        same(got[3], 16, "its permissions stand below the digits");
+        same(got[3], 16, "its permissions are below the digits");
         if (word.startsWith("003d")) same([got[1], got[2]], ["0x39b0, 14,768 bytes", "Object type 0x3ffff, unsealed."], "length and type");
     }
 }

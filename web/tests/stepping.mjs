@@ -364,7 +364,7 @@ export async function changedJudges(page) {
         return page.run(() => [seen("verdict"), results(), !byId("fault").hidden]);
     };
     const at = bytes.indexOf("WrongResult");
-    check(at > 0, "the names stand in the module's data");
+    check(at > 0, "the names are in the module's data");
     const [renamed, seenThen] = await shownWith(at, "V".charCodeAt(0));
     check(renamed.includes("23 VrongResult") && seenThen === 1, `a name comes from the module's data: ${renamed}`);
     const [, none, fault] = await shownWith(8, 0x7f);
