@@ -129,6 +129,7 @@ class Lines {
     /** The next line after one that has a text, or the last one before it; from the other end where there is none, and 0
      * where no line has it. */
     find(text, line, backward) {
+        if (/[^\0-\xff]/.test(text)) return 0;
         const wanted = bytesOf8(text);
         const bytes = this.judge.bytes(this.judge.log, this.judge.size);
         const isHere = (at) => wanted.every((byte, k) => bytes[at + k] === byte);

@@ -100,7 +100,10 @@ function toldOfLog(told) {
 function showLog() {
     const typed = byId("text").value;
     if (typed !== (log.text ?? "")) {
-        if (typed !== "") return judgeLog(new Blob([typed]), "", typed);
+        if (typed !== "") {
+            chosen.packed = "";
+            return judgeLog(new Blob([typed]), "", typed);
+        }
         log.beside?.end();
         Object.assign(log, closed);
     }
@@ -151,7 +154,11 @@ const ODD = {
 async function askEvened() {
     const { beside } = log;
     const evened = await beside.ask({ ask: "evened" });
-    if (log.beside !== beside || !evened || evened.verdict === log.judged?.text.split("\n")[0]) return;
+    if (log.beside !== beside || !log.judged || !evened) return;
+    // A line that was cut is refused with a line feed too.
+    const isSame = evened.verdict === log.judged.text.split("\n")[0];
+    const isCut = evened.kinds.join() === "feed" && evened.verdict.startsWith(`no ${log.judged.line} `);
+    if (isSame || isCut) return;
     log.evened = evened;
     showEvened();
 }
@@ -327,8 +334,7 @@ function showShortest() {
 
 /** Copies the link. A log that isn't in it as text goes into it packed, where a link can hold it. */
 async function copyLink() {
-    const isText = valueOf("text") !== "" || !log.judged;
-    if (view === "log" && !isText && log.packed === "") {
+    if (view === "log" && log.blob && valueOf("text") === "" && log.packed === "") {
         const { beside } = log;
         const packed = await packedLog(log.blob);
         if (log.beside !== beside) return;
@@ -349,7 +355,7 @@ function showTooLong() {
         findShortest();
         byId("find-shortest").scrollIntoView({ block: "center" });
     });
-    const isNo = log.judged.state === 2;
+    const isNo = log.judged?.state === 2;
     byId("said").replaceChildren(`A link can't hold this log: packed, it has more than ${decimal(LINK)} letters. `
         + `Send the file${isNo ? ", or the shortest log with its fault" : ""}. `, save, ...(isNo ? [" ", find] : []));
 }

@@ -310,7 +310,7 @@ function showRequest() {
     const asked = (at, number) => ({ at, number, note: "requested" });
     byId("ends").replaceChildren(
         figure("At the base: requested above, rounded below", near(rounded.base, "base", asked(base, hex(base)))),
-        figure("At the top: requested above, rounded below", near(rounded.top, "top", asked(end, ""))));
+        figure("At the top: requested above, rounded below", near(rounded.top, "top", asked(end, hex(end)))));
     fill("round-lines", [
         ["base", hex(rounded.base, 16), `the requested base, ${hex(base)}, rounded down: ${lostIn(facts.lost.below)}`],
         ["top", hex(rounded.top, 17), `the requested top, ${hex(end)}, rounded up: ${lostIn(facts.lost.above)}`],

@@ -49,6 +49,31 @@ export async function linksHoldLogs(page) {
         return copied[0];
     });
     same(again, link[0], "and is copied again");
+    // One that is almost too long for a link, and is copied before it is judged; text that is typed then takes its place.
+    await page.go(`${address}#show=log`);
+    await page.run(tools);
+    await page.run(settled);
+    await page.run(copies);
+    const almost = drawn("memory", 80000, 4);
+    const early = await page.run(async (text) => {
+        openLog(new Blob([text]), "given.log");
+        byId("copy-link").click();
+        while (copied.length === 0) await new Promise((done) => setTimeout(done, 5));
+        return copied[0];
+    }, almost);
+    check(early.length > 700000 && early.length <= 1000000, `a long link: ${early.length}`);
+    await page.go(early);
+    await page.run(tools);
+    await page.run(settled);
+    await page.run(() => globalThis.settled());
+    same(await page.run(() => log.judged.text), "yes 80000 1\n", "a long link opens its log");
+    same(await page.run(async (text) => {
+        type("text", text);
+        await new Promise((done) => setTimeout(done, 30));
+        await globalThis.settled();
+        await new Promise((done) => setTimeout(done, 500));
+        return [log.judged.text, location.hash.includes("packed")];
+    }, text("examples/moves.log")), ["yes 2 1\n", false], "typed text takes its place");
     // One that is too long for a link.
     const long = drawn("memory", 150000, 4);
     for (const [given, wanted] of [
@@ -352,9 +377,11 @@ export async function oddBytesAreSaid(page) {
         });
         same(after, [true, true], "the button judges it so");
     }
-    await withLog(page, text("examples/no_mode.log"));
-    await rest(100);
-    same(await page.run(() => byId("evened").hidden), true, "nothing is odd about another refusal");
+    for (const given of [text("examples/no_mode.log"), log.slice(0, -9), "Hello\n"]) {
+        await withLog(page, given);
+        await rest(100);
+        same(await page.run(() => byId("evened").hidden), true, "nothing odd explains another refusal");
+    }
 }
 
 export async function allocatorsAreNamed(page) {
