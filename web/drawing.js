@@ -122,7 +122,8 @@ function rangeDrawing(facts, tried, width) {
         const seen = end > domain.from && other < domain.from + domain.size;
         if (seen) {
             nodes.push(bar(cut(other), cut(end), high + 3, low - high - 3, "ghost"));
-            lost.push({ x: (cut(other) + cut(end)) / 2, number: `${hex(tried.bounds.base)}..${hex(tried.bounds.top)}`, note: "bounds there" });
+            const { bounds: there } = tried;
+            lost.push({ x: (cut(other) + cut(end)) / 2, number: `${hex(there.base)}..${hex(there.top)}`, note: "bounds there" });
         }
     }
     nodes.push(line(0, low, width, low, "axis"));
@@ -220,7 +221,7 @@ function withExcess(bars) {
         if (!within) return it;
         const below = within.base > it.base ? { base: it.base, top: it.top < within.base ? it.top : within.base } : null;
         const above = it.top > within.top ? { base: it.base > within.top ? it.base : within.top, top: it.top } : null;
-        const sized = (part, side) => (part ? [`${decimal(part.top - part.base)} byte${part.top - part.base === 1n ? "" : "s"} ${side}`] : []);
+        const sized = (part, side) => (part ? [`${counted(part.top - part.base, "byte")} ${side}`] : []);
         const says = [...sized(below, "below"), ...sized(above, "above")].join(", ");
         return { ...it, excess: [below, above].filter((part) => part !== null), says: says && `${says} the ${within.name}'s bounds` };
     });
@@ -229,10 +230,14 @@ function withExcess(bars) {
 /** Bars of the same range as one, with all their names. */
 function alike(bars) {
     const rows = [];
+    const hasNoTag = ({ kind }) => kind === "untagged";
     for (const it of bars) {
-        const same = rows.find(({ base, top, kind }) => base === it.base && top === it.top && (kind === "untagged") === (it.kind === "untagged"));
+        const same = rows.find((other) => other.base === it.base && other.top === it.top && hasNoTag(other) === hasNoTag(it));
         if (!same) rows.push({ excess: [], says: "", ...it, names: [it.name] });
-        else Object.assign(same, { names: [...same.names, it.name], says: same.says || it.says || "", excess: same.says ? same.excess : it.excess ?? [] });
+        else {
+            same.names.push(it.name);
+            if (!same.says && it.says) Object.assign(same, { says: it.says, excess: it.excess });
+        }
     }
     return rows;
 }
@@ -284,7 +289,8 @@ function axisRow({ names, base, top, kind, excess, says }, axis, y) {
     nodes.push(bar(x1, x2, at, 16, kind));
     if (kind === "untagged") nodes.push(hatched(x1, x2, at, 16));
     for (const part of excess) {
-        if (axis.cut(part.top) > left && axis.cut(part.base) < right) nodes.push(bar(axis.cut(part.base), axis.cut(part.top), at, 16, "excess"));
+        const [from, to] = [axis.cut(part.base), axis.cut(part.top)];
+        if (to > left && from < right) nodes.push(bar(from, to, at, 16, "excess"));
     }
     if (axis.x(base) < left) nodes.push(shape("path", { d: `M${left} ${at}l-8 8l8 8z`, class: kind }));
     if (axis.x(top) > right) nodes.push(shape("path", { d: `M${right} ${at}l8 8l-8 8z`, class: kind }));

@@ -79,7 +79,9 @@ function wrongResult({ caps, values, differs, cleared, spans }, parts) {
     }
     const alone = fields.join() === "permissions" && !isLoad && permissionsAlone(recorded, gives);
     if (alone) return `it ${alone}`;
-    if (fields.length > 2 || fields.some((field) => !FIELD_SHOWN[field])) return `it records another word than ${giver}: ${listed(fields)} differ${fields.length > 1 ? "" : "s"}`;
+    if (fields.length > 2 || fields.some((field) => !FIELD_SHOWN[field])) {
+        return `it records another word than ${giver}: ${listed(fields)} differ${fields.length > 1 ? "" : "s"}`;
+    }
     const [records, has] = [recorded, gives].map((cap) => listed(fields.map((field) => FIELD_SHOWN[field](cap))));
     return `it records ${records}; ${giver} ${has}`;
 }

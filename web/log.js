@@ -118,17 +118,16 @@ function showLog() {
 
 function showVerdict() {
     log.shown = `${log.size} ${widthOf("why")}`;
-    const { state, line, refusal, steps, roots, count, took, text } = log.judged;
+    const { state, line, refusal, count, took, text } = log.judged;
     log.report = state === 2 ? reportOf(text) : null;
     log.faulty = log.report?.line ?? "";
-    const first = state === 1 ? "Yes: a run of the machine." : state === 2 ? `No: line ${decimal(line)} is refused: ${refusal} ${log.report.refusal}.`
-        : "No verdict.";
-    const second = state === 1 ? `${counted(steps, "step")} from ${counted(roots, "root")}.`
-        : state === 2 ? faultSentence(log.report, log.faulty) : "There wasn't memory enough.";
+    const [first, second] = verdictSaid();
     byId("verdict").className = `verdict ${state === 1 ? "yes" : "no"}`;
     const facts = [...(log.name ? [log.name] : []), counted(count, "line"), sizeOf(log.size), `judged in ${decimal(Math.ceil(took))} ms`];
-    const faulty = state === 2 ? [make("code", { class: "faulty" }, make("i", {}, `line ${decimal(line)}: `), ...marked(log.faulty, (it) => it))] : [];
-    byId("verdict").replaceChildren(make("b", {}, first), " ", make("span", {}, second), " ", ...faulty, make("small", {}, facts.join(", ")));
+    const faulty = make("code", { class: "faulty" }, make("i", {}, `line ${decimal(line)}: `));
+    if (state === 2) faulty.append(...marked(log.faulty, (it) => it));
+    byId("verdict").replaceChildren(make("b", {}, first), " ", make("span", {}, second), " ", ...(state === 2 ? [faulty] : []),
+        make("small", {}, facts.join(", ")));
     byId("allocator").hidden = !(refusal === 1 && /^(\\xef\\xbb\\xbf)?heap \d/i.test(log.faulty));
     byId("why").replaceChildren(...(log.report ? reportShown(log.report) : []));
     byId("report-text").textContent = text;
@@ -139,6 +138,14 @@ function showVerdict() {
     showWrote();
     showOrigins();
     showShortest();
+}
+
+/** The verdict, and a sentence. */
+function verdictSaid() {
+    const { state, line, refusal, steps, roots } = log.judged;
+    if (state === 1) return ["Yes: a run of the machine.", `${counted(steps, "step")} from ${counted(roots, "root")}.`];
+    if (state !== 2) return ["No verdict.", "There wasn't memory enough."];
+    return [`No: line ${decimal(line)} is refused: ${refusal} ${log.report.refusal}.`, faultSentence(log.report, log.faulty)];
 }
 
 // ---- Bytes that keep a text from being a log ----
@@ -273,13 +280,15 @@ function lineButton(line, text = `line ${decimal(line)}`) {
     return button;
 }
 
-/** Who wrote a granule, and who cleared its tag. */
-function historyOf({ place, wrote, cleared, tag }) {
+/** Who wrote a granule and the bytes of it that a line reaches, and who cleared its tag. */
+function historyOf({ place, wrote, reached, cleared, isRoot }) {
     if (!wrote) return [`No line before wrote ${place}: it holds zeros.`];
-    const isRoot = wrote <= log.judged.roots + 2 && tag === 1 && cleared === 0;
-    if (!cleared) return [`${place} was last written by `, lineButton(wrote), isRoot ? ", or holds its root." : "."];
-    if (cleared === wrote) return [`${place} was last written by `, lineButton(wrote), ", which cleared its tag."];
-    return [`${place} was last written by `, lineButton(wrote), "; its tag was cleared by ", lineButton(cleared), "."];
+    if (isRoot) return [`${place} holds its root, of `, lineButton(wrote), "."];
+    return [
+        `${place} was last written by `, lineButton(wrote), ...(cleared === wrote ? [", which cleared its tag"] : []),
+        ...(reached === wrote ? [] : ["; the bytes that the line reaches, by ", reached ? lineButton(reached) : "none"]),
+        ...(cleared && cleared !== wrote ? ["; its tag was cleared by ", lineButton(cleared)] : []), ".",
+    ];
 }
 
 function showWrote() {
@@ -319,8 +328,9 @@ function showShortest() {
     byId("shortest").hidden = !log.made;
     if (!log.made) return;
     const { text, verdict, lines, isShortest } = log.made;
-    const whole = isShortest ? "No line of it can be left out." : "The time ran out: lines of it may be left out still.";
-    byId("shortest-says").textContent = text ? `${counted(lines, "line")} with the same fault, judged by itself: ${verdict}. ${whole}`
+    const whole = isShortest ? "Leave any line out, and the refusal or its diagnosis changes." : "The time ran out: lines of it may be left out still.";
+    byId("shortest-says").textContent = text
+        ? `${counted(lines, "line")} with the same fault, judged by itself: ${verdict}. ${whole}`
         : "No shorter log was found that has the same fault.";
     byId("shortest-text").textContent = text.length < 1 << 16 ? text : `${text.slice(0, 1 << 16)}…`;
     for (const id of ["shortest-text", "save-shortest", "copy-shortest", "link-shortest"]) byId(id).hidden = !text;

@@ -21,7 +21,8 @@ sources() {
     for crate in $(crates); do
         printf '%s %s\n' "$crate" "$(find "crates/$crate/src" -type f | LC_ALL=C sort | xargs sha256sum | hash)"
     done
-    printf 'web %s\n' "$(sha256sum web/*.js web/page.html web/style.css web/build.sh examples/escaped_bound.log examples/wrong_result.log examples/memory.log | hash)"
+    printf 'web %s\n' "$(sha256sum web/*.js web/page.html web/style.css web/build.sh \
+        examples/escaped_bound.log examples/wrong_result.log examples/memory.log | hash)"
 }
 
 case ${1:-} in

@@ -18,7 +18,8 @@ function stepTo(wanted) {
             const granule = passed() ? null : await beside.ask({ ask: "granule", line });
             if (passed() || !granule) return;
             log.granule = granule;
-            if (line === log.judged.line && /^(lc|load) /.test(log.faulty)) log.wrote = granule;
+            const isWrong = line === log.judged.line && log.report?.refusal === "WrongResult";
+            if (isWrong && /^(lc|load) /.test(log.faulty)) log.wrote = granule;
             showStep();
             showWrote();
         }, 60);

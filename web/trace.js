@@ -127,17 +127,21 @@ class Trace {
         return 0;
     }
 
-    /** The line that last wrote the granule that a line reaches, and the one that cleared its tag; 0 for none. */
+    /** The line that last wrote the granule that a line reaches, the one that wrote a byte that it reaches, and the one
+     * that cleared the granule's tag; 0 for none. */
     history(line) {
         const key = granuleKey(this.high[line], this.low[line]);
-        const found = { wrote: 0, cleared: 0 };
+        const mask = maskOfBytes(this.low[line], this.size[line]);
+        const found = { wrote: 0, reached: 0, cleared: 0, isRoot: false };
+        let cleared = 0;
         for (let at = line - 1; at > 0; at--) {
             const does = this.does[at];
             if (does === 0 || does > STORES || granuleKey(this.high[at], this.low[at]) !== key) continue;
-            if (!found.wrote) found.wrote = at;
-            if (does === PUTS) return found;
-            found.cleared = at;
+            found.wrote ||= at;
+            if (maskOfBytes(this.low[at], this.size[at]) & mask) found.reached ||= at;
+            if (does === PUTS) return { ...found, cleared, isRoot: found.wrote <= this.roots };
+            cleared = at;
         }
-        return { ...found, cleared: 0 };
+        return found;
     }
 }

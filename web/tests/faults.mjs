@@ -155,11 +155,12 @@ export async function shortestIsMinimal(page) {
     const bytes = (k) => (k % 65536).toString(16).padStart(4, "0");
     logs.push(
         ["one granule", `capcheck 1\n${ROOT}${many(20000, (k) => `store c1 0 2 ${bytes(k)}\n`)}load c1 0 2 = ffff\nend 20001\n`, 4],
-        ["a cleared tag", `capcheck 1\n${ROOT}sc c1 c1 0\n${many(20000, (k) => `store c1 0 2 ${bytes(k)}\n`)}lc c2 c1 0 = 1 ffff1ffffc0180040000000000004e1f\n`, 5],
+        ["a cleared tag", `capcheck 1\n${ROOT}sc c1 c1 0\n${many(20000, (k) => `store c1 0 2 ${bytes(k)}\n`)}`
+            + "lc c2 c1 0 = 1 ffff1ffffc0180040000000000004e1f\n", 5],
         ["a chain", `capcheck 1\n${ROOT}${many(20000, (k) => `setaddr c1 c1 000000000000${bytes(k)} = 1 ${WHOLE}000000000000${bytes(k)}\n`)}`
             + `setaddr c2 c1 0000000000000001 = 0 ${WHOLE}0000000000000001\n`, 3],
-        ["a chain without a tag", `capcheck 1\n${many(20000, (k) => `setaddr c1 c1 000000000000${bytes(k)} = 0 00001ffffc018004000000000000${bytes(k)}\n`)}`
-            + `move c2 c1 = 1 00001ffffc0180040000000000000001\n`, 3]);
+        ["a chain without a tag", `capcheck 1\n${many(20000, (k) =>
+            `setaddr c1 c1 000000000000${bytes(k)} = 0 00001ffffc018004000000000000${bytes(k)}\n`)}` + `move c2 c1 = 1 00001ffffc0180040000000000000001\n`, 3]);
     const seen = [];
     for (const [name, log, most] of logs) {
         const wanted = printed(CAPDIAG, ["why"], log);
@@ -171,7 +172,7 @@ export async function shortestIsMinimal(page) {
             return { ...log.made, took: performance.now() - began, says: seen("shortest-says") };
         });
         check(made.took <= 5000, `${name}: ${made.took} ms`);
-        check(made.isShortest && made.says.endsWith("No line of it can be left out."), `${name}: ${made.says}`);
+        check(made.isShortest && made.says.endsWith("Leave any line out, and the refusal or its diagnosis changes."), `${name}: ${made.says}`);
         check(made.lines <= most, `${name}: ${made.lines} lines`);
         same(essence(printed(CAPDIAG, ["why"], made.text)), essence(wanted), `${name}: the fault stays`);
         const lines = made.text.split(/(?<=\n)/);
@@ -182,7 +183,8 @@ export async function shortestIsMinimal(page) {
         seen.push(`${made.lines} lines in ${Math.round(made.took)} ms`);
     }
     // A limit needs as many lines as it allows: the search ends in time, and says what it doesn't know.
-    const full = `capcheck 1\n${ROOT}${many(65537, (k) => `setaddr c2 c1 ${(k * 16).toString(16).padStart(16, "0")} = 1 ${WHOLE}${(k * 16).toString(16).padStart(16, "0")}\nsc c1 c2 0\n`)}`;
+    const place = (k) => (k * 16).toString(16).padStart(16, "0");
+    const full = `capcheck 1\n${ROOT}${many(65537, (k) => `setaddr c2 c1 ${place(k)} = 1 ${WHOLE}${place(k)}\nsc c1 c2 0\n`)}`;
     await withLog(page, full);
     const limit = await page.run(async () => {
         const began = performance.now();
@@ -203,6 +205,7 @@ function authors(log) {
         const [kind, ...words] = line.split(" ");
         const reach = { lc: [1, 2], sc: [1, 2], load: [0, 1], store: [0, 1] }[kind];
         let before = null;
+        if (kind === "root" && words[0].startsWith("@")) granules.set(BigInt(`0x${words[0].slice(1)}`) >> 4n, { wrote: k + 1, cleared: 0, tag: "1" });
         if (reach) {
             const at = BigInt.asUintN(64, (registers[words[reach[0]]]?.address ?? 0n) + BigInt(words[reach[1]])) >> 4n;
             const held = granules.get(at) ?? { wrote: 0, cleared: 0, tag: "0" };
@@ -246,9 +249,20 @@ export async function memoryHasAuthors(page) {
         await page.run(() => globalThis.settled());
         same(await page.run(() => byId("line").value), "4", "a button leads to the line that cleared it");
     }
+    await withLog(page, `${log}load c1 8 2 = 0000\n`);
+    await rest(300);
+    same(await page.run(() => seen("wrote")),
+        "@0000000000000000 was last written by line 5; the bytes that the line reaches, by line 4; its tag was cleared by line 4.",
+        "who wrote the bytes");
+    await withLog(page, `capcheck 1\n${ROOT}root @0000000000000010 ${WHOLE}0000000000000000\nlc c2 c1 16 = 0 ${WHOLE}0000000000000000\n`);
+    await rest(300);
+    same(await page.run(() => seen("wrote")), "@0000000000000010 holds its root, of line 3.", "a root in memory");
     await withLog(page, `capcheck 1\n${ROOT}lc c2 c1 0 = 1 ${WHOLE}0000000000000000\n`);
     await rest(300);
     same(await page.run(() => seen("wrote")), "No line before wrote @0000000000000000: it holds zeros.", "memory that none wrote");
+    await withLog(page, `${log}load c1 1 2 = 0000\n`);
+    await rest(300);
+    same(await page.run(() => [log.judged.text.split(" ")[3].slice(0, 10), seen("wrote")]), ["Misaligned", ""], "a load that is refused before it reads");
     // The same by a plain reading, of lines at random.
     let compared = 0;
     for (const kind of ["memory", "mixed"]) {
@@ -293,7 +307,8 @@ const SENTENCES = [
     [`${ROOT}${ROOT}`, "c1 has a root already."],
     ["root c1 ffff1ffffc01a0030000000000000000\n", "Its word isn't sound: the top, 0x18000000000000000, lies above 2^64, where addresses end."],
     [`${ROOT}move c2 c1 = 1 0${WHOLE.slice(1)}0000000000000000\n`, "It records permissions 0x00000fff; the rules give permissions 0x00078fff."],
-    [`${ROOT}move c2 c1 = 1 ffff1ffff80810000000000000001000\n`, "It records bounds 0x1000 up to 0x1020 and address 0x1000; the rules give bounds 0x0 up to 0x10000000000000000 and address 0x0."],
+    [`${ROOT}move c2 c1 = 1 ffff1ffff80810000000000000001000\n`, "It records bounds 0x1000 up to 0x1020 and address 0x1000; "
+        + "the rules give bounds 0x0 up to 0x10000000000000000 and address 0x0."],
     [`${ROOT}move c2 c1 = 0 0fff1ffff80810000000000000001000\n`,
         "It records another word than the rules give: tag, permissions, bounds and address differ."],
     ["sealed\n", "The line has none of the forms."],

@@ -154,6 +154,12 @@ export async function nothingIsFetched(page) {
     const html = fs.readFileSync(built, "utf8");
     check(!/(?:src|href)="(?!data:|#|\.\.\/\.\.\/docs\/)|@import|url\(|https?:\/\/(?!www\.w3\.org\/2000\/svg)/.test(html),
         "no address in the page");
+    for (const id of ["page-script", "worker-script"]) {
+        const [, packed] = html.match(new RegExp(`<script id="${id}"[^>]*>([^<]*)`));
+        const script = zlib.gunzipSync(Buffer.from(packed, "base64")).toString();
+        check(script.length > 10000 && !/https?:\/\/(?!www\.w3\.org\/2000\/svg)|\bfetch\(|XMLHttpRequest|WebSocket|import\(|importScripts/.test(script),
+            `no address in the ${id}`);
+    }
     const stopped = await page.run(() => fetch("data:,x").then(() => "went through", () => "stopped"));
     same(stopped, "stopped", "a fetch from the page");
     check(fs.statSync(built).size <= 210 * 1000, `size ${fs.statSync(built).size}`);
