@@ -58,6 +58,7 @@ function judgeLog(blob, name, text, packed = "") {
     Object.assign(log, closed, { name, blob, text, packed, size: blob.size });
     log.beside = new Beside(blob, toldOfLog);
     tellWork("Reading", 0);
+    tellWay("");
     byId("log").querySelector(".results").hidden = true;
 }
 
@@ -133,6 +134,7 @@ function showVerdict() {
     byId("report-text").textContent = text;
     byId("find-shortest").hidden = state !== 2;
     byId("to-fault").hidden = state !== 2;
+    byId("log").querySelector(".gloss").hidden = FORMLESS.includes(refusal);
     byId("origins").hidden = state !== 1;
     showEvened();
     showWrote();

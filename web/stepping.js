@@ -91,11 +91,13 @@ function heldRow({ number, tag, word, by }, parts) {
     const isRead = role.some((it) => it !== "target");
     const next = make("button", { type: "button", class: "small", "aria-label": `next line that uses ${place}` }, "next use");
     next.addEventListener("click", () => stepToUse(number));
+    const made = lineButton(by);
+    made.title = `the line that made ${place}`;
     const bounds = `${tag ? "" : "no tag; "}${span(c.decode(read(word)))}`;
     return make("tr", isRead ? { class: "read" } : {}, make("th", { scope: "row" }, place), make("td", {},
         make("a", { href: linkOf(word, tag), class: "mono" }, `${tag} ${word}`),
         make("small", {}, `${bounds}${role.length ? `; the step's ${role.join(" and ")}` : ""}`),
-        make("span", { class: "ways" }, lineButton(by), next)));
+        make("span", { class: "ways" }, made, next)));
 }
 
 /** What the granule holds that the step reaches. Without a tag it is data. */

@@ -1,6 +1,7 @@
 // What is drawn and said: what is too much, what has no tag, what a request loses, what a field takes, what words mean.
 import { execFileSync } from "node:child_process";
 import fs from "node:fs";
+import { pathToFileURL } from "node:url";
 
 import { address, capability, check, file, hash, root, same, text, tools } from "./given.mjs";
 import { settled } from "./logs.mjs";
@@ -148,4 +149,9 @@ export async function pageIsKept(page) {
     const foot = await page.run(() => document.querySelector("footer").innerText);
     check(foot.includes(`sources with the hash ${of("--hash")},`), `the foot has the hash: ${foot}`);
     check(before !== null && before.length <= 210 * 1000, "the tree keeps the page");
+    await page.go(pathToFileURL(kept).href + capability("003d1ffffc1a13910000000000013c08"));
+    await page.run(tools);
+    const opened = await page.run(() => [results(), seen("means").slice(0, 14), [...document.querySelectorAll("footer a, #allocator a")].map((it) => it.href)]);
+    same(opened.slice(0, 2), [1, "Read and write"], "the page of the tree opens");
+    for (const it of opened[2]) check(it.startsWith(pathToFileURL(file("docs/")).href) && fs.existsSync(new URL(it)), `${it} is there`);
 }
