@@ -1,9 +1,10 @@
 #!/bin/sh
 # Builds the page: web/out/capcheck.html, one file with both modules in it, packed. It proves the libraries for C
-# first, where no earlier work of the kit is there; this takes some minutes.
+# first, unless earlier work of the kit is there; this takes some minutes.
 #
 #   sh web/build.sh           the modules and the page
 #   sh web/build.sh --module  the modules alone, web/out/capcheck.wasm and web/out/judge.wasm
+#   sh web/build.sh --keep    the page, and web/capcheck.html, which the tree keeps
 #
 # RT_LIB may name another command in place of `rt lib`, and PAGES where the links of the page lead to in place of this
 # checkout.
@@ -38,26 +39,38 @@ module capcheck_c capcheck
 module capcheck_freestanding judge
 [ "${1:-}" != --module ] || exit 0
 
-for module in capcheck judge; do
-    gzip -9 -n < "web/out/$module.wasm" | base64 -w 120 > "web/out/$module.base64"
-done
-# A line `@NAME@` of page.html is the file NAME; of a script and the style without the lines that are remarks, and the
-# blanks before a line.
-awk '
-    /^@[a-z0-9_.\/]+@$/ {
-        name = "web/" substr($0, 2, length($0) - 2)
-        is_code = name ~ /[.](js|css)$/
-        remark = 0
-        while ((got = (getline line < name)) > 0) {
-            if (is_code) sub(/^ +/, "", line)
-            if (is_code && line ~ /^\/\*\*/) remark = 1
-            if (!remark && !(is_code && line ~ /^(\/\/.*)?$/)) print line
-            if (line ~ /\*\/$/) remark = 0
+# A script or the style without its remarks and the blanks before a line.
+plain() {
+    awk '
+        FNR == 1 { remark = 0 }
+        { sub(/^ +/, "") }
+        /^\/\*\*/ { remark = 1 }
+        !remark && !/^(\/\/.*)?$/
+        /\*\/$/ { remark = 0 }
+    ' "$@"
+}
+
+packed() { gzip -9 -n | base64 -w 120; }
+
+for module in capcheck judge; do packed < "web/out/$module.wasm" > "web/out/$module.base64"; done
+cd web
+plain words.js lines.js facts.js drawing.js pasting.js reports.js faults.js links.js log.js stepping.js page.js | packed > out/page.base64
+plain words.js lines.js trace.js judging.js shortest.js working.js | packed > out/worker.base64
+plain style.css > out/style.css
+sh sources.sh > out/sources
+# A line `@NAME@` of page.html is the file NAME, `@pages@` where links lead to, and `@hash@` the hash of all sources.
+page() {
+    awk '
+        /^@[a-z0-9_.\/]+@$/ {
+            name = substr($0, 2, length($0) - 2)
+            while ((got = (getline line < name)) > 0) print line
+            if (got < 0) { print "build.sh: no file " name > "/dev/stderr"; exit 1 }
+            close(name)
+            next
         }
-        if (got < 0) { print "build.sh: no file " name > "/dev/stderr"; exit 1 }
-        close(name)
-        next
-    }
-    { gsub(/@pages@/, pages); print }
-' pages="${PAGES:-../..}" web/page.html > web/out/capcheck.html
-echo "web/out/capcheck.html: $(wc -c < web/out/capcheck.html) bytes, of which the modules are $(cat web/out/*.base64 | wc -c)"
+        { gsub(/@pages@/, pages); gsub(/@hash@/, hash); print }
+    ' pages="$1" hash="$(sh sources.sh --hash)" page.html
+}
+page "${PAGES:-../..}" > out/capcheck.html
+echo "web/out/capcheck.html: $(wc -c < out/capcheck.html) bytes, of which the modules are $(cat out/capcheck.base64 out/judge.base64 | wc -c)"
+[ "${1:-}" != --keep ] || page .. > capcheck.html

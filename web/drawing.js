@@ -115,11 +115,16 @@ function rangeDrawing(facts, tried, width) {
     const base = place(bounds.base);
     const top = base + bounds.top - bounds.base;
     if (top >= base) nodes.push(bar(cut(base), cut(top), high, low - high, "bounds"));
+    const lost = [];
     if (tried && !tried.keeps) {
         const other = place(tried.bounds.base);
         const end = other + tried.bounds.top - tried.bounds.base;
         const seen = end > domain.from && other < domain.from + domain.size;
-        if (seen) nodes.push(bar(cut(other), cut(end), high + 3, low - high - 3, "ghost"));
+        if (seen) {
+            nodes.push(bar(cut(other), cut(end), high + 3, low - high - 3, "ghost"));
+            const { bounds: there } = tried;
+            lost.push({ x: (cut(other) + cut(end)) / 2, number: `${hex(there.base)}..${hex(there.top)}`, note: "bounds there" });
+        }
     }
     nodes.push(line(0, low, width, low, "axis"));
     const eighth = scale.step << (facts.fields.ie ? 8n : 11n);
@@ -129,6 +134,7 @@ function rangeDrawing(facts, tried, width) {
         { x: x(base), number: hex(bounds.base), note: "base" },
         { x: cut(top), number: hex(bounds.top), note: "top" },
         { x: x(place(facts.fields.address)), number: hex(facts.fields.address), note: "address" },
+        ...lost,
     ];
     if (!range.every) {
         points.push({ x: x(range.start), number: hex(range.start), note: "range begins" });
@@ -185,18 +191,21 @@ function nearDrawing({ bound, scale, ie, bars, points }, width) {
     return canvas(width, low + 24 + below.height, ...nodes, ...below.nodes);
 }
 
-/** A request above what it is rounded to, to scale. */
-function requestDrawing({ base, length, rounded }, width) {
+/** A request above what it is rounded to, to scale. What is lost at each side is marked. */
+function requestDrawing({ base, length, rounded, lost }, width) {
     const room = (rounded.top - rounded.base) / 8n + 2n;
     const { x } = scaled(rounded.base - room, rounded.top - rounded.base + 2n * room, 0, width);
     const low = 108;
     const nodes = [
         words(x(rounded.base), 14, "requested", "note", "start"), bar(x(base), x(base + length), 20, 28, "asked"),
         words(x(rounded.base), 66, "rounded", "note", "start"), bar(x(rounded.base), x(rounded.top), 72, 28, "bounds"),
+        ...(lost.below ? [bar(x(rounded.base), x(base), 72, 28, "excess")] : []),
+        ...(lost.above ? [bar(x(base + length), x(rounded.top), 72, 28, "excess")] : []),
         line(0, low, width, low, "axis"),
     ];
     const points = [
         { x: x(base), number: hex(base), note: "requested base" },
+        { x: x(base + length), number: hex(base + length), note: "requested top" },
         { x: x(rounded.base), number: hex(rounded.base), note: "base" },
         { x: x(rounded.top), number: hex(rounded.top), note: "top" },
     ];
@@ -204,30 +213,86 @@ function requestDrawing({ base, length, rounded }, width) {
     return canvas(width, low + 12 + below.height, ...nodes, ...below.nodes);
 }
 
-/** Ranges one below the other on one axis, each with its name. Where some are far smaller than others, the axis is for
- * those, and an arrow says that a range goes on. */
+/** Ranges with what of each goes beyond the source's or the authority's bounds, where it asks for some of these. */
+function withExcess(bars) {
+    const owner = { request: "source", rounded: "source", access: "authority" };
+    return bars.map((it) => {
+        const within = bars.find(({ name }) => name === owner[it.name]);
+        if (!within) return it;
+        const below = within.base > it.base ? { base: it.base, top: it.top < within.base ? it.top : within.base } : null;
+        const above = it.top > within.top ? { base: it.base > within.top ? it.base : within.top, top: it.top } : null;
+        const sized = (part, side) => (part ? [`${counted(part.top - part.base, "byte")} ${side}`] : []);
+        const says = [...sized(below, "below"), ...sized(above, "above")].join(", ");
+        return { ...it, excess: [below, above].filter((part) => part !== null), says: says && `${says} the ${within.name}'s bounds` };
+    });
+}
+
+/** Bars of the same range as one, with all their names. */
+function alike(bars) {
+    const rows = [];
+    const hasNoTag = ({ kind }) => kind === "untagged";
+    for (const it of bars) {
+        const same = rows.find((other) => other.base === it.base && other.top === it.top && hasNoTag(other) === hasNoTag(it));
+        if (!same) rows.push({ excess: [], says: "", ...it, names: [it.name] });
+        else {
+            same.names.push(it.name);
+            if (!same.says && it.says) Object.assign(same, { says: it.says, excess: it.excess });
+        }
+    }
+    return rows;
+}
+
+/** Strokes across a rectangle, for what has no tag. */
+function hatched(left, right, y, height) {
+    let path = "";
+    for (let at = left - height; at < right; at += 7) {
+        const [from, to] = [Math.max(left, at), Math.min(right, at + height)];
+        if (to > from) path += `M${from} ${y + height - (from - at)}L${to} ${y + height - (to - at)}`;
+    }
+    return shape("path", { d: path, class: "hatch" });
+}
+
+/** Ranges one below the other on one axis, each below its names; equal ones are drawn once. What goes beyond others is
+ * red, what has no tag hatched. Where some are far smaller than others, the axis is for those, and an arrow says that a
+ * range goes on. */
 function axisDrawing(bars, width) {
-    const sizes = bars.map(({ base, top }) => top - base).filter((size) => size > 0n);
+    const rows = alike(bars);
+    const sizes = rows.map(({ base, top }) => top - base).filter((size) => size > 0n);
     const least = sizes.reduce((one, other) => (other < one ? other : one), sizes[0] ?? 1n);
-    const near = bars.filter(({ base, top }) => top - base <= least << 12n);
+    const near = rows.filter(({ base, top }) => top - base <= least << 12n);
     const from = near.reduce((least, { base }) => (base < least ? base : least), near[0].base);
     const end = near.reduce((greatest, { top }) => (top > greatest ? top : greatest), near[0].top);
     const room = (end - from) / 8n + 1n;
-    const left = 100;
-    const axis = scaled(from - room, end - from + 2n * room, left, width - 12);
-    const nodes = bars.flatMap(({ name, base, top, kind }, place) => {
-        const y = 4 + place * 26;
-        const [x1, x2] = [axis.cut(base), axis.cut(top)];
-        return [
-            words(0, y + 14, name, "note", "start"), bar(x1, x2, y, 18, kind),
-            ...(axis.x(base) < left ? [shape("path", { d: `M${left} ${y}l-8 9l8 9z`, class: kind })] : []),
-            ...(axis.x(top) > width - 12 ? [shape("path", { d: `M${width - 12} ${y}l8 9l-8 9z`, class: kind })] : []),
-        ];
+    const axis = scaled(from - room, end - from + 2n * room, 12, width - 12);
+    let y = 0;
+    const nodes = rows.flatMap((it) => {
+        const { nodes, height } = axisRow(it, axis, y);
+        y += height;
+        return nodes;
     });
-    const low = 8 + bars.length * 26;
-    const ends = bars.flatMap(({ base, top }) => [base, top]).filter((at) => axis.x(at) >= left && axis.x(at) <= width - 12);
+    const ends = rows.flatMap(({ base, top }) => [base, top]).filter((at) => axis.x(at) >= axis.left && axis.x(at) <= axis.right);
     const points = [...new Set(ends)].map((at) => ({ x: axis.x(at), number: hex(at), note: "" }));
-    const below = labels(points, width, low + 8);
-    const guides = points.map(({ x }) => line(x, 4, x, low, "leader"));
-    return canvas(width, low + 12 + below.height, ...guides, ...nodes, line(left, low, width - 12, low, "axis"), ...below.nodes);
+    const below = labels(points, width, y + 8);
+    const guides = points.map(({ x }) => line(x, 4, x, y, "leader"));
+    return canvas(width, y + 12 + below.height, ...guides, ...nodes, line(axis.left, y, axis.right, y, "axis"), ...below.nodes);
+}
+
+/** A row: names, what is too much, and the bar. */
+function axisRow({ names, base, top, kind, excess, says }, axis, y) {
+    const { left, right } = axis;
+    const title = `${names.join(", ")}${kind === "untagged" ? ", no tag" : ""}`;
+    const isLong = (title.length + says.length + 2) * LETTER.note > right;
+    const nodes = [words(0, y + 13, title, "note halo", "start")];
+    if (says) nodes.push(words(isLong ? 0 : title.length * LETTER.note + 14, y + (isLong ? 29 : 13), says, "note lost halo", "start"));
+    const at = y + (isLong && says ? 34 : 18);
+    const [x1, x2] = [axis.cut(base), axis.cut(top)];
+    nodes.push(bar(x1, x2, at, 16, kind));
+    if (kind === "untagged") nodes.push(hatched(x1, x2, at, 16));
+    for (const part of excess) {
+        const [from, to] = [axis.cut(part.base), axis.cut(part.top)];
+        if (to > left && from < right) nodes.push(bar(from, to, at, 16, "excess"));
+    }
+    if (axis.x(base) < left) nodes.push(shape("path", { d: `M${left} ${at}l-8 8l8 8z`, class: kind }));
+    if (axis.x(top) > right) nodes.push(shape("path", { d: `M${right} ${at}l8 8l-8 8z`, class: kind }));
+    return { nodes, height: at - y + 24 };
 }

@@ -19,6 +19,7 @@ const decimal = (number) => number.toString().replace(/\B(?=(\d{3})+$)/g, ",");
 const counted = (count, what) => `${decimal(count)} ${what}${count == 1 ? "" : "s"}`;
 const ox = (number) => `0x${hex(number)}`;
 const span = ({ base, top }) => `${ox(base)} up to ${ox(top)}`;
+const UP_TO = "“0x1000 up to 0x1020” are the addresses from 0x1000 to 0x101f: a top isn't one of them.";
 
 /** The word with all permissions over the whole address space, at an address. */
 const almighty = (c, address) => c.join({ ...c.split(c.nothing()), perms: 0xffff, address }).word;
@@ -32,7 +33,7 @@ function mantissa(c, fields) {
     return { t: c.round(base, units).t, units };
 }
 
-/** What an exponent that stands in a word means: the one that decoding takes, the step on which bounds lie,
+/** What the exponent of a word means: the one that decoding takes, the step on which bounds lie,
  * 8 units, and the least length, 512 steps. They are bounds of words with small mantissas. */
 function scaleOf(c, exponent) {
     const word = (b) => c.join({ ...c.split(c.nothing()), b, t: b, e: exponent, ie: 1, address: 0n }).word;
@@ -43,7 +44,7 @@ function scaleOf(c, exponent) {
 
 const scaleWithout = { cut: 0, step: 1n, request: 1n };
 
-/** The end of a range, the first address behind it: the top of a request for just its addresses. */
+/** The end of a range, the first address after it: the top of a request for just its addresses. */
 function endOf(c, start, size) {
     const asked = c.round(start, size);
     return asked.exact ? asked.top & GREATEST : null;
@@ -89,17 +90,17 @@ function explained(f) {
         ["word", f.text, "the register's order, most significant digit first"],
         ["memory", f.memory, "the sixteen bytes in memory, in order of address: the word XOR that of NULL"],
         ["tag", String(f.tag), f.tag ? "may be used as a capability" : "without it the word is data, and gives no authority"],
-        ["perms", hex(f.view, 8), ""],
-        ["otype", `${hex(fields.otype, 5)} ${f.kind}`, "the object type"],
-        ["flag", String(fields.flag), ""],
-        ["reserved", String(fields.reserved), ""],
-        ["ie", String(fields.ie), fields.ie ? "the exponent stands in the word" : "no exponent stands in the word"],
+        ["perms", hex(f.view, 8), "the permissions, a bit for each: 0 to 11 as above, from 15 on the user's"],
+        ["otype", `${hex(fields.otype, 5)} ${f.kind}`, "the object type: 3ffff is unsealed, and another one seals the word"],
+        ["flag", String(fields.flag), "in a program counter the mode of CHERI-RISC-V; no rule here reads it"],
+        ["reserved", String(fields.reserved), "two bits without a meaning, which every operation keeps"],
+        ["ie", String(fields.ie), fields.ie ? "the word contains the exponent" : "the word contains no exponent"],
         ["e", String(fields.e), exponent],
         ["b", hex(fields.b, 4), "B, the mantissa of the base, in units"],
         ["t", hex(f.t, 4), `T, the mantissa of the top, in units: ${ox(f.units)} above B`],
-        ["address", hex(fields.address, 16), ""],
-        ["base", hex(bounds.base, 16), "where the bounds begin"],
-        ["top", hex(bounds.top, 17), "the first address behind them"],
+        ["address", hex(fields.address, 16), "where the capability points"],
+        ["base", hex(bounds.base, 16), "the first address of the bounds"],
+        ["top", hex(bounds.top, 17), "the first address after the bounds: it isn't one of them"],
         ["sound", f.sound ? "yes" : "no", f.sound ? "the top is base plus length, and at most 2^64" : f.why],
     ];
 }
@@ -157,7 +158,8 @@ function requestFacts(c, base, length) {
         const got = c.round(at, wanted);
         return got.exact && got.top <= SPACE ? got : null;
     };
-    return { base, length, rounded, scale, wanted, mask, whole, alignment: grid.step, below: exact(below), above: exact(above) };
+    const lost = { below: base - rounded.base, above: rounded.top - base - length };
+    return { base, length, rounded, scale, wanted, mask, whole, lost, alignment: grid.step, below: exact(below), above: exact(above) };
 }
 
 const needs = { seal: "Seal", unseal: "Unseal", load: "Load", lc: "Load", store: "Store", sc: "Store" };
@@ -201,7 +203,7 @@ const OPERATIONS = {
         access: (c, o) => c.mayStore(o.authority, o.offset, o.size),
     },
     lc: {
-        takes: ["source", "authority", "offset"], title: "lc: load a capability, the source standing in memory",
+        takes: ["source", "authority", "offset"], title: "lc: load a capability, the source from memory",
         access: (c, o) => c.mayLoadCap(o.authority, o.offset), result: (c, o) => c.loaded(o.authority, o.source),
     },
     sc: {
@@ -212,7 +214,7 @@ const OPERATIONS = {
 
 /** The ranges of an operation: what it starts from, what it asks for, and what it gives. */
 function rangesOf(c, operation, o) {
-    const of = (name, cap) => ({ name, kind: "bounds", ...c.decode(cap.word) });
+    const of = (name, cap) => ({ name, kind: cap.tag ? "bounds" : "untagged", ...c.decode(cap.word) });
     const bars = [...(o.source ? [of("source", o.source)] : []), ...(o.authority ? [of("authority", o.authority)] : [])];
     if (operation.takes.includes("length")) {
         const { address } = c.split(o.source.word);
@@ -228,7 +230,7 @@ function rangesOf(c, operation, o) {
         bars.push({ name: "access", kind: "asked", base: address, top: address + (o.size ?? 16n) });
     }
     if (operation.clear) bars.push(of("result", operation.clear(c, o)));
-    return bars.filter(({ base, top }) => base <= top);
+    return withExcess(bars.filter(({ base, top }) => base <= top));
 }
 
 /** What a refusal compares, with the numbers of this case. */
@@ -245,7 +247,7 @@ function compared(c, name, o, refusal) {
         case 9: return "The source has no tag.";
         case 10: return `The source is sealed: its object type is ${ox(source.otype)}, not ${unsealed}.`;
         case 11:
-            return `The rounded bounds of the request, ${span(c.round(source.address, o.value))}, don't lie inside the source's, `
+            return `The rounded bounds of the request, ${span(c.round(source.address, o.value))}, aren't inside the source's, `
                 + `${within(o.source)}.`;
         case 12:
             return `The request is for ${ox(o.value)} bytes from ${ox(source.address)} on; rounded it is `
@@ -285,7 +287,7 @@ const TERMS = {
     t: "T is the top in units, its lowest 14 bits. The word has 12 of them, or 9 beside an exponent; the others follow from B.",
     sound: "A word is sound where its bounds make sense: the top is the base plus the length, and at most 2^64. Only sound words can "
         + "be roots.",
-    strict: "Strict is a machine that traps: where a test holds, the operation is refused, and nothing changes.",
-    clear: "Clear is a machine that clears tags in place of trapping, as Morello and current CHERI-RISC-V do: where a test holds, the "
-        + "result has no tag.",
+    strict: "Strict is a machine that traps: if a check fails, the operation is refused, and nothing changes.",
+    clear: "Clear is a machine that clears tags instead of trapping, as current CHERI-RISC-V does: if a check fails, the result has "
+        + "no tag.",
 };

@@ -1,7 +1,7 @@
 "use strict";
 // The lines of a log that have a form: their parts, by name and by place. Read on the page and beside it.
 
-// What stands in a line behind its first word, in order.
+// The words of a line after its first, in order.
 const FORMS = Object.fromEntries(Object.entries({
     root: "place word", end: "steps",
     move: "target source = tag word", cleartag: "target source = tag word",

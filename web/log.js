@@ -1,15 +1,13 @@
 "use strict";
 // A log: how it is opened, and what is shown of what the judge beside the page says.
 
-const SMALL = 4000; // as many letters of a log stand in a link
+const SMALL = 4000; // as many letters of a log are in a link as they are
 const AROUND = 6; // lines shown on either side of one
 const FEW = 500; // origins shown
 
 /** A worker with one log. What it tells goes to `told`; what it is asked is answered later. */
 class Beside {
     constructor(blob, told) {
-        Beside.address ??= URL.createObjectURL(new Blob(
-            ["words", "lines", "judging", "shortest", "working"].map((name) => byId(`${name}-script`).textContent)));
         this.asked = new Map();
         this.worker = new Worker(Beside.address);
         this.worker.onmessage = ({ data }) => {
@@ -33,10 +31,11 @@ class Beside {
     end() { this.worker.terminate(); }
 }
 
-// The log that is open: its worker, what it is called, its text where that is in the field, and what was said of it.
+// The log that is open: its worker, what it is called, its bytes, its text where that is in the field, and what was said
+// of it.
 const closed = {
-    beside: null, name: "", text: null, size: 0, judged: null, report: null, origins: null, made: null, line: 0, at: null,
-    granule: null, shown: "",
+    beside: null, name: "", blob: null, text: null, size: 0, packed: "", judged: null, report: null, faulty: "", origins: null,
+    made: null, line: 0, at: null, granule: null, wrote: null, evened: null, shown: "",
 };
 const log = { ...closed, wait: 0 };
 
@@ -48,17 +47,32 @@ async function openLog(blob, name) {
     const plain = /^[\n -~]+$/.test(text) ? text : null;
     byId("text").value = plain ?? "";
     byId("line").value = "";
+    Object.assign(chosen, { packed: "", marks: "" });
     judgeLog(blob, name, plain);
     if (view === "log") changed();
     else turnTo("log");
 }
 
-function judgeLog(blob, name, text) {
+function judgeLog(blob, name, text, packed = "") {
     log.beside?.end();
-    Object.assign(log, closed, { name, text, size: blob.size });
+    Object.assign(log, closed, { name, blob, text, packed, size: blob.size });
     log.beside = new Beside(blob, toldOfLog);
     tellWork("Reading", 0);
+    tellWay("");
     byId("log").querySelector(".results").hidden = true;
+}
+
+/** Opens the log that a link has packed. */
+async function openPacked(packed) {
+    log.beside?.end();
+    Object.assign(log, closed, { packed });
+    byId("log").querySelector(".results").hidden = true;
+    try {
+        const blob = await unpackedLog(packed);
+        if (log.packed === packed) judgeLog(blob, "", null, packed);
+    } catch (problem) {
+        byId("said").textContent = `The link's log can't be unpacked: ${problem.message}. Was the link cut?`;
+    }
 }
 
 function tellWork(what, read) {
@@ -70,6 +84,9 @@ function tellWork(what, read) {
     else bar.value = log.size ? read / log.size : 0;
 }
 
+// Refusals of a line that isn't one of a log: something odd about the bytes may be why.
+const FORMLESS = [1, 2, 3, 5, 25];
+
 function toldOfLog(told) {
     if (told.read !== undefined) return tellWork(told.read < log.size ? "Reading" : "Judging", told.read);
     tellWork(null);
@@ -77,16 +94,21 @@ function toldOfLog(told) {
     log.judged = told.judged;
     const asked = Number(byId("line").value);
     stepTo(asked || log.judged.line || log.judged.count);
+    if (FORMLESS.includes(log.judged.refusal)) askEvened();
 }
 
-/** What is open is shown; where the field has another text, that is judged first. */
+/** What is open is shown; where the field has another text, or the link another log, that is judged first. */
 function showLog() {
     const typed = byId("text").value;
     if (typed !== (log.text ?? "")) {
-        if (typed !== "") return judgeLog(new Blob([typed]), "", typed);
+        if (typed !== "") {
+            chosen.packed = "";
+            return judgeLog(new Blob([typed]), "", typed);
+        }
         log.beside?.end();
         Object.assign(log, closed);
     }
+    if (chosen.packed !== "" && chosen.packed !== log.packed) return void openPacked(chosen.packed);
     byId("log").querySelector(".results").hidden = log.judged === null;
     if (log.judged === null) return;
     const asked = Number(byId("line").value);
@@ -97,73 +119,183 @@ function showLog() {
 
 function showVerdict() {
     log.shown = `${log.size} ${widthOf("why")}`;
-    const { state, line, refusal, steps, roots, count, took, text } = log.judged;
+    const { state, line, refusal, count, took, text } = log.judged;
     log.report = state === 2 ? reportOf(text) : null;
-    const first = state === 1 ? "Yes: a run of the machine." : state === 2 ? `No: line ${decimal(line)} is at fault.` : "No verdict.";
-    const second = state === 1 ? `${counted(steps, "step")} from ${counted(roots, "root")}.`
-        : state === 2 ? `${refusal} ${log.report.refusal}: ${REFUSALS[log.report.refusal] ?? ""}.` : "There wasn't memory enough.";
+    log.faulty = log.report?.line ?? "";
+    const [first, second] = verdictSaid();
     byId("verdict").className = `verdict ${state === 1 ? "yes" : "no"}`;
     const facts = [...(log.name ? [log.name] : []), counted(count, "line"), sizeOf(log.size), `judged in ${decimal(Math.ceil(took))} ms`];
-    byId("verdict").replaceChildren(make("b", {}, first), " ", make("span", {}, second), " ", make("small", {}, facts.join(", ")));
+    const faulty = make("code", { class: "faulty" }, make("i", {}, `line ${decimal(line)}: `));
+    if (state === 2) faulty.append(...marked(log.faulty, (it) => it));
+    byId("verdict").replaceChildren(make("b", {}, first), " ", make("span", {}, second), " ", ...(state === 2 ? [faulty] : []),
+        make("small", {}, facts.join(", ")));
+    byId("allocator").hidden = !(refusal === 1 && /^(\\xef\\xbb\\xbf)?heap \d/i.test(log.faulty));
     byId("why").replaceChildren(...(log.report ? reportShown(log.report) : []));
     byId("report-text").textContent = text;
     byId("find-shortest").hidden = state !== 2;
     byId("to-fault").hidden = state !== 2;
+    byId("log").querySelector(".gloss").hidden = FORMLESS.includes(refusal);
     byId("origins").hidden = state !== 1;
+    showEvened();
+    showWrote();
     showOrigins();
     showShortest();
 }
 
+/** The verdict, and a sentence. */
+function verdictSaid() {
+    const { state, line, refusal, steps, roots } = log.judged;
+    if (state === 1) return ["Yes: a run of the machine.", `${counted(steps, "step")} from ${counted(roots, "root")}.`];
+    if (state !== 2) return ["No verdict.", "There wasn't memory enough."];
+    return [`No: line ${decimal(line)} is refused: ${refusal} ${log.report.refusal}.`, faultSentence(log.report, log.faulty)];
+}
+
+// ---- Bytes that keep a text from being a log ----
+
+const ODD = {
+    mark: ["begins with a byte order mark", "without the byte order mark"],
+    returns: ["has lines that end in CR LF", "without the carriage returns"],
+    tabs: ["has tabs", "with spaces in place of the tabs"],
+    capitals: ["has upper-case letters", "in lower case"],
+    feed: ["has no line feed at its end", "with a last line feed"],
+};
+
+async function askEvened() {
+    const { beside } = log;
+    const evened = await beside.ask({ ask: "evened" });
+    if (log.beside !== beside || !log.judged || !evened) return;
+    // A line that was cut is refused with a line feed too.
+    const isSame = evened.verdict === log.judged.text.split("\n")[0];
+    const isCut = evened.kinds.join() === "feed" && evened.verdict.startsWith(`no ${log.judged.line} `);
+    if (isSame || isCut) return;
+    log.evened = evened;
+    showEvened();
+}
+
+function showEvened() {
+    byId("evened").hidden = log.evened === null;
+    if (log.evened === null) return;
+    const { kinds, verdict, blob } = log.evened;
+    const [has, without] = [0, 1].map((side) => listed(kinds.map((kind) => ODD[kind][side])));
+    const button = make("button", { type: "button", class: "small" }, "Judge it so");
+    button.addEventListener("click", () => openLog(blob, log.name));
+    byId("evened").replaceChildren(`The log ${has}. ${without[0].toUpperCase()}${without.slice(1)} its verdict is `,
+        make("code", {}, verdict), ". ", button);
+}
+
+// ---- The diagnosis ----
+
+const isData = (cap, isLoad) => cap.tag === "0" && (cap.place.startsWith("@") || isLoad);
+const NAMES = { gives: "the rules give", recorded: "the line records", holds: "the place holds" };
+
 function reportShown(report) {
-    const { caps, spans, counts, values, differs, needs, cleared } = report;
+    const { caps, spans, counts, values, needs, more } = report;
+    const isLoad = log.faulty.startsWith("lc ");
     const shown = [];
-    const bars = [
-        ...Object.entries(caps).map(([name, { bounds }]) => ({ name, base: bounds[0], top: bounds[1], kind: "bounds" })),
-        ...Object.entries(spans).map(([name, it]) => ({ name, ...it, kind: name === "representable" ? "range" : "asked" })),
-    ].filter(({ base, top }) => base <= top).sort((one, other) => ORDER.indexOf(one.name) - ORDER.indexOf(other.name));
+    const card = ([name, cap]) => capabilityCard(name, cap, report, isData(cap, isLoad && (name === "gives" || name === "recorded")));
+    const results = Object.entries(caps).filter(([name]) => name === "gives" || name === "recorded");
+    if (results.length) shown.push(make("div", { class: "cards two" }, ...results.map(card)));
+    if (values.gives) shown.push(make("div", { class: "cards two" }, ...Object.entries(values).map(valueCard)));
+    shown.push(make("p", { id: "wrote", role: "status" }));
+    const bars = barsOf(report, isLoad);
     if (bars.length > 1) {
         const says = bars.map(({ name, ...it }) => `${name} ${span(it)}`).join("; ");
         shown.push(make("div", { class: "drawing", role: "img", "aria-label": says }, axisDrawing(bars, widthOf("why"))));
     }
-    const cards = Object.entries(caps).map(([name, cap]) => capabilityCard(name, cap, differs, cleared));
-    if (cards.length) shown.push(make("div", { class: "cards" }, ...cards));
+    const others = Object.entries(caps).filter(([name]) => name !== "gives" && name !== "recorded");
+    if (others.length) shown.push(make("div", { class: "cards" }, ...others.map(card)));
     const rows = [
         ...Object.entries(spans).map(([name, it]) => [name, span(it), SPANS[name]]),
         ...(needs ? [["needs", permissionNames(Number(`0x${needs}`)).join(", "), "the permissions that the authority needs"]] : []),
-        ...Object.entries(values).map(([name, value]) => [name, `0x${value}`, VALUES[name]]),
         ...Object.entries(counts).map(([name, value]) => [name, value, COUNTS[name]]),
+        ...more.map(([name, ...rest]) => [name, rest.join(" ")]),
     ];
-    if (rows.length) {
-        const made = rows.map(row);
-        for (const it of made) if (it.cells[0].textContent in values) it.classList.add("differs");
-        shown.push(make("table", {}, make("tbody", {}, ...made)));
-    }
+    if (rows.length) shown.push(make("table", {}, make("tbody", {}, ...rows.map(row))));
     return shown;
 }
 
-/** A capability of the report. What differs between what the rules give and what is recorded is marked. */
-function capabilityCard(name, cap, differs, cleared) {
+/** The ranges of a report, in order, with what goes beyond the source's or the authority's bounds. */
+function barsOf({ caps, spans }, isLoad) {
+    const bars = [
+        ...Object.entries(caps).filter(([, cap]) => !isData(cap, isLoad)).map(([name, { bounds, tag }]) =>
+            ({ name, base: bounds[0], top: bounds[1], kind: tag === "1" ? "bounds" : "untagged" })),
+        ...Object.entries(spans).map(([name, it]) => ({ name, ...it, kind: name === "representable" ? "range" : "asked" })),
+    ].filter(({ base, top }) => base <= top).sort((one, other) => ORDER.indexOf(one.name) - ORDER.indexOf(other.name));
+    return withExcess(bars);
+}
+
+/** A capability of the report, or data. What differs between what the rules give and what is recorded is marked. */
+function capabilityCard(name, cap, { differs, cleared, caps }, isPlain) {
     const both = name === "gives" || name === "recorded";
     const mark = (field) => (both && differs.includes(field) ? { class: "differs" } : {});
-    const [base, top] = cap.bounds;
-    const word = make("a", { href: linkOf(cap.word, cap.tag), class: "mono" }, cap.word);
+    const other = both ? caps[name === "gives" ? "recorded" : "gives"] : cap;
+    const word = make("a", { href: linkOf(cap.word, cap.tag), class: "mono" }, ...digitsMarked(cap.word, other.word));
     const bound = ["ie", "e", "b", "t"].find((it) => differs.includes(it));
+    const meaning = isPlain ? [make("span", {}, "data, by address: ", make("span", { class: "mono" }, dataOf(cap.word)))] : [
+        make("span", mark(bound), `bounds ${span(boundsOf(cap))}`),
+        make("span", mark("address"), `address ${addressOf(cap)}`),
+        make("span", mark("perms"), `permissions 0x${cap.perms[0]}`),
+        make("span", mark("otype"), `type ${cap.otype.join(" ")}`),
+    ];
     const lines = [
         make("span", mark("tag"), cap.tag === "1" ? "tag 1" : "no tag"),
         word,
-        make("span", mark(bound), `bounds ${span({ base, top })}`),
-        make("span", mark("address"), `address ${ox(BigInt(`0x${cap.word.slice(16)}`))}`),
-        make("span", mark("perms"), `permissions 0x${cap.perms[0]}`),
-        make("span", mark("otype"), `type ${cap.otype.join(" ")}`),
+        ...meaning,
         ...(cap.origin ? [`from the root at ${cap.origin[0]}`] : []),
         ...(name === "gives" && cleared ? [make("span", { class: "differs" }, `tag cleared: ${cleared}`)] : []),
         ...(name === "recorded" && differs.length ? [make("span", { class: "differs" }, `differs: ${differs.join(", ")}`)] : []),
     ];
-    const title = { gives: "the rules give", recorded: "the line records", holds: "it holds" }[name] ?? name;
-    return make("div", { class: "card" }, make("h3", {}, `${title}, ${cap.place}`), ...lines.map((it) => make("div", {}, it)));
+    return make("div", { class: "card" }, make("h3", {}, `${NAMES[name] ?? name}, ${cap.place}`), ...lines.map((it) => make("div", {}, it)));
 }
 
+function valueCard([name, value], place, both) {
+    const other = both[1 - place][1];
+    return make("div", { class: "card" }, make("h3", {}, name === "gives" ? "memory holds" : NAMES[name]),
+        make("div", { class: "mono" }, "0x", ...digitsMarked(value, other)));
+}
+
+/** Digits, with those marked that another text has otherwise. */
+function digitsMarked(digits, other) {
+    const pieces = digits.match(/./g).map((digit, k) => ({ digit, is: digit !== other[k] }));
+    return runsOf(pieces).map(({ text, is }) => (is ? make("span", { class: "differs" }, text) : text));
+}
+
+/** Letters put together, those that are wrong and those that aren't. */
+function runsOf(letters) {
+    const runs = [];
+    for (const { digit, is } of letters) {
+        if (runs.at(-1)?.is === is) runs.at(-1).text += digit;
+        else runs.push({ is, text: digit });
+    }
+    return runs;
+}
+
+/** The sixteen bytes of a granule without a tag, in order of address. */
+const dataOf = (word) => [...c.toMemory(read(word))].map((byte) => hex(byte, 2)).join(" ");
+
 const linkOf = (word, tag) => `#${new URLSearchParams({ show: "capability", word, order: "register", tag, to: "" })}`;
+
+/** A button that leads to a line. */
+function lineButton(line, text = `line ${decimal(line)}`) {
+    const button = make("button", { type: "button", class: "small" }, text);
+    button.addEventListener("click", () => stepTo(line));
+    return button;
+}
+
+/** Who wrote a granule and the bytes of it that a line reaches, and who cleared its tag. */
+function historyOf({ place, wrote, reached, cleared, isRoot }) {
+    if (!wrote) return [`No line before wrote ${place}: it holds zeros.`];
+    if (isRoot) return [`${place} holds its root, of `, lineButton(wrote), "."];
+    return [
+        `${place} was last written by `, lineButton(wrote), ...(cleared === wrote ? [", which cleared its tag"] : []),
+        ...(reached === wrote ? [] : ["; the bytes that the line reaches, by ", reached ? lineButton(reached) : "none"]),
+        ...(cleared && cleared !== wrote ? ["; its tag was cleared by ", lineButton(cleared)] : []), ".",
+    ];
+}
+
+function showWrote() {
+    if (byId("wrote")) byId("wrote").replaceChildren(...(log.wrote ? historyOf(log.wrote) : []));
+}
 
 // The origins are asked for once they are to be seen: they cost a judging of the whole log.
 async function askOrigins() {
@@ -184,119 +316,6 @@ function showOrigins() {
         ...(found.length > FEW ? [make("li", {}, "There are more; the copied text has all.")] : []));
 }
 
-// ---- Line by line ----
-
-function stepTo(wanted) {
-    const { count, line: fault } = log.judged;
-    const line = Math.max(1, Math.min(Math.max(count, fault), Math.trunc(wanted) || 1));
-    const { beside } = log;
-    const passed = () => log.beside !== beside || log.line !== line;
-    log.line = line;
-    byId("line").value = String(line);
-    beside.ask({ ask: "at", line, from: Math.max(1, line - AROUND), to: line + AROUND }).then((at) => {
-        if (passed()) return;
-        Object.assign(log, { at, granule: null });
-        changed();
-        // Each granule costs a judging of all lines before: one that is passed by isn't asked for.
-        clearTimeout(log.wait);
-        log.wait = setTimeout(async () => {
-            const granule = passed() ? null : await beside.ask({ ask: "granule", line });
-            if (passed() || !granule) return;
-            log.granule = granule;
-            showStep();
-        }, 60);
-    });
-}
-
-function showStep() {
-    const { at, judged } = log;
-    if (!at || !judged) return;
-    byId("count").textContent = `of ${decimal(judged.count)}`;
-    const texts = [...at.texts];
-    if (judged.line > judged.count && at.from + texts.length === judged.line) texts.push("");
-    byId("code").replaceChildren(...texts.map((text, k) => codeLine(at.from + k, text)));
-    byId("code").setAttribute("aria-activedescendant", `line-${at.line}`);
-    const { registers, line } = at;
-    const parts = partsOf(at.texts[line - at.from] ?? "");
-    byId("before-says").textContent = registers === null
-        ? `The judge stopped at line ${decimal(judged.line)}, and nothing is known of what comes behind.`
-        : registers.length ? "Each register is as the line beside it left it; the judge found that line right."
-            : "No register was written so far.";
-    byId("step-link").replaceChildren(...stepLink(parts, registers));
-    const rows = (registers ?? []).map((it) => heldRow(`c${it.number}`, it, parts, it.by));
-    if (log.granule) rows.push(heldRow(log.granule.place, log.granule, null, 0));
-    byId("held").tBodies[0].replaceChildren(...rows);
-}
-
-function codeLine(line, text) {
-    const fault = line === log.judged.line;
-    const item = make("li", { role: "option", id: `line-${line}`, "data-line": line, "aria-selected": String(line === log.line) },
-        make("i", {}, decimal(line)), ...(fault ? marked(text) : [escaped(text)]));
-    if (fault) item.className = "at-fault";
-    return item;
-}
-
-const escaped = (text) => text.replace(/[^ -[\]-~]/g, (it) => `\\x${hex(it.charCodeAt(0), 2)}`);
-
-/** The line at fault, with what is wrong in it marked: the digits that differ, or the operand that the refusal is about. */
-function marked(text) {
-    const { refusal, caps, values } = log.report;
-    const parts = partsOf(text);
-    const wrong = new Set();
-    const markPart = (name) => { for (let k = 0; k < parts[name].length; k++) wrong.add(placeOf(text, name) + k); };
-    if (text === "") return [make("mark", {}, "the bytes end here")];
-    if (refusal === "WrongResult" && caps.gives && parts) {
-        if (caps.gives.tag !== parts.tag) markPart("tag");
-        [...parts.word].forEach((digit, k) => { if (digit !== caps.gives.word[k]) wrong.add(placeOf(text, "word") + k); });
-    } else if (refusal === "WrongResult" && parts) {
-        [...parts.value].forEach((digit, k) => { if (digit !== values.gives[k]) wrong.add(placeOf(text, "value") + k); });
-    } else {
-        const about = parts && ABOUT[refusal]?.split(" ").find((name) => name in parts);
-        if (about) markPart(about);
-        else for (let k = 0; k < text.length; k++) wrong.add(k);
-    }
-    const pieces = [];
-    [...text].forEach((letter, k) => {
-        const last = pieces.at(-1);
-        if (last && last.wrong === wrong.has(k)) last.text += letter;
-        else pieces.push({ wrong: wrong.has(k), text: letter });
-    });
-    return pieces.map((it) => (it.wrong ? make("mark", {}, escaped(it.text)) : escaped(it.text)));
-}
-
-function heldRow(place, { tag, word, by }, parts, from) {
-    const role = parts ? ["source", "authority", "target"].filter((name) => parts[name] === place) : ["granule"];
-    const bounds = c.decode(read(word));
-    const cells = [
-        make("a", { href: linkOf(word, tag), class: "mono" }, `${tag} ${word}`),
-        make("small", {}, `${span(bounds)}${role.length ? `; the step's ${role.join(" and ")}` : ""}`),
-    ];
-    if (from) {
-        const go = make("button", { type: "button", class: "small" }, `line ${decimal(by)}`);
-        go.addEventListener("click", () => stepTo(by));
-        cells.push(go);
-    }
-    return make("tr", role.length ? { class: "read" } : {}, make("th", { scope: "row" }, place), make("td", {}, ...cells));
-}
-
-/** A link to the operation of a step, with what its operands hold; and to the capability of a root. */
-function stepLink(parts, registers) {
-    if (parts?.kind === "root") return [make("a", { href: linkOf(parts.word, "1") }, "Show this root")];
-    if (!parts || !registers || !Object.hasOwn(OPERATIONS, parts.kind)) return [];
-    const held = (name) => registers.find(({ number }) => number === registerOf(name)) ?? { tag: 0, word: c.textOf(c.nothing()) };
-    const source = parts.kind === "lc" ? log.granule : parts.source ? held(parts.source) : null;
-    if (parts.kind === "lc" && !source) return [];
-    const authority = parts.authority ? held(parts.authority) : null;
-    const fields = {
-        show: "operation", do: parts.kind,
-        ...(source ? { source: source.word, sourcetag: source.tag } : {}),
-        ...(authority ? { authority: authority.word, authoritytag: authority.tag } : {}),
-        ...(parts.length ?? parts.address ?? parts.mask ? { value: parts.length ?? parts.address ?? parts.mask } : {}),
-        ...(parts.offset ? { offset: parts.offset } : {}), ...(parts.size ? { size: parts.size } : {}),
-    };
-    return [make("a", { href: `#${new URLSearchParams(fields)}` }, "Show this step as an operation")];
-}
-
 // ---- The shortest log ----
 
 async function findShortest() {
@@ -310,14 +329,47 @@ async function findShortest() {
 function showShortest() {
     byId("shortest").hidden = !log.made;
     if (!log.made) return;
-    const { text, verdict, lines } = log.made;
-    byId("shortest-says").textContent = text ? `${counted(lines, "line")} with the same fault, judged by itself: ${verdict}`
+    const { text, verdict, lines, isShortest } = log.made;
+    const whole = isShortest ? "Leave any line out, and the refusal or its diagnosis changes." : "The time ran out: lines of it may be left out still.";
+    byId("shortest-says").textContent = text
+        ? `${counted(lines, "line")} with the same fault, judged by itself: ${verdict}. ${whole}`
         : "No shorter log was found that has the same fault.";
     byId("shortest-text").textContent = text.length < 1 << 16 ? text : `${text.slice(0, 1 << 16)}…`;
-    for (const id of ["shortest-text", "save-shortest", "copy-shortest"]) byId(id).hidden = !text;
+    for (const id of ["shortest-text", "save-shortest", "copy-shortest", "link-shortest"]) byId(id).hidden = !text;
+    byId("link-shortest").hidden ||= text.length > SMALL;
     if (!text) return;
     URL.revokeObjectURL(byId("save-shortest").href);
-    byId("save-shortest").href = URL.createObjectURL(new Blob([text]));
+    byId("save-shortest").href = URL.createObjectURL(log.made.blob);
+}
+
+// ---- The link ----
+
+/** Copies the link. A log that isn't in it as text goes into it packed, where a link can hold it. */
+async function copyLink() {
+    if (view === "log" && log.blob && valueOf("text") === "" && log.packed === "") {
+        const { beside } = log;
+        const packed = await packedLog(log.blob);
+        if (log.beside !== beside) return;
+        if (packed === null) return showTooLong();
+        log.packed = packed;
+        chosen.packed = packed;
+    }
+    const link = linkTo();
+    await copy(location.href.split("#")[0] + link, "Link");
+    if (link.length > SMALL) byId("said").append(` It has ${decimal(link.length)} letters.`);
+    history.replaceState(null, "", link);
+}
+
+function showTooLong() {
+    const save = make("a", { class: "button", download: log.name || "log.log", href: URL.createObjectURL(log.blob) }, "Save the log");
+    const find = make("button", { type: "button", class: "small" }, "Find the shortest log");
+    find.addEventListener("click", () => {
+        findShortest();
+        byId("find-shortest").scrollIntoView({ block: "center" });
+    });
+    const isNo = log.judged?.state === 2;
+    byId("said").replaceChildren(`A link can't hold this log: packed, it has more than ${decimal(LINK)} letters. `
+        + `Send the file${isNo ? ", or the shortest log with its fault" : ""}. `, save, ...(isNo ? [" ", find] : []));
 }
 
 function listenToLog() {
@@ -330,8 +382,9 @@ function listenToLog() {
     for (const button of document.querySelectorAll("[data-log]")) {
         button.addEventListener("click", () => openLog(new Blob([byId(button.dataset.log).textContent.trimStart()]), ""));
     }
-    // Text that is dropped into a field, or pasted there, is a log only where it begins as one.
-    const isLog = (text) => /^capcheck [12]\r?\n/.test(text);
+    // Text that is dropped into a field, or pasted there, is a log only where it begins as one, or nearly. It is judged as
+    // it is.
+    const isLog = (text) => /^\ufeff?(capcheck|heap)\s+\d\s*\n/i.test(text);
     addEventListener("dragover", (event) => {
         if (event.target.matches?.("input, textarea") && !event.dataTransfer.types.includes("Files")) return;
         event.preventDefault();
@@ -346,12 +399,11 @@ function listenToLog() {
         event.preventDefault();
         openLog(file ?? new Blob([text]), file?.name ?? "");
     });
-    // What is copied from a screen may lack its last line feed.
     addEventListener("paste", (event) => {
-        const text = event.clipboardData.getData("text").replace(/\r\n/g, "\n");
+        const text = event.clipboardData.getData("text");
         if (!isLog(text)) return;
         event.preventDefault();
-        openLog(new Blob([text.endsWith("\n") ? text : `${text}\n`]), "");
+        openLog(new Blob([text]), "");
     });
     byId("stop").addEventListener("click", () => {
         log.beside?.end();
@@ -362,21 +414,7 @@ function listenToLog() {
     byId("copy-origins").addEventListener("click", () => copy(log.origins, "Origins"));
     byId("find-shortest").addEventListener("click", findShortest);
     byId("copy-shortest").addEventListener("click", () => copy(log.made.text, "Log"));
-    const steps = {
-        first: () => 1, back: () => log.line - 1, next: () => log.line + 1, last: () => log.judged.count, "to-fault": () => log.judged.line,
-    };
-    for (const [id, to] of Object.entries(steps)) byId(id).addEventListener("click", () => stepTo(to()));
-    byId("code").addEventListener("click", (event) => {
-        const line = event.target.closest("[data-line]");
-        if (line) stepTo(Number(line.dataset.line));
-    });
-    byId("code").addEventListener("keydown", (event) => {
-        const to = {
-            ArrowUp: log.line - 1, ArrowDown: log.line + 1, PageUp: log.line - 2 * AROUND, PageDown: log.line + 2 * AROUND,
-            Home: 1, End: log.judged.count,
-        }[event.key];
-        if (to === undefined) return;
-        event.preventDefault();
-        stepTo(to);
-    });
+    byId("link-shortest").addEventListener("click", () =>
+        copy(`${location.href.split("#")[0]}#${new URLSearchParams({ show: "log", text: log.made.text, line: "" })}`, "Link"));
+    listenToSteps();
 }

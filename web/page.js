@@ -9,7 +9,7 @@ const make = (tag, attributes, ...children) => {
     return made;
 };
 
-/** What is typed and can't be taken; its text stands beside the field. */
+/** What is typed and can't be taken; its text is beside the field. */
 class Refused extends Error {}
 
 let c = null;
@@ -18,14 +18,14 @@ let c = null;
 
 function hexadecimal(digits) {
     const other = [...digits].find((letter) => !/[0-9a-f]/.test(letter));
-    if (other !== undefined) throw new Refused(`“${other}” is no hexadecimal digit.`);
+    if (other !== undefined) throw new Refused(`“${other}” isn't a hexadecimal digit.`);
     return digits;
 }
 
 function exactly(digits, wanted) {
     if (digits.length === wanted) return digits;
     const gap = digits.length < wanted ? `${wanted - digits.length} missing` : `${digits.length - wanted} too many`;
-    throw new Refused(`${digits.length} digits, and there have to be ${wanted}: ${gap}.`);
+    throw new Refused(`${digits.length} digits instead of ${wanted}: ${gap}.`);
 }
 
 /** The word that a text has in the register's order: its digits alone, or as others print it; of several lines the one
@@ -34,25 +34,34 @@ function foundIn(text, which = 0) {
     if (text.trim() === "") throw new Refused("Type 32 hexadecimal digits.");
     const all = pasted(text);
     const it = all[which] ?? all[0];
-    if (!it) return { all, word: read(exactly(digitsOf(text), 32)), tag: null, says: "" };
+    if (!it) return { all, word: read(wordDigits(text)), tag: null, says: "" };
     if (it.parts) return { all, ...it, ...madeOf(c, it.parts) };
     return { all, says: "", ...it, word: read(it.digits) };
 }
 
 /** Spaces and underscores between digits, `0x` before them, and upper-case digits are taken. */
-function digitsOf(text) {
-    const digits = text.trim().toLowerCase().replace(/^0x/, "").replace(/[\s_]/g, "");
-    if (digits.includes("x")) throw new Refused("0x stands between digits, and so it isn't clear which come first.");
-    return hexadecimal(digits);
+const plainDigits = (text) => text.trim().toLowerCase().replace(/^0x/, "").replace(/[\s_]/g, "");
+const digitsOf = (text) => hexadecimal(plainDigits(text));
+
+// The forms of a text for a capability, for one that has none of them.
+const ACCEPTED = "None of the accepted forms: 32 digits; TAG and 32 digits; 0xHIGH 0xLOW; 0xADDRESS [rwxRW,0xBASE-0xTOP]; "
+    + "v:1 p:PERMS b:BASE l:LENGTH o:OFFSET; or a line of a log.";
+
+/** The digits of a word. A text that isn't nearly that is told the forms. */
+function wordDigits(text) {
+    const digits = plainDigits(text);
+    const strange = digits.replace(/[0-9a-f]/g, "");
+    if ([...strange].length > 1 || /[[\]:=,]/.test(strange)) throw new Refused(ACCEPTED);
+    return exactly(hexadecimal(digits), 32);
 }
 
-/** Bytes may stand apart by spaces, commas or underscores, and each may have its own `0x`. */
+/** Bytes may be separated by spaces, commas or underscores, and each may have its own `0x`. */
 function bytesOf(text) {
     const parts = text.trim().toLowerCase().split(/[\s,_]+/).filter((part) => part !== "");
     const digits = parts.map((part) => {
         if (!part.startsWith("0x")) return part;
         if (part.length === 4 || parts.length === 1) return part.slice(2);
-        throw new Refused(`“${part}” is a number and no byte: write the bytes in order of address.`);
+        throw new Refused(`“${part}” is a number, not a byte: write the bytes in order of address.`);
     });
     return exactly(hexadecimal(digits.join("")), 32);
 }
@@ -65,13 +74,15 @@ function fromMemory(text) {
 function numberOf(text) {
     const digits = digitsOf(text);
     if (digits === "") throw new Refused("Type a hexadecimal number.");
-    if (digits.length > 16) throw new Refused(`${digits.length} digits, and there may be 16 at most.`);
+    if (digits.length > 16) throw new Refused(`${digits.length} digits, and at most 16 are accepted.`);
     return read(digits.padStart(32, "0")).low;
 }
 
 function offsetOf(text) {
-    if (!/^[+-]?\d{1,18}$/.test(text.trim())) throw new Refused("Type a decimal number, as -8.");
-    return BigInt(text.trim().replace("+", ""));
+    if (!/^[+-]?\d{1,18}$/.test(text.trim())) throw new Refused("Type a decimal number from -2048 to 2047, such as -8.");
+    const offset = BigInt(text.trim().replace("+", ""));
+    if (offset < -2048n || offset > 2047n) throw new Refused(`${offset} is out of range: an offset is a number from -2048 to 2047.`);
+    return offset;
 }
 
 function read(digits) {
@@ -129,7 +140,7 @@ function openTerm(name) {
     document.querySelector(`section:not([hidden]) [data-term=${name}]`)?.focus();
 }
 
-const shown = { facts: null, domain: null, tried: null };
+const shown = { facts: null, domain: null, tried: null, exact: null };
 
 function showCapability() {
     const order = document.querySelector("[name=order]:checked").value;
@@ -163,7 +174,7 @@ function showLines(facts) {
         it.cells[1].append(...meaning);
     }
     if (!facts.sound) return;
-    const length = ["length", `${ox(facts.length)}, ${counted(facts.length, "byte")}`, "no line of it, but the top less the base"];
+    const length = ["length", `${ox(facts.length)}, ${counted(facts.length, "byte")}`, "the top minus the base; capcheck doesn't print it"];
     byId("lines").tBodies[0].rows[13].after(row(length));
 }
 
@@ -190,8 +201,10 @@ function showGrid(facts) {
     byId("near").replaceChildren(figure("At the base", near(base, "base")), figure("At the top", near(top, "top")));
 }
 
-// What the link and the field say of lists that hang on another field's text.
-const chosen = { which: "0" };
+// What the link has beside the fields: the word that is chosen in a dump, a log that is packed, and marked lines.
+const chosen = { which: "0", packed: "", marks: "" };
+const CHOSEN = { which: /^\d{1,4}$/, packed: /^[\w-]*$/, marks: /^(\d{1,9}(,\d{1,9})*)?$/ };
+const OPTIONAL = ["packed", "marks"]; // not in a link where they are empty
 
 /** The words of a dump, of which one is chosen. */
 function showChoice(all) {
@@ -281,12 +294,14 @@ function showRequest() {
     if (facts === null || beyond) return;
     const { rounded, scale } = facts;
     byId("rounding").replaceChildren(requestDrawing(facts, widthOf("rounding")));
-    byId("rounding-says").textContent = `${decimal(length)} bytes. ` + (rounded.exact ? "Both bounds are the requested ones." : "Rounded: "
-        + `with E ${rounded.e} bounds can lie at multiples of ${ox(scale.step)}, 8 units of 2^${scale.cut} bytes. `
-        + (rounded.e ? "With a smaller E there would be 1024 of its steps or more between them, and a word has room for 1023."
-            : "From a length of 4096 on an exponent stands in the word, and takes three bits of each bound."));
-    byId("rounding").setAttribute("aria-label", `Requested: ${ox(length)} bytes from ${ox(base)} on. Rounded: ${span(rounded)}.`);
     const end = base + length;
+    byId("rounding-says").textContent = `Requested: ${span({ base, top: end })}, ${counted(length, "byte")}. `
+        + (rounded.exact ? "Both bounds are the requested ones." : `Rounded: ${span(rounded)}, ${lostAtSides(facts)}. `
+        + `With E ${rounded.e} bounds can lie at multiples of ${ox(scale.step)}, 8 units of 2^${scale.cut} bytes. `
+        + (rounded.e ? "With a smaller E there would be 1024 of its steps or more between them, and a word has room for 1023."
+            : "From a length of 4096 on the word contains an exponent, which takes three bits of each bound."));
+    byId("rounding").setAttribute("aria-label", `Requested: ${span({ base, top: end })}. Rounded: ${span(rounded)}.`);
+    showTakeExact(facts);
     const near = (bound, note, request) => nearDrawing({
         bound, scale, ie: rounded.ie,
         bars: [{ base, top: end, kind: "asked" }, { base: rounded.base, top: rounded.top, kind: "bounds" }],
@@ -295,25 +310,36 @@ function showRequest() {
     const asked = (at, number) => ({ at, number, note: "requested" });
     byId("ends").replaceChildren(
         figure("At the base: requested above, rounded below", near(rounded.base, "base", asked(base, hex(base)))),
-        figure("At the top: requested above, rounded below", near(rounded.top, "top", asked(end, ""))));
+        figure("At the top: requested above, rounded below", near(rounded.top, "top", asked(end, hex(end)))));
     fill("round-lines", [
-        ["base", hex(rounded.base, 16), "the requested base, rounded down"],
-        ["top", hex(rounded.top, 17), "the requested top, rounded up"],
-        ["ie", String(rounded.ie), rounded.ie ? "an exponent stands in the word, from a length of 4096 on" : "no exponent"],
-        ["e", String(rounded.e), rounded.ie ? "the least exponent that does" : ""],
-        ["exact", rounded.exact ? "yes" : "no", ""],
+        ["base", hex(rounded.base, 16), `the requested base, ${hex(base)}, rounded down: ${lostIn(facts.lost.below)}`],
+        ["top", hex(rounded.top, 17), `the requested top, ${hex(end)}, rounded up: ${lostIn(facts.lost.above)}`],
+        ["ie", String(rounded.ie), rounded.ie ? "the word contains an exponent, from a length of 4096 on" : "the word contains no exponent"],
+        ["e", String(rounded.e), rounded.ie ? "the least exponent for this length" : "without an exponent, 0"],
+        ["exact", rounded.exact ? "yes" : "no", "whether both bounds are the requested ones"],
     ]);
     fill("exact-lines", exactRows(facts));
+}
+
+const lostIn = (bytes) => (bytes ? `${counted(bytes, "byte")} lost` : "nothing lost");
+const lostAtSides = ({ lost }) => `with ${counted(lost.below, "byte")} lost below and ${counted(lost.above, "byte")} above`;
+
+/** The button that takes the least length and the next aligned base with which the request is exact. */
+function showTakeExact({ rounded, wanted, below, above }) {
+    const at = rounded.exact ? null : above ?? below;
+    shown.exact = at && { base: at.base, length: wanted };
+    byId("take-exact").hidden = !at;
+    if (at) byId("take-exact").textContent = `Take an exact request: ${ox(wanted)} bytes from ${ox(at.base)}`;
 }
 
 function exactRows(facts) {
     const { wanted, mask, whole, alignment, below, above } = facts;
     const place = (got) => (got ? `${hex(got.base, 16)} up to ${hex(got.top, 17)}` : "none");
     return [
-        ["length", hex(wanted, 17), whole ? "no length from this one on is exact but the whole address space, 2^64"
-            : `${decimal(wanted)} bytes: the next length that is exact at all`],
-        ["alignment", hex(alignment), `${decimal(alignment)}: with this length, exact are just the bases that are multiples of it`],
-        ["mask", hex(mask, 16), "base AND mask is the base, where it is such a multiple"],
+        ["length", hex(wanted, 17), whole ? "only the whole address space, 2^64 bytes, is exact"
+            : `${decimal(wanted)} bytes: the least length from the requested one on that can be exact`],
+        ["alignment", hex(alignment), `${decimal(alignment)} bytes: with this length the request is exact if the base is a multiple of it`],
+        ["mask", hex(mask, 16), "base AND mask is the base if it is such a multiple"],
         ["at or before", place(below), "the last exact place for that length at or before the base"],
         ["at or after", place(above), "the next exact place for that length at or after the base"],
     ];
@@ -389,7 +415,7 @@ const FIELDS = {
     capability: ["word", "which", "order", "tag", "to"],
     request: ["base", "length"],
     operation: ["do", "source", "sourcetag", "authority", "authoritytag", "value", "offset", "size"],
-    log: ["text", "line"],
+    log: ["text", "packed", "line", "marks"],
 };
 const defaults = {};
 let view = "capability";
@@ -407,9 +433,9 @@ function valueOf(name) {
 /** Whether a field can have a value; it then has it. */
 function setValue(name, value) {
     if (name in chosen) {
-        const isNumber = /^\d{1,4}$/.test(value);
-        chosen[name] = isNumber ? value : "0";
-        return isNumber;
+        const isTaken = CHOSEN[name].test(value);
+        chosen[name] = isTaken ? value : defaults[name];
+        return isTaken;
     }
     const [control, ...others] = controlsOf(name);
     const choices = control.type === "radio" ? [control, ...others].map((it) => it.value)
@@ -425,10 +451,11 @@ function setValue(name, value) {
 }
 
 function linkTo() {
-    return `#${new URLSearchParams([["show", view], ...FIELDS[view].map((name) => [name, valueOf(name)])])}`;
+    const values = FIELDS[view].map((name) => [name, valueOf(name)]).filter(([name, value]) => value !== "" || !OPTIONAL.includes(name));
+    return `#${new URLSearchParams([["show", view], ...values])}`;
 }
 
-/** Takes the fields from the part of the address behind `#`; what isn't there is as at the start. */
+/** Takes the fields from the part of the address after `#`; what isn't there is as at the start. */
 function restore() {
     clearTimeout(writing);
     const parts = new URLSearchParams(location.hash.slice(1));
@@ -437,7 +464,7 @@ function restore() {
     const strange = [["show", wanted], ...FIELDS[view].map((name) => [name, parts.get(name) ?? defaults[name]])]
         .filter(([name, value]) => (name === "show" ? value !== view : !setValue(name, value)));
     show();
-    byId("said").textContent = strange.map(([name, value]) => `The link's “${name}=${value}” isn't known here. `).join("");
+    byId("said").textContent = strange.map(([name, value]) => `The link's “${name}=${value.slice(0, 40)}” isn't known here. `).join("");
 }
 
 function show() {
@@ -551,7 +578,7 @@ function listen() {
     for (const button of document.querySelectorAll("[data-view]")) {
         button.addEventListener("click", () => { if (view !== button.dataset.view) turnTo(button.dataset.view); });
     }
-    // A tag that stands in the text is that of the capability, until it is changed.
+    // A tag in the text is that of the capability, until it is changed.
     const takeTag = (id, tag, which) => {
         const all = tag === "tag" && valueOf("order") === "memory" ? [] : pasted(byId(id).value);
         const found = (all[which] ?? all[0])?.tag ?? null;
@@ -566,7 +593,13 @@ function listen() {
     byId("which").addEventListener("input", () => takeChoice(byId("which").value));
     for (const id of ["source", "authority"]) byId(id).addEventListener("input", () => takeTag(id, `${id}tag`, 0));
     byId("make").addEventListener("click", makeWord);
-    byId("copy-link").addEventListener("click", () => copy(location.href.split("#")[0] + linkTo(), "Link"));
+    byId("copy-link").addEventListener("click", copyLink);
+    byId("take-exact").addEventListener("click", () => {
+        const { base, length } = shown.exact;
+        byId("base").value = hex(base);
+        byId("length").value = hex(length);
+        changed();
+    });
     byId("copy-text").addEventListener("click", () =>
         copy(explained(shown.facts).map(([name, value]) => `${name} ${value}\n`).join(""), "Lines"));
     byId("take").addEventListener("click", () => {
@@ -594,19 +627,14 @@ function listen() {
     addEventListener("resize", () => requestAnimationFrame(show));
 }
 
-/** A module that stands in the page, packed. */
-async function unpacked(id) {
-    const packed = Uint8Array.from(atob(byId(id).textContent.replace(/\s/g, "")), (letter) => letter.charCodeAt(0));
-    const stream = new Blob([packed]).stream().pipeThrough(new DecompressionStream("gzip"));
-    return new Uint8Array(await new Response(stream).arrayBuffer());
-}
-
 async function start() {
+    for (const it of document.querySelectorAll("[data-gloss]")) it.textContent = UP_TO;
     byId("do").append(...Object.entries(OPERATIONS).map(([name, { title }]) => make("option", { value: name }, title)));
     for (const name of Object.values(FIELDS).flat()) defaults[name] = valueOf(name);
     try {
         c = library(await unpacked("module"));
         Beside.module = new WebAssembly.Module(await unpacked("judge"));
+        Beside.address = URL.createObjectURL(new Blob([await textOf("worker-script")]));
     } catch (problem) {
         failed(problem);
         return;
@@ -615,5 +643,3 @@ async function start() {
     listenToLog();
     restore();
 }
-
-const started = start();

@@ -2,7 +2,7 @@
 // What people paste: words as debuggers, emulators and crash dumps print them. Each line gives a word, or its parts, or
 // nothing.
 
-// The permissions that a letter stands for in `[rwxRW,BASE-TOP]`.
+// The permission that a letter means in `[rwxRW,BASE-TOP]`.
 const LETTERS = { r: "Load", w: "Store", x: "Execute", R: "Load Capability", W: "Store Capability" };
 
 const TAG = /\b(?:v|tag)\s*[:=]\s*([01])\b/i;
@@ -21,7 +21,7 @@ function bracketed(text) {
     if (!found) return null;
     const [, at, letters, from, to, rest] = found;
     const [base, top] = [numberIn(from), numberIn(to)];
-    const other = /E/.test(letters) ? "E stands for no permission of this word. " : "";
+    const other = /E/.test(letters) ? "E is no permission of this word. " : "";
     const says = `${other}${/seal|sentry/i.test(rest) ? "It is sealed, and the text doesn't say with which type. " : ""}`;
     return inRange({
         base, length: top - base, mask: maskOf(letters), otype: null,
@@ -45,7 +45,7 @@ function lettered(text) {
     });
 }
 
-/** The digits of a word, with a tag before or behind them. */
+/** The digits of a word, with a tag before or after them. */
 function digitsIn(text) {
     const parts = text.split(/[\s,:|_]+/).map((it) => it.replace(/^0x/i, "").toLowerCase()).filter((it) => it !== "");
     if (parts.some((it) => !/^[0-9a-f]+$/.test(it))) return null;

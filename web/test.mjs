@@ -4,10 +4,12 @@ import path from "node:path";
 
 import * as answers from "./tests/answers.mjs";
 import { Browser } from "./tests/browser.mjs";
+import * as faults from "./tests/faults.mjs";
 import { address, capability, count, file, hash, same, STATES, text, tools } from "./tests/given.mjs";
 import * as logs from "./tests/logs.mjs";
 import * as module from "./tests/module.mjs";
 import * as pasting from "./tests/pasting.mjs";
+import * as shown from "./tests/shown.mjs";
 import * as stepping from "./tests/stepping.mjs";
 import * as use from "./tests/use.mjs";
 
@@ -27,6 +29,18 @@ const GROUPS = {
     logsAreKept: stepping.logsAreKept,
     logsAreUsable: stepping.logsAreUsable,
     changedJudges: stepping.changedJudges,
+    linksHoldLogs: faults.linksHoldLogs,
+    shortestIsMinimal: faults.shortestIsMinimal,
+    memoryHasAuthors: faults.memoryHasAuthors,
+    faultIsSaid: faults.faultIsSaid,
+    oddBytesAreSaid: faults.oddBytesAreSaid,
+    allocatorsAreNamed: faults.allocatorsAreNamed,
+    linesAreFound: faults.linesAreFound,
+    excessIsDrawn: shown.excessIsDrawn,
+    offsetsAreInRange: shown.offsetsAreInRange,
+    requestsAreMadeExact: shown.requestsAreMadeExact,
+    wordsAreGlossed: shown.wordsAreGlossed,
+    pageIsKept: shown.pageIsKept,
     pastedIsTaken: pasting.pastedIsTaken,
     putRight: pasting.putRight,
     linksRestore: use.linksRestore,

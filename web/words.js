@@ -29,7 +29,7 @@ const LAYOUT = {
     why: { size: 32, fields: { answer: [0, "answer"], length: [24, 8] } },
 };
 
-// Each call: its name in the header behind `capcheck_`, what it answers, and what it takes.
+// Each call: its name in the header after `capcheck_`, what it answers, and what it takes.
 const CALLS = {
     nothing: ["null", "word"],
     split: ["split", "fields", "word"],

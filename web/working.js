@@ -16,10 +16,47 @@ async function opened({ module, blob }) {
     const began = performance.now();
     const said = judge.why();
     const took = performance.now() - began;
-    const lines = new Lines(judge);
+    const lines = new Lines(judge, said);
     held = { module, lines, said };
     postMessage({ judged: { ...said, count: lines.count, took } });
 }
+
+// What keeps a text from being a log, though it reads like one: what the text has, and the bytes without it.
+const ODD = {
+    mark: [(bytes) => bytes[0] === 0xef && bytes[1] === 0xbb && bytes[2] === 0xbf, (bytes) => bytes.subarray(3)],
+    returns: [(bytes) => bytes.includes(13), (bytes) => bytes.filter((byte, k) => byte !== 13 || bytes[k + 1] !== 10)],
+    tabs: [(bytes) => bytes.includes(9), (bytes) => bytes.map((byte) => (byte === 9 ? 32 : byte))],
+    capitals: [
+        (bytes) => bytes.some((byte) => byte >= 65 && byte <= 90),
+        (bytes) => bytes.map((byte) => (byte >= 65 && byte <= 90 ? byte + 32 : byte)),
+    ],
+    feed: [(bytes) => bytes.length > 0 && bytes.at(-1) !== 10, withFeed],
+};
+
+function withFeed(bytes) {
+    const made = new Uint8Array(bytes.length + 1);
+    made.set(bytes);
+    made[bytes.length] = 10;
+    return made;
+}
+
+/** What is odd about the bytes of a refused log, the log without it, and its verdict; nothing where nothing is odd. */
+function evened({ module, lines }) {
+    const { judge } = lines;
+    let bytes = judge.bytes(judge.log, judge.size).slice();
+    const kinds = Object.keys(ODD).filter((kind) => {
+        const [isHere, without] = ODD[kind];
+        if (!isHere(bytes)) return false;
+        bytes = without(bytes);
+        return true;
+    });
+    if (kinds.length === 0) return null;
+    const other = new Judge(module, bytes.length);
+    other.bytes(other.log, bytes.length).set(bytes);
+    return { kinds, verdict: other.why().text.split("\n")[0], blob: new Blob([bytes]) };
+}
+
+const isPast = ({ said, lines }, line) => line > lines.count || (said.line !== 0 && line > said.line);
 
 const ANSWERS = {
     /** Lines around one, and what the registers hold before it. */
@@ -29,12 +66,12 @@ const ANSWERS = {
         for (let k = from; k <= Math.min(to, lines.count); k++) texts.push(lines.text(k));
         return { line, from, texts, registers: said.line && line > said.line ? null : lines.registers(line) };
     },
-    granule({ line }) {
-        const { lines, said } = held;
-        return line > lines.count || (said.line && line > said.line) ? null : lines.granule(line);
-    },
+    granule: ({ line }) => (isPast(held, line) ? null : held.lines.granule(line)),
+    evened: () => evened(held),
+    nextUse: ({ line, register }) => held.lines.trace.nextUse(line, register),
+    find: ({ text, line, backward }) => held.lines.find(text, line, backward),
     origins: () => held.lines.judge.origins().text,
-    shortest: () => shortest(held.module, held.lines, held.said),
+    shortest: () => shortest(held.module, held.lines),
 };
 
 onmessage = async ({ data }) => {

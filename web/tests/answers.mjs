@@ -133,7 +133,7 @@ export async function layoutIsTheHeaders(page) {
         check(declared.includes(` capcheck_${name}(`), `the header has ${name}`);
 }
 
-/** The example logs' operations on registers, from the results that stand in them. */
+/** The example logs' operations on registers, from their results. */
 export async function logsAreFollowed(page) {
     const wanted = [];
     for (const name of fs.readdirSync(file("examples")).filter((it) => it.endsWith(".log"))) {
@@ -186,7 +186,7 @@ export async function refusalsAreNamed(page) {
         ["10 SourceSealed", { do: "setbounds", source: sealed }, "3fffb"],
         [
             "11 BoundsEscape", { do: "setbounds", source: small, value: "1000" },
-            "0x1000 up to 0x2000, don't lie inside the source's, 0x1000 up to 0x1fff"
+            "0x1000 up to 0x2000, aren't inside the source's, 0x1000 up to 0x1fff"
         ],
         [
             "12 NotExact", { do: "setboundsexact", source: all, value: "1001" },
@@ -218,7 +218,6 @@ export async function refusalsAreNamed(page) {
             { do: "sc", source: "fffe1ffffc0180040000000000001000", authority: "ffbf1ffffc0180040000000000001000" },
             "00078fbf, lack Store Local"
         ],
-        ["255 BadArgument", { do: "store", offset: "2048" }, "-2048 to 2047"],
     ];
     for (const [name, fields, compares, holds = true] of cases) {
         const link = hash({
@@ -241,29 +240,34 @@ export async function refusalsAreNamed(page) {
     }
 }
 
+const FORMS = "None of the accepted forms: 32 digits; TAG and 32 digits; 0xHIGH 0xLOW; 0xADDRESS [rwxRW,0xBASE-0xTOP]; "
+    + "v:1 p:PERMS b:BASE l:LENGTH o:OFFSET; or a line of a log.";
+
 export async function badInputIsRefused(page) {
     const word = "ffff1ffffbffd0000000000000001000";
     const cases = [
         ["capability", "word", "", "Type 32 hexadecimal digits."],
         ["capability", "word", "   ", "Type 32 hexadecimal digits."],
-        ["capability", "word", word.slice(1), "31 digits, and there have to be 32: 1 missing."],
-        ["capability", "word", `${word}0`, "33 digits, and there have to be 32: 1 too many."],
-        ["capability", "word", word.replace("b", "g"), "“g” is no hexadecimal digit."],
-        ["capability", "word", word.replace("b", "é"), "“é” is no hexadecimal digit."],
-        ["capability", "word", word.replace("b", "😀"), "“😀” is no hexadecimal digit."],
-        ["capability", "word", `-${word.slice(1)}`, "“-” is no hexadecimal digit."],
-        ["capability", "word", "<b>x</b>", "0x stands between digits, and so it isn't clear which come first."],
-        ["capability", "word", "<img src=1>", "“<” is no hexadecimal digit."],
-        ["capability", "word", "0".repeat(100000), "100000 digits, and there have to be 32: 99968 too many."],
-        ["capability", "to", "g", "“g” is no hexadecimal digit."],
+        ["capability", "word", word.slice(1), "31 digits instead of 32: 1 missing."],
+        ["capability", "word", `${word}0`, "33 digits instead of 32: 1 too many."],
+        ["capability", "word", word.replace("b", "g"), "“g” isn't a hexadecimal digit."],
+        ["capability", "word", word.replace("b", "é"), "“é” isn't a hexadecimal digit."],
+        ["capability", "word", word.replace("b", "😀"), "“😀” isn't a hexadecimal digit."],
+        ["capability", "word", `-${word.slice(1)}`, "“-” isn't a hexadecimal digit."],
+        ["capability", "word", "<b>x</b>", FORMS],
+        ["capability", "word", "<img src=1>", FORMS],
+        ["capability", "word", "0x1800 [rwRW,0x1000-0x2000", FORMS],
+        ["operation", "source", "[rwRW,0x1000-0x2000", FORMS],
+        ["capability", "word", "0".repeat(100000), "100000 digits instead of 32: 99968 too many."],
+        ["capability", "to", "g", "“g” isn't a hexadecimal digit."],
         ["capability", "to", "0x", "Type a hexadecimal number."],
-        ["capability", "to", "10000000000000000", "17 digits, and there may be 16 at most."],
+        ["capability", "to", "10000000000000000", "17 digits, and at most 16 are accepted."],
         ["request", "base", "", "Type a hexadecimal number."],
-        ["request", "base", "1.5", "“.” is no hexadecimal digit."],
-        ["request", "length", "-1", "“-” is no hexadecimal digit."],
+        ["request", "base", "1.5", "“.” isn't a hexadecimal digit."],
+        ["request", "length", "-1", "“-” isn't a hexadecimal digit."],
         ["request", "length", "ffffffffffffffff", "Base plus length is above 2^64, where addresses end: there is no such request."],
-        ["operation", "source", "x", "0x stands between digits, and so it isn't clear which come first."],
-        ["operation", "value", "zz", "“z” is no hexadecimal digit."],
+        ["operation", "source", "x", "“x” isn't a hexadecimal digit."],
+        ["operation", "value", "zz", "“z” isn't a hexadecimal digit."],
     ];
     for (const [view, id, value, wanted] of cases) {
         const got = await page.run((name, field, typed) => {
@@ -290,7 +294,7 @@ export async function badInputIsRefused(page) {
         type("offset", "-8");
         return [...said, error("offset")];
     });
-    same(bad, [...Array(4).fill("Type a decimal number, as -8."), ""], "offsets");
+    same(bad, [...Array(4).fill("Type a decimal number from -2048 to 2047, such as -8."), ""], "offsets");
     const good = [
         ["register", `  ${word}\n`],
         ["register", `0x${word}`],
@@ -320,5 +324,5 @@ export async function badInputIsRefused(page) {
         order("register");
         return said;
     });
-    same(memory, "“0x0000000000001000” is a number and no byte: write the bytes in order of address.", "words for bytes");
+    same(memory, "“0x0000000000001000” is a number, not a byte: write the bytes in order of address.", "words for bytes");
 }

@@ -14,7 +14,8 @@ export const examples = fs.readdirSync(file("examples")).filter((name) => name.e
 /** What a program prints of a log: its verdict, and the report or the origins. */
 export function printed(program, words, log) {
     const { stdout, error } = spawnSync(program, words, { input: Buffer.from(log, "latin1"), maxBuffer: 1 << 28 });
-    if (error) throw new Error(`${program}: ${error.message}; build it, or name one by CAPCHECK and CAPDIAG`);
+    // It reads nothing after a refused line.
+    if (error && error.code !== "EPIPE") throw new Error(`${program}: ${error.message}; build it, or name one by CAPCHECK and CAPDIAG`);
     return stdout.toString();
 }
 
@@ -69,7 +70,7 @@ function sentenceOf(verdict) {
     const decimal = (number) => number.replace(/\B(?=(\d{3})+$)/g, ",");
     const many = (number, what) => `${decimal(number)} ${what}${number === "1" ? "" : "s"}`;
     return answer === "yes" ? `Yes: a run of the machine. ${many(first, "step")} from ${many(second, "root")}.`
-        : `No: line ${decimal(first)} is at fault. ${second} ${third}: `;
+        : `No: line ${decimal(first)} is refused: ${second} ${third}. `;
 }
 
 export async function logsAreJudged(page) {

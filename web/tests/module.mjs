@@ -46,7 +46,7 @@ export async function changedModules(page) {
         check(got.every(([shown]) => shown.length > 200), `the page isn't blank without ${name}`);
     }
     const at = bytes.indexOf("BoundsEscape");
-    check(at > 0, "the names stand in the module's data");
+    check(at > 0, "the names are in the module's data");
     const renamed = await shownWith(at, "C".charCodeAt(0));
     check(renamed.at(-1)[0].includes("11 CoundsEscape") && !renamed.at(-1)[0].includes("BoundsEscape"),
         "a name comes from the module's data");
@@ -100,7 +100,7 @@ export async function changedModules(page) {
     return `${differed} changed answers shown`;
 }
 
-/** Where the body of each exported function begins, behind its locals. */
+/** Where the body of each exported function begins, after its locals. */
 function bodiesOf(bytes) {
     let at = 8;
     const number = () => {
@@ -154,9 +154,15 @@ export async function nothingIsFetched(page) {
     const html = fs.readFileSync(built, "utf8");
     check(!/(?:src|href)="(?!data:|#|\.\.\/\.\.\/docs\/)|@import|url\(|https?:\/\/(?!www\.w3\.org\/2000\/svg)/.test(html),
         "no address in the page");
+    for (const id of ["page-script", "worker-script"]) {
+        const [, packed] = html.match(new RegExp(`<script id="${id}"[^>]*>([^<]*)`));
+        const script = zlib.gunzipSync(Buffer.from(packed, "base64")).toString();
+        check(script.length > 10000 && !/https?:\/\/(?!www\.w3\.org\/2000\/svg)|\bfetch\(|XMLHttpRequest|WebSocket|import\(|importScripts/.test(script),
+            `no address in the ${id}`);
+    }
     const stopped = await page.run(() => fetch("data:,x").then(() => "went through", () => "stopped"));
     same(stopped, "stopped", "a fetch from the page");
-    check(fs.statSync(built).size <= 200 * 1000, `size ${fs.statSync(built).size}`);
+    check(fs.statSync(built).size <= 210 * 1000, `size ${fs.statSync(built).size}`);
     check(!/^@[a-z0-9_./]+@$|@pages@/m.test(html), "no place for a file is left");
 }
 

@@ -1,4 +1,4 @@
-// What people paste: each form gives the word that it stands for, or is refused.
+// What people paste: each form gives its word, or is refused.
 import { address, capability, check, hash, same, tools } from "./given.mjs";
 
 const HIGH = "ffff1ffffbffd000";
@@ -63,7 +63,7 @@ const PARTS = [
 ];
 
 export async function pastedIsTaken(page) {
-    // The tag stands the other way before.
+    // The tag is the other way before.
     const shown = (forms) => forms.map(([text, , tag]) => {
         turn("capability");
         order("register");
@@ -183,7 +183,7 @@ async function wordIsMade(page) {
     same(got[1].slice(0, 4), ["0000000000001000", "00000000000002008", "0000003d", "0001a sealed"], "it is rounded and has a type");
     check(got[1][4].includes("these are rounded to 0x1000 up to 0x2008"), `rounded: ${got[1][4]}`);
     same(got[2].slice(0, 3), ["0000000000000000", "10000000000000000", "00078fff"], "all of memory");
-    same(got[3][5], "“q” is no hexadecimal digit.", "letters of no permission");
+    same(got[3][5], "“q” isn't a hexadecimal digit.", "letters of no permission");
     same(got[4][5], "A type has 18 bits: 3ffff is unsealed.", "a type that is none");
 }
 
@@ -222,7 +222,7 @@ async function capabilityIsSaid(page) {
         const got = await page.run(
             () => [seen("means"), rows("lines").length, seen("type"), document.querySelectorAll("#perms li").length]);
         same(got[0], wanted, `${word} in a sentence`);
-        same(got[3], 16, "its permissions stand below the digits");
+        same(got[3], 16, "its permissions are below the digits");
         if (word.startsWith("003d")) same([got[1], got[2]], ["0x39b0, 14,768 bytes", "Object type 0x3ffff, unsealed."], "length and type");
     }
 }
@@ -261,14 +261,13 @@ export async function putRight(page) {
     });
     same(back, ["request", "operation", "capability", "operation", "request", "capability", "request"], "back and forward");
     await fresh.close();
-    for (const [name, wanted] of [["setbounds", ["source", "request", "rounded", "result"]], ["setaddr", ["source", "range", "result"]],
-             ["seal", ["source", "authority", "result"]], ["load", ["authority", "access"]], ["sc", ["source", "authority", "access"]]]) {
+    for (const [name, wanted] of [
+             ["setbounds", ["source", "request, rounded", "result, no tag"]], ["setaddr", ["source, result", "range"]],
+             ["seal", ["source, result", "authority"]], ["load", ["authority", "access"]], ["sc", ["source", "authority", "access"]]]) {
         const drawn = await page.run((part) => {
             location.hash = part;
             restore();
-            return [...document.querySelectorAll("#ranges text[text-anchor=start]")]
-                .map((it) => it.textContent)
-                .filter((it) => /^[a-z]+$/.test(it) && !/^[a-f0-9]+$/.test(it));
+            return [...document.querySelectorAll("#ranges text.halo:not(.lost)")].map((it) => it.textContent);
         }, hash({ ...fields, do: name, source: WORD, sourcetag: "1", value: "1800" }));
         same(drawn, wanted, `${name} is drawn`);
     }

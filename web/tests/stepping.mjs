@@ -44,14 +44,14 @@ export async function logsAreOpened(page) {
             document.body.dispatchEvent(new DragEvent("drop", { dataTransfer: given, bubbles: true, cancelable: true }));
         };
         await done(() => paste(document.body, text));
-        await done(() => paste(byId("text"), text.trimEnd()));
-        await done(() => paste(byId("word"), text.replaceAll("\n", "\r\n")));
+        await done(() => paste(byId("text"), text));
+        await done(() => paste(byId("word"), text));
         await done(() => drop(text));
         await done(() => type("text", text));
         await done(() => document.querySelector("[data-log=wrong_result]").click());
         return says;
     }, log);
-    same(ways, Array(6).fill("No: line 6 is at fault. 23 WrongResult: the line recor"), "pasted, dropped, typed, as an example");
+    same(ways, Array(6).fill("No: line 6 is refused: 23 WrongResult. It records Glob"), "pasted, dropped, typed, as an example");
     same(await page.run(() => view), "log", "a log that is pasted turns to its part");
     await new Promise((done) => setTimeout(done, 500));
     const link = await page.run(() => location.href);
@@ -59,7 +59,7 @@ export async function logsAreOpened(page) {
     await at(page, state("wrong_result", 4));
     same(await page.run(() => [seen("verdict").slice(0, 23), byId("line").value,
                             document.querySelector("[aria-selected=true]").dataset.line]),
-        ["No: line 6 is at fault.", "4", "4"], "the link is restored");
+        ["No: line 6 is refused: ", "4", "4"], "the link is restored");
     const without = await page.run(async (text) => {
         await dropped(bytesOf8(text.slice(0, -1)), "cut.log");
         const first = [log.judged.text.split("\n")[0], seen("code").includes("the bytes end here")];
@@ -169,7 +169,7 @@ export async function linesAreStepped(page) {
     check(
         operation[0] === "operation" && operation[1].includes("11 BoundsEscape") && operation[1].includes("0x1000 up to 0x1021"),
         `the step: ${operation}`);
-    same(capability, ["capability", "ffff1ffffc0180040000000000000000"], "the capability of a register");
+    same(capability, ["capability", "ffff1ffff80810000000000000001000"], "the capability of an operand");
     for (const [name, wanted] of [["wrong_result", ["f"]], ["kept_tag", ["1"]], ["local_stored", ["c2"]],
              ["cleared_used", ["c4"]], ["no_mode", null]]) {
         await at(page, state(name));
@@ -183,9 +183,9 @@ export async function linesAreStepped(page) {
         + "setaddr c2 c1 0000000000001000 = 1 ffff1ffffc0180040000000000001000\n"
         + "setbounds c4 c2 0000000000001001 = 1 ffff1ffffc0010000000000000001000\nend 2\n";
     for (const [log, wanted] of [
-             [text("examples/wrong_result.log"), ["permissions 0x00078ffe", "permissions 0x00078fff", "differs: perms"]],
+             [text("examples/wrong_result.log"), ["e", "permissions 0x00078ffe", "f", "permissions 0x00078fff", "differs: perms"]],
              [text("examples/kept_tag.log"), ["no tag", "tag cleared: 11 BoundsEscape", "tag 1", "differs: tag"]],
-             [rounded, ["bounds 0x1000 up to 0x2008", "bounds 0x1000 up to 0x2000", "differs: t"]],
+             [rounded, ["2", "bounds 0x1000 up to 0x2008", "0", "bounds 0x1000 up to 0x2000", "differs: t"]],
          ]) {
         const red = await page.run(async (given) => {
             await dropped(bytesOf8(given), "given.log");
@@ -218,8 +218,10 @@ export async function shortLogsAreJudged(page) {
         const refusal = wanted.split("\n")[0].split(" ")[3];
         same(again.split("\n")[0].split(" ").slice(2), wanted.split("\n")[0].split(" ").slice(2), `the same refusal: ${made.text}`);
         same(again.split("\n")[1], wanted.split("\n")[1], "the same line");
+        const rest = (report) => report.split("\n").slice(2).filter((it) => !/^\w+ origin /.test(it));
         if (!["Misplaced", "Truncated", "WrongCount", "LimitPassed"].includes(refusal))
-            same(again.split("\n").slice(2), wanted.split("\n").slice(2), "the same report");
+            same(rest(again), rest(wanted), "the same report, except for origins");
+        check(made.isShortest, `nothing can be left out of ${made.text}`);
         check(made.saved && made.says.includes(again.split("\n")[0]) && made.text.length <= log.length + 14, `${made.says}`);
         shorter++;
     }
@@ -234,9 +236,13 @@ export async function shortLogsAreJudged(page) {
         while (!log.made) await new Promise((done) => setTimeout(done, 2));
         return [performance.now() - began, log.made.lines, log.made.verdict];
     }, long);
-    check(took < 3000 && lines < 2000 && verdict.includes("23 WrongResult"), `a long one: ${took} ms, ${lines} lines, ${verdict}`);
+    check(took < 3000 && lines < 20 && verdict.includes("23 WrongResult"), `a long one: ${took} ms, ${lines} lines, ${verdict}`);
     return `${shorter} short logs, none for ${none}; a long one ${lines} lines in ${Math.round(took)} ms`;
 }
+
+// The shortest log with the fault of wrong_result.log: both operands are roots.
+const SHORT = "capcheck 1\nroot c3 ffff1fffdc0180040000000000000000\nroot c4 fffe1ffffc018004000000000003fffb\n"
+    + "unseal c5 c3 c4 = 1 ffff1ffffc0180040000000000000000\n";
 
 /** What is copied and saved. */
 export async function logsAreKept(page) {
@@ -256,10 +262,10 @@ export async function logsAreKept(page) {
             return [...copied, seen("said")];
         });
         const report = printed(CAPDIAG, ["why"], text("examples/wrong_result.log"));
-        same(kept, [report, text("examples/wrong_result.log"), "Log copied."], "the report and the short log are copied");
+        same(kept, [report, SHORT, "Log copied."], "the report and the short log are copied");
         const saved = path.join(folder, "shortest.log");
         for (let k = 0; k < 200 && !fs.existsSync(saved); k++) await new Promise((done) => setTimeout(done, 20));
-        same(fs.readFileSync(saved, "utf8"), text("examples/wrong_result.log"), "the short log is saved");
+        same(fs.readFileSync(saved, "utf8"), SHORT, "the short log is saved");
         await at(page, state("origins"));
         const origins = await page.run(async () => {
             const copied = [];
@@ -297,7 +303,7 @@ export async function logsAreUsable(page) {
     await page.run(() => document.querySelector("[data-log=escaped_bound]").focus());
     await page.key("Enter");
     await page.run(() => globalThis.settled());
-    same(await page.run(() => seen("verdict").slice(0, 39)), "No: line 5 is at fault. 11 BoundsEscape", "an example by Enter");
+    same(await page.run(() => seen("verdict").slice(0, 38)), "No: line 5 is refused: 11 BoundsEscape", "an example by Enter");
     await page.run(() => byId("code").focus());
     const lineNow = async () => {
         await new Promise((done) => setTimeout(done, 60));
@@ -358,7 +364,7 @@ export async function changedJudges(page) {
         return page.run(() => [seen("verdict"), results(), !byId("fault").hidden]);
     };
     const at = bytes.indexOf("WrongResult");
-    check(at > 0, "the names stand in the module's data");
+    check(at > 0, "the names are in the module's data");
     const [renamed, seenThen] = await shownWith(at, "V".charCodeAt(0));
     check(renamed.includes("23 VrongResult") && seenThen === 1, `a name comes from the module's data: ${renamed}`);
     const [, none, fault] = await shownWith(8, 0x7f);

@@ -72,9 +72,9 @@ export async function addressMoves(page) {
     same([to, red], ["0000000000015000", 0], "pressed in the middle");
     await mouse("mouseMoved", 0.95);
     [to, says, red] = await state();
-    same(red, 1, "dragged behind the range: red");
+    same(red, 1, "dragged beyond the range: red");
     check(says.includes("loses the bounds") && says.includes("13 NotRepresentable") && says.includes("in clear mode the tag goes"),
-        `behind the range: ${says}`);
+        `beyond the range: ${says}`);
     check(await page.run(() => document.querySelectorAll(".ghost").length === 1), "the bounds that it would have are drawn");
     await mouse("mouseMoved", 0.3);
     [to, says, red] = await state();
@@ -173,7 +173,7 @@ export async function everythingHasAName(page) {
         "descriptions are there");
 }
 
-/** The contrast of every text with what it stands on, and of what is drawn with the paper. */
+/** The contrast of every text with what is below it, and of what is drawn with the paper. */
 export const contrasts = () => {
     const parse = (colour) => colour.match(/[\d.]+/g).map(Number);
     const light = (colour) => {
