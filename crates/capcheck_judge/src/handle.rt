@@ -48,9 +48,7 @@ impl Handle {
         requires empty { self.old.judge ≡ None }
         ensures { self.new.judge ≡ Some judge.value }
     {
-        if let Some(_judge) = mem::replace(self, Handle::of(keep(judge))).into_held() {
-            unreachable!()
-        }
+        let _none = mem::replace(self, Handle::of(keep(judge))).into_held();
     }
 
     // No judge.

@@ -6,7 +6,9 @@ ghost use Rattle.std.specs.Box.Ownership.{box_owns};
 use std::alloc::Allocator;
 use std::marker::Model;
 
-/// What a box of a value held: the address of the value, and the allocator that gave its memory.
+/// What a box of a value held: the address of the value, and the allocator that gave its memory. If it is dropped, the
+/// value isn't.
+#[derive(Drop)]
 pub(crate) struct Held<T, A: Allocator> {
     pub(crate) at: *mut T,
     pub(crate) alloc: A,
