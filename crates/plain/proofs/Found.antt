@@ -32,7 +32,7 @@ module _ (w e b t : ℕ) (ie : Bool) (address : ℕ) (mantissa start raw_base ra
       let f = of_word in
       record {
         mantissa = mantissa;
-        start = start;
+        first = start;
         raw_base = raw_base;
         raw_top = raw_top;
         mantissa_is = f.mantissa_is;
