@@ -9,6 +9,8 @@
 #                                    `capcheck_freestanding` for the judges, with the library for C
 #   PREFIX/include/capcheck*.h       their headers
 #   PREFIX/share/man/man1/*.1        the programs' manual pages
+#   PREFIX/share/capcheck/           the Python package, and the commands for GDB that use it: docs/PYTHON.md, docs/GDB.md
+#   PREFIX/share/gdb/auto-load/      a file by which a GDB installed below PREFIX loads these commands with the library
 #
 # DESTDIR goes in front of PREFIX, and is named in no file. What isn't built yet is proved and built first, which
 # wants the Rattle kit; a line says when each crate is proved, and CONTRIBUTING.md how long it takes. The shared libraries and the judge want a C compiler: CC, or cc.
@@ -39,7 +41,7 @@ done
 [ -z "$missing" ] || python3 .ci/prove.py $missing
 RT_LIB=true sh judge/build.sh
 
-mkdir -p "$to/bin" "$to/lib/pkgconfig" "$to/include" "$to/share/man/man1"
+mkdir -p "$to/bin" "$to/lib/pkgconfig" "$to/include" "$to/share/man/man1" "$to/share/capcheck/capcheck"
 cp "$program" "$to/bin/capcheck"
 cp "$diagnosis" "$to/bin/capdiag"
 cp "$library" "$to/lib/libcapcheck_c.a"
@@ -47,37 +49,53 @@ cp "$judge" "$to/lib/libcapcheck_judge.a"
 cp "$freestanding" "$to/lib/libcapcheck_freestanding.a"
 cp include/*.h "$to/include/"
 cp docs/capcheck.1 docs/capdiag.1 "$to/share/man/man1/"
-for name in capcheck_c capcheck_judge capcheck_freestanding; do
-    ${CC:-cc} -shared -Wl,-soname,lib$name.so.1 -Wl,--whole-archive "$to/lib/lib$name.a" -Wl,--no-whole-archive -o "$to/lib/lib$name.so.1"
-    ln -sf "lib$name.so.1" "$to/lib/lib$name.so"
-done
+cp python/capcheck/*.py python/capcheck/py.typed "$to/share/capcheck/capcheck/"
+cp gdb/capcheck_gdb.py "$to/share/capcheck/"
+mkdir -p "$to/share/gdb/auto-load$prefix/lib"
+echo "import sys; sys.path.insert(0, '$prefix/share/capcheck'); import capcheck_gdb" > "$to/share/gdb/auto-load$prefix/lib/libcapcheck_c.so.1-gdb.py"
+# shared NAME HEADER: makes a shared library of an archive. It exports the functions that the header declares.
+shared() {
+    {
+        echo '{ global:'
+        sed -n 's/^[a-z].*[ *]\(capcheck_[a-z_]*\)(.*/\1;/p' "include/$2"
+        echo 'local: *; };'
+    } | ${CC:-cc} -shared -Wl,-soname,"lib$1.so.1" -Wl,--version-script=/dev/stdin \
+        -Wl,--whole-archive "$to/lib/lib$1.a" -Wl,--no-whole-archive -o "$to/lib/lib$1.so.1"
+    ln -sf "lib$1.so.1" "$to/lib/lib$1.so"
+}
+shared capcheck_c capcheck.h
+shared capcheck_judge capcheck_judge.h
+shared capcheck_freestanding capcheck_freestanding.h
 cat > "$to/lib/pkgconfig/capcheck.pc" <<PC
 prefix=$prefix
+libdir=\${prefix}/lib
 
 Name: capcheck
 Description: 128-bit CHERI capabilities: what a word means, bounds, operations, and the lines of a log
 Version: $version
 Cflags: -I\${prefix}/include
-Libs: -L\${prefix}/lib -lcapcheck_c
+Libs: -L\${libdir} -lcapcheck_c
 PC
 cat > "$to/lib/pkgconfig/capcheck_judge.pc" <<PC
 prefix=$prefix
+libdir=\${prefix}/lib
 
 Name: capcheck_judge
 Description: the judge of logs of 128-bit CHERI capabilities, linked into a program
 Version: $version
 Requires: capcheck
 Cflags: -I\${prefix}/include
-Libs: -L\${prefix}/lib -lcapcheck_judge
+Libs: -L\${libdir} -lcapcheck_judge
 PC
 cat > "$to/lib/pkgconfig/capcheck_freestanding.pc" <<PC
 prefix=$prefix
+libdir=\${prefix}/lib
 
 Name: capcheck_freestanding
 Description: the judge of logs of 128-bit CHERI capabilities without a heap
 Version: $version
 Requires: capcheck
 Cflags: -I\${prefix}/include
-Libs: -L\${prefix}/lib -lcapcheck_freestanding
+Libs: -L\${libdir} -lcapcheck_freestanding
 PC
 echo "capcheck $version is installed below $to"
