@@ -1,0 +1,111 @@
+"""The shortest log with the same fault."""
+from __future__ import annotations
+
+import io
+import time
+from collections.abc import Callable, Iterator
+from contextlib import suppress
+
+from . import lines
+from .judges import Judge, judge_bytes, why
+from .lines import Kind
+from .words import NULL, Capability
+
+# The names of the rows of a diagnosis that say what the fault is. Other rows count lines.
+_ROWS = frozenset("line source authority holds root length gives recorded request rounded moved representable access needs "
+                  "cleared differs".split())
+
+
+def shorten(log: bytes, seconds: float = 5) -> bytes:
+    """A short log with the fault of a rejected log: the same refusal, the same refused line and the same diagnosis, except
+    for origins and counts. No line of it can be left out, apart from the header, unless `seconds` didn't suffice.
+    ValueError if the log is accepted."""
+    verdict, until = judge_bytes(log), time.monotonic() + seconds
+    if verdict:
+        raise ValueError(f"the log is accepted: {verdict}")
+    texts = io.BytesIO(log).readlines()
+    header = texts[:2 if texts[:1] == [b"capcheck 2\n"] else 1][:verdict.line - 1]
+    before, faulty = texts[len(header):verdict.line - 1], b"".join(texts[verdict.line - 1:verdict.line])
+    fault = _fault(b"".join(texts[:verdict.line]))
+
+    def has_fault(middle: list[bytes]) -> bool:
+        return _fault(b"".join([*header, *middle, faulty])) == fault
+
+    middle = next(filter(has_fault, _middles(header, before, faulty)))
+    return b"".join([*header, *_fewest(middle, has_fault, until), faulty])
+
+
+def _fault(log: bytes) -> list[str]:
+    """The refusal, the faulty line and its diagnosis, without origins and counts."""
+    verdict, *rows = why(log).splitlines()
+    words = [row.split(maxsplit=2) for row in rows]
+    return [verdict.split()[-1], *(row for row, (name, *more) in zip(rows, words) if name in _ROWS and more[:1] != ["origin"])]
+
+
+def _middles(header: list[bytes], before: list[bytes], faulty: bytes) -> Iterator[list[bytes]]:
+    """Lines that may stand between the header and the faulty line, the fewest first."""
+    yield []
+    yield [lines.move(1, 0, NULL)]
+    yield [lines.end(0)]
+    log = b"".join([*header, *before])
+    with suppress(ValueError, StopIteration):
+        line = next(lines.read(faulty))
+        for writer in (line.authority, 31, 30, 29):
+            with suppress(ValueError):
+                yield _operands(log, line, writer)
+    yield [line for line in before if line.startswith(b"root ")]
+    yield before
+
+
+def _operands(log: bytes, line: lines.Line, writer: int) -> list[bytes]:
+    """Lines that put into the operands of a line what they hold after a log: roots, and steps for what has no tag. The
+    steps write memory by the register `writer`, which has a root of its own if it isn't an operand. ValueError if such a
+    step can't be written."""
+    with Judge() as judge:
+        judge.feed(log)
+        registers = {number: judge.register(number) for number in (line.source, line.authority) if number}
+        authority = judge.register(line.authority).address
+        address = (authority + line.offset) % 2**64 & ~15
+        stored = judge.granule(address) if line.kind in (Kind.LC, Kind.LOAD) else NULL
+    offset = address - authority if writer in registers else 0
+    roots, steps = [], []
+    if writer and writer not in registers:
+        roots.append(lines.root(writer, Capability.root().set_address(address)))
+    for number, cap in registers.items():
+        if cap.tag:
+            roots.append(lines.root(number, cap))
+        elif NULL.set_address(cap.address) == cap:
+            steps.append(lines.setaddr(number, 0, cap.address, cap))
+        elif cap.sound:
+            roots.append(lines.root(number, cap))
+            steps.append(lines.cleartag(number, number, cap))
+        else:
+            beside = offset + (address ^ 16) - address
+            steps += [*_stores(writer, beside, cap), lines.lc(number, writer, beside, cap)]
+    if stored.tag:
+        roots.append(lines.root_at(address, stored))
+    elif stored != NULL:
+        steps += _stores(writer, offset, stored)
+    return [*roots, *steps]
+
+
+def _stores(register: int, offset: int, cap: Capability) -> list[bytes]:
+    """Steps that store the bytes of a capability in memory."""
+    return [lines.store(register, offset + at, 8, int.from_bytes(cap.memory[at:at + 8], "little")) for at in (0, 8)]
+
+
+def _fewest(middle: list[bytes], has_fault: Callable[[list[bytes]], bool], until: float) -> list[bytes]:
+    """Leaves out runs of lines, long ones first, while the log keeps its fault."""
+    size = max(len(middle) // 2, 1)
+    while middle:
+        at, count = 0, len(middle)
+        while at < len(middle) and time.monotonic() < until:
+            fewer = middle[:at] + middle[at + size:]
+            if has_fault(fewer):
+                middle = fewer
+            else:
+                at += size
+        if size == 1 and len(middle) == count:
+            break
+        size = max(size // 2, 1)
+    return middle

@@ -1,0 +1,42 @@
+#!/bin/sh
+# Checks the Python package over the installed libraries: compares it with the headers, runs its tests, builds its wheel without
+# a network, and calls what the wheel installs. With GDB, it runs the sessions of GDB too. It says what it left out.
+#
+#   sh python/check.sh [PREFIX]
+#
+# PREFIX is the folder that install.sh installed below; without it, the script installs into a folder of its own. The words of
+# the tests are WORDS, or 10000.
+set -eu
+cd "$(dirname "$0")/.."
+work=$(mktemp -d)
+trap 'rm -rf "$work"' EXIT
+if [ $# = 1 ]; then
+    prefix=$(cd "$1" && pwd)
+else
+    prefix=$work/there
+    sh install.sh "$prefix" > "$work/said" 2>&1 || { cat "$work/said" >&2; exit 1; }
+fi
+left_out() { echo "python/check.sh: left out: $1"; }
+export PYTHONDONTWRITEBYTECODE=1 CAPCHECK="$prefix/bin/capcheck" CAPDIAG="$prefix/bin/capdiag" EXPLAINED="$work/explained"
+python3 -c 'import sys; sys.exit(sys.version_info < (3, 10))' || { left_out 'the Python package and GDB: python3 is older than 3.10'; exit 0; }
+
+python3 python/abi_check.py "$prefix"
+python3 -c 'import random
+draw = random.Random()
+for number in range('"${WORDS:-10000}"'):
+    word = draw.getrandbits(128)
+    print(f"{word & ~(3 << 110) | 0x3ffff << 91 if number % 2 else word:032x}")' > "$work/words"
+while read -r word; do
+    "$CAPCHECK" explain "$word"
+done < "$work/words" > "$EXPLAINED"
+PYTHONPATH="$prefix/share/capcheck" python3 -m unittest discover -q python/tests
+
+if python3 -m pip --version > "$work/said" 2>&1; then
+    CAPCHECK_LIB="$prefix/lib" python3 -m pip install -q --no-index --no-deps --disable-pip-version-check --root-user-action=ignore --target "$work/site" ./python
+    got=$(cd "$work" && PYTHONPATH="$work/site" python3 -m capcheck judge "$OLDPWD/examples/moves.log")
+    [ "$got" = 'yes 2 1' ] || { echo "python/check.sh: the wheel's package says $got" >&2; exit 1; }
+else
+    left_out 'the wheel: there is no pip'
+fi
+
+python3 gdb/sessions.py "$prefix"

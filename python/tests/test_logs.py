@@ -1,0 +1,220 @@
+"""Logs: reading and writing lines, judging, diagnoses, shortening. python/check.sh sets CAPDIAG, a built program."""
+import os
+import random
+import subprocess
+import tempfile
+import threading
+import unittest
+from pathlib import Path
+
+import capcheck
+from capcheck import NULL, Capability, Judge, Kind, Refusal, lines
+
+DIAGNOSIS = os.environ["CAPDIAG"]
+TOP = Path(__file__).resolve().parents[2]
+ROOT = "root c1 ffff1ffffc0180040000000000000000\n"
+# The verdict of each log of the corpus, from its index.
+VERDICTS = {TOP / "conformance" / row[0]: row[1] for row in (line.rstrip("\n").split("\t") for line in open(
+    TOP / "conformance/INDEX.tsv", encoding="utf-8")) if row[0].startswith(("accepted/", "rejected/"))}
+EXAMPLES = sorted((TOP / "examples").glob("*.log"))
+
+
+def operands(line):
+    """The numbers of a line, as the function that writes it takes them."""
+    if line.kind in (Kind.MOVE, Kind.CLEARTAG):
+        return line.target, line.source, line.cap
+    if line.kind in (Kind.SETBOUNDS, Kind.SETBOUNDSEXACT, Kind.SETADDR, Kind.ANDPERM):
+        return line.target, line.source, line.number, line.cap
+    if line.kind in (Kind.SEAL, Kind.UNSEAL):
+        return line.target, line.source, line.authority, line.cap
+    if line.kind == Kind.LC:
+        return line.target, line.authority, line.offset, line.cap
+    if line.kind == Kind.SC:
+        return line.source, line.authority, line.offset
+    if line.kind in (Kind.LOAD, Kind.STORE):
+        return line.authority, line.offset, line.size, line.number
+    if line.kind in (Kind.ROOT, Kind.ROOT_AT):
+        return line.target if line.kind == Kind.ROOT else line.number, line.cap
+    return (line.number,)
+
+
+def write(line):
+    return getattr(lines, line.kind.name.lower())(*operands(line))
+
+
+def pass_step(judge, line):
+    """Passes a step by its numbers; any other line as it is written."""
+    return getattr(judge, line.kind.name.lower())(*operands(line)) if Kind.MOVE <= line.kind <= Kind.STORE else judge.feed(write(line))
+
+
+def diagnosed(log, *options):
+    return subprocess.run([DIAGNOSIS, "why", *options], input=log, capture_output=True).stdout.decode()
+
+
+class Verdicts(unittest.TestCase):
+    def test_corpus(self):
+        self.assertGreater(len(VERDICTS), 300)
+        for path, verdict in VERDICTS.items():
+            log = path.read_bytes()
+            self.assertEqual((str(capcheck.judge(path)), str(capcheck.judge_bytes(log))), (verdict, verdict), path)
+
+    def test_pieces(self):
+        draw = random.Random(1)
+        for path, verdict in VERDICTS.items():
+            log, at = path.read_bytes(), 0
+            with Judge() as judge:
+                while at < len(log):
+                    size = draw.choice((1, 7, 100, 1000))
+                    judge.feed(log[at:at + size])
+                    at += size
+                self.assertEqual(str(judge.end()), verdict, path)
+
+    def test_logs_cut_anywhere(self):
+        for path in EXAMPLES:
+            log = path.read_bytes() + b"end 1"
+            for size in range(len(log)):
+                with Judge() as judge:
+                    judge.feed(log[:size])
+                    self.assertEqual(judge.end(), capcheck.judge_bytes(log[:size]), (path, size))
+
+    def test_steps_by_their_numbers(self):
+        for path, verdict in VERDICTS.items():
+            if verdict.startswith("yes"):
+                read = list(lines.read(path.read_bytes()))
+                self.assertEqual(b"".join(map(write, read)), path.read_bytes())
+                with Judge() as judge:
+                    self.assertTrue(all(pass_step(judge, line) for line in read), path)
+                    self.assertEqual(str(judge.end()), verdict)
+
+    def test_threads_judge_at_once(self):
+        log, told = f"capcheck 1\n{ROOT}".encode() + 50000 * b"store c1 8 4 12345678\n" + b"end 50000\n", []
+        threads = [threading.Thread(target=lambda: told.append(str(capcheck.judge_bytes(log)))) for _ in range(2)]
+        for thread in threads:
+            thread.start()
+        for thread in threads:
+            thread.join()
+        self.assertEqual(told, ["yes 50000 1"] * 2)
+
+    def test_lines_that_are_none(self):
+        read = lines.read(b"capcheck 1\nend 0\nend 00\n")
+        self.assertEqual([next(read).kind, next(read).kind], [Kind.VERSION, Kind.END])
+        self.assertRaises(ValueError, next, read)
+        self.assertEqual(list(lines.read(b"")), [])
+        many = 3000 * lines.store(1, -8, 4, 0x12345678)
+        self.assertEqual({(line.offset, line.number) for line in lines.read(many)}, {(-8, 0x12345678)})
+
+
+class Judging(unittest.TestCase):
+    def test_what_the_machine_holds(self):
+        cap = Capability.root().set_address(0x1000)
+        with Judge() as judge:
+            self.assertTrue(judge.feed(f"capcheck 1\n{ROOT}".encode()))
+            self.assertTrue(judge.setaddr(2, 1, 0x1000, cap))
+            self.assertTrue(judge.sc(2, 2, 16))
+            self.assertIsNone(judge.verdict)
+            self.assertFalse(judge.move(3, 2, NULL))
+            self.assertEqual(str(judge.verdict), "no 5 23 WrongResult")
+            self.assertEqual((judge.expected, judge.register(2), judge.granule(0x101F)), (cap, cap, cap))
+            self.assertEqual((judge.register(3), judge.register(0)), (NULL, NULL))
+            self.assertEqual([judge.origin(it) for it in ("c2", "@0000000000001010", "c3")], ["c1", "c1", None])
+            self.assertRaises(LookupError, judge.register, -1)
+            self.assertRaises(LookupError, judge.register, 32)
+        for call in (lambda: judge.feed(b"end 0\n"), judge.end, judge.diagnosis, lambda: judge.verdict, lambda: judge.sc(1, 1, 0)):
+            self.assertRaises(ValueError, call)
+        self.assertRaises(LookupError, judge.register, 1)
+
+    def test_numbers_out_of_range(self):
+        with Judge() as judge:
+            judge.feed(f"capcheck 1\n{ROOT}".encode())
+            for numbers in ((1, 0, 3, 0), (1, 2048, 4, 0), (1, 0, 1, 256), (32, 0, 4, 0), (1, 0, 4, 2**64), (1, 2**63, 4, 0)):
+                self.assertRaises(ValueError, judge.store, *numbers)
+            self.assertRaises(TypeError, judge.sc, 1, 1)
+            judge.feed(b"sto")
+            self.assertRaises(ValueError, judge.store, 1, 0, 4, 0)
+            self.assertTrue(judge.feed(b"re c1 0 4 00000000\nend 1\n"))
+            self.assertEqual(str(judge.end()), "yes 1 1")
+
+    def test_expected_number(self):
+        with Judge() as judge:
+            self.assertTrue(judge.feed(f"capcheck 1\n{ROOT}".encode()) and judge.store(1, 0, 4, 5))
+            self.assertFalse(judge.load(1, 0, 4, 6))
+            self.assertEqual(judge.expected, 5)
+
+    def test_diagnoses_are_those_of_the_program(self):
+        for path in [*EXAMPLES, *list(VERDICTS)[::5]]:
+            log = path.read_bytes()
+            told = diagnosed(log)
+            self.assertEqual(capcheck.why(log), told, path)
+            self.assertEqual(capcheck.why(log, origins=True), diagnosed(log, "--origins"), path)
+            with Judge() as judge:
+                judge.feed(log)
+                judge.end()
+                if not judge._rest:
+                    self.assertEqual(judge.diagnosis(), told, path)
+
+    def test_many_granules(self):
+        log = f"capcheck 1\n{ROOT}".encode()
+        granules = b"".join(lines.setaddr(2, 1, 16 * it, Capability.root().set_address(16 * it)) + b"store c2 0 1 01\n" for it in range(5000))
+        self.assertEqual(capcheck.why(log + granules + b"end 10000\n"), "yes 10000 1\n")
+
+
+class Shortening(unittest.TestCase):
+    def shortened(self, log):
+        """The shortened log, of which no line can be left out."""
+        short = capcheck.shorten(log)
+        texts, wanted = short.splitlines(True), fault(log)
+        self.assertEqual(fault(short), wanted)
+        header = 2 if short.startswith(b"capcheck 2\nmode ") else 1
+        for at in range(header, len(texts) - 1):
+            self.assertNotEqual(fault(b"".join(texts[:at] + texts[at + 1:])), wanted, short)
+        return texts
+
+    def test_corpus(self):
+        for path, verdict in VERDICTS.items():
+            if verdict.startswith("no"):
+                self.assertLessEqual(len(self.shortened(path.read_bytes())), 10, path)
+            else:
+                self.assertRaises(ValueError, capcheck.shorten, path.read_bytes())
+
+    def test_faults_in_long_logs(self):
+        draw = random.Random(1)
+        for kind in ("moves", "memory", "mixed", "scattered"):
+            made = subprocess.run(["python3", TOP / "bench/random_log.py", kind, "2000"], capture_output=True, check=True).stdout
+            texts = made.splitlines(True)
+            for _ in range(5):
+                at = draw.randrange(len(texts) // 2, len(texts) - 1)
+                wrong = texts[at].replace(b"= 1", b"= 0") if b"= 1" in texts[at] else texts[at][:-2] + (b"1\n" if texts[at][-2:-1] != b"1" else b"2\n")
+                log = b"".join([*texts[:at], wrong, *texts[at + 1:]])
+                if not capcheck.judge_bytes(log):
+                    self.assertLessEqual(len(self.shortened(log)), 9)
+
+    def test_shortest(self):
+        log = (TOP / "examples/escaped_bound.log").read_bytes()
+        self.assertEqual(capcheck.shorten(log), b"capcheck 1\nroot c3 ffff1ffff80810000000000000001000\n"
+                         b"setbounds c4 c3 0000000000000021 = 1 ffff1ffff80850000000000000001000\n")
+
+
+def fault(log):
+    """The diagnosis of a log, without line numbers, counts and origins."""
+    verdict, *rows = diagnosed(log).splitlines()
+    return verdict.split()[2:], [row for row in rows if row.split()[0] not in ("roots", "steps", "granules") and " origin " not in row]
+
+
+class Command(unittest.TestCase):
+    def run_command(self, *words, given=b""):
+        ran = subprocess.run(["python3", "-m", "capcheck", *words], input=given, capture_output=True)
+        return ran.returncode, ran.stdout.decode(), ran.stderr.decode()
+
+    def test_commands(self):
+        log = TOP / "examples/escaped_bound.log"
+        self.assertEqual(self.run_command("judge", log), (1, "no 5 11 BoundsEscape\n", ""))
+        self.assertEqual(self.run_command("judge", given=b"capcheck 1\nend 0\n"), (0, "yes 0 0\n", ""))
+        self.assertEqual(self.run_command("why", log), (1, diagnosed(log.read_bytes()), ""))
+        self.assertEqual(self.run_command("shorten", log), (0, capcheck.shorten(log.read_bytes()).decode(), ""))
+        self.assertEqual(self.run_command("shorten", TOP / "examples/moves.log"), (1, "", "capcheck: the log is accepted: yes 2 1\n"))
+        self.assertEqual(self.run_command("explain", "--tag", NULL.digits)[1], Capability(NULL.word, True).explain())
+        self.assertEqual(self.run_command("explain", "12")[0], 2)
+
+
+if __name__ == "__main__":
+    unittest.main()
