@@ -6,7 +6,8 @@
 With `--unproved` it takes the programs that CAPCHECK and CAPDIAG name, and leaves out what needs a library for C. It wants the programs and the library for C built, or builds them. A block of a page that has lines beginning with
 `$ ` is a session: each such line is a command, lines that begin with `> ` go on with it, and the lines below it are
 all that it prints; a line `..` stands for any lines. A page's commands run one after another in a folder of their
-own, in which the tree's files stand by their names. Other commands of the pages are those of ELSEWHERE, which says
+own, in which the tree's files stand by their names. Lines that begin with `(gdb) ` are commands of the GDB that the session starts;
+without a GDB they are left out, and a line says so. Blocks with `>>> ` are run by doctest. Other commands of the pages are those of ELSEWHERE, which says
 where each is run. Rows that give the verdict of an example or of a log are judged too, blocks that show a file of the
 tree are compared with it, each link has to lead to a file and a heading, and `judge/heap.c` has to have as many lines
 as is said. The manual pages and the changelog have to have the header's version. The phrases of PHRASES are looked for in the pages, the manual pages, the headers, and the comments of the
@@ -18,17 +19,24 @@ import shutil
 import subprocess
 import sys
 import tempfile
+from shlex import split
 
 ROOT = os.path.join(os.path.dirname(os.path.abspath(__file__)), "..")
 os.chdir(ROOT)
 ROOT = os.getcwd()
+sys.path.insert(0, f"{ROOT}/gdb")
+from sessions import PROMPT, agrees, is_installed, transcript  # noqa: E402
+
 PAGES = ["README.md", "CONTRIBUTING.md", "docs/FIRST_HOUR.md", "docs/FORMAT.md", "docs/WORDS.md", "docs/MACHINE.md", "docs/RECORDING.md"]
-PAGES += ["docs/ALLOCATORS.md", "docs/STANDARD.md", "docs/C.md", "docs/GLOSSARY.md", "docs/PROOFS.md", "docs/DECISIONS.md", "docs/INTERNALS.md", "CHANGELOG.md", "examples/README.md", "examples/qemu/README.md", "conformance/README.md", "web/README.md", "bench/README.md"]
+PAGES += ["docs/PYTHON.md", "docs/GDB.md", "docs/ALLOCATORS.md", "docs/STANDARD.md", "docs/C.md", "docs/GLOSSARY.md", "docs/PROOFS.md", "docs/DECISIONS.md", "docs/INTERNALS.md", "CHANGELOG.md", "examples/README.md", "examples/qemu/README.md", "conformance/README.md", "web/README.md", "bench/README.md"]
 
 # Commands that no session runs, and where they are run.
 ELSEWHERE = {
     "sh install.sh ~/.local": "examples/emulator/installed.sh, into another folder",
     "sh test.sh": "by hand",
+    "python3 -m pip install ./python": "python/check.sh, into another folder",
+    "sh release.sh": "by hand",
+    "sh python/check.sh": "the gate",
     "bash .ci/run": "the gate",
     "cd crates/capcheck_c && rt lib": "examples/emulator/check.sh",
     "sh judge/build.sh": "examples/emulator/check.sh",
@@ -67,7 +75,9 @@ PHRASES = {
     r"room to room|(?:a|the) tree before": "CHANGELOG.md, for what was before",
 }
 # Commands that need a proof. After one that builds over a library for C no command of its page can run without it.
-BUILT = re.compile(r"install\.sh|libcapcheck_|pkg-config|\brt ")
+BUILT = re.compile(r"install\.sh|libcapcheck_|pkg-config|\brt |^gdb |-m capcheck")
+# Whether this Python can run the package of python/.
+HAS_PACKAGE = sys.version_info >= (3, 10)
 COMMAND = re.compile(r"(\$|cc|sh|bash|cd|rt|python3|capcheck|capdiag|make|cat|git) ")
 
 # How a block of a page is run, by the word of its fence.
@@ -114,15 +124,6 @@ def commands(first, lines):
     return found
 
 
-def agrees(wanted, given):
-    """Whether the lines are those that are wanted, where `..` is any lines."""
-    if not wanted:
-        return not given
-    if wanted[0] == "..":
-        return any(agrees(wanted[1:], given[at:]) for at in range(len(given) + 1))
-    return bool(given) and wanted[0] == given[0] and agrees(wanted[1:], given[1:])
-
-
 def run(command, folder, given=None):
     """What a command prints, on both outputs."""
     ran = subprocess.run(["bash", "-c", command], cwd=folder, input=given, stdout=subprocess.PIPE, stderr=subprocess.STDOUT, timeout=600)
@@ -132,7 +133,7 @@ def run(command, folder, given=None):
 def place(work, unproved):
     """A folder in which the tree's files stand by their names, and a home in which what is built is installed."""
     os.environ.update(HOME=f"{work}/home", LD_LIBRARY_PATH=f"{work}/home/.local/lib", PATH=f"{work}/home/.local/bin:{os.environ['PATH']}")
-    os.environ.update(PKG_CONFIG_PATH=f"{work}/home/.local/lib/pkgconfig")
+    os.environ.update(PKG_CONFIG_PATH=f"{work}/home/.local/lib/pkgconfig", PYTHONPATH=f"{work}/home/.local/share/capcheck")
     if unproved:
         os.makedirs(f"{work}/home/.local/bin")
         for name in ("capcheck", "capdiag"):
@@ -158,8 +159,16 @@ def sessions(page, text, folder, unproved):
                 continue
             if is_left:
                 continue
+            if "-m capcheck" in command[0] and not HAS_PACKAGE:
+                continue
+            if any(line.startswith(PROMPT) for line in wanted):
+                if not is_installed():
+                    continue
+                wanted = [line for line in wanted if line]
+                given = "\n".join(transcript(split(command[0]), wanted, folder))
+            else:
+                given = run("\n".join(command), folder)
             count += 1
-            given = run("\n".join(command), folder)
             if not agrees(wanted, given.rstrip("\n").split("\n") if given else []):
                 wrong.append(f"{page}:{number}: `{command[0]}` prints\n{given}")
         if not found:
@@ -167,6 +176,17 @@ def sessions(page, text, folder, unproved):
                 if COMMAND.match(line) and line not in ELSEWHERE:
                     wrong.append(f"{page}:{number}: `{line}` is no command of a session, and nothing says where it is run")
     return wrong, count
+
+
+def doctests(page, text, folder):
+    """Runs the blocks of Python that have prompts, one after another."""
+    held = ["\n".join([*lines, "", ""]) for _, _, lines in blocks(text) if any(line.startswith(">>> ") for line in lines)]
+    if not held or not HAS_PACKAGE:
+        return [], 0
+    with open(f"{folder}/doctests.txt", "w", encoding="utf-8") as it:
+        it.writelines(held)
+    given = run("python3 -m doctest doctests.txt", folder)
+    return [f"{page}: {given}"] if given else [], sum(it.count(">>> ") for it in held)
 
 
 def log_of(cell):
@@ -311,9 +331,14 @@ def main(words):
                 folder = f"{room}/tree"
                 shutil.copytree(tree, folder, symlinks=True)
                 run_blocks = ([], 0) if unproved else programs(page, text, folder)
-                for bad, tried in (sessions(page, text, folder, unproved), rows(page, text, folder), shown(page, text), run_blocks, links(page, text), counted(page, text)):
+                run_python = ([], 0) if unproved else doctests(page, text, folder)
+                for bad, tried in (sessions(page, text, folder, unproved), rows(page, text, folder), shown(page, text), run_blocks, run_python, links(page, text), counted(page, text)):
                     wrong += bad
                     count += tried
+    if not unproved and not is_installed():
+        print("left out: the sessions of GDB, since there is none with Python 3.10 or later")
+    if not unproved and not HAS_PACKAGE:
+        print("left out: the sessions of Python, since this Python is older than 3.10")
     print("\n".join([*wrong, f"{count} commands, rows, files and links of the pages tried, {len(wrong)} otherwise than the pages say"]))
     return 1 if wrong else 0
 
