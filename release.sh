@@ -1,0 +1,59 @@
+#!/bin/sh
+# Makes an archive that runs without the Rattle kit, out/capcheck-VERSION-x86_64-linux.tar.gz, and tries it: it is unpacked in
+# an empty folder, and run there without this machine's environment.
+#
+#   sh release.sh
+#
+# It has what install.sh installs, the wheel of the Python package, the browser page, the pages of docs/, the kit's name in
+# KIT, and SHA256SUMS. It needs what install.sh needs, and objdump. It stops if the page that the tree keeps, web/capcheck.html,
+# was built from other sources.
+set -eu
+cd "$(dirname "$0")"
+version=$(sed -n 's/^#define CAPCHECK_VERSION_STRING "\(.*\)"$/\1/p' include/capcheck.h)
+name=capcheck-$version-x86_64-linux
+work=$(mktemp -d)
+trap 'rm -rf "$work"' EXIT
+to=$work/$name
+
+sh web/sources.sh --compare
+DESTDIR=$work sh install.sh "/$name"
+# Nothing in the archive depends on where it is unpacked.
+rm -r "$to/share/gdb"
+sed -i 's|^prefix=.*|prefix=${pcfiledir}/../..|' "$to"/lib/pkgconfig/*.pc
+CAPCHECK_LIB=$to/lib python3 python/build_wheel.py "$to"
+mkdir "$to/web" "$to/docs" "$to/examples"
+cp web/capcheck.html "$to/web/"
+cp README.md CHANGELOG.md "$to/"
+cp docs/*.md docs/*.svg docs/*.png "$to/docs/"
+cp examples/*.log "$to/examples/"
+rt version > "$to/KIT"
+needed=$(objdump -p "$to"/bin/* "$to"/lib/*.so.1 | sed -n 's/^ *NEEDED *//p' | sort -u)
+glibc=$(objdump -T "$to"/bin/* "$to"/lib/*.so.1 | grep -o 'GLIBC_[0-9.]*' | sort -uV | tail -n 1)
+cat > "$to/RELEASE.txt" <<TEXT
+Nawhorimo $version for x86-64-v2 Linux. Programs and shared libraries need $(echo $needed) alone, ${glibc#GLIBC_} or later.
+
+Unpack it anywhere, and add bin/ to your PATH.
+
+bin/                            the programs capcheck and capdiag; share/man has their manual pages
+include/, lib/                  the C libraries: docs/C.md. PKG_CONFIG_PATH=\$PWD/lib/pkgconfig finds them
+*.whl                           the Python package, with the libraries in it: python3 -m pip install FILE; docs/PYTHON.md
+share/capcheck/capcheck_gdb.py  commands for GDB: source FILE; docs/GDB.md
+web/capcheck.html               the page, for a browser
+examples/                       logs to judge: bin/capcheck judge examples/moves.log
+KIT                             the Rattle kit that proved and built it
+SHA256SUMS                      sha256sum -c SHA256SUMS
+TEXT
+(cd "$to" && find . -type f ! -name SHA256SUMS | LC_ALL=C sort | xargs sha256sum > SHA256SUMS)
+mkdir -p out
+tar -C "$work" --sort=name --owner=0 --group=0 --numeric-owner --mtime="@$(git log -1 --format=%ct)" -cf - "$name" | gzip -9n > "out/$name.tar.gz"
+
+# The trial.
+mkdir "$work/empty"
+tar -C "$work/empty" -xzf "out/$name.tar.gz"
+cd "$work/empty/$name"
+failed() { echo "release.sh: $1" >&2; exit 1; }
+sha256sum -c --quiet SHA256SUMS
+[ "$(env -i bin/capcheck judge examples/moves.log)" = 'yes 2 1' ] || failed 'capcheck gives another verdict'
+[ "$(env -i bin/capdiag why examples/escaped_bound.log | head -n 1)" = 'no 5 11 BoundsEscape' ] || failed 'capdiag gives another verdict'
+[ "$needed" = libc.so.6 ] || failed "other libraries are needed: $needed"
+echo "out/$name.tar.gz: $(wc -c < "$OLDPWD/out/$name.tar.gz") bytes; needs libc.so.6 of ${glibc#GLIBC_} or later"
