@@ -88,7 +88,7 @@ class Refusal(IntEnum):
 class Refused(Exception):
     """An operation or an access is refused: a machine that traps would trap here."""
 
-    def __init__(self, refusal: Refusal):
+    def __init__(self, refusal: Refusal) -> None:
         super().__init__(refusal.title)
         self.refusal = refusal
 
