@@ -1,5 +1,6 @@
 pub mod TextLines
 pub mod RoundLines
 pub mod ExplainLines
+pub mod Fields
 pub mod ShownBytes
 pub mod CapLines

@@ -4,6 +4,7 @@
 
 pub mod cap_lines;
 mod explain_lines;
+pub mod fields;
 mod round_lines;
 pub mod shown_bytes;
 pub mod text_lines;
