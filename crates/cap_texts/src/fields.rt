@@ -62,6 +62,7 @@ pub struct Wrong<'a> {
 pub fn first_wrong<'a>(fields: &[Field], size: u8, bytes: &'a [u8]) -> Option<Wrong<'a>>
     ensures wrong { IfSome result (λ wrong. IsFirstWrong fields.now size bytes.now wrong.field wrong.end wrong.rest.now) }
     ensures none { IfNone result (AllStand fields.now size bytes.now) }
+    ensures inside { IfSome result (λ wrong. length wrong.rest.now ≤ length bytes.now) }
 {
     let (field, more) = fields.split_first()?;
     let end = end_of(more);
@@ -98,6 +99,7 @@ fn take_field(field: Field, size: u8, bytes: &[u8], end: u8) -> Option<&[u8]>
     requires { IsEnd end }
     ensures some { IfSome result (λ rest. Stands field size end bytes.now rest.now) }
     ensures none { IfNone result ((rest : List ℕ) → Stands field size end bytes.now rest → ⊥) }
+    ensures inside { IfSome result (λ rest. length rest.now ≤ length bytes.now) }
 {
     match field {
         Field::LogName | Field::HeapName => None,
@@ -124,6 +126,7 @@ fn take_part<P: Part>(bytes: &[u8], end: u8) -> Option<&[u8]>
     requires { IsEnd end }
     ensures some { IfSome result (λ rest. (value : P) × Begins P.fits P.spelled end bytes.now value rest.now) }
     ensures none { IfNone result (BeginsWithNone P.fits P.spelled end bytes.now) }
+    ensures inside { IfSome result (λ rest. length rest.now ≤ length bytes.now) }
 {
     let (_part, rest) = P::take(bytes, end)?;
     Some(rest)
@@ -133,6 +136,7 @@ fn take_part<P: Part>(bytes: &[u8], end: u8) -> Option<&[u8]>
 fn take_digit<'a>(bytes: &'a [u8], end: u8, digits: &[u8]) -> Option<&'a [u8]>
     ensures some { IfSome result (λ rest. StandsDigit digits.now end bytes.now rest.now) }
     ensures none { IfNone result ((rest : List ℕ) → StandsDigit digits.now end bytes.now rest → ⊥) }
+    ensures inside { IfSome result (λ rest. length rest.now ≤ length bytes.now) }
 {
     let (first, others) = bytes.split_first()?;
     let (second, rest) = others.split_first()?;
@@ -148,6 +152,7 @@ fn take_top(bytes: &[u8], end: u8) -> Option<&[u8]>
     requires { IsEnd end }
     ensures some { IfSome result (λ rest. StandsTop end bytes.now rest.now) }
     ensures none { IfNone result ((rest : List ℕ) → StandsTop end bytes.now rest → ⊥) }
+    ensures inside { IfSome result (λ rest. length rest.now ≤ length bytes.now) }
 {
     match bytes.strip_prefix(b"0") {
         Some(low) => take_part::<u64>(low, end),
@@ -159,6 +164,7 @@ fn take_top(bytes: &[u8], end: u8) -> Option<&[u8]>
 fn take_greatest_top(bytes: &[u8], end: u8) -> Option<&[u8]>
     ensures some { IfSome result (λ rest. bytes.now ≡ codes "10000000000000000" ++ end ∷ rest.now) }
     ensures none { IfNone result ((rest : List ℕ) → bytes.now ≡ codes "10000000000000000" ++ end ∷ rest → ⊥) }
+    ensures inside { IfSome result (λ rest. length rest.now ≤ length bytes.now) }
 {
     let others = bytes.strip_prefix(b"10000000000000000")?;
     take_end(others, end)
@@ -168,6 +174,7 @@ fn take_greatest_top(bytes: &[u8], end: u8) -> Option<&[u8]>
 fn take_value(size: u8, bytes: &[u8], end: u8) -> Option<&[u8]>
     ensures some { IfSome result (λ rest. StandsValue size end bytes.now rest.now) }
     ensures none { IfNone result ((rest : List ℕ) → StandsValue size end bytes.now rest → ⊥) }
+    ensures inside { IfSome result (λ rest. length rest.now ≤ length bytes.now) }
 {
     let (_number, others) = take_bytes(bytes, bytes_of_size(size))?;
     take_end(others, end)
@@ -191,6 +198,7 @@ fn bytes_of_size(size: u8) -> u8
 fn take_end(bytes: &[u8], end: u8) -> Option<&[u8]>
     ensures some { IfSome result (λ rest. bytes.now ≡ end ∷ rest.now) }
     ensures none { IfNone result ((rest : List ℕ) → bytes.now ≡ end ∷ rest → ⊥) }
+    ensures inside { IfSome result (λ rest. length rest.now ≤ length bytes.now) }
 {
     let (first, rest) = bytes.split_first()?;
     if *first == end { Some(rest) } else { None }
