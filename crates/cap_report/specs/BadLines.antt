@@ -8,7 +8,7 @@ use Rattle.cap_texts.specs.declared.fields.Field.{Field}
 use Rattle.cap_texts.specs.declared.fields.Field.TheVariants as fields
 use Rattle.cap_texts.specs.Fields.{AllStand, IsFirstWrong}
 use Rattle.cap_texts.specs.TextLines.{text_line}
-use Rattle.cap_texts.specs.WrongLines.{wrong_lines}
+use Rattle.cap_texts.specs.WrongLines.{header_lines, hint_line, wrong_lines}
 
 -- the fields of a result
 abbrev pub result_fields : List Field
@@ -52,3 +52,14 @@ AreBadLines text told =
     ((field : Field) × (end : ℕ) × (rest : List ℕ) × IsWrongWord line field end rest
     × (told ≡ wrong_lines (length line) field end rest))
     ⊎ (HasNoWrongWord line × (told ≡ text_line (codes "expected") (codes "a line of version 1: a root, a step or the end line")))
+
+-- what the first line has to be
+abbrev pub first_lines : List ℕ
+first_lines = codes "capcheck 1 or capcheck 2"
+
+-- what is told of a first line that is none: that the log is an allocator's, where it is the first line of one
+abbrev pub AreFirstLines : List ℕ → List ℕ → Type 0
+AreFirstLines text told =
+    ((text ≡ codes "heap 1")
+    × (told ≡ text_line (codes "expected") first_lines ++ hint_line (codes "the log of an allocator: capdiag heap judges it")))
+    ⊎ ((text ≡ codes "heap 1" → ⊥) × (told ≡ header_lines text first_lines))

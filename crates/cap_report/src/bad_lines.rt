@@ -2,13 +2,30 @@
 
 ghost use Rattle.std.specs.Prelude.{◌≡◌, ℕ, List, ◌+◌, ◌≤◌, IfNone, IfSome, length};
 ghost use Rattle.cap_log.specs.Parts.{Writes};
-ghost use Rattle.cap_report.specs.BadLines.{AreBadLines, HasNoWrongWord, IsWrongWord, fields_of};
+ghost use Rattle.cap_report.specs.BadLines.{AreBadLines, AreFirstLines, HasNoWrongWord, IsWrongWord, fields_of};
 
 use cap_log::buffers::put;
 use cap_log::{Head, Part};
 use cap_texts::fields::{Field, Wrong, first_wrong};
 use cap_texts::text_lines::put_line;
-use cap_texts::wrong_lines::put_wrong_lines;
+use cap_texts::wrong_lines::{put_header_lines, put_hint_line, put_wrong_lines};
+
+/// What the first line has to be.
+const FIRST_LINES: &[u8] = b"capcheck 1 or capcheck 2";
+
+/// Writes what the first line of a log has to be.
+pub fn put_bad_header(buffer: &mut [u8], at: usize, text: &[u8]) -> usize
+    requires room { at + 256 ≤ length buffer.old }
+    ensures written { (told : List ℕ) × AreFirstLines text.now told × Writes at told buffer.old buffer.new result }
+    ensures fits { result ≤ at + 256 }
+{
+    if text == b"heap 1".as_slice() {
+        let at = put_line(buffer, at, b"expected", FIRST_LINES);
+        put_hint_line(buffer, at, b"the log of an allocator: capdiag heap judges it")
+    } else {
+        put_header_lines(buffer, at, text, FIRST_LINES)
+    }
+}
 
 /// Writes which word of a line is wrong, and what is expected there.
 pub fn put_bad_line(buffer: &mut [u8], at: usize, text: &[u8]) -> usize
