@@ -52,6 +52,6 @@ behind progress Nothing text refusal details within h is told = let no : ⊥ = c
 behind progress Headed text refusal details within h is told = let no : ⊥ = cc in absurd no
 behind progress (Body root events) text refusal details within h is told =
     event_details root events (lines_of (Body root events)) text refusal details is
-        (subst (λ (objects : Objects). OfEvent root objects text refusal details) h.1.objects_are
-        (subst (λ (bounds : Interval). OfEvent bounds (objects_in progress.heap) text refusal details) h.1.root_is told))
+    (subst (λ (objects : Objects). OfEvent root objects text refusal details) h.1.objects_are
+    (subst (λ (bounds : Interval). OfEvent bounds (objects_in progress.heap) text refusal details) h.1.root_is told))
 behind progress (Whole root events) text refusal details within h is told = let bad = h.0 in let no : ⊥ = cc in absurd no

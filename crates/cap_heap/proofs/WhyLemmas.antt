@@ -48,13 +48,13 @@ pub count_details : (root : Interval) (events : List Event) (before due : List H
     → details ≡ counted_lines due refusal (count_in before) → AreDetails root events before due text refusal details
 count_details root events before due text refusal details (inl e) is =
     subst (λ (r : HeapRefusal). details ≡ counted_lines due r (count_in before) → AreDetails root events before due text r details) (sym e)
-        (λ same. same) is
+    (λ same. same) is
 count_details root events before due text refusal details (inr (inl e)) is =
     subst (λ (r : HeapRefusal). details ≡ counted_lines due r (count_in before) → AreDetails root events before due text r details) (sym e)
-        (λ same. same) is
+    (λ same. same) is
 count_details root events before due text refusal details (inr (inr (inl e))) is =
     subst (λ (r : HeapRefusal). details ≡ counted_lines due r (count_in before) → AreDetails root events before due text r details) (sym e)
-        (λ same. same) is
+    (λ same. same) is
 count_details root events before due text refusal details (inr (inr (inr e))) is =
     subst (λ (r : HeapRefusal). details ≡ counted_lines due r (count_in before) → AreDetails root events before due text r details) (sym e)
-        (λ same. same) is
+    (λ same. same) is

@@ -66,7 +66,7 @@ fn put_counted_lines(
     requires room { at + 256 ≤ length buffer.old }
     ensures written { (lines : List ℕ)
         × ((beginning : Beginning) → StandsFor progress.now beginning
-            → lines ≡ counted_lines (due_of beginning) refusal (count_in (lines_of beginning)))
+        → lines ≡ counted_lines (due_of beginning) refusal (count_in (lines_of beginning)))
         × Writes at lines buffer.old buffer.new result }
     ensures fits { result ≤ at + 256 }
 {

@@ -21,7 +21,11 @@ pub fn put_bad_header(buffer: &mut [u8], at: usize, text: &[u8]) -> usize
 {
     if text == b"heap 1".as_slice() {
         let at = put_line(buffer, at, b"expected", FIRST_LINES);
-        put_hint_line(buffer, at, b"the log of an allocator: capdiag heap judges it")
+        put_hint_line(
+            buffer,
+            at,
+            b"the log of an allocator: capdiag heap judges it",
+        )
     } else {
         put_header_lines(buffer, at, text, FIRST_LINES)
     }

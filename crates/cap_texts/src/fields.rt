@@ -217,7 +217,8 @@ pub(crate) fn expected_text(field: Field) -> &'static [u8]
         Field::LogVersion => b"the version, 1 or 2",
         Field::HeapVersion => b"the version, 1",
         Field::Mode => b"strict or clear",
-        Field::Place => b"a register, c1 to c31, or @ and an address of 16 lower-case hexadecimal digits, the last of them 0",
+        Field::Place =>
+            b"a register, c1 to c31, or @ and an address of 16 lower-case hexadecimal digits, the last of them 0",
         Field::Target => b"a register that is written, c1 to c31",
         Field::Register => b"a register, c0 to c31",
         Field::Number => b"16 lower-case hexadecimal digits",

@@ -22,13 +22,21 @@ IsOperandComplaint is_heap false (word ∷ words) complaint wrong =
     ⊎ (((IsTrue (is_operand word) → ⊥) × IsKnown is_heap word × IsOperandComplaint is_heap false words complaint wrong)
     ⊎ ((IsTrue (is_operand word) → ⊥) × (IsKnown is_heap word → ⊥) × (complaint ≡ Option) × (wrong ≡ word)))
 
+-- what is wrong with a word that is no command: it asks for help or the version beside other words, or it is none, or no option
+abbrev pub IsCommandComplaint : List ℕ → Complaint → List ℕ → Type 0
+IsCommandComplaint command complaint wrong =
+    (((command ≡ codes "--help") ⊎ (command ≡ codes "--version")) × (complaint ≡ Together) × (wrong ≡ []))
+    ⊎ ((command ≡ codes "--help" → ⊥) × (command ≡ codes "--version" → ⊥)
+    × ((IsTrue (is_operand command) × (complaint ≡ Command) × (wrong ≡ command))
+    ⊎ ((IsTrue (is_operand command) → ⊥) × (complaint ≡ Option) × (wrong ≡ command))))
+
 -- what is wrong with words that spell no order
 abbrev pub IsComplaint : List (List ℕ) → Complaint → List ℕ → Type 0
 IsComplaint [] complaint wrong = (complaint ≡ NoCommand) × (wrong ≡ [])
 IsComplaint (command ∷ words) complaint wrong =
     ((command ≡ codes "why") × IsOperandComplaint false false words complaint wrong)
     ⊎ (((command ≡ codes "heap") × IsOperandComplaint true false words complaint wrong)
-    ⊎ ((command ≡ codes "why" → ⊥) × (command ≡ codes "heap" → ⊥) × (complaint ≡ Command) × (wrong ≡ command)))
+    ⊎ ((command ≡ codes "why" → ⊥) × (command ≡ codes "heap" → ⊥) × IsCommandComplaint command complaint wrong))
 
 -- the first 64 bytes of a word, in quotes
 unfoldable pub quoted : List ℕ → List ℕ
@@ -40,7 +48,7 @@ front_text NoCommand = codes "no command"
 front_text Command = codes "unknown command "
 front_text Option = codes "unknown option "
 front_text AfterFile = codes "a word after the file: "
-front_text Together = codes "an option is given twice, or beside --help"
+front_text Together = codes "an option is given twice, out of order, or beside --help"
 
 -- the word, where the complaint is of one
 abbrev pub subject : Complaint → List ℕ → List ℕ

@@ -136,11 +136,21 @@ fn complaint_of<'a>(words: &[&'a str]) -> (Complaint, &'a str)
     if *command == "heap" {
         return operand_complaint(true, false, operands);
     }
-    (Complaint::Command, command)
+    if *command == "--help" || *command == "--version" {
+        return (Complaint::Together, "");
+    }
+    if is_operand(command) {
+        return (Complaint::Command, command);
+    }
+    (Complaint::Option, command)
 }
 
 // What is wrong with the words after a command, before or after the file was seen.
-fn operand_complaint<'a>(is_heap: bool, is_after: bool, operands: &[&'a str]) -> (Complaint, &'a str)
+fn operand_complaint<'a>(
+    is_heap: bool,
+    is_after: bool,
+    operands: &[&'a str],
+) -> (Complaint, &'a str)
     ensures found { IsOperandComplaint is_heap is_after (map (λ word. word.now) operands.now) result.0 result.1.now }
 {
     let Some((word, rest)) = operands.split_first() else {
@@ -174,14 +184,14 @@ fn is_known(is_heap: bool, word: &str) -> bool
 // What stands before the word.
 fn front_text(complaint: Complaint) -> &'static [u8]
     ensures text { result.now ≡ front_text complaint }
-    ensures short { length result.now ≤ 48 }
+    ensures short { length result.now ≤ 64 }
 {
     match complaint {
         Complaint::NoCommand => b"no command",
         Complaint::Command => b"unknown command ",
         Complaint::Option => b"unknown option ",
         Complaint::AfterFile => b"a word after the file: ",
-        Complaint::Together => b"an option is given twice, or beside --help",
+        Complaint::Together => b"an option is given twice, out of order, or beside --help",
     }
 }
 

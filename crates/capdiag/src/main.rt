@@ -69,7 +69,7 @@ fn answer_order(rt: &HostRuntime, order: Order<'_>) -> u8 {
 }
 
 // The file that an order names.
-fn file_of<'a>(order: Order<'a>) -> Option<&'a str> {
+pub(crate) fn file_of<'a>(order: Order<'a>) -> Option<&'a str> {
     match order {
         Order::Why { origins: _, file } => file,
         Order::Heap {
