@@ -43,6 +43,10 @@ ELSEWHERE = {
     "cc -Iinclude program.c judge/out/libcapcheck_judge.a crates/capcheck_c/out/libcapcheck_c.a -o program": "examples/emulator/check.sh, with other programs",
     "bash examples/emulator/check.sh": "the gate",
     "cc -O2 -shared -fPIC -Iinclude examples/allocator/livejudge.c judge/out/libcapcheck_judge.a crates/capcheck_c/out/libcapcheck_c.a -o livejudge.so -ldl -pthread": "examples/allocator/check.sh",
+    "cc -O2 -fno-builtin -fno-tree-loop-distribute-patterns -shared -fPIC -Iinclude examples/objects/objects.c crates/capcheck_c/out/libcapcheck_c.a -o objects.so -ldl -pthread": "examples/objects/check.sh",
+    "mkdir logs": "examples/objects/check.sh, for another program",
+    "CAP_LOGS=logs LD_PRELOAD=$PWD/objects.so git log -p": "examples/objects/check.sh, for another program",
+    "capdiag why logs/git.*.log": "examples/objects/check.sh, for another program",
     "sh install.sh /usr/local": "examples/emulator/installed.sh, into another folder",
     "cc program.c $(pkg-config --cflags --libs capcheck) -o program": "examples/emulator/installed.sh, with another program",
     "cc -Iinclude program.c crates/capcheck_c/out/libcapcheck_c.a -o program": "examples/emulator/check.sh, with another program",
@@ -309,7 +313,8 @@ def versions():
     number, version = int(re.search(r"CAPCHECK_VERSION (\d+)", header)[1]), re.search(r'VERSION_STRING "([^"]+)"', header)[1]
     if f"{number // 10000}.{number // 100 % 100}." != version[: version.rindex(".") + 1]:
         yield f"include/capcheck.h: CAPCHECK_VERSION is {number}, and the version as text {version}"
-    for path, form in (("docs/capcheck.1", r'"capcheck (\S+)"'), ("docs/capdiag.1", r'"capcheck (\S+)"'), ("CHANGELOG.md", r"(?m)^## (\d\S*)"), ("crates/capcheck_c/src/names.rt", r'VERSION: &str = "(\S+)"')):
+    for path, form in (("docs/capcheck.1", r'"capcheck (\S+)"'), ("docs/capdiag.1", r'"capcheck (\S+)"'), ("CHANGELOG.md", r"(?m)^## (\d\S*)"),
+                       ("crates/capcheck_c/src/names.rt", r'VERSION: &str = "(\S+)"'), ("crates/capdiag/src/showing.rt", r'"capdiag (\d[^\\]*)')):
         with open(path, encoding="utf-8") as it:
             found = re.search(form, it.read())
         if not found or found[1] != version:

@@ -24,6 +24,13 @@ told 'an allocator that rounds nothing' "$(judged one "$work/record.so $work/bum
 told 'an allocator that rounds' "$(judged two "$work/record.so $work/rounded.so" "$work/asks")" 'yes 6 0'
 # The shell's child ends by itself, so its log, which begins with that of its parent, is whole too.
 told 'a shell and its child' "$(judged three "$work/record.so $work/rounded.so" sh -c '(exit 0); :' | cut -d ' ' -f 1 | sort | uniq -c | tr -s ' ')" ' 2 yes'
+# It says why it records nothing. A program that changes its folder has its children recorded all the same.
+silent() { env "$@" LD_PRELOAD="$work/record.so" "$work/asks" 2>&1 > /dev/null | sed "s/[0-9][0-9]*\.log/N.log/"; }
+told 'no folder is named' "$(silent -u HEAP_LOGS)" 'record: HEAP_LOGS is not set: nothing is recorded'
+told 'the folder is missing' "$(silent HEAP_LOGS=/missing)" 'record: cannot write /missing/asks.N.log: nothing is recorded'
+mkdir "$work/four"
+(cd "$work" && HEAP_LOGS=four LD_PRELOAD=./record.so sh -c 'cd / && "$1"; :' sh "$work/asks" > /dev/null)
+told 'a program that changes its folder' "$(ls "$work/four" | cut -d . -f 1 | sort -u | tr '\n' ' ')" 'asks sh '
 # The judge inside malloc stops the program in its call, or lets it end.
 top=../..
 $cc -O2 -Wall -Wextra -shared -fPIC -I$top/include livejudge.c $top/judge/out/libcapcheck_judge.a $top/crates/capcheck_c/out/libcapcheck_c.a \

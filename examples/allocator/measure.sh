@@ -1,8 +1,9 @@
 #!/bin/sh
 # Records three programs over an allocator, and prints the figures of each log: measure.sh FOLDER [LIBRARY ..]
 #
-# A Python program, `git log -p` of the repository that this stands in, and a C++ compiler. FOLDER is made and gets the
-# logs; the libraries are preloaded behind the recorder, and without one the C library's allocator is measured.
+# A Python program, `git log -p` of the 645 commits of this project up to 26bd3c4, and a C++ compiler, three times each.
+# FOLDER is made and gets the logs; the libraries are preloaded after the recorder, and without one the C library's
+# allocator is measured.
 set -eu
 here=$(cd "$(dirname "$0")" && pwd)
 mkdir "$1"
@@ -30,7 +31,9 @@ END
 python=$(python3 -c 'import sys; print(sys.executable)')
 recorded() { env HEAP_LOGS="$logs" PYTHONMALLOC=malloc LD_PRELOAD="$preload" "$@" > /dev/null; }
 preload="$work/record.so $*"
-recorded "$python" -S -E "$work/task.py"
-recorded git -C "$here" --no-pager log -p
-recorded g++ -c -O0 "$work/task.cpp" -o /dev/null
+for run in 1 2 3; do
+    recorded "$python" -S -E "$work/task.py"
+    recorded git -C "$here" --no-pager log -p 26bd3c4
+    recorded g++ -c -O0 "$work/task.cpp" -o /dev/null
+done
 for name in python git cc1plus; do python3 "$here/figures.py" "$logs/$name"*.log; done

@@ -1,6 +1,7 @@
 #!/usr/bin/env python3
 """Runs both programs, and compares their status, their standard output and their line on standard error with what is
-worked by hand: for the rows of src/rows.rt in their crates, and where their input or their output fails.
+worked by hand: for the rows of src/rows.rt in their crates, for capdiag those of wrong.rows too, which are wrong logs and
+wrong words, and where their input or their output fails.
 
     python3 examples/program/check.py [PROGRAM..]
 
@@ -25,7 +26,7 @@ VECTOR = b"memory 00001ffffc0180040000000000000000 = 000000000000000000000000000
 PROGRAMS = {
     "capcheck": ("judge", SAID_NO, [["vectors", "file"], ["round", "0000000000000001", "0000000000001fff"],
                                     ["explain", "00001ffffc0180040000000000000000"]], ["judges"]),
-    "capdiag": ("why", SAID_NO + b"line end 1\nroots 0\nsteps 0\ngranules 0\n", [["heap"], ["heap", "--report", "log"]], ["judge"]),
+    "capdiag": ("why", SAID_NO + b"line end 1\nroots 0\nsteps 0\ngranules 0\nexpected end 0\n", [["heap"], ["heap", "--report", "log"]], ["judge"]),
 }
 
 
@@ -111,9 +112,15 @@ def rows(text):
     for row in text.split("\n\n"):
         lines = [it for it in row.split("\n") if it and it[0] != "#"]
         runs = [(int(it[0]), shlex.split(it[1:])) for it in lines if it[0].isdigit()]
-        parts = ["".join(f"{it[2:]}\n" for it in lines if it[0] == mark).encode() for mark in "|=!"]
+        out, err = ("".join(f"{it[2:]}\n" for it in lines if it[0] == mark).encode() for mark in "=!")
         if runs:
-            yield runs, *parts
+            yield runs, b"".join(given(it) for it in lines if it[0] in "|_"), out, err
+
+
+def given(line):
+    """The bytes of a line of input after `|`, or after `_` where it has no line feed. A backslash begins an escape."""
+    text = line[2:].encode("latin-1").decode("unicode_escape").encode("latin-1")
+    return text + b"\n" if line[0] == "|" else text
 
 
 def agrees(text, wanted):
@@ -125,6 +132,9 @@ def printed(room):
     """What is printed for the words and the input of each row."""
     with open(f"{ROOT}/crates/{room.program}/src/rows.rt", encoding="utf-8") as it:
         text = re.search(r'(?s)r#"\n(.*)"#;', it.read())[1]
+    if room.program == "capdiag":
+        with open(f"{ROOT}/examples/program/wrong.rows", encoding="utf-8") as it:
+            text += "\n\n" + it.read()
     for runs, given, out, err in rows(text):
         room.put("log", given)
         room.put("file", given)

@@ -1,4 +1,5 @@
 mod BeginningLemmas
+mod BehindLemmas
 mod Guarded
 mod Guarding
 mod JudgeLemmas

@@ -1,5 +1,5 @@
 -- What a progress stands for, and how it goes on.
-use Rattle.std.proofs.Common.{◌≡◌, ◌⊎◌, ℕ, ◌+◌, inl, inr, List, [], ◌∷◌, ◌++◌, length, map, append-nil, refl, sym, ap, subst, ◌∙◌, arith}
+use Rattle.std.proofs.Common.{◌≡◌, ◌⊎◌, ℕ, ◌+◌, inl, inr, List, [], ◌∷◌, ◌++◌, length, map, append-nil, codes, refl, sym, ap, subst, ◌∙◌, arith}
 use Rattle.std.proofs.Common.{Result, Ok, Err, OnOk, OnErr, IfErr}
 use Rattle.cap_bounds.specs.declared.decoding.Interval.{Interval}
 use Rattle.cap_heap.specs.declared.events.Event.{Event}
@@ -14,9 +14,9 @@ use Rattle.cap_heap.specs.declared.stage.Stage.TheVariants as stages
 use Rattle.cap_heap.specs.HeapLines.{IsInRange, Spells}
 use Rattle.cap_heap.specs.Objects.{no_objects}
 use Rattle.cap_heap.specs.HeapReports.{IsReportOf}
-use Rattle.cap_heap.specs.HeapWhys.{count_in}
+use Rattle.cap_heap.specs.HeapWhys.{count_in, due_text}
 use Rattle.cap_heap.specs.Heaps.{objects_in, live_in}
-use Rattle.cap_heap.specs.Beginnings.{Beginning, Nothing, Headed, Body, Whole, lines_of, body_lines, RefusesWhole}
+use Rattle.cap_heap.specs.Beginnings.{Beginning, Nothing, Headed, Body, Whole, lines_of, due_of, body_lines, RefusesWhole}
 use Rattle.cap_heap.specs.Progresses.{Reaches, StandsFor, Stays, Takes, EndsLine, EndsText, LacksMemory}
 use Rattle.cap_heap.proofs.RunLemmas.{Reaches-start, lines-push}
 
@@ -134,3 +134,15 @@ ends_within progress text line within spells (Err (Refused refusal)) told = λ b
 ends_within progress text line within spells (Err NoMemory) told = λ beginning stands.
     let here = body progress within beginning stands in
     subst (λ (b : Beginning). LacksMemory b text) here.is (line, spells, told here.root here.events here.reaches)
+
+-- which lines may come: a root once the header was read, and else others
+pub due_headed : (progress : Progress) (beginning : Beginning) → progress.stage ≡ stages.Headed → StandsFor progress beginning
+    → codes "root BASE TOP, the bounds of the heap" ≡ due_text (due_of beginning)
+due_headed progress beginning is stands = subst (λ (b : Beginning). codes "root BASE TOP, the bounds of the heap" ≡ due_text (due_of b)) (headed progress is beginning stands) refl
+
+pub due_other : (progress : Progress) (beginning : Beginning) → (progress.stage ≡ stages.Headed → ⊥) → StandsFor progress beginning
+    → codes "malloc, free or one end line, and nothing after it" ≡ due_text (due_of beginning)
+due_other progress Nothing other stands = refl
+due_other progress Headed other stands = absurd (other stands)
+due_other progress (Body root events) other stands = refl
+due_other progress (Whole root events) other stands = refl

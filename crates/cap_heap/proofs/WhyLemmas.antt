@@ -12,7 +12,7 @@ use Rattle.cap_heap.specs.declared.refusal.HeapRefusal.{HeapRefusal}
 use Rattle.cap_heap.specs.declared.refusal.HeapRefusal.TheVariants.{Misplaced, Truncated, WrongCount}
 use Rattle.cap_heap.specs.declared.refusal.HeapRefusal.TheVariants.{LimitPassed, OutsideHeap}
 use Rattle.cap_heap.specs.HeapLines.{Spells}
-use Rattle.cap_heap.specs.HeapWhys.{AreDetails, AreEventDetails, count_in, count_line}
+use Rattle.cap_heap.specs.HeapWhys.{AreDetails, AreEventDetails, count_in, counted_lines}
 use Rattle.cap_heap.specs.Objects.{Objects}
 
 -- at most 96 bytes are held of a text
@@ -45,8 +45,16 @@ other_details heap objects at size refusal other details differs is told =
 -- the details of a line whose refusal is decided by how many events there were
 pub count_details : (root : Interval) (events : List Event) (before due : List HeapLine) (text : List ℕ) (refusal : HeapRefusal) (details : List ℕ)
     → (refusal ≡ Misplaced) ⊎ ((refusal ≡ Truncated) ⊎ ((refusal ≡ WrongCount) ⊎ (refusal ≡ LimitPassed)))
-    → details ≡ count_line (count_in before) → AreDetails root events before due text refusal details
-count_details root events before due text refusal details (inl e) is = subst (λ (r : HeapRefusal). AreDetails root events before due text r details) (sym e) is
-count_details root events before due text refusal details (inr (inl e)) is = subst (λ (r : HeapRefusal). AreDetails root events before due text r details) (sym e) is
-count_details root events before due text refusal details (inr (inr (inl e))) is = subst (λ (r : HeapRefusal). AreDetails root events before due text r details) (sym e) is
-count_details root events before due text refusal details (inr (inr (inr e))) is = subst (λ (r : HeapRefusal). AreDetails root events before due text r details) (sym e) is
+    → details ≡ counted_lines due refusal (count_in before) → AreDetails root events before due text refusal details
+count_details root events before due text refusal details (inl e) is =
+    subst (λ (r : HeapRefusal). details ≡ counted_lines due r (count_in before) → AreDetails root events before due text r details) (sym e)
+    (λ same. same) is
+count_details root events before due text refusal details (inr (inl e)) is =
+    subst (λ (r : HeapRefusal). details ≡ counted_lines due r (count_in before) → AreDetails root events before due text r details) (sym e)
+    (λ same. same) is
+count_details root events before due text refusal details (inr (inr (inl e))) is =
+    subst (λ (r : HeapRefusal). details ≡ counted_lines due r (count_in before) → AreDetails root events before due text r details) (sym e)
+    (λ same. same) is
+count_details root events before due text refusal details (inr (inr (inr e))) is =
+    subst (λ (r : HeapRefusal). details ≡ counted_lines due r (count_in before) → AreDetails root events before due text r details) (sym e)
+    (λ same. same) is

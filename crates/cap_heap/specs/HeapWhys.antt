@@ -1,5 +1,5 @@
 -- The report of a no: the line that was refused, and what its tests saw (this profile's own, as are all below).
-use Rattle.std.specs.Prelude.{◌≡◌, ◌⊎◌, ℕ, ◌+◌, List, [], ◌∷◌, ◌++◌, take, fold, Option, Some, None, MatchOption, codes, decimal}
+use Rattle.std.specs.Prelude.{◌≡◌, ◌⊎◌, ℕ, ◌+◌, Bool, ◌&&◌, nat_lt, if◌then◌else◌, List, [], ◌∷◌, ◌++◌, take, fold, Option, Some, None, MatchOption, codes, decimal}
 use Rattle.cap_word.specs.Digits.{hex_digits}
 use Rattle.cap_bounds.specs.declared.decoding.Interval.{Interval}
 use Rattle.cap_bounds.specs.Rounding.{rounded_base, rounded_top, alignment_of}
@@ -10,10 +10,11 @@ use Rattle.cap_texts.specs.TextLines.{text_line}
 use Rattle.cap_heap.specs.declared.events.Event.{Event}
 use Rattle.cap_heap.specs.declared.events.Event.TheVariants.{Malloc, Free}
 use Rattle.cap_heap.specs.declared.lines.HeapLine.{HeapLine}
-use Rattle.cap_heap.specs.declared.lines.HeapLine.TheVariants.{Happens, End}
+use Rattle.cap_heap.specs.declared.lines.HeapLine.TheVariants.{Happens, End, Root}
 use Rattle.cap_heap.specs.declared.refusal.HeapRefusal.{HeapRefusal}
 use Rattle.cap_heap.specs.declared.refusal.HeapRefusal.TheVariants.{BadHeader, LineTooLong, BadLine, Misplaced, Truncated, WrongCount}
 use Rattle.cap_heap.specs.declared.refusal.HeapRefusal.TheVariants.{LimitPassed, OutsideHeap}
+use Rattle.cap_heap.specs.BadLines.{AreBadLines, AreFirstLines}
 use Rattle.cap_heap.specs.HeapLines.{Spells}
 use Rattle.cap_heap.specs.Objects.{Objects, no_objects, Shares, LieApart}
 use Rattle.cap_heap.specs.Events.{after}
@@ -37,8 +38,25 @@ live_lines (Some entry) = request_lines (codes "live ") entry.0 entry.1
 unfoldable pub right_lines : ℕ → List ℕ
 right_lines size = text_line (codes "length") (hex_digits 17 (rounded_top 0 size)) ++ text_line (codes "alignment") (hex_digits 17 (alignment_of size))
 
+-- the two requests themselves have an address in common
+abbrev pub share_bytes : ℕ → ℕ → ℕ × ℕ → Bool
+share_bytes at size entry = nat_lt at (entry.0 + entry.1) && nat_lt entry.0 (at + size)
+
+-- the length that would be right for the live object, and what its address would be a multiple of
+unfoldable pub live_right_lines : ℕ → List ℕ
+live_right_lines size =
+    text_line (codes "live length") (hex_digits 17 (rounded_top 0 size)) ++ text_line (codes "live alignment") (hex_digits 17 (alignment_of size))
+
+-- what would keep a request apart from the live object: that its bounds are exact too; or nothing, where both share bytes
+abbrev pub apart_lines : ℕ → ℕ → Option (ℕ × ℕ) → List ℕ
+apart_lines at size None = []
+apart_lines at size (Some entry) =
+    if share_bytes at size entry
+    then text_line (codes "hint") (codes "the two objects share bytes: no bounds keep them apart")
+    else live_right_lines entry.1
+
 -- what is told of an event that is refused among these objects: of a request its bounds, of one outside the heap the heap's, of another a
--- live object that has an address in common with it, where one has
+-- live object that has an address in common with it, where one has, and what would keep the two apart
 abbrev pub AreEventDetails : Interval → Objects → Event → HeapRefusal → List ℕ → Type 0
 AreEventDetails heap objects (Free at) refusal details = details ≡ []
 AreEventDetails heap objects (Malloc at size) OutsideHeap details =
@@ -47,7 +65,7 @@ AreEventDetails heap objects (Malloc at size) refusal details =
     (found : Option (ℕ × ℕ))
     × MatchOption found ((other length : ℕ) → objects other ≡ Some length → LieApart at size other length)
     (λ entry. Shares rounded_base rounded_top objects at size entry.0 entry.1)
-    × (details ≡ request_lines [] at size ++ live_lines found ++ right_lines size)
+    × (details ≡ request_lines [] at size ++ live_lines found ++ right_lines size ++ apart_lines at size found)
 
 -- how many of these lines are events
 abbrev pub count_in : List HeapLine → ℕ
@@ -55,16 +73,33 @@ count_in [] = 0
 count_in (Happens event ∷ lines) = count_in lines + 1
 count_in (line ∷ lines) = count_in lines
 
--- what is told of a line after these events, for its refusal, where these lines come before it and a log goes on with other lines: nothing
--- where it has no form, how many events come before it where that decides, and otherwise what is told of its event
+-- which lines may come, where a log goes on with these
+abbrev pub due_text : List HeapLine → List ℕ
+due_text (Root bounds ∷ later) = codes "root BASE TOP, the bounds of the heap"
+due_text due = codes "malloc, free or one end line, and nothing after it"
+
+-- what has to come, after so many events
+abbrev pub due_line : List HeapLine → HeapRefusal → ℕ → List ℕ
+due_line due Misplaced count = text_line (codes "expected") (due_text due)
+due_line due Truncated count = text_line (codes "expected") (codes "an end line, and a line feed after each line")
+due_line due WrongCount count = text_line (codes "expected end") (decimal count)
+due_line due refusal count = []
+
+-- how many events there were, and what has to come
+abbrev pub counted_lines : List HeapLine → HeapRefusal → ℕ → List ℕ
+counted_lines due refusal count = count_line count ++ due_line due refusal count
+
+-- what is told of a line after these events, for its refusal, where these lines come before it and a log goes on with other lines: what is
+-- expected where it has no form, how many events come before it where that decides, and otherwise what is told of its event
 abbrev pub AreDetails : Interval → List Event → List HeapLine → List HeapLine → List ℕ → HeapRefusal → List ℕ → Type 0
-AreDetails root events before due text BadHeader details = details ≡ []
-AreDetails root events before due text LineTooLong details = details ≡ []
-AreDetails root events before due text BadLine details = details ≡ []
-AreDetails root events before due text Misplaced details = details ≡ count_line (count_in before)
-AreDetails root events before due text Truncated details = details ≡ count_line (count_in before)
-AreDetails root events before due text WrongCount details = details ≡ count_line (count_in before)
-AreDetails root events before due text LimitPassed details = details ≡ count_line (count_in before)
+AreDetails root events before due text BadHeader details = AreFirstLines text details
+AreDetails root events before due text LineTooLong details =
+    details ≡ text_line (codes "expected") (codes "a line feed after at most 95 bytes")
+AreDetails root events before due text BadLine details = AreBadLines text details
+AreDetails root events before due text Misplaced details = details ≡ counted_lines due Misplaced (count_in before)
+AreDetails root events before due text Truncated details = details ≡ counted_lines due Truncated (count_in before)
+AreDetails root events before due text WrongCount details = details ≡ counted_lines due WrongCount (count_in before)
+AreDetails root events before due text LimitPassed details = details ≡ counted_lines due LimitPassed (count_in before)
 AreDetails root events before (End count ∷ later) text refusal details =
     ((event : Event) × Spells text (Happens event) × AreEventDetails root (fold after no_objects events) event refusal details)
     ⊎ (((event : Event) → Spells text (Happens event) → ⊥) × (details ≡ []))

@@ -15,3 +15,4 @@ pub mod RefusedLines
 pub mod Refusals
 pub mod Texts
 pub mod VerdictLines
+pub mod BadLines

@@ -7,6 +7,7 @@
 //! [`judge_heap_why`] after a `no` what the checks of the refused line compared.
 #![tactic(auto)]
 
+mod bad_lines;
 mod events;
 mod heap;
 mod judging;

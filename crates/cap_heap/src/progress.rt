@@ -6,7 +6,7 @@ ghost use Rattle.cap_heap.specs.declared.events.Event.{Event};
 ghost use Rattle.cap_heap.specs.declared.lines.HeapLine.TheVariants.{Happens, End};
 ghost use Rattle.cap_heap.specs.declared.stage.Stage.TheVariants as stages;
 ghost use Rattle.cap_heap.specs.HeapLines.{IsInRange};
-ghost use Rattle.cap_heap.specs.Beginnings.{Beginning, lines_of};
+ghost use Rattle.cap_heap.specs.Beginnings.{Beginning, due_of, lines_of};
 
 use crate::events::{Event, EventEnd};
 use crate::heap::Heap;
@@ -33,7 +33,8 @@ pub(crate) struct Progress {
 
 impl Progress {
     ghost use Rattle.cap_heap.specs.Progresses.{EndsLine, EndsText, Reaches, StandsFor, Stays, Takes, TakesText};
-    ghost use Rattle.cap_heap.specs.HeapWhys.{count_in};
+    ghost use Rattle.std.specs.Prelude.{◌≤◌, length};
+    ghost use Rattle.cap_heap.specs.HeapWhys.{count_in, due_text};
 
     /// Nothing was read.
     pub fn new(alloc: Global) -> Progress
@@ -56,6 +57,19 @@ impl Progress {
         match self.stage {
             Stage::Start | Stage::Headed => 0,
             Stage::Within | Stage::Ended => self.events,
+        }
+    }
+
+    /// Which lines may come.
+    #[tactic(auto, using(crate::proofs::ProgressLemmas::due_headed, crate::proofs::ProgressLemmas::due_other))]
+    pub fn due_text(&self) -> &'static [u8]
+        ensures value { (beginning : Beginning) → StandsFor self.now beginning → result.now ≡ due_text (due_of beginning) }
+        ensures short { length result.now ≤ 64 }
+    {
+        if self.stage == Stage::Headed {
+            b"root BASE TOP, the bounds of the heap"
+        } else {
+            b"malloc, free or one end line, and nothing after it"
         }
     }
 

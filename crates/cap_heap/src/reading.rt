@@ -48,9 +48,9 @@ pub(crate) fn is_header(text: &[u8]) -> bool
     text == b"heap 1".as_slice()
 }
 
-// What follows a text at the front of some bytes, or `None` where it does not stand there.
+/// What follows a text at the front of some bytes, or `None` where it does not stand there.
 #[inline(always)]
-fn behind<'a, const N: usize>(bytes: &'a [u8], front: &[u8; N]) -> Option<&'a [u8]>
+pub(crate) fn behind<'a, const N: usize>(bytes: &'a [u8], front: &[u8; N]) -> Option<&'a [u8]>
     ensures some { IfSome result (λ rest. bytes.now ≡ front.now ++ rest.now) }
     ensures none { IfNone result ((rest : List ℕ) → bytes.now ≡ front.now ++ rest → ⊥) }
 {

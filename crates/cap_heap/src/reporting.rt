@@ -141,7 +141,7 @@ fn push_no<K: Sink>(
         × (n : ℕ) × K.took sink.old sink.new (take n (heap_line verdict.now ++ report))) }
     ensures counted { CountsFault (K.faults sink.old) (K.faults sink.new) result }
 {
-    let mut text = [0u8; 1024];
+    let mut text = [0u8; 1280];
     let mut front = [0u8; 64];
     let length = heap_text(verdict, &mut front);
     let at = put(&mut text, 0, &front[..length]);

@@ -1,13 +1,14 @@
 //! The diagnosis: the line that was refused, and what its checks compared.
 
-ghost use Rattle.std.specs.Prelude.{ℕ, List, ◌+◌, ◌≤◌, length};
+ghost use Rattle.std.specs.Prelude.{◌≡◌, ℕ, List, ◌+◌, ◌≤◌, length};
 ghost use Rattle.cap_log.specs.Parts.{Writes};
 ghost use Rattle.cap_heap.specs.Heaps.{objects_in};
-ghost use Rattle.cap_heap.specs.Beginnings.{AreDetailsBehind, Beginning};
-ghost use Rattle.cap_heap.specs.HeapWhys.{AreEventDetails, count_line, live_lines, request_lines, right_lines};
+ghost use Rattle.cap_heap.specs.Beginnings.{AreDetailsBehind, Beginning, due_of, lines_of};
+ghost use Rattle.cap_heap.specs.HeapWhys.{AreEventDetails, apart_lines, count_in, count_line, counted_lines, due_line, live_lines, live_right_lines, request_lines, right_lines, share_bytes};
 ghost use Rattle.cap_heap.specs.Progresses.{AreEventDetailsIn, StandsFor};
 ghost use Rattle.cap_heap.specs.declared.events.Event.TheVariants.{Malloc};
 
+use crate::bad_lines::{put_bad_header, put_bad_line};
 use crate::events::Event;
 use crate::heap::Heap;
 use crate::progress::Progress;
@@ -17,7 +18,7 @@ use crate::report::alignment;
 use crate::stage::Stage;
 use cap_bounds::{Interval, round, round_length};
 use cap_texts::cap_lines::put_bounds_line;
-use cap_texts::text_lines::{put_decimal_line, put_hex_line};
+use cap_texts::text_lines::{put_decimal_line, put_hex_line, put_line};
 
 /// Writes what is told of a line that was refused at an index of the buffer, and returns the index after it. The
 /// progress is as it was before the line.
@@ -28,22 +29,76 @@ pub(crate) fn put_details(
     buffer: &mut [u8],
     at: usize,
 ) -> usize
-    requires room { at + 384 ≤ length buffer.old }
+    requires few { length text.now ≤ 96 }
+    requires room { at + 768 ≤ length buffer.old }
     ensures fits { result ≤ length buffer.old }
     ensures written { (details : List ℕ)
         × ((beginning : Beginning) → StandsFor progress.now beginning → AreDetailsBehind beginning text.now refusal details)
         × Writes at details buffer.old buffer.new result }
 {
     match refusal {
-        HeapRefusal::BadHeader | HeapRefusal::LineTooLong | HeapRefusal::BadLine => at,
+        HeapRefusal::BadHeader => put_bad_header(buffer, at, text),
+        HeapRefusal::LineTooLong => put_line(
+            buffer,
+            at,
+            b"expected",
+            b"a line feed after at most 95 bytes",
+        ),
+        HeapRefusal::BadLine => put_bad_line(buffer, at, text),
         HeapRefusal::Misplaced
         | HeapRefusal::Truncated
         | HeapRefusal::WrongCount
-        | HeapRefusal::LimitPassed => put_count_line(progress.count(), buffer, at),
+        | HeapRefusal::LimitPassed => put_counted_lines(progress, refusal, buffer, at),
         _ => match progress.stage {
             Stage::Within => put_event_lines(&progress.heap, text, refusal, buffer, at),
             _ => at,
         },
+    }
+}
+
+// Writes how many events there were, and what has to come.
+fn put_counted_lines(
+    progress: &Progress,
+    refusal: HeapRefusal,
+    buffer: &mut [u8],
+    at: usize,
+) -> usize
+    requires room { at + 256 ≤ length buffer.old }
+    ensures written { (lines : List ℕ)
+        × ((beginning : Beginning) → StandsFor progress.now beginning
+        → lines ≡ counted_lines (due_of beginning) refusal (count_in (lines_of beginning)))
+        × Writes at lines buffer.old buffer.new result }
+    ensures fits { result ≤ at + 256 }
+{
+    let count = progress.count();
+    let at = put_count_line(count, buffer, at);
+    put_due_line(progress, refusal, count, buffer, at)
+}
+
+// Writes what has to come, after so many events.
+fn put_due_line(
+    progress: &Progress,
+    refusal: HeapRefusal,
+    count: u32,
+    buffer: &mut [u8],
+    at: usize,
+) -> usize
+    requires room { at + 128 ≤ length buffer.old }
+    ensures written { (line : List ℕ)
+        × ((beginning : Beginning) → StandsFor progress.now beginning → line ≡ due_line (due_of beginning) refusal count)
+        × Writes at line buffer.old buffer.new result }
+    ensures fits { result ≤ at + 128 }
+{
+    match refusal {
+        HeapRefusal::Misplaced => put_line(buffer, at, b"expected", progress.due_text()),
+        HeapRefusal::Truncated => put_line(
+            buffer,
+            at,
+            b"expected",
+            b"an end line, and a line feed after each line",
+        ),
+        HeapRefusal::WrongCount => put_decimal_line(buffer, at, b"expected end", u64::from(count)),
+        _ => at,
     }
 }
 
@@ -102,8 +157,10 @@ fn put_malloc_lines(
             put_right_lines(buffer, at, size)
         }
         _ => {
-            let at = put_live_lines(buffer, at, heap.overlapped(address, size));
-            put_right_lines(buffer, at, size)
+            let found = heap.overlapped(address, size);
+            let at = put_live_lines(buffer, at, found);
+            let at = put_right_lines(buffer, at, size);
+            put_apart_lines(buffer, at, address, size, found)
         }
     }
 }
@@ -150,4 +207,52 @@ fn put_right_lines(buffer: &mut [u8], at: usize, size: u64) -> usize
 {
     let at = put_hex_line(buffer, at, b"length", 17, round_length(size));
     put_hex_line(buffer, at, b"alignment", 17, alignment(size))
+}
+
+// Writes what would keep a request apart from a live object, where there is one.
+fn put_apart_lines(
+    buffer: &mut [u8],
+    at: usize,
+    address: u64,
+    size: u64,
+    found: Option<(u64, u64)>,
+) -> usize
+    requires { at + 80 ≤ length buffer.old }
+    ensures written { Writes at (apart_lines address size found) buffer.old buffer.new result }
+    ensures fits { result ≤ at + 80 }
+{
+    match found {
+        Some((other, length)) => {
+            if share_bytes(address, size, other, length) {
+                put_line(
+                    buffer,
+                    at,
+                    b"hint",
+                    b"the two objects share bytes: no bounds keep them apart",
+                )
+            } else {
+                put_live_right_lines(buffer, at, length)
+            }
+        }
+        None => at,
+    }
+}
+
+// Whether two requests themselves have an address in common.
+fn share_bytes(address: u64, size: u64, other: u64, length: u64) -> bool
+    ensures { result ≡ share_bytes address size (other, length) }
+{
+    u128::from(address) < u128::from(other) + u128::from(length)
+        && u128::from(other) < u128::from(address) + u128::from(size)
+}
+
+// Writes the length that would be right for a live object, and what its address would be a multiple of.
+#[tactic(auto, unfolding(crate::specs::HeapWhys::live_right_lines))]
+fn put_live_right_lines(buffer: &mut [u8], at: usize, size: u64) -> usize
+    requires { at + 80 ≤ length buffer.old }
+    ensures written { Writes at (live_right_lines size) buffer.old buffer.new result }
+    ensures fits { result ≤ at + 80 }
+{
+    let at = put_hex_line(buffer, at, b"live length", 17, round_length(size));
+    put_hex_line(buffer, at, b"live alignment", 17, alignment(size))
 }

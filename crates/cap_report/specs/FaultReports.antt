@@ -16,6 +16,8 @@ use Rattle.cap_texts.specs.TextLines.{text_line}
 use Rattle.cap_log.specs.Front.{IsFrontText}
 use Rattle.cap_texts.specs.ShownBytes.{shown_line}
 use Rattle.cap_texts.specs.CapLines.{cap_lines, operand_lines}
+use Rattle.cap_texts.specs.WrongLines.{header_lines}
+use Rattle.cap_report.specs.BadLines.{AreBadLines, AreFirstLines}
 use Rattle.cap_report.specs.StepLines.{step_lines}
 use Rattle.cap_judge.specs.Judgings.{account_before}
 
@@ -25,6 +27,13 @@ count_lines account =
     text_line (codes "roots") (decimal account.roots)
     ++ text_line (codes "steps") (decimal account.steps)
     ++ text_line (codes "granules") (decimal account.granules)
+
+-- what has to come, where that is decided by how much was taken
+abbrev pub due_line : Account → Refusal → List ℕ
+due_line account Misplaced = text_line (codes "expected") (codes "roots before steps, one end line, and nothing after it")
+due_line account Truncated = text_line (codes "expected") (codes "an end line, and a line feed after each line")
+due_line account WrongCount = text_line (codes "expected end") (decimal account.steps)
+due_line account refusal = []
 
 -- a root: what its place holds already, with the root of that, or what its word stands for, with its length
 abbrev pub root_lines : Account → Place → Word → Refusal → List ℕ
@@ -39,17 +48,17 @@ known_lines account (lines.Root place word) refusal = root_lines account place w
 known_lines account (lines.Step step) refusal = step_lines account step refusal
 known_lines account line refusal = []
 
--- what is told of a line for its refusal, after what was taken before it: nothing where it has no form; how much was taken where that
--- decides; and otherwise what its checks saw
+-- what is told of a line for its refusal, after what was taken before it: what is expected if it has no form; how much
+-- was taken if that decides; and otherwise what its checks saw
 abbrev pub AreDetails : Account → List ℕ → Refusal → List ℕ → Type 0
-AreDetails account text BadHeader details = details ≡ []
-AreDetails account text LineTooLong details = details ≡ []
-AreDetails account text BadLine details = details ≡ []
-AreDetails account text BadMode details = details ≡ []
-AreDetails account text Misplaced details = details ≡ count_lines account
-AreDetails account text Truncated details = details ≡ count_lines account
-AreDetails account text WrongCount details = details ≡ count_lines account
-AreDetails account text LimitPassed details = details ≡ count_lines account
+AreDetails account text BadHeader details = AreFirstLines text details
+AreDetails account text LineTooLong details = details ≡ text_line (codes "expected") (codes "a line feed after at most 95 bytes")
+AreDetails account text BadLine details = AreBadLines text details
+AreDetails account text BadMode details = details ≡ header_lines text (codes "mode strict or mode clear")
+AreDetails account text Misplaced details = details ≡ count_lines account ++ due_line account Misplaced
+AreDetails account text Truncated details = details ≡ count_lines account ++ due_line account Truncated
+AreDetails account text WrongCount details = details ≡ count_lines account ++ due_line account WrongCount
+AreDetails account text LimitPassed details = details ≡ count_lines account ++ due_line account LimitPassed
 AreDetails account text refusal details =
     ((line : Line) × SpellsBy account.rules text line × (details ≡ known_lines account line refusal))
     ⊎ (((line : Line) → SpellsBy account.rules text line → ⊥) × (details ≡ []))

@@ -1,4 +1,5 @@
 pub mod Answers
+pub mod BadLines
 pub mod FaultReports
 pub mod Parts
 pub mod Sinks

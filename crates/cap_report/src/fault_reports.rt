@@ -1,13 +1,14 @@
 //! The report of a first fault: the line, and what the machine held before it.
 
-ghost use Rattle.std.specs.Prelude.{◌≡◌, ℕ, List, ◌+◌, ◌≤◌, length};
+ghost use Rattle.std.specs.Prelude.{◌≡◌, ℕ, List, ◌+◌, ◌++◌, ◌≤◌, length};
 ghost use Rattle.cap_machine.specs.Helds.{account_of};
 ghost use Rattle.cap_log.specs.Lines.{IsPlace};
 ghost use Rattle.cap_log.specs.Parts.{Writes};
 ghost use Rattle.cap_bounds.specs.Bounds.{length_of};
 ghost use Rattle.cap_judge.specs.FaultLines.{bytes_of};
-ghost use Rattle.cap_report.specs.FaultReports.{AreDetails, IsLineReport, count_lines, root_lines};
+ghost use Rattle.cap_report.specs.FaultReports.{AreDetails, IsLineReport, count_lines, due_line, root_lines};
 
+use crate::bad_lines::{put_bad_header, put_bad_line};
 use crate::step_lines::put_step_lines;
 use cap_bounds::mantissa;
 use cap_judge::FaultLine;
@@ -15,7 +16,8 @@ use cap_log::{Line, Place, read_line};
 use cap_machine::{Machine, Refusal};
 use cap_texts::cap_lines::{put_cap_lines, put_operand_lines};
 use cap_texts::shown_bytes::put_shown_line;
-use cap_texts::text_lines::{put_decimal_line, put_hex_line};
+use cap_texts::text_lines::{put_decimal_line, put_hex_line, put_line};
+use cap_texts::wrong_lines::put_header_lines;
 use cap_word::{Cap, Word, split};
 use tagmem::TaggedStore;
 
@@ -47,6 +49,7 @@ fn put_details<M: TaggedStore>(
     buffer: &mut [u8],
     at: usize,
 ) -> usize
+    requires few { length text.now ≤ 96 }
     requires room { at + 2560 ≤ length buffer.old }
     ensures fits { result ≤ at + 2560 }
     ensures written { (details : List ℕ)
@@ -54,9 +57,17 @@ fn put_details<M: TaggedStore>(
         × Writes at details buffer.old buffer.new result }
 {
     match refusal {
-        Refusal::BadHeader | Refusal::LineTooLong | Refusal::BadLine | Refusal::BadMode => at,
+        Refusal::BadHeader => put_bad_header(buffer, at, text),
+        Refusal::LineTooLong => put_line(
+            buffer,
+            at,
+            b"expected",
+            b"a line feed after at most 95 bytes",
+        ),
+        Refusal::BadLine => put_bad_line(buffer, at, text),
+        Refusal::BadMode => put_header_lines(buffer, at, text, b"mode strict or mode clear"),
         Refusal::Misplaced | Refusal::Truncated | Refusal::WrongCount | Refusal::LimitPassed => {
-            put_count_lines(machine, buffer, at)
+            put_counted_lines(machine, refusal, buffer, at)
         }
         _ => match read_line(text) {
             Some(line) => match line {
@@ -70,6 +81,52 @@ fn put_details<M: TaggedStore>(
             },
             None => at,
         },
+    }
+}
+
+// Writes the counts of what was taken so far, and what has to come then.
+fn put_counted_lines<M: TaggedStore>(
+    machine: &Machine<M>,
+    refusal: Refusal,
+    buffer: &mut [u8],
+    at: usize,
+) -> usize
+    requires room { at + 512 ≤ length buffer.old }
+    ensures written { Writes at (count_lines (account_of machine.now) ++ due_line (account_of machine.now) refusal) buffer.old buffer.new result }
+    ensures fits { result ≤ at + 256 }
+{
+    let at = put_count_lines(machine, buffer, at);
+    put_due_line(machine, refusal, buffer, at)
+}
+
+// Writes what has to come.
+fn put_due_line<M: TaggedStore>(
+    machine: &Machine<M>,
+    refusal: Refusal,
+    buffer: &mut [u8],
+    at: usize,
+) -> usize
+    requires room { at + 128 ≤ length buffer.old }
+    ensures written { Writes at (due_line (account_of machine.now) refusal) buffer.old buffer.new result }
+    ensures fits { result ≤ at + 128 }
+{
+    match refusal {
+        Refusal::Misplaced => put_line(
+            buffer,
+            at,
+            b"expected",
+            b"roots before steps, one end line, and nothing after it",
+        ),
+        Refusal::Truncated => put_line(
+            buffer,
+            at,
+            b"expected",
+            b"an end line, and a line feed after each line",
+        ),
+        Refusal::WrongCount => {
+            put_decimal_line(buffer, at, b"expected end", u64::from(machine.steps()))
+        }
+        _ => at,
     }
 }
 

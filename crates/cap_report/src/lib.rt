@@ -10,6 +10,7 @@
 #![tactic(auto)]
 
 pub mod answers;
+mod bad_lines;
 mod explaining;
 mod fault_reports;
 mod operands;

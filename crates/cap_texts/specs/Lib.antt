@@ -1,5 +1,7 @@
 pub mod TextLines
+pub mod WrongLines
 pub mod RoundLines
 pub mod ExplainLines
+pub mod Fields
 pub mod ShownBytes
 pub mod CapLines

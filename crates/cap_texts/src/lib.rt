@@ -4,9 +4,11 @@
 
 pub mod cap_lines;
 mod explain_lines;
+pub mod fields;
 mod round_lines;
 pub mod shown_bytes;
 pub mod text_lines;
+pub mod wrong_lines;
 
 pub use crate::explain_lines::{explain_text, memory_text};
 pub use crate::round_lines::round_text;

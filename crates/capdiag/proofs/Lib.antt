@@ -1,2 +1,3 @@
+mod ComplaintLemmas
 mod HeapLemmas
 mod RunLemmas

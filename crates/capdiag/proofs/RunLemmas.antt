@@ -12,10 +12,10 @@ use Rattle.cap_program.specs.declared.faults.Fault.{Fault}
 use Rattle.cap_program.specs.declared.faults.Fault.TheVariants.{BadWords, BadWord, BadRequest, Read, Write, NoMemory}
 use Rattle.cap_program.specs.Commands.{IsMeant}
 use Rattle.cap_program.specs.Faults.{status_of}
-use Rattle.cap_status.proofs.Judgements.{begins_nothing, tells_known, verdict_few}
+use Rattle.cap_status.proofs.Judgements.{tells_known, verdict_few}
 use Rattle.capdiag.specs.declared.words.Order.{Order}
-use Rattle.capdiag.specs.declared.words.Order.TheVariants.{Why, Heap}
-use Rattle.capdiag.proofs.HeapLemmas.{heap_few, heap_known, nothing_begins}
+use Rattle.capdiag.specs.declared.words.Order.TheVariants.{Help, Version, Why, Heap}
+use Rattle.capdiag.proofs.HeapLemmas.{heap_few, heap_known}
 use Rattle.capdiag.specs.Answers.{Fails, IsFaulty, Prints, Shows, order_meaning}
 
 -- a text for all bytes given, with the report of a no
@@ -46,6 +46,8 @@ shows_known : (order : Option Order) (left rest : Option (List ℕ)) (given : Li
     → Consumes left rest given → (ended ≡ true → (xs : List ℕ) → rest ≡ Some xs → xs ≡ [])
     → Shows order given ended text status → Prints order left text status
 shows_known None left rest given ended text status gives all shows = absurd shows
+shows_known (Some Help) left rest given ended text status gives all shows = shows
+shows_known (Some Version) left rest given ended text status gives all shows = shows
 shows_known (Some (Why origins file)) None rest given ended text status gives all shows =
     let both = verdict_known origins given given [] ended shows.0 text (sym (append-nil given)) (λ e. refl) shows.1 shows.2 in
     (given, tt, shows.0, both.0, both.1, shows.3)
@@ -63,6 +65,8 @@ shows_known (Some (Heap report why file)) (Some known) (Some xs) given ended tex
 few : (order : Option Order) (given : List ℕ) (ended : Bool) (text : List ℕ) (status : ℕ) → Shows order given ended text status
     → status ≤ 1
 few None given ended text status shows = absurd shows
+few (Some Help) given ended text status shows = let is = shows.1 in omega arith
+few (Some Version) given ended text status shows = let is = shows.1 in omega arith
 few (Some (Why origins file)) given ended text status shows = let is = shows.3 in let at = verdict_few shows.0 in omega arith
 few (Some (Heap report why file)) given ended text status shows = let is = shows.3 in let at = heap_few shows.0 in omega arith
 
@@ -81,6 +85,18 @@ asked_fault None given BadRequest fails = absurd fails
 asked_fault None given Read fails = absurd fails
 asked_fault None given Write fails = absurd fails
 asked_fault None given NoMemory fails = absurd fails
+asked_fault (Some Help) given BadWords fails = absurd fails
+asked_fault (Some Help) given BadWord fails = absurd fails
+asked_fault (Some Help) given BadRequest fails = absurd fails
+asked_fault (Some Help) given Read fails = absurd fails
+asked_fault (Some Help) given Write fails = absurd fails
+asked_fault (Some Help) given NoMemory fails = absurd fails
+asked_fault (Some Version) given BadWords fails = absurd fails
+asked_fault (Some Version) given BadWord fails = absurd fails
+asked_fault (Some Version) given BadRequest fails = absurd fails
+asked_fault (Some Version) given Read fails = absurd fails
+asked_fault (Some Version) given Write fails = absurd fails
+asked_fault (Some Version) given NoMemory fails = absurd fails
 asked_fault (Some (Why origins file)) given Read fails = (λ two. absurd (cc), λ faulty. absurd faulty)
 asked_fault (Some (Why origins file)) given NoMemory fails = (λ two. absurd (cc), λ faulty. absurd faulty)
 asked_fault (Some (Why origins file)) given BadWords fails = absurd fails
@@ -102,8 +118,3 @@ orders_meant = record {
   unfaulty = unfaulty;
   asked = asked_fault;
 }
-
--- where nothing is read, that is the fault
-pub fails_nothing : (order : Order) → Fails (Some order) [] Read
-fails_nothing (Why origins file) = begins_nothing
-fails_nothing (Heap report why file) = nothing_begins

@@ -8,13 +8,16 @@ use Rattle.cap_program.specs.declared.faults.Fault.{Fault}
 use Rattle.cap_program.specs.declared.faults.Fault.TheVariants.{BadWords}
 use Rattle.cap_status.specs.Judging.{ShowsVerdict, StopsJudging, verdict_status}
 use Rattle.capdiag.specs.declared.words.Order.{Order}
-use Rattle.capdiag.specs.declared.words.Order.TheVariants.{Why, Heap}
+use Rattle.capdiag.specs.declared.words.Order.TheVariants.{Help, Version, Why, Heap}
 use Rattle.capdiag.specs.Heaps.{ShowsHeap, StopsHeap}
+use Rattle.capdiag.specs.Showings.{help_text, version_line}
 
 -- the text that an order prints, and its status: that of the verdict on its bytes, with the report of a no and the origins that are asked
 -- for; or that of the verdict on them as an allocator's log, with the reports that are asked for
 abbrev pub Prints : Option Order → Option (List ℕ) → List ℕ → ℕ → Type 0
 Prints None input text status = ⊥
+Prints (Some Help) input text status = (text ≡ help_text) × (status ≡ 0)
+Prints (Some Version) input text status = (text ≡ version_line) × (status ≡ 0)
 Prints (Some (Why origins file)) input text status =
     (bytes : List ℕ) × IfSome input (λ known. known ≡ bytes)
     × (verdict : Verdict) × IsVerdict bytes verdict × Explains origins bytes true verdict text × (status ≡ verdict_status verdict)
@@ -26,14 +29,17 @@ abbrev pub IsFaulty : Option Order → Type 0
 IsFaulty None = Unit {0}
 IsFaulty (Some order) = ⊥
 
--- an order that reads an input: each does
+-- an order that reads an input: each that judges
 abbrev pub ReadsInput : Option Order → Type 0
-ReadsInput None = ⊥
-ReadsInput (Some order) = Unit {0}
+ReadsInput (Some (Why origins file)) = Unit {0}
+ReadsInput (Some (Heap report why file)) = Unit {0}
+ReadsInput order = ⊥
 
 -- the text that belongs to an order and the bytes given for it, and its status
 abbrev pub Shows : Option Order → List ℕ → Bool → List ℕ → ℕ → Type 0
 Shows None given ended text status = ⊥
+Shows (Some Help) given ended text status = (text ≡ help_text) × (status ≡ 0)
+Shows (Some Version) given ended text status = (text ≡ version_line) × (status ≡ 0)
 Shows (Some (Why origins file)) given ended text status = ShowsVerdict (Explains origins given ended) given ended text status
 Shows (Some (Heap report why file)) given ended text status = ShowsHeap report why given ended text status
 

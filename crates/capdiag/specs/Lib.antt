@@ -1,3 +1,5 @@
+pub mod Complaints
+pub mod Showings
 pub mod Orders
 pub mod Heaps
 pub mod Answers

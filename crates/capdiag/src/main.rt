@@ -2,15 +2,18 @@
 //! Also judges the log of an allocator: whether capabilities can guard its objects.
 #![tactic(auto)]
 
+mod complaints;
 mod explaining;
 mod heaps;
 #[cfg(test)]
 mod rows;
 mod running;
+mod showing;
 #[cfg(test)]
 mod tests;
 mod words;
 
+pub use crate::complaints::{Unopened, tell_unopened, tell_words};
 pub use crate::running::run;
 pub use crate::words::{Order, read_words};
 use cap_log::WriteSink;
@@ -18,6 +21,7 @@ pub use cap_program::carry_out;
 use cap_program::{Fault, collect_words, exit_status, tell};
 use std::alloc::AllocError;
 use std::fs::File;
+use std::io::ErrorKind;
 use std::process::ExitCode;
 
 fn main(rt: HostRuntime) -> ExitCode {
@@ -31,34 +35,57 @@ fn main(rt: HostRuntime) -> ExitCode {
     })
 }
 
-// Collects the words, and answers the order that they spell.
+// Collects the words, and follows the order that they spell, or says why they spell none.
 fn answer(rt: &HostRuntime) -> Result<u8, AllocError> {
     let Some(texts) = collect_words(rt)? else {
-        return Ok(answer_order(rt, None));
+        let done = Err(Fault::BadWords);
+        tell("capdiag", done, &mut WriteSink::new(&mut rt.stderr()));
+        return Ok(exit_status(done));
     };
     let mut words = Vec::new(rt.alloc());
     for text in &texts {
         words.push(text.as_str())?;
     }
-    Ok(answer_order(rt, read_words(words.as_slice())))
+    let Some(order) = read_words(words.as_slice()) else {
+        tell_words(words.as_slice(), &mut WriteSink::new(&mut rt.stderr()));
+        return Ok(Fault::BadWords.status());
+    };
+    Ok(answer_order(rt, order))
 }
 
 // Opens the input of an order, and runs it.
-fn answer_order(rt: &HostRuntime, order: Option<Order<'_>>) -> u8 {
+fn answer_order(rt: &HostRuntime, order: Order<'_>) -> u8 {
     let (out, errors) = (&mut rt.stdout(), &mut rt.stderr());
-    let file = match order {
-        None => return run(rt.alloc(), order, None::<File>, out, errors),
-        Some(Order::Why { origins: _, file }) => file,
-        Some(
-            Order::Heap {
-                report: _,
-                why: _,
-                file,
-            },
-        ) => file,
-    };
-    match file {
-        Some(path) => run(rt.alloc(), order, File::open(rt, path).ok(), out, errors),
-        None => run(rt.alloc(), order, Some(rt.stdin()), out, errors),
+    match file_of(order) {
+        Some(path) => match File::open(rt, path) {
+            Ok(file) => run(rt.alloc(), Some(order), Some(file), out, errors),
+            Err(error) => {
+                tell_unopened(path, reason_of(error.kind()), &mut WriteSink::new(errors));
+                Fault::Read.status()
+            }
+        },
+        None => run(rt.alloc(), Some(order), Some(rt.stdin()), out, errors),
+    }
+}
+
+// The file that an order names.
+pub(crate) fn file_of<'a>(order: Order<'a>) -> Option<&'a str> {
+    match order {
+        Order::Why { origins: _, file } => file,
+        Order::Heap {
+            report: _,
+            why: _,
+            file,
+        } => file,
+        Order::Help | Order::Version => None,
+    }
+}
+
+// Why a file could not be opened.
+fn reason_of(kind: ErrorKind) -> Unopened {
+    match kind {
+        ErrorKind::NotFound => Unopened::Missing,
+        ErrorKind::PermissionDenied => Unopened::Denied,
+        _ => Unopened::Other,
     }
 }

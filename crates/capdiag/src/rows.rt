@@ -8,30 +8,64 @@
 pub const ROWS: &str = r#"
 # words that have none of the forms
 2
-2 ''
-2 whys
-2 why -
-2 why a b
-2 why log --origins
-2 why --origins --origins
-2 why --origins -log
-2 why --why
-2 why -log
-2 heap -
-2 heap a b
-2 heap log --report
-2 heap --report --report
-2 heap --why --why
-2 heap --why --report
-2 heap log --why
-2 heap --report --why -log
-2 heap --origins
-2 judge
-2 judge log
-2 explain 00001ffffc0180040000000000000000
 | capcheck 1
 | end 0
-! capdiag: bad words
+! capdiag: no command; see capdiag --help
+
+2 whys
+2 whys log
+! capdiag: unknown command 'whys'; see capdiag --help
+
+2 --orgins
+2 why --orgins log
+! capdiag: unknown option '--orgins'; see capdiag --help
+
+2 why -
+2 heap -
+! capdiag: unknown option '-'; see capdiag --help
+
+2 why log --origins
+! capdiag: a word after the file: '--origins'; see capdiag --help
+
+2 why a b
+2 heap a b
+! capdiag: a word after the file: 'b'; see capdiag --help
+
+2 why --origins --origins
+2 why --help log
+2 heap --report --report
+2 heap --why --report
+2 --help why
+2 --version log
+! capdiag: an option is given twice, out of order, or beside --help; see capdiag --help
+
+# a word is cut after its first 64 bytes, and shown in ASCII
+2 12345678901234567890123456789012345678901234567890123456789012345678
+! capdiag: unknown command '1234567890123456789012345678901234567890123456789012345678901234'; see capdiag --help
+
+2 häp
+! capdiag: unknown command 'h\xc3\xa4p'; see capdiag --help
+
+# how it is used
+0 --help
+0 why --help
+0 heap --help
+= usage: capdiag why [--origins] [FILE]
+=        capdiag heap [--report] [--why] [FILE]
+=        capdiag --help | --version
+=
+= Judge a log, from FILE or standard input, and say why it is rejected.
+=
+=   why        the log of a machine: the verdict, and after a no the diagnosis
+=   --origins  after a yes, the root of each tagged capability at the end
+=   heap       the log of an allocator: the verdict
+=   --report   after a yes, what exact bounds would cost
+=   --why      after a no, the diagnosis
+=
+= Exit status: 0 yes, 1 no, 2 wrong arguments, 3 failed input, output or memory.
+
+0 --version
+= capdiag 1.1.0
 
 # no steps
 0 why
@@ -54,14 +88,19 @@ pub const ROWS: &str = r#"
 = roots 0
 = steps 0
 = granules 0
+= expected end 0
 
 # files that aren't there, though standard input has a log
 3 why gone
 3 why --origins gone
+| capcheck 1
+| end 0
+! capdiag: cannot open 'gone': no such file
+
 3 why ''
 | capcheck 1
 | end 0
-! capdiag: read fault
+! capdiag: cannot open '': no such file
 
 # a register that was cleared, and a granule
 0 why --origins
@@ -195,6 +234,8 @@ pub const ROWS: &str = r#"
 = live rounded 0000000000010000 00000000000011008
 = length 00000000000000001
 = alignment 00000000000000001
+= live length 00000000000001008
+= live alignment 00000000000000008
 
 # objects that lie apart, with what their bounds cost
 0 heap --report
@@ -218,7 +259,7 @@ pub const ROWS: &str = r#"
 3 heap --report gone
 3 heap --why gone
 | heap 1
-! capdiag: read fault
+! capdiag: cannot open 'gone': no such file
 
 # no bytes of an allocator's log
 1 heap

@@ -7,6 +7,7 @@ ghost use Rattle.capdiag.specs.Answers.{order_meaning};
 
 use crate::explaining::explain_source;
 use crate::heaps::judge_heap_source;
+use crate::showing::{show_help, show_version};
 use crate::words::Order;
 use cap_log::{Sink, Source};
 use cap_program::{Command, Fault};
@@ -33,16 +34,21 @@ impl Command for Order<'_> {
         input: &mut Option<S>,
         out: &mut K,
     ) -> Result<u8, Fault> {
-        match input {
-            Some(source) => match self {
-                Order::Why { origins, file: _ } => explain_source(alloc, origins, source, out),
-                Order::Heap {
-                    report,
-                    why,
-                    file: _,
-                } => judge_heap_source(alloc, report, why, source, out),
+        match self {
+            Order::Help => show_help(out),
+            Order::Version => show_version(out),
+            Order::Why { origins, file: _ } => match input {
+                Some(source) => explain_source(alloc, origins, source, out),
+                None => Err(Fault::Read),
             },
-            None => Err(Fault::Read),
+            Order::Heap {
+                report,
+                why,
+                file: _,
+            } => match input {
+                Some(source) => judge_heap_source(alloc, report, why, source, out),
+                None => Err(Fault::Read),
+            },
         }
     }
 }

@@ -1,7 +1,8 @@
 //! The words of the program, and what it does for them over readers and writers in memory.
 
 use crate::rows::ROWS;
-use crate::{Order, read_words, run};
+use crate::{Unopened, file_of, read_words, run, tell_unopened, tell_words};
+use cap_log::WriteSink;
 use std::alloc::{AllocError, Global};
 
 // The lines of a row after a mark.
@@ -9,6 +10,7 @@ fn lines_behind(alloc: Global, row: &str, mark: &str) -> Result<Vec<u8>, AllocEr
     let mut text = Vec::new(alloc);
     for line in row.split('\n') {
         if let Some(rest) = line.strip_prefix(mark) {
+            let rest = rest.strip_prefix(" ").unwrap_or(rest);
             text.extend_from_slice(rest.as_bytes())?;
             text.push(b'\n')?;
         }
@@ -25,41 +27,46 @@ fn words_of<'a>(alloc: Global, line: &'a str) -> Result<Vec<&'a str>, AllocError
     Ok(words)
 }
 
-// What the order reads: the row's input, unless its file is not there.
-fn input_of<'a>(order: Option<Order<'_>>, input: &'a [u8]) -> Option<&'a [u8]> {
-    match order? {
-        Order::Why { origins: _, file } => read_from(file, input),
-        Order::Heap {
-            report: _,
-            why: _,
-            file,
-        } => read_from(file, input),
-    }
-}
-
-// What is read from standard input or from a file.
-fn read_from<'a>(file: Option<&str>, input: &'a [u8]) -> Option<&'a [u8]> {
-    match file {
-        None | Some("log") => Some(input),
-        Some(_) => None,
+// What the program prints for these words and this input: there is one file, `log`.
+fn outcome<'a>(
+    alloc: Global,
+    words: &[&'a str],
+    input: &'a [u8],
+    text: &mut Vec<u8>,
+    told: &mut Vec<u8>,
+) -> u8 {
+    let Some(order) = read_words(words) else {
+        tell_words(words, &mut WriteSink::new(told));
+        return 2;
+    };
+    match file_of(order) {
+        None | Some("log") => run(alloc, Some(order), Some(input), text, told),
+        Some(path) => {
+            tell_unopened(path, Unopened::Missing, &mut WriteSink::new(told));
+            3
+        }
     }
 }
 
 // The first line of the rows whose run is another.
 fn first_other(alloc: Global) -> Result<Option<&'static str>, AllocError> {
     for row in ROWS.split("\n\n") {
-        let input = lines_behind(alloc, row, "| ")?;
-        let out = lines_behind(alloc, row, "= ")?;
-        let err = lines_behind(alloc, row, "! ")?;
+        let input = lines_behind(alloc, row, "|")?;
+        let out = lines_behind(alloc, row, "=")?;
+        let err = lines_behind(alloc, row, "!")?;
         for line in row.split('\n') {
             let Some(digit @ b'0'..=b'3') = line.as_bytes().first().copied() else {
                 continue;
             };
             let words = words_of(alloc, line)?;
-            let order = read_words(words.as_slice());
             let (mut text, mut told) = (Vec::new(alloc), Vec::new(alloc));
-            let given = input_of(order, input.as_slice());
-            let status = run(alloc, order, given, &mut text, &mut told);
+            let status = outcome(
+                alloc,
+                words.as_slice(),
+                input.as_slice(),
+                &mut text,
+                &mut told,
+            );
             let is_same = text.as_slice() == out.as_slice() && told.as_slice() == err.as_slice();
             if status != digit - b'0' || !is_same {
                 return Ok(Some(line));

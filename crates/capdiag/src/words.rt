@@ -1,6 +1,8 @@
 //! The words after the program's name.
 
-ghost use Rattle.std.specs.Prelude.{◌≡◌, ◌∷◌, ℕ, List, IfSome, IfNone, codes, map};
+ghost use Rattle.std.specs.Prelude.{◌≡◌, [], ◌∷◌, ℕ, Bool, List, Option, IfSome, IfNone, codes, false, map, true};
+ghost use Rattle.std.proofs.Common.{Bor};
+ghost use Rattle.capdiag.specs.declared.words.Order.TheVariants.{Heap, Why};
 ghost use Rattle.capdiag.specs.Orders.{Asks};
 
 use cap_program::{is_operand, take_option};
@@ -8,6 +10,10 @@ use cap_program::{is_operand, take_option};
 /// What the program was asked to do.
 #[derive(Debug, Clone, Copy, PartialEq, Eq)]
 pub enum Order<'a> {
+    /// `--help`, after a command too: tell how the program is used.
+    Help,
+    /// `--version`: tell its version.
+    Version,
     /// `why [--origins] [FILE]`: judge the file, or standard input where no file is named, and report a `no`.
     Why {
         /// Whether the root of each capability in the last state is asked for.
@@ -37,8 +43,19 @@ pub fn read_words<'a>(words: &[&'a str]) -> Option<Order<'a>>
     match *command {
         "why" => read_why(operands),
         "heap" => read_heap(operands),
+        "--help" if operands.is_empty() => Some(Order::Help),
+        "--version" if operands.is_empty() => Some(Order::Version),
         _ => None,
     }
+}
+
+// Whether the words after a command ask for help.
+fn is_help(operands: &[&str]) -> bool
+    ensures yes { result ≡ true → map (λ word. word.now) operands.now ≡ codes "--help" ∷ [] }
+    ensures no { result ≡ false → map (λ word. word.now) operands.now ≡ codes "--help" ∷ [] → ⊥ }
+{
+    let (is_help, rest) = take_option("--help", operands);
+    is_help && rest.is_empty()
 }
 
 // Reads the words after `why`.
@@ -46,19 +63,45 @@ fn read_why<'a>(operands: &[&'a str]) -> Option<Order<'a>>
     ensures some { IfSome result (λ order. Asks (codes "why" ∷ map (λ word. word.now) operands.now) order) }
     ensures none { IfNone result ((order : Order) → Asks (codes "why" ∷ map (λ word. word.now) operands.now) order → ⊥) }
 {
+    if is_help(operands) {
+        return Some(Order::Help);
+    }
+    let (origins, file) = read_why_options(operands)?;
+    Some(Order::Why { origins, file })
+}
+
+// Reads the options of `why` and its file.
+fn read_why_options<'a>(operands: &[&'a str]) -> Option<(bool, Option<&'a str>)>
+    ensures some { IfSome result (λ p. Asks (codes "why" ∷ map (λ word. word.now) operands.now) (Why p.0 p.1)) }
+    ensures none { IfNone result ((origins : Bool) (file : Option (Bor (List ℕ)))
+        → Asks (codes "why" ∷ map (λ word. word.now) operands.now) (Why origins file) → ⊥) }
+{
     let (origins, operands) = take_option("--origins", operands);
     let file = match operands {
         [] => None,
         [file] if is_operand(file) => Some(*file),
         _ => return None,
     };
-    Some(Order::Why { origins, file })
+    Some((origins, file))
 }
 
 // Reads the words after `heap`.
 fn read_heap<'a>(operands: &[&'a str]) -> Option<Order<'a>>
     ensures some { IfSome result (λ order. Asks (codes "heap" ∷ map (λ word. word.now) operands.now) order) }
     ensures none { IfNone result ((order : Order) → Asks (codes "heap" ∷ map (λ word. word.now) operands.now) order → ⊥) }
+{
+    if is_help(operands) {
+        return Some(Order::Help);
+    }
+    let (report, why, file) = read_heap_options(operands)?;
+    Some(Order::Heap { report, why, file })
+}
+
+// Reads the options of `heap` and its file.
+fn read_heap_options<'a>(operands: &[&'a str]) -> Option<(bool, bool, Option<&'a str>)>
+    ensures some { IfSome result (λ p. Asks (codes "heap" ∷ map (λ word. word.now) operands.now) (Heap p.0 p.1 p.2)) }
+    ensures none { IfNone result ((report why : Bool) (file : Option (Bor (List ℕ)))
+        → Asks (codes "heap" ∷ map (λ word. word.now) operands.now) (Heap report why file) → ⊥) }
 {
     let (report, operands) = take_option("--report", operands);
     let (why, operands) = take_option("--why", operands);
@@ -67,5 +110,5 @@ fn read_heap<'a>(operands: &[&'a str]) -> Option<Order<'a>>
         [file] if is_operand(file) => Some(*file),
         _ => return None,
     };
-    Some(Order::Heap { report, why, file })
+    Some((report, why, file))
 }

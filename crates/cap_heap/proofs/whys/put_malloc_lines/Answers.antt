@@ -5,7 +5,7 @@ use Rattle.cap_heap.specs.declared.events.Event.TheVariants.{Malloc}
 use Rattle.cap_heap.specs.declared.refusal.HeapRefusal.{HeapRefusal}
 use Rattle.cap_heap.specs.declared.refusal.HeapRefusal.TheVariants.{Misplaced}
 use Rattle.cap_heap.specs.Heaps.{objects_in}
-use Rattle.cap_heap.specs.HeapWhys.{AreEventDetails, live_lines, request_lines, right_lines}
+use Rattle.cap_heap.specs.HeapWhys.{AreEventDetails, apart_lines, live_lines, request_lines, right_lines}
 use Rattle.cap_heap.proofs.WhyLemmas.{other_details}
 use Rattle.cap_heap.proofs.whys.put_malloc_lines.Goals as goal
 
@@ -23,9 +23,9 @@ returns-in-OutsideHeap-clause-written c =
 
 pub returns-in_default-clause-written : goal.returns-in_default-clause-written
 returns-in_default-clause-written c =
-    let details = request_lines [] c.args.address c.args.size ++ live_lines c.overlapped.result ++ right_lines c.args.size in (
+    let details = request_lines [] c.args.address c.args.size ++ live_lines c.overlapped-found.result ++ right_lines c.args.size ++ apart_lines c.args.address c.args.size c.overlapped-found.result in (
       details,
       other_details c.args.heap.now.bounds (objects_in c.args.heap.now) c.args.address c.args.size c.args.refusal Misplaced details
-          c.in_default.not-OutsideHeap refl (c.overlapped.result, c.overlapped.ensures.shared, refl),
-      c.put_request_lines-at.ensures.written ⨾ c.put_live_lines-at.ensures.written ⨾ c.put_right_lines-in_default.ensures.written,
+          c.in_default.not-OutsideHeap refl (c.overlapped-found.result, c.overlapped-found.ensures.shared, refl),
+      c.put_request_lines-at.ensures.written ⨾ c.put_live_lines-at.ensures.written ⨾ c.put_right_lines-at.ensures.written ⨾ c.put_apart_lines.ensures.written,
     )

@@ -1,0 +1,58 @@
+-- What is told of bytes that are no line of an allocator's log (this profile's own, as are all below).
+use Rattle.std.specs.Prelude.{◌≡◌, ◌⊎◌, ℕ, List, [], ◌∷◌, ◌++◌, length, codes}
+use Rattle.cap_texts.specs.declared.fields.Field.{Field}
+use Rattle.cap_texts.specs.declared.fields.Field.TheVariants as fields
+use Rattle.cap_texts.specs.Fields.{AllStand, IsFirstWrong}
+use Rattle.cap_texts.specs.TextLines.{text_line}
+use Rattle.cap_texts.specs.WrongLines.{header_lines, hint_line, wrong_lines}
+use Rattle.cap_heap.specs.declared.bad_lines.Name.{Name}
+use Rattle.cap_heap.specs.declared.bad_lines.Name.TheVariants.{Header, Root, Malloc, Free, End}
+
+-- the first word of a line
+abbrev pub name_text : Name → List ℕ
+name_text Header = codes "heap"
+name_text Root = codes "root"
+name_text Malloc = codes "malloc"
+name_text Free = codes "free"
+name_text End = codes "end"
+
+-- the fields that follow it
+abbrev pub fields_of : Name → List Field
+fields_of Header = fields.HeapVersion ∷ []
+fields_of Root = fields.Number ∷ fields.Top ∷ []
+fields_of Malloc = fields.Number ∷ fields.Number ∷ []
+fields_of Free = fields.Number ∷ []
+fields_of End = fields.Count ∷ []
+
+-- a line begins with this name and a space
+abbrev pub IsNamed : List ℕ → Name → List ℕ → Type 0
+IsNamed line name operands = line ≡ name_text name ++ 32 ∷ operands
+
+-- the first wrong word of a line with its line feed: its name, or the first of the fields of its kind
+abbrev pub IsWrongWord : List ℕ → Field → ℕ → List ℕ → Type 0
+IsWrongWord line field end rest =
+    ((name : Name) × (operands : List ℕ) × IsNamed line name operands × IsFirstWrong (fields_of name) 0 operands field end rest)
+    ⊎ (((name : Name) (operands : List ℕ) → IsNamed line name operands → ⊥) × (field ≡ fields.HeapName) × (end ≡ 32) × (rest ≡ line))
+
+-- no word of a line with its line feed is wrong
+abbrev pub HasNoWrongWord : List ℕ → Type 0
+HasNoWrongWord line = (name : Name) × (operands : List ℕ) × IsNamed line name operands × AllStand (fields_of name) 0 operands
+
+-- what is told of a line that has no form: its first wrong word; or where none is, that a root ends below its base
+abbrev pub AreBadLines : List ℕ → List ℕ → Type 0
+AreBadLines text told =
+    let line = text ++ 10 ∷ [] in
+    ((field : Field) × (end : ℕ) × (rest : List ℕ) × IsWrongWord line field end rest
+    × (told ≡ wrong_lines (length line) field end rest))
+    ⊎ (HasNoWrongWord line × (told ≡ text_line (codes "expected") (codes "a BASE that isn't above TOP")))
+
+-- the first line of a machine's log
+abbrev pub IsMachineHeader : List ℕ → Type 0
+IsMachineHeader text = (text ≡ codes "capcheck 1") ⊎ (text ≡ codes "capcheck 2")
+
+-- what is told of a first line that is none: that the log is a machine's, where it is the first line of one
+abbrev pub AreFirstLines : List ℕ → List ℕ → Type 0
+AreFirstLines text told =
+    (IsMachineHeader text
+    × (told ≡ text_line (codes "expected") (codes "heap 1") ++ hint_line (codes "the log of a machine: capdiag why judges it")))
+    ⊎ ((IsMachineHeader text → ⊥) × (told ≡ header_lines text (codes "heap 1")))

@@ -1,0 +1,148 @@
+//! The lines that say which word of a line is wrong, and what is expected there.
+
+ghost use Rattle.std.specs.Prelude.{◌≡◌, ◌+◌, ◌-◌, ◌≤◌, ◌++◌, codes, decimal, length, take};
+ghost use Rattle.cap_log.specs.Parts.{Writes};
+ghost use Rattle.cap_texts.specs.ShownBytes.{shown};
+ghost use Rattle.cap_texts.specs.TextLines.{text_line};
+ghost use Rattle.cap_texts.specs.WrongLines.{end_text, found_line, header_lines, hint_line, hint_of, mark_hint, wrong_lines};
+
+use crate::fields::{Wrong, expected_text};
+use crate::shown_bytes::put_shown;
+use crate::text_lines::{put_decimal_line, put_line};
+use cap_log::buffers::put;
+
+/// The hint for a line that ends with a carriage return.
+const CARRIAGE_RETURN: &[u8] = b"a carriage return ends the line: end lines with a line feed alone";
+
+/// Writes which word of a line is wrong at an index of the buffer, and returns the index after it: the column at
+/// which the word begins, from 1 on, the line from there on, what is expected there, and a hint where the line ends
+/// too early, has a space too many or ends with a carriage return. The length is that of the line with its line feed.
+#[tactic(auto, unfolding(crate::specs::WrongLines::wrong_lines))]
+pub fn put_wrong_lines(buffer: &mut [u8], at: usize, line_length: usize, wrong: Wrong<'_>) -> usize
+    requires line { line_length ≤ 97 }
+    requires few { length wrong.rest.now ≤ 97 }
+    requires room { at + 768 ≤ length buffer.old }
+    ensures written { Writes at (wrong_lines line_length wrong.entry.field wrong.entry.end wrong.entry.rest.now) buffer.old buffer.new result }
+    ensures fits { result ≤ at + 768 }
+{
+    let column = line_length.saturating_sub(wrong.rest.len());
+    let at = put_decimal_line(buffer, at, b"column", column as u64 + 1);
+    let at = put_found_line(buffer, at, wrong.rest);
+    let at = put_expected_line(buffer, at, expected_text(wrong.field), end_text(wrong.end));
+    put_hint_line(buffer, at, hint_of(wrong.rest))
+}
+
+/// Writes what a line of one form has to be, and a hint where it begins with a byte order mark or ends with a
+/// carriage return.
+#[tactic(auto, unfolding(crate::specs::WrongLines::header_lines))]
+pub fn put_header_lines(buffer: &mut [u8], at: usize, text: &[u8], expected: &[u8]) -> usize
+    requires few { length expected.now ≤ 64 }
+    requires room { at + 256 ≤ length buffer.old }
+    ensures written { Writes at (header_lines text.now expected.now) buffer.old buffer.new result }
+    ensures fits { result ≤ at + 256 }
+{
+    let at = put_line(buffer, at, b"expected", expected);
+    put_hint_line(buffer, at, mark_hint(text))
+}
+
+// Writes a line from a wrong word on, where it has more than its line feed.
+fn put_found_line(buffer: &mut [u8], at: usize, rest: &[u8]) -> usize
+    requires few { length rest.now ≤ 97 }
+    requires room { at + 395 ≤ length buffer.old }
+    ensures written { Writes at (found_line rest.now) buffer.old buffer.new result }
+    ensures fits { result ≤ at + 395 }
+{
+    if rest.len() > 1 {
+        put_found(buffer, at, &rest[..rest.len() - 1])
+    } else {
+        at
+    }
+}
+
+// Writes what was found.
+#[tactic(auto, unfolding(crate::specs::TextLines::text_line))]
+fn put_found(buffer: &mut [u8], at: usize, text: &[u8]) -> usize
+    requires few { length text.now ≤ 96 }
+    requires room { at + 395 ≤ length buffer.old }
+    ensures written { Writes at (text_line (codes "found") (shown text.now)) buffer.old buffer.new result }
+    ensures fits { result ≤ at + 395 }
+{
+    let at = put(buffer, at, b"found");
+    let at = put(buffer, at, b" ");
+    let at = put_shown(buffer, at, text);
+    put(buffer, at, b"\n")
+}
+
+// Writes what is expected, and what has to follow it.
+#[tactic(auto, unfolding(crate::specs::TextLines::text_line))]
+fn put_expected_line(buffer: &mut [u8], at: usize, field: &[u8], end: &[u8]) -> usize
+    requires few { length field.now ≤ 160 }
+    requires end { length end.now ≤ 24 }
+    requires room { at + 194 ≤ length buffer.old }
+    ensures written { Writes at (text_line (codes "expected") (field.now ++ end.now)) buffer.old buffer.new result }
+    ensures fits { result ≤ at + 194 }
+{
+    let at = put(buffer, at, b"expected");
+    let at = put(buffer, at, b" ");
+    let at = put(buffer, at, field);
+    let at = put(buffer, at, end);
+    put(buffer, at, b"\n")
+}
+
+/// Writes a hint, or nothing where it is empty.
+pub fn put_hint_line(buffer: &mut [u8], at: usize, hint: &[u8]) -> usize
+    requires few { length hint.now ≤ 80 }
+    requires room { at + 86 ≤ length buffer.old }
+    ensures written { Writes at (hint_line hint.now) buffer.old buffer.new result }
+    ensures fits { result ≤ at + 86 }
+{
+    if hint.is_empty() {
+        at
+    } else {
+        put_line(buffer, at, b"hint", hint)
+    }
+}
+
+// What has to follow a word.
+fn end_text(end: u8) -> &'static [u8]
+    ensures text { result.now ≡ end_text end }
+    ensures short { length result.now ≤ 24 }
+{
+    if end == b'\n' {
+        b", then the line's end"
+    } else {
+        b", then a space"
+    }
+}
+
+// What often makes a word wrong.
+fn hint_of(rest: &[u8]) -> &'static [u8]
+    ensures text { result.now ≡ hint_of rest.now }
+    ensures short { length result.now ≤ 80 }
+{
+    if rest.len() <= 1 {
+        b"the line ends too early"
+    } else if rest[0] == b' ' {
+        b"a space too many"
+    } else if rest[rest.len() - 2] == b'\r' {
+        CARRIAGE_RETURN
+    } else {
+        b""
+    }
+}
+
+// What often makes the first line of a log wrong.
+fn mark_hint(text: &[u8]) -> &'static [u8]
+    ensures text { result.now ≡ mark_hint text.now }
+    ensures short { length result.now ≤ 80 }
+{
+    if text.len() < 3 {
+        b""
+    } else if text[0] == 0xef && text[1] == 0xbb && text[2] == 0xbf {
+        b"a byte order mark begins the log: write it without one"
+    } else if text[text.len() - 1] == b'\r' {
+        CARRIAGE_RETURN
+    } else {
+        b""
+    }
+}
