@@ -203,7 +203,8 @@ def compare(page, prose, text):
             fail(f"{wrong}: " + ", ".join(sorted(".".join([*module, name]) for module, name in found)))
     notation = prose.partition(" Notation\n")[2].partition("\n## ")[0].replace("\\|", "|")
     library = [name for (crate, _), name in page.at.values() if crate == "kit"]
-    lacking = unexplained(due, [*re.findall(r"`[^`]*`", notation), *library, *page.types, "Refusal", "w64"])
+    renamed = re.findall(r"`(\w+)` is the type `\w+`", prose)
+    lacking = unexplained(due, [*re.findall(r"`[^`]*`", notation), *library, *page.types, *renamed, "Refusal", "w64"])
     if lacking:
         fail("the page doesn't explain " + ", ".join(sorted(lacking)))
     known = {*page.at, *re.findall(rf"^\| ({NUMBER}) \|", text, re.M), *re.findall(rf"^\*\*({NUMBER})\.", text, re.M)}

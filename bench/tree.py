@@ -89,12 +89,12 @@ def clauses_from(lines):
 def declared(path, name):
     """A declared type in one line: a struct's fields, or an enum's variants."""
     lines = read(path).split("\n")
-    at = next((i for i, it in enumerate(lines) if re.match(rf"pub (?:enum|struct) {name}\b", it)), None)
+    at = next((i for i, it in enumerate(lines) if re.match(rf"pub(?:\(crate\))? (?:enum|struct) {name}\b", it)), None)
     if at is None:
         fail(f"no type {name} in {path}")
     end = next(i for i in range(at, len(lines)) if re.match(r"\}|.*;$", lines[i]))
     text = " ".join(it.strip() for it in lines[at : end + 1] if not it.strip().startswith(("//", "#[", "pub ghost")))
-    m = re.match(r"pub (enum|struct) (\w+)(?:<[^>]*>)? ?(.*)", text)
+    m = re.match(r"pub(?:\(crate\))? (enum|struct) (\w+)(?:<[^>]*>)? ?(.*)", text)
     body = re.sub(r"\bpub (?:\(crate\) )?", "", m[3]).replace("&'a str", "Text").replace("'a", "").strip("; ")
     body = re.sub(r" = \d+", "", re.sub(r",? \}", " }", body))
     if m[1] == "struct":

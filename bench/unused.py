@@ -19,11 +19,15 @@ def text_of(path):
 
 
 def blocks(text):
-    """The declarations of a file, each with its name: from one that begins a line to the next one."""
-    text = re.sub(r"^\s*--.*$", "", text, flags=re.M)
-    heads = [it for it in HEAD.finditer(text)]
-    for at, it in enumerate(heads):
-        yield it[1], text[it.start() : heads[at + 1].start() if at + 1 < len(heads) else len(text)]
+    """The declarations of a file, each with its name: the line that begins one, its clauses, and what is indented below them."""
+    lines, at = re.sub(r"^\s*--.*$", "", text, flags=re.M).split("\n"), 0
+    while at < len(lines):
+        head, end = HEAD.match(lines[at]), at + 1
+        if head:
+            while end < len(lines) and (not lines[end] or lines[end][0] in " })]" or lines[end].startswith(("unfolding", head[1] + " "))):
+                end += 1
+            yield head[1], "\n".join(lines[at:end])
+        at = end
 
 
 def main():

@@ -23,12 +23,6 @@ sub-mod-zero x r n h e =
     let z : (0 + r) % n ≡ r = ap (λ (k : ℕ). k % n) (let f : 0 + r ≡ r = omega arith in f) ∙ mod-eq_of_lt h in
     sym (add-mod_right x n) ∙ ap (λ (k : ℕ). k % n) (sym q) ∙ sym p ∙ ap (λ (k : ℕ). (k + r) % n) e ∙ z
 
-mod-zero-sub : (x r n : ℕ) → r < n → x % n ≡ r → (x + n - r) % n ≡ 0
-mod-zero-sub x r n h e =
-    let d : n * (x / n) + x % n ≡ x = div-add-mod x n in
-    let f : x + n - r ≡ n * suc (x / n) = omega arith in
-    ap (λ (k : ℕ). k % n) f ∙ mul-mod_right n (suc (x / n))
-
 -- windows of size s, of which n make 2 ^ 64: start and other begin windows, and y lies in the other
 module _ (s n start other rest y : ℕ) (n_pos : 0 < n) (whole : 2 ^ 64 ≡ n * s) (start_rest : start % s ≡ rest)
     (other_rest : other % s ≡ rest) (below : rest < s) (low : other ≤ y + 2 ^ 66) (high : y + 2 ^ 66 < other + s) where
@@ -230,9 +224,3 @@ KeepsBounds-exact w start size y near fits start_is size_is = (
       (λ _. subst (λ (x : ℕ). (y + 2 ^ 64 - x) % 2 ^ 64 < window_size w) start_is
       (subst (λ (x : ℕ). (y + 2 ^ 64 - start) % 2 ^ 64 < x) size_is h)),
 )
-
--- from its base to its top every address keeps a word's bounds
-pub KeepsBounds-between : (w a : ℕ) → a < 2 ^ 64 → base_of w ≤ a → a ≤ top_of w → KeepsBounds w a
-KeepsBounds-between w a fits low high =
-    let same : (a + 2 ^ 64) % 2 ^ 64 ≡ a = omega arith in
-    subst (λ (x : ℕ). KeepsBounds w x) same (KeepsBounds-margins w (a + 2 ^ 64) (omega arith) (omega arith))

@@ -30,9 +30,6 @@ size_divides e h = pow_split 64 (50 - e) (e + 14) (omega arith)
 pub size_covers : (e : ℕ) → 51 ≤ e → 2 ^ (e + 14) ≡ 2 ^ (e - 51) * 2 ^ 65
 size_covers e h = pow_split (e + 14) (e - 51) 65 (omega arith)
 
-pub unit-le : (e : ℕ) → e ≤ 52 → 2 ^ e ≤ 2 ^ 52
-unit-le e h = pow_le e 52 h
-
 -- up to exponent 50, a length is below 2 ^ 63
 pub length-lt : (e d : ℕ) → e ≤ 50 → d < 8192 → d * 2 ^ e < 2 ^ 63
 length-lt e d h k =

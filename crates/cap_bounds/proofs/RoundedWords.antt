@@ -277,11 +277,6 @@ decodes w v ie e b t address base length is fits l_fits within at r =
       IsSound-rounded_word w base length fits l_fits within,
     )
 
--- its address is the request's base, and the bits above those of the bounds are kept
-pub address_of-rounded_word : (w b l : ℕ) → b < 2 ^ 64 → l < 2 ^ 64 → address_of (rounded_word w b l) ≡ b
-address_of-rounded_word w b l fits l_fits = address_of-bounded_word w (rounded_ie l) (rounded_exponent b l) (rounded_b b l)
-    (rounded_t b l) b fits (AreFields-rounded b l l_fits)
-
 pub above-rounded_word : (w b l : ℕ) → b < 2 ^ 64 → l < 2 ^ 64 → rounded_word w b l / 2 ^ 91 ≡ w / 2 ^ 91
 above-rounded_word w b l fits l_fits = above-bounded_word w (rounded_ie l) (rounded_exponent b l) (rounded_b b l) (rounded_t b l) b fits
     (AreFields-rounded b l l_fits)

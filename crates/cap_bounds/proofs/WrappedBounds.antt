@@ -126,9 +126,6 @@ pub bounds_in : (base length top address count first last : ℕ) → base + leng
     → base ≤ address → address + count ≤ top → (first ≤ last) × (count - 1 ≤ last - first)
 bounds_in base length top address count first last whole fits small some first_is last_is from until = (omega arith, omega arith)
 
-pub units_shifted : (e n : ℕ) → e ≤ 52 → n < 2 ^ 15 → n * 2 ^ e % 2 ^ 128 ≡ n * 2 ^ e
-units_shifted e n he hn = shl_whole n 15 e 128 hn (omega arith)
-
 pub short_shifted : (e d : ℕ) → e ≤ 50 → d < 2 ^ 13 → d * 2 ^ e % 2 ^ 64 ≡ d * 2 ^ e
 short_shifted e d he hd = shl_whole d 13 e 64 hd (omega arith)
 

@@ -4,7 +4,7 @@ use Rattle.std.proofs.Common.{subst, ◌∙◌, append-nil, append_assoc, arith,
 use Rattle.std.proofs.lemmas.Grind.{flat_map-append}
 use Rattle.std.proofs.lemmas.List.Elements.{All-nil}
 use Rattle.std.proofs.lemmas.List.{length_push, length-map, length-append, take-append-le, take_all}
-use Rattle.cap_log.specs.Front.{IsLine, IsCut, IsTooLong}
+use Rattle.cap_log.specs.Front.{IsLine, IsCut, IsFrontText, IsTooLong}
 use Rattle.cap_log.specs.Takings.{IsNext, Answered, kept, over_of}
 use Rattle.cap_log.specs.declared.taking.Lines.{Lines}
 use Rattle.cap_log.specs.declared.taking.Next.{Next}
@@ -23,14 +23,13 @@ use Rattle.cap_heap.specs.declared.stage.Stage.TheVariants as stages
 use Rattle.cap_heap.specs.declared.verdict.HeapVerdict.{HeapVerdict}
 use Rattle.cap_heap.specs.declared.verdict.HeapVerdict.TheVariants.{No, Yes}
 use Rattle.cap_heap.specs.declared.verdict.HeapFault.TheVariants.{Pull}
-use Rattle.cap_heap.specs.HeapLines.{IsInRange, spelling}
+use Rattle.cap_heap.specs.HeapLines.{IsHeapLineInRange, heap_spelling}
 use Rattle.cap_heap.specs.Heaps.{live_in}
-use Rattle.cap_heap.specs.HeapLogs.{text_of}
+use Rattle.cap_heap.specs.HeapLogs.{heap_text_of}
 use Rattle.cap_heap.specs.Beginnings.{Beginning, Nothing, Headed, Body, Whole, lines_of, events_of, due_of, root_of, IsAccepted, RefusesWhole, RefusesBehind}
 use Rattle.cap_heap.specs.Beginnings.{body_lines}
 use Rattle.cap_heap.specs.Progresses.{StandsFor, Stays, TakesText, EndsText, IsAt, IsStopped, LacksMemory}
-use Rattle.cap_heap.specs.HeapVerdicts.{IsVerdictOf, Lasts, MayLackMemory, ReportsAfter}
-use Rattle.cap_heap.specs.HeapWhys.{IsFrontText}
+use Rattle.cap_heap.specs.HeapVerdicts.{IsHeapVerdictOf, Lasts, MayLackHeapMemory, ReportsAfter}
 use Rattle.cap_heap.specs.Judgings.{JudgedBy, StopsAfter, answer_at, finished_in, refused_in}
 use Rattle.cap_heap.proofs.BeginningLemmas.{begins, fault_of, is_log}
 use Rattle.cap_heap.proofs.Optimal.{optimal}
@@ -52,25 +51,21 @@ few_lines progress (Whole root events) stands =
 pub few : (bytes : List ℕ) (progress : Progress) (rest : List ℕ) (line : ℕ) → IsAt bytes progress rest line → line ≤ 2 ^ 32 + 4
 few bytes progress rest line at = omega (arith, at.line_is, few_lines progress at.beginning at.stands)
 
--- nothing was read
-pub at_start : (progress : Progress) → progress.stage ≡ stages.Start → IsAt [] progress [] 1
-at_start progress is = record { beginning = Nothing; stands = is; bytes_are = refl; line_is = refl }
-
 -- more bytes behind all
 at_more : (bytes rest more : List ℕ) (progress : Progress) (line : ℕ) → IsAt bytes progress rest line
     → IsAt (bytes ++ more) progress (rest ++ more) line
 at_more bytes rest more progress line at = record {
   beginning = at.beginning;
   stands = at.stands;
-  bytes_are = ap (λ (l : List ℕ). l ++ more) at.bytes_are ∙ append_assoc (text_of (lines_of at.beginning)) rest more;
+  bytes_are = ap (λ (l : List ℕ). l ++ more) at.bytes_are ∙ append_assoc (heap_text_of (lines_of at.beginning)) rest more;
   line_is = at.line_is;
 }
 
 -- one line more
 pub text_push : (lines : List HeapLine) (line : HeapLine) (rest : List ℕ)
-    → text_of (lines ++ line ∷ []) ++ rest ≡ text_of lines ++ (spelling line ++ 10 ∷ rest)
+    → heap_text_of (lines ++ line ∷ []) ++ rest ≡ heap_text_of lines ++ (heap_spelling line ++ 10 ∷ rest)
 text_push lines line rest =
-    let piece = λ (l : HeapLine). spelling l ++ 10 ∷ [] in
+    let piece = λ (l : HeapLine). heap_spelling l ++ 10 ∷ [] in
     ap (λ (text : List ℕ). text ++ rest) (flat_map-append piece lines (line ∷ []))
     ∙ simp (append_assoc)
 
@@ -82,10 +77,10 @@ goes_on bytes rest text left old new line at whole takes =
       stands = next.1;
       bytes_are =
           at.bytes_are
-          ∙ ap (λ (r : List ℕ). text_of (lines_of at.beginning) ++ r)
+          ∙ ap (λ (r : List ℕ). heap_text_of (lines_of at.beginning) ++ r)
           (whole.whole ∙ ap (λ (t : List ℕ). t ++ 10 ∷ left) takes.1.1)
           ∙ sym (text_push (lines_of at.beginning) takes.0 left)
-          ∙ ap (λ (ls : List HeapLine). text_of ls ++ left) (sym next.2);
+          ∙ ap (λ (ls : List HeapLine). heap_text_of ls ++ left) (sym next.2);
       line_is = omega (arith, at.line_is, ap length next.2, length_push (lines_of at.beginning) takes.0);
     }
 
@@ -168,7 +163,7 @@ refuses_line (Whole root events) rest text left refusal whole refuses more = (
 
 -- a line for which there was no memory
 lacks : (progress : Progress) (given rest text left : List ℕ) (beginning : Beginning) → StandsFor progress beginning
-    → LacksMemory beginning text → IsLine rest text left → given ≡ text_of (lines_of beginning) ++ rest → MayLackMemory given
+    → LacksMemory beginning text → IsLine rest text left → given ≡ heap_text_of (lines_of beginning) ++ rest → MayLackHeapMemory given
 lacks progress given rest text left Nothing stands lack whole bytes = absurd lack
 lacks progress given rest text left Headed stands lack whole bytes = absurd lack
 lacks progress given rest text left (Whole root events) stands lack whole bytes = absurd lack
@@ -181,9 +176,9 @@ lacks progress given rest text left (Body root events) stands (line, spells, (ad
   before = body_lines root events;
   log = is_log root events stands.1.runs;
   bytes_are = bytes
-      ∙ ap (λ (r : List ℕ). text_of (body_lines root events) ++ r)
-      (whole.whole ∙ ap (λ (t : List ℕ). t ++ 10 ∷ left) (spells.1 ∙ ap spelling is));
-  range = subst IsInRange is spells.0;
+      ∙ ap (λ (r : List ℕ). heap_text_of (body_lines root events) ++ r)
+      (whole.whole ∙ ap (λ (t : List ℕ). t ++ 10 ∷ left) (spells.1 ∙ ap heap_spelling is));
+  range = subst IsHeapLineInRange is spells.0;
   few = few;
   room = room;
 }
@@ -204,7 +199,7 @@ module _ {S : Type 0} {gave : S → S → List ℕ → Type 0} {ended : S → Bo
   -- a verdict, with its report and the line that was refused
   answered : {shown : Result Next PullFault} (verdict : HeapVerdict) (p : Stands gave ended old new progress line lines shown)
       (after : Progress) (text : List ℕ) → ReportsAfter p.given after.report verdict → StopsAfter p.given (ended new) after text verdict
-      → IsVerdictOf p.given (ended new) verdict → JudgedBy gave ended old new (Ok verdict) after text
+      → IsHeapVerdictOf p.given (ended new) verdict → JudgedBy gave ended old new (Ok verdict) after text
   answered verdict p after text reports stops is = record {
     judged = record {
       given = p.given;
@@ -244,14 +239,14 @@ module _ {S : Type 0} {gave : S → S → List ℕ → Type 0} {ended : S → Bo
   -- what follows a beginning is refused
   refused_met : {shown : Result Next PullFault} (p : Stands gave ended old new progress line lines shown) (after : Progress)
       (refusal : HeapRefusal) (text rest : List ℕ) (beginning : Beginning) → StandsFor progress beginning → StandsFor after beginning
-      → p.given ≡ text_of (lines_of beginning) ++ rest → line ≡ length (lines_of beginning) + 1
+      → p.given ≡ heap_text_of (lines_of beginning) ++ rest → line ≡ length (lines_of beginning) + 1
       → ((more : List ℕ) → (ended new ≡ true → more ≡ []) → RefusesBehind beginning (rest ++ more) refusal × IsFrontText (rest ++ more) text)
       → JudgedBy gave ended old new (Ok (No line refusal)) after text
   refused_met p after refusal text rest beginning stands stands_after bytes number all =
       let stops : Lasts p.given (ended new) (λ whole. IsStopped whole after text line refusal) = λ more none. record {
         beginning = beginning;
         rest = rest ++ more;
-        bytes_are = ap (λ (l : List ℕ). l ++ more) bytes ∙ append_assoc (text_of (lines_of beginning)) rest more;
+        bytes_are = ap (λ (l : List ℕ). l ++ more) bytes ∙ append_assoc (heap_text_of (lines_of beginning)) rest more;
         accepted = accepted progress beginning stands;
         number_is = number;
         refused = (all more none).0;
@@ -262,7 +257,7 @@ module _ {S : Type 0} {gave : S → S → List ℕ → Type 0} {ended : S → Bo
 
   -- the bytes end at a line's start
   module _ (p : Stands gave ended old new progress line lines (Ok Finished)) where
-    ends_here : (beginning : Beginning) → StandsFor progress beginning → p.given ≡ text_of (lines_of beginning) ++ []
+    ends_here : (beginning : Beginning) → StandsFor progress beginning → p.given ≡ heap_text_of (lines_of beginning) ++ []
         → line ≡ length (lines_of beginning) + 1 → ((rest : List ℕ) → IsCut rest → RefusesBehind beginning rest refusals.Truncated)
         → JudgedBy gave ended old new (Ok (No line refusals.Truncated)) progress []
     ends_here beginning stands bytes number refuses =
@@ -272,7 +267,7 @@ module _ {S : Type 0} {gave : S → S → List ℕ → Type 0} {ended : S → Bo
           with_none (λ (b : List ℕ). IsFrontText b []) [] more is (inr (inl (no_bytes, refl))),
         ))
 
-    finish : (beginning : Beginning) → StandsFor progress beginning → p.given ≡ text_of (lines_of beginning) ++ []
+    finish : (beginning : Beginning) → StandsFor progress beginning → p.given ≡ heap_text_of (lines_of beginning) ++ []
         → line ≡ length (lines_of beginning) + 1
         → JudgedBy gave ended old new (Ok (finished_in progress.stage progress.events (live_in progress.heap) line)) progress []
     finish Nothing stands bytes number =
@@ -285,7 +280,7 @@ module _ {S : Type 0} {gave : S → S → List ℕ → Type 0} {ended : S → Bo
         subst (λ (stage : Stage). JudgedBy gave ended old new (Ok (finished_in stage progress.events (live_in progress.heap) line)) progress [])
         (sym stands.0) (ends_here (Body root events) stands bytes number (λ rest cut. inr (inl (cut, refl))))
     finish (Whole root events) stands bytes number =
-        let bytes_are : p.given ≡ text_of (lines_of (Whole root events)) = bytes ∙ append-nil (text_of (lines_of (Whole root events))) in
+        let bytes_are : p.given ≡ heap_text_of (lines_of (Whole root events)) = bytes ∙ append-nil (heap_text_of (lines_of (Whole root events))) in
         let log = is_log root events stands.1.runs in
         subst (λ (stage : Stage). JudgedBy gave ended old new (Ok (finished_in stage progress.events (live_in progress.heap) line)) progress [])
         (sym stands.0)
@@ -294,7 +289,7 @@ module _ {S : Type 0} {gave : S → S → List ℕ → Type 0} {ended : S → Bo
 
     pub at_finish : JudgedBy gave ended old new (Ok (finished_in progress.stage progress.events (live_in progress.heap) line)) progress []
     at_finish = finish p.at.beginning p.at.stands
-        (subst (λ (r : List ℕ). p.given ≡ text_of (lines_of p.at.beginning) ++ r) p.next.0 p.at.bytes_are) p.at.line_is
+        (subst (λ (r : List ℕ). p.given ≡ heap_text_of (lines_of p.at.beginning) ++ r) p.next.0 p.at.bytes_are) p.at.line_is
 
   -- or in the middle of a line
   pub at_cut : Stands gave ended old new progress line lines (Ok Truncated)

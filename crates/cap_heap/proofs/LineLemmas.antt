@@ -14,7 +14,7 @@ use Rattle.cap_log.specs.declared.lines.Line.TheVariants.{End as Ending}
 use Rattle.cap_heap.specs.declared.events.Event.TheVariants.{Malloc, Free}
 use Rattle.cap_heap.specs.declared.lines.HeapLine.{HeapLine}
 use Rattle.cap_heap.specs.declared.lines.HeapLine.TheVariants.{Header, Root, Happens, End}
-use Rattle.cap_heap.specs.HeapLines.{IsInRange, Spells, spelling}
+use Rattle.cap_heap.specs.HeapLines.{IsHeapLineInRange, SpellsHeapLine, heap_spelling}
 
 -- what stands behind as many digits
 behind_digits : (k n m : ℕ) (xs ys : List ℕ) → hex_digits k n ++ xs ≡ hex_digits k m ++ ys → xs ≡ ys
@@ -86,7 +86,7 @@ same_bounds a b base top =
     subst (λ (t : ℕ). a ≡ record { base = b.base; top = t }) top (subst (λ (x : ℕ). a ≡ record { base = x; top = a.top }) base refl)
 
 -- a line has one spelling
-one : (a b : HeapLine) → IsInRange a → IsInRange b → spelling a ≡ spelling b → a ≡ b
+one : (a b : HeapLine) → IsHeapLineInRange a → IsHeapLineInRange b → heap_spelling a ≡ heap_spelling b → a ≡ b
 one Header Header fits fits' is = refl
 one Header (Root bounds') fits fits' is = absurd (clash refl is)
 one Header (Happens (Malloc address' size')) fits fits' is = absurd (clash refl is)
@@ -125,5 +125,5 @@ one (End count) (Happens (Free address')) fits fits' is = absurd (clash refl is)
 one (End count) (End count') fits fits' is =
     ap End (same_decimal count count' fits fits' (append_cancel_left (codes "end ") (decimal count) (decimal count') is))
 
-pub one_spelling : (bytes : List ℕ) (a b : HeapLine) → Spells bytes a → Spells bytes b → a ≡ b
+pub one_spelling : (bytes : List ℕ) (a b : HeapLine) → SpellsHeapLine bytes a → SpellsHeapLine bytes b → a ≡ b
 one_spelling bytes a b spells spells' = one a b spells.0 spells'.0 (sym spells.1 ∙ spells'.1)

@@ -21,10 +21,10 @@ use Rattle.cap_heap.specs.declared.lines.HeapLine.TheVariants.{Header, Root, Hap
 use Rattle.cap_heap.specs.declared.refusal.HeapRefusal.{HeapRefusal}
 use Rattle.cap_heap.specs.declared.refusal.HeapRefusal.TheVariants as refusals
 use Rattle.cap_heap.specs.Beginnings.{objects_after}
-use Rattle.cap_heap.specs.HeapLines.{IsInRange, Spells, spelling}
-use Rattle.cap_heap.specs.HeapLogs.{IsLogOf, IsFirstFault, RefusesLine, RefusesText, Refuses, text_of}
+use Rattle.cap_heap.specs.HeapLines.{IsHeapLineInRange, SpellsHeapLine, heap_spelling}
+use Rattle.cap_heap.specs.HeapLogs.{IsHeapLogOf, IsFirstHeapFault, RefusesHeapLine, RefusesText, RefusesHeap, heap_text_of}
 use Rattle.cap_heap.specs.Objects.{Objects, no_objects, IsApart}
-use Rattle.cap_heap.specs.Events.{Throughout, IsFaultOf, after}
+use Rattle.cap_heap.specs.Events.{Throughout, RefusesEvent, objects_after}
 use Rattle.cap_heap.proofs.LineLemmas.{one_spelling}
 use Rattle.cap_heap.proofs.Objects.{with_object-at, with_object-other}
 use Rattle.cap_heap.proofs.RunLemmas.{from, now}
@@ -44,7 +44,7 @@ two : (k n j m : ℕ) → HasNoFeed (hex_digits k n ++ (codes " " ++ hex_digits 
 two k n j m = All-append (λ b. b ≢ 10) (hex_digits k n) (codes " " ++ hex_digits j m) (digits k n)
     (with_front (codes " ") (hex_digits j m) refl (digits j m))
 
-plain : (line : HeapLine) → IsInRange line → HasNoFeed (spelling line)
+plain : (line : HeapLine) → IsHeapLineInRange line → HasNoFeed (heap_spelling line)
 plain Header range = no_feed (codes "heap 1") refl
 plain (Root bounds) range = with_front (codes "root ") _ refl (two 16 bounds.base 17 bounds.top)
 plain (Happens (Malloc at size)) range = with_front (codes "malloc ") _ refl (two 16 at 16 size)
@@ -61,45 +61,45 @@ length_two k n j m =
       length-hex_digits j m,
     )
 
-short : (line : HeapLine) → IsInRange line → length (spelling line) ≤ 95
+short : (line : HeapLine) → IsHeapLineInRange line → length (heap_spelling line) ≤ 95
 short Header range = omega arith
 short (Root bounds) range = omega (arith, length-append (codes "root ") (hex_digits 16 bounds.base ++ (codes " " ++ hex_digits 17 bounds.top)), length_two 16 bounds.base 17 bounds.top)
 short (Happens (Malloc at size)) range = omega (arith, length-append (codes "malloc ") (hex_digits 16 at ++ (codes " " ++ hex_digits 16 size)), length_two 16 at 16 size)
 short (Happens (Free at)) range = omega (arith, length-append (codes "free ") (hex_digits 16 at), length-hex_digits 16 at)
 short (End count) range = omega (arith, length-append (codes "end ") (decimal count), short_decimal count (omega arith))
 
-is_line : (line : HeapLine) → IsInRange line → (rest : List ℕ) → IsLine (spelling line ++ 10 ∷ rest) (spelling line) rest
+is_line : (line : HeapLine) → IsHeapLineInRange line → (rest : List ℕ) → IsLine (heap_spelling line ++ 10 ∷ rest) (heap_spelling line) rest
 is_line line range rest = record { whole = refl; one = plain line range; short = short line range }
 
 text_cons : (line : HeapLine) (lines : List HeapLine) (rest : List ℕ)
-    → text_of (line ∷ lines) ++ rest ≡ spelling line ++ 10 ∷ (text_of lines ++ rest)
+    → heap_text_of (line ∷ lines) ++ rest ≡ heap_spelling line ++ 10 ∷ (heap_text_of lines ++ rest)
 text_cons line lines rest = simp (append_assoc)
 
 -- texts that begin with lines in range begin with the same line, and go on alike
-same_front : (line other : HeapLine) (more rest : List ℕ) → IsInRange line → IsInRange other
-    → spelling line ++ 10 ∷ more ≡ spelling other ++ 10 ∷ rest → (line ≡ other) × (more ≡ rest)
+same_front : (line other : HeapLine) (more rest : List ℕ) → IsHeapLineInRange line → IsHeapLineInRange other
+    → heap_spelling line ++ 10 ∷ more ≡ heap_spelling other ++ 10 ∷ rest → (line ≡ other) × (more ≡ rest)
 same_front line other more rest range range' same =
-    let both = IsLine-same _ (spelling line) more (spelling other) rest (is_line line range more)
-    (subst (λ (bytes : List ℕ). IsLine bytes (spelling other) rest) (sym same) (is_line other range' rest)) in
-    (one_spelling (spelling line) line other (range, refl) (range', both.0), both.1)
+    let both = IsLine-same _ (heap_spelling line) more (heap_spelling other) rest (is_line line range more)
+    (subst (λ (bytes : List ℕ). IsLine bytes (heap_spelling other) rest) (sym same) (is_line other range' rest)) in
+    (one_spelling (heap_spelling line) line other (range, refl) (range', both.0), both.1)
 
 -- lines at the front of a text of lines are its first lines
 record BeginsWith (lines more : List HeapLine) (rest : List ℕ) : Type 0 where
   tail : List HeapLine
   lines_are : lines ≡ more ++ tail
-  rest_is : rest ≡ text_of tail
-  tail_range : AllByRecursion IsInRange tail
+  rest_is : rest ≡ heap_text_of tail
+  tail_range : AllByRecursion IsHeapLineInRange tail
 
-first_lines : (lines more : List HeapLine) (rest : List ℕ) → AllByRecursion IsInRange lines → AllByRecursion IsInRange more
-    → text_of more ++ rest ≡ text_of lines → BeginsWith lines more rest
+first_lines : (lines more : List HeapLine) (rest : List ℕ) → AllByRecursion IsHeapLineInRange lines → AllByRecursion IsHeapLineInRange more
+    → heap_text_of more ++ rest ≡ heap_text_of lines → BeginsWith lines more rest
 first_lines lines [] rest range range' same = record { tail = lines; lines_are = refl; rest_is = same; tail_range = range }
 first_lines [] (line ∷ more) rest range range' same =
     let long = ap length (sym (text_cons line more rest) ∙ same) in
-    absurd (omega (arith, long, length-append (spelling line) (10 ∷ (text_of more ++ rest))))
+    absurd (omega (arith, long, length-append (heap_spelling line) (10 ∷ (heap_text_of more ++ rest))))
 first_lines (first ∷ lines) (line ∷ more) rest range range' same =
     let both = same_front line first _ _ range'.0 range.0
     (sym (text_cons line more rest) ∙ same ∙ sym (append-nil _) ∙ text_cons first lines []) in
-    let next = first_lines lines more rest range.1 range'.1 (both.1 ∙ append-nil (text_of lines)) in
+    let next = first_lines lines more rest range.1 range'.1 (both.1 ∙ append-nil (heap_text_of lines)) in
     record {
       tail = next.tail;
       lines_are = ap (λ (l : HeapLine). l ∷ lines) (sym both.0) ∙ ap (λ (ls : List HeapLine). line ∷ ls) next.lines_are;
@@ -108,31 +108,31 @@ first_lines (first ∷ lines) (line ∷ more) rest range range' same =
     }
 
 -- the line at the front of a text of lines
-front_line : (line : HeapLine) (lines : List HeapLine) (rest : List ℕ) → rest ≡ text_of (line ∷ lines) → IsInRange line
-    → IsLine rest (spelling line) (text_of lines ++ [])
+front_line : (line : HeapLine) (lines : List HeapLine) (rest : List ℕ) → rest ≡ heap_text_of (line ∷ lines) → IsHeapLineInRange line
+    → IsLine rest (heap_spelling line) (heap_text_of lines ++ [])
 front_line line lines rest is range =
-    subst (λ (bytes : List ℕ). IsLine bytes (spelling line) (text_of lines ++ []))
-    (sym (is ∙ sym (append-nil (text_of (line ∷ lines))) ∙ text_cons line lines [])) (is_line line range (text_of lines ++ []))
+    subst (λ (bytes : List ℕ). IsLine bytes (heap_spelling line) (heap_text_of lines ++ []))
+    (sym (is ∙ sym (append-nil (heap_text_of (line ∷ lines))) ∙ text_cons line lines [])) (is_line line range (heap_text_of lines ++ []))
 
 -- what refuses a rest refuses the line at its front
 front_refuses : (root : Interval) (events : List Event) (due line : HeapLine) (lines : List HeapLine) (rest : List ℕ) (refusal : HeapRefusal)
-    → rest ≡ text_of (line ∷ lines) → IsInRange line
+    → rest ≡ heap_text_of (line ∷ lines) → IsHeapLineInRange line
     → FrontIs rest (refusal ≡ refusals.LineTooLong) (refusal ≡ refusals.Truncated) (RefusesText root events due refusal)
-    → RefusesText root events due refusal (spelling line)
+    → RefusesText root events due refusal (heap_spelling line)
 front_refuses root events due line lines rest refusal is range (inl long) =
-    absurd (IsLine-not_too_long rest (spelling line) (text_of lines ++ []) (front_line line lines rest is range) long.0)
+    absurd (IsLine-not_too_long rest (heap_spelling line) (heap_text_of lines ++ []) (front_line line lines rest is range) long.0)
 front_refuses root events due line lines rest refusal is range (inr (inl cut)) =
-    absurd (IsLine-not_cut rest (spelling line) (text_of lines ++ []) (front_line line lines rest is range) cut.0)
+    absurd (IsLine-not_cut rest (heap_spelling line) (heap_text_of lines ++ []) (front_line line lines rest is range) cut.0)
 front_refuses root events due line lines rest refusal is range (inr (inr h)) =
     subst (λ (t : List ℕ). RefusesText root events due refusal t)
-    (IsLine-same rest h.0 h.1 (spelling line) (text_of lines ++ []) h.2 (front_line line lines rest is range)).0 h.3
+    (IsLine-same rest h.0 h.1 (heap_spelling line) (heap_text_of lines ++ []) h.2 (front_line line lines rest is range)).0 h.3
 
 -- a line of a form is refused as that
-text_refuses : (Holds : HeapLine → Type 0) (line : HeapLine) (refusal : HeapRefusal) → IsInRange line
-    → ((((other : HeapLine) → Spells (spelling line) other → ⊥) × (refusal ≡ refusals.BadLine))
-    ⊎ ((other : HeapLine) × Spells (spelling line) other × Holds other)) → Holds line
+text_refuses : (Holds : HeapLine → Type 0) (line : HeapLine) (refusal : HeapRefusal) → IsHeapLineInRange line
+    → ((((other : HeapLine) → SpellsHeapLine (heap_spelling line) other → ⊥) × (refusal ≡ refusals.BadLine))
+    ⊎ ((other : HeapLine) × SpellsHeapLine (heap_spelling line) other × Holds other)) → Holds line
 text_refuses Holds line refusal range (inl none) = absurd (none.0 line (range, refl))
-text_refuses Holds line refusal range (inr found) = subst Holds (one_spelling (spelling line) found.0 line found.1 (range, refl)) found.2
+text_refuses Holds line refusal range (inr found) = subst Holds (one_spelling (heap_spelling line) found.0 line found.1 (range, refl)) found.2
 
 none_is_some : (o : Option ℕ) → o ≡ None → IsSome o → ⊥
 none_is_some None is some = absurd (false≢true some)
@@ -140,12 +140,12 @@ none_is_some (Some n) is some = none-some n (sym is)
 
 -- an event that happens in a log is no fault
 no_fault : (root : Interval) (objects : Objects) (event : Event) (more : List Event) (refusal : HeapRefusal)
-    → Throughout (IsApart root) objects (event ∷ more) → IsFaultOf root objects event refusal → ⊥
+    → Throughout (IsApart root) objects (event ∷ more) → RefusesEvent root objects event refusal → ⊥
 no_fault root objects (Malloc at size) more refusals.AddressTaken all fault = none_is_some (objects at) all.1 fault
 no_fault root objects (Malloc at size) more refusals.OutsideHeap all fault =
-    fault.1 ((now (IsApart root) (after objects (Malloc at size)) more all.2).inside at size (with_object-at objects at size))
+    fault.1 ((now (IsApart root) (objects_after objects (Malloc at size)) more all.2).inside at size (with_object-at objects at size))
 no_fault root objects (Malloc at size) more refusals.Overlaps all (fresh, within, other, length, shares) =
-    let apart = now (IsApart root) (after objects (Malloc at size)) more all.2 in
+    let apart = now (IsApart root) (objects_after objects (Malloc at size)) more all.2 in
     let differ : at ≢ other = λ same. none-some length (sym fresh ∙ ap objects same ∙ shares.0) in
     apart.apart at other size length (with_object-at objects at size) differ
     (with_object-other objects at size other differ ∙ shares.0, shares.1, shares.2, shares.3, shares.4, shares.5)
@@ -196,11 +196,11 @@ splits (event ∷ events) n (line ∷ before) due same =
     ]
 
 -- the end line of a log is in range, and so are the first ones of its lines
-end_range : (events : List Event) (n : ℕ) → AllByRecursion IsInRange (map Happens events ++ End n ∷ []) → n < 2 ^ 32
+end_range : (events : List Event) (n : ℕ) → AllByRecursion IsHeapLineInRange (map Happens events ++ End n ∷ []) → n < 2 ^ 32
 end_range [] n all = all.0
 end_range (event ∷ events) n all = end_range events n all.1
 
-range_front : (lines more : List HeapLine) → AllByRecursion IsInRange (lines ++ more) → AllByRecursion IsInRange lines
+range_front : (lines more : List HeapLine) → AllByRecursion IsHeapLineInRange (lines ++ more) → AllByRecursion IsHeapLineInRange lines
 range_front [] more all = tt
 range_front (line ∷ lines) more all = (all.0, range_front lines more all.1)
 
@@ -211,96 +211,96 @@ module _ (root : Interval) (events : List Event) (all : Throughout (IsApart root
     (refusal : HeapRefusal) where
   -- no event of a log is refused
   not_refused : (first more : List Event) (event : Event) (n : ℕ) → events ≡ first ++ event ∷ more
-      → RefusesLine root first (End n) (Happens event) refusal → ⊥
+      → RefusesHeapLine root first (End n) (Happens event) refusal → ⊥
   not_refused first more event n are (inl passed) = omega (arith, passed.0, few, ap length are, length-append first (event ∷ more))
   not_refused first more event n are (inr fault) =
       no_fault root (objects_after no_objects first) event more refusal
       (from (IsApart root) no_objects first (event ∷ more) (subst (Throughout (IsApart root) no_objects) are all)) fault.1
 
   -- what stands in a log behind events of another that ends there is not refused
-  body_end : (first : List Event) (tail : List HeapLine) (rest : List ℕ) → GoesOn events first (length events) tail → rest ≡ text_of tail
-      → AllByRecursion IsInRange tail → Refuses root first (End (length first) ∷ []) rest refusal → ⊥
+  body_end : (first : List Event) (tail : List HeapLine) (rest : List ℕ) → GoesOn events first (length events) tail → rest ≡ heap_text_of tail
+      → AllByRecursion IsHeapLineInRange tail → RefusesHeap root first (End (length first) ∷ []) rest refusal → ⊥
   body_end first tail rest (inl ended) is range refused =
-      let here = subst (λ (ls : List HeapLine). rest ≡ text_of ls) ended.1 is in
-      let fits = subst (AllByRecursion IsInRange) ended.1 range in
-      let why = text_refuses (λ line. RefusesLine root first (End (length first)) line refusal) (End (length events)) refusal fits.0
+      let here = subst (λ (ls : List HeapLine). rest ≡ heap_text_of ls) ended.1 is in
+      let fits = subst (AllByRecursion IsHeapLineInRange) ended.1 range in
+      let why = text_refuses (λ line. RefusesHeapLine root first (End (length first)) line refusal) (End (length events)) refusal fits.0
       (front_refuses root first (End (length first)) (End (length events)) [] rest refusal here fits.0 refused) in
       why.0 (ap length ended.0)
   body_end first tail rest (inr (event, more, are, tail_is)) is range refused =
-      let here = subst (λ (ls : List HeapLine). rest ≡ text_of ls) tail_is is in
-      let fits = subst (AllByRecursion IsInRange) tail_is range in
-      let why = text_refuses (λ line. RefusesLine root first (End (length first)) line refusal) (Happens event) refusal fits.0
+      let here = subst (λ (ls : List HeapLine). rest ≡ heap_text_of ls) tail_is is in
+      let fits = subst (AllByRecursion IsHeapLineInRange) tail_is range in
+      let why = text_refuses (λ line. RefusesHeapLine root first (End (length first)) line refusal) (Happens event) refusal fits.0
       (front_refuses root first (End (length first)) (Happens event) (map Happens more ++ End (length events) ∷ []) rest refusal here fits.0 refused) in
       not_refused first more event (length first) are why
 
   -- nor what stands behind some of them
   body_amid : (others first : List Event) (event : Event) (later tail : List HeapLine) (rest : List ℕ) → GoesOn events first (length events) tail
-      → rest ≡ text_of tail → AllByRecursion IsInRange tail → Refuses root others (Happens event ∷ later) rest refusal → ⊥
+      → rest ≡ heap_text_of tail → AllByRecursion IsHeapLineInRange tail → RefusesHeap root others (Happens event ∷ later) rest refusal → ⊥
   body_amid others first event later tail rest (inl ended) is range refused =
-      let here = subst (λ (ls : List HeapLine). rest ≡ text_of ls) ended.1 is in
-      let fits = subst (AllByRecursion IsInRange) ended.1 range in
+      let here = subst (λ (ls : List HeapLine). rest ≡ heap_text_of ls) ended.1 is in
+      let fits = subst (AllByRecursion IsHeapLineInRange) ended.1 range in
       text_refuses (λ line. ⊥) (End (length events)) refusal fits.0
       (front_refuses root others (Happens event) (End (length events)) [] rest refusal here fits.0 refused)
   body_amid others first event later tail rest (inr (next, more, are, tail_is)) is range refused =
-      let here = subst (λ (ls : List HeapLine). rest ≡ text_of ls) tail_is is in
-      let fits = subst (AllByRecursion IsInRange) tail_is range in
+      let here = subst (λ (ls : List HeapLine). rest ≡ heap_text_of ls) tail_is is in
+      let fits = subst (AllByRecursion IsHeapLineInRange) tail_is range in
       text_refuses (λ line. ⊥) (Happens next) refusal fits.0
       (front_refuses root others (Happens event) (Happens next) (map Happens more ++ End (length events) ∷ []) rest refusal here fits.0 refused)
 
   -- nor anything behind a log
   behind_end : (others : List Event) (tail : List HeapLine) (rest : List ℕ) → GoesOn events others (length events) (End (length others) ∷ tail)
-      → rest ≡ text_of tail → Refuses root others [] rest refusal → ⊥
+      → rest ≡ heap_text_of tail → RefusesHeap root others [] rest refusal → ⊥
   behind_end others tail rest (inl ended) is refused =
       let same = ended.1 in
       let none : tail ≡ [] = cc in
-      refused.0 (is ∙ ap text_of none)
+      refused.0 (is ∙ ap heap_text_of none)
   behind_end others tail rest (inr more) is refused = let clashing = more.3 in let no : ⊥ = cc in absurd no
 
   behind_root : (others : List Event) (before due tail : List HeapLine) (rest : List ℕ) → Splits others (length others) before due
-      → map Happens events ++ End (length events) ∷ [] ≡ before ++ tail → rest ≡ text_of tail → AllByRecursion IsInRange tail
-      → Refuses root others due rest refusal → ⊥
+      → map Happens events ++ End (length events) ∷ [] ≡ before ++ tail → rest ≡ heap_text_of tail → AllByRecursion IsHeapLineInRange tail
+      → RefusesHeap root others due rest refusal → ⊥
   behind_root others before due tail rest (inl (event, first, later, before_is, due_is)) same is range refused =
       body_amid others first event later tail rest
       (goes_on events first (length events) tail (same ∙ ap (λ (ls : List HeapLine). ls ++ tail) before_is)) is range
-      (subst (λ (ls : List HeapLine). Refuses root others ls rest refusal) due_is refused)
+      (subst (λ (ls : List HeapLine). RefusesHeap root others ls rest refusal) due_is refused)
   behind_root others before due tail rest (inr (inl (before_is, due_is))) same is range refused =
       body_end others tail rest (goes_on events others (length events) tail (same ∙ ap (λ (ls : List HeapLine). ls ++ tail) before_is)) is range
-      (subst (λ (ls : List HeapLine). Refuses root others ls rest refusal) due_is refused)
+      (subst (λ (ls : List HeapLine). RefusesHeap root others ls rest refusal) due_is refused)
   behind_root others before due tail rest (inr (inr (before_is, due_is))) same is range refused =
       behind_end others tail rest
       (goes_on events others (length events) (End (length others) ∷ tail)
       (same ∙ ap (λ (ls : List HeapLine). ls ++ tail) before_is ∙ append_assoc (map Happens others) (End (length others) ∷ []) tail))
-      is (subst (λ (ls : List HeapLine). Refuses root others ls rest refusal) due_is refused)
+      is (subst (λ (ls : List HeapLine). RefusesHeap root others ls rest refusal) due_is refused)
 
   behind : (start : Interval) (others : List Event) (before due tail : List HeapLine) (rest : List ℕ)
       → before ++ due ≡ Header ∷ Root start ∷ (map Happens others ++ End (length others) ∷ [])
       → Header ∷ Root root ∷ (map Happens events ++ End (length events) ∷ []) ≡ before ++ tail
-      → rest ≡ text_of tail → AllByRecursion IsInRange tail → Refuses start others due rest refusal → ⊥
+      → rest ≡ heap_text_of tail → AllByRecursion IsHeapLineInRange tail → RefusesHeap start others due rest refusal → ⊥
   behind start others [] due tail rest are same is range refused =
-      let here = subst (λ (ls : List HeapLine). rest ≡ text_of ls) (sym same) is in
+      let here = subst (λ (ls : List HeapLine). rest ≡ heap_text_of ls) (sym same) is in
       (front_refuses start others Header Header (Root root ∷ (map Happens events ++ End (length events) ∷ [])) rest refusal here tt
-      (subst (λ (ls : List HeapLine). Refuses start others ls rest refusal) are refused)).0 (tt, refl)
+      (subst (λ (ls : List HeapLine). RefusesHeap start others ls rest refusal) are refused)).0 (tt, refl)
   behind start others (first ∷ []) due tail rest are same is range refused =
       let due_is : due ≡ Root start ∷ (map Happens others ++ End (length others) ∷ []) = cc in
       let tail_is : tail ≡ Root root ∷ (map Happens events ++ End (length events) ∷ []) = cc in
-      let here = subst (λ (ls : List HeapLine). rest ≡ text_of ls) tail_is is in
-      let fits = subst (AllByRecursion IsInRange) tail_is range in
-      let why = text_refuses (λ line. RefusesLine start others (Root start) line refusal) (Root root) refusal fits.0
+      let here = subst (λ (ls : List HeapLine). rest ≡ heap_text_of ls) tail_is is in
+      let fits = subst (AllByRecursion IsHeapLineInRange) tail_is range in
+      let why = text_refuses (λ line. RefusesHeapLine start others (Root start) line refusal) (Root root) refusal fits.0
       (front_refuses start others (Root start) (Root root) (map Happens events ++ End (length events) ∷ []) rest refusal here fits.0
-      (subst (λ (ls : List HeapLine). Refuses start others ls rest refusal) due_is refused)) in
+      (subst (λ (ls : List HeapLine). RefusesHeap start others ls rest refusal) due_is refused)) in
       why.0 root refl
   behind start others (first ∷ second ∷ before) due tail rest are same is range refused =
       let root_is : Root start ≡ Root root = cc in
       let ours : before ++ due ≡ map Happens others ++ End (length others) ∷ [] = cc in
       let theirs : map Happens events ++ End (length events) ∷ [] ≡ before ++ tail = cc in
       behind_root others before due tail rest (splits others (length others) before due ours) theirs is range
-      (subst (λ (r : Interval). Refuses r others due rest refusal) (one_root start root root_is) refused)
+      (subst (λ (r : Interval). RefusesHeap r others due rest refusal) (one_root start root root_is) refused)
 
 -- the text of a log is at fault in no line
-pub not_both : (lines : List HeapLine) (root : Interval) (events : List Event) → IsLogOf IsApart lines root events → (number : ℕ)
-    (refusal : HeapRefusal) → IsFirstFault (text_of lines) number refusal → ⊥
+pub not_both : (lines : List HeapLine) (root : Interval) (events : List Event) → IsHeapLogOf IsApart lines root events → (number : ℕ)
+    (refusal : HeapRefusal) → IsFirstHeapFault (heap_text_of lines) number refusal → ⊥
 not_both lines root events (are, range, all) number refusal (start, others, before, due, rest, log, bytes_are, number_is, refused) =
-    let ranges = subst (AllByRecursion IsInRange) are range in
+    let ranges = subst (AllByRecursion IsHeapLineInRange) are range in
     let first = first_lines lines before rest range (range_front before due log.1) (sym bytes_are) in
     behind root events all (end_range events (length events) ranges.1.1) refusal start others before due first.tail rest log.0
     (sym are ∙ first.lines_are) first.rest_is first.tail_range refused

@@ -11,7 +11,7 @@ use Rattle.cap_heap.specs.declared.lines.HeapLine.TheVariants.{Root, Happens, En
 use Rattle.cap_heap.specs.declared.progress.Progress.{Progress}
 use Rattle.cap_heap.specs.declared.report.HeapReport.{HeapReport}
 use Rattle.cap_heap.specs.declared.stage.Stage.TheVariants as stages
-use Rattle.cap_heap.specs.HeapLines.{IsInRange, Spells}
+use Rattle.cap_heap.specs.HeapLines.{IsHeapLineInRange, SpellsHeapLine}
 use Rattle.cap_heap.specs.Objects.{no_objects}
 use Rattle.cap_heap.specs.HeapReports.{IsReportOf}
 use Rattle.cap_heap.specs.HeapWhys.{count_in, due_text}
@@ -109,7 +109,7 @@ takes_end old new count within ended same same_report same_events is beginning s
 
 -- the root more
 pub takes_root : (old new : Progress) (bounds : Interval) → old.stage ≡ stages.Headed → new.stage ≡ stages.Within → new.events ≡ 0
-    → IsInRange (Root bounds) → new.heap.bounds ≡ bounds → objects_in new.heap ≡ no_objects → live_in new.heap ≡ 0
+    → IsHeapLineInRange (Root bounds) → new.heap.bounds ≡ bounds → objects_in new.heap ≡ no_objects → live_in new.heap ≡ 0
     → IsReportOf new.report [] → Takes old (Root bounds) new
 takes_root old new bounds is within none range same objects live reported beginning stands = (
   Body bounds [],
@@ -122,7 +122,7 @@ takes_root old new bounds is within none range same objects live reported beginn
 )
 
 -- a line after the root is not taken
-pub ends_within : {X : Type 0} (progress : Progress) (text : List ℕ) (line : HeapLine) → progress.stage ≡ stages.Within → Spells text line
+pub ends_within : {X : Type 0} (progress : Progress) (text : List ℕ) (line : HeapLine) → progress.stage ≡ stages.Within → SpellsHeapLine text line
     → (result : Result X EventEnd)
     → IfErr result (λ end. (root : Interval) (events : List Event) → Reaches progress.heap progress.report progress.events root events
     → EndsLine root events line end)

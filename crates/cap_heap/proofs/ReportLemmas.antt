@@ -11,10 +11,6 @@ use Rattle.cap_heap.specs.Events.{mallocs, frees}
 use Rattle.cap_heap.specs.HeapReports.{Adds, AreLive, IsMost, IsReportOf, capped, excess_of, gap_of, inexact_of, padding_of}
 use Rattle.cap_heap.proofs.RunLemmas.{mallocs-push, frees-push}
 
--- a sum with one number more
-capped-plus : (sum more : ℕ) → capped (capped sum + more) ≡ capped (sum + more)
-capped-plus sum more = omega arith
-
 sum-push : (cost : Event → ℕ) (events : List Event) (event : Event) → sum_by cost (events ++ event ∷ []) ≡ sum_by cost events + cost event
 sum-push cost events event = omega (arith, sum_by-append cost events (event ∷ []))
 

@@ -8,17 +8,17 @@ use Rattle.cap_heap.specs.HeapVerdicts.{ReportsAfter}
 use Rattle.cap_heap.specs.Judgings.{JudgedBy, StopsAfter}
 use Rattle.cap_heap.specs.Texts.{IsText}
 use Rattle.cap_heap.proofs.BeginningLemmas.{fault_of}
-use Rattle.cap_heap.specs.VerdictLines.{Tells, Told, heap_line}
+use Rattle.cap_heap.specs.VerdictLines.{TellsHeap, Told, heap_line}
 
 -- without reports the text is the verdict's line
-pub plain : (bytes : List ℕ) (ended : Bool) (verdict : HeapVerdict) → Tells false false bytes ended verdict (heap_line verdict)
+pub plain : (bytes : List ℕ) (ended : Bool) (verdict : HeapVerdict) → TellsHeap false false bytes ended verdict (heap_line verdict)
 plain bytes ended (Yes events live) = refl
 plain bytes ended (No line refusal) = refl
 
 -- the text by what was read and refused is that of the bytes
 tells : (reports why : Bool) (progress : Progress) (line : List ℕ) (bytes : List ℕ) (ended : Bool) (verdict : HeapVerdict) (text : List ℕ)
     → ReportsAfter bytes progress.report verdict → StopsAfter bytes ended progress line verdict → IsText reports why progress line verdict text
-    → Tells reports why bytes ended verdict text
+    → TellsHeap reports why bytes ended verdict text
 tells false why progress line bytes ended (Yes events live) text reported stopped is = is
 tells true why progress line bytes ended (Yes events live) text reported stopped is = (progress.report, reported, is)
 tells reports false progress line bytes ended (No number refusal) text reported stopped is = is

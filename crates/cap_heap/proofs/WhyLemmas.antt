@@ -11,8 +11,8 @@ use Rattle.cap_heap.specs.declared.lines.HeapLine.TheVariants.{Happens}
 use Rattle.cap_heap.specs.declared.refusal.HeapRefusal.{HeapRefusal}
 use Rattle.cap_heap.specs.declared.refusal.HeapRefusal.TheVariants.{Misplaced, Truncated, WrongCount}
 use Rattle.cap_heap.specs.declared.refusal.HeapRefusal.TheVariants.{LimitPassed, OutsideHeap}
-use Rattle.cap_heap.specs.HeapLines.{Spells}
-use Rattle.cap_heap.specs.HeapWhys.{AreDetails, AreEventDetails, count_in, counted_lines}
+use Rattle.cap_heap.specs.HeapLines.{SpellsHeapLine}
+use Rattle.cap_heap.specs.HeapWhys.{AreHeapDetails, AreEventDetails, count_in, counted_lines}
 use Rattle.cap_heap.specs.Objects.{Objects}
 
 -- at most 96 bytes are held of a text
@@ -23,14 +23,14 @@ take_few text n is = elim (cases_lt 96 (length text)) [
 ]
 
 -- no event is spelled where neither kind is
-no_event : (text : List ℕ) → ((at size : ℕ) → Spells text (Happens (Malloc at size)) → ⊥) → ((at : ℕ) → Spells text (Happens (Free at)) → ⊥)
-    → (event : Event) → Spells text (Happens event) → ⊥
+no_event : (text : List ℕ) → ((at size : ℕ) → SpellsHeapLine text (Happens (Malloc at size)) → ⊥) → ((at : ℕ) → SpellsHeapLine text (Happens (Free at)) → ⊥)
+    → (event : Event) → SpellsHeapLine text (Happens event) → ⊥
 no_event text malloc free (Malloc at size) spells = malloc at size spells
 no_event text malloc free (Free at) spells = free at spells
 
-pub none_read : (text : List ℕ) (read : Option Event) → ((at size : ℕ) → Spells text (Happens (Malloc at size)) → ⊥)
-    → IfNone read ((at : ℕ) → Spells text (Happens (Free at)) → ⊥)
-    → IfNone read ((event : Event) → Spells text (Happens event) → ⊥)
+pub none_read : (text : List ℕ) (read : Option Event) → ((at size : ℕ) → SpellsHeapLine text (Happens (Malloc at size)) → ⊥)
+    → IfNone read ((at : ℕ) → SpellsHeapLine text (Happens (Free at)) → ⊥)
+    → IfNone read ((event : Event) → SpellsHeapLine text (Happens event) → ⊥)
 none_read text None malloc free = no_event text malloc free
 none_read text (Some event) malloc free = tt
 
@@ -45,16 +45,16 @@ other_details heap objects at size refusal other details differs is told =
 -- the details of a line whose refusal is decided by how many events there were
 pub count_details : (root : Interval) (events : List Event) (before due : List HeapLine) (text : List ℕ) (refusal : HeapRefusal) (details : List ℕ)
     → (refusal ≡ Misplaced) ⊎ ((refusal ≡ Truncated) ⊎ ((refusal ≡ WrongCount) ⊎ (refusal ≡ LimitPassed)))
-    → details ≡ counted_lines due refusal (count_in before) → AreDetails root events before due text refusal details
+    → details ≡ counted_lines due refusal (count_in before) → AreHeapDetails root events before due text refusal details
 count_details root events before due text refusal details (inl e) is =
-    subst (λ (r : HeapRefusal). details ≡ counted_lines due r (count_in before) → AreDetails root events before due text r details) (sym e)
+    subst (λ (r : HeapRefusal). details ≡ counted_lines due r (count_in before) → AreHeapDetails root events before due text r details) (sym e)
     (λ same. same) is
 count_details root events before due text refusal details (inr (inl e)) is =
-    subst (λ (r : HeapRefusal). details ≡ counted_lines due r (count_in before) → AreDetails root events before due text r details) (sym e)
+    subst (λ (r : HeapRefusal). details ≡ counted_lines due r (count_in before) → AreHeapDetails root events before due text r details) (sym e)
     (λ same. same) is
 count_details root events before due text refusal details (inr (inr (inl e))) is =
-    subst (λ (r : HeapRefusal). details ≡ counted_lines due r (count_in before) → AreDetails root events before due text r details) (sym e)
+    subst (λ (r : HeapRefusal). details ≡ counted_lines due r (count_in before) → AreHeapDetails root events before due text r details) (sym e)
     (λ same. same) is
 count_details root events before due text refusal details (inr (inr (inr e))) is =
-    subst (λ (r : HeapRefusal). details ≡ counted_lines due r (count_in before) → AreDetails root events before due text r details) (sym e)
+    subst (λ (r : HeapRefusal). details ≡ counted_lines due r (count_in before) → AreHeapDetails root events before due text r details) (sym e)
     (λ same. same) is

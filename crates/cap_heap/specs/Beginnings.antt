@@ -7,11 +7,11 @@ use Rattle.cap_heap.specs.declared.lines.HeapLine.{HeapLine}
 use Rattle.cap_heap.specs.declared.lines.HeapLine.TheVariants.{Header, Root, Happens, End}
 use Rattle.cap_heap.specs.declared.refusal.HeapRefusal.{HeapRefusal}
 use Rattle.cap_heap.specs.declared.refusal.HeapRefusal.TheVariants.{Misplaced}
-use Rattle.cap_heap.specs.HeapLines.{IsInRange}
-use Rattle.cap_heap.specs.HeapLogs.{RefusesText, Refuses}
-use Rattle.cap_heap.specs.HeapWhys.{AreDetails}
+use Rattle.cap_heap.specs.HeapLines.{IsHeapLineInRange}
+use Rattle.cap_heap.specs.HeapLogs.{RefusesText, RefusesHeap}
+use Rattle.cap_heap.specs.HeapWhys.{AreHeapDetails}
 use Rattle.cap_heap.specs.Objects.{Objects, no_objects, IsApart}
-use Rattle.cap_heap.specs.Events.{Throughout, after}
+use Rattle.cap_heap.specs.Events.{Throughout, objects_after}
 
 -- not at all; with its header; with its root and events too; or with all of these and its end line
 pub data Beginning : Type 0 where
@@ -22,8 +22,8 @@ pub data Beginning : Type 0 where
 
 -- a root and events that keep to the grammar and the limit, at each moment of which a fact holds
 pub record Runs (Fact : Interval → Objects → Type 0) (root : Interval) (events : List Event) : Type 0 where
-  pub range : IsInRange (Root root)
-  pub ranges : AllByRecursion IsInRange (map Happens events)
+  pub range : IsHeapLineInRange (Root root)
+  pub ranges : AllByRecursion IsHeapLineInRange (map Happens events)
   pub few : length events < 2 ^ 32
   pub always : Throughout (Fact root) no_objects events
 
@@ -44,7 +44,7 @@ events_of beginning = []
 
 -- the objects after events
 abbrev pub objects_after : Objects → List Event → Objects
-objects_after objects events = fold after objects events
+objects_after objects events = fold objects_after objects events
 
 -- the lines of a root and events
 abbrev pub body_lines : Interval → List Event → List HeapLine
@@ -79,8 +79,8 @@ RefusesWhole (Whole root events) text refusal = refusal ≡ Misplaced
 
 -- what follows a beginning is refused
 abbrev pub RefusesBehind : Beginning → List ℕ → HeapRefusal → Type 0
-RefusesBehind beginning rest refusal = Refuses (root_of beginning) (events_of beginning) (due_of beginning) rest refusal
+RefusesBehind beginning rest refusal = RefusesHeap (root_of beginning) (events_of beginning) (due_of beginning) rest refusal
 
 -- what is told of a line behind a beginning
 abbrev pub AreDetailsBehind : Beginning → List ℕ → HeapRefusal → List ℕ → Type 0
-AreDetailsBehind beginning text refusal details = AreDetails (root_of beginning) (events_of beginning) (lines_of beginning) (due_of beginning) text refusal details
+AreDetailsBehind beginning text refusal details = AreHeapDetails (root_of beginning) (events_of beginning) (lines_of beginning) (due_of beginning) text refusal details

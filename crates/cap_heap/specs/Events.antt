@@ -12,15 +12,16 @@ use Rattle.cap_bounds.specs.Rounding.{rounded_base, rounded_top}
 use Rattle.cap_heap.specs.Objects.{Objects, Shares, LieApart}
 
 -- the objects after an event
-abbrev pub after : Objects → Event → Objects
-after objects (Malloc at size) other = if at == other then Some size else objects other
-after objects (Free at) other = if at == other then None else objects other
+abbrev pub objects_after : Objects → Event → Objects
+objects_after objects (Malloc at size) other = if at == other then Some size else objects other
+objects_after objects (Free at) other = if at == other then None else objects other
 
--- each object comes to live where none lives and is freed where it lives, and at every moment a fact holds of the live objects
+-- each object comes to live where none lives and is freed where it lives, and at every moment a fact holds of the live
+-- objects
 abbrev pub Throughout : (Objects → Type 0) → Objects → List Event → Type 0
 Throughout Fact objects [] = Fact objects
-Throughout Fact objects (Malloc at size ∷ events) = Fact objects × (objects at ≡ None) × Throughout Fact (after objects (Malloc at size)) events
-Throughout Fact objects (Free at ∷ events) = Fact objects × IsSome (objects at) × Throughout Fact (after objects (Free at)) events
+Throughout Fact objects (Malloc at size ∷ events) = Fact objects × (objects at ≡ None) × Throughout Fact (objects_after objects (Malloc at size)) events
+Throughout Fact objects (Free at ∷ events) = Fact objects × IsSome (objects at) × Throughout Fact (objects_after objects (Free at)) events
 
 -- an object comes to live
 abbrev pub is_malloc : Event → Bool
@@ -45,17 +46,17 @@ abbrev pub CanHappen : Interval → Objects → Event → Type 0
 CanHappen heap objects (Malloc address length) = HasRoom heap objects address length
 CanHappen heap objects (Free address) = IsSome (objects address)
 
--- why an event can't happen: the first of its tests that holds
-abbrev pub IsFaultOf : Interval → Objects → Event → HeapRefusal → Type 0
-IsFaultOf heap live (Malloc at size) AddressTaken = IsSome (live at)
-IsFaultOf heap live (Malloc at size) OutsideHeap = (live at ≡ None) × (IsInside (rounded_base at size) (rounded_top at size) heap.base heap.top → ⊥)
-IsFaultOf heap live (Malloc at size) Overlaps = (live at ≡ None) × IsInside (rounded_base at size) (rounded_top at size) heap.base heap.top
+-- why an event can't happen: the first of its checks that fails
+abbrev pub RefusesEvent : Interval → Objects → Event → HeapRefusal → Type 0
+RefusesEvent heap live (Malloc at size) AddressTaken = IsSome (live at)
+RefusesEvent heap live (Malloc at size) OutsideHeap = (live at ≡ None) × (IsInside (rounded_base at size) (rounded_top at size) heap.base heap.top → ⊥)
+RefusesEvent heap live (Malloc at size) Overlaps = (live at ≡ None) × IsInside (rounded_base at size) (rounded_top at size) heap.base heap.top
     × (other : ℕ) × (length : ℕ) × Shares rounded_base rounded_top live at size other length
-IsFaultOf heap live (Malloc at size) refusal = ⊥
-IsFaultOf heap live (Free at) refusal = (refusal ≡ NotLive) × (live at ≡ None)
+RefusesEvent heap live (Malloc at size) refusal = ⊥
+RefusesEvent heap live (Free at) refusal = (refusal ≡ NotLive) × (live at ≡ None)
 
--- why an event did not happen: a test holds, or none does and there was no memory for a new object
+-- why an event did not happen: a check fails, or none does and there was no memory for a new object
 abbrev pub IsEndOf : Interval → Objects → Event → EventEnd → Type 0
-IsEndOf heap objects event (Refused refusal) = IsFaultOf heap objects event refusal
+IsEndOf heap objects event (Refused refusal) = RefusesEvent heap objects event refusal
 IsEndOf heap objects (Malloc at length) NoMemory = HasRoom heap objects at length
 IsEndOf heap objects (Free at) NoMemory = ⊥

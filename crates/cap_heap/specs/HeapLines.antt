@@ -6,21 +6,21 @@ use Rattle.cap_heap.specs.declared.lines.HeapLine.{HeapLine}
 use Rattle.cap_heap.specs.declared.lines.HeapLine.TheVariants.{Header, Root, Happens, End}
 
 -- the numbers of a line are such as a line has: a root ends at 2 ^ 64 at most, and not below its base
-abbrev pub IsInRange : HeapLine → Type 0
-IsInRange Header = Unit {0}
-IsInRange (Root bounds) = (bounds.base < 2 ^ 64) × (bounds.base ≤ bounds.top) × (bounds.top ≤ 2 ^ 64)
-IsInRange (Happens (Malloc address length)) = (address < 2 ^ 64) × (length < 2 ^ 64)
-IsInRange (Happens (Free address)) = address < 2 ^ 64
-IsInRange (End count) = count < 2 ^ 32
+abbrev pub IsHeapLineInRange : HeapLine → Type 0
+IsHeapLineInRange Header = Unit {0}
+IsHeapLineInRange (Root bounds) = (bounds.base < 2 ^ 64) × (bounds.base ≤ bounds.top) × (bounds.top ≤ 2 ^ 64)
+IsHeapLineInRange (Happens (Malloc address length)) = (address < 2 ^ 64) × (length < 2 ^ 64)
+IsHeapLineInRange (Happens (Free address)) = address < 2 ^ 64
+IsHeapLineInRange (End count) = count < 2 ^ 32
 
 -- the line's bytes, without its line feed
-abbrev pub spelling : HeapLine → List ℕ
-spelling Header = codes "heap 1"
-spelling (Root bounds) = codes "root " ++ (hex_digits 16 bounds.base ++ (codes " " ++ hex_digits 17 bounds.top))
-spelling (Happens (Malloc address length)) = codes "malloc " ++ (hex_digits 16 address ++ (codes " " ++ hex_digits 16 length))
-spelling (Happens (Free address)) = codes "free " ++ hex_digits 16 address
-spelling (End count) = codes "end " ++ decimal count
+abbrev pub heap_spelling : HeapLine → List ℕ
+heap_spelling Header = codes "heap 1"
+heap_spelling (Root bounds) = codes "root " ++ (hex_digits 16 bounds.base ++ (codes " " ++ hex_digits 17 bounds.top))
+heap_spelling (Happens (Malloc address length)) = codes "malloc " ++ (hex_digits 16 address ++ (codes " " ++ hex_digits 16 length))
+heap_spelling (Happens (Free address)) = codes "free " ++ hex_digits 16 address
+heap_spelling (End count) = codes "end " ++ decimal count
 
 -- the bytes are the one spelling of this line
-abbrev pub Spells : List ℕ → HeapLine → Type 0
-Spells bytes line = IsInRange line × (bytes ≡ spelling line)
+abbrev pub SpellsHeapLine : List ℕ → HeapLine → Type 0
+SpellsHeapLine bytes line = IsHeapLineInRange line × (bytes ≡ heap_spelling line)

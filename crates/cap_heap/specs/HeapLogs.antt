@@ -8,50 +8,51 @@ use Rattle.cap_heap.specs.declared.lines.HeapLine.{HeapLine}
 use Rattle.cap_heap.specs.declared.lines.HeapLine.TheVariants.{Header, Root, Happens, End}
 use Rattle.cap_heap.specs.declared.refusal.HeapRefusal.{HeapRefusal}
 use Rattle.cap_heap.specs.declared.refusal.HeapRefusal.TheVariants.{BadHeader, LineTooLong, BadLine, Misplaced, Truncated, WrongCount, LimitPassed}
-use Rattle.cap_heap.specs.HeapLines.{IsInRange, Spells, spelling}
+use Rattle.cap_heap.specs.HeapLines.{IsHeapLineInRange, SpellsHeapLine, heap_spelling}
 use Rattle.cap_heap.specs.Objects.{Objects, IsApart, CanBeGuarded}
-use Rattle.cap_heap.specs.Events.{Throughout, IsFaultOf, after}
+use Rattle.cap_heap.specs.Events.{Throughout, RefusesEvent, objects_after}
 
 -- the text of lines: each line's spelling and a line feed
-abbrev pub text_of : List HeapLine → List ℕ
-text_of lines = flat_map (λ line. spelling line ++ 10 ∷ []) lines
+abbrev pub heap_text_of : List HeapLine → List ℕ
+heap_text_of lines = flat_map (λ line. heap_spelling line ++ 10 ∷ []) lines
 
--- the lines are a log of these events inside this root: they keep to the grammar, each object comes to live where none lives and is freed
--- where it lives, and at every moment a fact holds of the root and the live objects
-abbrev pub IsLogOf : (Interval → Objects → Type 0) → List HeapLine → Interval → List Event → Type 0
-IsLogOf Fact lines root events = (lines ≡ Header ∷ Root root ∷ (map Happens events ++ End (length events) ∷ []))
-    × AllByRecursion IsInRange lines × Throughout (Fact root) (λ address. None) events
+-- the lines are a log of these events inside this root: they keep to the grammar, each object comes to live where none
+-- lives and is freed where it lives, and at every moment a fact holds of the root and the live objects
+abbrev pub IsHeapLogOf : (Interval → Objects → Type 0) → List HeapLine → Interval → List Event → Type 0
+IsHeapLogOf Fact lines root events = (lines ≡ Header ∷ Root root ∷ (map Happens events ++ End (length events) ∷ []))
+    × AllByRecursion IsHeapLineInRange lines × Throughout (Fact root) (λ address. None) events
 
--- the bytes are a log to each of whose live objects, at every moment, a sound word can be given whose bounds hold it, such that these lie
--- apart and inside the root
+-- the bytes are a log to each of whose live objects, at every moment, a sound word can be given whose bounds hold it,
+-- such that these lie apart and inside the root
 abbrev pub CanBeGuardedThroughout : List ℕ → Type 0
 CanBeGuardedThroughout bytes =
-    (lines : List HeapLine) × (root : Interval) × (events : List Event) × (bytes ≡ text_of lines) × IsLogOf CanBeGuarded lines root events
+    (lines : List HeapLine) × (root : Interval) × (events : List Event) × (bytes ≡ heap_text_of lines) × IsHeapLogOf CanBeGuarded lines root events
 
--- why a line is refused behind these events where a log goes on with another one, a root or its end: the limit is tested before an event
-abbrev pub RefusesLine : Interval → List Event → HeapLine → HeapLine → HeapRefusal → Type 0
-RefusesLine root events (Root bounds) line refusal = ((other : Interval) → line ≢ Root other) × (refusal ≡ Misplaced)
-RefusesLine root events (End count) (Happens event) refusal = ((length events ≡ 2 ^ 32 - 1) × (refusal ≡ LimitPassed))
-    ⊎ ((length events < 2 ^ 32 - 1) × IsFaultOf root (fold after (λ address. None) events) event refusal)
-RefusesLine root events (End count) (End other) refusal = (other ≢ count) × (refusal ≡ WrongCount)
-RefusesLine root events (End count) line refusal = refusal ≡ Misplaced
-RefusesLine root events due line refusal = ⊥
+-- why a line is refused behind these events where a log goes on with another one, a root or its end: the limit is
+-- checked before an event
+abbrev pub RefusesHeapLine : Interval → List Event → HeapLine → HeapLine → HeapRefusal → Type 0
+RefusesHeapLine root events (Root bounds) line refusal = ((other : Interval) → line ≢ Root other) × (refusal ≡ Misplaced)
+RefusesHeapLine root events (End count) (Happens event) refusal = ((length events ≡ 2 ^ 32 - 1) × (refusal ≡ LimitPassed))
+    ⊎ ((length events < 2 ^ 32 - 1) × RefusesEvent root (fold objects_after (λ address. None) events) event refusal)
+RefusesHeapLine root events (End count) (End other) refusal = (other ≢ count) × (refusal ≡ WrongCount)
+RefusesHeapLine root events (End count) line refusal = refusal ≡ Misplaced
+RefusesHeapLine root events due line refusal = ⊥
 
 -- why the text of a line is refused there: it has no form, or one that is refused
 abbrev pub RefusesText : Interval → List Event → HeapLine → HeapRefusal → List ℕ → Type 0
-RefusesText root events Header refusal text = (Spells text Header → ⊥) × (refusal ≡ BadHeader)
-RefusesText root events due refusal text = (((line : HeapLine) → Spells text line → ⊥) × (refusal ≡ BadLine))
-    ⊎ ((line : HeapLine) × Spells text line × RefusesLine root events due line refusal)
+RefusesText root events Header refusal text = (SpellsHeapLine text Header → ⊥) × (refusal ≡ BadHeader)
+RefusesText root events due refusal text = (((line : HeapLine) → SpellsHeapLine text line → ⊥) × (refusal ≡ BadLine))
+    ⊎ ((line : HeapLine) × SpellsHeapLine text line × RefusesHeapLine root events due line refusal)
 
--- why bytes are refused where a log goes on with these lines: after its end any byte is misplaced; before it the front is too long, or cut,
--- or a whole line that is refused
-abbrev pub Refuses : Interval → List Event → List HeapLine → List ℕ → HeapRefusal → Type 0
-Refuses root events [] rest refusal = (rest ≢ []) × (refusal ≡ Misplaced)
-Refuses root events (due ∷ later) rest refusal = FrontIs rest (refusal ≡ LineTooLong) (refusal ≡ Truncated) (RefusesText root events due refusal)
+-- why bytes are refused where a log goes on with these lines: after its end any byte is misplaced; before it the front
+-- is too long, or cut, or a whole line that is refused
+abbrev pub RefusesHeap : Interval → List Event → List HeapLine → List ℕ → HeapRefusal → Type 0
+RefusesHeap root events [] rest refusal = (rest ≢ []) × (refusal ≡ Misplaced)
+RefusesHeap root events (due ∷ later) rest refusal = FrontIs rest (refusal ≡ LineTooLong) (refusal ≡ Truncated) (RefusesText root events due refusal)
 
--- the bytes are the text of the first lines of a log, and then, where it goes on with lines that are due, a rest that is refused: the line
--- behind the first ones is at fault
-abbrev pub IsFirstFault : List ℕ → ℕ → HeapRefusal → Type 0
-IsFirstFault bytes number refusal = (root : Interval) × (events : List Event) × (before : List HeapLine) × (due : List HeapLine) × (rest : List ℕ)
-    × IsLogOf IsApart (before ++ due) root events × (bytes ≡ text_of before ++ rest) × (number ≡ length before + 1)
-    × Refuses root events due rest refusal
+-- the bytes are the text of the first lines of a log, and then, where it goes on with lines that are due, a rest that
+-- is refused: the line behind the first ones is at fault
+abbrev pub IsFirstHeapFault : List ℕ → ℕ → HeapRefusal → Type 0
+IsFirstHeapFault bytes number refusal = (root : Interval) × (events : List Event) × (before : List HeapLine) × (due : List HeapLine) × (rest : List ℕ)
+    × IsHeapLogOf IsApart (before ++ due) root events × (bytes ≡ heap_text_of before ++ rest) × (number ≡ length before + 1)
+    × RefusesHeap root events due rest refusal

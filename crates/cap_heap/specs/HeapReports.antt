@@ -1,5 +1,5 @@
--- What the author of an allocator wants to know of a log: what the bounds of its objects reach, and what exact ones would cost (this
--- profile's own, as are all below).
+-- What the author of an allocator wants to know of a log: what the bounds of its objects reach, and what exact ones
+-- would cost (this profile's own, as are all below).
 use Rattle.std.specs.Prelude.{◌≡◌, ℕ, ◌+◌, ◌-◌, ◌%◌, ◌^◌, ◌≤◌, ◌==◌, if◌then◌else◌, min, max, List, ◌++◌, take, codes, decimal}
 use Rattle.std.specs.List.{sum_by}
 use Rattle.cap_bounds.specs.Rounding.{rounded_base, rounded_top, alignment_of}

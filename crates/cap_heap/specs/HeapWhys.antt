@@ -1,9 +1,9 @@
--- The report of a no: the line that was refused, and what its tests saw (this profile's own, as are all below).
+-- The diagnosis after a `no`: the line that was refused, and what its checks saw (this profile's own, as are all below).
 use Rattle.std.specs.Prelude.{◌≡◌, ◌⊎◌, ℕ, ◌+◌, Bool, ◌&&◌, nat_lt, if◌then◌else◌, List, [], ◌∷◌, ◌++◌, take, fold, Option, Some, None, MatchOption, codes, decimal}
 use Rattle.cap_word.specs.Digits.{hex_digits}
 use Rattle.cap_bounds.specs.declared.decoding.Interval.{Interval}
 use Rattle.cap_bounds.specs.Rounding.{rounded_base, rounded_top, alignment_of}
-use Rattle.cap_log.specs.Front.{FrontIs}
+use Rattle.cap_log.specs.Front.{IsFrontText}
 use Rattle.cap_texts.specs.CapLines.{bounds_line}
 use Rattle.cap_texts.specs.ShownBytes.{shown_line}
 use Rattle.cap_texts.specs.TextLines.{text_line}
@@ -15,10 +15,10 @@ use Rattle.cap_heap.specs.declared.refusal.HeapRefusal.{HeapRefusal}
 use Rattle.cap_heap.specs.declared.refusal.HeapRefusal.TheVariants.{BadHeader, LineTooLong, BadLine, Misplaced, Truncated, WrongCount}
 use Rattle.cap_heap.specs.declared.refusal.HeapRefusal.TheVariants.{LimitPassed, OutsideHeap}
 use Rattle.cap_heap.specs.BadLines.{AreBadLines, AreFirstLines}
-use Rattle.cap_heap.specs.HeapLines.{Spells}
+use Rattle.cap_heap.specs.HeapLines.{SpellsHeapLine}
 use Rattle.cap_heap.specs.Objects.{Objects, no_objects, Shares, LieApart}
-use Rattle.cap_heap.specs.Events.{after}
-use Rattle.cap_heap.specs.HeapLogs.{IsFirstFault}
+use Rattle.cap_heap.specs.Events.{objects_after}
+use Rattle.cap_heap.specs.HeapLogs.{IsFirstHeapFault}
 
 -- how many events there were
 unfoldable pub count_line : ℕ → List ℕ
@@ -47,7 +47,8 @@ unfoldable pub live_right_lines : ℕ → List ℕ
 live_right_lines size =
     text_line (codes "live length") (hex_digits 17 (rounded_top 0 size)) ++ text_line (codes "live alignment") (hex_digits 17 (alignment_of size))
 
--- what would keep a request apart from the live object: that its bounds are exact too; or nothing, where both share bytes
+-- what would keep a request apart from the live object: that its bounds are exact too; or nothing, where both share
+-- bytes
 abbrev pub apart_lines : ℕ → ℕ → Option (ℕ × ℕ) → List ℕ
 apart_lines at size None = []
 apart_lines at size (Some entry) =
@@ -55,8 +56,9 @@ apart_lines at size (Some entry) =
     then text_line (codes "hint") (codes "the two objects share bytes: no bounds keep them apart")
     else live_right_lines entry.1
 
--- what is told of an event that is refused among these objects: of a request its bounds, of one outside the heap the heap's, of another a
--- live object that has an address in common with it, where one has, and what would keep the two apart
+-- what is told of an event that is refused among these objects: of a request its bounds, of one outside the heap the
+-- heap's, of another a live object that has an address in common with it, where one has, and what would keep the two
+-- apart
 abbrev pub AreEventDetails : Interval → Objects → Event → HeapRefusal → List ℕ → Type 0
 AreEventDetails heap objects (Free at) refusal details = details ≡ []
 AreEventDetails heap objects (Malloc at size) OutsideHeap details =
@@ -76,12 +78,12 @@ count_in (line ∷ lines) = count_in lines
 -- which lines may come, where a log goes on with these
 abbrev pub due_text : List HeapLine → List ℕ
 due_text (Root bounds ∷ later) = codes "root BASE TOP, the bounds of the heap"
-due_text due = codes "malloc, free or one end line, and nothing after it"
+due_text due = codes "malloc, free or one end line, and nothing objects_after it"
 
 -- what has to come, after so many events
 abbrev pub due_line : List HeapLine → HeapRefusal → ℕ → List ℕ
 due_line due Misplaced count = text_line (codes "expected") (due_text due)
-due_line due Truncated count = text_line (codes "expected") (codes "an end line, and a line feed after each line")
+due_line due Truncated count = text_line (codes "expected") (codes "an end line, and a line feed objects_after each line")
 due_line due WrongCount count = text_line (codes "expected end") (decimal count)
 due_line due refusal count = []
 
@@ -89,31 +91,29 @@ due_line due refusal count = []
 abbrev pub counted_lines : List HeapLine → HeapRefusal → ℕ → List ℕ
 counted_lines due refusal count = count_line count ++ due_line due refusal count
 
--- what is told of a line after these events, for its refusal, where these lines come before it and a log goes on with other lines: what is
--- expected where it has no form, how many events come before it where that decides, and otherwise what is told of its event
-abbrev pub AreDetails : Interval → List Event → List HeapLine → List HeapLine → List ℕ → HeapRefusal → List ℕ → Type 0
-AreDetails root events before due text BadHeader details = AreFirstLines text details
-AreDetails root events before due text LineTooLong details =
-    details ≡ text_line (codes "expected") (codes "a line feed after at most 95 bytes")
-AreDetails root events before due text BadLine details = AreBadLines text details
-AreDetails root events before due text Misplaced details = details ≡ counted_lines due Misplaced (count_in before)
-AreDetails root events before due text Truncated details = details ≡ counted_lines due Truncated (count_in before)
-AreDetails root events before due text WrongCount details = details ≡ counted_lines due WrongCount (count_in before)
-AreDetails root events before due text LimitPassed details = details ≡ counted_lines due LimitPassed (count_in before)
-AreDetails root events before (End count ∷ later) text refusal details =
-    ((event : Event) × Spells text (Happens event) × AreEventDetails root (fold after no_objects events) event refusal details)
-    ⊎ (((event : Event) → Spells text (Happens event) → ⊥) × (details ≡ []))
-AreDetails root events before due text refusal details = details ≡ []
+-- what is told of a line after these events, for its refusal, where these lines come before it and a log goes on with
+-- other lines: what is expected where it has no form, how many events come before it where that decides, and otherwise
+-- what is told of its event
+abbrev pub AreHeapDetails : Interval → List Event → List HeapLine → List HeapLine → List ℕ → HeapRefusal → List ℕ → Type 0
+AreHeapDetails root events before due text BadHeader details = AreFirstLines text details
+AreHeapDetails root events before due text LineTooLong details =
+    details ≡ text_line (codes "expected") (codes "a line feed objects_after at most 95 bytes")
+AreHeapDetails root events before due text BadLine details = AreBadLines text details
+AreHeapDetails root events before due text Misplaced details = details ≡ counted_lines due Misplaced (count_in before)
+AreHeapDetails root events before due text Truncated details = details ≡ counted_lines due Truncated (count_in before)
+AreHeapDetails root events before due text WrongCount details = details ≡ counted_lines due WrongCount (count_in before)
+AreHeapDetails root events before due text LimitPassed details = details ≡ counted_lines due LimitPassed (count_in before)
+AreHeapDetails root events before (End count ∷ later) text refusal details =
+    ((event : Event) × SpellsHeapLine text (Happens event) × AreEventDetails root (fold objects_after no_objects events) event refusal details)
+    ⊎ (((event : Event) → SpellsHeapLine text (Happens event) → ⊥) × (details ≡ []))
+AreHeapDetails root events before due text refusal details = details ≡ []
 
--- the text is the line that the bytes begin with: the first 96 bytes where more come before a line feed, all where none comes
-abbrev pub IsFrontText : List ℕ → List ℕ → Type 0
-IsFrontText bytes text = FrontIs bytes (text ≡ take 96 bytes) (text ≡ bytes) (λ line. text ≡ line)
-
--- the report of a first fault: of its root, its events, the lines before it, those that are due, and the line that its rest begins with
-pub record IsReport (bytes : List ℕ) (number : ℕ) (refusal : HeapRefusal) (report : List ℕ) : Type 0 where
-  pub fault : IsFirstFault bytes number refusal
+-- the report of a first fault: of its root, its events, the lines before it, those that are due, and the line that its
+-- rest begins with
+pub record IsHeapReport (bytes : List ℕ) (number : ℕ) (refusal : HeapRefusal) (report : List ℕ) : Type 0 where
+  pub fault : IsFirstHeapFault bytes number refusal
   pub text : List ℕ
   pub front : IsFrontText fault.4 text
   pub details : List ℕ
-  pub are : AreDetails fault.0 fault.1 fault.2 fault.3 text refusal details
+  pub are : AreHeapDetails fault.0 fault.1 fault.2 fault.3 text refusal details
   pub report_is : report ≡ shown_line text ++ details

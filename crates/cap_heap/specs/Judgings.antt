@@ -12,7 +12,7 @@ use Rattle.cap_heap.specs.declared.verdict.HeapVerdict.TheVariants.{Yes, No}
 use Rattle.cap_heap.specs.declared.verdict.HeapFault.{HeapFault}
 use Rattle.cap_heap.specs.declared.verdict.HeapFault.{HeapFault}
 use Rattle.cap_heap.specs.declared.verdict.HeapFault.TheVariants.{NoMemory}
-use Rattle.cap_heap.specs.HeapVerdicts.{Judged, Lasts, ReportsAfter}
+use Rattle.cap_heap.specs.HeapVerdicts.{HeapJudged, Lasts, ReportsAfter}
 use Rattle.cap_heap.specs.Progresses.{IsStopped}
 
 -- what a line that is not taken makes the answer
@@ -38,6 +38,6 @@ StopsAfter bytes ended progress text (No line refusal) = Lasts bytes ended (λ a
 -- an answer with what was read, and after a no the line that was refused
 pub record JudgedBy {S : Type 0} (gave : S → S → List ℕ → Type 0) (ended : S → Bool) (old new : S)
     (result : Result HeapVerdict HeapFault) (progress : Progress) (text : List ℕ) : Type 0 where
-  pub judged : Judged gave ended old new result
+  pub judged : HeapJudged gave ended old new result
   pub reported : IfOk result (ReportsAfter judged.given progress.report)
   pub stopped : IfOk result (StopsAfter judged.given (ended new) progress text)

@@ -1,4 +1,5 @@
--- How a heap keeps objects: a map of lengths, and a set of the addresses of objects without a byte (this profile's own).
+-- How a heap keeps objects: a map of lengths, and a set of the addresses of objects without a byte (this profile's
+-- own).
 use Rattle.std.specs.Prelude.{ℕ, ◌+◌, Bool, true, false, Option, Some, None}
 use Rattle.std.specs.Ordering.{nat_cmp}
 use Rattle.std.specs.BTreeMap as tree

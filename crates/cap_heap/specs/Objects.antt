@@ -26,7 +26,8 @@ pub record AreApart (base top : ℕ → ℕ → ℕ) (heap : Interval) (objects 
 abbrev pub IsApart : Interval → Objects → Type 0
 IsApart heap objects = AreApart rounded_base rounded_top heap objects
 
--- to each address a word can be given, such that those of objects are sound, their bounds hold them, and these lie inside the heap's and apart
+-- to each address a word can be given, such that those of objects are sound, their bounds hold them, and these lie
+-- inside the heap's and apart
 abbrev pub CanBeGuarded : Interval → Objects → Type 0
 CanBeGuarded heap live = (word : ℕ → ℕ) × AreApart (λ at size. base_of (word at)) (λ at size. top_of (word at)) heap live
     × ((at size : ℕ) → live at ≡ Some size → (word at < 2 ^ 128) × IsSound (word at) × IsInside at (at + size) (base_of (word at)) (top_of (word at)))

@@ -1,4 +1,5 @@
--- Which beginnings of a log the progress of its judge stands for, and how it goes on (this profile's own, as are all below).
+-- Which beginnings of a log the progress of its judge stands for, and how it goes on (this profile's own, as are all
+-- below).
 use Rattle.std.specs.Prelude.{◌≡◌, ◌⊎◌, ℕ, ◌+◌, ◌-◌, ◌^◌, ◌<◌, List, [], ◌∷◌, ◌++◌, length}
 use Rattle.cap_bounds.specs.declared.decoding.Interval.{Interval}
 use Rattle.cap_heap.specs.declared.events.Event.{Event}
@@ -12,13 +13,14 @@ use Rattle.cap_heap.specs.declared.progress.Progress.{Progress}
 use Rattle.cap_heap.specs.declared.refusal.HeapRefusal.{HeapRefusal}
 use Rattle.cap_heap.specs.declared.report.HeapReport.{HeapReport}
 use Rattle.cap_heap.specs.declared.stage.Stage.TheVariants as stages
-use Rattle.cap_heap.specs.HeapLines.{Spells}
+use Rattle.cap_heap.specs.HeapLines.{SpellsHeapLine}
 use Rattle.cap_heap.specs.Objects.{no_objects, IsApart}
 use Rattle.cap_heap.specs.Events.{HasRoom, mallocs, frees}
 use Rattle.cap_heap.specs.HeapReports.{IsReportOf}
 use Rattle.cap_heap.specs.Heaps.{objects_in, live_in}
-use Rattle.cap_heap.specs.HeapWhys.{AreEventDetails, IsFrontText}
-use Rattle.cap_heap.specs.HeapLogs.{RefusesLine, text_of}
+use Rattle.cap_log.specs.Front.{IsFrontText}
+use Rattle.cap_heap.specs.HeapWhys.{AreEventDetails}
+use Rattle.cap_heap.specs.HeapLogs.{RefusesHeapLine, heap_text_of}
 use Rattle.cap_heap.specs.Beginnings.{Beginning, Nothing, Headed, Body, Whole, Runs, IsAccepted, RefusesWhole, RefusesBehind, lines_of, objects_after}
 
 -- a root and events that are accepted lead to a heap, a report and a number of events
@@ -48,9 +50,9 @@ Takes old line new =
 
 -- the same of the line that a text spells
 abbrev pub TakesText : Progress → List ℕ → Progress → Type 0
-TakesText old text new = (line : HeapLine) × Spells text line × Takes old line new
+TakesText old text new = (line : HeapLine) × SpellsHeapLine text line × Takes old line new
 
--- an object comes to live that no test refuses
+-- an object comes to live that no check refuses
 abbrev pub WantsMemory : Interval → List Event → HeapLine → Type 0
 WantsMemory root events line =
     (address : ℕ) × (size : ℕ) × (line ≡ Happens (Malloc address size)) × (length events < 2 ^ 32 - 1)
@@ -58,12 +60,12 @@ WantsMemory root events line =
 
 -- why a line after these events is not taken
 abbrev pub EndsLine : Interval → List Event → HeapLine → EventEnd → Type 0
-EndsLine root events line (Refused refusal) = RefusesLine root events (End (length events)) line refusal
+EndsLine root events line (Refused refusal) = RefusesHeapLine root events (End (length events)) line refusal
 EndsLine root events line NoMemory = WantsMemory root events line
 
 -- the line after a beginning is one for which there may be no memory
 abbrev pub LacksMemory : Beginning → List ℕ → Type 0
-LacksMemory (Body root events) text = (line : HeapLine) × Spells text line × WantsMemory root events line
+LacksMemory (Body root events) text = (line : HeapLine) × SpellsHeapLine text line × WantsMemory root events line
 LacksMemory beginning text = ⊥
 
 -- whatever beginning the progress stands for, it does not take this line
@@ -71,25 +73,26 @@ abbrev pub EndsText : Progress → List ℕ → EventEnd → Type 0
 EndsText progress text (Refused refusal) = (beginning : Beginning) → StandsFor progress beginning → RefusesWhole beginning text refusal
 EndsText progress text NoMemory = (beginning : Beginning) → StandsFor progress beginning → LacksMemory beginning text
 
--- the bytes are the text of a beginning that the progress stands for, and this rest, which begins with the line of this number
+-- the bytes are the text of a beginning that the progress stands for, and this rest, which begins with the line of this
+-- number
 pub record IsAt (bytes : List ℕ) (progress : Progress) (rest : List ℕ) (line : ℕ) : Type 0 where
   pub beginning : Beginning
   pub stands : StandsFor progress beginning
-  pub bytes_are : bytes ≡ text_of (lines_of beginning) ++ rest
+  pub bytes_are : bytes ≡ heap_text_of (lines_of beginning) ++ rest
   pub line_is : line ≡ length (lines_of beginning) + 1
 
 -- what is told of the event that a text spells, by the objects of a heap
 abbrev pub AreEventDetailsIn : Heap → List ℕ → HeapRefusal → List ℕ → Type 0
 AreEventDetailsIn heap text refusal details =
-    ((event : Event) × Spells text (Happens event) × AreEventDetails heap.bounds (objects_in heap) event refusal details)
-    ⊎ (((event : Event) → Spells text (Happens event) → ⊥) × (details ≡ []))
+    ((event : Event) × SpellsHeapLine text (Happens event) × AreEventDetails heap.bounds (objects_in heap) event refusal details)
+    ⊎ (((event : Event) → SpellsHeapLine text (Happens event) → ⊥) × (details ≡ []))
 
--- after a no, the progress stands for the beginning behind which a line was refused, whatever bytes follow where the source has not ended,
--- and the text is that line
+-- after a no, the progress stands for the beginning behind which a line was refused, whatever bytes follow where the
+-- source has not ended, and the text is that line
 pub record IsStopped (bytes : List ℕ) (progress : Progress) (text : List ℕ) (number : ℕ) (refusal : HeapRefusal) : Type 0 where
   pub beginning : Beginning
   pub rest : List ℕ
-  pub bytes_are : bytes ≡ text_of (lines_of beginning) ++ rest
+  pub bytes_are : bytes ≡ heap_text_of (lines_of beginning) ++ rest
   pub accepted : IsAccepted beginning
   pub number_is : number ≡ length (lines_of beginning) + 1
   pub refused : RefusesBehind beginning rest refusal

@@ -5,29 +5,29 @@ use Rattle.cap_heap.specs.declared.refusal.HeapRefusal.TheVariants.{BadHeader, L
 use Rattle.cap_heap.specs.declared.refusal.HeapRefusal.TheVariants.{LimitPassed, AddressTaken, OutsideHeap, Overlaps, NotLive}
 
 -- a refusal's number: those of a log of operations keep theirs (this profile's own)
-abbrev pub refusal_number : HeapRefusal → ℕ
-refusal_number BadHeader = 1
-refusal_number LineTooLong = 2
-refusal_number BadLine = 3
-refusal_number Misplaced = 4
-refusal_number Truncated = 5
-refusal_number WrongCount = 6
-refusal_number LimitPassed = 24
-refusal_number AddressTaken = 26
-refusal_number OutsideHeap = 27
-refusal_number Overlaps = 28
-refusal_number NotLive = 29
+abbrev pub heap_refusal_number : HeapRefusal → ℕ
+heap_refusal_number BadHeader = 1
+heap_refusal_number LineTooLong = 2
+heap_refusal_number BadLine = 3
+heap_refusal_number Misplaced = 4
+heap_refusal_number Truncated = 5
+heap_refusal_number WrongCount = 6
+heap_refusal_number LimitPassed = 24
+heap_refusal_number AddressTaken = 26
+heap_refusal_number OutsideHeap = 27
+heap_refusal_number Overlaps = 28
+heap_refusal_number NotLive = 29
 
 -- a refusal's name (this profile's own)
-abbrev pub name_of : HeapRefusal → List ℕ
-name_of BadHeader = codes "BadHeader"
-name_of LineTooLong = codes "LineTooLong"
-name_of BadLine = codes "BadLine"
-name_of Misplaced = codes "Misplaced"
-name_of Truncated = codes "Truncated"
-name_of WrongCount = codes "WrongCount"
-name_of LimitPassed = codes "LimitPassed"
-name_of AddressTaken = codes "AddressTaken"
-name_of OutsideHeap = codes "OutsideHeap"
-name_of Overlaps = codes "Overlaps"
-name_of NotLive = codes "NotLive"
+abbrev pub heap_refusal_name : HeapRefusal → List ℕ
+heap_refusal_name BadHeader = codes "BadHeader"
+heap_refusal_name LineTooLong = codes "LineTooLong"
+heap_refusal_name BadLine = codes "BadLine"
+heap_refusal_name Misplaced = codes "Misplaced"
+heap_refusal_name Truncated = codes "Truncated"
+heap_refusal_name WrongCount = codes "WrongCount"
+heap_refusal_name LimitPassed = codes "LimitPassed"
+heap_refusal_name AddressTaken = codes "AddressTaken"
+heap_refusal_name OutsideHeap = codes "OutsideHeap"
+heap_refusal_name Overlaps = codes "Overlaps"
+heap_refusal_name NotLive = codes "NotLive"

@@ -4,7 +4,7 @@ ghost use Rattle.std.specs.Prelude.{◌≡◌, ℕ, List, Err, None};
 ghost use Rattle.cap_log.specs.Streams.{CountsOnly};
 ghost use Rattle.cap_log.specs.Takings.{kept, over_of};
 ghost use Rattle.cap_heap.specs.Heaps.{live_in};
-ghost use Rattle.cap_heap.specs.HeapVerdicts.{Judged};
+ghost use Rattle.cap_heap.specs.HeapVerdicts.{HeapJudged};
 ghost use Rattle.cap_heap.specs.declared.stage.Stage.TheVariants.{Start};
 ghost use Rattle.cap_heap.specs.Judgings.{JudgedBy, answer_at, finished_in, refused_in};
 ghost use Rattle.cap_heap.specs.RefusedLines.{bytes_of};
@@ -31,7 +31,7 @@ use std::alloc::Global;
 /// a line follows them. Memory is taken only for an object that is allocated and that no check refuses;
 /// `NoMemory` comes only there. It returns for a source without end too, since a log has fewer than 2^32 events.
 pub fn judge_heap<S: Source>(alloc: Global, source: &mut S) -> Result<HeapVerdict, HeapFault>
-    ensures judged { Judged S.gave S.ended source.old source.new result }
+    ensures judged { HeapJudged S.gave S.ended source.old source.new result }
 
     // A fault of the source ends the call, and nothing else counts one.
     ensures counted { CountsOnly (Err Pull) (S.faults source.old) (S.faults source.new) result }

@@ -6,17 +6,17 @@ ghost use Rattle.cap_heap.specs.declared.events.Event.{Event};
 ghost use Rattle.cap_heap.specs.declared.lines.HeapLine.{HeapLine};
 ghost use Rattle.cap_heap.specs.declared.refusal.HeapRefusal.{HeapRefusal};
 ghost use Rattle.cap_heap.specs.Objects.{CanBeGuarded, IsApart};
-ghost use Rattle.cap_heap.specs.HeapLogs.{IsFirstFault, IsLogOf, text_of};
+ghost use Rattle.cap_heap.specs.HeapLogs.{IsFirstHeapFault, IsHeapLogOf, heap_text_of};
 
 /// Whatever the lines: they are a log at each moment of which the rounded bounds of the live objects lie inside the
 /// root and apart, exactly where they are one at each moment of which sound words can be given so.
 pub fn apart_is_guarded()
     ensures law { (lines : List HeapLine) (root : Interval) (events : List Event)
-        → IsLogOf IsApart lines root events ↔ IsLogOf CanBeGuarded lines root events }
+        → IsHeapLogOf IsApart lines root events ↔ IsHeapLogOf CanBeGuarded lines root events }
 {}
 
 /// The text of such a log has no faulty line.
 pub fn logs_have_no_fault()
-    ensures law { (lines : List HeapLine) (root : Interval) (events : List Event) → IsLogOf IsApart lines root events
-        → (number : ℕ) (refusal : HeapRefusal) → IsFirstFault (text_of lines) number refusal → ⊥ }
+    ensures law { (lines : List HeapLine) (root : Interval) (events : List Event) → IsHeapLogOf IsApart lines root events
+        → (number : ℕ) (refusal : HeapRefusal) → IsFirstHeapFault (heap_text_of lines) number refusal → ⊥ }
 {}

@@ -5,7 +5,7 @@ ghost use Rattle.cap_bounds.specs.declared.decoding.Interval.{Interval};
 ghost use Rattle.cap_heap.specs.declared.events.Event.{Event};
 ghost use Rattle.cap_heap.specs.declared.lines.HeapLine.TheVariants.{Happens, End};
 ghost use Rattle.cap_heap.specs.declared.stage.Stage.TheVariants as stages;
-ghost use Rattle.cap_heap.specs.HeapLines.{IsInRange};
+ghost use Rattle.cap_heap.specs.HeapLines.{IsHeapLineInRange};
 ghost use Rattle.cap_heap.specs.Beginnings.{Beginning, due_of, lines_of};
 
 use crate::events::{Event, EventEnd};
@@ -137,7 +137,7 @@ impl Progress {
     // Takes a line that was read after the root.
     fn take_read(&mut self, line: HeapLine) -> Result<(), EventEnd>
         requires stage { self.old.stage ≡ stages.Within }
-        requires range { IsInRange line }
+        requires range { IsHeapLineInRange line }
         ensures ok { OnOk result (Takes self.old line self.new) }
         ensures err { IfErr result (λ end. (root : Interval) (events : List Event)
             → Reaches self.old.heap self.old.report self.old.events root events → EndsLine root events line end) }
@@ -152,7 +152,7 @@ impl Progress {
 
     // An event happens, or it can't.
     fn happen(&mut self, event: Event) -> Result<(), EventEnd>
-        requires range { IsInRange (Happens event) }
+        requires range { IsHeapLineInRange (Happens event) }
         ensures ok { OnOk result ((root : Interval) (events : List Event) → Reaches self.old.heap self.old.report self.old.events root events
             → Reaches self.new.heap self.new.report self.new.events root (events ++ event ∷ [])) }
         ensures err { IfErr result (λ end. (root : Interval) (events : List Event)

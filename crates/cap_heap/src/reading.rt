@@ -4,7 +4,7 @@ ghost use Rattle.std.specs.Prelude.{◌≡◌, ◌<◌, ◌≤◌, ◌^◌, ◌+
 ghost use Rattle.cap_word.specs.Digits.{hex_digits};
 ghost use Rattle.cap_bounds.specs.declared.decoding.Interval.{Interval};
 ghost use Rattle.cap_log.specs.declared.lines.Line.TheVariants.{End as Ending};
-ghost use Rattle.cap_heap.specs.HeapLines.{Spells};
+ghost use Rattle.cap_heap.specs.HeapLines.{SpellsHeapLine};
 ghost use Rattle.cap_heap.specs.declared.events.Event.{Event};
 ghost use Rattle.cap_heap.specs.declared.events.Event.TheVariants.{Malloc, Free};
 ghost use Rattle.cap_heap.specs.declared.lines.HeapLine.{HeapLine};
@@ -19,8 +19,8 @@ use cap_word::{read_u64, take_u64};
 /// Reads a line from its bytes, without its line feed: the line that they spell, or `None` where they spell
 /// none.
 pub fn read_heap_line(text: &[u8]) -> Option<HeapLine>
-    ensures some { IfSome result (Spells text.now) }
-    ensures none { IfNone result ((line : HeapLine) → Spells text.now line → ⊥) }
+    ensures some { IfSome result (SpellsHeapLine text.now) }
+    ensures none { IfNone result ((line : HeapLine) → SpellsHeapLine text.now line → ⊥) }
 {
     if let Some(event) = read_malloc(text) {
         return Some(HeapLine::Happens(event));
@@ -43,7 +43,7 @@ pub fn read_heap_line(text: &[u8]) -> Option<HeapLine>
 
 /// Whether a line is the header.
 pub(crate) fn is_header(text: &[u8]) -> bool
-    ensures { IsTrue result ↔ Spells text.now Header }
+    ensures { IsTrue result ↔ SpellsHeapLine text.now Header }
 {
     text == b"heap 1".as_slice()
 }
@@ -60,8 +60,8 @@ pub(crate) fn behind<'a, const N: usize>(bytes: &'a [u8], front: &[u8; N]) -> Op
 
 /// Reads the line of an event.
 pub(crate) fn read_event(text: &[u8]) -> Option<Event>
-    ensures some { IfSome result (λ event. Spells text.now (Happens event)) }
-    ensures none { IfNone result ((event : Event) → Spells text.now (Happens event) → ⊥) }
+    ensures some { IfSome result (λ event. SpellsHeapLine text.now (Happens event)) }
+    ensures none { IfNone result ((event : Event) → SpellsHeapLine text.now (Happens event) → ⊥) }
 {
     if let Some(event) = read_malloc(text) {
         return Some(event);
@@ -71,8 +71,8 @@ pub(crate) fn read_event(text: &[u8]) -> Option<Event>
 
 // Reads the line of an object that is allocated.
 fn read_malloc(text: &[u8]) -> Option<Event>
-    ensures some { IfSome result (λ event. Spells text.now (Happens event)) }
-    ensures none { IfNone result ((address length : ℕ) → Spells text.now (Happens (Malloc address length)) → ⊥) }
+    ensures some { IfSome result (λ event. SpellsHeapLine text.now (Happens event)) }
+    ensures none { IfNone result ((address length : ℕ) → SpellsHeapLine text.now (Happens (Malloc address length)) → ⊥) }
 {
     let operands = behind(text, b"malloc ")?;
     let (address, rest) = take_u64(operands)?;
@@ -83,8 +83,8 @@ fn read_malloc(text: &[u8]) -> Option<Event>
 
 // Reads the line of an object that is freed.
 fn read_free(text: &[u8]) -> Option<Event>
-    ensures some { IfSome result (λ event. Spells text.now (Happens event)) }
-    ensures none { IfNone result ((address : ℕ) → Spells text.now (Happens (Free address)) → ⊥) }
+    ensures some { IfSome result (λ event. SpellsHeapLine text.now (Happens event)) }
+    ensures none { IfNone result ((address : ℕ) → SpellsHeapLine text.now (Happens (Free address)) → ⊥) }
 {
     let digits = behind(text, b"free ")?;
     let address = read_u64(digits)?;
@@ -93,8 +93,8 @@ fn read_free(text: &[u8]) -> Option<Event>
 
 // Reads the line of a root.
 fn read_root(text: &[u8]) -> Option<Interval>
-    ensures some { IfSome result (λ bounds. Spells text.now (Root bounds)) }
-    ensures none { IfNone result ((bounds : Interval) → Spells text.now (Root bounds) → ⊥) }
+    ensures some { IfSome result (λ bounds. SpellsHeapLine text.now (Root bounds)) }
+    ensures none { IfNone result ((bounds : Interval) → SpellsHeapLine text.now (Root bounds) → ⊥) }
 {
     let operands = behind(text, b"root ")?;
     let (base, rest) = take_u64(operands)?;
@@ -125,8 +125,8 @@ fn read_top(digits: &[u8]) -> Option<u128>
 
 // Reads the line after the events, which is that of a log of operations.
 fn read_end(text: &[u8]) -> Option<u32>
-    ensures some { IfSome result (λ count. Spells text.now (End count)) }
-    ensures none { IfNone result ((count : ℕ) → Spells text.now (End count) → ⊥) }
+    ensures some { IfSome result (λ count. SpellsHeapLine text.now (End count)) }
+    ensures none { IfNone result ((count : ℕ) → SpellsHeapLine text.now (End count) → ⊥) }
 {
     match cap_log::read_line(text) {
         Some(line) => count_of(line),

@@ -31,11 +31,11 @@ pub enum HeapRefusal {
 }
 
 impl HeapRefusal {
-    ghost use Rattle.cap_heap.specs.Refusals.{name_of, refusal_number};
+    ghost use Rattle.cap_heap.specs.Refusals.{heap_refusal_name, heap_refusal_number};
 
     /// The number that a verdict line shows.
     pub fn number(&self) -> u8
-        ensures number { result ≡ refusal_number self.now }
+        ensures number { result ≡ heap_refusal_number self.now }
         ensures range { (1 ≤ result) × (result ≤ 29) }
     {
         *self as u8
@@ -43,7 +43,7 @@ impl HeapRefusal {
 
     /// The name that a verdict line shows, as the variant is spelled.
     pub fn name(&self) -> &'static str
-        ensures name { result.now ≡ name_of self.now }
+        ensures name { result.now ≡ heap_refusal_name self.now }
         ensures short { length result.now ≤ 12 }
     {
         match self {

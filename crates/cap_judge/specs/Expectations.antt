@@ -27,7 +27,8 @@ given_for writes records access = None
 abbrev pub given_in : Row → Option Expected
 given_in row = given_for row.writes row.records row.access
 
--- the bytes are the text of a body whose steps have a run, a step that is refused for its result, for which the rules give this one, and a rest
+-- the bytes are the text of a body whose steps have a run, a step that is refused for its result, for which the rules
+-- give this one, and a rest
 pub record IsExpected (bytes : List ℕ) (expected : Expected) : Type 0 where
   pub rules : Rules
   pub roots : List DeclaredRoot

@@ -37,8 +37,8 @@ account_before (Whole rules roots steps) = account_after rules roots steps
 abbrev pub IsLastFront : List ℕ → Bool → List ℕ → Type 0
 IsLastFront rest ended text = FrontIs rest (text ≡ take 96 rest) ((text ≡ rest) × (ended ≡ true)) (λ line. text ≡ line)
 
--- the bytes are the text of a beginning that is accepted, whose account is that of what a machine holds, and the line of this number,
--- whose text is this
+-- the bytes are the text of a beginning that is accepted, whose account is that of what a machine holds, and the line
+-- of this number, whose text is this
 pub record StopsBefore (bytes : List ℕ) (ended : Bool) (held : Held) (line : ℕ) (text : List ℕ) : Type 0 where
   pub beginning : Beginning
   pub rest : List ℕ
@@ -47,7 +47,8 @@ pub record StopsBefore (bytes : List ℕ) (ended : Bool) (held : Held) (line : �
   pub account : account_of held ≡ account_before beginning
   pub front : IsLastFront rest ended text
 
--- after a no, the machine holds what the lines before the one that was refused lead to, and this is the text of that line
+-- after a no, the machine holds what the lines before the one that was refused lead to, and this is the text of that
+-- line
 abbrev pub StopsIn : List ℕ → Bool → Held → List ℕ → Verdict → Type 0
 StopsIn bytes ended held text (Yes steps roots) = Unit {0}
 StopsIn bytes ended held text (No line refusal) = StopsBefore bytes ended held line text
@@ -99,7 +100,8 @@ pub record JudgedBy {S : Type 0} (gave : S → S → List ℕ → Type 0) (ended
   pub leads : IfOk result (LeadsAfter judged.given held)
   pub stops : IfOk result (StopsIn judged.given (ended new) held text)
 
--- an answer on all the bytes of a log, with what the machine of the judge holds then, and the text of the line that was refused
+-- an answer on all the bytes of a log, with what the machine of the judge holds then, and the text of the line that was
+-- refused
 pub record JudgedAll (bytes : List ℕ) (result : Result Verdict JudgeFault) (held : Held) (text : List ℕ) : Type 0 where
   pub answer : IsAnswerOf bytes true result
   pub leads : IfOk result (LeadsAfter bytes held)

@@ -1,4 +1,5 @@
--- The report of origins: each tagged place of a log's last state, with the place of its root. All of it is this profile's own.
+-- The report of origins: each tagged place of a log's last state, with the place of its root. All of it is this
+-- profile's own.
 use Rattle.std.specs.Prelude.{◌≡◌, ℕ, List, length, map, flat_map, IsTrue, Contains}
 use Rattle.std.specs.List.{AllByRecursion}
 use Rattle.std.specs.List.Sorted.{IsStrictlySortedBy}
@@ -25,7 +26,8 @@ pub record IsOrigin (roots : List DeclaredRoot) (steps : List Step) (states : Li
   pub descends : DescendsFrom roots steps states (length steps) (key_of origin.place) from
   pub root_is : origin.root ≡ from.place
 
--- the origins of a run: of each tagged place of its last state one, the registers by number and then the granules by address
+-- the origins of a run: of each tagged place of its last state one, the registers by number and then the granules by
+-- address
 pub record AreOrigins (roots : List DeclaredRoot) (steps : List Step) (states : List State) (origins : List Origin) : Type 0 where
   pub each : AllByRecursion (IsOrigin roots steps states) origins
   pub rising : IsStrictlySortedBy nat_cmp (map (λ origin. key_of origin.place) origins)

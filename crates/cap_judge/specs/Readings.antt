@@ -66,8 +66,8 @@ abbrev pub IsAtFault : Stage → Type 0
 IsAtFault (Refused fault) = Unit {0}
 IsAtFault stage = ⊥
 
--- the lines of a beginning lead to what a machine holds, and what the next line has to be is what may follow them; where a line is at
--- fault, they are those before it
+-- the lines of a beginning lead to what a machine holds, and what the next line has to be is what may follow them;
+-- where a line is at fault, they are those before it
 abbrev pub IsAfter : Stage → Held → Beginning → Type 0
 IsAfter Version held logs.Empty = account_of held ≡ no_account One
 IsAfter Mode held logs.NoMode = account_of held ≡ no_account One
@@ -87,8 +87,8 @@ abbrev pub IsRest : Stage → Beginning → List ℕ → Type 0
 IsRest (Refused fault) beginning rest = IsFaultAt beginning rest fault
 IsRest stage beginning rest = rest ≡ []
 
--- the bytes are the text of a beginning that is accepted, which leads to what is known, and a rest: nothing, or what begins with a line
--- at fault
+-- the bytes are the text of a beginning that is accepted, which leads to what is known, and a rest: nothing, or what
+-- begins with a line at fault
 pub record Read (known : Known) (bytes : List ℕ) : Type 0 where
   pub beginning : Beginning
   pub rest : List ℕ
@@ -104,7 +104,8 @@ HasRead judge bytes = Read (known_of judge) bytes
 abbrev pub GoesOn : Known → List ℕ → Known → Type 0
 GoesOn old bytes new = (before : List ℕ) → (read : Read old before) → (now : Read new (before ++ bytes)) × (now.rest ≡ read.rest)
 
--- these were read, a front and a rest, and the line at fault begins the rest; where one was at fault before, it still stands there
+-- these were read, a front and a rest, and the line at fault begins the rest; where one was at fault before, it still
+-- stands there
 abbrev pub Faults : Known → List ℕ → List ℕ → Known → Type 0
 Faults old front rest new =
     (before : List ℕ) → (read : Read old before) → (now : Read new (before ++ (front ++ rest))) × (now.rest ≡ read.rest ++ rest)
@@ -139,7 +140,8 @@ abbrev pub GoesOrStops : Known → List ℕ → List ℕ → Option Stop → Kno
 GoesOrStops old front rest None new = (front ≢ []) × GoesOn old front new
 GoesOrStops old front rest (Some stop) new = StopsAt old front rest stop new
 
--- what bytes are that end behind lines that a machine has followed: a log, or a first fault, before which the machine stands
+-- what bytes are that end behind lines that a machine has followed: a log, or a first fault, before which the machine
+-- stands
 abbrev pub EndsWith : Held → List ℕ → Result Verdict faults.Fault → Type 0
 EndsWith held bytes (Ok (Yes steps roots)) = IsYes bytes steps roots × LeadsTo bytes held
 EndsWith held bytes (Ok (No line refusal)) = ⊥
@@ -151,7 +153,8 @@ abbrev pub IsAnswered : Result Verdict faults.Fault → Result Verdict JudgeFaul
 IsAnswered (Ok verdict) answer text = answer ≡ Ok verdict
 IsAnswered (Err fault) answer text = (answer ≡ Ok (No fault.line fault.refusal)) × (text ≡ bytes_of fault.text)
 
--- the bytes begin with the line of a step, by which whatever run has led to what a machine held goes on to what it holds
+-- the bytes begin with the line of a step, by which whatever run has led to what a machine held goes on to what it
+-- holds
 abbrev pub TakesStep : Held → List ℕ → Held → List ℕ → Type 0
 TakesStep old bytes new rest =
     (step : Step) × Begins IsInRange spelling 10 bytes (lines.Step step) rest
@@ -163,7 +166,8 @@ abbrev pub EndsStepAt : Held → List ℕ → List ℕ → StepEnd → Type 0
 EndsStepAt held bytes rest end =
     (step : Step) × Begins IsInRange spelling 10 bytes (lines.Step step) rest × EndsFor held (lines.Step step) end
 
--- a step was taken from the front of the bytes; or none, and nothing has changed; or the one there isn't made, and nothing has changed
+-- a step was taken from the front of the bytes; or none, and nothing has changed; or the one there isn't made, and
+-- nothing has changed
 abbrev pub TakesOne : Held → List ℕ → Result (Option (Bor (List ℕ))) StepEnd → Held → Type 0
 TakesOne old bytes (Ok (Some rest)) new = TakesStep old bytes new rest.now
 TakesOne old bytes (Ok None) new = new ≡ old
@@ -192,13 +196,14 @@ pub record BeginsWhole (bytes : List ℕ) : Type 0 where
   pub bytes_are : bytes ≡ text_of (lines_of beginning)
   pub accepted : IsAccepted beginning
 
--- how a log that begins with these bytes stands: none of its lines so far is a fault, or there is a no that stands whatever bytes follow
+-- how a log that begins with these bytes stands: none of its lines so far is a fault, or there is a no that stands
+-- whatever bytes follow
 abbrev pub Stands : List ℕ → Option Verdict → Type 0
 Stands bytes None = BeginsWhole bytes
 Stands bytes (Some verdict) = IsVerdictOf bytes false verdict
 
--- how a log that begins with these bytes stands, and where: none of its lines so far is a fault; or one is, whatever bytes follow, whose
--- text is this, and the machine holds what the lines before it lead to
+-- how a log that begins with these bytes stands, and where: none of its lines so far is a fault; or one is, whatever
+-- bytes follow, whose text is this, and the machine holds what the lines before it lead to
 abbrev pub StandsIn : Held → List ℕ → Option faults.Fault → Type 0
 StandsIn held bytes None = BeginsWhole bytes
 StandsIn held bytes (Some fault) =

@@ -8,7 +8,8 @@ use Rattle.cap_machine.specs.declared.rules.Rules.TheVariants.{One, TwoStrict, T
 use Rattle.cap_machine.specs.Accounts.{Account, no_account, with_root, with_step}
 use Rattle.cap_judge.specs.Logs.{has_form, line_checks}
 
--- how far a log is read: not at all; past the version line of version 2; past its header, to an account; past its end line
+-- how far a log is read: not at all; past the version line of version 2; past its header, to an account; past its end
+-- line
 pub data Stage : Type 0 where
   Unread : Stage
   Versioned : Stage

@@ -23,11 +23,3 @@ no_negative end digits none (pos n) rest fits e = no_minus n (end ∷ rest) digi
 no_negative end digits none (negsuc n) rest fits e =
     let small : n ≤ 2047 = omega (arith, ints, fits) in
     none (suc n) rest (omega arith) (ap (λ (bs : List ℕ). drop 1 bs) e) (omega arith, omega arith)
-
--- an offset fits sixteen bits
-offset-fits : (z : ℤ) → IsOffset z → SFits w16 z
-offset-fits (pos n) fits = let small : n ≤ 2047 = omega (arith, ints, fits) in record { sfits = omega arith }
-offset-fits (negsuc n) fits = let small : n ≤ 2047 = omega (arith, ints, fits) in record { sfits = omega arith }
-
-pub offset-bits : (z : ℤ) → IsOffset z → to_z w16 (of_z w16 z) ≡ z
-offset-bits z fits = to_z-of_z w16 z (offset-fits z fits)

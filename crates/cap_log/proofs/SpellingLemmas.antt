@@ -45,14 +45,6 @@ spelling-short l fits =
 pub IsLine-spelling : (l : Line) → IsInRange l → (rest : List ℕ) → IsLine (spelling l ++ 10 ∷ rest) (spelling l) rest
 IsLine-spelling l fits rest = record { whole = refl; one = spelling-plain l fits; short = spelling-short l fits }
 
--- a line as its head and its operands
-pub line_room : (l : Line) → IsInRange l → (n : ℕ) → 95 ≤ n → 0 + length
-    (head_spelling (head_of l) ++ 32 ∷ text (head_of l) (operands_of l)) ≤ n
-line_room l fits n room =
-    let short = spelling-short l fits in
-    let same = ap length (spelling-of l) in
-    omega arith
-
 -- bytes with a line feed behind them: what stands at their front says what they spell
 pub fed_none : (bytes : List ℕ) → BeginsWithNone IsInRange spelling 10 (bytes ++ 10 ∷ []) → (l : Line) → Spells bytes l → ⊥
 fed_none bytes none l spells = none l [] (spells.0, ap (λ (b : List ℕ). b ++ 10 ∷ []) spells.1)

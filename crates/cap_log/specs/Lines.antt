@@ -1,4 +1,5 @@
--- The grammar of a log's lines: what each line is spelled as, and which lines have a spelling. All of it is this profile's own.
+-- The grammar of a log's lines: what each line is spelled as, and which lines have a spelling. All of it is this
+-- profile's own.
 use Rattle.std.specs.Prelude.{◌≡◌, ℕ, ◌+◌, ◌-◌, ◌*◌, ◌^◌, ◌<◌, ◌≤◌, Bool, if◌then◌else◌, ◌⊎◌}
 use Rattle.std.specs.Prelude.{List, [], ◌∷◌, ◌++◌, codes, decimal, length, take, drop}
 use Rattle.std.specs.Fmt.{signed_decimal}
@@ -56,7 +57,8 @@ tag_spelling tag = if tag then codes "1" else codes "0"
 abbrev pub result_words : Cap → List (List ℕ)
 result_words result = codes "=" ∷ tag_spelling result.tag ∷ hex_digits 32 result.word.0 ∷ []
 
--- the words of a step that writes a register: its name, that register, the one that it reads first, what else it takes, its result
+-- the words of a step that writes a register: its name, that register, the one that it reads first, what else it takes,
+-- its result
 abbrev pub register_words : List ℕ → ℕ → ℕ → List (List ℕ) → Cap → List (List ℕ)
 register_words name target source more result = name ∷ register_spelling target ∷ register_spelling source ∷ more ++ result_words result
 
@@ -118,8 +120,8 @@ IsInRange (End steps) = steps < 2 ^ 32
 abbrev pub Spells : List ℕ → Line → Type 0
 Spells bytes line = IsInRange line × (bytes ≡ spelling line)
 
--- the line and its line feed stand at the front of a buffer, count bytes; the rest is as it was; and the bytes before the
--- line feed spell this line and no other
+-- the line and its line feed stand at the front of a buffer, count bytes; the rest is as it was; and the bytes before
+-- the line feed spell this line and no other
 pub record IsLineAt (line : Line) (old new : List ℕ) (count : ℕ) : Type 0 where
   pub ends : count ≡ length (spelling line) + 1
   pub fits : count ≤ 96

@@ -1,4 +1,5 @@
--- What a reader of a part of a line answers and a writer writes, and the parts themselves. All of it is this profile's own.
+-- What a reader of a part of a line answers and a writer writes, and the parts themselves. All of it is this profile's
+-- own.
 use Rattle.std.specs.Prelude.{◌≡◌, ◌≢◌, ℕ, ◌+◌, ◌*◌, ◌^◌, ◌<◌, ◌≤◌, List, [], ◌∷◌, ◌++◌, length, take, drop, Option}
 use Rattle.std.specs.Prelude.{Bool, true, false, Some, None, All, codes, decimal, slice_index}
 use Rattle.std.specs.List.{join_with_byte}
@@ -47,7 +48,8 @@ pub record StandsBehind {A : Type 0} (head : Head) (Fits : A → Type 0) (spelle
   pub part_of : (line : Line) (text : List ℕ) → IsInRange line → spelling line ≡ head_spelling head ++ 32 ∷ text
       → (value : A) × Fits value × (text ≡ spelled value)
 
--- what numbers make of a step's operands, in range or not, by the step that operands are: these, where the step is in range, or none
+-- what numbers make of a step's operands, in range or not, by the step that operands are: these, where the step is in
+-- range, or none
 abbrev pub IsMade : {A : Type 0} → (A → Step) → A → Option A → Type 0
 IsMade step_of operands None = ¬ IsStepInRange (step_of operands)
 IsMade step_of operands (Some made) = IsStepInRange (step_of operands) × (made ≡ operands)
@@ -72,7 +74,8 @@ IsFrom least bound n = (least ≤ n) × (n < bound)
 abbrev pub IsCount : ℕ → Type 0
 IsCount n = n < 2 ^ 32
 
--- the number of the digits at the front of the bytes, which are so many: as many as are asked for, or all that stand there
+-- the number of the digits at the front of the bytes, which are so many: as many as are asked for, or all that stand
+-- there
 pub record IsFrontNumber (most : ℕ) (bytes : List ℕ) (value count : ℕ) : Type 0 where
   pub few : count ≤ most
   pub inside : count ≤ length bytes

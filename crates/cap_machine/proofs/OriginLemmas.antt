@@ -20,7 +20,6 @@ use Rattle.cap_machine.specs.RunAccounts.{OriginsAreRoots, account_after}
 use Rattle.cap_machine.proofs.AccountLemmas.{after_roots, after_steps, with_step-grows, after_roots-grows}
 use Rattle.cap_machine.proofs.AuthorityLemmas.{one_root}
 use Rattle.cap_machine.proofs.GranuleLemmas.{granule_cap-absent}
-use Rattle.cap_machine.proofs.SoundLemmas.{granule_state}
 
 pub traced : (origins : Origins) (state : State) (steps : List Step) (states : List State) (key from : ℕ)
     → Descends state steps states key from
@@ -122,10 +121,6 @@ last_moment rules state [] [] run = (refl, refl)
 last_moment rules state [] (next ∷ states) run = absurd run
 last_moment rules state (step ∷ steps) [] run = absurd run
 last_moment rules state (step ∷ steps) (next ∷ states) run = let rest = last_moment rules next steps states run.1 in (rest.0, ap suc rest.1)
-
--- a granule that nothing has named holds NULL without a tag
-pub state-unnamed : (held : Held) (granule : ℕ) → fin.get held.memory granule ≡ None → state_of held (granule_key granule) ≡ untagged_null
-state-unnamed held granule absent = granule_state held.registers held.memory granule ∙ granule_cap-absent held.memory granule absent
 
 -- so the origin of each tagged place is the place of the one root that it descends from
 pub origins_found : (rules : Rules) (roots : List DeclaredRoot) (steps : List Step) (states : List State) → AreSound roots

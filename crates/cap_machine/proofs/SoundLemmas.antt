@@ -54,16 +54,6 @@ sound_entry cap code fits one held = subst IsSound (sym (stored_word-memory_of c
 pub untagged_sound : (word : Word) → IsSoundCap (record { tag = false; word = word })
 untagged_sound word held = absurd (false≢true held)
 
--- a granule's capability is the state's at its key
-pub granule_state : (registers : List Cap) (memory : Granules) (granule : ℕ)
-    → places_of registers memory (granule_key granule) ≡ granule_cap memory granule
-granule_state registers memory granule =
-    let past : nat_lt (granule_key granule) 32 ≡ false = le-ltb (granule_key granule) 32 (omega arith) in
-    let same : granule_key granule - 32 ≡ granule = omega arith in
-    ap (λ (b : Bool). if b then get_or registers (granule_key granule) untagged_null else granule_cap memory (granule_key granule - 32))
-    past
-    ∙ ap (granule_cap memory) same
-
 -- register 0 stays NULL without a tag where another register is written
 pub zero_register : (registers : List Cap) (target : ℕ) (cap : Cap) → 1 ≤ target → get_or registers 0 untagged_null ≡ untagged_null
     → get_or (set registers target cap) 0 untagged_null ≡ untagged_null

@@ -61,11 +61,6 @@ result_in (Some write) = write.1
 abbrev pub IsOperation : Row → OperationParts → Type 0
 IsOperation row parts = row ≡ operation parts.target parts.source parts.recorded row.checks (result_in row.writes)
 
--- an operation gave its result if no check fails, and otherwise the first that fails
-abbrev pub GivesByTests : List (Bool × Refusal) → Cap → Result Cap OpFault → Type 0
-GivesByTests checks result outcome =
-    MatchResult outcome (λ cap. (first_of checks ≡ None) × (cap ≡ result)) (λ fault. first_of checks ≡ Some (refusal_of fault))
-
 -- a step writes this register, and its line records this result
 abbrev pub WritesRegister : State → Step → ℕ → Cap → Type 0
 WritesRegister state step target recorded =

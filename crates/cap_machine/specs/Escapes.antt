@@ -27,11 +27,13 @@ AsksBeyond state None = ⊥
 AsksBeyond state (Some asked) =
     IsTrue (state asked.0).tag × IsFalse (is_sealed (state asked.0).word.0) × (HasRoomFor (state asked.0) asked.1 → ⊥)
 
--- a step is refused for its bounds: by strict rules, if it asks for bounds beyond its source's (the check of CSetBounds, UCAM-CL-TR-987)
+-- a step is refused for its bounds: by strict rules, if it asks for bounds beyond its source's (the check of
+-- CSetBounds, UCAM-CL-TR-987)
 abbrev pub Escapes : Rules → State → Step → Type 0
 Escapes rules state step = (rules ≢ TwoClear) × AsksBeyond state (asked_by step)
 
--- in clear mode, new bounds of a tagged, unsealed source that may be rounded lose its tag exactly where they do not lie inside the source's
+-- in clear mode, new bounds of a tagged, unsealed source that may be rounded lose its tag exactly where they do not lie
+-- inside the source's
 abbrev pub ClearsBeyond : Rules → State → Step → State → Type 0
 ClearsBeyond rules old (SetBounds step) new =
     rules ≡ TwoClear → IsTrue (old step.source).tag → IsFalse (is_sealed (old step.source).word.0)

@@ -23,8 +23,8 @@ use Rattle.cap_machine.specs.States.{State, untagged_null}
 use Rattle.cap_machine.specs.Steps.{Leads}
 use Rattle.cap_machine.specs.Accounts.{Account, granule_of, named_by, row_in, is_new, with_root, with_step, root_checks, step_checks}
 
--- what a machine holds: its rules, its registers and the codes of their origins, the granules that were put, with such codes, and its
--- counts of roots and steps
+-- what a machine holds: its rules, its registers and the codes of their origins, the granules that were put, with such
+-- codes, and its counts of roots and steps
 pub record Held : Type 0 where
   pub rules : Rules
   pub registers : List Cap
@@ -80,7 +80,8 @@ held_code =
       steps = parts.1.1.1.1.1;
     }) (λ _. refl)
 
--- there are 32 registers, c0 is NULL without a tag, each tagged capability is sound, and the codes are those of the places' origins
+-- there are 32 registers, c0 is NULL without a tag, each tagged capability is sound, and the codes are those of the
+-- places' origins
 pub record IsKept (registers : List Cap) (codes : List ℕ) (memory : Granules) : Type 0 where
   pub sized : length registers ≡ 32
   pub zero : slice_index_or registers 0 untagged_null ≡ untagged_null

@@ -15,8 +15,8 @@ IsSoundCap cap = IsTrue cap.tag → IsSound cap.word.0
 abbrev pub IsSoundState : State → Type 0
 IsSoundState state = (key : ℕ) → IsSoundCap (state key)
 
--- what a place holds after a step comes from what another, or the same, held before it: that was tagged, and the new word is
--- sound, with bounds inside and permissions among those of the old one
+-- what a place holds after a step comes from what another, or the same, held before it: that was tagged, and the new
+-- word is sound, with bounds inside and permissions among those of the old one
 pub record ComesFrom (old : State) (step : Step) (new : State) (key from : ℕ) : Type 0 where
   pub parent : parent_of old step new key ≡ Some from
   pub tag : IsTrue (old from).tag

@@ -17,7 +17,8 @@ use Rattle.cap_machine.specs.declared.shown.Shown.{Shown}
 use Rattle.cap_machine.specs.States.{State}
 use Rattle.cap_machine.specs.Steps.{Access, Recorded, Written, ReadNumber, Row, row_of, clear_row}
 
--- what an operation on registers asks for: bounds of a length, an address, or an authority over object types with a permission
+-- what an operation on registers asks for: bounds of a length, an address, or an authority over object types with a
+-- permission
 abbrev pub request_of : Step → Request
 request_of (SetBounds step) = requests.Length step.length
 request_of (SetBoundsExact step) = requests.Length step.length
@@ -35,7 +36,8 @@ needs_to_store stored =
     else 2 ^ permit_store + 2 ^ permit_store_capability + 2 ^ permit_store_local_capability)
     else 2 ^ permit_store
 
--- the permissions that an access needs, in the view: that of its kind, and to store a capability those for what is stored
+-- the permissions that an access needs, in the view: that of its kind, and to store a capability those for what is
+-- stored
 abbrev pub needed_by : State → Step → Access → ℕ
 needed_by state (StoreCap step) access = needs_to_store (state step.source)
 needed_by state step access = 2 ^ access.permission

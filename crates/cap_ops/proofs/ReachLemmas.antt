@@ -40,14 +40,5 @@ StaysWithin-words result source same words = record {
 pub StaysWithin-refl : (cap : Cap) → StaysWithin cap cap
 StaysWithin-refl cap = record { from_tagged = λ t. t; no_more = λ t sound. ReachesNoMore-refl cap.word.0; sound = λ t sound. sound }
 
--- what stays within a second, which stays within a third, stays within the third
-pub StaysWithin-trans : (x y z : Cap) → StaysWithin x y → StaysWithin y z → StaysWithin x z
-StaysWithin-trans x y z p q = record {
-  from_tagged = λ t. q.from_tagged (p.from_tagged t);
-  no_more = λ t sound. let u = p.from_tagged t in ReachesNoMore-trans x.word.0 y.word.0 z.word.0
-      (p.no_more t (q.sound u sound)) (q.no_more u sound);
-  sound = λ t sound. p.sound t (q.sound (p.from_tagged t) sound);
-}
-
 pub StaysWithin-same : (x y source : Cap) → x ≡ y → StaysWithin y source → StaysWithin x source
 StaysWithin-same x y source e h = let P : Cap → Type 0 = λ cap. StaysWithin cap source in subst P (sym e) h

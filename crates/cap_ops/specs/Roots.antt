@@ -6,8 +6,8 @@ use Rattle.cap_bounds.specs.Bounds.{IsSound, base_of, top_of}
 use Rattle.cap_bounds.specs.Rounding.{rounded_base, rounded_top}
 use Rattle.cap_ops.specs.Permissions.{perm_view_of, unsealed_type}
 
--- there is a root with these bounds and permissions: they end at or below 2 ^ 64, and the view has no bit that stands for
--- no permission (this profile's own)
+-- there is a root with these bounds and permissions: they end at or below 2 ^ 64, and the view has no bit that stands
+-- for no permission (this profile's own)
 pub record IsRootRequest (base length view : ℕ) : Type 0 where
   pub ends : base + length ≤ 2 ^ 64
   pub view_is : view % 2 ^ 12 + view / 2 ^ 15 % 2 ^ 4 * 2 ^ 15 ≡ view

@@ -4,9 +4,9 @@ use Rattle.std.specs.Io.KnownBytes.{Consumes}
 use Rattle.cap_program.specs.declared.faults.Fault.{Fault}
 use Rattle.cap_program.specs.Faults.{status_of}
 
--- the program's name, and for an order, or none: the text that belongs to it and the bytes given for it, with its status; the fault that
--- belongs to them, but for one of the output; the text that it prints for an input, with its status; whether it cannot be followed; and
--- whether it reads an input
+-- the program's name, and for an order, or none: the text that belongs to it and the bytes given for it, with its
+-- status; the fault that belongs to them, but for one of the output; the text that it prints for an input, with its
+-- status; whether it cannot be followed; and whether it reads an input
 pub record Meaning (C : Type 0) : Type 1 where
   pub program : List ℕ
   pub shows : Option C → List ℕ → Bool → List ℕ → ℕ → Type 0
@@ -15,8 +15,8 @@ pub record Meaning (C : Type 0) : Type 1 where
   pub is_faulty : Option C → Type 0
   pub reads_input : Option C → Type 0
 
--- a text that belongs to the bytes given is printed for an input that gave them, at status 0 or 1, for an order that can be followed; and a
--- fault has status 2 just where the order can't be
+-- a text that belongs to the bytes given is printed for an input that gave them, at status 0 or 1, for an order that
+-- can be followed; and a fault has status 2 just where the order can't be
 pub record IsMeant {C : Type 0} (m : Meaning C) : Type 0 where
   pub known : (order : Option C) (left rest : Option (List ℕ)) (given : List ℕ) (ended : Bool) (text : List ℕ) (status : ℕ)
       → Consumes left rest given → (ended ≡ true → (xs : List ℕ) → rest ≡ Some xs → xs ≡ []) → m.shows order given ended text status

@@ -22,8 +22,8 @@ abbrev pub ended_by : {S : Type 0} → (S → Bool) → Option S → Bool
 ended_by ended (Some input) = ended input
 ended_by ended None = false
 
--- what was done for an order: its text was taken, with its status; a beginning of that text, where the output failed; or nothing, for
--- another fault that belongs to it
+-- what was done for an order: its text was taken, with its status; a beginning of that text, where the output failed;
+-- or nothing, for another fault that belongs to it
 abbrev pub IsDone : (List ℕ → ℕ → Type 0) → (Fault → Type 0) → (List ℕ → Type 0) → Result ℕ Fault → Type 0
 IsDone shows fails took (Ok status) = (text : List ℕ) × shows text status × took text
 IsDone shows fails took (Err Write) = (text : List ℕ) × (status : ℕ) × shows text status × (n : ℕ) × took (take n text)
@@ -65,9 +65,9 @@ pub record IsFollowed {C S K : Type 0} (m : Meaning C) (order : Option C) (gave 
   pub missing : m.reads_input order → before ≡ None → answer ≡ Err Read
   pub written : IsCounted Write answer (pushes out) (pushes out_after)
 
--- what was told of it by a program of this name: with a status nothing; with a fault a beginning of its line was taken, and the whole line
--- unless a fault was counted
-pub record IsTold {F : Type 0} (program : List ℕ) (took : F → F → List ℕ → Type 0) (faults : F → ℕ) (answer : Result ℕ Fault)
+-- what was told of it by a program of this name: with a status nothing; with a fault a beginning of its line was taken,
+-- and the whole line unless a fault was counted
+pub record TellsFaultLine {F : Type 0} (program : List ℕ) (took : F → F → List ℕ → Type 0) (faults : F → ℕ) (answer : Result ℕ Fault)
     (before after : F) : Type 0 where
   pub silent : IfOk answer (λ status. after ≡ before)
   pub told : IfErr answer (λ fault. (n : ℕ) × took before after (take n (fault_line program fault)))

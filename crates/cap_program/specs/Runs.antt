@@ -11,7 +11,8 @@ abbrev pub BeginsText : (List ℕ → ℕ → Type 0) → List ℕ → Type 0
 BeginsText prints written =
     (written ≡ []) ⊎ ((text : List ℕ) × (status : ℕ) × prints text status × (n : ℕ) × (written ≡ take n text))
 
--- the fault that belongs to an input: there was a text that could not be written, or another fault of bytes that were read
+-- the fault that belongs to an input: there was a text that could not be written, or another fault of bytes that were
+-- read
 abbrev pub TellsFault : (List ℕ → ℕ → Type 0) → (List ℕ → Fault → Type 0) → Option (List ℕ) → Fault → Type 0
 TellsFault prints fails input Write = (text : List ℕ) × (status : ℕ) × prints text status
 TellsFault prints fails input fault = (given : List ℕ) × (rest : Option (List ℕ)) × Consumes input rest given × fails given fault

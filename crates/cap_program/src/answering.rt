@@ -1,7 +1,7 @@
 //! What a program does once an order was followed.
 
 ghost use Rattle.std.specs.Prelude.{◌≡◌, ◌+◌, ◌≤◌, ◌++◌, ℕ, true, [], length, take, codes, OnOk};
-ghost use Rattle.cap_program.specs.Doings.{IsHandedOn, IsPushed, IsTold};
+ghost use Rattle.cap_program.specs.Doings.{IsHandedOn, IsPushed, TellsFaultLine};
 ghost use Rattle.cap_program.specs.Faults.{exit_status, fault_line};
 
 use crate::faults::Fault;
@@ -28,7 +28,7 @@ pub fn hand_on<K: Output>(done: Result<u8, Fault>, out: &mut K) -> Result<u8, Fa
 /// line. Where the sink fails it took a beginning of the line.
 pub fn tell<F: Sink>(program: &str, done: Result<u8, Fault>, faults: &mut F)
     requires short { length program.now ≤ 16 }
-    ensures told { IsTold program.now F.took F.faults done faults.old faults.new }
+    ensures told { TellsFaultLine program.now F.took F.faults done faults.old faults.new }
 {
     if let Err(fault) = done {
         push_line(program, fault, faults);

@@ -3,7 +3,7 @@
 ghost use Rattle.std.specs.Prelude.{◌≡◌, ℕ, true, List, [], take, IfOk, IfErr, OnOk, Err, None};
 ghost use Rattle.std.specs.Io.KnownBytes.{Appends};
 ghost use Rattle.cap_program.specs.Commands.{IsMeant};
-ghost use Rattle.cap_program.specs.Doings.{IsDone, IsFollowed, IsTold, ended_by, gave_by, known_bytes};
+ghost use Rattle.cap_program.specs.Doings.{IsDone, IsFollowed, TellsFaultLine, ended_by, gave_by, known_bytes};
 ghost use Rattle.cap_program.specs.Faults.{fault_line};
 ghost use Rattle.cap_program.specs.Runs.{IsRan};
 
@@ -75,7 +75,7 @@ pub fn carry_out<C: Command, S: Source, K: Output, F: Sink>(
     faults: &mut F,
 ) -> Result<u8, Fault>
     ensures followed { IsFollowed C.meaning order S.gave S.ended S.faults K.took K.faults input.old input.new out.old out.new result }
-    ensures told { IsTold C.meaning.program F.took F.faults result faults.old faults.new }
+    ensures told { TellsFaultLine C.meaning.program F.took F.faults result faults.old faults.new }
     ensures handed_on { OnOk result (K.has_handed_on out.new ≡ true) }
 {
     let done = follow(alloc, order, input, out);

@@ -31,6 +31,7 @@ pub record AnswersBytes (bytes : List ℕ) (answer : Answer) : Type 0 where
   pub no_memory : IfNone verdict ((more : List ℕ) × MayLackMemory bytes more)
   pub answers : NamesNoGranules bytes → IsSome verdict
 
--- an answer that is a no names BoundsEscape exactly where its line asks for bounds beyond its source's, whatever bytes it is of
+-- an answer that is a no names BoundsEscape exactly where its line asks for bounds beyond its source's, whatever bytes
+-- it is of
 abbrev pub NamesEscapesIn : Answer → Type 0
 NamesEscapesIn answer = (verdict : Verdict) → answer ≡ numbers_of verdict → NamesEscapes verdict

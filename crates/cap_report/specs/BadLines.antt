@@ -45,7 +45,8 @@ abbrev pub HasNoWrongWord : List ℕ → Type 0
 HasNoWrongWord line =
     (head : Head) × (operands : List ℕ) × Begins IsHead head_spelling 32 line head operands × AllStand (fields_of head) 0 operands
 
--- what is told of a line that has no form: its first wrong word; or where none is, that the version of the log has no such line
+-- what is told of a line that has no form: its first wrong word; or where none is, that the version of the log has no
+-- such line
 abbrev pub AreBadLines : List ℕ → List ℕ → Type 0
 AreBadLines text told =
     let line = text ++ 10 ∷ [] in

@@ -19,6 +19,7 @@ failed_pushes s = 0
 abbrev pub name_of_room : TextSink → ℕ
 name_of_room s = s.room.ghost_name
 
--- the bytes that a sink took between two moments: they are counted behind those that it had, and stand behind them where they fit
+-- the bytes that a sink took between two moments: they are counted behind those that it had, and stand behind them
+-- where they fit
 abbrev pub Took : TextSink → TextSink → List ℕ → Type 0
 Took old new bytes = (new.room.ghost_name ≡ old.room.ghost_name) × IsTold old.length new.length bytes old.room.now new.room.now

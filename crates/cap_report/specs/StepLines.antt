@@ -32,8 +32,8 @@ source_part account place = let key = key_of place in parts.Source place (accoun
 abbrev pub authority_part : Account → ℕ → Part
 authority_part account register = parts.Authority (Register register) (account.state register) (account.origin register)
 
--- the representable range of a word, whose end is not reduced modulo 2 ^ 64: the word's window, and from the cut exponent 50 on, where
--- each address keeps the bounds, the address space
+-- the representable range of a word, whose end is not reduced modulo 2 ^ 64: the word's window, and from the cut
+-- exponent 50 on, where each address keeps the bounds, the address space
 abbrev pub range_part : ℕ → Part
 range_part w =
     if nat_le 50 (cut_exponent_of w) then parts.Representable 0 (2 ^ 64)
@@ -90,7 +90,8 @@ given_lines (Number given size recorded) =
     text_line (codes "gives") (hex_digits (2 * size) given) ++ text_line (codes "recorded") (hex_digits (2 * size) recorded)
 given_lines Nothing = []
 
--- the lines of what a step shows: what it read and asked for, and where its line records another result, what the rules give
+-- the lines of what a step shows: what it read and asked for, and where its line records another result, what the rules
+-- give
 abbrev pub shown_lines : Account → Shown → Refusal → List ℕ
 shown_lines account shown WrongResult = lines_of_parts (asked_parts account shown) ++ given_lines shown.given
 shown_lines account shown refusal = lines_of_parts (asked_parts account shown)

@@ -10,8 +10,9 @@ use Rattle.cap_report.specs.FaultReports.{IsLineReport, IsReport}
 use Rattle.cap_judge.specs.Reports.{Tells}
 use Rattle.cap_judge.specs.VerdictLines.{verdict_line}
 
--- the text that belongs to a verdict on bytes, with the report of a no: after a yes it is that of a judge that may be asked for origins,
--- and after a no the verdict's line and the report of the first fault, which stands whatever bytes follow where the source has not ended
+-- the text that belongs to a verdict on bytes, with the report of a no: after a yes it is that of a judge that may be
+-- asked for origins, and after a no the verdict's line and the report of the first fault, which stands whatever bytes
+-- follow where the source has not ended
 abbrev pub Explains : Bool → List ℕ → Bool → Verdict → List ℕ → Type 0
 Explains origins bytes ended (Yes steps roots) text = Tells origins bytes (Yes steps roots) text
 Explains origins bytes ended (No line refusal) text =
@@ -25,8 +26,8 @@ IsWhyText origins held line (Yes steps roots) told =
 IsWhyText origins held line (No number refusal) told =
     (report : List ℕ) × IsLineReport (account_of held) line refusal report × (told ≡ verdict_line (No number refusal) ++ report)
 
--- the text of how a log stands that begins with these bytes: none while no line of theirs is at fault, and otherwise that of a judge that
--- explains the no, which stands whatever bytes follow
+-- the text of how a log stands that begins with these bytes: none while no line of theirs is at fault, and otherwise
+-- that of a judge that explains the no, which stands whatever bytes follow
 abbrev pub ExplainsSoFar : List ℕ → Option Verdict → List ℕ → Type 0
 ExplainsSoFar bytes None text = BeginsWhole bytes × (text ≡ [])
 ExplainsSoFar bytes (Some verdict) text = IsVerdictOf bytes false verdict × Explains false bytes false verdict text

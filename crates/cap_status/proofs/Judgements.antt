@@ -52,12 +52,3 @@ tells_known true known given rest false (Yes steps roots) text are end is tells 
 pub verdict_few : (verdict : Verdict) → verdict_status verdict ≤ 1
 verdict_few (Yes steps roots) = omega arith
 verdict_few (No line refusal) = omega arith
-
--- no bytes begin a log
-pub begins_nothing : BeginsLog []
-begins_nothing = record {
-  beginning = Empty;
-  rest = [];
-  behind = record { bytes_are = refl; accepted = tt };
-  cut = (omega arith, λ k d below. absurd (omega (arith, below)));
-}

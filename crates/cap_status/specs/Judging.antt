@@ -27,8 +27,8 @@ abbrev pub ShowsVerdict : (Verdict → List ℕ → Type 0) → List ℕ → Boo
 ShowsVerdict tells given ended text status =
     (verdict : Verdict) × IsAnswerOf given ended (Ok verdict) × tells verdict text × (status ≡ verdict_status verdict)
 
--- why the bytes given were not judged: reading failed behind lines that begin a log; or memory was wanted at a line that names a granule
--- for the first time
+-- why the bytes given were not judged: reading failed behind lines that begin a log; or memory was wanted at a line
+-- that names a granule for the first time
 abbrev pub StopsJudging : List ℕ → Fault → Type 0
 StopsJudging given Read = NoVerdictOf given judge_faults.Pull
 StopsJudging given NoMemory = NoVerdictOf given judge_faults.NoMemory × (NamesNoGranules given → ⊥)

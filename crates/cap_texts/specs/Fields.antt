@@ -32,7 +32,8 @@ abbrev pub StandsValue : ℕ → ℕ → List ℕ → List ℕ → Type 0
 StandsValue size end bytes rest =
     (value : ℕ) × (value < 256 ^ bytes_of_size size) × (bytes ≡ hex_digits (2 * bytes_of_size size) value ++ end ∷ rest)
 
--- such a field stands at the front of the bytes with the byte that ends it, and a rest follows. The names of lines are taken before
+-- such a field stands at the front of the bytes with the byte that ends it, and a rest follows. The names of lines are
+-- taken before
 abbrev pub Stands : Field → ℕ → ℕ → List ℕ → List ℕ → Type 0
 Stands LogName size end bytes rest = ⊥
 Stands HeapName size end bytes rest = ⊥
@@ -69,7 +70,8 @@ AllStand [] size bytes = Unit {0}
 AllStand (field ∷ fields) size bytes =
     (rest : List ℕ) × Stands field size (end_of fields) bytes rest × AllStand fields (size_after field size bytes) rest
 
--- the first of these fields, left to right, that does not stand where it has to, with the byte that has to end it and the bytes from there on
+-- the first of these fields, left to right, that does not stand where it has to, with the byte that has to end it and
+-- the bytes from there on
 abbrev pub IsFirstWrong : List Field → ℕ → List ℕ → Field → ℕ → List ℕ → Type 0
 IsFirstWrong [] size bytes wrong end from = ⊥
 IsFirstWrong (field ∷ fields) size bytes wrong end from =

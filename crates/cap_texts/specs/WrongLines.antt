@@ -39,7 +39,8 @@ hint_line (byte ∷ bytes) = text_line (codes "hint") (byte ∷ bytes)
 abbrev pub found_line : List ℕ → List ℕ
 found_line rest = if nat_lt 1 (length rest) then text_line (codes "found") (shown (take (length rest - 1) rest)) else []
 
--- which word is wrong of a line of this length, by what it has to be, the byte that has to end it and the line from there on
+-- which word is wrong of a line of this length, by what it has to be, the byte that has to end it and the line from
+-- there on
 unfoldable pub wrong_lines : ℕ → Field → ℕ → List ℕ → List ℕ
 wrong_lines line_length field end rest =
     text_line (codes "column") (decimal (line_length - length rest + 1))

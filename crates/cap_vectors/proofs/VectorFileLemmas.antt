@@ -10,15 +10,11 @@ use Rattle.cap_log.specs.declared.taking.Next.TheVariants.{Line, LineTooLong, Tr
 use Rattle.cap_log.specs.declared.sources.PullFault.{PullFault}
 use Rattle.cap_vectors.specs.declared.files.VectorVerdict.{VectorVerdict}
 use Rattle.cap_vectors.specs.declared.files.VectorVerdict.TheVariants.{Pass, Fail}
-use Rattle.cap_vectors.specs.Vectors.{Vector, IsTrueVector, IsTrueLine, spelling}
-use Rattle.cap_vectors.specs.VectorFiles.{text_of, last_line, BeginsTrue, FailsWhole, FailsFirst, IsVectorVerdictOf, Checked}
+use Rattle.cap_vectors.specs.Vectors.{Vector, IsTrueVector, IsTrueLine, vector_spelling}
+use Rattle.cap_vectors.specs.VectorFiles.{vector_text_of, last_line, BeginsTrue, FailsWhole, FailsFirst, IsVectorVerdictOf, Checked}
 use Rattle.cap_log.proofs.FrontLemmas.{IsLine-more, IsTooLong-more}
 use Rattle.std.proofs.lemmas.List.{length_push}
 use Rattle.cap_log.proofs.ElementLemmas.{AllByRecursion-append}
-
--- nothing was read
-pub begins_empty : BeginsTrue [] 0 []
-begins_empty = record { vectors = []; count_is = refl; few = lit< tt; all_true = tt; bytes_are = refl }
 
 -- more bytes behind all
 pub begins_more : (bytes rest more : List ℕ) (count : ℕ) → BeginsTrue bytes count rest → BeginsTrue (bytes ++ more) count (rest ++ more)
@@ -27,14 +23,14 @@ begins_more bytes rest more count here = record {
   count_is = here.count_is;
   few = here.few;
   all_true = here.all_true;
-  bytes_are = ap (λ (l : List ℕ). l ++ more) here.bytes_are ∙ append_assoc (text_of here.vectors) rest more;
+  bytes_are = ap (λ (l : List ℕ). l ++ more) here.bytes_are ∙ append_assoc (vector_text_of here.vectors) rest more;
 }
 
 -- one line more
 text_push : (vectors : List Vector) (vector : Vector) (rest : List ℕ)
-    → text_of (vectors ++ vector ∷ []) ++ rest ≡ text_of vectors ++ (spelling vector ++ 10 ∷ rest)
+    → vector_text_of (vectors ++ vector ∷ []) ++ rest ≡ vector_text_of vectors ++ (vector_spelling vector ++ 10 ∷ rest)
 text_push vectors vector rest =
-    let piece = λ (v : Vector). spelling v ++ 10 ∷ [] in
+    let piece = λ (v : Vector). vector_spelling v ++ 10 ∷ [] in
     ap (λ (text : List ℕ). text ++ rest) (flat_map-append piece vectors (vector ∷ []))
     ∙ simp (append_assoc)
 
@@ -48,7 +44,7 @@ goes_on bytes rest line left count here whole stated few = record {
   all_true = AllByRecursion-append IsTrueVector here.vectors (stated.0 ∷ []) here.all_true (stated.1.true_vector, tt);
   bytes_are =
       here.bytes_are
-      ∙ ap (λ (r : List ℕ). text_of here.vectors ++ r) (whole.whole ∙ ap (λ (t : List ℕ). t ++ 10 ∷ left) stated.1.spelled)
+      ∙ ap (λ (r : List ℕ). vector_text_of here.vectors ++ r) (whole.whole ∙ ap (λ (t : List ℕ). t ++ 10 ∷ left) stated.1.spelled)
       ∙ sym (text_push here.vectors stated.0 left);
 }
 

@@ -6,7 +6,7 @@ use Rattle.std.proofs.lemmas.List.{drop_at, length-append, take_at}
 use Rattle.cap_word.specs.Digits.{hex_digits}
 use Rattle.cap_word.proofs.DigitLemmas.{length-hex_digits}
 use Rattle.cap_texts.specs.TextLines.{bytes_text}
-use Rattle.cap_vectors.specs.Vectors.{Bounds, Keeps, Round, Memory, Holds, IsLineOf, spelling}
+use Rattle.cap_vectors.specs.Vectors.{Bounds, Keeps, Round, Memory, Holds, IsLineOf, vector_spelling}
 use Rattle.cap_log.specs.Lines.{tag_spelling}
 
 -- what stands behind a front, as a slice
@@ -29,20 +29,20 @@ front_of_two head k n m is =
 
 -- the operands of each line
 pub bounds_word : (w base top : ℕ) (answer : Bool)
-    → (rest : List ℕ) × (spelling (Bounds w base top answer) ≡ codes "bounds " ++ (hex_digits 32 w ++ rest))
+    → (rest : List ℕ) × (vector_spelling (Bounds w base top answer) ≡ codes "bounds " ++ (hex_digits 32 w ++ rest))
 bounds_word w base top answer =
     (codes " = " ++ (hex_digits 16 base ++ (codes " " ++ (hex_digits 17 top ++ (codes " " ++ tag_spelling answer)))), simp append_assoc)
 
 pub keeps_word : (w address : ℕ) (answer : Bool)
-    → (rest : List ℕ) × (spelling (Keeps w address answer) ≡ codes "keeps " ++ (hex_digits 32 w ++ rest))
+    → (rest : List ℕ) × (vector_spelling (Keeps w address answer) ≡ codes "keeps " ++ (hex_digits 32 w ++ rest))
 keeps_word w address answer = (codes " " ++ (hex_digits 16 address ++ (codes " = " ++ tag_spelling answer)), simp append_assoc)
 
 pub keeps_address : (w address : ℕ) (answer : Bool)
-    → (rest : List ℕ) × (spelling (Keeps w address answer) ≡ (codes "keeps " ++ hex_digits 32 w ++ codes " ")
+    → (rest : List ℕ) × (vector_spelling (Keeps w address answer) ≡ (codes "keeps " ++ hex_digits 32 w ++ codes " ")
     ++ (hex_digits 16 address ++ rest))
 keeps_address w address answer = (codes " = " ++ tag_spelling answer, simp append_assoc)
 
-pub memory_word : (w : ℕ) (bytes : List ℕ) → (rest : List ℕ) × (spelling (Memory w bytes) ≡ codes "memory " ++ (hex_digits 32 w ++ rest))
+pub memory_word : (w : ℕ) (bytes : List ℕ) → (rest : List ℕ) × (vector_spelling (Memory w bytes) ≡ codes "memory " ++ (hex_digits 32 w ++ rest))
 memory_word w bytes = (codes " = " ++ bytes_text bytes, simp append_assoc)
 
 -- what is written of a rounding
@@ -52,7 +52,7 @@ rounding_text base_rounded top_rounded ie e exact =
     ++ decimal e ++ codes " " ++ tag_spelling exact
 
 pub round_base : (base size base_rounded top_rounded : ℕ) (ie : Bool) (e : ℕ) (exact : Bool)
-    → (rest : List ℕ) × (spelling (Round base size base_rounded top_rounded ie e exact) ≡ codes "round " ++ (hex_digits 16 base ++ rest))
+    → (rest : List ℕ) × (vector_spelling (Round base size base_rounded top_rounded ie e exact) ≡ codes "round " ++ (hex_digits 16 base ++ rest))
 round_base base size base_rounded top_rounded ie e exact =
     (codes " " ++ (hex_digits 16 size ++ rounding_text base_rounded top_rounded ie e exact), simp append_assoc)
 
@@ -62,7 +62,7 @@ three_then_more : (a b c d e f g h i j k l m n : List ℕ)
 three_then_more a b c d e f g h i j k l m n = simp append_assoc
 
 pub round_length : (base size base_rounded top_rounded : ℕ) (ie : Bool) (e : ℕ) (exact : Bool)
-    → (rest : List ℕ) × (spelling (Round base size base_rounded top_rounded ie e exact)
+    → (rest : List ℕ) × (vector_spelling (Round base size base_rounded top_rounded ie e exact)
     ≡ (codes "round " ++ hex_digits 16 base ++ codes " ") ++ (hex_digits 16 size ++ rest))
 round_length base size base_rounded top_rounded ie e exact = (
   rounding_text base_rounded top_rounded ie e exact,
@@ -80,7 +80,7 @@ same_bounds line written w v base top base' top' answer answer' is h k =
     let second = subst (λ (x : ℕ). Holds (Bounds x base' top' answer')) is k.true_vector.holds in
     let same : answer ≡ answer' = same_from_decides answer answer' first.2 second.2 in
     let one : Bounds w base top answer ≡ Bounds v base' top' answer' = cc in
-    h.spelled ∙ ap spelling one ∙ sym k.spelled
+    h.spelled ∙ ap vector_spelling one ∙ sym k.spelled
 
 pub same_keeps : (line written : List ℕ) (w v address address' : ℕ) (answer answer' : Bool) → v ≡ w → address' ≡ address
     → IsLineOf line (Keeps w address answer)
@@ -91,7 +91,7 @@ same_keeps line written w v address address' answer answer' is also h k =
     is k.true_vector.holds) in
     let same : answer ≡ answer' = same_from_decides answer answer' first second in
     let one : Keeps w address answer ≡ Keeps v address' answer' = cc in
-    h.spelled ∙ ap spelling one ∙ sym k.spelled
+    h.spelled ∙ ap vector_spelling one ∙ sym k.spelled
 
 pub same_round : (line written : List ℕ) (base size base' size' base_rounded top_rounded base_rounded' top_rounded' : ℕ) (ie ie' : Bool)
     (e e' : ℕ) (exact exact' : Bool)
@@ -104,7 +104,7 @@ same_round line written base size base' size' base_rounded top_rounded base_roun
     (subst (λ (x : ℕ). Holds (Round x size' base_rounded' top_rounded' ie' e' exact')) is k.true_vector.holds) in
     let same : exact ≡ exact' = same_from_decides exact exact' first.5 second.5 in
     let one : Round base size base_rounded top_rounded ie e exact ≡ Round base' size' base_rounded' top_rounded' ie' e' exact' = cc in
-    h.spelled ∙ ap spelling one ∙ sym k.spelled
+    h.spelled ∙ ap vector_spelling one ∙ sym k.spelled
 
 pub same_memory : (line written : List ℕ) (w v : ℕ) (bytes bytes' : List ℕ) → v ≡ w → IsLineOf line (Memory w bytes)
     → IsLineOf written (Memory v bytes') → line ≡ written
@@ -112,4 +112,4 @@ same_memory line written w v bytes bytes' is h k =
     let first = h.true_vector.holds in
     let second = k.true_vector.holds in
     let one : Memory w bytes ≡ Memory v bytes' = cc in
-    h.spelled ∙ ap spelling one ∙ sym k.spelled
+    h.spelled ∙ ap vector_spelling one ∙ sym k.spelled

@@ -6,15 +6,15 @@ use Rattle.cap_log.specs.Front.{IsCut, FrontIs}
 use Rattle.cap_log.specs.declared.sources.PullFault.{PullFault}
 use Rattle.cap_vectors.specs.declared.files.VectorVerdict.{VectorVerdict}
 use Rattle.cap_vectors.specs.declared.files.VectorVerdict.TheVariants.{Pass, Fail}
-use Rattle.cap_vectors.specs.Vectors.{Vector, IsTrueVector, IsTrueLine, spelling}
+use Rattle.cap_vectors.specs.Vectors.{Vector, IsTrueVector, IsTrueLine, vector_spelling}
 
 -- the line that fails whatever it holds, so that no file goes on for ever
 abbrev pub last_line : ℕ
 last_line = 2 ^ 64 - 1
 
 -- the text of vectors: each one's line and a line feed
-abbrev pub text_of : List Vector → List ℕ
-text_of vectors = flat_map (λ vector. spelling vector ++ 10 ∷ []) vectors
+abbrev pub vector_text_of : List Vector → List ℕ
+vector_text_of vectors = flat_map (λ vector. vector_spelling vector ++ 10 ∷ []) vectors
 
 -- the bytes are so many lines that state something true, and a rest
 pub record BeginsTrue (bytes : List ℕ) (count : ℕ) (rest : List ℕ) : Type 0 where
@@ -22,14 +22,14 @@ pub record BeginsTrue (bytes : List ℕ) (count : ℕ) (rest : List ℕ) : Type 
   pub count_is : count ≡ length vectors
   pub few : count < last_line
   pub all_true : AllByRecursion IsTrueVector vectors
-  pub bytes_are : bytes ≡ text_of vectors ++ rest
+  pub bytes_are : bytes ≡ vector_text_of vectors ++ rest
 
 -- a whole line fails: it is the last one, or it states nothing true
 abbrev pub FailsWhole : ℕ → List ℕ → Type 0
 FailsWhole number line = (number ≡ last_line) ⊎ (IsTrueLine line → ⊥)
 
--- the line of this number is the first that fails: those before it state something true, and it is too long, lacks its line feed, or is a
--- whole line that fails
+-- the line of this number is the first that fails: those before it state something true, and it is too long, lacks its
+-- line feed, or is a whole line that fails
 pub record FailsFirst (bytes : List ℕ) (number : ℕ) : Type 0 where
   pub before : ℕ
   pub rest : List ℕ

@@ -1,5 +1,5 @@
--- The lines of a vector file: what a word decodes to, whether an address keeps a word's bounds, how a request is rounded, and the bytes of
--- a word in memory. All of it is this profile's own.
+-- The lines of a vector file: what a word decodes to, whether an address keeps a word's bounds, how a request is
+-- rounded, and the bytes of a word in memory. All of it is this profile's own.
 use Rattle.std.specs.Prelude.{◌≡◌, ℕ, ◌+◌, ◌^◌, ◌<◌, ◌≤◌, ◌↔◌, Bool, List, ◌++◌, length, All, IsTrue, codes, decimal}
 use Rattle.cap_word.specs.Digits.{hex_digits}
 use Rattle.cap_word.specs.Memory.{memory_of}
@@ -17,12 +17,12 @@ pub data Vector : Type 0 where
   Memory : (word : ℕ) (bytes : List ℕ) → Vector
 
 -- each number fits the digits that it is written with
-abbrev pub IsInRange : Vector → Type 0
-IsInRange (Bounds word base top sound) = (word < 2 ^ 128) × (base < 2 ^ 64) × (top < 2 ^ 68)
-IsInRange (Keeps word address keeps) = (word < 2 ^ 128) × (address < 2 ^ 64)
-IsInRange (Round base size base_rounded top_rounded ie e exact) =
+abbrev pub IsVectorInRange : Vector → Type 0
+IsVectorInRange (Bounds word base top sound) = (word < 2 ^ 128) × (base < 2 ^ 64) × (top < 2 ^ 68)
+IsVectorInRange (Keeps word address keeps) = (word < 2 ^ 128) × (address < 2 ^ 64)
+IsVectorInRange (Round base size base_rounded top_rounded ie e exact) =
     (base < 2 ^ 64) × (size < 2 ^ 64) × (base_rounded < 2 ^ 64) × (top_rounded < 2 ^ 68) × (e ≤ 52)
-IsInRange (Memory word bytes) = (word < 2 ^ 128) × (length bytes ≡ 16) × All (λ byte. byte < 256) bytes
+IsVectorInRange (Memory word bytes) = (word < 2 ^ 128) × (length bytes ≡ 16) × All (λ byte. byte < 256) bytes
 
 -- what is said of the operands is so
 abbrev pub Holds : Vector → Type 0
@@ -35,24 +35,24 @@ Holds (Memory word bytes) = bytes ≡ memory_of word
 
 -- a true vector
 pub record IsTrueVector (vector : Vector) : Type 0 where
-  pub in_range : IsInRange vector
+  pub in_range : IsVectorInRange vector
   pub holds : Holds vector
 
 -- the one line of a vector, without its line feed
-abbrev pub spelling : Vector → List ℕ
-spelling (Bounds word base top sound) =
+abbrev pub vector_spelling : Vector → List ℕ
+vector_spelling (Bounds word base top sound) =
     codes "bounds " ++ hex_digits 32 word ++ codes " = " ++ hex_digits 16 base
     ++ codes " " ++ hex_digits 17 top ++ codes " " ++ tag_spelling sound
-spelling (Keeps word address keeps) =
+vector_spelling (Keeps word address keeps) =
     codes "keeps " ++ hex_digits 32 word ++ codes " " ++ hex_digits 16 address ++ codes " = " ++ tag_spelling keeps
-spelling (Round base size base_rounded top_rounded ie e exact) =
+vector_spelling (Round base size base_rounded top_rounded ie e exact) =
     codes "round " ++ hex_digits 16 base ++ codes " " ++ hex_digits 16 size ++ codes " = " ++ hex_digits 16 base_rounded ++ codes " "
     ++ hex_digits 17 top_rounded ++ codes " " ++ tag_spelling ie ++ codes " " ++ decimal e ++ codes " " ++ tag_spelling exact
-spelling (Memory word bytes) = codes "memory " ++ hex_digits 32 word ++ codes " = " ++ bytes_text bytes
+vector_spelling (Memory word bytes) = codes "memory " ++ hex_digits 32 word ++ codes " = " ++ bytes_text bytes
 
 -- the line is that of this vector, and the vector is true
 pub record IsLineOf (line : List ℕ) (vector : Vector) : Type 0 where
-  pub spelled : line ≡ spelling vector
+  pub spelled : line ≡ vector_spelling vector
   pub true_vector : IsTrueVector vector
 
 -- a line states something true

@@ -100,48 +100,6 @@ from_le_bytes_is bytes h =
       number_of_end bytes h,
     )
 
-pub number_of-lt : (bytes : List ℕ) → length bytes ≡ 16 → ((i : ℕ) → get_or bytes i 0 < 256) → number_of bytes < 2 ^ 128
-number_of-lt bytes h small =
-    let step : (i : ℕ) → i < 16
-    → number_of (drop i bytes)
-    ≡ get_or bytes i 0 + 256 * number_of (drop (i + 1) bytes) = λ i p. number_of_drop bytes i (omega arith) in
-    omega (
-      arith,
-      step 0 (omega arith),
-      step 1 (omega arith),
-      step 2 (omega arith),
-      step 3 (omega arith),
-      step 4 (omega arith),
-      step 5 (omega arith),
-      step 6 (omega arith),
-      step 7 (omega arith),
-      step 8 (omega arith),
-      step 9 (omega arith),
-      step 10 (omega arith),
-      step 11 (omega arith),
-      step 12 (omega arith),
-      step 13 (omega arith),
-      step 14 (omega arith),
-      step 15 (omega arith),
-      number_of_end bytes h,
-      small 0,
-      small 1,
-      small 2,
-      small 3,
-      small 4,
-      small 5,
-      small 6,
-      small 7,
-      small 8,
-      small 9,
-      small 10,
-      small 11,
-      small 12,
-      small 13,
-      small 14,
-      small 15,
-    )
-
 -- a word's bytes hold the word
 pub stored_word-memory_of : (w : ℕ) → w < 2 ^ 128 → stored_word (memory_of w) ≡ w
 stored_word-memory_of w h =
@@ -155,10 +113,6 @@ pub memory_of-stored_word : (bytes : List ℕ) → length bytes ≡ 16 → ((i :
 memory_of-stored_word bytes h small =
     ap (low_bytes 16) (xor_twice (number_of bytes) null_word) ∙ ap (λ (k : ℕ). low_bytes k (number_of bytes)) (sym h)
     ∙ low_bytes-number_of bytes small
-
--- sixteen bytes hold a word of 128 bits
-pub stored_word-lt : (bytes : List ℕ) → length bytes ≡ 16 → ((i : ℕ) → get_or bytes i 0 < 256) → stored_word bytes < 2 ^ 128
-stored_word-lt bytes h small = xor_lt 128 (number_of bytes) null_word (number_of-lt bytes h small) (lit< tt)
 
 pub length-memory_of : (w : ℕ) → length (memory_of w) ≡ 16
 length-memory_of w = length-low_bytes 16 (bit_xor w null_word)

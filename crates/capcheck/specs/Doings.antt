@@ -32,8 +32,8 @@ abbrev pub StopsChecking : List ℕ → Fault → Type 0
 StopsChecking given Read = BreaksOff given
 StopsChecking given fault = ⊥
 
--- the fault that belongs to an order and the bytes given for it, but for one of the output: there is no order; a word, or two, are not of
--- their form; the request ends above the address space; or reading failed, or memory was wanted
+-- the fault that belongs to an order and the bytes given for it, but for one of the output: there is no order; a word,
+-- or two, are not of their form; the request ends above the address space; or reading failed, or memory was wanted
 abbrev pub Fails : Option Order → List ℕ → Fault → Type 0
 Fails None given BadWords = Unit {0}
 Fails (Some (Explain memory tag hex)) given BadWord = (w : ℕ) → w < 2 ^ 128 → SpellsWord memory hex.now w → ⊥

@@ -1,7 +1,7 @@
 //! What the program does with an order: its texts and its exit status.
 
 ghost use Rattle.std.specs.Prelude.{◌≡◌, ◌≤◌, true, codes, None, OnOk, length};
-ghost use Rattle.cap_program.specs.Doings.{IsFollowed, IsTold, known_bytes};
+ghost use Rattle.cap_program.specs.Doings.{IsFollowed, TellsFaultLine, known_bytes};
 ghost use Rattle.cap_program.specs.Runs.{IsRan};
 ghost use Rattle.capcheck.specs.Doings.{order_meaning};
 
@@ -73,7 +73,7 @@ pub fn carry_out<S: Source, K: Output, F: Sink>(
     faults: &mut F,
 ) -> Result<u8, Fault>
     ensures followed { IsFollowed order_meaning order.entry S.gave S.ended S.faults K.took K.faults input.old input.new out.old out.new result }
-    ensures told { IsTold (codes "capcheck") F.took F.faults result faults.old faults.new }
+    ensures told { TellsFaultLine (codes "capcheck") F.took F.faults result faults.old faults.new }
     ensures handed_on { OnOk result (K.has_handed_on out.new ≡ true) }
 {
     cap_program::carry_out(alloc, order, input, out, faults)

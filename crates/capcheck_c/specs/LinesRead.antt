@@ -56,7 +56,8 @@ IsLineRead (lines.Root (Granule granule) word) read = Reads 4 0 0 0 (16 * granul
 IsLineRead (lines.Step step) read = IsStepRead step read
 IsLineRead (lines.End steps) read = Reads 17 0 0 0 steps no_cap read
 
--- what is read at the front of bytes: the line that they begin with, with its line feed, and its length; or that they begin with none
+-- what is read at the front of bytes: the line that they begin with, with its line feed, and its length; or that they
+-- begin with none
 pub record ReadsFront (bytes : List ℕ) (read : LineRead) : Type 0 where
   pub line : (line : Line) (rest : List ℕ) → Begins IsInRange spelling 10 bytes line rest
       → IsLineRead line read × (read.length ≡ length (spelling line) + 1)

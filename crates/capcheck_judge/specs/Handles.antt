@@ -53,8 +53,8 @@ pub record Holds (held : Held) (bytes : List ℕ) : Type 0 where
 abbrev pub state_behind : {held : Held} {bytes : List ℕ} → Holds held bytes → State
 state_behind holds = (account_before holds.taken.beginning).state
 
--- what a call answers that hands over a step: where the step's line is in range, what the call answers that hands over that line; else
--- that it is none
+-- what a call answers that hands over a step: where the step's line is in range, what the call answers that hands over
+-- that line; else that it is none
 pub record HandsOver (line : Line) (old new : Held) (state : ℕ) : Type 0 where
   pub answers : state < 6
   pub never_yes : state ≢ 1
@@ -74,9 +74,10 @@ IsRefusedAfter front rest =
     (beginning : Beginning) × (refusal : Refusal) × IsBehind (front ++ rest) beginning rest
     × ((more : List ℕ) → Refuses beginning (rest ++ more) refusal)
 
--- what a call answers that hands over as many whole lines as some bytes begin with: how many bytes were taken; and that no line so far
--- is faulty, and less than a line is left; that a line is faulty, the next one unless it was an earlier one; that memory ran out at the
--- next line, which may be handed over again with all after it; or that there is no judge
+-- what a call answers that hands over as many whole lines as some bytes begin with: how many bytes were taken; and that
+-- no line so far is faulty, and less than a line is left; that a line is faulty, the next one unless it was an earlier
+-- one; that memory ran out at the next line, which may be handed over again with all after it; or that there is no
+-- judge
 pub record HandsOverLines (given : List ℕ) (old new : Held) (answer : LinesTaken) : Type 0 where
   pub few : answer.bytes ≤ length given
   pub answers : answer.state < 5
@@ -108,7 +109,8 @@ abbrev pub Standing : Option Verdict → Answer → Type 0
 Standing None answer = answer ≡ without_verdict 0
 Standing (Some verdict) answer = answer ≡ numbers_of verdict
 
--- C learns how a log stands that begins with these bytes: no line is at fault so far, or the no that stands whatever follows
+-- C learns how a log stands that begins with these bytes: no line is at fault so far, or the no that stands whatever
+-- follows
 pub record AnswersSoFar (bytes : List ℕ) (answer : Answer) : Type 0 where
   pub verdict : Option Verdict
   pub numbers : Standing verdict answer
@@ -137,8 +139,8 @@ pub record AnswersExpected (bytes : List ℕ) (given : Given) : Type 0 where
   pub numbers : IsGiven expected given
   pub expects : Expects bytes expected
 
--- C gets the text of how a log stands that begins with these bytes, where there is room for it: none while no line is at fault, and never
--- more than 3,136 bytes
+-- C gets the text of how a log stands that begins with these bytes, where there is room for it: none while no line is
+-- at fault, and never more than 3,136 bytes
 pub record AnswersReport (bytes old new : List ℕ) (count : ℕ) : Type 0 where
   pub verdict : Option Verdict
   pub text : List ℕ

@@ -8,17 +8,17 @@ use Rattle.cap_heap.specs.declared.verdict.HeapVerdict.{HeapVerdict}
 use Rattle.cap_heap.specs.declared.verdict.HeapVerdict.TheVariants.{Yes, No}
 use Rattle.cap_heap.specs.declared.verdict.HeapToFault.{HeapToFault}
 use Rattle.cap_heap.specs.declared.verdict.HeapToFault.TheVariants.{Pull, NoMemory, Push}
-use Rattle.cap_heap.specs.HeapLogs.{CanBeGuardedThroughout, IsFirstFault}
+use Rattle.cap_heap.specs.HeapLogs.{CanBeGuardedThroughout, IsFirstHeapFault}
 use Rattle.cap_heap.specs.declared.refusal.HeapRefusal.{HeapRefusal}
-use Rattle.cap_heap.specs.HeapVerdicts.{BeginsLog, IsAnswerOf, Lasts}
-use Rattle.cap_heap.specs.HeapWhys.{IsReport}
-use Rattle.cap_heap.specs.VerdictLines.{IsTold, Tells}
+use Rattle.cap_heap.specs.HeapVerdicts.{BeginsHeapLog, IsHeapAnswerOf, Lasts}
+use Rattle.cap_heap.specs.HeapWhys.{IsHeapReport}
+use Rattle.cap_heap.specs.VerdictLines.{IsHeapTold, TellsHeap}
 use Rattle.cap_program.specs.declared.faults.Fault.TheVariants as faults
 use Rattle.cap_program.specs.Doings.{IsCounted, IsDone}
 use Rattle.capdiag.specs.Heaps.{ShowsHeap, StopsHeap, heap_judged, heap_status}
 
 -- no bytes are the beginning of a log
-pub nothing_begins : BeginsLog []
+pub nothing_begins : BeginsHeapLog []
 nothing_begins = record {
   root = record { base = 0; top = 0 };
   events = [];
@@ -39,7 +39,7 @@ nothing_begins = record {
 
 -- what was pushed for an answer is what was done for the order
 pub heap_done : (report why : Bool) (given : List ℕ) (ended : Bool) (took : List ℕ → Type 0) (answer : Result HeapVerdict HeapToFault)
-    → IsTold report why given ended took answer → IsDone (ShowsHeap report why given ended) (StopsHeap given) took (heap_judged answer)
+    → IsHeapTold report why given ended took answer → IsDone (ShowsHeap report why given ended) (StopsHeap given) took (heap_judged answer)
 heap_done report why given ended took (Ok verdict) p = (p.1, (verdict, p.0, p.2, refl), p.3)
 heap_done report why given ended took (Err Pull) p = (p.0.fault, p.1)
 heap_done report why given ended took (Err NoMemory) p = (p.0.fault, p.1)
@@ -70,25 +70,25 @@ lasts_known Fact known given rest ended are end lasts = λ more none.
 
 -- and so does the text of a no
 module _ (known given rest : List ℕ) (ended : Bool) (are : known ≡ given ++ rest) (end : ended ≡ true → rest ≡ []) where
-  tells_no : (report why : Bool) (line : ℕ) (refusal : HeapRefusal) (text : List ℕ) → Tells report why given ended (No line refusal) text
-      → Tells report why known true (No line refusal) text
+  tells_no : (report why : Bool) (line : ℕ) (refusal : HeapRefusal) (text : List ℕ) → TellsHeap report why given ended (No line refusal) text
+      → TellsHeap report why known true (No line refusal) text
   tells_no false false line refusal text is = is
   tells_no true false line refusal text is = is
   tells_no false true line refusal text is =
-      (is.0, lasts_known (λ all. IsReport all line refusal is.0) known given rest ended are end is.1, is.2)
+      (is.0, lasts_known (λ all. IsHeapReport all line refusal is.0) known given rest ended are end is.1, is.2)
   tells_no true true line refusal text is =
-      (is.0, lasts_known (λ all. IsReport all line refusal is.0) known given rest ended are end is.1, is.2)
+      (is.0, lasts_known (λ all. IsHeapReport all line refusal is.0) known given rest ended are end is.1, is.2)
 
   -- what is shown of the bytes given is shown of all bytes
-  shown : (report why : Bool) (verdict : HeapVerdict) (text : List ℕ) → IsAnswerOf given ended (Ok verdict)
-      → Tells report why given ended verdict text → IsAnswerOf known true (Ok verdict) × Tells report why known true verdict text
+  shown : (report why : Bool) (verdict : HeapVerdict) (text : List ℕ) → IsHeapAnswerOf given ended (Ok verdict)
+      → TellsHeap report why given ended verdict text → IsHeapAnswerOf known true (Ok verdict) × TellsHeap report why known true verdict text
   shown report why (Yes events live) text answer tells =
       let same = are ∙ ap (λ (r : List ℕ). given ++ r) (end answer.verdict.0) ∙ append-nil given in
-      subst (λ (bytes : List ℕ). IsAnswerOf bytes true (Ok (Yes events live)) × Tells report why bytes true (Yes events live) text) (sym same)
-      (subst (λ (e : Bool). IsAnswerOf given e (Ok (Yes events live)) × Tells report why given e (Yes events live) text) answer.verdict.0 (answer, tells))
+      subst (λ (bytes : List ℕ). IsHeapAnswerOf bytes true (Ok (Yes events live)) × TellsHeap report why bytes true (Yes events live) text) (sym same)
+      (subst (λ (e : Bool). IsHeapAnswerOf given e (Ok (Yes events live)) × TellsHeap report why given e (Yes events live) text) answer.verdict.0 (answer, tells))
   shown report why (No line refusal) text answer tells = (
     record {
-      verdict = lasts_known (λ all. IsFirstFault all line refusal) known given rest ended are end answer.verdict;
+      verdict = lasts_known (λ all. IsFirstHeapFault all line refusal) known given rest ended are end answer.verdict;
       optimal = lasts_known (λ all. CanBeGuardedThroughout all → ⊥) known given rest ended are end answer.optimal;
       fault = tt;
     },

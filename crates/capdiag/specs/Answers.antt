@@ -1,4 +1,5 @@
--- What the program prints for an order, and what belongs to the bytes that were given for it. All of it is this profile's own.
+-- What the program prints for an order, and what belongs to the bytes that were given for it. All of it is this
+-- profile's own.
 use Rattle.std.specs.Prelude.{◌≡◌, ℕ, Bool, true, List, Option, Some, None, IfSome, codes}
 use Rattle.cap_judge.specs.declared.verdict.Verdict.{Verdict}
 use Rattle.cap_judge.specs.Verdicts.{IsVerdict}
@@ -12,8 +13,8 @@ use Rattle.capdiag.specs.declared.words.Order.TheVariants.{Help, Version, Why, H
 use Rattle.capdiag.specs.Heaps.{ShowsHeap, StopsHeap}
 use Rattle.capdiag.specs.Showings.{help_text, version_line}
 
--- the text that an order prints, and its status: that of the verdict on its bytes, with the report of a no and the origins that are asked
--- for; or that of the verdict on them as an allocator's log, with the reports that are asked for
+-- the text that an order prints, and its status: that of the verdict on its bytes, with the report of a no and the
+-- origins that are asked for; or that of the verdict on them as an allocator's log, with the reports that are asked for
 abbrev pub Prints : Option Order → Option (List ℕ) → List ℕ → ℕ → Type 0
 Prints None input text status = ⊥
 Prints (Some Help) input text status = (text ≡ help_text) × (status ≡ 0)

@@ -1,4 +1,5 @@
--- What the program says of words that spell no order, and of a file that cannot be opened. All of it is this profile's own.
+-- What the program says of words that spell no order, and of a file that cannot be opened. All of it is this profile's
+-- own.
 use Rattle.std.specs.Prelude.{◌≡◌, ◌⊎◌, ℕ, Bool, true, false, IsTrue, List, [], ◌∷◌, ◌++◌, take, codes}
 use Rattle.cap_program.specs.Words.{is_operand}
 use Rattle.cap_texts.specs.ShownBytes.{shown}
@@ -12,8 +13,8 @@ abbrev pub IsKnown : Bool → List ℕ → Type 0
 IsKnown true word = (word ≡ codes "--help") ⊎ ((word ≡ codes "--report") ⊎ (word ≡ codes "--why"))
 IsKnown false word = (word ≡ codes "--help") ⊎ (word ≡ codes "--origins")
 
--- what is wrong with the words after a command, before its file and after it: the first word that is no option before the file, or that
--- follows the file; and where there is none, that they don't go together
+-- what is wrong with the words after a command, before its file and after it: the first word that is no option before
+-- the file, or that follows the file; and where there is none, that they don't go together
 abbrev pub IsOperandComplaint : Bool → Bool → List (List ℕ) → Complaint → List ℕ → Type 0
 IsOperandComplaint is_heap is_after [] complaint wrong = (complaint ≡ Together) × (wrong ≡ [])
 IsOperandComplaint is_heap true (word ∷ words) complaint wrong = (complaint ≡ AfterFile) × (wrong ≡ word)
@@ -22,7 +23,8 @@ IsOperandComplaint is_heap false (word ∷ words) complaint wrong =
     ⊎ (((IsTrue (is_operand word) → ⊥) × IsKnown is_heap word × IsOperandComplaint is_heap false words complaint wrong)
     ⊎ ((IsTrue (is_operand word) → ⊥) × (IsKnown is_heap word → ⊥) × (complaint ≡ Option) × (wrong ≡ word)))
 
--- what is wrong with a word that is no command: it asks for help or the version beside other words, or it is none, or no option
+-- what is wrong with a word that is no command: it asks for help or the version beside other words, or it is none, or
+-- no option
 abbrev pub IsCommandComplaint : List ℕ → Complaint → List ℕ → Type 0
 IsCommandComplaint command complaint wrong =
     (((command ≡ codes "--help") ⊎ (command ≡ codes "--version")) × (complaint ≡ Together) × (wrong ≡ []))

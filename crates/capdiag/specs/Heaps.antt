@@ -5,8 +5,8 @@ use Rattle.cap_heap.specs.declared.verdict.HeapVerdict.TheVariants.{Yes, No}
 use Rattle.cap_heap.specs.declared.verdict.HeapFault.TheVariants as heap_faults
 use Rattle.cap_heap.specs.declared.verdict.HeapToFault.{HeapToFault}
 use Rattle.cap_heap.specs.declared.verdict.HeapToFault.TheVariants as heap_to
-use Rattle.cap_heap.specs.HeapVerdicts.{IsAnswerOf, IsFaultIn}
-use Rattle.cap_heap.specs.VerdictLines.{Tells}
+use Rattle.cap_heap.specs.HeapVerdicts.{IsHeapAnswerOf, NoHeapVerdictIn}
+use Rattle.cap_heap.specs.VerdictLines.{TellsHeap}
 use Rattle.cap_program.specs.declared.faults.Fault.{Fault}
 use Rattle.cap_program.specs.declared.faults.Fault.TheVariants.{Read, Write, NoMemory}
 
@@ -22,13 +22,15 @@ heap_judged (Err heap_to.Pull) = Err Read
 heap_judged (Err heap_to.NoMemory) = Err NoMemory
 heap_judged (Err heap_to.Push) = Err Write
 
--- the text of the verdict on the bytes given, with the reports of a yes and of a no where they are asked for, and its status
+-- the text of the verdict on the bytes given, with the reports of a yes and of a no where they are asked for, and its
+-- status
 abbrev pub ShowsHeap : Bool → Bool → List ℕ → Bool → List ℕ → ℕ → Type 0
 ShowsHeap report why given ended text status =
-    (verdict : HeapVerdict) × IsAnswerOf given ended (Ok verdict) × Tells report why given ended verdict text × (status ≡ heap_status verdict)
+    (verdict : HeapVerdict) × IsHeapAnswerOf given ended (Ok verdict) × TellsHeap report why given ended verdict text × (status ≡ heap_status verdict)
 
--- why the bytes given were not judged: reading failed behind lines that begin a log; or memory was wanted for an object that comes to live
+-- why the bytes given were not judged: reading failed behind lines that begin a log; or memory was wanted for an object
+-- that comes to live
 abbrev pub StopsHeap : List ℕ → Fault → Type 0
-StopsHeap given Read = IsFaultIn given heap_faults.Pull
-StopsHeap given NoMemory = IsFaultIn given heap_faults.NoMemory
+StopsHeap given Read = NoHeapVerdictIn given heap_faults.Pull
+StopsHeap given NoMemory = NoHeapVerdictIn given heap_faults.NoMemory
 StopsHeap given fault = ⊥

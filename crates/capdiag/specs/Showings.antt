@@ -7,4 +7,4 @@ help_text = codes "usage: capdiag why [--origins] [FILE]\n       capdiag heap [-
 
 -- its version
 abbrev pub version_line : List ℕ
-version_line = codes "capdiag 1.1.0\n"
+version_line = codes "capdiag 1.2.0\n"

@@ -65,7 +65,7 @@ pub const ROWS: &str = r#"
 = Exit status: 0 yes, 1 no, 2 wrong arguments, 3 failed input, output or memory.
 
 0 --version
-= capdiag 1.1.0
+= capdiag 1.2.0
 
 # no steps
 0 why

@@ -39,5 +39,5 @@ fn help_text() -> &'static [u8]
 fn version_line() -> &'static [u8]
     ensures text { result.now ≡ version_line }
 {
-    b"capdiag 1.1.0\n"
+    b"capdiag 1.2.0\n"
 }

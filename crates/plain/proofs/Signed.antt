@@ -172,9 +172,6 @@ module _ (address size : ℕ) (low : ℤ) (address_fits : address < 2 ^ 64) (som
         let r = raised-parts start p.1 in
         near-in (2 ^ 64) start (omega (arith, start-begins)) (omega arith)
 
-pub raised-pos : (n : ℕ) → raised (pos n) ≡ n + 2 ^ 66
-raised-pos n = refl
-
 -- a natural value that is raised is congruent to itself
 pub natural_residue : (low n x bits : ℕ) → bits ≤ 66 → IsResidue low (2 ^ bits) (n + 2 ^ 66) x → IsResidue low (2 ^ bits) n x
 natural_residue low n x bits h is = record { from = is.from; below = is.below; congruent = is.congruent ∙ raised-mod n bits h }

@@ -1,10 +1,12 @@
--- Tagged memory as a finite map. Granule g is the sixteen bytes from address 16 * g on, with one tag (UCAM-CL-TR-987, tagged memory).
+-- Tagged memory as a finite map. Granule g is the sixteen bytes from address 16 * g on, with one tag (UCAM-CL-TR-987,
+-- tagged memory).
 use Rattle.std.specs.Prelude.{◌≡◌, ◌≢◌, ℕ, ◌+◌, ◌^◌, ◌<◌, ◌≤◌, ◌↔◌, Bool, false, List, [], ◌++◌, length, take, drop, replicate, All}
 use Rattle.std.specs.Prelude.{Option, Some, None, unwrap_or, slice_index, slice_index_or}
 use Rattle.std.specs.Ordering.{nat_cmp}
 use Rattle.std.specs.FinMap.{FinMap, get, insert, len}
 
--- a granule's tag, its bytes, lowest address first (UCAM-CL-TR-987, tagged memory), and its origin's code (this profile's own)
+-- a granule's tag, its bytes, lowest address first (UCAM-CL-TR-987, tagged memory), and its origin's code (this
+-- profile's own)
 abbrev pub Entry : Type 0
 Entry = Bool × List ℕ × ℕ
 
@@ -54,11 +56,13 @@ overwritten bytes byte_index new = take byte_index bytes ++ new ++ drop (byte_in
 abbrev pub with_cap : Granules → ℕ → Bool → List ℕ → ℕ → Granules
 with_cap m granule tag bytes code = insert m granule (tag, bytes, code)
 
--- the map after a write of bytes inside a granule, which clears its tag and its code (UCAM-CL-TR-987, stores of data clear tags)
+-- the map after a write of bytes inside a granule, which clears its tag and its code (UCAM-CL-TR-987, stores of data
+-- clear tags)
 abbrev pub with_bytes : Granules → ℕ → ℕ → List ℕ → Granules
 with_bytes m granule byte_index new = insert m granule (false, overwritten (bytes_at m granule) byte_index new, 0)
 
--- the map after a write of bytes inside a granule, which sets its tag and its code: its other bytes stay (this profile's own)
+-- the map after a write of bytes inside a granule, which sets its tag and its code: its other bytes stay (this
+-- profile's own)
 abbrev pub with_write : Granules → ℕ → Bool → ℕ → List ℕ → ℕ → Granules
 with_write m granule tag byte_index new code = insert m granule (tag, overwritten (bytes_at m granule) byte_index new, code)
 
@@ -75,7 +79,8 @@ IsNextPut m from (Some next) = (from ≤ next) × (get m next ≢ None) × NoneP
 abbrev pub HasRoom : Granules → ℕ → Type 0
 HasRoom m granule = get m granule ≡ None → len m < 4294967295
 
--- a granule's number is below 2^60, since addresses have 64 bits; it has sixteen bytes, and a tag and a code together (this profile's own)
+-- a granule's number is below 2^60, since addresses have 64 bits; it has sixteen bytes, and a tag and a code together
+-- (this profile's own)
 pub record IsStored (granule : ℕ) (entry : Entry) : Type 0 where
   pub in_memory : granule < 2 ^ 60
   pub sixteen : length entry.1 ≡ 16

@@ -5,16 +5,16 @@ use Rattle.cap_log.specs.declared.lines.Line.{Line}
 use Rattle.cap_log.specs.declared.lines.Line.TheVariants.{End as Ending}
 use Rattle.cap_log.proofs.SpellingLemmas as logs
 use Rattle.cap_heap.specs.declared.lines.HeapLine.TheVariants.{End}
-use Rattle.cap_heap.specs.HeapLines.{Spells}
+use Rattle.cap_heap.specs.HeapLines.{SpellsHeapLine}
 use Rattle.cap_heap.proofs.LineLemmas.{end_spelled}
 use Rattle.cap_heap.proofs.reading.read_end.Goals as goal
 
 -- an end line of a log of operations is one
-as_log : (text : List ℕ) (count : ℕ) → Spells text (End count) → log.Spells text (Ending count)
+as_log : (text : List ℕ) (count : ℕ) → SpellsHeapLine text (End count) → log.Spells text (Ending count)
 as_log text count spells = (spells.0, spells.1 ∙ sym (end_spelled count))
 
 some_count : (text : List ℕ) (line : Line) → log.Spells text line → (o : Option ℕ)
-    → MatchOption o ((count : ℕ) → line ≢ Ending count) (λ count. line ≡ Ending count) → IfSome o (λ count. Spells text (End count))
+    → MatchOption o ((count : ℕ) → line ≢ Ending count) (λ count. line ≡ Ending count) → IfSome o (λ count. SpellsHeapLine text (End count))
 some_count text line spells None told = tt
 some_count text line spells (Some count) told =
     let at = subst (log.Spells text) told spells in
@@ -22,7 +22,7 @@ some_count text line spells (Some count) told =
 
 no_count : (text : List ℕ) (line : Line) → log.Spells text line → (o : Option ℕ)
     → MatchOption o ((count : ℕ) → line ≢ Ending count) (λ count. line ≡ Ending count)
-    → IfNone o ((count : ℕ) → Spells text (End count) → ⊥)
+    → IfNone o ((count : ℕ) → SpellsHeapLine text (End count) → ⊥)
 no_count text line spells None told = λ count ends. told count (logs.one_spelling text line (Ending count) spells (as_log text count ends))
 no_count text line spells (Some count) told = tt
 

@@ -3,12 +3,12 @@ use Rattle.cap_log.specs.Written.{Writes-nothing}
 use Rattle.cap_heap.specs.declared.events.Event.{Event}
 use Rattle.cap_heap.specs.declared.lines.HeapLine.TheVariants.{Happens}
 use Rattle.cap_heap.specs.declared.events.Event.TheVariants.{Free}
-use Rattle.cap_heap.specs.HeapLines.{Spells}
+use Rattle.cap_heap.specs.HeapLines.{SpellsHeapLine}
 use Rattle.cap_heap.proofs.whys.put_event_lines.Goals as goal
 
 pub returns-in-Some-Free-clause-written : goal.returns-in-Some-Free-clause-written
 returns-in-Some-Free-clause-written c =
-    let spells = subst (λ (event : Event). Spells c.args.text.now (Happens event)) c.in-Some-Free.field-0-is c.in-Some-Free.ensures.some in
+    let spells = subst (λ (event : Event). SpellsHeapLine c.args.text.now (Happens event)) c.in-Some-Free.field-0-is c.in-Some-Free.ensures.some in
     ([], inl (Free c.in-Some-Free.field-0-0, spells, refl), Writes-nothing)
 
 pub returns-in-None-clause-written : goal.returns-in-None-clause-written

@@ -2,7 +2,6 @@ use Rattle.std.proofs.Common.{[], sym, subst, Some}
 use Rattle.cap_program.specs.Doings.{IsDone, ended_by}
 use Rattle.cap_program.specs.declared.faults.Fault.TheVariants.{Read}
 use Rattle.cap_program.proofs.Doing.{followed_missing, followed_unread}
-use Rattle.cap_status.proofs.Judgements.{begins_nothing}
 use Rattle.capdiag.specs.declared.words.Order.{Order}
 use Rattle.capdiag.specs.Answers.{Fails, ReadsInput, Shows, order_meaning}
 use Rattle.capdiag.proofs.HeapLemmas.{nothing_begins}
