@@ -53,4 +53,7 @@ def make(folder):
 
 
 if __name__ == "__main__":
+    if len(sys.argv) != 2 or sys.argv[1].startswith("-"):
+        print("use: python3 limits.py FOLDER", file=sys.stderr)
+        sys.exit(2)
     make(sys.argv[1])
