@@ -12,7 +12,7 @@ use Rattle.cap_heap.specs.declared.stage.Stage.TheVariants as stages
 use Rattle.cap_heap.specs.HeapLines.{SpellsHeapLine}
 use Rattle.cap_heap.specs.HeapWhys.{AreHeapDetails, AreEventDetails}
 use Rattle.cap_heap.specs.Heaps.{objects_in}
-use Rattle.cap_heap.specs.Events.{objects_after}
+use Rattle.cap_heap.specs.Events.{after_event}
 use Rattle.cap_heap.specs.Objects.{Objects, no_objects}
 use Rattle.cap_heap.specs.Beginnings.{Beginning, Nothing, Headed, Body, Whole, AreDetailsBehind, lines_of}
 use Rattle.cap_heap.specs.Progresses.{AreEventDetailsIn, StandsFor}
@@ -34,7 +34,7 @@ OfEvent root objects text refusal details =
     ⊎ (((event : Event) → SpellsHeapLine text (Happens event) → ⊥) × (details ≡ []))
 
 event_details : (root : Interval) (events : List Event) (before : List HeapLine) (text : List ℕ) (refusal : HeapRefusal) (details : List ℕ)
-    → IsOfEvent refusal → OfEvent root (fold objects_after no_objects events) text refusal details
+    → IsOfEvent refusal → OfEvent root (fold after_event no_objects events) text refusal details
     → AreHeapDetails root events before (End (length events) ∷ []) text refusal details
 event_details root events before text BadHeader details is told = absurd (is.no_header refl)
 event_details root events before text LineTooLong details is told = absurd (is.short refl)

@@ -10,12 +10,12 @@ use Rattle.cap_heap.specs.declared.lines.HeapLine.TheVariants.{Happens, End}
 use Rattle.cap_heap.specs.HeapLines.{IsHeapLineInRange}
 use Rattle.cap_heap.specs.HeapLogs.{IsHeapLogOf}
 use Rattle.cap_heap.specs.Objects.{Objects, no_objects, IsApart, CanBeGuarded}
-use Rattle.cap_heap.specs.Events.{Throughout, objects_after}
+use Rattle.cap_heap.specs.Events.{Throughout, after_event}
 use Rattle.cap_heap.proofs.Objects.{with_object-some, without_object-some}
 use Rattle.cap_heap.proofs.Guarding.{AreRequests, guards, guarded}
 
 -- objects of events in range have numbers of 64 bits
-with_request : (objects : Objects) (at size : ℕ) → AreRequests objects → at < 2 ^ 64 → size < 2 ^ 64 → AreRequests (objects_after objects (Malloc at size))
+with_request : (objects : Objects) (at size : ℕ) → AreRequests objects → at < 2 ^ 64 → size < 2 ^ 64 → AreRequests (after_event objects (Malloc at size))
 with_request objects at size requests fits fits' other length is = elim (with_object-some objects at size other length is) [
   | inl same ↦ (subst (λ (n : ℕ). n < 2 ^ 64) same.0 fits, subst (λ (n : ℕ). n < 2 ^ 64) same.1 fits')
   | inr was ↦ requests other length was.1
@@ -29,12 +29,12 @@ throughout P Q follows objects [] later requests range all = follows objects req
 throughout P Q follows objects (Malloc at size ∷ events) later requests range all = (
   follows objects requests all.0,
   all.1,
-  throughout P Q follows (objects_after objects (Malloc at size)) events later (with_request objects at size requests range.0.0 range.0.1) range.1 all.2,
+  throughout P Q follows (after_event objects (Malloc at size)) events later (with_request objects at size requests range.0.0 range.0.1) range.1 all.2,
 )
 throughout P Q follows objects (Free at ∷ events) later requests range all = (
   follows objects requests all.0,
   all.1,
-  throughout P Q follows (objects_after objects (Free at)) events later (λ other size is. requests other size (without_object-some objects at other size is))
+  throughout P Q follows (after_event objects (Free at)) events later (λ other size is. requests other size (without_object-some objects at other size is))
       range.1 all.2,
 )
 

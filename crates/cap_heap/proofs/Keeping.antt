@@ -8,7 +8,7 @@ use Rattle.std.proofs.lemmas.Option.{none-some, same_Some}
 use Rattle.std.specs.Ordering.{nat_cmp}
 use Rattle.std.specs.BTreeMap.{is_at}
 use Rattle.cap_heap.specs.declared.events.Event.TheVariants.{Malloc, Free}
-use Rattle.cap_heap.specs.Events.{objects_after}
+use Rattle.cap_heap.specs.Events.{after_event}
 use Rattle.cap_heap.specs.Kept.{length_from}
 
 pub either : {X E A B : Type 0} (r : Result X E) → OnOk r A → OnErr r B → A ⊎ B
@@ -24,7 +24,7 @@ differ : (at other : ℕ) → eqb at other ≡ false → at ≢ other
 differ at other h = grind (arith, nat_tests)
 
 pub with_long : (old new : ℕ → Option ℕ) (empty : ℕ → Bool) (at size : ℕ) → new at ≡ Some size → ((q : ℕ) → at ≢ q → new q ≡ old q)
-    → (other : ℕ) → length_from (new other) (empty other) ≡ objects_after (λ a. length_from (old a) (empty a)) (Malloc at size) other
+    → (other : ℕ) → length_from (new other) (empty other) ≡ after_event (λ a. length_from (old a) (empty a)) (Malloc at size) other
 with_long old new empty at size own others other = elim (cases_Bool (eqb at other)) [
   | inl same ↦
       ap (λ o. length_from o (empty other)) (ap new (sym (eqb-true at other same)) ∙ own)
@@ -36,7 +36,7 @@ with_long old new empty at size own others other = elim (cases_Bool (eqb at othe
 
 pub with_empty : (lengths : ℕ → Option ℕ) (old new : ℕ → Bool) (at : ℕ) → length_from (lengths at) (old at) ≡ None → new at ≡ true
     → ((q : ℕ) → at ≢ q → new q ≡ old q)
-    → (other : ℕ) → length_from (lengths other) (new other) ≡ objects_after (λ a. length_from (lengths a) (old a)) (Malloc at 0) other
+    → (other : ℕ) → length_from (lengths other) (new other) ≡ after_event (λ a. length_from (lengths a) (old a)) (Malloc at 0) other
 with_empty lengths old new at fresh own others other = elim (cases_Bool (eqb at other)) [
   | inl same ↦
       let is = sym (eqb-true at other same) in
@@ -49,7 +49,7 @@ with_empty lengths old new at fresh own others other = elim (cases_Bool (eqb at 
 
 pub without : (old new : ℕ → Option ℕ) (before empty : ℕ → Bool) (at : ℕ) → new at ≡ None → empty at ≡ false
     → ((q : ℕ) → at ≢ q → new q ≡ old q) → ((q : ℕ) → at ≢ q → empty q ≡ before q)
-    → (other : ℕ) → length_from (new other) (empty other) ≡ objects_after (λ a. length_from (old a) (before a)) (Free at) other
+    → (other : ℕ) → length_from (new other) (empty other) ≡ after_event (λ a. length_from (old a) (before a)) (Free at) other
 without old new before empty at own none others others2 other = elim (cases_Bool (eqb at other)) [
   | inl same ↦
       let is = sym (eqb-true at other same) in

@@ -7,25 +7,25 @@ use Rattle.std.proofs.lemmas.Option.{none-some, same_Some}
 use Rattle.cap_bounds.specs.declared.decoding.Interval.{Interval}
 use Rattle.cap_heap.specs.declared.events.Event.TheVariants.{Malloc, Free}
 use Rattle.cap_heap.specs.Objects.{Objects, IsApart, LieApart}
-use Rattle.cap_heap.specs.Events.{HasRoom, objects_after}
+use Rattle.cap_heap.specs.Events.{HasRoom, after_event}
 
-pub with_object-some : (objects : Objects) (at length other size : ℕ) → objects_after objects (Malloc at length) other ≡ Some size
+pub with_object-some : (objects : Objects) (at length other size : ℕ) → after_event objects (Malloc at length) other ≡ Some size
     → ((at ≡ other) × (length ≡ size)) ⊎ ((at ≢ other) × (objects other ≡ Some size))
 with_object-some objects at length other size h = elim (cases_Bool (eqb at other)) [
   | inl same ↦ inl (eqb-true at other same, same_Some _ _ (ap (λ b. if b then Some length else objects other) (sym same) ∙ h))
   | inr differs ↦ inr (grind (arith, nat_tests), ap (λ b. if b then Some length else objects other) (sym differs) ∙ h)
 ]
 
-pub without_object-some : (objects : Objects) (at other size : ℕ) → objects_after objects (Free at) other ≡ Some size → objects other ≡ Some size
+pub without_object-some : (objects : Objects) (at other size : ℕ) → after_event objects (Free at) other ≡ Some size → objects other ≡ Some size
 without_object-some objects at other size h = elim (cases_Bool (eqb at other)) [
   | inl same ↦ absurd (none-some size (ap (λ b. if b then None else objects other) (sym same) ∙ h))
   | inr differs ↦ ap (λ b. if b then None else objects other) (sym differs) ∙ h
 ]
 
-pub with_object-at : (objects : Objects) (at length : ℕ) → objects_after objects (Malloc at length) at ≡ Some length
+pub with_object-at : (objects : Objects) (at length : ℕ) → after_event objects (Malloc at length) at ≡ Some length
 with_object-at objects at length = grind (arith, nat_tests)
 
-pub with_object-other : (objects : Objects) (at length other : ℕ) → at ≢ other → objects_after objects (Malloc at length) other ≡ objects other
+pub with_object-other : (objects : Objects) (at length other : ℕ) → at ≢ other → after_event objects (Malloc at length) other ≡ objects other
 with_object-other objects at length other differs = grind (arith, nat_tests)
 
 LieApart-sym : (at length other size : ℕ) → LieApart at length other size → LieApart other size at length
@@ -39,7 +39,7 @@ apart_of heap objects known at other length size is is2 differ byte c d =
 
 -- bounds stay apart with an object for which there is room
 module _ (heap : Interval) (old new : Objects) (at length : ℕ) (known : IsApart heap old) (room : HasRoom heap old at length)
-    (told : (other : ℕ) → new other ≡ objects_after old (Malloc at length) other) where
+    (told : (other : ℕ) → new other ≡ after_event old (Malloc at length) other) where
   with-apart : (one two size size2 : ℕ) → new one ≡ Some size → new two ≡ Some size2 → one ≢ two → LieApart one size two size2
   with-apart one two size size2 is is2 differ = elim (with_object-some old at length one size (sym (told one) ∙ is)) [
     | inl same ↦ elim (with_object-some old at length two size2 (sym (told two) ∙ is2)) [
@@ -64,7 +64,7 @@ module _ (heap : Interval) (old new : Objects) (at length : ℕ) (known : IsApar
 
 -- and without one
 pub IsApart-without : (heap : Interval) (old new : Objects) (at : ℕ) → IsApart heap old
-    → ((other : ℕ) → new other ≡ objects_after old (Free at) other) → IsApart heap new
+    → ((other : ℕ) → new other ≡ after_event old (Free at) other) → IsApart heap new
 IsApart-without heap old new at known told =
     let was : (one size : ℕ) → new one ≡ Some size → old one ≡ Some size = λ one size is.
     without_object-some old at one size (sym (told one) ∙ is) in

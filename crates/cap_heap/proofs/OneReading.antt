@@ -24,7 +24,7 @@ use Rattle.cap_heap.specs.Beginnings.{objects_after}
 use Rattle.cap_heap.specs.HeapLines.{IsHeapLineInRange, SpellsHeapLine, heap_spelling}
 use Rattle.cap_heap.specs.HeapLogs.{IsHeapLogOf, IsFirstHeapFault, RefusesHeapLine, RefusesText, RefusesHeap, heap_text_of}
 use Rattle.cap_heap.specs.Objects.{Objects, no_objects, IsApart}
-use Rattle.cap_heap.specs.Events.{Throughout, RefusesEvent, objects_after}
+use Rattle.cap_heap.specs.Events.{Throughout, RefusesEvent, after_event}
 use Rattle.cap_heap.proofs.LineLemmas.{one_spelling}
 use Rattle.cap_heap.proofs.Objects.{with_object-at, with_object-other}
 use Rattle.cap_heap.proofs.RunLemmas.{from, now}
@@ -143,9 +143,9 @@ no_fault : (root : Interval) (objects : Objects) (event : Event) (more : List Ev
     → Throughout (IsApart root) objects (event ∷ more) → RefusesEvent root objects event refusal → ⊥
 no_fault root objects (Malloc at size) more refusals.AddressTaken all fault = none_is_some (objects at) all.1 fault
 no_fault root objects (Malloc at size) more refusals.OutsideHeap all fault =
-    fault.1 ((now (IsApart root) (objects_after objects (Malloc at size)) more all.2).inside at size (with_object-at objects at size))
+    fault.1 ((now (IsApart root) (after_event objects (Malloc at size)) more all.2).inside at size (with_object-at objects at size))
 no_fault root objects (Malloc at size) more refusals.Overlaps all (fresh, within, other, length, shares) =
-    let apart = now (IsApart root) (objects_after objects (Malloc at size)) more all.2 in
+    let apart = now (IsApart root) (after_event objects (Malloc at size)) more all.2 in
     let differ : at ≢ other = λ same. none-some length (sym fresh ∙ ap objects same ∙ shares.0) in
     apart.apart at other size length (with_object-at objects at size) differ
     (with_object-other objects at size other differ ∙ shares.0, shares.1, shares.2, shares.3, shares.4, shares.5)

@@ -17,14 +17,14 @@ use Rattle.cap_heap.specs.Beginnings.{Runs, body_lines, objects_after}
 use Rattle.cap_heap.specs.HeapReports.{IsReportOf}
 use Rattle.cap_heap.specs.Heaps.{objects_in, live_in}
 use Rattle.cap_heap.specs.Objects.{Objects, no_objects, IsApart}
-use Rattle.cap_heap.specs.Events.{CanHappen, Throughout, objects_after, is_malloc, mallocs, frees}
+use Rattle.cap_heap.specs.Events.{CanHappen, Throughout, after_event, is_malloc, mallocs, frees}
 use Rattle.cap_heap.specs.Progresses.{Reaches}
 use Rattle.cap_heap.proofs.Objects.{IsApart-with, IsApart-without}
 
 -- one event more
 pub objects_after-push : (objects : Objects) (events : List Event) (event : Event)
-    → objects_after objects (events ++ event ∷ []) ≡ objects_after (objects_after objects events) event
-objects_after-push objects events event = fold-append objects_after objects events (event ∷ [])
+    → objects_after objects (events ++ event ∷ []) ≡ after_event (objects_after objects events) event
+objects_after-push objects events event = fold-append after_event objects events (event ∷ [])
 
 pub mallocs-push : (events : List Event) (event : Event) → mallocs (events ++ event ∷ []) ≡ mallocs events + mallocs (event ∷ [])
 mallocs-push events event = sum_by-append (λ one. cond (is_malloc one) 1 0) events (event ∷ [])
@@ -38,7 +38,7 @@ lines-push root events event = ap (λ (lines : List HeapLine). Header ∷ Root r
 
 -- bounds stay apart with an event that can happen
 apart_after : (heap : Interval) (objects : Objects) (event : Event) → IsApart heap objects → CanHappen heap objects event
-    → IsApart heap (objects_after objects event)
+    → IsApart heap (after_event objects event)
 apart_after heap objects (Malloc at size) known can = IsApart-with heap objects _ at size known can (λ other. refl)
 apart_after heap objects (Free at) known can = IsApart-without heap objects _ at known (λ other. refl)
 
@@ -52,26 +52,26 @@ now Fact objects (Free at ∷ events) all = all.0
 pub from : (Fact : Objects → Type 0) (objects : Objects) (first more : List Event) → Throughout Fact objects (first ++ more)
     → Throughout Fact (objects_after objects first) more
 from Fact objects [] more all = all
-from Fact objects (Malloc at size ∷ first) more all = from Fact (objects_after objects (Malloc at size)) first more all.2
-from Fact objects (Free at ∷ first) more all = from Fact (objects_after objects (Free at)) first more all.2
+from Fact objects (Malloc at size ∷ first) more all = from Fact (after_event objects (Malloc at size)) first more all.2
+from Fact objects (Free at ∷ first) more all = from Fact (after_event objects (Free at)) first more all.2
 
 -- and in the end
 pub at_end : (Fact : Objects → Type 0) (objects : Objects) (events : List Event) → Throughout Fact objects events
     → Fact (objects_after objects events)
 at_end Fact objects [] all = all
-at_end Fact objects (Malloc at size ∷ events) all = at_end Fact (objects_after objects (Malloc at size)) events all.2
-at_end Fact objects (Free at ∷ events) all = at_end Fact (objects_after objects (Free at)) events all.2
+at_end Fact objects (Malloc at size ∷ events) all = at_end Fact (after_event objects (Malloc at size)) events all.2
+at_end Fact objects (Free at ∷ events) all = at_end Fact (after_event objects (Free at)) events all.2
 
 -- and with an event more that can happen
 throughout-push : (Fact : Objects → Type 0) (heap : Interval) (objects : Objects) (events : List Event) (event : Event)
     → Throughout Fact objects events → CanHappen heap (objects_after objects events) event
-    → Fact (objects_after (objects_after objects events) event) → Throughout Fact objects (events ++ event ∷ [])
+    → Fact (after_event (objects_after objects events) event) → Throughout Fact objects (events ++ event ∷ [])
 throughout-push Fact heap objects [] (Malloc at size) all can last = (all, can.fresh, last)
 throughout-push Fact heap objects [] (Free at) all can last = (all, can, last)
 throughout-push Fact heap objects (Malloc at size ∷ events) event all can last =
-    (all.0, all.1, throughout-push Fact heap (objects_after objects (Malloc at size)) events event all.2 can last)
+    (all.0, all.1, throughout-push Fact heap (after_event objects (Malloc at size)) events event all.2 can last)
 throughout-push Fact heap objects (Free at ∷ events) event all can last =
-    (all.0, all.1, throughout-push Fact heap (objects_after objects (Free at)) events event all.2 can last)
+    (all.0, all.1, throughout-push Fact heap (after_event objects (Free at)) events event all.2 can last)
 
 none_apart : (heap : Interval) → IsApart heap no_objects
 none_apart heap = record {
@@ -120,7 +120,7 @@ Reaches-same old new report count root events bounds same live reaches = record 
 -- one event more
 module _ (old new : Heap) (report later : HeapReport) (count : ℕ) (root : Interval) (events : List Event) (event : Event)
     (reaches : Reaches old report count root events) (range : IsHeapLineInRange (Happens event)) (few : length events < 2 ^ 32 - 1)
-    (can : CanHappen old.bounds (objects_in old) event) (told : objects_in new ≡ objects_after (objects_in old) event)
+    (can : CanHappen old.bounds (objects_in old) event) (told : objects_in new ≡ after_event (objects_in old) event)
     (live : live_in new + frees (event ∷ []) ≡ live_in old + mallocs (event ∷ [])) (bounds : new.bounds ≡ old.bounds) where
   pub live_after : live_in new + frees (events ++ event ∷ []) ≡ mallocs (events ++ event ∷ [])
   live_after = omega (arith, live, reaches.live_is, mallocs-push events event, frees-push events event)
@@ -131,7 +131,7 @@ module _ (old new : Heap) (report later : HeapReport) (count : ℕ) (root : Inte
         (subst (λ (objects : Objects). CanHappen root objects event) reaches.objects_are
         (subst (λ (heap : Interval). CanHappen heap (objects_in old) event) reaches.root_is can));
     root_is = bounds ∙ reaches.root_is;
-    objects_are = told ∙ ap (λ (objects : Objects). objects_after objects event) reaches.objects_are ∙ sym (objects_after-push no_objects events event);
+    objects_are = told ∙ ap (λ (objects : Objects). after_event objects event) reaches.objects_are ∙ sym (objects_after-push no_objects events event);
     count_is = omega (arith, reaches.count_is, length_push events event);
     live_is = live_after;
     report_is = reported;

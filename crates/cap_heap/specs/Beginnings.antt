@@ -11,7 +11,7 @@ use Rattle.cap_heap.specs.HeapLines.{IsHeapLineInRange}
 use Rattle.cap_heap.specs.HeapLogs.{RefusesText, RefusesHeap}
 use Rattle.cap_heap.specs.HeapWhys.{AreHeapDetails}
 use Rattle.cap_heap.specs.Objects.{Objects, no_objects, IsApart}
-use Rattle.cap_heap.specs.Events.{Throughout, objects_after}
+use Rattle.cap_heap.specs.Events.{Throughout, after_event}
 
 -- not at all; with its header; with its root and events too; or with all of these and its end line
 pub data Beginning : Type 0 where
@@ -44,7 +44,7 @@ events_of beginning = []
 
 -- the objects after events
 abbrev pub objects_after : Objects → List Event → Objects
-objects_after objects events = fold objects_after objects events
+objects_after objects events = fold after_event objects events
 
 -- the lines of a root and events
 abbrev pub body_lines : Interval → List Event → List HeapLine

@@ -12,16 +12,16 @@ use Rattle.cap_bounds.specs.Rounding.{rounded_base, rounded_top}
 use Rattle.cap_heap.specs.Objects.{Objects, Shares, LieApart}
 
 -- the objects after an event
-abbrev pub objects_after : Objects → Event → Objects
-objects_after objects (Malloc at size) other = if at == other then Some size else objects other
-objects_after objects (Free at) other = if at == other then None else objects other
+abbrev pub after_event : Objects → Event → Objects
+after_event objects (Malloc at size) other = if at == other then Some size else objects other
+after_event objects (Free at) other = if at == other then None else objects other
 
 -- each object comes to live where none lives and is freed where it lives, and at every moment a fact holds of the live
 -- objects
 abbrev pub Throughout : (Objects → Type 0) → Objects → List Event → Type 0
 Throughout Fact objects [] = Fact objects
-Throughout Fact objects (Malloc at size ∷ events) = Fact objects × (objects at ≡ None) × Throughout Fact (objects_after objects (Malloc at size)) events
-Throughout Fact objects (Free at ∷ events) = Fact objects × IsSome (objects at) × Throughout Fact (objects_after objects (Free at)) events
+Throughout Fact objects (Malloc at size ∷ events) = Fact objects × (objects at ≡ None) × Throughout Fact (after_event objects (Malloc at size)) events
+Throughout Fact objects (Free at ∷ events) = Fact objects × IsSome (objects at) × Throughout Fact (after_event objects (Free at)) events
 
 -- an object comes to live
 abbrev pub is_malloc : Event → Bool

@@ -10,7 +10,7 @@ use Rattle.cap_heap.specs.declared.refusal.HeapRefusal.{HeapRefusal}
 use Rattle.cap_heap.specs.declared.refusal.HeapRefusal.TheVariants.{BadHeader, LineTooLong, BadLine, Misplaced, Truncated, WrongCount, LimitPassed}
 use Rattle.cap_heap.specs.HeapLines.{IsHeapLineInRange, SpellsHeapLine, heap_spelling}
 use Rattle.cap_heap.specs.Objects.{Objects, IsApart, CanBeGuarded}
-use Rattle.cap_heap.specs.Events.{Throughout, RefusesEvent, objects_after}
+use Rattle.cap_heap.specs.Events.{Throughout, RefusesEvent, after_event}
 
 -- the text of lines: each line's spelling and a line feed
 abbrev pub heap_text_of : List HeapLine → List ℕ
@@ -33,7 +33,7 @@ CanBeGuardedThroughout bytes =
 abbrev pub RefusesHeapLine : Interval → List Event → HeapLine → HeapLine → HeapRefusal → Type 0
 RefusesHeapLine root events (Root bounds) line refusal = ((other : Interval) → line ≢ Root other) × (refusal ≡ Misplaced)
 RefusesHeapLine root events (End count) (Happens event) refusal = ((length events ≡ 2 ^ 32 - 1) × (refusal ≡ LimitPassed))
-    ⊎ ((length events < 2 ^ 32 - 1) × RefusesEvent root (fold objects_after (λ address. None) events) event refusal)
+    ⊎ ((length events < 2 ^ 32 - 1) × RefusesEvent root (fold after_event (λ address. None) events) event refusal)
 RefusesHeapLine root events (End count) (End other) refusal = (other ≢ count) × (refusal ≡ WrongCount)
 RefusesHeapLine root events (End count) line refusal = refusal ≡ Misplaced
 RefusesHeapLine root events due line refusal = ⊥

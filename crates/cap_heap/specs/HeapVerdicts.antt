@@ -13,7 +13,7 @@ use Rattle.cap_heap.specs.declared.verdict.HeapFault.{HeapFault}
 use Rattle.cap_heap.specs.declared.verdict.HeapFault.TheVariants.{Pull, NoMemory}
 use Rattle.cap_heap.specs.HeapLines.{IsHeapLineInRange, heap_spelling}
 use Rattle.cap_heap.specs.Objects.{no_objects, IsApart}
-use Rattle.cap_heap.specs.Events.{HasRoom, objects_after, is_malloc}
+use Rattle.cap_heap.specs.Events.{HasRoom, after_event, is_malloc}
 use Rattle.cap_heap.specs.HeapReports.{IsReportOf}
 use Rattle.cap_heap.specs.HeapLogs.{IsHeapLogOf, IsFirstHeapFault, CanBeGuardedThroughout, heap_text_of}
 
@@ -60,7 +60,7 @@ pub record MayLackHeapMemory (bytes : List ℕ) : Type 0 where
   pub bytes_are : bytes ≡ heap_text_of before ++ (heap_spelling (Happens (Malloc address size)) ++ 10 ∷ more)
   pub range : IsHeapLineInRange (Happens (Malloc address size))
   pub few : length events < 2 ^ 32 - 1
-  pub room : HasRoom root (fold objects_after no_objects events) address size
+  pub room : HasRoom root (fold after_event no_objects events) address size
 
 -- why there is no verdict: the source failed behind whole lines that begin a log, or there was no memory for such an
 -- object

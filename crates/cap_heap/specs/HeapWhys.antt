@@ -17,7 +17,7 @@ use Rattle.cap_heap.specs.declared.refusal.HeapRefusal.TheVariants.{LimitPassed,
 use Rattle.cap_heap.specs.BadLines.{AreBadLines, AreFirstLines}
 use Rattle.cap_heap.specs.HeapLines.{SpellsHeapLine}
 use Rattle.cap_heap.specs.Objects.{Objects, no_objects, Shares, LieApart}
-use Rattle.cap_heap.specs.Events.{objects_after}
+use Rattle.cap_heap.specs.Events.{after_event}
 use Rattle.cap_heap.specs.HeapLogs.{IsFirstHeapFault}
 
 -- how many events there were
@@ -78,12 +78,12 @@ count_in (line ∷ lines) = count_in lines
 -- which lines may come, where a log goes on with these
 abbrev pub due_text : List HeapLine → List ℕ
 due_text (Root bounds ∷ later) = codes "root BASE TOP, the bounds of the heap"
-due_text due = codes "malloc, free or one end line, and nothing objects_after it"
+due_text due = codes "malloc, free or one end line, and nothing after it"
 
 -- what has to come, after so many events
 abbrev pub due_line : List HeapLine → HeapRefusal → ℕ → List ℕ
 due_line due Misplaced count = text_line (codes "expected") (due_text due)
-due_line due Truncated count = text_line (codes "expected") (codes "an end line, and a line feed objects_after each line")
+due_line due Truncated count = text_line (codes "expected") (codes "an end line, and a line feed after each line")
 due_line due WrongCount count = text_line (codes "expected end") (decimal count)
 due_line due refusal count = []
 
@@ -97,14 +97,14 @@ counted_lines due refusal count = count_line count ++ due_line due refusal count
 abbrev pub AreHeapDetails : Interval → List Event → List HeapLine → List HeapLine → List ℕ → HeapRefusal → List ℕ → Type 0
 AreHeapDetails root events before due text BadHeader details = AreFirstLines text details
 AreHeapDetails root events before due text LineTooLong details =
-    details ≡ text_line (codes "expected") (codes "a line feed objects_after at most 95 bytes")
+    details ≡ text_line (codes "expected") (codes "a line feed after at most 95 bytes")
 AreHeapDetails root events before due text BadLine details = AreBadLines text details
 AreHeapDetails root events before due text Misplaced details = details ≡ counted_lines due Misplaced (count_in before)
 AreHeapDetails root events before due text Truncated details = details ≡ counted_lines due Truncated (count_in before)
 AreHeapDetails root events before due text WrongCount details = details ≡ counted_lines due WrongCount (count_in before)
 AreHeapDetails root events before due text LimitPassed details = details ≡ counted_lines due LimitPassed (count_in before)
 AreHeapDetails root events before (End count ∷ later) text refusal details =
-    ((event : Event) × SpellsHeapLine text (Happens event) × AreEventDetails root (fold objects_after no_objects events) event refusal details)
+    ((event : Event) × SpellsHeapLine text (Happens event) × AreEventDetails root (fold after_event no_objects events) event refusal details)
     ⊎ (((event : Event) → SpellsHeapLine text (Happens event) → ⊥) × (details ≡ []))
 AreHeapDetails root events before due text refusal details = details ≡ []
 

@@ -6,7 +6,7 @@ ghost use Rattle.std.specs.BTreeMap as tree;
 ghost use Rattle.std.specs.BTreeSet as set;
 ghost use Rattle.cap_bounds.specs.Rounding.{rounded_base, rounded_top};
 ghost use Rattle.cap_heap.specs.Objects.{IsApart, LieApart, Shares, no_objects};
-ghost use Rattle.cap_heap.specs.Events.{CanHappen, HasRoom, IsEndOf, RefusesEvent, objects_after, frees, mallocs};
+ghost use Rattle.cap_heap.specs.Events.{CanHappen, HasRoom, IsEndOf, RefusesEvent, after_event, frees, mallocs};
 ghost use Rattle.cap_heap.specs.Kept.{kept, kept_count};
 ghost use Rattle.cap_heap.specs.declared.events.Event.TheVariants.{Malloc, Free};
 ghost use Rattle.cap_heap.specs.declared.events.EventEnd.TheVariants.{NoMemory};
@@ -68,7 +68,7 @@ impl Heap {
     /// An event happens, or it can't and nothing changes.
     pub fn happen(&mut self, event: Event) -> Result<(), EventEnd>
         ensures can { OnOk result (CanHappen self.old.bounds (objects_in self.old) event) }
-        ensures ok { OnOk result (objects_in self.new ≡ objects_after (objects_in self.old) event) }
+        ensures ok { OnOk result (objects_in self.new ≡ after_event (objects_in self.old) event) }
         ensures count { OnOk result (live_in self.new + frees (event ∷ []) ≡ live_in self.old + mallocs (event ∷ [])) }
         ensures end { IfErr result (IsEndOf self.old.bounds (objects_in self.old) event) }
         ensures err { OnErr result (objects_in self.new ≡ objects_in self.old) }
@@ -150,7 +150,7 @@ impl Heap {
     // An object of no bytes is allocated where there is room for it.
     fn keep_empty(&mut self, address: u64) -> Result<(), EventEnd>
         requires { HasRoom self.old.bounds (objects_in self.old) address 0 }
-        ensures ok { OnOk result ((other : ℕ) → objects_in self.new other ≡ objects_after (objects_in self.old) (Malloc address 0) other) }
+        ensures ok { OnOk result ((other : ℕ) → objects_in self.new other ≡ after_event (objects_in self.old) (Malloc address 0) other) }
         ensures count { OnOk result (live_in self.new ≡ live_in self.old + 1) }
         ensures end { IfErr result (λ end. end ≡ NoMemory) }
         ensures err { OnErr result ((other : ℕ) → objects_in self.new other ≡ objects_in self.old other) }
@@ -176,7 +176,7 @@ impl Heap {
         requires some { 0 < length }
         requires base { base ≡ rounded_base address length }
         requires room { HasRoom self.old.bounds (objects_in self.old) address length }
-        ensures ok { OnOk result ((other : ℕ) → objects_in self.new other ≡ objects_after (objects_in self.old) (Malloc address length) other) }
+        ensures ok { OnOk result ((other : ℕ) → objects_in self.new other ≡ after_event (objects_in self.old) (Malloc address length) other) }
         ensures count { OnOk result (live_in self.new ≡ live_in self.old + 1) }
         ensures end { IfErr result (λ end. end ≡ NoMemory) }
         ensures err { OnErr result ((other : ℕ) → objects_in self.new other ≡ objects_in self.old other) }
@@ -196,7 +196,7 @@ impl Heap {
     /// address, and one down the set of those of no bytes where any live.
     pub fn malloc(&mut self, address: u64, length: u64) -> Result<(), EventEnd>
         ensures room { OnOk result (HasRoom self.old.bounds (objects_in self.old) address length) }
-        ensures ok { OnOk result ((other : ℕ) → objects_in self.new other ≡ objects_after (objects_in self.old) (Malloc address length) other) }
+        ensures ok { OnOk result ((other : ℕ) → objects_in self.new other ≡ after_event (objects_in self.old) (Malloc address length) other) }
         ensures count { OnOk result (live_in self.new ≡ live_in self.old + 1) }
         ensures end { IfErr result (IsEndOf self.old.bounds (objects_in self.old) (Malloc address length)) }
         ensures err { OnErr result ((other : ℕ) → objects_in self.new other ≡ objects_in self.old other) }
@@ -217,7 +217,7 @@ impl Heap {
     /// The object at an address lives no more, or none lived there and nothing changes.
     pub fn free(&mut self, address: u64) -> Result<(), EventEnd>
         ensures live { OnOk result (IsSome (objects_in self.old address)) }
-        ensures ok { OnOk result ((other : ℕ) → objects_in self.new other ≡ objects_after (objects_in self.old) (Free address) other) }
+        ensures ok { OnOk result ((other : ℕ) → objects_in self.new other ≡ after_event (objects_in self.old) (Free address) other) }
         ensures count { OnOk result (live_in self.old ≡ live_in self.new + 1) }
         ensures end { IfErr result (IsEndOf self.old.bounds (objects_in self.old) (Free address)) }
         ensures err { OnErr result ((other : ℕ) → objects_in self.new other ≡ objects_in self.old other) }
