@@ -1,5 +1,5 @@
 -- What follows a field of a line.
-use Rattle.std.proofs.Common.{◌≡◌, ℕ, ◌*◌, ◌^◌, ◌<◌, List, ◌∷◌, ◌++◌, drop, Option, sym, ap, ◌∙◌, inl, inr, codes}
+use Rattle.std.proofs.Common.{◌≡◌, ℕ, ◌*◌, List, ◌∷◌, ◌++◌, drop, Option, sym, ap, ◌∙◌, inl, inr, codes}
 use Rattle.std.proofs.lemmas.List.{drop_at}
 use Rattle.std.specs.Prelude.{IfNone, Some, None}
 use Rattle.cap_word.specs.Digits.{hex_digits}
