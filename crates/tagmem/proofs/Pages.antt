@@ -7,7 +7,7 @@ use Rattle.std.specs.Ordering.{nat_cmp}
 use Rattle.std.specs.Cmp.{unsigned_tied}
 use Rattle.std.specs.BTreeMap as tree
 use Rattle.std.specs.BTreeMap.{BTreeMap, Updates}
-use Rattle.std.proofs.lemmas.Bool.{eqb-true}
+use Rattle.std.proofs.lemmas.Bool.{eqb-true, ne_eqb}
 use Rattle.std.proofs.lemmas.Bool.Decides.{nat_tests}
 use Rattle.std.proofs.lemmas.List.{get_or-map, get_or-set_same, get_or-set_other, get_or_push, get_or_append_left, length-append}
 use Rattle.std.proofs.lemmas.List.{length-map, map-append, map-set}
@@ -15,7 +15,7 @@ use Rattle.std.proofs.lemmas.List.Elements.{All-append, All-cons, All-get_or, Al
 use Rattle.std.proofs.lemmas.Option.{none-some, same_Some}
 use Rattle.std.proofs.Math.ListN.{length-set, get_or-eq_default}
 use Rattle.tagmem.specs.declared.page.Page.{Page}
-use Rattle.tagmem.specs.Pages.{index_kept, index_in, index_at, index_of, HasBlock, EachHasBlock, AreApart, IsLeast, IsWith}
+use Rattle.tagmem.specs.Pages.{index_kept, index_in, index_at, index_of, HasBlock, EachHasBlock, AreApart, IsAbove, IsLeast, IsWith}
 
 abbrev kept_in : Page → List ℕ
 kept_in page = page.kept
@@ -146,6 +146,11 @@ module _ (pages : List Page) (old new : BTreeMap ℕ ℕ) (known : AreApart page
 
   told_other : (q : ℕ) → eqb (number / 16) q ≡ false → tree.get nat_cmp new q ≡ tree.get nat_cmp old q
   told_other q differs = told q ∙ ap (λ b. cond b (Some at) (tree.get nat_cmp old q)) differs
+
+  -- from a number on that is above both no page is there
+  pub IsAbove-push : (above more : ℕ) → IsAbove old above → above ≤ more → number / 16 < more → IsAbove new more
+  IsAbove-push above more was least new_least q from =
+      told_other q (ne_eqb (number / 16) q (λ e. absurd (omega (arith, e, new_least, from)))) ∙ was q (omega (arith, least, from))
 
   -- it is the new one or an old one
   cases : (P : Type 0) (n r : ℕ) → tree.get nat_cmp new n ≡ Some r → (n ≡ number / 16 → r ≡ at → P)

@@ -42,6 +42,10 @@ pub record AreApart (pages : List Page) (by_number : BTreeMap ℕ ℕ) : Type 0 
 abbrev pub StandsAt : BTreeMap ℕ ℕ → ℕ → ℕ → Type 0
 StandsAt by_number page at = page < 2 ^ 60 → tree.get nat_cmp by_number page ≡ Some at
 
+-- no page from a number on is there
+abbrev pub IsAbove : BTreeMap ℕ ℕ → ℕ → Type 0
+IsAbove by_number above = (page : ℕ) → above ≤ page → tree.get nat_cmp by_number page ≡ None
+
 -- the least number from one on of which something is found, where there is one
 abbrev pub IsLeast : (ℕ → Option ℕ) → ℕ → Option ℕ → Type 0
 IsLeast find from None = (number : ℕ) → from ≤ number → find number ≡ None

@@ -2,7 +2,7 @@
 ghost use Rattle.std.specs.Prelude.{◌≡◌, ◌/◌, ◌*◌, ◌+◌, ◌^◌, ◌<◌, ◌≤◌, ℕ, None, Some, IfSome, MatchOption, OnOk, OnErr};
 ghost use Rattle.std.specs.BTreeMap as tree;
 ghost use Rattle.std.specs.Ordering.{nat_cmp};
-ghost use Rattle.tagmem.specs.Pages.{AreApart, EachHasBlock, StandsAt};
+ghost use Rattle.tagmem.specs.Pages.{AreApart, EachHasBlock, IsAbove, StandsAt};
 
 use crate::page::Page;
 use crate::store::NoMemory;
@@ -19,6 +19,9 @@ pub(crate) struct Directory {
     // The number of the page that was added last, and where it stands. At first it is that of no page.
     last: u64,
     last_at: usize,
+    // No page from this number on is there.
+    above: u64,
+    ghost bounded: { IsAbove tree above },
     ghost latest: { StandsAt tree last last_at },
     ghost apart: { AreApart pages.items tree },
     ghost used: { EachHasBlock pages.items },
@@ -39,6 +42,7 @@ impl Directory {
             tree: BTreeMap::new(alloc),
             last: u64::MAX,
             last_at: 0,
+            above: 0,
         }
     }
 
@@ -98,6 +102,9 @@ impl Directory {
         if page == self.last {
             return Some(self.last_at);
         }
+        if page >= self.above {
+            return None;
+        }
         self.tree.get(&page).copied()
     }
 
@@ -146,6 +153,7 @@ impl Directory {
         self.pages.push_reserved(page);
         self.last = number / 16;
         self.last_at = at;
+        self.above = self.above.max(number / 16 + 1);
         Ok(())
     }
 }
