@@ -4,8 +4,8 @@
  *   CAP_LOGS=FOLDER LD_PRELOAD=$PWD/objects.so PROGRAM
  *
  * writes FOLDER/NAME.PID.log; if CAP_LOGS is a pipe, the log goes there. c1 is the root, the whole address space. c2 to c29
- * hold the capabilities of the objects used last, each derived from c1 with the object's address and length; that of any
- * other object is derived anew. memcpy, memmove, memset, calloc and realloc are recorded as accesses to the first and the
+ * hold capabilities of objects, each derived from c1 with the object's address and length, in a register chosen by the
+ * address; one that its register doesn't hold is derived anew. memcpy, memmove, memset, calloc and realloc are recorded as accesses to the first and the
  * last byte that they reach, through the object at whose bytes they begin (by c30). A value that is loaded is first stored through
  * c31: the program and the kernel wrote it unseen. A child that doesn't call exec isn't recorded. */
 #define _GNU_SOURCE
