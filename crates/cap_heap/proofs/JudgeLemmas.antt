@@ -10,7 +10,7 @@ use Rattle.cap_log.specs.declared.taking.Lines.{Lines}
 use Rattle.cap_log.specs.declared.taking.Next.{Next}
 use Rattle.cap_log.specs.declared.taking.Next.TheVariants.{Line, LineTooLong, Truncated, Finished}
 use Rattle.cap_log.specs.declared.sources.PullFault.{PullFault}
-use Rattle.cap_log.proofs.FrontLemmas.{IsLine-more, IsTooLong-more}
+use Rattle.cap_log.proofs.FrontLemmas.{IsLine-more, IsLine-not_cut, IsLine-not_too_long, IsTooLong-more, IsTooLong-not_cut}
 use Rattle.cap_heap.specs.declared.events.EventEnd.{EventEnd}
 use Rattle.cap_heap.specs.declared.events.EventEnd.TheVariants as ends
 use Rattle.cap_heap.specs.declared.lines.HeapLine.{HeapLine}
@@ -22,7 +22,7 @@ use Rattle.cap_heap.specs.declared.stage.Stage.{Stage}
 use Rattle.cap_heap.specs.declared.stage.Stage.TheVariants as stages
 use Rattle.cap_heap.specs.declared.verdict.HeapVerdict.{HeapVerdict}
 use Rattle.cap_heap.specs.declared.verdict.HeapVerdict.TheVariants.{No, Yes}
-use Rattle.cap_heap.specs.declared.verdict.HeapFault.TheVariants.{Pull}
+use Rattle.cap_log.specs.declared.judge_faults.JudgeFault.TheVariants.{Pull}
 use Rattle.cap_heap.specs.HeapLines.{IsHeapLineInRange, heap_spelling}
 use Rattle.cap_heap.specs.Heaps.{live_in}
 use Rattle.cap_heap.specs.HeapLogs.{heap_text_of}
@@ -184,16 +184,19 @@ lacks progress given rest text left (Body root events) stands (line, spells, (ad
 }
 
 -- the text of a line that is cut, too long or whole, whatever follows it
-cut_text : (rest more : List ℕ) → IsCut rest → more ≡ [] → IsFrontText (rest ++ more) (take 96 rest)
-cut_text rest more cut none =
-    with_none (λ (bytes : List ℕ). IsFrontText bytes (take 96 rest)) rest more none (inr (inl (cut, take_all 96 rest (omega (arith, cut.0)))))
+cut_text : (rest more text : List ℕ) → more ≡ [] → IsFrontText rest text → IsFrontText (rest ++ more) text
+cut_text rest more text none is = with_none (λ (bytes : List ℕ). IsFrontText bytes text) rest more none is
 
-long_text : (rest more : List ℕ) → IsTooLong rest → IsFrontText (rest ++ more) (take 96 rest)
-long_text rest more long = inl (IsTooLong-more rest more long, sym (take-append-le 96 rest more long.0))
+long_text : (rest more text : List ℕ) → IsTooLong rest → IsFrontText rest text → IsFrontText (rest ++ more) text
+long_text rest more text long (inl (too, is)) = inl (IsTooLong-more rest more long, is ∙ sym (take-append-le 96 rest more long.0))
+long_text rest more text long (inr (inl (cut, is))) = absurd (IsTooLong-not_cut rest long cut)
+long_text rest more text long (inr (inr (line, left, whole, is))) = absurd (IsLine-not_too_long rest line left whole long)
 
-whole_text : (rest text left more : List ℕ) → IsLine rest text left → IsFrontText (rest ++ more) (take 96 text)
-whole_text rest text left more whole =
-    inr (inr (text, left ++ more, IsLine-more rest text left more whole, take_all 96 text (omega (arith, whole.short))))
+whole_text : (rest line left more text : List ℕ) → IsLine rest line left → IsFrontText line text → IsFrontText (rest ++ more) text
+whole_text rest line left more text whole (inl (long, is)) = absurd (omega (arith, long.0, whole.short))
+whole_text rest line left more text whole (inr (inl (cut, is))) = inr (inr (line, left ++ more, IsLine-more rest line left more whole, is))
+whole_text rest line left more text whole (inr (inr (other, behind, is_line, is))) =
+    absurd (IsLine-not_cut line other behind is_line (whole.short, whole.one))
 
 module _ {S : Type 0} {gave : S → S → List ℕ → Type 0} {ended : S → Bool} {old new : S} {progress : Progress} {lines : Lines} (line : ℕ) where
   -- a verdict, with its report and the line that was refused
@@ -292,41 +295,42 @@ module _ {S : Type 0} {gave : S → S → List ℕ → Type 0} {ended : S → Bo
         (subst (λ (r : List ℕ). p.given ≡ heap_text_of (lines_of p.at.beginning) ++ r) p.next.0 p.at.bytes_are) p.at.line_is
 
   -- or in the middle of a line
-  pub at_cut : Stands gave ended old new progress line lines (Ok Truncated)
-      → JudgedBy gave ended old new (Ok (refused_in progress.stage line refusals.Truncated)) progress (take 96 (kept lines))
-  at_cut p =
+  pub at_cut : (text : List ℕ) → IsFrontText (kept lines) text → Stands gave ended old new progress line lines (Ok Truncated)
+      → JudgedBy gave ended old new (Ok (refused_in progress.stage line refusals.Truncated)) progress text
+  at_cut text front p =
       let here = refuses_cut progress line p.rest p.at.beginning p.at.stands p.next.0 p.next.1 in
       let left : kept lines ≡ p.rest = p.next.4 in
-      subst (λ (verdict : HeapVerdict). JudgedBy gave ended old new (Ok verdict) progress (take 96 (kept lines))) (sym here.1)
-      (refused_met p progress here.0 (take 96 (kept lines)) p.rest p.at.beginning p.at.stands p.at.stands p.at.bytes_are p.at.line_is
+      subst (λ (verdict : HeapVerdict). JudgedBy gave ended old new (Ok verdict) progress text) (sym here.1)
+      (refused_met p progress here.0 text p.rest p.at.beginning p.at.stands p.at.stands p.at.bytes_are p.at.line_is
       (λ more none. let is = none p.next.2 in (
         with_none (λ (b : List ℕ). RefusesBehind p.at.beginning b here.0) p.rest more is here.2,
-        subst (λ (t : List ℕ). IsFrontText (p.rest ++ more) (take 96 t)) (sym left) (cut_text p.rest more p.next.0 is),
+        cut_text p.rest more text is (subst (λ (b : List ℕ). IsFrontText b text) left front),
       )))
 
   -- the line is too long
-  pub at_long : Stands gave ended old new progress line lines (Ok LineTooLong)
-      → JudgedBy gave ended old new (Ok (refused_in progress.stage line refusals.LineTooLong)) progress (take 96 (kept lines))
-  at_long p =
+  pub at_long : (text : List ℕ) → IsFrontText (kept lines) text → Stands gave ended old new progress line lines (Ok LineTooLong)
+      → JudgedBy gave ended old new (Ok (refused_in progress.stage line refusals.LineTooLong)) progress text
+  at_long text front p =
       let here = refuses_long progress line p.rest p.at.beginning p.at.stands p.next.0 in
       let left : kept lines ≡ p.rest = p.next.2 in
-      subst (λ (verdict : HeapVerdict). JudgedBy gave ended old new (Ok verdict) progress (take 96 (kept lines))) (sym here.1)
-      (refused_met p progress here.0 (take 96 (kept lines)) p.rest p.at.beginning p.at.stands p.at.stands p.at.bytes_are p.at.line_is
+      subst (λ (verdict : HeapVerdict). JudgedBy gave ended old new (Ok verdict) progress text) (sym here.1)
+      (refused_met p progress here.0 text p.rest p.at.beginning p.at.stands p.at.stands p.at.bytes_are p.at.line_is
       (λ more none. (
         here.2 more,
-        subst (λ (t : List ℕ). IsFrontText (p.rest ++ more) (take 96 t)) (sym left) (long_text p.rest more p.next.0),
+        long_text p.rest more text p.next.0 (subst (λ (b : List ℕ). IsFrontText b text) left front),
       )))
 
   -- the line is not taken
-  pub at_line : (text : _) → Stands gave ended old new progress line lines (Ok (Line text)) → (end : EventEnd) → EndsText progress text.now end
-      → (after : Progress) → Stays progress after → JudgedBy gave ended old new (answer_at line end) after (take 96 text.now)
-  at_line text p (ends.Refused refusal) told after stays =
-      refused_met p after refusal (take 96 text.now) p.rest p.at.beginning p.at.stands (stays p.at.beginning p.at.stands) p.at.bytes_are p.at.line_is
+  pub at_line : (text : _) → Stands gave ended old new progress line lines (Ok (Line text)) → (held : List ℕ)
+      → IsFrontText text.now held → (end : EventEnd) → EndsText progress text.now end
+      → (after : Progress) → Stays progress after → JudgedBy gave ended old new (answer_at line end) after held
+  at_line text p held front (ends.Refused refusal) told after stays =
+      refused_met p after refusal held p.rest p.at.beginning p.at.stands (stays p.at.beginning p.at.stands) p.at.bytes_are p.at.line_is
       (λ more none. (
         refuses_line p.at.beginning p.rest text.now (kept lines) refusal p.next.0 (told p.at.beginning p.at.stands) more,
-        whole_text p.rest text.now (kept lines) more p.next.0,
+        whole_text p.rest text.now (kept lines) more held p.next.0 front,
       ))
-  at_line text p ends.NoMemory told after stays = record {
+  at_line text p held front ends.NoMemory told after stays = record {
     judged = record {
       given = p.given;
       gives = p.gives;

@@ -3,7 +3,7 @@ use Rattle.std.proofs.Common.{ℕ, Bool, true, false, List, take, refl, Ok, Err}
 use Rattle.cap_heap.specs.declared.progress.Progress.{Progress}
 use Rattle.cap_heap.specs.declared.verdict.HeapVerdict.{HeapVerdict}
 use Rattle.cap_heap.specs.declared.verdict.HeapVerdict.TheVariants.{Yes, No}
-use Rattle.cap_heap.specs.declared.verdict.HeapToFault.TheVariants.{Push}
+use Rattle.cap_log.specs.declared.judge_faults.JudgeToFault.TheVariants.{Push}
 use Rattle.cap_heap.specs.HeapVerdicts.{ReportsAfter}
 use Rattle.cap_heap.specs.Judgings.{JudgedBy, StopsAfter}
 use Rattle.cap_heap.specs.Texts.{IsText}

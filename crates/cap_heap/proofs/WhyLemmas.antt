@@ -15,13 +15,6 @@ use Rattle.cap_heap.specs.HeapLines.{SpellsHeapLine}
 use Rattle.cap_heap.specs.HeapWhys.{AreHeapDetails, AreEventDetails, count_in, counted_lines}
 use Rattle.cap_heap.specs.Objects.{Objects}
 
--- at most 96 bytes are held of a text
-pub take_few : (text : List ℕ) (n : ℕ) → n ≡ min (length text) 96 → take n text ≡ take 96 text
-take_few text n is = elim (cases_lt 96 (length text)) [
-  | inl more ↦ let same : n ≡ 96 = omega (arith, is) in ap (λ (m : ℕ). take m text) same
-  | inr few ↦ take_all n text (omega (arith, is)) ∙ sym (take_all 96 text few)
-]
-
 -- no event is spelled where neither kind is
 no_event : (text : List ℕ) → ((at size : ℕ) → SpellsHeapLine text (Happens (Malloc at size)) → ⊥) → ((at : ℕ) → SpellsHeapLine text (Happens (Free at)) → ⊥)
     → (event : Event) → SpellsHeapLine text (Happens event) → ⊥

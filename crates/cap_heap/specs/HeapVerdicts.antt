@@ -9,8 +9,8 @@ use Rattle.cap_heap.specs.declared.lines.HeapLine.TheVariants.{Happens, End}
 use Rattle.cap_heap.specs.declared.report.HeapReport.{HeapReport}
 use Rattle.cap_heap.specs.declared.verdict.HeapVerdict.{HeapVerdict}
 use Rattle.cap_heap.specs.declared.verdict.HeapVerdict.TheVariants.{Yes, No}
-use Rattle.cap_heap.specs.declared.verdict.HeapFault.{HeapFault}
-use Rattle.cap_heap.specs.declared.verdict.HeapFault.TheVariants.{Pull, NoMemory}
+use Rattle.cap_log.specs.declared.judge_faults.JudgeFault.{JudgeFault}
+use Rattle.cap_log.specs.declared.judge_faults.JudgeFault.TheVariants.{Pull, NoMemory}
 use Rattle.cap_heap.specs.HeapLines.{IsHeapLineInRange, heap_spelling}
 use Rattle.cap_heap.specs.Objects.{no_objects, IsApart}
 use Rattle.cap_heap.specs.Events.{HasRoom, after_event, is_malloc}
@@ -64,19 +64,19 @@ pub record MayLackHeapMemory (bytes : List ℕ) : Type 0 where
 
 -- why there is no verdict: the source failed behind whole lines that begin a log, or there was no memory for such an
 -- object
-abbrev pub NoHeapVerdictIn : List ℕ → HeapFault → Type 0
+abbrev pub NoHeapVerdictIn : List ℕ → JudgeFault → Type 0
 NoHeapVerdictIn bytes Pull = BeginsHeapLog bytes
 NoHeapVerdictIn bytes NoMemory = MayLackHeapMemory bytes
 
 -- what an answer says of the bytes given, and of whether their source has ended
-pub record IsHeapAnswerOf (bytes : List ℕ) (ended : Bool) (result : Result HeapVerdict HeapFault) : Type 0 where
+pub record IsHeapAnswerOf (bytes : List ℕ) (ended : Bool) (result : Result HeapVerdict JudgeFault) : Type 0 where
   pub verdict : IfOk result (IsHeapVerdictOf bytes ended)
   pub optimal : IfOk result (IsOptimal bytes ended)
   pub fault : IfErr result (NoHeapVerdictIn bytes)
 
 -- an answer is that of the bytes that the source gave in the call
 pub record HeapJudged {S : Type 0} (gave : S → S → List ℕ → Type 0) (ended : S → Bool) (old new : S)
-    (result : Result HeapVerdict HeapFault) : Type 0 where
+    (result : Result HeapVerdict JudgeFault) : Type 0 where
   pub given : List ℕ
   pub gives : gave old new given
   pub answer : IsHeapAnswerOf given (ended new) result

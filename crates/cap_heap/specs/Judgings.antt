@@ -9,14 +9,13 @@ use Rattle.cap_heap.specs.declared.stage.Stage.{Stage}
 use Rattle.cap_heap.specs.declared.stage.Stage.TheVariants.{Ended}
 use Rattle.cap_heap.specs.declared.verdict.HeapVerdict.{HeapVerdict}
 use Rattle.cap_heap.specs.declared.verdict.HeapVerdict.TheVariants.{Yes, No}
-use Rattle.cap_heap.specs.declared.verdict.HeapFault.{HeapFault}
-use Rattle.cap_heap.specs.declared.verdict.HeapFault.{HeapFault}
-use Rattle.cap_heap.specs.declared.verdict.HeapFault.TheVariants.{NoMemory}
+use Rattle.cap_log.specs.declared.judge_faults.JudgeFault.{JudgeFault}
+use Rattle.cap_log.specs.declared.judge_faults.JudgeFault.TheVariants.{NoMemory}
 use Rattle.cap_heap.specs.HeapVerdicts.{HeapJudged, Lasts, ReportsAfter}
 use Rattle.cap_heap.specs.Progresses.{IsStopped}
 
 -- what a line that is not taken makes the answer
-abbrev pub answer_at : ℕ → EventEnd → Result HeapVerdict HeapFault
+abbrev pub answer_at : ℕ → EventEnd → Result HeapVerdict JudgeFault
 answer_at line (ends.Refused refusal) = Ok (No line refusal)
 answer_at line ends.NoMemory = Err NoMemory
 
@@ -37,7 +36,7 @@ StopsAfter bytes ended progress text (No line refusal) = Lasts bytes ended (λ a
 
 -- an answer with what was read, and after a no the line that was refused
 pub record JudgedBy {S : Type 0} (gave : S → S → List ℕ → Type 0) (ended : S → Bool) (old new : S)
-    (result : Result HeapVerdict HeapFault) (progress : Progress) (text : List ℕ) : Type 0 where
+    (result : Result HeapVerdict JudgeFault) (progress : Progress) (text : List ℕ) : Type 0 where
   pub judged : HeapJudged gave ended old new result
   pub reported : IfOk result (ReportsAfter judged.given progress.report)
   pub stopped : IfOk result (StopsAfter judged.given (ended new) progress text)

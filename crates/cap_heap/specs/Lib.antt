@@ -11,7 +11,6 @@ pub mod Kept
 pub mod Neighbours
 pub mod Objects
 pub mod Progresses
-pub mod RefusedLines
 pub mod Refusals
 pub mod Texts
 pub mod VerdictLines

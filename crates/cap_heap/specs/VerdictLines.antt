@@ -3,10 +3,10 @@
 use Rattle.std.specs.Prelude.{◌≡◌, ℕ, Bool, true, false, List, [], ◌++◌, take, codes, decimal, Result, Ok, Err}
 use Rattle.cap_heap.specs.declared.verdict.HeapVerdict.{HeapVerdict}
 use Rattle.cap_heap.specs.declared.verdict.HeapVerdict.TheVariants.{Yes, No}
-use Rattle.cap_heap.specs.declared.verdict.HeapFault.{HeapFault}
-use Rattle.cap_heap.specs.declared.verdict.HeapFault.TheVariants as faults
-use Rattle.cap_heap.specs.declared.verdict.HeapToFault.{HeapToFault}
-use Rattle.cap_heap.specs.declared.verdict.HeapToFault.TheVariants.{Pull, NoMemory, Push}
+use Rattle.cap_log.specs.declared.judge_faults.JudgeFault.{JudgeFault}
+use Rattle.cap_log.specs.declared.judge_faults.JudgeFault.TheVariants as faults
+use Rattle.cap_log.specs.declared.judge_faults.JudgeToFault.{JudgeToFault}
+use Rattle.cap_log.specs.declared.judge_faults.JudgeToFault.TheVariants.{Pull, NoMemory, Push}
 use Rattle.cap_heap.specs.Refusals.{heap_refusal_number, heap_refusal_name}
 use Rattle.cap_heap.specs.declared.report.HeapReport.{HeapReport}
 use Rattle.cap_heap.specs.HeapReports.{report_lines}
@@ -19,10 +19,10 @@ heap_line (Yes events live) = codes "yes " ++ decimal events ++ codes " " ++ dec
 heap_line (No line refusal) =
     codes "no " ++ decimal line ++ codes " " ++ decimal (heap_refusal_number refusal) ++ codes " " ++ heap_refusal_name refusal ++ codes "\n"
 
--- the fault of a judge that writes where the judging has one
-abbrev pub told_fault : HeapFault → HeapToFault
-told_fault faults.Pull = Pull
-told_fault faults.NoMemory = NoMemory
+-- the exit status of a verdict
+abbrev pub heap_status : HeapVerdict → ℕ
+heap_status (Yes events live) = 0
+heap_status (No line refusal) = 1
 
 -- the text that belongs to a verdict on bytes: its line, and where it is asked for, after a yes the report of the log,
 -- and after a no that of the line that was refused
@@ -35,7 +35,7 @@ TellsHeap reports true bytes ended (No line refusal) text =
     (report : List ℕ) × Lasts bytes ended (λ all. IsHeapReport all line refusal report) × (text ≡ heap_line (No line refusal) ++ report)
 
 -- with a verdict its text was taken, without one nothing, and where the sink failed a beginning of the text
-abbrev pub IsHeapTold : Bool → Bool → List ℕ → Bool → (List ℕ → Type 0) → Result HeapVerdict HeapToFault → Type 0
+abbrev pub IsHeapTold : Bool → Bool → List ℕ → Bool → (List ℕ → Type 0) → Result HeapVerdict JudgeToFault → Type 0
 IsHeapTold reports why bytes ended took (Ok verdict) =
     IsHeapAnswerOf bytes ended (Ok verdict) × (text : List ℕ) × TellsHeap reports why bytes ended verdict text × took text
 IsHeapTold reports why bytes ended took (Err Pull) = IsHeapAnswerOf bytes ended (Err faults.Pull) × took []
@@ -46,7 +46,7 @@ IsHeapTold reports why bytes ended took (Err Push) =
 
 -- an answer is that of the bytes that the source gave in the call, and of those that the sink took
 pub record Told {S K : Type 0} (reports why : Bool) (gave : S → S → List ℕ → Type 0) (ended : S → Bool) (took : K → K → List ℕ → Type 0)
-    (old new : S) (before after : K) (result : Result HeapVerdict HeapToFault) : Type 0 where
+    (old new : S) (before after : K) (result : Result HeapVerdict JudgeToFault) : Type 0 where
   pub given : List ℕ
   pub gives : gave old new given
   pub told : IsHeapTold reports why given (ended new) (took before after) result

@@ -7,16 +7,15 @@ ghost use Rattle.cap_heap.specs.Heaps.{live_in};
 ghost use Rattle.cap_heap.specs.HeapVerdicts.{HeapJudged};
 ghost use Rattle.cap_heap.specs.declared.stage.Stage.TheVariants.{Start};
 ghost use Rattle.cap_heap.specs.Judgings.{JudgedBy, answer_at, finished_in, refused_in};
-ghost use Rattle.cap_heap.specs.RefusedLines.{bytes_of};
-ghost use Rattle.cap_heap.specs.declared.verdict.HeapFault.TheVariants.{Pull};
+ghost use Rattle.cap_log.specs.FaultLines.{bytes_of};
+ghost use Rattle.cap_log.specs.declared.judge_faults.JudgeFault.TheVariants.{Pull};
 
 use crate::events::EventEnd;
 use crate::progress::Progress;
 use crate::refusal::HeapRefusal;
-use crate::refused_lines::RefusedLine;
 use crate::stage::Stage;
-use crate::verdict::{HeapFault, HeapVerdict};
-use cap_log::{Lines, Next, PullFault, Source};
+use crate::verdict::HeapVerdict;
+use cap_log::{FaultLine, JudgeFault, Lines, Next, PullFault, Source};
 use std::alloc::Global;
 
 /// Judges the log of an allocator that a source gives, each line as soon as it is there. It is `Yes` exactly
@@ -30,43 +29,20 @@ use std::alloc::Global;
 /// `Pull` comes only where the source failed; then the whole lines that it gave begin a log, and less than
 /// a line follows them. Memory is taken only for an object that is allocated and that no check refuses;
 /// `NoMemory` comes only there. It returns for a source without end too, since a log has fewer than 2^32 events.
-pub fn judge_heap<S: Source>(alloc: Global, source: &mut S) -> Result<HeapVerdict, HeapFault>
+pub fn judge_heap<S: Source>(alloc: Global, source: &mut S) -> Result<HeapVerdict, JudgeFault>
     ensures judged { HeapJudged S.gave S.ended source.old source.new result }
 
     // A fault of the source ends the call, and nothing else counts one.
     ensures counted { CountsOnly (Err Pull) (S.faults source.old) (S.faults source.new) result }
 {
-    judge_keeping(alloc, source).answer
+    judge_lines(&mut Progress::new(alloc), source).0
 }
 
-/// What a judge leaves: its answer, how far it read, and after a `no` the line that was refused.
-#[derive(Drop)]
-pub(crate) struct Judging {
-    pub answer: Result<HeapVerdict, HeapFault>,
-    pub progress: Progress,
-    pub line: RefusedLine,
-}
-
-/// Judges as [`judge_heap`] does, and gives what was read with the answer, and after a `no` the line that was refused.
-pub(crate) fn judge_keeping<S: Source>(alloc: Global, source: &mut S) -> Judging
-    ensures judged { JudgedBy S.gave S.ended source.old source.new result.answer result.progress (bytes_of result.line) }
-    ensures counted { CountsOnly (Err Pull) (S.faults source.old) (S.faults source.new) result.answer }
-{
-    let mut progress = Progress::new(alloc);
-    let (answer, line) = judge_lines(&mut progress, source);
-    Judging {
-        answer,
-        progress,
-        line,
-    }
-}
-
-// Judges the lines that a source gives, none of which was taken: the answer, and after a `no` the line that was
-// refused.
-fn judge_lines<S: Source>(
+/// Judges the lines that a source gives, none of which was taken: the answer, and after a `no` the faulty line.
+pub(crate) fn judge_lines<S: Source>(
     progress: &mut Progress,
     source: &mut S,
-) -> (Result<HeapVerdict, HeapFault>, RefusedLine)
+) -> (Result<HeapVerdict, JudgeFault>, FaultLine)
     requires { progress.old.stage ≡ Start }
     ensures judged { JudgedBy S.gave S.ended source.old source.new result.0 progress.new (bytes_of result.1) }
     ensures counted { CountsOnly (Err Pull) (S.faults source.old) (S.faults source.new) result.0 }
@@ -75,19 +51,19 @@ fn judge_lines<S: Source>(
     let mut line = 1u64;
     'lines: loop {
         match lines.next(source) {
-            Err(PullFault) => return (Err(HeapFault::Pull), RefusedLine::new()),
-            Ok(Next::Finished) => return (Ok(finished(progress, line)), RefusedLine::new()),
+            Err(PullFault) => return (Err(JudgeFault::Pull), FaultLine::new()),
+            Ok(Next::Finished) => return (Ok(finished(progress, line)), FaultLine::new()),
             Ok(Next::Truncated) => {
                 let verdict = refused(progress.stage, line, HeapRefusal::Truncated);
-                return (Ok(verdict), RefusedLine::of(lines.kept()));
+                return (Ok(verdict), FaultLine::of(lines.kept()));
             }
             Ok(Next::LineTooLong) => {
                 let verdict = refused(progress.stage, line, HeapRefusal::LineTooLong);
-                return (Ok(verdict), RefusedLine::of(lines.kept()));
+                return (Ok(verdict), FaultLine::of(lines.kept()));
             }
             Ok(Next::Line(text)) => {
                 if let Err(end) = progress.take_line(text) {
-                    return (answer_at(line, end), RefusedLine::of(text));
+                    return (answer_at(line, end), FaultLine::of(text));
                 }
                 line += 1;
             }
@@ -125,11 +101,11 @@ fn refused(stage: Stage, line: u64, refusal: HeapRefusal) -> HeapVerdict
 }
 
 // What a line that is not taken makes the answer.
-fn answer_at(line: u64, end: EventEnd) -> Result<HeapVerdict, HeapFault>
+fn answer_at(line: u64, end: EventEnd) -> Result<HeapVerdict, JudgeFault>
     ensures { result ≡ answer_at line end }
 {
     match end {
         EventEnd::Refused(refusal) => Ok(HeapVerdict::No { line, refusal }),
-        EventEnd::NoMemory => Err(HeapFault::NoMemory),
+        EventEnd::NoMemory => Err(JudgeFault::NoMemory),
     }
 }

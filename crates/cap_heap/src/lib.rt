@@ -3,8 +3,8 @@
 //! A capability can only have rounded bounds, and those of a long object may reach beyond it. A [`Heap`] keeps the
 //! live objects of an allocator. It refuses an object whose rounded bounds leave the heap's, or share an address
 //! with those of another object. [`judge_heap`] judges the log of an allocator from a source, line by line.
-//! [`judge_heap_to`] also writes the verdict, [`judge_heap_report`] after a `yes` what exact bounds would cost, and
-//! [`judge_heap_why`] after a `no` what the checks of the refused line compared.
+//! [`judge_heap_to`] also writes the verdict and, if it is asked for, after a `yes` what exact bounds would cost, and
+//! after a `no` what the checks of the refused line compared.
 #![tactic(auto)]
 
 mod bad_lines;
@@ -17,7 +17,6 @@ mod neighbours;
 mod progress;
 mod reading;
 mod refusal;
-mod refused_lines;
 mod report;
 mod reporting;
 mod stage;
@@ -33,6 +32,7 @@ pub use crate::lines::HeapLine;
 pub use crate::reading::read_heap_line;
 pub use crate::refusal::HeapRefusal;
 pub use crate::report::{HeapReport, put_report};
-pub use crate::reporting::{judge_heap_report, judge_heap_to, judge_heap_why};
-pub use crate::verdict::{HeapFault, HeapToFault, HeapVerdict};
-pub use crate::verdict_lines::heap_text;
+pub use crate::reporting::judge_heap_to;
+pub use crate::verdict::HeapVerdict;
+pub use crate::verdict_lines::{heap_status, heap_text};
+pub use cap_log::{JudgeFault, JudgeToFault};

@@ -1,94 +1,44 @@
 //! The judge that writes its verdict into a sink.
 
-ghost use Rattle.std.specs.Prelude.{ℕ, List, take, ◌++◌, Err, OnOk, OnErr, true, false};
+ghost use Rattle.std.specs.Prelude.{ℕ, List, take, ◌++◌, Err, OnOk, OnErr};
 ghost use Rattle.cap_log.specs.Streams.{CountsFault, CountsOnly};
-ghost use Rattle.cap_heap.specs.RefusedLines.{bytes_of};
+ghost use Rattle.cap_log.specs.FaultLines.{bytes_of};
 ghost use Rattle.cap_heap.specs.Texts.{IsLineReport, IsText};
 ghost use Rattle.cap_heap.specs.VerdictLines.{Told, heap_line};
 ghost use Rattle.cap_heap.specs.HeapReports.{report_lines};
-ghost use Rattle.cap_heap.specs.declared.verdict.HeapToFault.TheVariants.{Pull, Push};
+ghost use Rattle.cap_log.specs.declared.judge_faults.JudgeToFault.TheVariants.{Pull, Push};
 
-use crate::judging::{Judging, judge_heap, judge_keeping};
+use crate::judging::judge_lines;
 use crate::progress::Progress;
 use crate::refusal::HeapRefusal;
-use crate::refused_lines::RefusedLine;
 use crate::report::{HeapReport, put_report};
-use crate::verdict::{HeapToFault, HeapVerdict};
+use crate::verdict::HeapVerdict;
 use crate::verdict_lines::heap_text;
 use crate::whys::put_details;
 use cap_log::buffers::put;
-use cap_log::{PushFault, Sink, Source, push_all};
+use cap_log::{FaultLine, JudgeToFault, PushFault, Sink, Source, push_all};
 use cap_texts::shown_bytes::put_shown_line;
 use std::alloc::Global;
 
-/// Judges the log of an allocator that a source gives as [`judge_heap`] does, and pushes the line of the verdict.
+/// Judges the log of an allocator that a source gives as [`judge_heap`](crate::judge_heap) does, and pushes the line
+/// of the verdict. If it is asked for, after a `yes` it also pushes the report: how many objects were allocated, what
+/// their bounds reach, and what exact ones would cost; and after a `no` the diagnosis of the faulty line: of a request
+/// its bounds, those of a live object that overlaps it, and what length and alignment would be right.
 pub fn judge_heap_to<S: Source, K: Sink>(
-    alloc: Global,
-    source: &mut S,
-    sink: &mut K,
-) -> Result<HeapVerdict, HeapToFault>
-    ensures told { Told false false S.gave S.ended K.took source.old source.new sink.old sink.new result }
-
-    // Each fault of the source or the sink ends the call, and nothing else counts one.
-    ensures pulls_counted { CountsOnly (Err Pull) (S.faults source.old) (S.faults source.new) result }
-    ensures pushes_counted { CountsOnly (Err Push) (K.faults sink.old) (K.faults sink.new) result }
-{
-    let verdict = judge_heap(alloc, source)?;
-    push_line(&verdict, sink)?;
-    Ok(verdict)
-}
-
-/// Judges as [`judge_heap_to`] does, and after a `yes` pushes the report too: how many objects were allocated, what
-/// their bounds reach, and what exact ones would cost.
-pub fn judge_heap_report<S: Source, K: Sink>(
-    alloc: Global,
-    source: &mut S,
-    sink: &mut K,
-) -> Result<HeapVerdict, HeapToFault>
-    ensures told { Told true false S.gave S.ended K.took source.old source.new sink.old sink.new result }
-
-    // Each fault of the source or the sink ends the call, and nothing else counts one.
-    ensures pulls_counted { CountsOnly (Err Pull) (S.faults source.old) (S.faults source.new) result }
-    ensures pushes_counted { CountsOnly (Err Push) (K.faults sink.old) (K.faults sink.new) result }
-{
-    judge_telling(alloc, true, false, source, sink)
-}
-
-/// Judges as [`judge_heap_to`] does, and after a `no` pushes the report of the line that was refused: of a request
-/// its bounds, those of a live object that overlaps it, and what length and alignment would be right. After a `yes`
-/// the report of [`judge_heap_report`] is pushed where it is asked for.
-pub fn judge_heap_why<S: Source, K: Sink>(
-    alloc: Global,
-    report: bool,
-    source: &mut S,
-    sink: &mut K,
-) -> Result<HeapVerdict, HeapToFault>
-    ensures told { Told report true S.gave S.ended K.took source.old source.new sink.old sink.new result }
-
-    // Each fault of the source or the sink ends the call, and nothing else counts one.
-    ensures pulls_counted { CountsOnly (Err Pull) (S.faults source.old) (S.faults source.new) result }
-    ensures pushes_counted { CountsOnly (Err Push) (K.faults sink.old) (K.faults sink.new) result }
-{
-    judge_telling(alloc, report, true, source, sink)
-}
-
-// Judges, and pushes the text of the verdict with the reports that are asked for.
-fn judge_telling<S: Source, K: Sink>(
     alloc: Global,
     report: bool,
     why: bool,
     source: &mut S,
     sink: &mut K,
-) -> Result<HeapVerdict, HeapToFault>
+) -> Result<HeapVerdict, JudgeToFault>
     ensures told { Told report why S.gave S.ended K.took source.old source.new sink.old sink.new result }
+
+    // Each fault of the source or the sink ends the call, and nothing else counts one.
     ensures pulls_counted { CountsOnly (Err Pull) (S.faults source.old) (S.faults source.new) result }
     ensures pushes_counted { CountsOnly (Err Push) (K.faults sink.old) (K.faults sink.new) result }
 {
-    let Judging {
-        answer,
-        progress,
-        line,
-    } = judge_keeping(alloc, source);
+    let mut progress = Progress::new(alloc);
+    let (answer, line) = judge_lines(&mut progress, source);
     let verdict = answer?;
     push_text(report, why, &verdict, &progress, &line, sink)?;
     Ok(verdict)
@@ -100,7 +50,7 @@ fn push_text<K: Sink>(
     why: bool,
     verdict: &HeapVerdict,
     progress: &Progress,
-    line: &RefusedLine,
+    line: &FaultLine,
     sink: &mut K,
 ) -> Result<(), PushFault>
     ensures ok { OnOk result ((text : List ℕ) × IsText report why progress.now (bytes_of line.now) verdict.now text
@@ -131,7 +81,7 @@ fn push_text<K: Sink>(
 fn push_no<K: Sink>(
     verdict: &HeapVerdict,
     progress: &Progress,
-    line: &RefusedLine,
+    line: &FaultLine,
     refusal: HeapRefusal,
     sink: &mut K,
 ) -> Result<(), PushFault>

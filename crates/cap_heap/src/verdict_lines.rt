@@ -1,7 +1,7 @@
-//! The line of a verdict.
+//! The line of a verdict, and its exit status.
 
 ghost use Rattle.std.specs.Prelude.{◌≡◌, ◌≤◌, length, take, drop};
-ghost use Rattle.cap_heap.specs.VerdictLines.{heap_line};
+ghost use Rattle.cap_heap.specs.VerdictLines.{heap_line, heap_status};
 ghost use Rattle.cap_heap.specs.declared.verdict.HeapVerdict.TheVariants.{Yes, No};
 
 use crate::refusal::HeapRefusal;
@@ -19,6 +19,19 @@ pub fn heap_text(verdict: &HeapVerdict, buffer: &mut [u8; 64]) -> usize
     match *verdict {
         HeapVerdict::Yes { events, live } => yes_text(events, live, buffer),
         HeapVerdict::No { line, refusal } => no_text(line, refusal, buffer),
+    }
+}
+
+/// The exit status of a program that answers a verdict: 0 for a `yes`, 1 for a `no`.
+pub fn heap_status(verdict: &HeapVerdict) -> u8
+    ensures value { result ≡ heap_status verdict.now }
+{
+    match verdict {
+        HeapVerdict::Yes { events: _, live: _ } => 0,
+        HeapVerdict::No {
+            line: _,
+            refusal: _,
+        } => 1,
     }
 }
 

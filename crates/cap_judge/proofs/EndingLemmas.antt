@@ -17,7 +17,7 @@ use Rattle.cap_judge.specs.declared.judges.Stage.TheVariants as stages
 use Rattle.cap_judge.specs.declared.faults.Fault.{Fault}
 use Rattle.cap_judge.specs.declared.verdict.Verdict.{Verdict}
 use Rattle.cap_judge.specs.declared.verdict.Verdict.TheVariants.{Yes, No}
-use Rattle.cap_judge.specs.FaultLines.{bytes_of}
+use Rattle.cap_log.specs.FaultLines.{bytes_of}
 use Rattle.cap_judge.specs.Judgings.{IsLastFront, StopsBefore}
 use Rattle.cap_judge.specs.Logs.{Beginning, Empty, NoMode, Body, Whole, header_lines, body_lines, lines_of, text_of, IsFirstFault}
 use Rattle.cap_judge.specs.Logs.{IsAccepted, MayLackMemory}

@@ -33,7 +33,7 @@ use Rattle.cap_judge.specs.declared.verdict.Expected.{Expected}
 use Rattle.cap_judge.specs.declared.verdict.Expected.TheVariants.{Capability, Number}
 use Rattle.cap_judge.specs.declared.verdict.Verdict.TheVariants.{Yes, No}
 use Rattle.cap_judge.specs.declared.faults.Fault.{Fault}
-use Rattle.cap_judge.specs.FaultLines.{bytes_of}
+use Rattle.cap_log.specs.FaultLines.{bytes_of}
 use Rattle.cap_judge.specs.Logs.{Beginning, Empty, NoMode, Body, Whole, IsFirstFault, Refuses, account_after, body_lines, IsAccepted}
 use Rattle.cap_judge.specs.Logs.{RunsBy, lines_of, text_of}
 use Rattle.cap_judge.specs.Judgings.{IsLastFront, account_before}

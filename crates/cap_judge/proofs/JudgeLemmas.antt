@@ -23,8 +23,8 @@ use Rattle.cap_machine.proofs.AccessLemmas.{lie_inside}
 use Rattle.cap_machine.proofs.AuthorityLemmas.{one_root}
 use Rattle.cap_machine.proofs.EscapeLemmas.{clears_along}
 use Rattle.cap_judge.specs.declared.verdict.Verdict.{Verdict}
-use Rattle.cap_judge.specs.declared.verdict.JudgeFault.{JudgeFault}
-use Rattle.cap_judge.specs.declared.verdict.JudgeFault.TheVariants as faults
+use Rattle.cap_log.specs.declared.judge_faults.JudgeFault.{JudgeFault}
+use Rattle.cap_log.specs.declared.judge_faults.JudgeFault.TheVariants as faults
 use Rattle.cap_judge.specs.Logs.{Beginning, Whole, header_lines, body_lines, lines_of, text_of, account_after, RunsBy, RefusesWhole}
 use Rattle.cap_judge.specs.Logs.{Refuses, IsFirstFault, MayLackMemory, IsLogOf, NamesNoGranules, named_by_line}
 use Rattle.cap_machine.specs.Escapes.{ClearsExactly}

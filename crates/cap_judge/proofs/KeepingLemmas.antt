@@ -6,8 +6,8 @@ use Rattle.cap_log.specs.Front.{IsCut}
 use Rattle.cap_machine.specs.Helds.{Held}
 use Rattle.cap_judge.specs.declared.judges.Stop.TheVariants as stops
 use Rattle.cap_judge.specs.declared.faults.Fault.{Fault}
-use Rattle.cap_judge.specs.declared.verdict.JudgeFault.{JudgeFault}
-use Rattle.cap_judge.specs.declared.verdict.JudgeFault.TheVariants.{NoMemory}
+use Rattle.cap_log.specs.declared.judge_faults.JudgeFault.{JudgeFault}
+use Rattle.cap_log.specs.declared.judge_faults.JudgeFault.TheVariants.{NoMemory}
 use Rattle.cap_judge.specs.declared.verdict.Verdict.{Verdict}
 use Rattle.cap_judge.specs.declared.verdict.Verdict.TheVariants.{Yes, No}
 use Rattle.cap_judge.specs.Judgings.{JudgedAll, StopsBefore}

@@ -27,7 +27,7 @@ use Rattle.cap_machine.specs.declared.rules.Rules.TheVariants.{One, TwoStrict, T
 use Rattle.cap_judge.specs.declared.judges.Stage.{Stage}
 use Rattle.cap_judge.specs.declared.judges.Stage.TheVariants as stages
 use Rattle.cap_judge.specs.declared.faults.Fault.{Fault}
-use Rattle.cap_judge.specs.FaultLines.{bytes_of}
+use Rattle.cap_log.specs.FaultLines.{bytes_of}
 use Rattle.cap_judge.specs.Readings.{rules_of, EndsFor, Reaches, EndsAt, EndsBehind, EndsFrom, EndsStepAt, Faults, GoesOn, IsAfter}
 use Rattle.cap_judge.specs.Readings.{IsAtFault, IsRest, Known, Read, TakesSteps, StopsAt, TakesStep}
 use Rattle.cap_judge.specs.Judgings.{IsLastFront, account_before}

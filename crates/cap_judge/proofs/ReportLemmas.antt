@@ -1,6 +1,6 @@
 -- The report of what a machine holds is that of the log that led to it.
 use Rattle.std.proofs.Common.{◌≡◌, ℕ, zero, suc, ◌+◌, ◌-◌, ◌^◌, ◌<◌, ◌≤◌, nat_lt, slice_index_or, inl, inr, Bool, true, false, List, []}
-use Rattle.std.proofs.Common.{◌∷◌, ◌++◌, length, map, Option, Some, None, Contains, IsTrue, refl, sym, ap, subst, ◌∙◌, arith}
+use Rattle.std.proofs.Common.{◌∷◌, ◌++◌, length, map, Option, Some, None, Contains, Err, IsTrue, ◌≢◌, refl, sym, ap, subst, ◌∙◌, append-nil, arith}
 use Rattle.std.specs.List.{AllByRecursion}
 use Rattle.std.specs.List.Sorted.{IsStrictlySortedBy}
 use Rattle.std.specs.Ordering.{nat_cmp}
@@ -9,7 +9,7 @@ use Rattle.std.specs.declared.cmp.Ordering.TheVariants.{Less}
 use Rattle.std.specs.FinMap.{get}
 use Rattle.std.proofs.lemmas.Bool.{cond-true, cond-false, cases_lt, lt-ltb, le-ltb, false≢true}
 use Rattle.std.proofs.lemmas.List.{map-append}
-use Rattle.std.proofs.lemmas.List.Elements.{Contains-append_left, Contains-append_right}
+use Rattle.std.proofs.lemmas.List.Elements.{All-nil, Contains-append_left, Contains-append_right}
 use Rattle.std.proofs.lemmas.Option.{none-some, same_Some}
 use Rattle.cap_word.specs.declared.word.Cap.{Cap}
 use Rattle.cap_log.specs.declared.lines.Place.{Place}
@@ -25,13 +25,17 @@ use Rattle.cap_machine.specs.RunAccounts.{OriginsAreRoots}
 use Rattle.cap_machine.proofs.OriginLemmas.{origins_found}
 use Rattle.cap_judge.specs.declared.verdict.Verdict.{Verdict}
 use Rattle.cap_judge.specs.declared.verdict.Verdict.TheVariants.{Yes, No}
-use Rattle.cap_judge.specs.Judgings.{LeadsTo, LeadsAfter}
+use Rattle.cap_judge.specs.Judgings.{IsAnswerOf, IsVerdictOf, LeadsTo, LeadsAfter}
+use Rattle.cap_judge.specs.Logs.{Empty}
+use Rattle.cap_log.specs.declared.judge_faults.JudgeFault.{JudgeFault}
+use Rattle.cap_log.specs.declared.judge_faults.JudgeFault.TheVariants.{NoMemory, Pull}
 use Rattle.cap_judge.specs.Origins.{Origin, IsOrigin, AreOriginsOf}
 use Rattle.cap_judge.specs.OriginLists.{place_of, listed, origins_from, held_lines, report_text}
-use Rattle.cap_judge.specs.VerdictLines.{verdict_line}
-use Rattle.cap_judge.specs.Reports.{Tells}
+use Rattle.cap_judge.specs.VerdictLines.{verdict_line, verdict_status}
+use Rattle.cap_judge.specs.Reports.{IsPushedFor, Tells}
+use Rattle.cap_log.specs.JudgeFaults.{told_fault}
 use Rattle.cap_judge.proofs.LogLemmas.{last_state}
-use Rattle.cap_judge.proofs.JudgeLemmas.{are_sound, steps_in_range, behind_header}
+use Rattle.cap_judge.proofs.JudgeLemmas.{are_sound, guarded, steps_in_range, behind_header}
 use Rattle.cap_judge.proofs.OriginLemmas.{origins_from-zero, origins_from-suc, unput}
 
 -- the place with a key
@@ -217,3 +221,37 @@ pub yes_text : (held : Held) (verdict : Verdict) (steps roots : ℕ) → verdict
     → verdict_line verdict ++ held_lines held 1 (31 + 2 ^ 60) ≡ report_text held verdict
 yes_text held verdict steps roots is =
     subst (λ (v : Verdict). verdict_line v ++ held_lines held 1 (31 + 2 ^ 60) ≡ report_text held v) (sym is) refl
+
+-- a text for all bytes given, where a yes says that they are all
+pub tells_known : (origins : Bool) (known given rest : List ℕ) (ended : Bool) (verdict : Verdict) (text : List ℕ) → known ≡ given ++ rest
+    → (ended ≡ true → rest ≡ []) → IsVerdictOf given ended verdict → Tells origins given verdict text → Tells origins known verdict text
+tells_known false known given rest ended verdict text are end is tells = tells
+tells_known true known given rest ended (No line refusal) text are end is tells = tells
+tells_known true known given rest true (Yes steps roots) text are end is tells =
+    subst (λ (bytes : List ℕ). Tells true bytes (Yes steps roots) text)
+    (sym (are ∙ ap (λ (r : List ℕ). given ++ r) (end refl) ∙ append-nil given)) tells
+tells_known true known given rest false (Yes steps roots) text are end is tells = absurd is
+
+-- the status of a verdict is none of a fault
+pub verdict_few : (verdict : Verdict) → verdict_status verdict ≤ 1
+verdict_few (Yes steps roots) = omega arith
+verdict_few (No line refusal) = omega arith
+
+-- what is said of the bytes given where there is no verdict doesn't depend on whether their source has ended
+pub unanswered : (bytes : List ℕ) (ended : Bool) (fault : JudgeFault) → IsAnswerOf bytes ended (Err fault) → IsAnswerOf bytes true (Err fault)
+unanswered bytes ended fault is = record { verdict = tt; authority = is.authority; fault = is.fault; answers = is.answers }
+
+-- a source that failed before it gave anything
+pub nothing_given : IsAnswerOf [] true (Err Pull)
+nothing_given = record {
+  verdict = tt;
+  authority = guarded [];
+  fault = record { beginning = Empty; rest = []; behind = record { bytes_are = refl; accepted = tt }; cut = (omega arith, All-nil (λ b. b ≢ 10)) };
+  answers = λ none is. absurd (cc);
+}
+
+-- without a verdict nothing is pushed
+pub pushed_nothing : (tells : Verdict → List ℕ → Type 0) (bytes : List ℕ) (ended : Bool) (took : List ℕ → Type 0) (fault : JudgeFault)
+    → IsAnswerOf bytes ended (Err fault) → took [] → IsPushedFor tells bytes ended took (Err (told_fault fault))
+pushed_nothing tells bytes ended took Pull answer nothing = (answer, nothing)
+pushed_nothing tells bytes ended took NoMemory answer nothing = (answer, nothing)

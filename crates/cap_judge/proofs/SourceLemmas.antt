@@ -4,8 +4,8 @@ use Rattle.std.proofs.Common.{append_assoc, arith, Result, Ok, Err, IfOk, IfErr,
 use Rattle.std.proofs.lemmas.List.{length-append, take-append-drop}
 use Rattle.cap_judge.specs.declared.verdict.Verdict.{Verdict}
 use Rattle.cap_judge.specs.declared.verdict.Verdict.TheVariants.{Yes, No}
-use Rattle.cap_judge.specs.declared.verdict.JudgeFault.{JudgeFault}
-use Rattle.cap_judge.specs.declared.verdict.JudgeFault.TheVariants.{Pull, NoMemory}
+use Rattle.cap_log.specs.declared.judge_faults.JudgeFault.{JudgeFault}
+use Rattle.cap_log.specs.declared.judge_faults.JudgeFault.TheVariants.{Pull, NoMemory}
 use Rattle.cap_judge.specs.Logs.{lines_of, MayLackMemory, IsFirstFault, text_of}
 use Rattle.cap_judge.specs.Verdicts.{IsVerdict, NoVerdictIn}
 use Rattle.cap_judge.specs.Judgings.{IsVerdictOf, BeginsLog, IsAnswerOf, JudgedBy, StopsBefore}
@@ -17,8 +17,8 @@ use Rattle.cap_judge.specs.declared.judges.Stage.{Stage}
 use Rattle.cap_judge.specs.declared.judges.Stage.TheVariants as stages
 use Rattle.cap_judge.specs.declared.judges.Stop.TheVariants as stops
 use Rattle.cap_judge.specs.declared.faults.Fault.{Fault}
-use Rattle.cap_judge.specs.declared.verdict.JudgeFault.TheVariants as judge_faults
-use Rattle.cap_judge.specs.FaultLines.{bytes_of}
+use Rattle.cap_log.specs.declared.judge_faults.JudgeFault.TheVariants as judge_faults
+use Rattle.cap_log.specs.FaultLines.{bytes_of}
 use Rattle.cap_judge.specs.Readings.{EndsWith, IsAnswered, IsAtFault, IsRest, Known, Read, StopsAt}
 use Rattle.cap_judge.proofs.LogLemmas.{accepted_in_range}
 use Rattle.cap_judge.proofs.EndingLemmas.{count_read, fault_of, few_lines, first_fault, lines_read, more_lines, stops_fault}

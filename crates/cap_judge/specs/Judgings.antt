@@ -9,8 +9,8 @@ use Rattle.cap_machine.specs.States.{DeclaredRoot}
 use Rattle.cap_machine.specs.Helds.{Held, account_of}
 use Rattle.cap_judge.specs.declared.verdict.Verdict.{Verdict}
 use Rattle.cap_judge.specs.declared.verdict.Verdict.TheVariants.{Yes, No}
-use Rattle.cap_judge.specs.declared.verdict.JudgeFault.{JudgeFault}
-use Rattle.cap_judge.specs.declared.verdict.JudgeFault.TheVariants.{Pull, NoMemory}
+use Rattle.cap_log.specs.declared.judge_faults.JudgeFault.{JudgeFault}
+use Rattle.cap_log.specs.declared.judge_faults.JudgeFault.TheVariants.{Pull, NoMemory}
 use Rattle.cap_judge.specs.Logs.{Beginning, Empty, NoMode, Body, Whole, lines_of, text_of, account_after, IsAccepted, IsLogOf}
 use Rattle.cap_judge.specs.Logs.{IsFirstFault, MayLackMemory, NamesNoGranules}
 use Rattle.cap_judge.specs.Verdicts.{IsVerdict, IsGuarded}

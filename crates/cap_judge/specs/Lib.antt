@@ -1,7 +1,6 @@
 pub mod Logs
 pub mod VerdictLines
 pub mod OriginLines
-pub mod FaultLines
 pub mod Turns
 pub mod Verdicts
 pub mod Judgings

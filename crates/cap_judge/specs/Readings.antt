@@ -23,10 +23,10 @@ use Rattle.cap_judge.specs.declared.judges.Stage.TheVariants.{Version, Mode, Bod
 use Rattle.cap_judge.specs.declared.judges.Stop.{Stop}
 use Rattle.cap_judge.specs.declared.judges.Stop.TheVariants.{Cut, Fault, NoMemory}
 use Rattle.cap_judge.specs.declared.faults.Fault as faults
-use Rattle.cap_judge.specs.declared.verdict.JudgeFault.{JudgeFault}
+use Rattle.cap_log.specs.declared.judge_faults.JudgeFault.{JudgeFault}
 use Rattle.cap_judge.specs.declared.verdict.Verdict.{Verdict}
 use Rattle.cap_judge.specs.declared.verdict.Verdict.TheVariants.{Yes, No}
-use Rattle.cap_judge.specs.FaultLines.{bytes_of}
+use Rattle.cap_log.specs.FaultLines.{bytes_of}
 use Rattle.cap_judge.specs.Judgings.{IsBehind, IsLastFront, IsVerdictOf, LeadsTo, StopsBefore, account_before}
 use Rattle.cap_judge.specs.Logs.{Beginning, lines_of, text_of, IsAccepted, IsFirstFault, Refuses, MayLackMemory, RunsBy, account_after}
 use Rattle.cap_judge.specs.Logs.{line_checks, named_by_line}

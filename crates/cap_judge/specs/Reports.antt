@@ -2,10 +2,10 @@
 use Rattle.std.specs.Prelude.{◌≡◌, ℕ, Bool, true, false, List, [], ◌++◌, take, Result, Ok, Err}
 use Rattle.cap_judge.specs.declared.verdict.Verdict.{Verdict}
 use Rattle.cap_judge.specs.declared.verdict.Verdict.TheVariants.{Yes, No}
-use Rattle.cap_judge.specs.declared.verdict.JudgeFault.{JudgeFault}
-use Rattle.cap_judge.specs.declared.verdict.JudgeFault.TheVariants as judge_faults
-use Rattle.cap_judge.specs.declared.verdict.JudgeToFault.{JudgeToFault}
-use Rattle.cap_judge.specs.declared.verdict.JudgeToFault.TheVariants.{Pull, NoMemory, Push}
+use Rattle.cap_log.specs.declared.judge_faults.JudgeFault.{JudgeFault}
+use Rattle.cap_log.specs.declared.judge_faults.JudgeFault.TheVariants as judge_faults
+use Rattle.cap_log.specs.declared.judge_faults.JudgeToFault.{JudgeToFault}
+use Rattle.cap_log.specs.declared.judge_faults.JudgeToFault.TheVariants.{Pull, NoMemory, Push}
 use Rattle.cap_judge.specs.Judgings.{IsAnswerOf}
 use Rattle.cap_judge.specs.Origins.{Origin, AreOriginsOf, origin_lines}
 use Rattle.cap_judge.specs.VerdictLines.{verdict_line}
@@ -26,11 +26,6 @@ IsPushedFor tells bytes ended took (Err Pull) = IsAnswerOf bytes ended (Err judg
 IsPushedFor tells bytes ended took (Err NoMemory) = IsAnswerOf bytes ended (Err judge_faults.NoMemory) × took []
 IsPushedFor tells bytes ended took (Err Push) =
     (verdict : Verdict) × IsAnswerOf bytes ended (Ok verdict) × (text : List ℕ) × tells verdict text × (n : ℕ) × took (take n text)
-
--- the fault of a judge that writes where the judging has one
-abbrev pub told_fault : JudgeFault → JudgeToFault
-told_fault judge_faults.Pull = Pull
-told_fault judge_faults.NoMemory = NoMemory
 
 -- an answer is that of the bytes that the source gave in the call, and what the sink took is a text that belongs to it,
 -- as is told of these bytes and of whether their source has ended

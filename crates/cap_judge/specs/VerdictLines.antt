@@ -1,4 +1,4 @@
--- The line of a verdict.
+-- The line of a verdict, and its exit status.
 use Rattle.std.specs.Prelude.{ℕ, List, ◌++◌, codes, decimal}
 use Rattle.cap_judge.specs.declared.verdict.Verdict.{Verdict}
 use Rattle.cap_judge.specs.declared.verdict.Verdict.TheVariants.{Yes, No}
@@ -9,3 +9,8 @@ abbrev pub verdict_line : Verdict → List ℕ
 verdict_line (Yes steps roots) = codes "yes " ++ decimal steps ++ codes " " ++ decimal roots ++ codes "\n"
 verdict_line (No line refusal) =
     codes "no " ++ decimal line ++ codes " " ++ decimal (refusal_number refusal) ++ codes " " ++ refusal_name refusal ++ codes "\n"
+
+-- the exit status of a verdict (this profile's own)
+abbrev pub verdict_status : Verdict → ℕ
+verdict_status (Yes steps roots) = 0
+verdict_status (No line refusal) = 1

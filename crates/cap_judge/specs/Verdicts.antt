@@ -16,8 +16,8 @@ use Rattle.cap_machine.specs.States.{State, DeclaredRoot, start}
 use Rattle.cap_machine.specs.Runs.{IsRun, AuthorityNeverGrows, AccessesLieInside}
 use Rattle.cap_judge.specs.declared.verdict.Verdict.{Verdict}
 use Rattle.cap_judge.specs.declared.verdict.Verdict.TheVariants.{Yes, No}
-use Rattle.cap_judge.specs.declared.verdict.JudgeFault.{JudgeFault}
-use Rattle.cap_judge.specs.declared.verdict.JudgeFault.TheVariants.{Pull, NoMemory}
+use Rattle.cap_log.specs.declared.judge_faults.JudgeFault.{JudgeFault}
+use Rattle.cap_log.specs.declared.judge_faults.JudgeFault.TheVariants.{Pull, NoMemory}
 use Rattle.cap_judge.specs.Logs.{Beginning, Empty, NoMode, Body, Whole, SpellsBy, account_after, lines_of, text_of, IsAccepted, IsLogOf}
 use Rattle.cap_judge.specs.Logs.{Refuses, IsFirstFault, MayLackMemory}
 

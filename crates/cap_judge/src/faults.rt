@@ -3,8 +3,8 @@
 ghost use Rattle.std.specs.Prelude.{◌≡◌};
 ghost use Rattle.cap_judge.specs.declared.verdict.Verdict.TheVariants.{No};
 
-use crate::fault_lines::FaultLine;
 use crate::verdict::Verdict;
+use cap_log::FaultLine;
 use cap_machine::Refusal;
 
 /// The faulty line of a log.

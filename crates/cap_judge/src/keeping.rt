@@ -2,14 +2,14 @@
 
 ghost use Rattle.std.specs.Prelude.{◌≡◌, []};
 ghost use Rattle.std.specs.FinMap as map;
-ghost use Rattle.cap_judge.specs.FaultLines.{bytes_of};
+ghost use Rattle.cap_log.specs.FaultLines.{bytes_of};
 ghost use Rattle.cap_judge.specs.Judgings.{JudgedAll};
 ghost use Rattle.cap_judge.specs.Readings.{HasRead};
 
-use crate::fault_lines::FaultLine;
 use crate::judges::{Judge, Stop};
 use crate::streams::{Judging, answered};
-use crate::verdict::{JudgeFault, Verdict};
+use crate::verdict::Verdict;
+use cap_log::{FaultLine, JudgeFault};
 use tagmem::TaggedStore;
 
 /// Judges the bytes of a log as [`judge_bytes`](crate::judge_bytes) does, with the granules in a store that is empty,

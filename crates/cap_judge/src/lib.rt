@@ -7,7 +7,6 @@
 #![tactic(auto)]
 
 mod expecting;
-mod fault_lines;
 mod faults;
 mod judges;
 mod keeping;
@@ -20,7 +19,6 @@ mod streams;
 mod verdict;
 mod verdict_lines;
 
-pub use crate::fault_lines::FaultLine;
 pub use crate::faults::Fault;
 pub use crate::judges::{Judge, Stop, Taken};
 pub use crate::keeping::judge_bytes_keeping;
@@ -29,7 +27,8 @@ pub use crate::laws::{
     other_bytes_are_of_version_one, some_verdict,
 };
 pub use crate::origin_lines::origin_text;
-pub use crate::reporting::{judge_origins, judge_origins_in, judge_to, push_report, push_verdict};
+pub use crate::reporting::{judge_origins, judge_to, push_report, push_verdict};
 pub use crate::streams::{Judging, judge, judge_bytes, judge_in, judge_keeping};
-pub use crate::verdict::{Expected, JudgeFault, JudgeToFault, TakeFault, Verdict};
-pub use crate::verdict_lines::verdict_text;
+pub use crate::verdict::{Expected, TakeFault, Verdict};
+pub use crate::verdict_lines::{verdict_status, verdict_text};
+pub use cap_log::{FaultLine, JudgeFault, JudgeToFault};

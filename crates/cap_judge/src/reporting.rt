@@ -1,19 +1,18 @@
 //! The judges that write into a sink: the verdict, and the origins of a log's last state.
 
 ghost use Rattle.std.specs.Prelude.{◌≡◌, ◌≤◌, ℕ, length, take, Err, IfOk, OnOk, OnErr, true, false};
-ghost use Rattle.std.specs.FinMap as map;
 ghost use Rattle.cap_log.specs.Streams.{CountsFault, CountsOnly};
 ghost use Rattle.cap_judge.specs.OriginLists.{report_text};
 ghost use Rattle.cap_judge.specs.Verdicts.{NamesEscapes};
 ghost use Rattle.cap_judge.specs.Reports.{Reported, Tells};
 ghost use Rattle.cap_judge.specs.VerdictLines.{verdict_line};
-ghost use Rattle.cap_judge.specs.declared.verdict.JudgeToFault.TheVariants.{Pull, Push};
+ghost use Rattle.cap_log.specs.declared.judge_faults.JudgeToFault.TheVariants.{Pull, Push};
 
 use crate::origins::push_origins;
 use crate::streams::{Judging, judge, judge_keeping};
-use crate::verdict::{JudgeToFault, Verdict};
+use crate::verdict::Verdict;
 use crate::verdict_lines::verdict_text;
-use cap_log::{PushFault, Sink, Source, push_all};
+use cap_log::{JudgeToFault, PushFault, Sink, Source, push_all};
 use cap_machine::Machine;
 use std::alloc::Global;
 use tagmem::{PageStore, TaggedStore};
@@ -55,26 +54,11 @@ pub fn judge_origins<S: Source, K: Sink>(
     ensures pulls_counted { CountsOnly (Err Pull) (S.faults source.old) (S.faults source.new) result }
     ensures pushes_counted { CountsOnly (Err Push) (K.faults sink.old) (K.faults sink.new) result }
 {
-    judge_origins_in(source, PageStore::new(alloc), sink)
-}
-
-/// Judges as [`judge_origins`] does, with the granules in a store that is empty.
-pub fn judge_origins_in<S: Source, M: TaggedStore, K: Sink>(
-    source: &mut S,
-    memory: M,
-    sink: &mut K,
-) -> Result<Verdict, JudgeToFault>
-    requires { map.len (M.contents memory) ≡ 0 }
-    ensures reported { Reported (λ bytes _. Tells true bytes) S.gave S.ended K.took source.old source.new sink.old sink.new result }
-    ensures escape { IfOk result NamesEscapes }
-    ensures pulls_counted { CountsOnly (Err Pull) (S.faults source.old) (S.faults source.new) result }
-    ensures pushes_counted { CountsOnly (Err Push) (K.faults sink.old) (K.faults sink.new) result }
-{
     let Judging {
         answer,
         machine,
         fault: _,
-    } = judge_keeping(source, memory);
+    } = judge_keeping(source, PageStore::new(alloc));
     machine.kept();
     let verdict = answer?;
     push_report(&verdict, &machine, sink)?;

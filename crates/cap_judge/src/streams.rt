@@ -4,18 +4,17 @@ ghost use Rattle.std.specs.Prelude.{◌≡◌, ℕ, List, [], ◌++◌, Err, IsO
 ghost use Rattle.std.specs.FinMap as map;
 ghost use Rattle.cap_log.specs.Streams.{CountsOnly};
 ghost use Rattle.cap_log.specs.Pulled.{items};
-ghost use Rattle.cap_judge.specs.FaultLines.{bytes_of};
+ghost use Rattle.cap_log.specs.FaultLines.{bytes_of};
 ghost use Rattle.cap_judge.specs.Judgings.{Judged, JudgedBy};
 ghost use Rattle.cap_judge.specs.Logs.{NamesNoGranules};
 ghost use Rattle.cap_judge.specs.Readings.{HasRead, IsAnswered, StopsAt, known_of};
 ghost use Rattle.cap_judge.specs.Verdicts.{EscapesExactly, NoVerdictIn, IsGuarded, IsVerdict, NamesEscapes};
-ghost use Rattle.cap_judge.specs.declared.verdict.JudgeFault.TheVariants.{Pull};
+ghost use Rattle.cap_log.specs.declared.judge_faults.JudgeFault.TheVariants.{Pull};
 
-use crate::fault_lines::FaultLine;
 use crate::faults::Fault;
 use crate::judges::{Judge, Stop};
-use crate::verdict::{JudgeFault, Verdict};
-use cap_log::{PullFault, Pulled, SliceSource, Source};
+use crate::verdict::Verdict;
+use cap_log::{FaultLine, JudgeFault, PullFault, Pulled, SliceSource, Source};
 use cap_machine::Machine;
 use std::alloc::Global;
 use tagmem::{PageStore, TaggedStore};

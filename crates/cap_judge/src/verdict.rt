@@ -1,10 +1,6 @@
 //! What a judge answers.
 
-ghost use Rattle.std.specs.Prelude.{◌≡◌};
-ghost use Rattle.cap_judge.specs.Reports.{told_fault};
-ghost use Rattle.cap_judge.specs.declared.verdict.JudgeToFault.TheVariants.{Push};
-
-use cap_log::{PushFault, Size};
+use cap_log::Size;
 use cap_machine::Refusal;
 use cap_word::Cap;
 
@@ -25,45 +21,6 @@ pub enum Verdict {
         /// The first test that this line fails.
         refusal: Refusal,
     },
-}
-
-/// Why a judge gave no verdict.
-#[derive(Debug, Clone, Copy, PartialEq, Eq)]
-pub enum JudgeFault {
-    /// The source of the bytes failed.
-    Pull,
-    /// There was no memory for a granule that the log names for the first time.
-    NoMemory,
-}
-
-/// Why a judge that writes its verdict did not, or not all of it.
-#[derive(Debug, Clone, Copy, PartialEq, Eq)]
-pub enum JudgeToFault {
-    /// The source of the bytes failed.
-    Pull,
-    /// There was no memory for a granule that the log names for the first time.
-    NoMemory,
-    /// The sink failed.
-    Push,
-}
-
-impl From<JudgeFault> for JudgeToFault {
-    ghost from_gives = { λ fault told. told ≡ told_fault fault };
-
-    fn from(fault: JudgeFault) -> JudgeToFault {
-        match fault {
-            JudgeFault::Pull => JudgeToFault::Pull,
-            JudgeFault::NoMemory => JudgeToFault::NoMemory,
-        }
-    }
-}
-
-impl From<PushFault> for JudgeToFault {
-    ghost from_gives = { λ _ told. told ≡ Push };
-
-    fn from(_fault: PushFault) -> JudgeToFault {
-        JudgeToFault::Push
-    }
 }
 
 /// Why a judge that is given lines did not take one.

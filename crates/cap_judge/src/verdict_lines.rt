@@ -1,7 +1,7 @@
-//! The line of a verdict.
+//! The line of a verdict, and its exit status.
 
 ghost use Rattle.std.specs.Prelude.{◌≡◌, ◌≤◌, ◌+◌, length, take, drop};
-ghost use Rattle.cap_judge.specs.VerdictLines.{verdict_line};
+ghost use Rattle.cap_judge.specs.VerdictLines.{verdict_line, verdict_status};
 ghost use Rattle.cap_judge.specs.declared.verdict.Verdict.TheVariants.{Yes, No};
 
 use crate::verdict::Verdict;
@@ -19,6 +19,19 @@ pub fn verdict_text(verdict: &Verdict, buffer: &mut [u8; 64]) -> usize
     match *verdict {
         Verdict::Yes { steps, roots } => yes_text(steps, roots, buffer),
         Verdict::No { line, refusal } => no_text(line, refusal, buffer),
+    }
+}
+
+/// The exit status of a program that answers a verdict: 0 for a `yes`, 1 for a `no`.
+pub fn verdict_status(verdict: &Verdict) -> u8
+    ensures value { result ≡ verdict_status verdict.now }
+{
+    match verdict {
+        Verdict::Yes { steps: _, roots: _ } => 0,
+        Verdict::No {
+            line: _,
+            refusal: _,
+        } => 1,
     }
 }
 

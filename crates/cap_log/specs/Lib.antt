@@ -1,6 +1,8 @@
 pub mod Failings
+pub mod FaultLines
 pub mod Front
 pub mod Heads
+pub mod JudgeFaults
 pub mod Known
 pub mod Lines
 pub mod Parts

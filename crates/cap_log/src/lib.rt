@@ -21,7 +21,9 @@
 #![tactic(auto)]
 
 pub mod buffers;
+mod fault_lines;
 mod fronts;
+mod judge_faults;
 pub mod kinds;
 mod lines;
 mod operands;
@@ -34,7 +36,9 @@ mod sources;
 mod taking;
 mod writing;
 
+pub use crate::fault_lines::FaultLine;
 pub use crate::fronts::front;
+pub use crate::judge_faults::{JudgeFault, JudgeToFault};
 pub use crate::kinds::{Head, Step, take_operands};
 pub use crate::lines::{Front, Line, Mode, Place};
 pub use crate::operands::Operands;

@@ -1,2 +1,3 @@
 pub mod Doing
+pub mod Judgements
 pub mod RunLemmas

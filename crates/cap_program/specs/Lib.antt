@@ -3,3 +3,4 @@ pub mod Words
 pub mod Doings
 pub mod Runs
 pub mod Commands
+pub mod Judging

@@ -1,9 +1,10 @@
 //! Why a program did not do what it was asked to.
 
 ghost use Rattle.std.specs.Prelude.{◌≡◌};
+ghost use Rattle.cap_program.specs.Judging.{fault_of};
 ghost use Rattle.cap_program.specs.declared.faults.Fault.TheVariants.{Read, Write};
 
-use cap_log::{PullFault, PushFault};
+use cap_log::{JudgeToFault, PullFault, PushFault};
 
 /// Why a program did not do what it was asked to.
 #[derive(Debug, Clone, Copy, PartialEq, Eq)]
@@ -49,6 +50,17 @@ impl Fault {
             Fault::Write => "write fault",
             Fault::NoMemory => "no memory",
         }
+    }
+}
+
+/// The fault of a program whose judge has one.
+pub fn fault_of(fault: JudgeToFault) -> Fault
+    ensures value { result ≡ fault_of fault }
+{
+    match fault {
+        JudgeToFault::Pull => Fault::Read,
+        JudgeToFault::NoMemory => Fault::NoMemory,
+        JudgeToFault::Push => Fault::Write,
     }
 }
 

@@ -12,7 +12,7 @@ mod words;
 
 pub use crate::answering::{exit_status, hand_on, tell};
 pub use crate::commands::Command;
-pub use crate::faults::Fault;
+pub use crate::faults::{Fault, fault_of};
 pub use crate::inputs::opened;
 pub use crate::outputs::{Output, show};
 pub use crate::running::{carry_out, run};

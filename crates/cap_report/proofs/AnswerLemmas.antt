@@ -3,7 +3,7 @@ use Rattle.std.proofs.Common.{◌≡◌, ℕ, List, true, refl, Err, Ok}
 use Rattle.std.specs.Prelude.{None, Some}
 use Rattle.cap_report.specs.Answers.{AnswersBytes, numbers_of, without_verdict}
 use Rattle.cap_report.specs.declared.answers.Answer.{Answer}
-use Rattle.cap_judge.specs.declared.verdict.JudgeFault.TheVariants.{NoMemory}
+use Rattle.cap_log.specs.declared.judge_faults.JudgeFault.TheVariants.{NoMemory}
 use Rattle.cap_judge.specs.declared.verdict.Verdict.{Verdict}
 use Rattle.cap_judge.specs.Judgings.{IsAnswerOf}
 

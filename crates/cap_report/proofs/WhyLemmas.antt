@@ -8,7 +8,7 @@ use Rattle.cap_judge.specs.declared.faults.Fault.{Fault}
 use Rattle.cap_judge.specs.declared.verdict.Verdict.{Verdict}
 use Rattle.cap_judge.specs.declared.verdict.Verdict.TheVariants.{Yes, No}
 use Rattle.cap_judge.specs.Judgings.{IsVerdictOf, IsAnswerOf, LeadsAfter, StopsBefore, StopsIn}
-use Rattle.cap_judge.specs.FaultLines.{bytes_of}
+use Rattle.cap_log.specs.FaultLines.{bytes_of}
 use Rattle.cap_judge.specs.Readings.{EndsWith, StandsIn}
 use Rattle.cap_judge.specs.Reports.{Tells}
 use Rattle.cap_judge.specs.OriginLists.{report_text}

@@ -5,14 +5,14 @@ ghost use Rattle.std.specs.FinMap as map;
 ghost use Rattle.cap_log.specs.Front.{IsCut};
 ghost use Rattle.cap_log.specs.Streams.{CountsFault, CountsOnly};
 ghost use Rattle.cap_machine.specs.Helds.{account_of};
-ghost use Rattle.cap_judge.specs.FaultLines.{bytes_of};
+ghost use Rattle.cap_log.specs.FaultLines.{bytes_of};
 ghost use Rattle.cap_report.specs.FaultReports.{IsLineReport};
 ghost use Rattle.cap_judge.specs.Readings.{HasRead};
 ghost use Rattle.cap_judge.specs.Reports.{IsPushedFor, Reported};
 ghost use Rattle.cap_judge.specs.VerdictLines.{verdict_line};
 ghost use Rattle.cap_judge.specs.Verdicts.{NamesEscapes};
 ghost use Rattle.cap_report.specs.Whys.{Explains, ExplainsEnd, ExplainsSoFar, IsWhyText};
-ghost use Rattle.cap_judge.specs.declared.verdict.JudgeToFault.TheVariants.{Pull, Push};
+ghost use Rattle.cap_log.specs.declared.judge_faults.JudgeToFault.TheVariants.{Pull, Push};
 ghost use Rattle.cap_judge.specs.declared.verdict.Verdict.{Verdict};
 ghost use Rattle.cap_judge.specs.declared.verdict.Verdict.TheVariants.{No};
 
@@ -23,7 +23,7 @@ use cap_judge::{
 };
 use cap_log::buffers::put;
 use cap_log::{PushFault, Sink, Source, push_all};
-use cap_machine::{Machine, Refusal};
+use cap_machine::Machine;
 use std::alloc::Global;
 use tagmem::{PageStore, TaggedStore};
 
@@ -45,35 +45,19 @@ pub fn judge_why<S: Source, K: Sink>(
     ensures pulls_counted { CountsOnly (Err Pull) (S.faults source.old) (S.faults source.new) result }
     ensures pushes_counted { CountsOnly (Err Push) (K.faults sink.old) (K.faults sink.new) result }
 {
-    judge_why_in(origins, source, PageStore::new(alloc), sink)
-}
-
-/// Judges as [`judge_why`] does, with the granules in a store that is empty.
-pub fn judge_why_in<S: Source, M: TaggedStore, K: Sink>(
-    origins: bool,
-    source: &mut S,
-    memory: M,
-    sink: &mut K,
-) -> Result<Verdict, JudgeToFault>
-    requires { map.len (M.contents memory) ≡ 0 }
-    ensures explained { Reported (Explains origins) S.gave S.ended K.took source.old source.new sink.old sink.new result }
-    ensures escape { IfOk result NamesEscapes }
-    ensures pulls_counted { CountsOnly (Err Pull) (S.faults source.old) (S.faults source.new) result }
-    ensures pushes_counted { CountsOnly (Err Push) (K.faults sink.old) (K.faults sink.new) result }
-{
     let Judging {
         answer,
         machine,
         fault,
-    } = judge_keeping(source, memory);
+    } = judge_keeping(source, PageStore::new(alloc));
     machine.kept();
     let verdict = answer?;
     push_why(&verdict, origins, &machine, &fault, sink)?;
     Ok(verdict)
 }
 
-/// Judges the bytes of a log as [`judge_why_in`] does those of a source, and takes no more of the stack than that they
-/// are judged line by line where they lie.
+/// Judges the bytes of a log as [`judge_why`] does those of a source, with the granules in a store that is empty. They
+/// are judged where they lie, so no room on the stack is taken for a piece of them.
 pub fn judge_why_bytes<M: TaggedStore, K: Sink>(
     origins: bool,
     bytes: &[u8],
@@ -155,7 +139,12 @@ fn push_fault<M: TaggedStore, K: Sink>(
         × (n : ℕ) × K.took sink.old sink.new (take n (verdict_line (No fault.now.line fault.now.refusal) ++ report))) }
     ensures counted { CountsFault (K.faults sink.old) (K.faults sink.new) result }
 {
-    push_no(&fault.verdict(), machine, &fault.text, fault.refusal, sink)
+    let mut text = [0u8; 3136];
+    let mut line = [0u8; 64];
+    let length = verdict_text(&fault.verdict(), &mut line);
+    let at = put(&mut text, 0, &line[..length]);
+    let end = put_report(machine, &fault.text, fault.refusal, &mut text, at);
+    push_all(sink, &text[..end])
 }
 
 // Pushes the text of a verdict: after a `yes` with the origins where they are asked for, and after a `no` with
@@ -183,31 +172,17 @@ fn push_why<M: TaggedStore, K: Sink>(
                 push_verdict(verdict, sink)
             }
         }
-        Verdict::No { line: _, refusal } => push_no(verdict, machine, fault, refusal, sink),
+        Verdict::No { line, refusal } => {
+            let text = *fault;
+            push_fault(
+                machine,
+                &Fault {
+                    line,
+                    refusal,
+                    text,
+                },
+                sink,
+            )
+        }
     }
-}
-
-// Pushes the line of a verdict and the report of the line that was refused.
-fn push_no<M: TaggedStore, K: Sink>(
-    verdict: &Verdict,
-    machine: &Machine<M>,
-    fault: &FaultLine,
-    refusal: Refusal,
-    sink: &mut K,
-) -> Result<(), PushFault>
-    ensures ok { OnOk result ((report : List ℕ)
-        × IsLineReport (account_of machine.now) (bytes_of fault.now) refusal report
-        × K.took sink.old sink.new (verdict_line verdict.now ++ report)
-        × (length (verdict_line verdict.now ++ report) ≤ 3136)) }
-    ensures err { OnErr result ((report : List ℕ)
-        × IsLineReport (account_of machine.now) (bytes_of fault.now) refusal report
-        × (n : ℕ) × K.took sink.old sink.new (take n (verdict_line verdict.now ++ report))) }
-    ensures counted { CountsFault (K.faults sink.old) (K.faults sink.new) result }
-{
-    let mut text = [0u8; 3136];
-    let mut line = [0u8; 64];
-    let length = verdict_text(verdict, &mut line);
-    let at = put(&mut text, 0, &line[..length]);
-    let end = put_report(machine, fault, refusal, &mut text, at);
-    push_all(sink, &text[..end])
 }

@@ -5,7 +5,7 @@ ghost use Rattle.cap_machine.specs.Helds.{account_of};
 ghost use Rattle.cap_log.specs.Lines.{IsPlace};
 ghost use Rattle.cap_log.specs.Parts.{Writes};
 ghost use Rattle.cap_bounds.specs.Bounds.{length_of};
-ghost use Rattle.cap_judge.specs.FaultLines.{bytes_of};
+ghost use Rattle.cap_log.specs.FaultLines.{bytes_of};
 ghost use Rattle.cap_report.specs.FaultReports.{AreDetails, IsLineReport, count_lines, due_line, root_lines};
 
 use crate::bad_lines::{put_bad_header, put_bad_line};

@@ -18,4 +18,4 @@ mod parts;
 mod step_lines;
 pub mod texts;
 
-pub use crate::explaining::{judge_why, judge_why_bytes, judge_why_in, push_ending, push_refused};
+pub use crate::explaining::{judge_why, judge_why_bytes, push_ending, push_refused};

@@ -1,6 +1,14 @@
 -- What was done for an order, told of an input whose bytes are known.
-use Rattle.std.proofs.Common.{◌≡◌, ◌≤◌, ◌↔◌, ℕ, Bool, true, false, List, [], ◌++◌, Option, None, Some, Ok, refl, sym, ap, subst, ◌∙◌, append-nil, arith}
+use Rattle.std.proofs.Common.{◌≡◌, ◌≤◌, ◌↔◌, ℕ, Bool, true, false, List, [], ◌++◌, Option, None, Some, Result, Ok, Err, take, refl, sym, ap, subst, ◌∙◌, append-nil, arith}
 use Rattle.std.specs.Io.KnownBytes.{Consumes}
+use Rattle.cap_log.specs.declared.judge_faults.JudgeFault.TheVariants as judge_faults
+use Rattle.cap_log.specs.declared.judge_faults.JudgeToFault.{JudgeToFault}
+use Rattle.cap_log.specs.declared.judge_faults.JudgeToFault.TheVariants.{Pull, Push}
+use Rattle.cap_log.specs.declared.judge_faults.JudgeToFault.TheVariants as judging
+use Rattle.cap_judge.specs.Reports.{IsPushedFor}
+use Rattle.cap_judge.specs.VerdictLines.{verdict_status}
+use Rattle.cap_program.specs.Doings.{IsDone}
+use Rattle.cap_program.specs.Judging.{ShowsVerdict, StopsJudging, judged}
 use Rattle.cap_judge.specs.declared.verdict.Verdict.{Verdict}
 use Rattle.cap_judge.specs.Judgings.{IsAnswerOf}
 use Rattle.cap_judge.specs.Reports.{Tells}
@@ -13,13 +21,23 @@ use Rattle.cap_program.specs.declared.faults.Fault.{Fault}
 use Rattle.cap_program.specs.declared.faults.Fault.TheVariants.{BadWords, BadWord, BadRequest, Read, Write, NoMemory}
 use Rattle.cap_program.specs.Commands.{IsMeant}
 use Rattle.cap_program.specs.Faults.{status_of}
-use Rattle.cap_status.proofs.Judgements.{tells_known, verdict_few}
+use Rattle.cap_judge.proofs.ReportLemmas.{tells_known, unanswered, verdict_few}
+use Rattle.cap_program.proofs.Judgements.{known_of, stopped_unfaulty}
 use Rattle.capcheck.specs.declared.words.Order.{Order}
 use Rattle.capcheck.specs.declared.words.Order.TheVariants.{Explain, Round, Judge, Vectors}
 use Rattle.capcheck.specs.Answers.{Prints, vector_status}
 use Rattle.capcheck.specs.Doings.{Fails, Shows, order_meaning}
 use Rattle.capcheck.specs.Operands.{IsFaulty}
 use Rattle.capcheck.proofs.OperandLemmas.{refused_request, refused_status}
+
+-- what was pushed for an answer is what was done for the order
+pub judged_done : (tells : Verdict → List ℕ → Type 0) (given : List ℕ) (ended : Bool) (took : List ℕ → Type 0)
+    (answer : Result Verdict JudgeToFault) → IsPushedFor tells given ended took answer
+    → IsDone (ShowsVerdict verdict_status (IsAnswerOf given ended) tells) (StopsJudging (IsAnswerOf given true)) took (judged verdict_status answer)
+judged_done tells given ended took (Ok verdict) p = (p.1, (verdict, p.0, p.2, refl), p.3)
+judged_done tells given ended took (Err Pull) p = (unanswered given ended judge_faults.Pull p.0, p.1)
+judged_done tells given ended took (Err judging.NoMemory) p = (unanswered given ended judge_faults.NoMemory p.0, p.1)
+judged_done tells given ended took (Err Push) p = (p.2, verdict_status p.0, (p.0, p.1, p.3, refl), p.4, p.5)
 
 -- the verdict on the bytes given, and its text, are those of all bytes
 verdict_known : (origins : Bool) (known given rest : List ℕ) (ended : Bool) (verdict : Verdict) (text : List ℕ) → known ≡ given ++ rest
@@ -46,13 +64,10 @@ shows_known : (order : Option Order) (left rest : Option (List ℕ)) (given : Li
 shows_known None left rest given ended text status gives all shows = absurd shows
 shows_known (Some (Explain memory tag hex)) left rest given ended text status gives all shows = (shows.0, shows.2, shows.3, shows.4)
 shows_known (Some (Round base length)) left rest given ended text status gives all shows = shows
-shows_known (Some (Judge origins file)) None rest given ended text status gives all shows =
-    let both = verdict_known origins given given [] ended shows.0 text (sym (append-nil given)) (λ e. refl) shows.1 shows.2 in
-    (given, tt, shows.0, both.0, both.1, shows.3)
-shows_known (Some (Judge origins file)) (Some known) None given ended text status gives all shows = absurd gives
-shows_known (Some (Judge origins file)) (Some known) (Some xs) given ended text status gives all shows =
-    let both = verdict_known origins known given xs ended shows.0 text gives (λ e. all e xs refl) shows.1 shows.2 in
-    (known, refl, shows.0, both.0, both.1, shows.3)
+shows_known (Some (Judge origins file)) left rest given ended text status gives all shows =
+    let k = known_of left rest given ended gives all in
+    let both = verdict_known origins k.bytes given k.more ended shows.0 text k.bytes_are k.none_more shows.1 shows.2 in
+    (k.bytes, k.are, shows.0, both.0, both.1, shows.3)
 shows_known (Some (Vectors file)) None rest given ended text status gives all shows = (shows.0, tt, shows.2, shows.3)
 shows_known (Some (Vectors file)) (Some known) None given ended text status gives all shows = absurd gives
 shows_known (Some (Vectors file)) (Some known) (Some xs) given ended text status gives all shows =
@@ -96,12 +111,7 @@ asked_fault (Some (Explain memory tag hex)) given Write fails = absurd fails
 asked_fault (Some (Explain memory tag hex)) given NoMemory fails = absurd fails
 asked_fault (Some (Round base length)) given fault fails =
     (λ two. (refused_request base.now length.now fault fails).0 two, λ faulty. refused_status base.now length.now fault fails)
-asked_fault (Some (Judge origins file)) given Read fails = (λ two. absurd (cc), λ faulty. absurd faulty)
-asked_fault (Some (Judge origins file)) given NoMemory fails = (λ two. absurd (cc), λ faulty. absurd faulty)
-asked_fault (Some (Judge origins file)) given BadWords fails = absurd fails
-asked_fault (Some (Judge origins file)) given BadWord fails = absurd fails
-asked_fault (Some (Judge origins file)) given BadRequest fails = absurd fails
-asked_fault (Some (Judge origins file)) given Write fails = absurd fails
+asked_fault (Some (Judge origins file)) given fault fails = stopped_unfaulty (IsAnswerOf given true) fault fails
 asked_fault (Some (Vectors file)) given Read fails = (λ two. absurd (cc), λ faulty. absurd faulty)
 asked_fault (Some (Vectors file)) given BadWords fails = absurd fails
 asked_fault (Some (Vectors file)) given BadWord fails = absurd fails

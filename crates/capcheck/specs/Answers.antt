@@ -12,7 +12,7 @@ use Rattle.cap_texts.specs.ExplainLines.{explain_lines}
 use Rattle.cap_texts.specs.RoundLines.{round_lines}
 use Rattle.cap_vectors.specs.VectorFiles.{IsVectorVerdict, vector_line}
 use Rattle.cap_judge.specs.Reports.{Tells}
-use Rattle.cap_status.specs.Judging.{verdict_status}
+use Rattle.cap_judge.specs.VerdictLines.{verdict_status}
 use Rattle.cap_judge.specs.Verdicts.{IsVerdict}
 
 -- the exit status of a verdict on a vector file

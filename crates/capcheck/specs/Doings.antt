@@ -1,10 +1,12 @@
 -- What belongs to an order and to the bytes that were given for it. All of it is this profile's own.
-use Rattle.std.specs.Prelude.{◌≡◌, ℕ, ◌^◌, ◌<◌, Bool, List, Option, Some, None, codes}
+use Rattle.std.specs.Prelude.{◌≡◌, ℕ, ◌^◌, ◌<◌, Bool, true, List, Option, Some, None, codes}
 use Rattle.cap_judge.specs.Reports.{Tells}
 use Rattle.cap_texts.specs.ExplainLines.{explain_lines}
 use Rattle.cap_vectors.specs.declared.files.VectorVerdict.{VectorVerdict}
 use Rattle.cap_vectors.specs.VectorFiles.{BreaksOff, IsVectorVerdictOf, vector_line}
-use Rattle.cap_status.specs.Judging.{ShowsVerdict, StopsJudging}
+use Rattle.cap_judge.specs.Judgings.{IsAnswerOf}
+use Rattle.cap_judge.specs.VerdictLines.{verdict_status}
+use Rattle.cap_program.specs.Judging.{ShowsVerdict, StopsJudging}
 use Rattle.cap_program.specs.Commands.{Meaning}
 use Rattle.cap_program.specs.declared.faults.Fault.{Fault}
 use Rattle.cap_program.specs.declared.faults.Fault.TheVariants.{BadWords, BadWord, Read}
@@ -24,7 +26,8 @@ Shows None given ended text status = ⊥
 Shows (Some (Explain memory tag hex)) given ended text status =
     (w : ℕ) × (w < 2 ^ 128) × SpellsWord memory hex.now w × (text ≡ explain_lines w tag) × (status ≡ 0)
 Shows (Some (Round base_word length_word)) given ended text status = ShowsRounding base_word.now length_word.now text × (status ≡ 0)
-Shows (Some (Judge origins file)) given ended text status = ShowsVerdict (Tells origins given) given ended text status
+Shows (Some (Judge origins file)) given ended text status =
+    ShowsVerdict verdict_status (IsAnswerOf given ended) (Tells origins given) text status
 Shows (Some (Vectors file)) given ended text status = ShowsCheckOf given ended text status
 
 -- why the bytes given were not checked as a vector file: reading failed behind lines that are true
@@ -38,7 +41,7 @@ abbrev pub Fails : Option Order → List ℕ → Fault → Type 0
 Fails None given BadWords = Unit {0}
 Fails (Some (Explain memory tag hex)) given BadWord = (w : ℕ) → w < 2 ^ 128 → SpellsWord memory hex.now w → ⊥
 Fails (Some (Round base_word length_word)) given fault = RefusesRequest base_word.now length_word.now fault
-Fails (Some (Judge origins file)) given fault = StopsJudging given fault
+Fails (Some (Judge origins file)) given fault = StopsJudging (IsAnswerOf given true) fault
 Fails (Some (Vectors file)) given fault = StopsChecking given fault
 Fails order given fault = ⊥
 

@@ -1,16 +1,17 @@
 //! Judging an input, and pushing the text of the verdict.
 
-ghost use Rattle.std.specs.Prelude.{ℕ, List, Err};
+ghost use Rattle.std.specs.Prelude.{◌≡◌, ℕ, List, Err, true};
 ghost use Rattle.cap_program.specs.Doings.{IsCounted, IsDone};
-ghost use Rattle.cap_status.specs.Judging.{ShowsVerdict, StopsJudging};
+ghost use Rattle.cap_program.specs.Judging.{ShowsVerdict, StopsJudging, judged};
+ghost use Rattle.cap_judge.specs.Judgings.{IsAnswerOf};
+ghost use Rattle.cap_judge.specs.VerdictLines.{verdict_status};
 ghost use Rattle.cap_judge.specs.Reports.{Reported, Tells};
-ghost use Rattle.cap_judge.specs.declared.verdict.JudgeToFault.TheVariants as judging;
+ghost use Rattle.cap_log.specs.declared.judge_faults.JudgeToFault.TheVariants as judging;
 ghost use Rattle.cap_log.specs.Streams.{CountsOnly};
 
-use cap_judge::{JudgeToFault, Verdict, judge_origins, judge_to};
+use cap_judge::{JudgeToFault, Verdict, judge_origins, judge_to, verdict_status};
 use cap_log::{Sink, Source};
-use cap_program::Fault;
-use cap_status::judged;
+use cap_program::{Fault, fault_of};
 use std::alloc::Global;
 
 /// Judges what a source gives, pushes the line of the verdict and, where they are asked for, those of origins, and answers
@@ -22,8 +23,8 @@ pub fn judge_source<S: Source, K: Sink>(
     sink: &mut K,
 ) -> Result<u8, Fault>
     ensures done { (given : List ℕ) × S.gave source.old source.new given
-        × IsDone (ShowsVerdict (Tells origins given) given (S.ended source.new)) (StopsJudging given)
-        (K.took sink.old sink.new) result }
+        × IsDone (ShowsVerdict verdict_status (IsAnswerOf given (S.ended source.new)) (Tells origins given))
+        (StopsJudging (IsAnswerOf given true)) (K.took sink.old sink.new) result }
     ensures read { IsCounted Fault.Read result (S.faults source.old) (S.faults source.new) }
     ensures written { IsCounted Fault.Write result (K.faults sink.old) (K.faults sink.new) }
 {
@@ -45,5 +46,15 @@ fn report<S: Source, K: Sink>(
         judge_origins(alloc, source, sink)
     } else {
         judge_to(alloc, source, sink)
+    }
+}
+
+// The status that goes with a verdict, or the fault that came instead.
+fn judged(answer: Result<Verdict, JudgeToFault>) -> Result<u8, Fault>
+    ensures value { result ≡ judged verdict_status answer }
+{
+    match answer {
+        Ok(verdict) => Ok(verdict_status(&verdict)),
+        Err(fault) => Err(fault_of(fault)),
     }
 }

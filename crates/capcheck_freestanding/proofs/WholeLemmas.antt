@@ -2,8 +2,8 @@
 use Rattle.std.proofs.Common.{◌≡◌, ◌≢◌, ℕ, Bool, List, [], true, refl, Err}
 use Rattle.cap_report.specs.Answers.{AnswersBytes, without_verdict}
 use Rattle.cap_report.specs.declared.answers.Answer.{Answer}
-use Rattle.cap_judge.specs.declared.verdict.JudgeToFault.{JudgeToFault}
-use Rattle.cap_judge.specs.declared.verdict.JudgeToFault.TheVariants as to
+use Rattle.cap_log.specs.declared.judge_faults.JudgeToFault.{JudgeToFault}
+use Rattle.cap_log.specs.declared.judge_faults.JudgeToFault.TheVariants as to
 use Rattle.cap_judge.specs.Reports.{IsPushedFor}
 use Rattle.cap_report.specs.Whys.{Explains}
 use Rattle.cap_report.proofs.AnswerLemmas.{of_lack}

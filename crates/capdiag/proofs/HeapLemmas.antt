@@ -2,20 +2,19 @@
 use Rattle.std.proofs.Common.{◌≡◌, ◌≢◌, ◌≤◌, ℕ, Bool, true, false, List, [], ◌∷◌, ◌++◌, Result, Ok, Err, refl, sym, ap, subst, ◌∙◌, append-nil, append_assoc, arith}
 use Rattle.std.proofs.lemmas.List.Elements.{All-nil}
 use Rattle.std.proofs.lemmas.Option.{none-some}
-use Rattle.cap_log.specs.Streams.{next_count}
 use Rattle.cap_heap.specs.declared.lines.HeapLine.TheVariants.{Header, Root, End}
 use Rattle.cap_heap.specs.declared.verdict.HeapVerdict.{HeapVerdict}
 use Rattle.cap_heap.specs.declared.verdict.HeapVerdict.TheVariants.{Yes, No}
-use Rattle.cap_heap.specs.declared.verdict.HeapToFault.{HeapToFault}
-use Rattle.cap_heap.specs.declared.verdict.HeapToFault.TheVariants.{Pull, NoMemory, Push}
+use Rattle.cap_log.specs.declared.judge_faults.JudgeToFault.{JudgeToFault}
+use Rattle.cap_log.specs.declared.judge_faults.JudgeToFault.TheVariants.{Pull, NoMemory, Push}
 use Rattle.cap_heap.specs.HeapLogs.{CanBeGuardedThroughout, IsFirstHeapFault}
 use Rattle.cap_heap.specs.declared.refusal.HeapRefusal.{HeapRefusal}
 use Rattle.cap_heap.specs.HeapVerdicts.{BeginsHeapLog, IsHeapAnswerOf, Lasts}
 use Rattle.cap_heap.specs.HeapWhys.{IsHeapReport}
-use Rattle.cap_heap.specs.VerdictLines.{IsHeapTold, TellsHeap}
-use Rattle.cap_program.specs.declared.faults.Fault.TheVariants as faults
-use Rattle.cap_program.specs.Doings.{IsCounted, IsDone}
-use Rattle.capdiag.specs.Heaps.{ShowsHeap, StopsHeap, heap_judged, heap_status}
+use Rattle.cap_heap.specs.VerdictLines.{IsHeapTold, TellsHeap, heap_status}
+use Rattle.cap_program.specs.Doings.{IsDone}
+use Rattle.cap_program.specs.Judging.{StopsJudging, judged}
+use Rattle.capdiag.specs.Answers.{ShowsHeap}
 
 -- no bytes are the beginning of a log
 pub nothing_begins : BeginsHeapLog []
@@ -38,28 +37,13 @@ nothing_begins = record {
 }
 
 -- what was pushed for an answer is what was done for the order
-pub heap_done : (report why : Bool) (given : List ℕ) (ended : Bool) (took : List ℕ → Type 0) (answer : Result HeapVerdict HeapToFault)
-    → IsHeapTold report why given ended took answer → IsDone (ShowsHeap report why given ended) (StopsHeap given) took (heap_judged answer)
+pub heap_done : (report why : Bool) (given : List ℕ) (ended : Bool) (took : List ℕ → Type 0) (answer : Result HeapVerdict JudgeToFault)
+    → IsHeapTold report why given ended took answer
+    → IsDone (ShowsHeap report why given ended) (StopsJudging (IsHeapAnswerOf given true)) took (judged heap_status answer)
 heap_done report why given ended took (Ok verdict) p = (p.1, (verdict, p.0, p.2, refl), p.3)
-heap_done report why given ended took (Err Pull) p = (p.0.fault, p.1)
-heap_done report why given ended took (Err NoMemory) p = (p.0.fault, p.1)
+heap_done report why given ended took (Err Pull) p = (record { verdict = tt; optimal = tt; fault = p.0.fault }, p.1)
+heap_done report why given ended took (Err NoMemory) p = (record { verdict = tt; optimal = tt; fault = p.0.fault }, p.1)
 heap_done report why given ended took (Err Push) p = (p.2, heap_status p.0, (p.0, p.1, p.3, refl), p.4, p.5)
-
--- a fault of the source is one of the input
-pub heap_read : (before after : ℕ) (answer : Result HeapVerdict HeapToFault) → (answer ≢ Err Pull → after ≡ before)
-    → (answer ≡ Err Pull → after ≡ next_count before) → IsCounted faults.Read (heap_judged answer) before after
-heap_read before after (Ok verdict) same next = record { counted = λ is. absurd (cc); uncounted = λ other. same (λ is. cc) }
-heap_read before after (Err Pull) same next = record { counted = λ is. next refl; uncounted = λ other. absurd (other refl) }
-heap_read before after (Err NoMemory) same next = record { counted = λ is. absurd (cc); uncounted = λ other. same (λ is. cc) }
-heap_read before after (Err Push) same next = record { counted = λ is. absurd (cc); uncounted = λ other. same (λ is. cc) }
-
--- a fault of the sink is one of the output
-pub heap_written : (before after : ℕ) (answer : Result HeapVerdict HeapToFault) → (answer ≢ Err Push → after ≡ before)
-    → (answer ≡ Err Push → after ≡ next_count before) → IsCounted faults.Write (heap_judged answer) before after
-heap_written before after (Ok verdict) same next = record { counted = λ is. absurd (cc); uncounted = λ other. same (λ is. cc) }
-heap_written before after (Err Pull) same next = record { counted = λ is. absurd (cc); uncounted = λ other. same (λ is. cc) }
-heap_written before after (Err NoMemory) same next = record { counted = λ is. absurd (cc); uncounted = λ other. same (λ is. cc) }
-heap_written before after (Err Push) same next = record { counted = λ is. next refl; uncounted = λ other. absurd (other refl) }
 
 -- what lasts for the bytes given holds of all bytes
 lasts_known : (Fact : List ℕ → Type 0) (known given rest : List ℕ) (ended : Bool) → known ≡ given ++ rest → (ended ≡ true → rest ≡ [])

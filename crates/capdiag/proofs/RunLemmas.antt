@@ -1,6 +1,14 @@
 -- What was done for an order, told of an input whose bytes are known.
-use Rattle.std.proofs.Common.{◌≡◌, ◌≤◌, ◌↔◌, ℕ, Bool, true, List, [], ◌++◌, Option, None, Some, Ok, refl, sym, ap, subst, ◌∙◌, append-nil, arith}
+use Rattle.std.proofs.Common.{◌≡◌, ◌≤◌, ◌↔◌, ℕ, Bool, true, List, [], ◌++◌, Option, None, Some, Result, Ok, Err, take, refl, sym, ap, subst, ◌∙◌, append-nil, arith}
 use Rattle.std.specs.Io.KnownBytes.{Consumes}
+use Rattle.cap_log.specs.declared.judge_faults.JudgeFault.TheVariants as judge_faults
+use Rattle.cap_log.specs.declared.judge_faults.JudgeToFault.{JudgeToFault}
+use Rattle.cap_log.specs.declared.judge_faults.JudgeToFault.TheVariants.{Pull, Push}
+use Rattle.cap_log.specs.declared.judge_faults.JudgeToFault.TheVariants as judging
+use Rattle.cap_judge.specs.Reports.{IsPushedFor}
+use Rattle.cap_judge.specs.VerdictLines.{verdict_status}
+use Rattle.cap_program.specs.Doings.{IsDone}
+use Rattle.cap_program.specs.Judging.{ShowsVerdict, StopsJudging, judged}
 use Rattle.cap_judge.specs.declared.verdict.Verdict.{Verdict}
 use Rattle.cap_judge.specs.declared.verdict.Verdict.TheVariants.{Yes, No}
 use Rattle.cap_judge.specs.Judgings.{IsAnswerOf, IsVerdictOf}
@@ -12,11 +20,22 @@ use Rattle.cap_program.specs.declared.faults.Fault.{Fault}
 use Rattle.cap_program.specs.declared.faults.Fault.TheVariants.{BadWords, BadWord, BadRequest, Read, Write, NoMemory}
 use Rattle.cap_program.specs.Commands.{IsMeant}
 use Rattle.cap_program.specs.Faults.{status_of}
-use Rattle.cap_status.proofs.Judgements.{tells_known, verdict_few}
+use Rattle.cap_judge.proofs.ReportLemmas.{tells_known, unanswered, verdict_few}
+use Rattle.cap_program.proofs.Judgements.{known_of, stopped_unfaulty}
+use Rattle.cap_heap.specs.HeapVerdicts.{IsHeapAnswerOf}
 use Rattle.capdiag.specs.declared.words.Order.{Order}
 use Rattle.capdiag.specs.declared.words.Order.TheVariants.{Help, Version, Why, Heap}
 use Rattle.capdiag.proofs.HeapLemmas.{heap_few, heap_known}
 use Rattle.capdiag.specs.Answers.{Fails, IsFaulty, Prints, Shows, order_meaning}
+
+-- what was pushed for an answer is what was done for the order
+pub judged_done : (tells : Verdict → List ℕ → Type 0) (given : List ℕ) (ended : Bool) (took : List ℕ → Type 0)
+    (answer : Result Verdict JudgeToFault) → IsPushedFor tells given ended took answer
+    → IsDone (ShowsVerdict verdict_status (IsAnswerOf given ended) tells) (StopsJudging (IsAnswerOf given true)) took (judged verdict_status answer)
+judged_done tells given ended took (Ok verdict) p = (p.1, (verdict, p.0, p.2, refl), p.3)
+judged_done tells given ended took (Err Pull) p = (unanswered given ended judge_faults.Pull p.0, p.1)
+judged_done tells given ended took (Err judging.NoMemory) p = (unanswered given ended judge_faults.NoMemory p.0, p.1)
+judged_done tells given ended took (Err Push) p = (p.2, verdict_status p.0, (p.0, p.1, p.3, refl), p.4, p.5)
 
 -- a text for all bytes given, with the report of a no
 explains_known : (origins : Bool) (known given rest : List ℕ) (ended : Bool) (verdict : Verdict) (text : List ℕ) → known ≡ given ++ rest
@@ -48,18 +67,13 @@ shows_known : (order : Option Order) (left rest : Option (List ℕ)) (given : Li
 shows_known None left rest given ended text status gives all shows = absurd shows
 shows_known (Some Help) left rest given ended text status gives all shows = shows
 shows_known (Some Version) left rest given ended text status gives all shows = shows
-shows_known (Some (Why origins file)) None rest given ended text status gives all shows =
-    let both = verdict_known origins given given [] ended shows.0 text (sym (append-nil given)) (λ e. refl) shows.1 shows.2 in
-    (given, tt, shows.0, both.0, both.1, shows.3)
-shows_known (Some (Why origins file)) (Some known) None given ended text status gives all shows = absurd gives
-shows_known (Some (Why origins file)) (Some known) (Some xs) given ended text status gives all shows =
-    let both = verdict_known origins known given xs ended shows.0 text gives (λ e. all e xs refl) shows.1 shows.2 in
-    (known, refl, shows.0, both.0, both.1, shows.3)
-shows_known (Some (Heap report why file)) None rest given ended text status gives all shows =
-    (given, tt, heap_known report why given given [] ended text status (sym (append-nil given)) (λ e. refl) shows)
-shows_known (Some (Heap report why file)) (Some known) None given ended text status gives all shows = absurd gives
-shows_known (Some (Heap report why file)) (Some known) (Some xs) given ended text status gives all shows =
-    (known, refl, heap_known report why known given xs ended text status gives (λ e. all e xs refl) shows)
+shows_known (Some (Why origins file)) left rest given ended text status gives all shows =
+    let k = known_of left rest given ended gives all in
+    let both = verdict_known origins k.bytes given k.more ended shows.0 text k.bytes_are k.none_more shows.1 shows.2 in
+    (k.bytes, k.are, shows.0, both.0, both.1, shows.3)
+shows_known (Some (Heap report why file)) left rest given ended text status gives all shows =
+    let k = known_of left rest given ended gives all in
+    (k.bytes, k.are, heap_known report why k.bytes given k.more ended text status k.bytes_are k.none_more shows)
 
 -- the status of a text
 few : (order : Option Order) (given : List ℕ) (ended : Bool) (text : List ℕ) (status : ℕ) → Shows order given ended text status
@@ -85,30 +99,10 @@ asked_fault None given BadRequest fails = absurd fails
 asked_fault None given Read fails = absurd fails
 asked_fault None given Write fails = absurd fails
 asked_fault None given NoMemory fails = absurd fails
-asked_fault (Some Help) given BadWords fails = absurd fails
-asked_fault (Some Help) given BadWord fails = absurd fails
-asked_fault (Some Help) given BadRequest fails = absurd fails
-asked_fault (Some Help) given Read fails = absurd fails
-asked_fault (Some Help) given Write fails = absurd fails
-asked_fault (Some Help) given NoMemory fails = absurd fails
-asked_fault (Some Version) given BadWords fails = absurd fails
-asked_fault (Some Version) given BadWord fails = absurd fails
-asked_fault (Some Version) given BadRequest fails = absurd fails
-asked_fault (Some Version) given Read fails = absurd fails
-asked_fault (Some Version) given Write fails = absurd fails
-asked_fault (Some Version) given NoMemory fails = absurd fails
-asked_fault (Some (Why origins file)) given Read fails = (λ two. absurd (cc), λ faulty. absurd faulty)
-asked_fault (Some (Why origins file)) given NoMemory fails = (λ two. absurd (cc), λ faulty. absurd faulty)
-asked_fault (Some (Why origins file)) given BadWords fails = absurd fails
-asked_fault (Some (Why origins file)) given BadWord fails = absurd fails
-asked_fault (Some (Why origins file)) given BadRequest fails = absurd fails
-asked_fault (Some (Why origins file)) given Write fails = absurd fails
-asked_fault (Some (Heap report why file)) given Read fails = (λ two. absurd (cc), λ faulty. absurd faulty)
-asked_fault (Some (Heap report why file)) given NoMemory fails = (λ two. absurd (cc), λ faulty. absurd faulty)
-asked_fault (Some (Heap report why file)) given BadWords fails = absurd fails
-asked_fault (Some (Heap report why file)) given BadWord fails = absurd fails
-asked_fault (Some (Heap report why file)) given BadRequest fails = absurd fails
-asked_fault (Some (Heap report why file)) given Write fails = absurd fails
+asked_fault (Some Help) given fault fails = absurd fails
+asked_fault (Some Version) given fault fails = absurd fails
+asked_fault (Some (Why origins file)) given fault fails = stopped_unfaulty (IsAnswerOf given true) fault fails
+asked_fault (Some (Heap report why file)) given fault fails = stopped_unfaulty (IsHeapAnswerOf given true) fault fails
 
 -- the meaning of an order, its faults and its status agree
 pub orders_meant : IsMeant order_meaning

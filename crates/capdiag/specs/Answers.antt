@@ -2,16 +2,25 @@
 -- profile's own.
 use Rattle.std.specs.Prelude.{◌≡◌, ℕ, Bool, true, List, Option, Some, None, IfSome, codes}
 use Rattle.cap_judge.specs.declared.verdict.Verdict.{Verdict}
+use Rattle.cap_judge.specs.Judgings.{IsAnswerOf}
+use Rattle.cap_judge.specs.VerdictLines.{verdict_status}
 use Rattle.cap_judge.specs.Verdicts.{IsVerdict}
+use Rattle.cap_heap.specs.HeapVerdicts.{IsHeapAnswerOf}
+use Rattle.cap_heap.specs.VerdictLines.{TellsHeap, heap_status}
 use Rattle.cap_report.specs.Whys.{Explains}
 use Rattle.cap_program.specs.Commands.{Meaning}
 use Rattle.cap_program.specs.declared.faults.Fault.{Fault}
 use Rattle.cap_program.specs.declared.faults.Fault.TheVariants.{BadWords}
-use Rattle.cap_status.specs.Judging.{ShowsVerdict, StopsJudging, verdict_status}
+use Rattle.cap_program.specs.Judging.{ShowsVerdict, StopsJudging}
 use Rattle.capdiag.specs.declared.words.Order.{Order}
 use Rattle.capdiag.specs.declared.words.Order.TheVariants.{Help, Version, Why, Heap}
-use Rattle.capdiag.specs.Heaps.{ShowsHeap, StopsHeap}
 use Rattle.capdiag.specs.Showings.{help_text, version_line}
+
+-- the text of the verdict on the bytes given as an allocator's log, with the reports of a yes and of a no where they are
+-- asked for, and its status
+abbrev pub ShowsHeap : Bool → Bool → List ℕ → Bool → List ℕ → ℕ → Type 0
+ShowsHeap report why given ended text status =
+    ShowsVerdict heap_status (IsHeapAnswerOf given ended) (TellsHeap report why given ended) text status
 
 -- the text that an order prints, and its status: that of the verdict on its bytes, with the report of a no and the
 -- origins that are asked for; or that of the verdict on them as an allocator's log, with the reports that are asked for
@@ -41,14 +50,15 @@ abbrev pub Shows : Option Order → List ℕ → Bool → List ℕ → ℕ → T
 Shows None given ended text status = ⊥
 Shows (Some Help) given ended text status = (text ≡ help_text) × (status ≡ 0)
 Shows (Some Version) given ended text status = (text ≡ version_line) × (status ≡ 0)
-Shows (Some (Why origins file)) given ended text status = ShowsVerdict (Explains origins given ended) given ended text status
+Shows (Some (Why origins file)) given ended text status =
+    ShowsVerdict verdict_status (IsAnswerOf given ended) (Explains origins given ended) text status
 Shows (Some (Heap report why file)) given ended text status = ShowsHeap report why given ended text status
 
 -- the fault that belongs to an order and the bytes given for it, but for one of the output
 abbrev pub Fails : Option Order → List ℕ → Fault → Type 0
 Fails None given BadWords = Unit {0}
-Fails (Some (Why origins file)) given fault = StopsJudging given fault
-Fails (Some (Heap report why file)) given fault = StopsHeap given fault
+Fails (Some (Why origins file)) given fault = StopsJudging (IsAnswerOf given true) fault
+Fails (Some (Heap report why file)) given fault = StopsJudging (IsHeapAnswerOf given true) fault
 Fails order given fault = ⊥
 
 -- what the orders of the program mean

@@ -1,5 +1,4 @@
 pub mod Complaints
 pub mod Showings
 pub mod Orders
-pub mod Heaps
 pub mod Answers

@@ -1,14 +1,16 @@
 //! Judging an input, and pushing the verdict with the diagnosis.
 
-ghost use Rattle.std.specs.Prelude.{ℕ, List};
+ghost use Rattle.std.specs.Prelude.{◌≡◌, ℕ, List, true};
 ghost use Rattle.cap_program.specs.Doings.{IsCounted, IsDone};
-ghost use Rattle.cap_status.specs.Judging.{ShowsVerdict, StopsJudging};
+ghost use Rattle.cap_program.specs.Judging.{ShowsVerdict, StopsJudging, judged};
+ghost use Rattle.cap_judge.specs.Judgings.{IsAnswerOf};
+ghost use Rattle.cap_judge.specs.VerdictLines.{verdict_status};
 ghost use Rattle.cap_report.specs.Whys.{Explains};
 
+use cap_judge::{JudgeToFault, Verdict, verdict_status};
 use cap_log::{Sink, Source};
-use cap_program::Fault;
+use cap_program::{Fault, fault_of};
 use cap_report::judge_why;
-use cap_status::judged;
 use std::alloc::Global;
 
 /// Judges what a source gives, pushes the line of the verdict, after a `no` with the report and after a `yes` with
@@ -20,10 +22,20 @@ pub fn explain_source<S: Source, K: Sink>(
     sink: &mut K,
 ) -> Result<u8, Fault>
     ensures done { (given : List ℕ) × S.gave source.old source.new given
-        × IsDone (ShowsVerdict (Explains origins given (S.ended source.new)) given (S.ended source.new)) (StopsJudging given)
-        (K.took sink.old sink.new) result }
+        × IsDone (ShowsVerdict verdict_status (IsAnswerOf given (S.ended source.new)) (Explains origins given (S.ended source.new)))
+        (StopsJudging (IsAnswerOf given true)) (K.took sink.old sink.new) result }
     ensures read { IsCounted Fault.Read result (S.faults source.old) (S.faults source.new) }
     ensures written { IsCounted Fault.Write result (K.faults sink.old) (K.faults sink.new) }
 {
     judged(judge_why(alloc, origins, source, sink))
+}
+
+// The status that goes with a verdict, or the fault that came instead.
+fn judged(answer: Result<Verdict, JudgeToFault>) -> Result<u8, Fault>
+    ensures value { result ≡ judged verdict_status answer }
+{
+    match answer {
+        Ok(verdict) => Ok(verdict_status(&verdict)),
+        Err(fault) => Err(fault_of(fault)),
+    }
 }

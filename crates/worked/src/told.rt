@@ -1,9 +1,9 @@
 //! What is told of a log: its origins if it is accepted, and else its diagnosis.
 
 use cap_judge::{Verdict, push_report};
-use cap_log::{Line, SliceSink, SliceSource, read_line};
+use cap_log::{Line, SliceSink, read_line};
 use cap_machine::Machine;
-use cap_report::judge_why_in;
+use cap_report::judge_why_bytes;
 use std::alloc::Global;
 use tagmem::{ListStore, TaggedStore};
 
@@ -19,9 +19,8 @@ pub fn text_holds(alloc: Global, log: &[u8], verdict: Verdict, text: &[u8]) -> b
 fn is_told(alloc: Global, log: &[u8], text: &[u8]) -> bool {
     let mut room = [b'.'; ROOM];
     let mut sink = SliceSink::new(&mut room);
-    let mut source = SliceSource::new(log, &[]);
     let memory = ListStore::new(alloc);
-    let is_told = memory.count() == 0 && judge_why_in(true, &mut source, memory, &mut sink).is_ok();
+    let is_told = memory.count() == 0 && judge_why_bytes(true, log, memory, &mut sink).is_ok();
     let taken = sink.taken();
     is_told && taken == text.len() && room.starts_with(text)
 }

@@ -1,6 +1,6 @@
 //! Calls of the judges of allocators' logs.
 
-use cap_heap::{HeapVerdict, heap_text, judge_heap, judge_heap_why};
+use cap_heap::{HeapVerdict, heap_text, judge_heap, judge_heap_to};
 use cap_log::{SliceSink, SliceSource};
 use std::alloc::{AllocError, Global};
 
@@ -32,6 +32,13 @@ fn judged(alloc: Global, log: &[u8], lengths: &[usize]) -> Option<HeapVerdict> {
 // How many bytes a judge that tells all writes into a room.
 fn written(alloc: Global, log: &[u8], room: &mut [u8]) -> usize {
     let mut sink = SliceSink::new(room);
-    let is_told = judge_heap_why(alloc, true, &mut SliceSource::new(log, &[]), &mut sink).is_ok();
+    let is_told = judge_heap_to(
+        alloc,
+        true,
+        true,
+        &mut SliceSource::new(log, &[]),
+        &mut sink,
+    )
+    .is_ok();
     if is_told { sink.taken() } else { 0 }
 }

@@ -1,6 +1,6 @@
 use Rattle.std.proofs.Common.{◌≤◌, ◌-◌, arith, drop, length, take}
 use Rattle.std.proofs.lemmas.List.{length-drop, take_all}
-use Rattle.cap_judge.specs.FaultLines.{bytes_of}
+use Rattle.cap_log.specs.FaultLines.{bytes_of}
 use Rattle.cap_judge.specs.Readings.{known_of}
 use Rattle.cap_judge.proofs.KeepingLemmas.{all_judged, all_lack, cut_ends, fault_ends}
 use Rattle.cap_judge.proofs.SourceLemmas.{bytes_lack}

@@ -2,7 +2,7 @@ use Rattle.std.proofs.Common.{◌≡◌, ◌≢◌, ◌++◌, [], ℕ, List, app
 use Rattle.std.proofs.lemmas.List.Elements.{All-nil}
 use Rattle.cap_log.specs.Front.{IsCut}
 use Rattle.cap_log.specs.Pulled.{items}
-use Rattle.cap_judge.specs.FaultLines.{bytes_of}
+use Rattle.cap_log.specs.FaultLines.{bytes_of}
 use Rattle.cap_judge.specs.Readings.{EndsWith, known_of}
 use Rattle.cap_judge.proofs.SourceLemmas.{closer, ended_judged, fault_judged, given_more, lacking_judged, nothing_clear, nothing_more}
 use Rattle.cap_judge.proofs.SourceLemmas.{pull_judged}

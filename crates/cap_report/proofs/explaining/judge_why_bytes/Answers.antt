@@ -1,5 +1,5 @@
 use Rattle.std.proofs.Common.{subst}
-use Rattle.cap_judge.specs.FaultLines.{bytes_of}
+use Rattle.cap_log.specs.FaultLines.{bytes_of}
 use Rattle.cap_judge.specs.Judgings.{JudgedAll}
 use Rattle.cap_judge.proofs.EscapeLaws.{named}
 use Rattle.cap_judge.proofs.ReportLemmas.{IsHeld}

@@ -1,6 +1,6 @@
 use Rattle.std.proofs.Common.{◌++◌, arith, subst}
 use Rattle.cap_machine.specs.Helds.{account_of}
-use Rattle.cap_judge.specs.FaultLines.{bytes_of}
+use Rattle.cap_log.specs.FaultLines.{bytes_of}
 use Rattle.cap_judge.specs.Readings.{known_of}
 use Rattle.cap_judge.specs.VerdictLines.{verdict_line}
 use Rattle.cap_judge.specs.declared.verdict.Verdict.TheVariants.{No}

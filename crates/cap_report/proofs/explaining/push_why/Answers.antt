@@ -1,5 +1,5 @@
-use Rattle.std.proofs.Common.{◌++◌, true, false}
-use Rattle.cap_judge.specs.FaultLines.{bytes_of}
+use Rattle.std.proofs.Common.{◌++◌, true, false, subst, sym, take}
+use Rattle.cap_log.specs.FaultLines.{bytes_of}
 use Rattle.cap_judge.specs.OriginLists.{report_text}
 use Rattle.cap_judge.specs.VerdictLines.{verdict_line}
 use Rattle.cap_report.proofs.WhyLemmas.{on_ok, on_err, why_yes, why_no}
@@ -53,20 +53,19 @@ pub returns-in-No-clause-ok : goal.returns-in-No-clause-ok
 returns-in-No-clause-ok g c =
     let held = c.args.machine.now in
     let line = bytes_of c.args.fault.now in
-    on_ok c.push_no.result (λ p. (
+    on_ok c.push_fault.result (λ p. (
       verdict_line c.args.verdict.now ++ p.0,
-      why_no c.args.origins held line c.args.verdict.now c.in-No.line
-          c.in-No.refusal p.0 c.in-No.is p.1,
-      p.2,
-    )) c.push_no.ensures.ok
+      why_no c.args.origins held line c.args.verdict.now c.in-No.line c.in-No.refusal p.0 c.in-No.is p.1,
+      subst (λ v. g.K.Sink.took c.args.sink.now c.push_fault.new.sink (verdict_line v ++ p.0)) (sym c.in-No.is) p.2,
+    )) c.push_fault.ensures.ok
 
 pub returns-in-No-clause-err : goal.returns-in-No-clause-err
 returns-in-No-clause-err g c =
     let held = c.args.machine.now in
     let line = bytes_of c.args.fault.now in
-    on_err c.push_no.result (λ p. (
+    on_err c.push_fault.result (λ p. (
       verdict_line c.args.verdict.now ++ p.0,
       why_no c.args.origins held line c.args.verdict.now c.in-No.line c.in-No.refusal p.0 c.in-No.is p.1,
       p.2,
-      p.3,
-    )) c.push_no.ensures.err
+      subst (λ v. g.K.Sink.took c.args.sink.now c.push_fault.new.sink (take p.2 (verdict_line v ++ p.0))) (sym c.in-No.is) p.3,
+    )) c.push_fault.ensures.err

@@ -1,10 +1,13 @@
-use Rattle.std.proofs.Common.{ℕ, Result, subst, sym}
+use Rattle.std.proofs.Common.{ℕ, Result, subst, sym, true}
 use Rattle.cap_judge.specs.Reports.{Tells}
 use Rattle.cap_program.specs.declared.faults.Fault.{Fault}
 use Rattle.cap_program.specs.declared.faults.Fault.TheVariants.{Read, Write}
 use Rattle.cap_program.specs.Doings.{IsCounted, IsDone}
-use Rattle.cap_status.specs.Judging.{ShowsVerdict, StopsJudging}
-use Rattle.cap_status.proofs.Judgements.{judged_done, judged_read, judged_written}
+use Rattle.cap_judge.specs.Judgings.{IsAnswerOf}
+use Rattle.cap_judge.specs.VerdictLines.{verdict_status}
+use Rattle.cap_program.specs.Judging.{ShowsVerdict, StopsJudging}
+use Rattle.cap_program.proofs.Judgements.{judged_read, judged_written}
+use Rattle.capcheck.proofs.RunLemmas.{judged_done}
 use Rattle.capcheck.proofs.judging.judge_source.Goals as goal
 
 pub returns : goal.returns
@@ -17,11 +20,11 @@ returns g c =
       done = (
         r.given,
         r.gives,
-        subst (IsDone (ShowsVerdict (Tells c.args.origins r.given) r.given ended) (StopsJudging r.given) took) is
+        subst (IsDone (ShowsVerdict verdict_status (IsAnswerOf r.given ended) (Tells c.args.origins r.given)) (StopsJudging (IsAnswerOf r.given true)) took) is
             (judged_done (Tells c.args.origins r.given) r.given ended took c.report.result r.report),
       );
       read = subst (λ (d : Result ℕ Fault). IsCounted Read d (g.S.Source.faults c.args.source.now) (g.S.Source.faults c.report.new.source)) is
-          (judged_read _ _ c.report.result e.pulls_counted.0 e.pulls_counted.1);
+          (judged_read verdict_status _ _ c.report.result e.pulls_counted.0 e.pulls_counted.1);
       written = subst (λ (d : Result ℕ Fault). IsCounted Write d (g.K.Sink.faults c.args.sink.now) (g.K.Sink.faults c.report.new.sink)) is
-          (judged_written _ _ c.report.result e.pushes_counted.0 e.pushes_counted.1);
+          (judged_written verdict_status _ _ c.report.result e.pushes_counted.0 e.pushes_counted.1);
     }

@@ -1,10 +1,13 @@
-use Rattle.std.proofs.Common.{ℕ, Result, subst, sym}
+use Rattle.std.proofs.Common.{ℕ, Result, subst, sym, true}
 use Rattle.cap_report.specs.Whys.{Explains}
 use Rattle.cap_program.specs.declared.faults.Fault.{Fault}
 use Rattle.cap_program.specs.declared.faults.Fault.TheVariants.{Read, Write}
 use Rattle.cap_program.specs.Doings.{IsCounted, IsDone}
-use Rattle.cap_status.specs.Judging.{ShowsVerdict, StopsJudging}
-use Rattle.cap_status.proofs.Judgements.{judged_done, judged_read, judged_written}
+use Rattle.cap_judge.specs.Judgings.{IsAnswerOf}
+use Rattle.cap_judge.specs.VerdictLines.{verdict_status}
+use Rattle.cap_program.specs.Judging.{ShowsVerdict, StopsJudging}
+use Rattle.cap_program.proofs.Judgements.{judged_read, judged_written}
+use Rattle.capdiag.proofs.RunLemmas.{judged_done}
 use Rattle.capdiag.proofs.explaining.explain_source.Goals as goal
 
 pub returns : goal.returns
@@ -17,11 +20,11 @@ returns g c =
       done = (
         r.given,
         r.gives,
-        subst (IsDone (ShowsVerdict (Explains c.args.origins r.given ended) r.given ended) (StopsJudging r.given) took) is
+        subst (IsDone (ShowsVerdict verdict_status (IsAnswerOf r.given ended) (Explains c.args.origins r.given ended)) (StopsJudging (IsAnswerOf r.given true)) took) is
             (judged_done (Explains c.args.origins r.given ended) r.given ended took c.judge_why.result r.report),
       );
       read = subst (λ (d : Result ℕ Fault). IsCounted Read d (g.S.Source.faults c.args.source.now) (g.S.Source.faults c.judge_why.new.source)) is
-          (judged_read _ _ c.judge_why.result e.pulls_counted.0 e.pulls_counted.1);
+          (judged_read verdict_status _ _ c.judge_why.result e.pulls_counted.0 e.pulls_counted.1);
       written = subst (λ (d : Result ℕ Fault). IsCounted Write d (g.K.Sink.faults c.args.sink.now) (g.K.Sink.faults c.judge_why.new.sink)) is
-          (judged_written _ _ c.judge_why.result e.pushes_counted.0 e.pushes_counted.1);
+          (judged_written verdict_status _ _ c.judge_why.result e.pushes_counted.0 e.pushes_counted.1);
     }

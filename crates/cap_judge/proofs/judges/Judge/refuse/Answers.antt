@@ -1,7 +1,7 @@
 use Rattle.std.proofs.Common.{sym, subst}
 use Rattle.cap_ops.specs.declared.refusal.Refusal.{Refusal}
 use Rattle.cap_machine.specs.declared.ends.StepEnd.TheVariants.{Refused}
-use Rattle.cap_judge.specs.FaultLines.{bytes_of}
+use Rattle.cap_log.specs.FaultLines.{bytes_of}
 use Rattle.cap_judge.specs.Readings.{EndsAt, known_of}
 use Rattle.cap_judge.proofs.ReadingLemmas.{fault_read, fault_front}
 use Rattle.cap_judge.proofs.judges.Judge.refuse.Goals as goal

@@ -1,4 +1,5 @@
 use Rattle.std.proofs.Common.{[], sym, subst, Some}
+use Rattle.cap_judge.proofs.ReportLemmas.{nothing_given}
 use Rattle.cap_program.specs.Doings.{IsDone, ended_by}
 use Rattle.cap_program.specs.declared.faults.Fault.TheVariants.{Read}
 use Rattle.cap_program.proofs.Doing.{followed_missing, followed_unread}
@@ -35,5 +36,13 @@ pub returns-in-None-input : goal.returns-in-None-input
 returns-in-None-input g c = record {
   followed = followed_missing order_meaning (Some c.args.self) g.S.Source.gave g.S.Source.ended g.S.Source.faults g.K.Sink.took
       g.K.Sink.faults c.args.input.now c.args.out.now c.in-None-input.is (g.met.K.Sink.nothing c.args.out.now)
-      (subst (λ (o : Order). Fails (Some o) [] Read) (sym c.in-Heap.is) nothing_begins);
+      (subst (λ (o : Order). Fails (Some o) [] Read) (sym c.in-Heap.is)
+      (record { verdict = tt; optimal = tt; fault = nothing_begins }));
+}
+
+pub returns-in-None : goal.returns-in-None
+returns-in-None g c = record {
+  followed = followed_missing order_meaning (Some c.args.self) g.S.Source.gave g.S.Source.ended g.S.Source.faults g.K.Sink.took
+      g.K.Sink.faults c.args.input.now c.args.out.now c.in-None.is (g.met.K.Sink.nothing c.args.out.now)
+      (subst (λ (o : Order). Fails (Some o) [] Read) (sym c.in-Why.is) nothing_given);
 }

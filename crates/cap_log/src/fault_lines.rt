@@ -2,7 +2,8 @@
 
 ghost use Rattle.std.specs.Prelude.{◌≡◌, ◌≤◌, [], length};
 
-use cap_log::{Front, front};
+use crate::fronts::front;
+use crate::lines::Front;
 
 /// The bytes of the faulty line, without its line feed: the first 96 if no line feed comes by then, or those up to
 /// the end of the input.
@@ -14,7 +15,7 @@ pub struct FaultLine {
 }
 
 impl FaultLine {
-    ghost use Rattle.cap_judge.specs.FaultLines.{bytes_of};
+    ghost use Rattle.cap_log.specs.FaultLines.{bytes_of};
     ghost use Rattle.cap_log.specs.Front.{IsFrontText};
 
     /// No bytes.

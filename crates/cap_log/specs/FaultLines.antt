@@ -1,7 +1,7 @@
 -- The line at which a judge stopped (this profile's own).
 use Rattle.std.specs.Prelude.{◌≡◌, List, take}
 use Rattle.std.specs.Prelude.{ℕ}
-use Rattle.cap_judge.specs.declared.fault_lines.FaultLine.{FaultLine}
+use Rattle.cap_log.specs.declared.fault_lines.FaultLine.{FaultLine}
 
 -- the bytes that are held of a line
 abbrev pub bytes_of : FaultLine → List ℕ

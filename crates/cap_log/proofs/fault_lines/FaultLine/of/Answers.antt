@@ -3,8 +3,8 @@ use Rattle.std.proofs.lemmas.List.{length-take-le, take_all, take_at}
 use Rattle.cap_log.specs.Front.{IsFront, IsFrontText}
 use Rattle.cap_log.specs.declared.lines.Front.{Front}
 use Rattle.cap_log.specs.declared.lines.Front.TheVariants.{Line, TooLong, Cut}
-use Rattle.cap_judge.proofs.fault_lines.FaultLine.of.Goals.{in-Line, in-TooLong, in-Cut}
-use Rattle.cap_judge.proofs.fault_lines.FaultLine.of.Goals as goal
+use Rattle.cap_log.proofs.fault_lines.FaultLine.of.Goals.{in-Line, in-TooLong, in-Cut}
+use Rattle.cap_log.proofs.fault_lines.FaultLine.of.Goals as goal
 
 -- How many bytes are held of a front.
 abbrev held : List ℕ → Front → ℕ

@@ -1,0 +1,10 @@
+-- Why a judge gave no verdict. All of it is this profile's own.
+use Rattle.cap_log.specs.declared.judge_faults.JudgeFault.{JudgeFault}
+use Rattle.cap_log.specs.declared.judge_faults.JudgeFault.TheVariants as judge_faults
+use Rattle.cap_log.specs.declared.judge_faults.JudgeToFault.{JudgeToFault}
+use Rattle.cap_log.specs.declared.judge_faults.JudgeToFault.TheVariants.{Pull, NoMemory}
+
+-- the fault of a judge that writes where the judging has one
+abbrev pub told_fault : JudgeFault → JudgeToFault
+told_fault judge_faults.Pull = Pull
+told_fault judge_faults.NoMemory = NoMemory
