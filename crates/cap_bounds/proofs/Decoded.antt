@@ -207,24 +207,11 @@ length_shifted e d he hd = shl_whole d 13 e 128 hd (omega arith)
 pub length_at-lt : (e d : ℕ) → e ≤ 52 → d < 2 ^ 13 → d * 2 ^ e < 2 ^ 65
 length_at-lt e d he hd = omega (arith, shl_below d 13 e hd, pow_le (13 + e) 65 (omega arith))
 
-module _ (w e b d a raw : ℕ) (e_is : e ≡ cut_exponent_of w) (b_is : b ≡ b_of w) (d_is : d ≡ span_at (b_of w) (t_of w) (ie_of w))
-    (a_is : a ≡ address_of w) (raw_is : raw ≡ raw_base_at e b a) where
-  raw_of : raw ≡ raw_base_at (cut_exponent_of w) (b_of w) (address_of w)
-  raw_of = raw_is ∙ ap (λ (x : ℕ). raw_base_at x b a) e_is ∙ ap (λ (x : ℕ). raw_base_at (cut_exponent_of w) x a) b_is
-      ∙ ap (λ (x : ℕ). raw_base_at (cut_exponent_of w) (b_of w) x) a_is
-
-  pub decoded_base : raw % 2 ^ 64 ≡ base_of w
-  unfolding base_of
-  decoded_base = ap (λ (x : ℕ). x % 2 ^ 64) raw_of
-
-  pub decoded_length : d * 2 ^ e ≡ length_of w
-  decoded_length = ap (λ (x : ℕ). x * 2 ^ e) d_is ∙ ap (λ (x : ℕ). span_at (b_of w) (t_of w) (ie_of w) * 2 ^ x) e_is ∙ sym (length_is w)
-
-  pub decoded_top : top_at e raw (d * 2 ^ e) ≡ top_of w
-  unfolding top_of
-  decoded_top =
-      ap (λ (x : ℕ). top_at e raw x) decoded_length ∙ ap (λ (x : ℕ). top_at x raw (length_of w)) e_is
-      ∙ ap (λ (x : ℕ). top_at (cut_exponent_of w) x (length_of w)) raw_of
+-- the bounds and the length of a word, from what it decodes to
+pub decoded : (w e b d a : ℕ) → e ≡ cut_exponent_of w → b ≡ b_of w → d ≡ span_at (b_of w) (t_of w) (ie_of w) → a ≡ address_of w
+    → (raw_base_at e b a % 2 ^ 64 ≡ base_of w) × (d * 2 ^ e ≡ length_of w) × (top_at e (raw_base_at e b a) (d * 2 ^ e) ≡ top_of w)
+unfolding base_of top_of length_of
+decoded w e b d a e_is b_is d_is a_is = rw (e_is, b_is, d_is, a_is) (refl, refl, refl)
 
 -- a base has 64 bits, and a top 65
 pub base_of-lt : (w : ℕ) → base_of w < 2 ^ 64

@@ -14,8 +14,7 @@ use Rattle.cap_bounds.proofs.Residues.{IsResidue-unique, mul-mod-mul}
 use Rattle.cap_bounds.proofs.Windows.{eighth_of}
 use Rattle.cap_bounds.proofs.Powers.{pow_split, grain_is}
 use Rattle.cap_bounds.proofs.Decoded.{window_start_at-le, window_start_at-gt, raw_base_at-residue}
-use Rattle.cap_bounds.proofs.Decoded.{top_at-corrected, top_at-uncorrected, decoded_base}
-use Rattle.cap_bounds.proofs.Decoded.{decoded_length, decoded_top}
+use Rattle.cap_bounds.proofs.Decoded.{top_at-corrected, top_at-uncorrected, decoded}
 use Rattle.cap_bounds.proofs.Units.{covered-ge, covered-lt, many, down-le, down-gt, down-le-up}
 use Rattle.cap_bounds.proofs.LeastExponents.{IsLeastExponent-rounded, rounded_exponent-short, rounded_exponent-le}
 use Rattle.cap_bounds.proofs.Roundings.{grain_of, rounded_base-short, rounded_top-short}
@@ -128,13 +127,11 @@ module _ (w : ℕ) (ie : Bool) (e b t a base length top : ℕ) (a_fits : a < 2 ^
       let d_is : span_at b (t % 2 ^ 12) ie ≡ span_at (b_of v) (t_of v) (ie_of v) =
       ap (λ (x : ℕ). span_at x (t % 2 ^ 12) ie) b_is ∙ ap (λ (x : ℕ). span_at (b_of v) x ie) t_is
       ∙ ap (λ (x : Bool). span_at (b_of v) (t_of v) x) ie_is in
-      let raw = sym raw_is in
+      let is = decoded v e b (span_at b (t % 2 ^ 12) ie) a e_is b_is d_is a_is in
       record {
-        base_is = sym (decoded_base v e b (span_at b (t % 2 ^ 12) ie) a (base + 2 ^ 66) e_is b_is d_is a_is raw)
-            ∙ (let r : (base + 2 ^ 66) % 2 ^ 64 ≡ base = omega arith in r);
-        length_is = sym (decoded_length v e b (span_at b (t % 2 ^ 12) ie) a (base + 2 ^ 66) e_is b_is d_is a_is raw) ∙ length_is;
-        top_is =
-            sym (decoded_top v e b (span_at b (t % 2 ^ 12) ie) a (base + 2 ^ 66) e_is b_is d_is a_is raw)
+        base_is = sym is.0 ∙ ap (λ (x : ℕ). x % 2 ^ 64) raw_is ∙ (let r : (base + 2 ^ 66) % 2 ^ 64 ≡ base = omega arith in r);
+        length_is = sym is.1 ∙ length_is;
+        top_is = sym is.2 ∙ ap (λ (x : ℕ). top_at e x (span_at b (t % 2 ^ 12) ie * 2 ^ e)) raw_is
             ∙ ap (λ (x : ℕ). top_at e (base + 2 ^ 66) x) length_is ∙ top_whole;
       }
 
@@ -265,13 +262,7 @@ pub decodes : (w v : ℕ) (ie : Bool) (e b t address base length : ℕ) → v �
     → length < 2 ^ 64 → base + length ≤ 2 ^ 64 → address ≡ base → HasRounding ie e b t base length
     → (base_of v ≡ rounded_base base length) × (top_of v ≡ rounded_top base length) × IsSound v
 decodes w v ie e b t address base length is fits l_fits within at r =
-    let same : v ≡ rounded_word w base length =
-    is ∙ ap (λ (x : Bool). bounded_word w x e b t address) r.0 ∙ ap (λ (x : ℕ). bounded_word w (rounded_ie length) x b t address) r.1
-    ∙ ap (λ (x : ℕ). bounded_word w (rounded_ie length) (rounded_exponent base length) x t address) r.2
-    ∙ ap (λ (x : ℕ). bounded_word w (rounded_ie length) (rounded_exponent base length) (rounded_b base length) x address) r.3
-    ∙ ap (λ (x : ℕ). bounded_word w (rounded_ie length) (rounded_exponent base length) (rounded_b base length)
-    (rounded_t base length) x) at in
-    subst (λ (x : ℕ). (base_of x ≡ rounded_base base length) × (top_of x ≡ rounded_top base length) × IsSound x) (sym same) (
+    rw (is, r.0, r.1, r.2, r.3, at) (
       base_of-rounded_word w base length fits l_fits within,
       top_of-rounded_word w base length fits l_fits within,
       IsSound-rounded_word w base length fits l_fits within,
