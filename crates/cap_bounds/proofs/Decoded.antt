@@ -26,9 +26,7 @@ t_of-lt w = grind (arith, nat_tests)
 
 pub window_start_coded : (w e b a : ℕ) → e ≡ cut_exponent_of w → b ≡ b_of w → a ≡ address_of w → window_start_at e b a ≡ window_start w
 unfolding window_start
-window_start_coded w e b a e_is b_is a_is =
-    ap (λ (x : ℕ). window_start_at x b a) e_is ∙ ap (λ (x : ℕ). window_start_at (cut_exponent_of w) x a) b_is
-    ∙ ap (λ (x : ℕ). window_start_at (cut_exponent_of w) (b_of w) x) a_is
+window_start_coded w e b a e_is b_is a_is = rw (e_is, b_is, a_is) refl
 
 module _ (e b a : ℕ) (he : e ≤ 52) (hb : b < 2 ^ 14) where
   high : 2 ^ (e + 14) ≤ a + 2 ^ 66

@@ -181,13 +181,9 @@ HasBounds-short w b l short fits within =
     let base_is : rounded_base b l ≡ b = rounded_base-short b l short in
     let top_is : rounded_top b l ≡ b + l = rounded_top-short b l short in
     let raw : raw_base_at (rounded_exponent b l) (rounded_b b l) b ≡ rounded_base b l + 2 ^ 66 =
-    ap (λ (x : ℕ). raw_base_at x (rounded_b b l) b) e_is ∙ ap (λ (x : ℕ). raw_base_at 0 x b) (sym (short_b b l short))
-    ∙ raw_base_at-short b ∙ ap (λ (x : ℕ). x + 2 ^ 66) (sym base_is) in
+    rw (sym (short_b b l short), e_is, base_is) (raw_base_at-short b) in
     let span : span_at (rounded_b b l) (rounded_t b l % 2 ^ 12) (rounded_ie l) * 2 ^ rounded_exponent b l ≡ l =
-    ap (λ (x : ℕ). span_at (rounded_b b l) (rounded_t b l % 2 ^ 12) (rounded_ie l) * 2 ^ x) e_is
-    ∙ ap (λ (x : Bool). span_at (rounded_b b l) (rounded_t b l % 2 ^ 12) x * 2 ^ 0) (rounded_ie-short l short)
-    ∙ ap (λ (x : ℕ). span_at x (rounded_t b l % 2 ^ 12) false * 2 ^ 0) (sym (short_b b l short))
-    ∙ ap (λ (x : ℕ). span_at (b % 2 ^ 14) (x % 2 ^ 12) false * 2 ^ 0) (sym (short_t b l short)) ∙ span-short b l short in
+    rw (sym (short_b b l short), sym (short_t b l short), e_is, rounded_ie-short l short) (span-short b l short) in
     HasBounds-bounded_word w (rounded_ie l) (rounded_exponent b l) (rounded_b b l) (rounded_t b l) b (rounded_base b l) l
     (rounded_top b l) fits
     (AreFields-rounded b l (omega arith)) (omega arith) raw span (omega arith) (omega arith) (omega arith)
@@ -205,9 +201,8 @@ HasBounds-long w b l long l_fits fits within =
     let order : lo ≤ hi = down-le-up b l (grain_of b l) (pow_pos (e + 3)) in
     let sum : lo + (hi - lo) ≡ hi = omega arith in
     let raw : raw_base_at e (rounded_b b l) b ≡ rounded_base b l + 2 ^ 66 =
-    ap (λ (x : ℕ). raw_base_at e x b) (rounded_b-long b l long)
-    ∙ raw_base_at-grain e lo b least.within (down-le b (grain_of b l)) (down-gt b (grain_of b l) (pow_pos (e + 3)))
-    ∙ ap (λ (x : ℕ). x + 2 ^ 66) (sym base_is) in
+    rw (rounded_b-long b l long, base_is)
+    (raw_base_at-grain e lo b least.within (down-le b (grain_of b l)) (down-gt b (grain_of b l) (pow_pos (e + 3)))) in
     let whole : lo * grain_of b l + (hi - lo) * grain_of b l
     ≡ hi * grain_of b l = (let r : lo * grain_of b l + (hi - lo) * grain_of b l ≡ (lo + (hi - lo)) * grain_of b l = omega arith in r)
     ∙ ap (λ (x : ℕ). x * grain_of b l) sum in
@@ -215,10 +210,8 @@ HasBounds-long w b l long l_fits fits within =
     ≡ (hi - lo) * grain_of b l = (let r : 8 * (hi - lo) * 2 ^ e ≡ (hi - lo) * (8 * 2 ^ e) = omega arith in r)
     ∙ ap (λ (x : ℕ). (hi - lo) * x) (sym (grain_is e)) in
     let span : span_at (rounded_b b l) (rounded_t b l % 2 ^ 12) (rounded_ie l) * 2 ^ e ≡ rounded_top b l - rounded_base b l =
-    ap (λ (x : Bool). span_at (rounded_b b l) (rounded_t b l % 2 ^ 12) x * 2 ^ e) (rounded_ie-long l long)
-    ∙ ap (λ (x : ℕ). span_at x (rounded_t b l % 2 ^ 12) true * 2 ^ e) (rounded_b-long b l long)
-    ∙ ap (λ (x : ℕ). span_at (8 * lo % 2 ^ 14) (x % 2 ^ 12) true * 2 ^ e) (rounded_t-long b l long)
-    ∙ ap (λ (x : ℕ). x * 2 ^ e) (span-long lo hi (hi - lo) sum (units-ge b l e long least) least.fits) ∙ scaled ∙ omega arith in
+    rw (rounded_b-long b l long, rounded_t-long b l long, rounded_ie-long l long)
+    (ap (λ (x : ℕ). x * 2 ^ e) (span-long lo hi (hi - lo) sum (units-ge b l e long least) least.fits) ∙ scaled ∙ omega arith) in
     HasBounds-bounded_word w (rounded_ie l) e (rounded_b b l) (rounded_t b l) b (rounded_base b l) (rounded_top b l - rounded_base b l)
     (rounded_top b l) fits
     (AreFields-rounded b l l_fits) least.within raw span (omega arith) (omega (arith, rounded_base-le b l))

@@ -1,5 +1,5 @@
 -- The bounds of a rounded request.
-use Rattle.std.proofs.Common.{◌≡◌, ℕ, ◌+◌, ◌-◌, ◌*◌, ◌/◌, ◌%◌, ◌^◌, ◌<◌, ◌≤◌, true, false, sym, ap, ◌∙◌, inl, inr, arith}
+use Rattle.std.proofs.Common.{◌≡◌, ℕ, ◌+◌, ◌-◌, ◌*◌, ◌/◌, ◌%◌, ◌^◌, ◌<◌, ◌≤◌, true, false, sym, ap, ◌∙◌, inl, inr, refl, arith}
 use Rattle.std.proofs.Math.Nat.{mul-le-mul_right, mul-div_cancel, mod-eq_of_lt, div-one}
 use Rattle.std.proofs.lemmas.Nat.{pow_pos}
 use Rattle.std.proofs.lemmas.Bool.{cases_lt}
@@ -105,10 +105,8 @@ long_request b l e lo hi long b_fits l_fits least lo_is hi_is =
       top_fits = omega (arith, top, fits);
       ie_is = sym (rounded_ie-long l long);
       e_is = sym same;
-      b_is = sym (ap (λ (x : ℕ). rounded_base b l / 2 ^ x % 2 ^ 14) same ∙ ap (λ (x : ℕ). x / 2 ^ e % 2 ^ 14) (sym down)
-          ∙ ap (λ (x : ℕ). x % 2 ^ 14) (in_units lo e));
-      t_is = sym (ap (λ (x : ℕ). rounded_top b l / 2 ^ x % 2 ^ 14) same ∙ ap (λ (x : ℕ). x / 2 ^ e % 2 ^ 14) (sym up)
-          ∙ ap (λ (x : ℕ). x % 2 ^ 14) (in_units hi e));
+      b_is = rw (same, sym down, in_units lo e) refl;
+      t_is = rw (same, sym up, in_units hi e) refl;
     }
 
 -- a long request needs no rounding exactly where its base and its length are multiples of the unit
@@ -130,11 +128,7 @@ module _ (b l e : ℕ) (long : 4096 ≤ l) (fits : l < 2 ^ 64) (least : IsLeastE
 
 -- and of a short one
 pub short_b : (b l : ℕ) → l < 4096 → b % 2 ^ 14 ≡ rounded_b b l
-short_b b l h =
-    sym (ap (λ (x : ℕ). rounded_base b l / 2 ^ x % 2 ^ 14) (rounded_exponent-short b l h)
-    ∙ ap (λ (x : ℕ). x / 2 ^ 0 % 2 ^ 14) (rounded_base-short b l h) ∙ ap (λ (x : ℕ). x % 2 ^ 14) (div-one b))
+short_b b l h = rw (rounded_exponent-short b l h, rounded_base-short b l h, div-one b) refl
 
 pub short_t : (b l : ℕ) → l < 4096 → (b + l) % 2 ^ 14 ≡ rounded_t b l
-short_t b l h =
-    sym (ap (λ (x : ℕ). rounded_top b l / 2 ^ x % 2 ^ 14) (rounded_exponent-short b l h)
-    ∙ ap (λ (x : ℕ). x / 2 ^ 0 % 2 ^ 14) (rounded_top-short b l h) ∙ ap (λ (x : ℕ). x % 2 ^ 14) (div-one (b + l)))
+short_t b l h = rw (rounded_exponent-short b l h, rounded_top-short b l h, div-one (b + l)) refl

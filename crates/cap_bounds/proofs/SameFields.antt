@@ -24,11 +24,11 @@ module _ (v w : ℕ) (same : v / 2 ^ 64 % 2 ^ 27 ≡ w / 2 ^ 64 % 2 ^ 27) where
 
   pub b_of-same : b_of v ≡ b_of w
   unfolding cut_from
-  b_of-same = ap (λ (x : Bool). cut_from x (b_field v)) ie_of-same ∙ ap (λ (x : ℕ). cut_from (ie_of w) x) b_same
+  b_of-same = rw (ie_of-same, b_same) refl
 
   pub t_of-same : t_of v ≡ t_of w
   unfolding cut_from
-  t_of-same = ap (λ (x : Bool). cut_from x (t_field v)) ie_of-same ∙ ap (λ (x : ℕ). cut_from (ie_of w) x) t_same
+  t_of-same = rw (ie_of-same, t_same) refl
 
   pub cut_exponent_of-same : cut_exponent_of v ≡ cut_exponent_of w
   cut_exponent_of-same = ap (λ (x : ℕ). min x 52) e_of-same

@@ -43,7 +43,7 @@ use Rattle.cap_machine.specs.Origins.{origins_after}
 use Rattle.cap_machine.specs.Places.{AreCoded, IsCoded, place_at}
 use Rattle.cap_machine.specs.Parents.{IsSoundCap, IsSoundState}
 use Rattle.cap_machine.specs.Helds.{Held, AnswersStep, Makes, EndsStep, state_of, code_in, account_of, checks_by, value_by, granule_cap}
-use Rattle.cap_machine.specs.Changes.{Derives, EndsPut, IsParentsCode, WritesRegister, code_for, is_same_cap, last_checks, rules_for}
+use Rattle.cap_machine.specs.Changes.{AnswersPut, Derives, EndsPut, IsParentsCode, WritesRegister, code_for, is_same_cap, last_checks, rules_for}
 use Rattle.cap_machine.specs.Changes.{is_past_limits, result_in, with_register, with_cap_put, with_value_put}
 use Rattle.cap_machine.specs.Values.{number_at}
 use Rattle.cap_machine.proofs.GranuleLemmas.{cap_of}
@@ -218,11 +218,6 @@ pub concluded_faulted : (old : Held) (step : Step) (target : ℕ) (recorded : Ca
 concluded_faulted old step target recorded fault writes derives =
     refused_first old step _ fault (written_row old step target recorded writes) derives
 
--- how the put of a step ends
-abbrev pub EndsPutIn : Held → ℕ → Held → Result (Unit {0}) StepEnd → Held → Type 0
-EndsPutIn old granule after result new =
-    MatchResult result (λ _. (is_past_limits old granule ≡ false) × (new ≡ after)) (λ end. EndsPut old granule end new)
-
 -- a step that puts an entry into a granule
 module _ (old new : Held) (step : Step) (granule : ℕ) (checks : List (Bool × Refusal)) (value : Cap) (parent : Option Place)
     (access : Option Access) (is : row_in (account_of old) step ≡ written checks (Granule granule) value parent Nothing access)
@@ -238,7 +233,7 @@ module _ (old new : Held) (step : Step) (granule : ℕ) (checks : List (Bool × 
 
   put_finished : (entry : Entry) (code : ℕ) (result : Result (Unit {0}) StepEnd) → cap_of entry ≡ value → entry.2 ≡ code_for value.tag code
       → IsFrom old step value code
-      → EndsPutIn old granule (record old { memory = fin.insert old.memory granule entry; steps = old.steps + 1 }) result new
+      → AnswersPut old granule (record old { memory = fin.insert old.memory granule entry; steps = old.steps + 1 }) result new
       → AnswersStep old step result new
   put_finished entry code (Ok done) holds code_is from put_is =
       subst (λ (h : Held). Makes old step h) (sym put_is.1) (makes old _ step _ is free
@@ -253,7 +248,7 @@ pub stored : (old new : Held) (store : StoreCap) (result : Result (Unit {0}) Ste
     → (state_of old store.source).word.0 < 2 ^ 128
     → store.source ≤ 31 → IsCoded (state_of old store.source).tag (code_in old store.source)
     → first_of (row_of (state_of old) (steps.StoreCap store)).checks ≡ None
-    → EndsPutIn old (address_through (state_of old) store.authority store.offset / 16)
+    → AnswersPut old (address_through (state_of old) store.authority store.offset / 16)
     (with_cap_put old (address_through (state_of old) store.authority store.offset / 16) (state_of old store.source) (get_or old.codes store.source 0)) result new
     → AnswersStep old (steps.StoreCap store) result new
 stored old new store result fits low coded free put_is =
@@ -290,7 +285,7 @@ granule_bytes held granule stored_all =
 pub stored_value : (old new : Held) (store : Store) (result : Result (Unit {0}) StepEnd)
     → AreStored old.memory
     → first_of (row_of (state_of old) (steps.Store store)).checks ≡ None
-    → EndsPutIn old (address_through (state_of old) store.authority store.offset / 16)
+    → AnswersPut old (address_through (state_of old) store.authority store.offset / 16)
     (with_value_put old (address_through (state_of old) store.authority store.offset / 16)
     (address_through (state_of old) store.authority store.offset % 16) store.datum.size store.datum.value) result new
     → AnswersStep old (steps.Store store) result new

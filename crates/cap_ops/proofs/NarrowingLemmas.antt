@@ -180,13 +180,4 @@ pub set_bounds_result-made : (source : Cap) (v length : ℕ) (ie : Bool) (e b t 
     → with_word source v ≡ set_bounds_result source length
 unfolding set_bounds_result
 set_bounds_result-made source v length ie e b t address at fields is_bounded =
-    let w = source.word.0 in
-    let base = address_of w in
-    ap (with_word source) (
-    is_bounded
-    ∙ ap (λ (x : Bool). bounded_word w x e b t address) fields.0
-    ∙ ap (λ (x : ℕ). bounded_word w (rounded_ie length) x b t address) fields.1
-    ∙ ap (λ (x : ℕ). bounded_word w (rounded_ie length) (rounded_exponent base length) x t address) fields.2
-    ∙ ap (λ (x : ℕ). bounded_word w (rounded_ie length) (rounded_exponent base length) (rounded_b base length) x address) fields.3
-    ∙ ap (λ (x : ℕ). bounded_word w (rounded_ie length) (rounded_exponent base length) (rounded_b base length) (rounded_t base length) x)
-    at)
+    rw (is_bounded, fields.0, fields.1, fields.2, fields.3, at) refl
