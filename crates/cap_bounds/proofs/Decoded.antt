@@ -91,12 +91,6 @@ length_of-mantissa w mantissa is =
     ap (λ (x : ℕ). x * unit_of w) (sym (span_of-mantissa_of (b_of w) (t_of w) (ie_of w) (b_of-lt w))
     ∙ ap (span_of (b_of w)) (sym (IsMantissa-unique (b_of w) (t_of w) (ie_of w) mantissa (b_of-lt w) is)))
 
--- so that of the mantissa in closed form
-pub span-length_of : (w : ℕ) → span_of (b_of w) (mantissa_of (b_of w) (t_of w) (ie_of w)) * unit_of w ≡ length_of w
-span-length_of w =
-    sym (length_of-mantissa w (mantissa_of (b_of w) (t_of w) (ie_of w))
-    (IsMantissa-mantissa_of (b_of w) (t_of w) (ie_of w) (b_of-lt w) (t_of-lt w)))
-
 pub IsWindow-window_start : (w : ℕ) → IsWindow w (window_start w)
 unfolding window_start
 IsWindow-window_start w = record {
