@@ -55,12 +55,7 @@ place_in_range code below =
           ]
     ]
 
--- the code of a result whose parent has this one
-pub coded_from : (tag parent_tag : Bool) (code : ℕ) → (tag ≡ true → parent_tag ≡ true) → IsCoded parent_tag code
-    → IsCoded tag (code_for tag code)
-coded_from true parent_tag code from coded = subst (λ (b : Bool). IsCoded b code) (from refl) coded
-coded_from false parent_tag code from coded = ((λ _. refl, λ _. refl), lit< tt)
-
+-- the code of a result
 pub code_for-coded : (tag : Bool) (code : ℕ) → IsCoded tag code → code_for tag code ≡ code
 code_for-coded true code coded = refl
 code_for-coded false code coded = sym (coded.0.1 refl)

@@ -5,6 +5,7 @@ use Rattle.std.proofs.Common.{inl, inr, nat_lt, ◌-◌, Some, None, Option, opt
 use Rattle.std.specs.Bool.{if◌then◌else◌}
 use Rattle.std.specs.FinMap as fin
 use Rattle.std.proofs.Math.Bool.{or-false}
+use Rattle.std.proofs.Math.ListN.{set}
 use Rattle.std.proofs.lemmas.Bool.{false≢true, cases_lt, le-ltb, eq-eqb, lt-leb}
 use Rattle.std.proofs.lemmas.List.{get_or_past}
 use Rattle.std.proofs.lemmas.List.Elements.{All-get_or}
@@ -47,8 +48,9 @@ use Rattle.cap_machine.specs.Changes.{AnswersPut, Derives, EndsPut, IsParentsCod
 use Rattle.cap_machine.specs.Changes.{is_past_limits, result_in, with_register, with_cap_put, with_value_put}
 use Rattle.cap_machine.specs.Values.{number_at}
 use Rattle.cap_machine.proofs.GranuleLemmas.{cap_of}
-use Rattle.cap_machine.proofs.CodeLemmas.{IsFrom, account-granule, account-register, code-register, code_for-coded, coded_from, origins_by}
+use Rattle.cap_machine.proofs.CodeLemmas.{IsFrom, account-granule, account-register, code-register, code_for-coded, origins_by}
 use Rattle.cap_machine.proofs.CodeLemmas.{origin-written}
+use Rattle.cap_machine.proofs.SoundLemmas.{equal_caps}
 use Rattle.cap_machine.proofs.StepLemmas.{WritesWithin, row_by-access, writes_within_by}
 
 -- the row of an access
@@ -147,22 +149,17 @@ pub result_sound : (state : State) (parent : Option Place) (place : Place) (cap 
 result_sound state None place cap all within held = absurd (within held)
 result_sound state (Some from) place cap all within held = within.sound held (all (key_of from) (within.from_tagged held))
 
-untagged_coded : (tag : Bool) (code : ℕ) → (tag ≡ true → ⊥) → IsCoded tag (code_for tag code)
-untagged_coded true code never = absurd (never refl)
-untagged_coded false code never = ((λ _. refl, λ _. refl), lit< tt)
-
-tagged_coded : (tag parent_tag : Bool) (code from : ℕ) → (tag ≡ true → parent_tag ≡ true) → (tag ≡ true → Some from ≡ Some code)
-    → IsCoded parent_tag from → IsCoded tag (code_for tag code)
-tagged_coded true parent_tag code from held same coded =
-    coded_from true parent_tag code held (subst (IsCoded parent_tag) (same_Some from code (same refl)) coded)
-tagged_coded false parent_tag code from held same coded = ((λ _. refl, λ _. refl), lit< tt)
+coded_so : (tag : Bool) (code : ℕ) → (tag ≡ true → IsCoded true code) → IsCoded tag (code_for tag code)
+coded_so true code coded = coded refl
+coded_so false code coded = ((λ _. refl, λ _. refl), lit< tt)
 
 pub result_coded : (state : State) (codes : ℕ → ℕ) (parent : Option Place) (place : Place) (cap : Cap) (code : ℕ) → AreCoded state codes
     → WritesWithin state parent (Some (place, cap)) → (cap.tag ≡ true → option_map (λ from. codes (key_of from)) parent ≡ Some code)
     → IsCoded cap.tag (code_for cap.tag code)
-result_coded state codes None place cap code all within same = untagged_coded cap.tag code within
-result_coded state codes (Some from) place cap code all within same =
-    tagged_coded cap.tag (state (key_of from)).tag code (codes (key_of from)) within.from_tagged same (all (key_of from))
+result_coded state codes None place cap code all within same = coded_so cap.tag code (λ held. absurd (within held))
+result_coded state codes (Some from) place cap code all within same = coded_so cap.tag code (λ held.
+    subst (λ (b : Bool). IsCoded b code) (within.from_tagged held)
+    (subst (IsCoded (state (key_of from)).tag) (same_Some (codes (key_of from)) code (same held)) (all (key_of from))))
 
 origin_by_code : (codes : ℕ → ℕ) (parent : Option Place) (code : ℕ) → option_map (λ from. codes (key_of from)) parent ≡ Some code
     → option_and_then (origins_by codes) (option_map key_of parent) ≡ place_at code
@@ -201,15 +198,20 @@ module _ (old : Held) (step : Step) (target : ℕ) (recorded derived : Cap) (wri
   concluded_past like past = concluded_refused LimitPassed (like_so like true past)
 
   -- it is made
-  pub concluded_made : (code : ℕ) → length old.registers ≡ 32 → length old.codes ≡ 32 → target ≤ 31
-      → IsParentsCode old step (Ok derived) code → not (is_same_cap recorded derived) ≡ false → old.steps < most_steps
-      → Makes old step (with_register old target derived code)
-  concluded_made code sized coded_so low parents like few =
-      makes old (with_register old target derived code) step _ row_is derives.0
+  pub concluded_made : (code stored : ℕ) → length old.registers ≡ 32 → length old.codes ≡ 32 → target ≤ 31
+      → IsParentsCode old step (Ok derived) code → stored ≡ code_for derived.tag code → not (is_same_cap recorded derived) ≡ false
+      → old.steps < most_steps
+      → Makes old step (record old {
+        registers = set old.registers target recorded;
+        codes = set old.codes target stored;
+        steps = old.steps + 1;
+      })
+  concluded_made code stored sized coded_so low parents stored_is like few =
+      rw (stored_is, equal_caps recorded derived like) (makes old (with_register old target derived code) step _ row_is derives.0
       (unnamed old (is_same_cap recorded derived) ∙ like_so like false (lt-leb most_steps old.steps few))
       (ap (λ (a : Account). record a { steps = a.steps + 1 }) (account-register old target derived (code_for derived.tag code) _
       sized coded_so low (origin-written old step (Register target) derived code (ap (λ (r : Row). r.writes) row_is)
-      (λ held. origin_by_code (code_in old) (row_of (state_of old) step).parent code (parents derived refl held)))))
+      (λ held. origin_by_code (code_in old) (row_of (state_of old) step).parent code (parents derived refl held))))))
 
 -- its operation or access refuses it
 pub concluded_faulted : (old : Held) (step : Step) (target : ℕ) (recorded : Cap) (fault : OpFault)

@@ -23,10 +23,12 @@ returns c =
     record {
       base = base_is;
       top = top_is;
-      ie = long.ie_is;
-      e = long.e_is;
-      b = c.mantissa_from.ensures.value ∙ ap (λ (x : ℕ). 8 * x % 2 ^ 14) c.from.ensures ∙ long.b_is;
-      t = c.mantissa_from-2.ensures.value ∙ long.t_is;
+      fields = (
+        long.ie_is,
+        long.e_is,
+        c.mantissa_from.ensures.value ∙ ap (λ (x : ℕ). 8 * x % 2 ^ 14) c.from.ensures ∙ long.b_is,
+        c.mantissa_from-2.ensures.value ∙ long.t_is,
+      );
       exact = grind (arith, nat_tests);
       least = e.ensures;
     }

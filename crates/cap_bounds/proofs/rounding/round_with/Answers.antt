@@ -29,10 +29,12 @@ returns c =
     record {
       base = long.base_is;
       top = ap (λ (x : ℕ). x * 2 ^ (c.args.e + 3) % 2 ^ 128) c.from.ensures ∙ long.top_is;
-      ie = long.ie_is;
-      e = long.e_is;
-      b = c.mantissa_from.ensures.value ∙ ap (λ (x : ℕ). 8 * x % 2 ^ 14) c.from-2.ensures ∙ long.b_is;
-      t = c.mantissa_from-2.ensures.value ∙ ap (λ (x : ℕ). 8 * x % 2 ^ 14) c.from-3.ensures ∙ long.t_is;
+      fields = (
+        long.ie_is,
+        long.e_is,
+        c.mantissa_from.ensures.value ∙ ap (λ (x : ℕ). 8 * x % 2 ^ 14) c.from-2.ensures ∙ long.b_is,
+        c.mantissa_from-2.ensures.value ∙ ap (λ (x : ℕ). 8 * x % 2 ^ 14) c.from-3.ensures ∙ long.t_is,
+      );
       exact = (
         λ is. let both = c.are_multiples.ensures.0 is in
             whole-exact b l c.args.e c.requires.long (omega arith) least both.0 both.1,

@@ -67,12 +67,9 @@ returns g c =
     let step = g.O.Operands.step c.args.step.now in
     let target = c.args.target in
     let recorded = c.args.recorded in
-    let derived = c.in_ok-derived.derived in
     let derives = subst (Derives old step) c.in_ok-derived.was c.requires.derives in
     let parents = subst (λ o. IsParentsCode old step o c.args.code) c.in_ok-derived.was c.requires.code in
-    let like = sym c.ne.ensures ∙ c.if-ne.false in
-    let same : derived ≡ recorded = sym (equal_caps recorded derived like) in
-    let code_is : c.if-derived.self ≡ code_for derived.tag c.args.code =
+    let code_is : c.if-derived.self ≡ code_for c.in_ok-derived.derived.tag c.args.code =
     elim c.if-derived.branch [
       | then-derived w ↦ w.self-is ∙ sym (ap (λ (b : Bool). code_for b c.args.code) w.if-derived.true)
       | else-derived w ↦ w.self-is ∙ sym (ap (λ (b : Bool). code_for b c.args.code) w.if-derived.false)
@@ -82,17 +79,8 @@ returns g c =
       codes = slice_set held.codes target c.if-derived.self;
       steps = held.steps + 1;
     })) (sym c.self.view_is)
-    (subst (λ (code : ℕ). Makes old step (record old {
-      registers = slice_set old.registers target recorded;
-      codes = slice_set old.codes target code;
-      steps = old.steps + 1;
-    })) (sym code_is)
-    (subst (λ (cap : Cap). Makes old step (record old {
-      registers = slice_set old.registers target cap;
-      codes = slice_set old.codes target (code_for derived.tag c.args.code);
-      steps = old.steps + 1;
-    })) same
-    (concluded_made old step target recorded derived c.requires.writes derives c.args.code
+    (concluded_made old step target recorded c.in_ok-derived.derived c.requires.writes derives c.args.code c.if-derived.self
     (subst (λ (held : Held). length held.registers ≡ 32) c.self.view_is (search rules))
-    (subst (λ (held : Held). length held.codes ≡ 32) c.self.view_is (search rules)) c.number-target.ensures.range.1 parents like
-    (subst (λ (held : Held). held.steps < 4294967295) c.self.view_is c.if-self-ge-MOST_STEPS.false)))))
+    (subst (λ (held : Held). length held.codes ≡ 32) c.self.view_is (search rules)) c.number-target.ensures.range.1 parents code_is
+    (sym c.ne.ensures ∙ c.if-ne.false)
+    (subst (λ (held : Held). held.steps < 4294967295) c.self.view_is c.if-self-ge-MOST_STEPS.false)))
