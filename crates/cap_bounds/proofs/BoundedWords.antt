@@ -60,22 +60,16 @@ module _ (w : ℕ) (ie : Bool) (e b t a : ℕ) (fits : a < 2 ^ 64) (f : AreField
   pub e_of-bounded_word : e_of (bounded_word w ie e b t a) ≡ e
   unfolding e_from
   e_of-bounded_word =
-      ap (λ (x : Bool). e_from x (t_field (bounded_word w ie e b t a)) (b_field (bounded_word w ie e b t a)))
-      (ie_of-bounded_word w ie e b t a fits f)
-      ∙ ap (λ (x : ℕ). e_from ie x (b_field (bounded_word w ie e b t a))) (t_field-bounded_word w ie e b t a fits f)
-      ∙ ap (λ (x : ℕ). e_from ie (t % 2 ^ 12 + e / 8) x) (b_field-bounded_word w ie e b t a fits f) ∙ e_at ie e b t f
+      rw (ie_of-bounded_word w ie e b t a fits f, t_field-bounded_word w ie e b t a fits f, b_field-bounded_word w ie e b t a fits f)
+      (e_at ie e b t f)
 
   pub b_of-bounded_word : b_of (bounded_word w ie e b t a) ≡ b
   unfolding cut_from
-  b_of-bounded_word =
-      ap (λ (x : Bool). cut_from x (b_field (bounded_word w ie e b t a))) (ie_of-bounded_word w ie e b t a fits f)
-      ∙ ap (λ (x : ℕ). cut_from ie x) (b_field-bounded_word w ie e b t a fits f) ∙ b_at ie e b t f
+  b_of-bounded_word = rw (ie_of-bounded_word w ie e b t a fits f, b_field-bounded_word w ie e b t a fits f) (b_at ie e b t f)
 
   pub t_of-bounded_word : t_of (bounded_word w ie e b t a) ≡ t % 2 ^ 12
   unfolding cut_from
-  t_of-bounded_word =
-      ap (λ (x : Bool). cut_from x (t_field (bounded_word w ie e b t a))) (ie_of-bounded_word w ie e b t a fits f)
-      ∙ ap (λ (x : ℕ). cut_from ie x) (t_field-bounded_word w ie e b t a fits f) ∙ t_at ie e b t f
+  t_of-bounded_word = rw (ie_of-bounded_word w ie e b t a fits f, t_field-bounded_word w ie e b t a fits f) (t_at ie e b t f)
 
 -- the bits above those of the bounds are kept
 pub above-bounded_word : (w : ℕ) (ie : Bool) (e b t a : ℕ) → a < 2 ^ 64 → AreFields ie e b t

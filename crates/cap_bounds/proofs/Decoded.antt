@@ -26,9 +26,7 @@ t_of-lt w = grind (arith, nat_tests)
 
 pub window_start_coded : (w e b a : ℕ) → e ≡ cut_exponent_of w → b ≡ b_of w → a ≡ address_of w → window_start_at e b a ≡ window_start w
 unfolding window_start
-window_start_coded w e b a e_is b_is a_is =
-    ap (λ (x : ℕ). window_start_at x b a) e_is ∙ ap (λ (x : ℕ). window_start_at (cut_exponent_of w) x a) b_is
-    ∙ ap (λ (x : ℕ). window_start_at (cut_exponent_of w) (b_of w) x) a_is
+window_start_coded w e b a e_is b_is a_is = rw (e_is, b_is, a_is) refl
 
 module _ (e b a : ℕ) (he : e ≤ 52) (hb : b < 2 ^ 14) where
   high : 2 ^ (e + 14) ≤ a + 2 ^ 66
@@ -92,12 +90,6 @@ unfolding length_of
 length_of-mantissa w mantissa is =
     ap (λ (x : ℕ). x * unit_of w) (sym (span_of-mantissa_of (b_of w) (t_of w) (ie_of w) (b_of-lt w))
     ∙ ap (span_of (b_of w)) (sym (IsMantissa-unique (b_of w) (t_of w) (ie_of w) mantissa (b_of-lt w) is)))
-
--- so that of the mantissa in closed form
-pub span-length_of : (w : ℕ) → span_of (b_of w) (mantissa_of (b_of w) (t_of w) (ie_of w)) * unit_of w ≡ length_of w
-span-length_of w =
-    sym (length_of-mantissa w (mantissa_of (b_of w) (t_of w) (ie_of w))
-    (IsMantissa-mantissa_of (b_of w) (t_of w) (ie_of w) (b_of-lt w) (t_of-lt w)))
 
 pub IsWindow-window_start : (w : ℕ) → IsWindow w (window_start w)
 unfolding window_start
@@ -207,24 +199,11 @@ length_shifted e d he hd = shl_whole d 13 e 128 hd (omega arith)
 pub length_at-lt : (e d : ℕ) → e ≤ 52 → d < 2 ^ 13 → d * 2 ^ e < 2 ^ 65
 length_at-lt e d he hd = omega (arith, shl_below d 13 e hd, pow_le (13 + e) 65 (omega arith))
 
-module _ (w e b d a raw : ℕ) (e_is : e ≡ cut_exponent_of w) (b_is : b ≡ b_of w) (d_is : d ≡ span_at (b_of w) (t_of w) (ie_of w))
-    (a_is : a ≡ address_of w) (raw_is : raw ≡ raw_base_at e b a) where
-  raw_of : raw ≡ raw_base_at (cut_exponent_of w) (b_of w) (address_of w)
-  raw_of = raw_is ∙ ap (λ (x : ℕ). raw_base_at x b a) e_is ∙ ap (λ (x : ℕ). raw_base_at (cut_exponent_of w) x a) b_is
-      ∙ ap (λ (x : ℕ). raw_base_at (cut_exponent_of w) (b_of w) x) a_is
-
-  pub decoded_base : raw % 2 ^ 64 ≡ base_of w
-  unfolding base_of
-  decoded_base = ap (λ (x : ℕ). x % 2 ^ 64) raw_of
-
-  pub decoded_length : d * 2 ^ e ≡ length_of w
-  decoded_length = ap (λ (x : ℕ). x * 2 ^ e) d_is ∙ ap (λ (x : ℕ). span_at (b_of w) (t_of w) (ie_of w) * 2 ^ x) e_is ∙ sym (length_is w)
-
-  pub decoded_top : top_at e raw (d * 2 ^ e) ≡ top_of w
-  unfolding top_of
-  decoded_top =
-      ap (λ (x : ℕ). top_at e raw x) decoded_length ∙ ap (λ (x : ℕ). top_at x raw (length_of w)) e_is
-      ∙ ap (λ (x : ℕ). top_at (cut_exponent_of w) x (length_of w)) raw_of
+-- the bounds and the length of a word, from what it decodes to
+pub decoded : (w e b d a : ℕ) → e ≡ cut_exponent_of w → b ≡ b_of w → d ≡ span_at (b_of w) (t_of w) (ie_of w) → a ≡ address_of w
+    → (raw_base_at e b a % 2 ^ 64 ≡ base_of w) × (d * 2 ^ e ≡ length_of w) × (top_at e (raw_base_at e b a) (d * 2 ^ e) ≡ top_of w)
+unfolding base_of top_of length_of
+decoded w e b d a e_is b_is d_is a_is = rw (e_is, b_is, d_is, a_is) (refl, refl, refl)
 
 -- a base has 64 bits, and a top 65
 pub base_of-lt : (w : ℕ) → base_of w < 2 ^ 64

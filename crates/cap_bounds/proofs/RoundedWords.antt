@@ -14,8 +14,7 @@ use Rattle.cap_bounds.proofs.Residues.{IsResidue-unique, mul-mod-mul}
 use Rattle.cap_bounds.proofs.Windows.{eighth_of}
 use Rattle.cap_bounds.proofs.Powers.{pow_split, grain_is}
 use Rattle.cap_bounds.proofs.Decoded.{window_start_at-le, window_start_at-gt, raw_base_at-residue}
-use Rattle.cap_bounds.proofs.Decoded.{top_at-corrected, top_at-uncorrected, decoded_base}
-use Rattle.cap_bounds.proofs.Decoded.{decoded_length, decoded_top}
+use Rattle.cap_bounds.proofs.Decoded.{top_at-corrected, top_at-uncorrected, decoded}
 use Rattle.cap_bounds.proofs.Units.{covered-ge, covered-lt, many, down-le, down-gt, down-le-up}
 use Rattle.cap_bounds.proofs.LeastExponents.{IsLeastExponent-rounded, rounded_exponent-short, rounded_exponent-le}
 use Rattle.cap_bounds.proofs.Roundings.{grain_of, rounded_base-short, rounded_top-short}
@@ -128,13 +127,11 @@ module _ (w : ℕ) (ie : Bool) (e b t a base length top : ℕ) (a_fits : a < 2 ^
       let d_is : span_at b (t % 2 ^ 12) ie ≡ span_at (b_of v) (t_of v) (ie_of v) =
       ap (λ (x : ℕ). span_at x (t % 2 ^ 12) ie) b_is ∙ ap (λ (x : ℕ). span_at (b_of v) x ie) t_is
       ∙ ap (λ (x : Bool). span_at (b_of v) (t_of v) x) ie_is in
-      let raw = sym raw_is in
+      let is = decoded v e b (span_at b (t % 2 ^ 12) ie) a e_is b_is d_is a_is in
       record {
-        base_is = sym (decoded_base v e b (span_at b (t % 2 ^ 12) ie) a (base + 2 ^ 66) e_is b_is d_is a_is raw)
-            ∙ (let r : (base + 2 ^ 66) % 2 ^ 64 ≡ base = omega arith in r);
-        length_is = sym (decoded_length v e b (span_at b (t % 2 ^ 12) ie) a (base + 2 ^ 66) e_is b_is d_is a_is raw) ∙ length_is;
-        top_is =
-            sym (decoded_top v e b (span_at b (t % 2 ^ 12) ie) a (base + 2 ^ 66) e_is b_is d_is a_is raw)
+        base_is = sym is.0 ∙ ap (λ (x : ℕ). x % 2 ^ 64) raw_is ∙ (let r : (base + 2 ^ 66) % 2 ^ 64 ≡ base = omega arith in r);
+        length_is = sym is.1 ∙ length_is;
+        top_is = sym is.2 ∙ ap (λ (x : ℕ). top_at e x (span_at b (t % 2 ^ 12) ie * 2 ^ e)) raw_is
             ∙ ap (λ (x : ℕ). top_at e (base + 2 ^ 66) x) length_is ∙ top_whole;
       }
 
@@ -184,13 +181,9 @@ HasBounds-short w b l short fits within =
     let base_is : rounded_base b l ≡ b = rounded_base-short b l short in
     let top_is : rounded_top b l ≡ b + l = rounded_top-short b l short in
     let raw : raw_base_at (rounded_exponent b l) (rounded_b b l) b ≡ rounded_base b l + 2 ^ 66 =
-    ap (λ (x : ℕ). raw_base_at x (rounded_b b l) b) e_is ∙ ap (λ (x : ℕ). raw_base_at 0 x b) (sym (short_b b l short))
-    ∙ raw_base_at-short b ∙ ap (λ (x : ℕ). x + 2 ^ 66) (sym base_is) in
+    rw (sym (short_b b l short), e_is, base_is) (raw_base_at-short b) in
     let span : span_at (rounded_b b l) (rounded_t b l % 2 ^ 12) (rounded_ie l) * 2 ^ rounded_exponent b l ≡ l =
-    ap (λ (x : ℕ). span_at (rounded_b b l) (rounded_t b l % 2 ^ 12) (rounded_ie l) * 2 ^ x) e_is
-    ∙ ap (λ (x : Bool). span_at (rounded_b b l) (rounded_t b l % 2 ^ 12) x * 2 ^ 0) (rounded_ie-short l short)
-    ∙ ap (λ (x : ℕ). span_at x (rounded_t b l % 2 ^ 12) false * 2 ^ 0) (sym (short_b b l short))
-    ∙ ap (λ (x : ℕ). span_at (b % 2 ^ 14) (x % 2 ^ 12) false * 2 ^ 0) (sym (short_t b l short)) ∙ span-short b l short in
+    rw (sym (short_b b l short), sym (short_t b l short), e_is, rounded_ie-short l short) (span-short b l short) in
     HasBounds-bounded_word w (rounded_ie l) (rounded_exponent b l) (rounded_b b l) (rounded_t b l) b (rounded_base b l) l
     (rounded_top b l) fits
     (AreFields-rounded b l (omega arith)) (omega arith) raw span (omega arith) (omega arith) (omega arith)
@@ -208,9 +201,8 @@ HasBounds-long w b l long l_fits fits within =
     let order : lo ≤ hi = down-le-up b l (grain_of b l) (pow_pos (e + 3)) in
     let sum : lo + (hi - lo) ≡ hi = omega arith in
     let raw : raw_base_at e (rounded_b b l) b ≡ rounded_base b l + 2 ^ 66 =
-    ap (λ (x : ℕ). raw_base_at e x b) (rounded_b-long b l long)
-    ∙ raw_base_at-grain e lo b least.within (down-le b (grain_of b l)) (down-gt b (grain_of b l) (pow_pos (e + 3)))
-    ∙ ap (λ (x : ℕ). x + 2 ^ 66) (sym base_is) in
+    rw (rounded_b-long b l long, base_is)
+    (raw_base_at-grain e lo b least.within (down-le b (grain_of b l)) (down-gt b (grain_of b l) (pow_pos (e + 3)))) in
     let whole : lo * grain_of b l + (hi - lo) * grain_of b l
     ≡ hi * grain_of b l = (let r : lo * grain_of b l + (hi - lo) * grain_of b l ≡ (lo + (hi - lo)) * grain_of b l = omega arith in r)
     ∙ ap (λ (x : ℕ). x * grain_of b l) sum in
@@ -218,10 +210,8 @@ HasBounds-long w b l long l_fits fits within =
     ≡ (hi - lo) * grain_of b l = (let r : 8 * (hi - lo) * 2 ^ e ≡ (hi - lo) * (8 * 2 ^ e) = omega arith in r)
     ∙ ap (λ (x : ℕ). (hi - lo) * x) (sym (grain_is e)) in
     let span : span_at (rounded_b b l) (rounded_t b l % 2 ^ 12) (rounded_ie l) * 2 ^ e ≡ rounded_top b l - rounded_base b l =
-    ap (λ (x : Bool). span_at (rounded_b b l) (rounded_t b l % 2 ^ 12) x * 2 ^ e) (rounded_ie-long l long)
-    ∙ ap (λ (x : ℕ). span_at x (rounded_t b l % 2 ^ 12) true * 2 ^ e) (rounded_b-long b l long)
-    ∙ ap (λ (x : ℕ). span_at (8 * lo % 2 ^ 14) (x % 2 ^ 12) true * 2 ^ e) (rounded_t-long b l long)
-    ∙ ap (λ (x : ℕ). x * 2 ^ e) (span-long lo hi (hi - lo) sum (units-ge b l e long least) least.fits) ∙ scaled ∙ omega arith in
+    rw (rounded_b-long b l long, rounded_t-long b l long, rounded_ie-long l long)
+    (ap (λ (x : ℕ). x * 2 ^ e) (span-long lo hi (hi - lo) sum (units-ge b l e long least) least.fits) ∙ scaled ∙ omega arith) in
     HasBounds-bounded_word w (rounded_ie l) e (rounded_b b l) (rounded_t b l) b (rounded_base b l) (rounded_top b l - rounded_base b l)
     (rounded_top b l) fits
     (AreFields-rounded b l l_fits) least.within raw span (omega arith) (omega (arith, rounded_base-le b l))
@@ -265,13 +255,7 @@ pub decodes : (w v : ℕ) (ie : Bool) (e b t address base length : ℕ) → v �
     → length < 2 ^ 64 → base + length ≤ 2 ^ 64 → address ≡ base → HasRounding ie e b t base length
     → (base_of v ≡ rounded_base base length) × (top_of v ≡ rounded_top base length) × IsSound v
 decodes w v ie e b t address base length is fits l_fits within at r =
-    let same : v ≡ rounded_word w base length =
-    is ∙ ap (λ (x : Bool). bounded_word w x e b t address) r.0 ∙ ap (λ (x : ℕ). bounded_word w (rounded_ie length) x b t address) r.1
-    ∙ ap (λ (x : ℕ). bounded_word w (rounded_ie length) (rounded_exponent base length) x t address) r.2
-    ∙ ap (λ (x : ℕ). bounded_word w (rounded_ie length) (rounded_exponent base length) (rounded_b base length) x address) r.3
-    ∙ ap (λ (x : ℕ). bounded_word w (rounded_ie length) (rounded_exponent base length) (rounded_b base length)
-    (rounded_t base length) x) at in
-    subst (λ (x : ℕ). (base_of x ≡ rounded_base base length) × (top_of x ≡ rounded_top base length) × IsSound x) (sym same) (
+    rw (is, r.0, r.1, r.2, r.3, at) (
       base_of-rounded_word w base length fits l_fits within,
       top_of-rounded_word w base length fits l_fits within,
       IsSound-rounded_word w base length fits l_fits within,

@@ -1,5 +1,5 @@
 -- The bounds of a rounded request.
-use Rattle.std.proofs.Common.{◌≡◌, ℕ, ◌+◌, ◌-◌, ◌*◌, ◌/◌, ◌%◌, ◌^◌, ◌<◌, ◌≤◌, true, false, sym, ap, ◌∙◌, inl, inr, arith}
+use Rattle.std.proofs.Common.{◌≡◌, ℕ, ◌+◌, ◌-◌, ◌*◌, ◌/◌, ◌%◌, ◌^◌, ◌<◌, ◌≤◌, true, false, sym, ap, ◌∙◌, inl, inr, refl, arith}
 use Rattle.std.proofs.Math.Nat.{mul-le-mul_right, mul-div_cancel, mod-eq_of_lt, div-one}
 use Rattle.std.proofs.lemmas.Nat.{pow_pos}
 use Rattle.std.proofs.lemmas.Bool.{cases_lt}
@@ -82,36 +82,32 @@ rounded_top-le b l n fits big h = elim (cases_lt l 4096) [
 ]
 
 -- what the code computes of a long request, from its ends in units
-module _ (b l e lo hi : ℕ) (long : 4096 ≤ l) (b_fits : b < 2 ^ 64) (l_fits : l < 2 ^ 64) (least : IsLeastExponent b l e)
-    (lo_is : lo ≡ b / 2 ^ (e + 3)) (hi_is : hi ≡ div_up (b + l) (2 ^ (e + 3))) where
-  down : lo * 2 ^ (e + 3) ≡ rounded_base b l
-  down = ap (λ (x : ℕ). x * 2 ^ (e + 3)) lo_is ∙ sym (rounded_base_is b l e long l_fits least)
+pub record IsLong (b l e lo hi : ℕ) : Type 0 where
+  pub base_is : lo * 2 ^ (e + 3) % 2 ^ 64 ≡ rounded_base b l
+  pub top_is : hi * 2 ^ (e + 3) % 2 ^ 128 ≡ rounded_top b l
+  pub top_fits : hi * 2 ^ (e + 3) % 2 ^ 128 ≤ 2 ^ 65
+  pub ie_is : true ≡ rounded_ie l
+  pub e_is : e ≡ rounded_exponent b l
+  pub b_is : 8 * lo % 2 ^ 14 ≡ rounded_b b l
+  pub t_is : 8 * hi % 2 ^ 14 ≡ rounded_t b l
 
-  up : hi * 2 ^ (e + 3) ≡ rounded_top b l
-  up = ap (λ (x : ℕ). x * 2 ^ (e + 3)) hi_is ∙ sym (rounded_top_is b l e long l_fits least)
-
-  pub long_base : lo * 2 ^ (e + 3) % 2 ^ 64 ≡ rounded_base b l
-  long_base = mod-eq_of_lt (omega (arith, down, rounded_base-le b l)) ∙ down
-
-  pub long_top-le : rounded_top b l ≤ 2 ^ 65
-  long_top-le = rounded_top-le b l 65 l_fits (omega arith) (omega arith)
-
-  pub long_top : hi * 2 ^ (e + 3) % 2 ^ 128 ≡ rounded_top b l
-  long_top = mod-eq_of_lt (omega (arith, up, long_top-le)) ∙ up
-
-  pub long_b : 8 * lo % 2 ^ 14 ≡ rounded_b b l
-  long_b =
-      let units : rounded_base b l / 2 ^ rounded_exponent b l
-      ≡ 8 * lo = ap (λ (x : ℕ). rounded_base b l / 2 ^ x) (exponent_is b l e long l_fits least) ∙ ap (λ (x : ℕ). x / 2 ^ e) (sym down)
-      ∙ in_units lo e in
-      ap (λ (x : ℕ). x % 2 ^ 14) (sym units)
-
-  pub long_t : 8 * hi % 2 ^ 14 ≡ rounded_t b l
-  long_t =
-      let units : rounded_top b l / 2 ^ rounded_exponent b l
-      ≡ 8 * hi = ap (λ (x : ℕ). rounded_top b l / 2 ^ x) (exponent_is b l e long l_fits least) ∙ ap (λ (x : ℕ). x / 2 ^ e) (sym up)
-      ∙ in_units hi e in
-      ap (λ (x : ℕ). x % 2 ^ 14) (sym units)
+pub long_request : (b l e lo hi : ℕ) → 4096 ≤ l → b < 2 ^ 64 → l < 2 ^ 64 → IsLeastExponent b l e → lo ≡ b / 2 ^ (e + 3)
+    → hi ≡ div_up (b + l) (2 ^ (e + 3)) → IsLong b l e lo hi
+long_request b l e lo hi long b_fits l_fits least lo_is hi_is =
+    let same = exponent_is b l e long l_fits least in
+    let down : lo * 2 ^ (e + 3) ≡ rounded_base b l = ap (λ (x : ℕ). x * 2 ^ (e + 3)) lo_is ∙ sym (rounded_base_is b l e long l_fits least) in
+    let up : hi * 2 ^ (e + 3) ≡ rounded_top b l = ap (λ (x : ℕ). x * 2 ^ (e + 3)) hi_is ∙ sym (rounded_top_is b l e long l_fits least) in
+    let fits : rounded_top b l ≤ 2 ^ 65 = rounded_top-le b l 65 l_fits (omega arith) (omega arith) in
+    let top : hi * 2 ^ (e + 3) % 2 ^ 128 ≡ rounded_top b l = mod-eq_of_lt (omega (arith, up, fits)) ∙ up in
+    record {
+      base_is = mod-eq_of_lt (omega (arith, down, rounded_base-le b l)) ∙ down;
+      top_is = top;
+      top_fits = omega (arith, top, fits);
+      ie_is = sym (rounded_ie-long l long);
+      e_is = sym same;
+      b_is = rw (same, sym down, in_units lo e) refl;
+      t_is = rw (same, sym up, in_units hi e) refl;
+    }
 
 -- a long request needs no rounding exactly where its base and its length are multiples of the unit
 module _ (b l e : ℕ) (long : 4096 ≤ l) (fits : l < 2 ^ 64) (least : IsLeastExponent b l e) where
@@ -132,11 +128,7 @@ module _ (b l e : ℕ) (long : 4096 ≤ l) (fits : l < 2 ^ 64) (least : IsLeastE
 
 -- and of a short one
 pub short_b : (b l : ℕ) → l < 4096 → b % 2 ^ 14 ≡ rounded_b b l
-short_b b l h =
-    sym (ap (λ (x : ℕ). rounded_base b l / 2 ^ x % 2 ^ 14) (rounded_exponent-short b l h)
-    ∙ ap (λ (x : ℕ). x / 2 ^ 0 % 2 ^ 14) (rounded_base-short b l h) ∙ ap (λ (x : ℕ). x % 2 ^ 14) (div-one b))
+short_b b l h = rw (rounded_exponent-short b l h, rounded_base-short b l h, div-one b) refl
 
 pub short_t : (b l : ℕ) → l < 4096 → (b + l) % 2 ^ 14 ≡ rounded_t b l
-short_t b l h =
-    sym (ap (λ (x : ℕ). rounded_top b l / 2 ^ x % 2 ^ 14) (rounded_exponent-short b l h)
-    ∙ ap (λ (x : ℕ). x / 2 ^ 0 % 2 ^ 14) (rounded_top-short b l h) ∙ ap (λ (x : ℕ). x % 2 ^ 14) (div-one (b + l)))
+short_t b l h = rw (rounded_exponent-short b l h, rounded_top-short b l h, div-one (b + l)) refl

@@ -19,7 +19,7 @@ use Rattle.cap_bounds.proofs.Units.{div_up-ge, div_up-le, down-le, down-gt, down
 use Rattle.cap_bounds.proofs.LeastExponents.{IsLeastExponent-start, IsLeastExponent-raised, rounded_exponent-short}
 use Rattle.cap_bounds.proofs.Roundings.{rounded_base-short, rounded_top-short, rounded_ie-short}
 use Rattle.cap_bounds.proofs.Roundings.{rounded_ie-long, exponent_is, rounded_base_is}
-use Rattle.cap_bounds.proofs.Roundings.{rounded_top_is, long_b, long_t, short_b, short_t}
+use Rattle.cap_bounds.proofs.Roundings.{rounded_top_is, long_request, short_b, short_t}
 
 -- a quotient rounded up is one more just where there is a rest
 div_up-whole : (n v : ℕ) → 0 < v → n % v ≡ 0 → div_up n v ≡ n / v
@@ -207,13 +207,13 @@ module _ (b l : ℕ) (long : 4096 ≤ l) (b_fits : b < 2 ^ 64) (l_fits : l < 2 ^
   b-long : sail_b b l ≡ rounded_b b l
   unfolding sail_b
   b-long = rw (sail_ie-long l long l_fits)
-      (omega (arith, long_b b l last (b / 2 ^ (last + 3)) (div_up (b + l) (2 ^ (last + 3))) long b_fits l_fits least refl refl))
+      (omega (arith, (long_request b l last (b / 2 ^ (last + 3)) (div_up (b + l) (2 ^ (last + 3))) long b_fits l_fits least refl refl).b_is))
 
   t-long : sail_t b l ≡ rounded_t b l
   unfolding sail_t
   t-long =
       rw (sail_ie-long l long l_fits, lost_top-is (sail_first_e l) b (b + l), t_ie-is last (b + l))
-      (omega (arith, long_t b l last (b / 2 ^ (last + 3)) (div_up (b + l) (2 ^ (last + 3))) long b_fits l_fits least refl refl))
+      (omega (arith, (long_request b l last (b / 2 ^ (last + 3)) (div_up (b + l) (2 ^ (last + 3))) long b_fits l_fits least refl refl).t_is))
 
   exact-long : IsTrue (sail_exact b l) ↔ IsExact b l
   unfolding sail_exact sail_lost

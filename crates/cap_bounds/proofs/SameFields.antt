@@ -1,6 +1,6 @@
 -- Words that share the fields that bounds come from. Base, top and length depend on the word modulo
 -- 2 ^ 91 alone: not on its permissions, reserved bits, flag or object type.
-use Rattle.std.proofs.Common.{◌≡◌, ℕ, ◌+◌, ◌*◌, ◌/◌, ◌%◌, ◌^◌, ◌<◌, ◌≤◌, min, Bool, ◌==◌, sym, ap, ◌∙◌, arith, subst}
+use Rattle.std.proofs.Common.{◌≡◌, ℕ, ◌+◌, ◌*◌, ◌/◌, ◌%◌, ◌^◌, ◌<◌, ◌≤◌, min, Bool, ◌==◌, sym, ap, ◌∙◌, arith, refl, subst}
 use Rattle.cap_word.specs.Fields.{ie_of, e_of, b_of, t_of, address_of, b_field, t_field}
 use Rattle.cap_bounds.specs.Bounds.{IsSound, cut_exponent_of, span_at, raw_base_at, top_at, base_of, top_of, length_of}
 use Rattle.cap_bounds.specs.Range.{KeepsBounds, with_address}
@@ -20,30 +20,24 @@ module _ (v w : ℕ) (same : v / 2 ^ 64 % 2 ^ 27 ≡ w / 2 ^ 64 % 2 ^ 27) where
 
   pub e_of-same : e_of v ≡ e_of w
   unfolding e_from
-  e_of-same = ap (λ (x : Bool). e_from x (t_field v) (b_field v)) ie_of-same ∙ ap (λ (x : ℕ). e_from (ie_of w) x (b_field v)) t_same
-      ∙ ap (λ (x : ℕ). e_from (ie_of w) (t_field w) x) b_same
+  e_of-same = rw (ie_of-same, t_same, b_same) refl
 
   pub b_of-same : b_of v ≡ b_of w
   unfolding cut_from
-  b_of-same = ap (λ (x : Bool). cut_from x (b_field v)) ie_of-same ∙ ap (λ (x : ℕ). cut_from (ie_of w) x) b_same
+  b_of-same = rw (ie_of-same, b_same) refl
 
   pub t_of-same : t_of v ≡ t_of w
   unfolding cut_from
-  t_of-same = ap (λ (x : Bool). cut_from x (t_field v)) ie_of-same ∙ ap (λ (x : ℕ). cut_from (ie_of w) x) t_same
+  t_of-same = rw (ie_of-same, t_same) refl
 
   pub cut_exponent_of-same : cut_exponent_of v ≡ cut_exponent_of w
   cut_exponent_of-same = ap (λ (x : ℕ). min x 52) e_of-same
 
   pub length_of-same : length_of v ≡ length_of w
-  length_of-same =
-      length_is v ∙ ap (λ (x : ℕ). span_at x (t_of v) (ie_of v) * 2 ^ cut_exponent_of v) b_of-same
-      ∙ ap (λ (x : ℕ). span_at (b_of w) x (ie_of v) * 2 ^ cut_exponent_of v) t_of-same
-      ∙ ap (λ (x : Bool). span_at (b_of w) (t_of w) x * 2 ^ cut_exponent_of v) ie_of-same
-      ∙ ap (λ (x : ℕ). span_at (b_of w) (t_of w) (ie_of w) * 2 ^ x) cut_exponent_of-same ∙ sym (length_is w)
+  length_of-same = rw (length_is v, length_is w, cut_exponent_of-same, b_of-same, t_of-same, ie_of-same) refl
 
   raw-same : raw_base_at (cut_exponent_of v) (b_of v) (address_of v) ≡ raw_base_at (cut_exponent_of w) (b_of w) (address_of v)
-  raw-same = ap (λ (x : ℕ). raw_base_at x (b_of v) (address_of v)) cut_exponent_of-same
-      ∙ ap (λ (x : ℕ). raw_base_at (cut_exponent_of w) x (address_of v)) b_of-same
+  raw-same = rw (cut_exponent_of-same, b_of-same) refl
 
   pub base_of-same : base_of v ≡ raw_base_at (cut_exponent_of w) (b_of w) (address_of v) % 2 ^ 64
   unfolding base_of
@@ -51,10 +45,7 @@ module _ (v w : ℕ) (same : v / 2 ^ 64 % 2 ^ 27 ≡ w / 2 ^ 64 % 2 ^ 27) where
 
   pub top_of-same : top_of v ≡ top_at (cut_exponent_of w) (raw_base_at (cut_exponent_of w) (b_of w) (address_of v)) (length_of w)
   unfolding top_of
-  top_of-same =
-      ap (λ (x : ℕ). top_at x (raw_base_at (cut_exponent_of v) (b_of v) (address_of v)) (length_of v)) cut_exponent_of-same
-      ∙ ap (λ (x : ℕ). top_at (cut_exponent_of w) x (length_of v)) raw-same
-      ∙ ap (λ (x : ℕ). top_at (cut_exponent_of w) (raw_base_at (cut_exponent_of w) (b_of w) (address_of v)) x) length_of-same
+  top_of-same = rw (length_of-same, raw-same, cut_exponent_of-same) refl
 
 -- two words that agree modulo 2 ^ 91
 module _ (v w : ℕ) (same : v % 2 ^ 91 ≡ w % 2 ^ 91) where

@@ -246,6 +246,13 @@ pub fn sound(word: Word) -> bool
     u128::from(base) + length == top && top <= 1 << 64
 }
 
+/// The length of a word: its units, scaled by the cut exponent. It is the top less the base where the word is sound.
+pub fn length_of(word: Word) -> u128
+    ensures value { result ≡ length_of word.0 }
+{
+    decode(word).length
+}
+
 /// A word has exactly one base and top, and its length is how far its mantissa T lies above B, in units. This
 /// does nothing: its contract is the law.
 pub fn bounds_are_unique(word: Word)

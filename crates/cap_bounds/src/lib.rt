@@ -8,7 +8,8 @@ mod range;
 mod rounding;
 
 pub use crate::decoding::{
-    Interval, bounds, bounds_are_unique, mantissa, sound, sound_word_holds, sound_word_holds_more,
+    Interval, bounds, bounds_are_unique, length_of, mantissa, sound, sound_word_holds,
+    sound_word_holds_more,
 };
 pub use crate::lengths::{align_mask, least_law, round_length};
 pub use crate::range::{keeps_bounds, reach};

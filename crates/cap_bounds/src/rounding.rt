@@ -99,10 +99,7 @@ fn round_short(base: u64, length: u64) -> Rounded
     requires { length < 4096 }
     ensures base { result.base ≡ rounded_base base length }
     ensures top { result.top ≡ rounded_top base length }
-    ensures ie { result.ie ≡ rounded_ie length }
-    ensures e { result.e ≡ rounded_exponent base length }
-    ensures b { result.b ≡ rounded_b base length }
-    ensures t { result.t ≡ rounded_t base length }
+    ensures fields { HasRounding result.ie result.e result.b result.t base length }
     ensures exact { IsTrue result.exact ↔ IsExact base length }
 {
     let top = requested_top(base, length);
@@ -123,10 +120,7 @@ fn round_long(base: u64, length: u64) -> Rounded
     requires { 4096 ≤ length }
     ensures base { result.base ≡ rounded_base base length }
     ensures top { result.top ≡ rounded_top base length }
-    ensures ie { result.ie ≡ rounded_ie length }
-    ensures e { result.e ≡ rounded_exponent base length }
-    ensures b { result.b ≡ rounded_b base length }
-    ensures t { result.t ≡ rounded_t base length }
+    ensures fields { HasRounding result.ie result.e result.b result.t base length }
     ensures exact { IsTrue result.exact ↔ IsExact base length }
     ensures least { IsLeastExponent base length result.e }
 {
@@ -144,6 +138,22 @@ fn round_long(base: u64, length: u64) -> Rounded
         b: mantissa_from(u128::from(low)),
         t: mantissa_from(high),
         exact: rounded_base == base && rounded_top == top,
+    }
+}
+
+/// Rounds a request: a short one is kept, and a long one has the least exponent.
+#[inline(always)]
+fn round_by_length(base: u64, length: u64) -> Rounded
+    ensures base { result.base ≡ rounded_base base length }
+    ensures top { result.top ≡ rounded_top base length }
+    ensures fields { HasRounding result.ie result.e result.b result.t base length }
+    ensures exact { IsTrue result.exact ↔ IsExact base length }
+    ensures least { 4096 ≤ length → IsLeastExponent base length result.e }
+{
+    if length < FIRST_LONG {
+        round_short(base, length)
+    } else {
+        round_long(base, length)
     }
 }
 
@@ -173,11 +183,7 @@ pub fn round(base: u64, length: u64) -> Rounded
     ensures model_t { result.t ≡ sail_t base length }
     ensures model_exact { result.exact ≡ sail_exact base length }
 {
-    if length < FIRST_LONG {
-        round_short(base, length)
-    } else {
-        round_long(base, length)
-    }
+    round_by_length(base, length)
 }
 
 /// The exponent that counting leading zeros gives a long request.
@@ -220,10 +226,7 @@ fn round_with(base: u64, length: u64, e: u32) -> Rounded
     requires least { IsLeastExponent base length e }
     ensures base { result.base ≡ rounded_base base length }
     ensures top { result.top ≡ rounded_top base length }
-    ensures ie { result.ie ≡ rounded_ie length }
-    ensures e { result.e ≡ rounded_exponent base length }
-    ensures b { result.b ≡ rounded_b base length }
-    ensures t { result.t ≡ rounded_t base length }
+    ensures fields { HasRounding result.ie result.e result.b result.t base length }
     ensures exact { IsTrue result.exact ↔ IsExact base length }
 {
     let low = units_down(base, e);

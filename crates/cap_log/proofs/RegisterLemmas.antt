@@ -1,6 +1,6 @@
 -- Registers at the front of some bytes, by their digits.
 use Rattle.std.proofs.Common.{◌≡◌, ◌≢◌, ℕ, ◌+◌, ◌-◌, ◌*◌, ◌/◌, ◌%◌, ◌<◌, ◌≤◌, List, [], ◌∷◌, ◌++◌, length, get_or, drop}
-use Rattle.std.proofs.Common.{sym, ap, ◌∙◌, inl, inr, arith, decimal}
+use Rattle.std.proofs.Common.{sym, ap, ◌∙◌, inl, inr, refl, arith, decimal}
 use Rattle.std.proofs.lemmas.Bool.{cases_lt}
 use Rattle.std.proofs.lemmas.Fmt.{decimal_digit, decimal_step}
 use Rattle.cap_log.specs.Lines.{IsRegister, register_spelling}
@@ -11,10 +11,7 @@ two_digits : (tens ones : ℕ) → 1 ≤ tens → tens ≤ 9 → ones ≤ 9 → 
 two_digits tens ones some few few' =
     let quotient : (10 * tens + ones) / 10 ≡ tens = omega arith in
     let remainder : (10 * tens + ones) % 10 ≡ ones = omega arith in
-    decimal_step (10 * tens + ones) (omega arith) (omega arith)
-    ∙ ap (λ (k : ℕ). decimal k ++ ((48 + (10 * tens + ones) % 10) ∷ [])) quotient
-    ∙ ap (λ (k : ℕ). decimal tens ++ ((48 + k) ∷ [])) remainder
-    ∙ ap (λ (ds : List ℕ). ds ++ ((48 + ones) ∷ [])) (decimal_digit tens (omega arith))
+    rw (decimal_step (10 * tens + ones) (omega arith) (omega arith), quotient, remainder, decimal_digit tens (omega arith)) refl
 
 -- behind the first digit of a register stands a second one, with the byte that ends it
 pub record HasSecond (end : ℕ) (bytes : List ℕ) : Type 0 where
@@ -78,12 +75,8 @@ one_digit end [] long letter low high ended = absurd (omega arith)
 one_digit end (a ∷ []) long letter low high ended = absurd (omega arith)
 one_digit end (a ∷ b ∷ []) long letter low high ended = absurd (omega arith)
 one_digit end (a ∷ b ∷ x ∷ rest) long letter low high ended =
-    let digit : b ≡ 48 + (b - 48) = omega arith in (
-      omega arith,
-      ap (λ (c : ℕ). c ∷ b ∷ x ∷ rest) letter ∙ ap (λ (c : ℕ). 99 ∷ c ∷ x ∷ rest) digit
-          ∙ ap (λ (c : ℕ). 99 ∷ (48 + (b - 48)) ∷ c ∷ rest) ended
-          ∙ ap (λ (ds : List ℕ). 99 ∷ (ds ++ end ∷ rest)) (sym (decimal_digit (b - 48) (omega arith))),
-    )
+    let digit : 48 + (b - 48) ≡ b = omega arith in
+    (omega arith, rw (letter, ended, decimal_digit (b - 48) (omega arith), digit) refl)
 
 pub two_digit : (end : ℕ) (bytes : List ℕ) → get_or bytes 0 0 ≡ 99 → get_or bytes 1 0 ≤ 57 → HasSecond end bytes
     → Begins IsRegister register_spelling end bytes (10 * (get_or bytes 1 0 - 48) + (get_or bytes 2 0 - 48)) (drop 4 bytes)
@@ -94,11 +87,7 @@ two_digit end (a ∷ b ∷ x ∷ []) letter high has = let long = has.long in ab
 two_digit end (a ∷ b ∷ x ∷ y ∷ rest) letter high has =
     let low : 49 ≤ b = has.first in
     let range : (48 ≤ x) × (x ≤ 57) = has.second in
-    let tens : b ≡ 48 + (b - 48) = omega arith in
-    let ones : x ≡ 48 + (x - 48) = omega arith in (
-      has.small,
-      ap (λ (c : ℕ). c ∷ b ∷ x ∷ y ∷ rest) letter ∙ ap (λ (c : ℕ). 99 ∷ c ∷ x ∷ y ∷ rest) tens
-          ∙ ap (λ (c : ℕ). 99 ∷ (48 + (b - 48)) ∷ c ∷ y ∷ rest) ones
-          ∙ ap (λ (c : ℕ). 99 ∷ (48 + (b - 48)) ∷ (48 + (x - 48)) ∷ c ∷ rest) has.ended
-          ∙ ap (λ (ds : List ℕ). 99 ∷ (ds ++ end ∷ rest)) (sym (two_digits (b - 48) (x - 48) (omega arith) (omega arith) (omega arith))),
-    )
+    let tens : 48 + (b - 48) ≡ b = omega arith in
+    let ones : 48 + (x - 48) ≡ x = omega arith in
+    let text = two_digits (b - 48) (x - 48) (omega arith) (omega arith) (omega arith) in
+    (has.small, rw (letter, has.ended, text, tens, ones) refl)

@@ -1,6 +1,6 @@
 -- Sizes and values behind them: what the readers' answers mean.
 use Rattle.std.proofs.Common.{Bool, ◌≡◌, ℕ, zero, suc, ◌+◌, ◌*◌, ◌-◌, ◌<◌, ◌≤◌, List, [], ◌∷◌, ◌++◌, length, take, drop, get_or}
-use Rattle.std.proofs.Common.{not, eqb, inl, inr, sym, ap, subst, ◌∙◌, arith, decimal}
+use Rattle.std.proofs.Common.{not, eqb, inl, inr, refl, sym, ap, subst, ◌∙◌, arith, decimal}
 use Rattle.std.proofs.lemmas.Bool.Decides.{eqb_tells}
 use Rattle.std.proofs.lemmas.List.{append_assoc, length-append, take_all}
 use Rattle.std.proofs.lemmas.Fmt.{decimal_digit, decimal_injective}
@@ -21,9 +21,7 @@ pub size_in_front : (n : ℕ) (bytes : List ℕ) → n < 10 → 2 ≤ length byt
     → bytes ≡ decimal n ++ 32 ∷ drop 2 bytes
 size_in_front n [] small long digit space = absurd (omega arith)
 size_in_front n (a ∷ []) small long digit space = absurd (omega arith)
-size_in_front n (a ∷ b ∷ rest) small long digit space =
-    ap (λ (k : ℕ). k ∷ b ∷ rest) digit ∙ ap (λ (k : ℕ). (48 + n) ∷ k ∷ rest) space
-    ∙ ap (λ (ds : List ℕ). ds ++ 32 ∷ rest) (sym (size_text n small))
+size_in_front n (a ∷ b ∷ rest) small long digit space = rw (digit, space, size_text n small) refl
 
 pub record HasSize (n : ℕ) (bytes : List ℕ) : Type 0 where
   pub long : 2 ≤ length bytes

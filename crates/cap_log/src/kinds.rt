@@ -10,6 +10,16 @@ ghost use Rattle.cap_log.specs.Spaceless.{head-spaceless};
 ghost use Rattle.cap_log.specs.declared.kinds.Head.TheVariants as heads;
 ghost use Rattle.cap_log.specs.declared.kinds.Step.TheVariants as steps;
 
+// The operands that the parts after a head are, taken from the front of some bytes, and the rest; or none.
+macro_rules! taken {
+    ($head:expr, $bytes:expr, $parts:pat => $operands:expr) => {
+        match take_parts($head, $bytes) {
+            Some(($parts, rest)) => Some(($operands, rest)),
+            None => None,
+        }
+    };
+}
+
 mod accesses;
 mod operations;
 

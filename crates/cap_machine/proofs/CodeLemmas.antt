@@ -14,14 +14,16 @@ use Rattle.cap_log.specs.declared.kinds.Step.{Step}
 use Rattle.cap_log.specs.Lines.{IsPlace}
 use Rattle.tagmem.specs.Granules.{Granules, Entry}
 use Rattle.cap_machine.specs.States.{State, key_of, put, granule_key, untagged_null}
-use Rattle.cap_machine.specs.Places.{IsCoded, AreCoded, places_of, codes_of, place_at}
+use Rattle.cap_machine.specs.Places.{IsCoded, AreCoded, codes_of, place_at}
 use Rattle.std.specs.Option.{option_and_then}
 use Rattle.cap_machine.specs.Origins.{Origins, origins_after}
-use Rattle.cap_machine.specs.Steps.{row_of, state_with}
+use Rattle.cap_machine.specs.Steps.{row_of}
 use Rattle.cap_machine.specs.Accounts.{row_in}
 use Rattle.cap_machine.specs.Helds.{Held, state_of, code_in, account_of}
 use Rattle.cap_machine.specs.Changes.{code_for}
 use Rattle.cap_machine.proofs.GranuleLemmas.{cap_of}
+use Rattle.tagmem.proofs.Granules.{len-put}
+use Rattle.cap_machine.proofs.StateLemmas.{account_with, also_named, named_in, named-put}
 use Rattle.cap_machine.proofs.StateLemmas.{state-register, state-granule, codes-register, codes-granule}
 use Rattle.cap_machine.proofs.StepLemmas.{hits, hits-row_by, parent_in}
 
@@ -53,12 +55,7 @@ place_in_range code below =
           ]
     ]
 
--- the code of a result whose parent has this one
-pub coded_from : (tag parent_tag : Bool) (code : ℕ) → (tag ≡ true → parent_tag ≡ true) → IsCoded parent_tag code
-    → IsCoded tag (code_for tag code)
-coded_from true parent_tag code from coded = subst (λ (b : Bool). IsCoded b code) (from refl) coded
-coded_from false parent_tag code from coded = ((λ _. refl, λ _. refl), lit< tt)
-
+-- the code of a result
 pub code_for-coded : (tag : Bool) (code : ℕ) → IsCoded tag code → code_for tag code ≡ code
 code_for-coded true code coded = refl
 code_for-coded false code coded = sym (coded.0.1 refl)
@@ -82,31 +79,9 @@ coded_choice : (b : Bool) (x y : Cap) (m n : ℕ) → IsCoded x.tag m → IsCode
 coded_choice true x y m n h k = h
 coded_choice false x y m n h k = k
 
-coded_put : (state : State) (codes : ℕ → ℕ) (key : ℕ) (cap : Cap) (code : ℕ) → AreCoded state codes → IsCoded cap.tag code
+pub coded_put : (state : State) (codes : ℕ → ℕ) (key : ℕ) (cap : Cap) (code : ℕ) → AreCoded state codes → IsCoded cap.tag code
     → AreCoded (put state key cap) (put codes key code)
 coded_put state codes key cap code all one other = coded_choice (key == other) cap (state other) code (codes other) one (all other)
-
--- a register that holds another capability, with its code
-pub coded_register : (registers : List Cap) (codes : List ℕ) (memory : Granules) (target : ℕ) (cap : Cap) (code : ℕ) → length registers ≡ 32
-    → length codes ≡ 32 → target ≤ 31
-    → AreCoded (places_of registers memory) (codes_of codes memory) → IsCoded cap.tag code
-    → AreCoded (places_of (set registers target cap) memory) (codes_of (set codes target code) memory)
-coded_register registers codes memory target cap code sized coded_so low all one =
-    subst (λ (state : State). AreCoded state (codes_of (set codes target code) memory))
-    (sym (state-register registers memory target cap sized low))
-    (subst (AreCoded (put (places_of registers memory) target cap)) (sym (codes-register codes memory target code coded_so low))
-    (coded_put (places_of registers memory) (codes_of codes memory) target cap code all one))
-
--- a granule that holds another entry
-pub coded_granule : (registers : List Cap) (codes : List ℕ) (memory : Granules) (granule : ℕ) (entry : Entry)
-    → AreCoded (places_of registers memory) (codes_of codes memory) → IsCoded entry.0 entry.2
-    → AreCoded (places_of registers (map.insert memory granule entry)) (codes_of codes (map.insert memory granule entry))
-coded_granule registers codes memory granule entry all one =
-    subst (λ (state : State). AreCoded state (codes_of codes (map.insert memory granule entry)))
-    (sym (state-granule registers memory granule entry))
-    (subst (AreCoded (put (places_of registers memory) (granule_key granule) (cap_of entry)))
-    (sym (codes-granule codes memory granule entry))
-    (coded_put (places_of registers memory) (codes_of codes memory) (granule_key granule) (cap_of entry) entry.2 all one))
 
 -- the code of a register's origin
 pub code-register : (held : Held) (number : ℕ) → number ≤ 31 → code_in held number ≡ get_or held.codes number 0
@@ -122,6 +97,36 @@ choice_under f false x y = refl
 
 pub origins-put : (codes : ℕ → ℕ) (key code : ℕ) → origins_by (put codes key code) ≡ put (origins_by codes) key (place_at code)
 origins-put codes key code = fun_ext (λ other. choice_under place_at (key == other) code (codes other))
+
+-- the account where a register holds another capability, with another code
+pub account-register : (old : Held) (target : ℕ) (cap : Cap) (code : ℕ) (origins : Origins) → length old.registers ≡ 32
+    → length old.codes ≡ 32 → target ≤ 31 → put (origins_by (code_in old)) target (place_at code) ≡ origins
+    → account_of (record old { registers = set old.registers target cap; codes = set old.codes target code })
+    ≡ account_with old.rules (put (state_of old) target cap) origins old.roots old.steps (named_in old.memory) (map.len old.memory)
+account-register old target cap code origins sized coded_so low is =
+    ap (λ (s : State). account_with old.rules s (origins_by (codes_of (set old.codes target code) old.memory)) old.roots old.steps
+    (named_in old.memory) (map.len old.memory)) (state-register old.registers old.memory target cap sized low)
+    ∙ ap (λ (o : Origins). account_with old.rules (put (state_of old) target cap) o old.roots old.steps (named_in old.memory)
+    (map.len old.memory))
+    (ap origins_by (codes-register old.codes old.memory target code coded_so low) ∙ origins-put (code_in old) target code ∙ is)
+
+-- the account where a granule holds another entry
+pub account-granule : (old : Held) (granule : ℕ) (entry : Entry) (cap : Cap) (origins : Origins) → cap_of entry ≡ cap
+    → put (origins_by (code_in old)) (granule_key granule) (place_at entry.2) ≡ origins
+    → account_of (record old { memory = map.insert old.memory granule entry })
+    ≡ account_with old.rules (put (state_of old) (granule_key granule) cap) origins old.roots old.steps
+    (also_named granule (named_in old.memory)) (if named_in old.memory granule then map.len old.memory else map.len old.memory + 1)
+account-granule old granule entry cap origins holds is =
+    let after = map.insert old.memory granule entry in
+    let state = put (state_of old) (granule_key granule) cap in
+    ap (λ (s : State). account_with old.rules s (origins_by (codes_of old.codes after)) old.roots old.steps (named_in after) (map.len after))
+    (state-granule old.registers old.memory granule entry ∙ ap (put (state_of old) (granule_key granule)) holds)
+    ∙ ap (λ (o : Origins). account_with old.rules state o old.roots old.steps (named_in after) (map.len after))
+    (ap origins_by (codes-granule old.codes old.memory granule entry) ∙ origins-put (code_in old) (granule_key granule) entry.2 ∙ is)
+    ∙ ap (λ (named : ℕ → Bool). account_with old.rules state origins old.roots old.steps named (map.len after))
+    (named-put old.memory granule entry)
+    ∙ ap (account_with old.rules state origins old.roots old.steps (also_named granule (named_in old.memory)))
+    (len-put old.memory granule entry)
 
 -- where a result is tagged, the place that it comes from has this code
 abbrev pub IsFrom : Held → Step → Cap → ℕ → Type 0
@@ -146,7 +151,7 @@ pub origin-written : (old : Held) (step : Step) (place : Place) (value : Cap) (c
     → (row_in (account_of old) step).writes ≡ Some (place, value)
     → IsFrom old step value code
     → put (origins_by (code_in old)) (key_of place) (place_at (code_for value.tag code))
-    ≡ origins_after (origins_by (code_in old)) (state_of old) step (state_with (state_of old) (row_in (account_of old) step).writes)
+    ≡ origins_after (origins_by (code_in old)) (state_of old) step (put (state_of old) (key_of place) value)
 origin-written old step place value code writes from =
     let origins = origins_by (code_in old) in
     let state = state_of old in
@@ -155,6 +160,4 @@ origin-written old step place value code writes from =
     let hit : hits row.writes key ≡ (key_of place == key) = sym (hits-row_by old.rules row key)
     ∙ ap (λ (w : Option (Place × Cap)). hits w key) writes in
     origin_there origins row.parent (key_of place == key) value (state key) key code from
-    ∙ ap (λ (b : Bool). option_and_then origins (parent_in b (put state (key_of place) value key).tag row.parent key)) (sym hit)
-    ∙ ap (λ (w : Option (Place × Cap)). option_and_then origins (parent_in (hits row.writes key)
-    (state_with state w key).tag row.parent key)) (sym writes))
+    ∙ ap (λ (b : Bool). option_and_then origins (parent_in b (put state (key_of place) value key).tag row.parent key)) (sym hit))

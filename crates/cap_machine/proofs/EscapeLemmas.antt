@@ -6,11 +6,10 @@ use Rattle.std.specs.List.{AllByRecursion}
 use Rattle.std.proofs.lemmas.Bool.{and_parts, eq-eqb, false≢true}
 use Rattle.std.proofs.lemmas.Option.{none-some, same_Some}
 use Rattle.cap_word.specs.declared.word.Cap.{Cap}
-use Rattle.cap_bounds.specs.Bounds.{IsSound}
 use Rattle.cap_log.specs.declared.lines.Place.TheVariants.{Register}
 use Rattle.cap_log.specs.declared.kinds.Step.{Step}
-use Rattle.cap_log.specs.declared.kinds.Step.TheVariants.{Move, ClearTag, SetBounds, SetBoundsExact, SetAddr, AndPerm}
-use Rattle.cap_log.specs.declared.kinds.Step.TheVariants.{Seal, Unseal, LoadCap, StoreCap, Load, Store}
+use Rattle.cap_log.specs.declared.kinds.Step.TheVariants.{SetBounds, SetBoundsExact, SetAddr, AndPerm}
+use Rattle.cap_log.specs.declared.kinds.Step.TheVariants.{LoadCap, StoreCap, Load, Store}
 use Rattle.cap_log.specs.Lines.{IsStepInRange}
 use Rattle.cap_ops.specs.declared.refusal.Refusal.{Refusal}
 use Rattle.cap_ops.specs.Checks.{first_of}
@@ -23,7 +22,7 @@ use Rattle.cap_ops.specs.Operations.{seal_checks, unseal_checks}
 use Rattle.cap_ops.proofs.ClearLemmas.{untagged_where_beyond}
 use Rattle.cap_ops.specs.Permissions.{is_sealed}
 use Rattle.cap_ops.proofs.TestLemmas.{first_of-append, first_of-append_some}
-use Rattle.cap_ops.proofs.NarrowingLemmas.{BoundsEscape-source, first_escapes, escapes_first as first_escapes_beyond}
+use Rattle.cap_ops.proofs.NarrowingLemmas.{BoundsEscape-source, first_escapes, escapes_first as escapes_beyond}
 use Rattle.cap_ops.specs.declared.refusal.Refusal.TheVariants.{BoundsEscape, WrongResult}
 use Rattle.cap_machine.specs.declared.ends.StepEnd.{StepEnd}
 use Rattle.cap_machine.specs.declared.ends.StepEnd.TheVariants.{Refused, NoMemory}
@@ -32,19 +31,12 @@ use Rattle.cap_machine.specs.declared.rules.Rules.TheVariants.{One, TwoStrict, T
 use Rattle.cap_machine.specs.States.{State, DeclaredRoot, put, start}
 use Rattle.cap_machine.specs.Steps.{Access, Leads, Row, Written, clear_row, row_by, row_of, state_with}
 use Rattle.cap_machine.specs.Accounts.{Account, row_in, step_checks}
-use Rattle.cap_machine.specs.Helds.{Held, state_of, account_of, checks_by}
+use Rattle.cap_machine.specs.Helds.{Held, AnswersStep, state_of, account_of, checks_by}
 use Rattle.cap_machine.specs.Parents.{IsSoundState, StaysWithinParents}
 use Rattle.cap_machine.specs.Runs.{AreSound, IsRun, state_at}
-use Rattle.cap_machine.specs.Escapes.{HasRoomFor, AsksBeyond, ClearsBeyond, ClearsExactly, Escapes, asked_by}
+use Rattle.cap_machine.specs.Escapes.{AsksBeyond, ClearsBeyond, ClearsExactly, Escapes, asked_by}
 use Rattle.cap_machine.proofs.AuthorityLemmas.{one_back, start_sound}
-use Rattle.cap_machine.proofs.MadeLemmas.{EndsIn, ending, row_by-written}
-
--- the first test of new bounds that holds
-escapes : (source : Cap) (length : ℕ) (exact : Bool) → length < 2 ^ 64 → source.tag ≡ true → is_sealed source.word.0 ≡ false
-    → IsSound source.word.0
-    → (first_of (set_bounds_checks source length exact) ≡ Some BoundsEscape) ↔ (HasRoomFor source length → ⊥)
-escapes source length exact fits tagged unsealed sound =
-    (first_escapes_beyond source length exact fits tagged unsealed sound, first_escapes source length exact fits tagged unsealed sound)
+use Rattle.cap_machine.proofs.MadeLemmas.{ending, row_by-written}
 
 no_last_test : (recorded limit : Bool) → first_of (ending recorded limit) ≡ Some BoundsEscape → ⊥
 no_last_test true true h = cc
@@ -60,53 +52,42 @@ of_operation account step h =
       | inr last ↦ absurd (no_last_test _ _ last.1)
     ]
 
-answers : (old new : Held) (step : Step) (result : Result (Unit {0}) StepEnd) → EndsIn old step result new
+answers : (old new : Held) (step : Step) (result : Result (Unit {0}) StepEnd) → AnswersStep old step result new
     → result ≡ Err (Refused BoundsEscape)
     → first_of (step_checks (account_of old) step) ≡ Some BoundsEscape
 answers old new step (Ok done) ends h = cc
 answers old new step (Err (Refused refusal)) ends h = let found = ends.0 in cc
 answers old new step (Err NoMemory) ends h = cc
 
-answered : (old new : Held) (step : Step) (result : Result (Unit {0}) StepEnd) → EndsIn old step result new
+answered : (old new : Held) (step : Step) (result : Result (Unit {0}) StepEnd) → AnswersStep old step result new
     → first_of (step_checks (account_of old) step) ≡ Some BoundsEscape → result ≡ Err (Refused BoundsEscape)
 answered old new step (Ok done) ends h = let free = ends.checks in cc
 answered old new step (Err (Refused refusal)) ends h = let found = ends.0 in cc
 answered old new step (Err NoMemory) ends h = let free = ends.0 in cc
 
--- the same by any rules
-escapes_by : (rules : Rules) (source : Cap) (length : ℕ) (exact : Bool) → length < 2 ^ 64 → source.tag ≡ true
-    → is_sealed source.word.0 ≡ false → IsSound source.word.0
-    → (first_of (checks_by rules (set_bounds_checks source length exact)) ≡ Some BoundsEscape)
-    ↔ ((rules ≢ TwoClear) × (HasRoomFor source length → ⊥))
-escapes_by One source length exact fits held unsealed sound =
-    let both = escapes source length exact fits held unsealed sound in (λ h. (λ e. cc, both.0 h), λ p. both.1 p.1)
-escapes_by TwoStrict source length exact fits held unsealed sound =
-    let both = escapes source length exact fits held unsealed sound in (λ h. (λ e. cc, both.0 h), λ p. both.1 p.1)
-escapes_by TwoClear source length exact fits held unsealed sound = (λ h. cc, λ p. absurd (p.0 refl))
+-- the checks by any rules
+refused_by : (rules : Rules) (checks : List (Bool × Refusal)) (refusal : Refusal)
+    → (first_of (checks_by rules checks) ≡ Some refusal) ↔ ((rules ≢ TwoClear) × (first_of checks ≡ Some refusal))
+refused_by One checks refusal = (λ h. (λ e. cc, h), λ p. p.1)
+refused_by TwoStrict checks refusal = (λ h. (λ e. cc, h), λ p. p.1)
+refused_by TwoClear checks refusal = (λ h. cc, λ p. absurd (p.0 refl))
 
 -- what a step that sets bounds asks for
-asks : (rules : Rules) (state : State) (source length : ℕ) (exact : Bool) → length < 2 ^ 64 → IsSoundState state
-    → first_of (checks_by rules (set_bounds_checks (state source) length exact)) ≡ Some BoundsEscape
-    → (rules ≢ TwoClear) × AsksBeyond state (Some (source, length))
-asks TwoClear state source length exact fits sound h = cc
-asks One state source length exact fits sound h =
-    let is = BoundsEscape-source (state source) length exact h in
-    ((λ e. cc), (is.0, is.1, (escapes (state source) length exact fits is.0 is.1 (sound source is.0)).0 h))
-asks TwoStrict state source length exact fits sound h =
-    let is = BoundsEscape-source (state source) length exact h in
-    ((λ e. cc), (is.0, is.1, (escapes (state source) length exact fits is.0 is.1 (sound source is.0)).0 h))
-
 narrowed : (account : Account) (step : Step) (source length : ℕ) (exact : Bool)
     → (row_in account step).checks ≡ checks_by account.rules (set_bounds_checks (account.state source) length exact) → length < 2 ^ 64
     → IsSoundState account.state
     → (first_of (step_checks account step) ≡ Some BoundsEscape) ↔ ((account.rules ≢ TwoClear)
     × AsksBeyond account.state (Some (source, length)))
-narrowed account step source length exact same fits sound = (
-  λ h. asks account.rules account.state source length exact fits sound (sym (ap first_of same) ∙ of_operation account step h),
-  λ beyond.
-      let by = escapes_by account.rules (account.state source) length exact fits beyond.1.0 beyond.1.1 (sound source beyond.1.0) in
-      first_of-append_some ((row_in account step).checks) _ BoundsEscape (ap first_of same ∙ by.1 (beyond.0, beyond.1.2)),
-)
+narrowed account step source length exact same fits sound =
+    let by = refused_by account.rules (set_bounds_checks (account.state source) length exact) BoundsEscape in (
+      λ h.
+          let found = by.0 (sym (ap first_of same) ∙ of_operation account step h) in
+          let is = BoundsEscape-source (account.state source) length exact found.1 in
+          (found.0, (is.0, is.1, escapes_beyond (account.state source) length exact fits is.0 is.1 (sound source is.0) found.1)),
+      λ beyond.
+          let first = first_escapes (account.state source) length exact fits beyond.1.0 beyond.1.1 (sound source beyond.1.0) beyond.1.2 in
+          first_of-append_some ((row_in account step).checks) _ BoundsEscape (ap first_of same ∙ by.1 (beyond.0, first)),
+    )
 
 -- whether a refusal is that of a test of an operation or of an access: its result is none, and its bounds only where it asks for some
 abbrev is_own : Bool → Refusal → Bool
@@ -140,18 +121,15 @@ access_own authority (StoreCapability stored) offset size = refl
 -- so it is in each row
 row_own : (state : State) (step : Step) → all_own (is_some (asked_by step)) (row_of state step).checks ≡ true
 unfolding set_bounds_checks set_addr_checks and_perm_checks seal_checks unseal_checks
-row_own state (Move step) = refl
-row_own state (ClearTag step) = refl
 row_own state (SetBounds step) = own_where true (state step.source).tag _ refl
 row_own state (SetBoundsExact step) = own_where true (state step.source).tag _ refl
 row_own state (SetAddr step) = own_where false (state step.source).tag _ refl
 row_own state (AndPerm step) = own_where false (state step.source).tag _ refl
-row_own state (Seal step) = refl
-row_own state (Unseal step) = refl
 row_own state (LoadCap step) = access_own (state step.authority) LoadCapability step.offset 16
 row_own state (StoreCap step) = access_own (state step.authority) (StoreCapability (state step.source)) step.offset 16
 row_own state (Load step) = access_own (state step.authority) LoadData step.offset step.datum.size
 row_own state (Store step) = access_own (state step.authority) StoreData step.offset step.datum.size
+row_own state step = refl
 
 own_by : (rules : Rules) (row : Row) (asks : Bool) → all_own asks row.checks ≡ true → all_own asks (row_by rules row).checks ≡ true
 own_by One row asks own = own
@@ -189,20 +167,11 @@ escapes_first account (SetBoundsExact step) range sound =
     narrowed account (SetBoundsExact step) step.source step.length true
     (ap (λ (row : Row). row.checks) (row_by-written account.rules _ (Register step.target) _ (Some (Register step.source)) (Written step.result) None))
     range.2 sound
-escapes_first account (Move step) range sound = never account (Move step) refl
-escapes_first account (ClearTag step) range sound = never account (ClearTag step) refl
-escapes_first account (SetAddr step) range sound = never account (SetAddr step) refl
-escapes_first account (AndPerm step) range sound = never account (AndPerm step) refl
-escapes_first account (Seal step) range sound = never account (Seal step) refl
-escapes_first account (Unseal step) range sound = never account (Unseal step) refl
-escapes_first account (LoadCap step) range sound = never account (LoadCap step) refl
-escapes_first account (StoreCap step) range sound = never account (StoreCap step) refl
-escapes_first account (Load step) range sound = never account (Load step) refl
-escapes_first account (Store step) range sound = never account (Store step) refl
+escapes_first account step range sound = never account step refl
 
 -- a step's answer for its bounds
 pub escape_exact : (old new : Held) (step : Step) (result : Result (Unit {0}) StepEnd) → IsStepInRange step → IsSoundState (state_of old)
-    → EndsIn old step result new
+    → AnswersStep old step result new
     → (result ≡ Err (Refused BoundsEscape)) ↔ Escapes old.rules (state_of old) step
 escape_exact old new step result range sound ends =
     let both = escapes_first (account_of old) step range sound in
@@ -223,7 +192,7 @@ clears rules old (SetBounds step) new range sound leads = λ mode held unsealed.
 clears rules old step new range sound leads = tt
 
 pub clears_exactly : (old new : Held) (step : Step) (result : Result (Unit {0}) StepEnd) → IsStepInRange step → IsSoundState (state_of old)
-    → EndsIn old step result new
+    → AnswersStep old step result new
     → OnOk result (ClearsBeyond old.rules (state_of old) step (state_of new))
 clears_exactly old new step (Ok done) range sound ends = clears old.rules (state_of old) step (state_of new) range sound ends.leads
 clears_exactly old new step (Err end) range sound ends = tt
@@ -248,7 +217,7 @@ clears_along rules roots steps states sound ranges run moment step is =
 
 -- what a step that is made leaves of authority
 pub step_within : (old new : Held) (step : Step) (result : Result (Unit {0}) StepEnd) → IsStepInRange step → IsSoundState (state_of old)
-    → EndsIn old step result new
+    → AnswersStep old step result new
     → OnOk result (StaysWithinParents (state_of old) step (state_of new))
 step_within old new step (Ok done) range sound ends =
     λ key held. one_back old.rules (state_of old) step (state_of new) key range sound ends.leads held

@@ -65,13 +65,11 @@ number_of-take (suc n) (x ∷ xs) small =
     omega (arith, split, ap (λ (k : ℕ). k % 256 ^ n) high, number_of-take n xs (λ i. small (suc i)))
 
 -- the number of so many bytes, shifted and cut out of the number of all
-pub number_at-cut : (bytes : List ℕ) (byte_index size whole shift : ℕ) → ((i : ℕ) → get_or bytes i 0 < 256) → whole ≡ number_of bytes
-    → shift ≡ byte_index → whole / 2 ^ (8 * shift) % 256 ^ size ≡ number_at bytes byte_index size
-number_at-cut bytes byte_index size whole shift small whole_is shift_is =
-    ap (λ (n : ℕ). whole / 2 ^ (8 * n) % 256 ^ size) shift_is
-    ∙ ap (λ (n : ℕ). n / 2 ^ (8 * byte_index) % 256 ^ size) whole_is
-    ∙ ap (λ (n : ℕ). n % 256 ^ size) (number_of-drop bytes byte_index small)
-    ∙ sym (number_of-take size (drop byte_index bytes) (λ i. subst (λ (b : ℕ). b < 256) (sym (get_or-drop byte_index bytes i 0)) (small _)))
+pub number_at-cut : (bytes : List ℕ) (byte_index count size whole shift : ℕ) → ((i : ℕ) → get_or bytes i 0 < 256) → whole ≡ number_of bytes
+    → shift ≡ byte_index → count ≡ size → whole / 2 ^ (8 * shift) % 256 ^ count ≡ number_at bytes byte_index size
+number_at-cut bytes byte_index count size whole shift small whole_is shift_is same =
+    rw (shift_is, whole_is, same, number_of-drop bytes byte_index small)
+    (sym (number_of-take size (drop byte_index bytes) (λ i. subst (λ (b : ℕ). b < 256) (sym (get_or-drop byte_index bytes i 0)) (small _))))
 
 -- the bytes that std's conversion gives, as many as are taken
 pub taken_bytes : (k n i v : ℕ) → k ≤ n → take k (bytes_low_first i n v) ≡ low_bytes k (v / 256 ^ i)

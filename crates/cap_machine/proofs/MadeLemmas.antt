@@ -1,11 +1,11 @@
 -- A machine after a step was made, or refused.
-use Rattle.std.proofs.Common.{◌≡◌, ℕ, ◌+◌, ◌/◌, ◌%◌, ◌^◌, ◌<◌, ◌≤◌, Bool, true, false, not, ◌||◌}
+use Rattle.std.proofs.Common.{◌≡◌, ℕ, ◌+◌, ◌/◌, ◌%◌, ◌^◌, ◌<◌, ◌≤◌, Bool, true, false, not, ◌||◌, ◌++◌}
 use Rattle.std.proofs.Common.{nat_le, List, [], ◌∷◌, length, take, drop, get_or, refl, sym, ap, subst, ◌∙◌, arith, lit<}
 use Rattle.std.proofs.Common.{inl, inr, nat_lt, ◌-◌, Some, None, Option, option_map, Result, Ok, Err, MatchResult, All}
 use Rattle.std.specs.Bool.{if◌then◌else◌}
 use Rattle.std.specs.FinMap as fin
-use Rattle.std.proofs.Math.ListN.{set}
 use Rattle.std.proofs.Math.Bool.{or-false}
+use Rattle.std.proofs.Math.ListN.{set}
 use Rattle.std.proofs.lemmas.Bool.{false≢true, cases_lt, le-ltb, eq-eqb, lt-leb}
 use Rattle.std.proofs.lemmas.List.{get_or_past}
 use Rattle.std.proofs.lemmas.List.Elements.{All-get_or}
@@ -23,34 +23,34 @@ use Rattle.cap_log.specs.declared.kinds.accesses.StoreCap.{StoreCap}
 use Rattle.cap_log.specs.Lines.{IsStepInRange}
 use Rattle.cap_ops.specs.declared.faults.OpFault.{OpFault}
 use Rattle.cap_ops.specs.Checks.{first_of}
-use Rattle.cap_ops.proofs.TestLemmas.{first_of-append_none, first_of-append_some}
+use Rattle.cap_ops.proofs.TestLemmas.{first_of-append_free, first_of-append_none, first_of-append_some}
 use Rattle.tagmem.specs.Granules.{Entry, AreStored, bytes_at, overwritten}
-use Rattle.tagmem.proofs.Granules.{len-put, length-bytes_at, bytes_at_fit}
+use Rattle.tagmem.proofs.Granules.{length-bytes_at, bytes_at_fit}
 use Rattle.cap_ops.specs.declared.refusal.Refusal.{Refusal}
 use Rattle.cap_ops.specs.declared.refusal.Refusal.TheVariants.{WrongResult, LimitPassed}
 use Rattle.cap_machine.specs.declared.ends.StepEnd.{StepEnd}
 use Rattle.cap_machine.specs.declared.ends.StepEnd.TheVariants.{Refused, NoMemory}
 use Rattle.cap_ops.specs.Refusals.{refusal_of}
 use Rattle.cap_machine.specs.States.{State, untagged_null, granule_key, key_of, put, value_at}
-use Rattle.cap_machine.specs.Steps.{Access, Recorded, Row, Written, row_of, row_by, state_with}
+use Rattle.cap_machine.specs.Steps.{Access, Nothing, Recorded, Row, Written, row_of, row_by, state_with}
 use Rattle.cap_machine.proofs.StepLemmas.{is_recorded}
 use Rattle.cap_machine.specs.Steps.{address_through, with_value}
 use Rattle.cap_machine.specs.declared.rules.Rules.{Rules}
 use Rattle.cap_machine.specs.declared.rules.Rules.TheVariants.{One, TwoStrict, TwoClear}
-use Rattle.cap_machine.specs.Accounts.{Account, step_checks, named_by, row_in, naming, is_new}
+use Rattle.cap_machine.specs.Accounts.{Account, step_checks, with_step, named_by, row_in, naming, is_new}
 use Rattle.cap_machine.specs.Accounts.{passes_granule_limit, most_steps}
 use Rattle.std.specs.Option.{option_and_then}
-use Rattle.cap_machine.specs.Origins.{Origins, origins_after}
-use Rattle.cap_machine.specs.Places.{AreCoded, IsCoded, codes_of, place_at}
+use Rattle.cap_machine.specs.Origins.{origins_after}
+use Rattle.cap_machine.specs.Places.{AreCoded, IsCoded, place_at}
 use Rattle.cap_machine.specs.Parents.{IsSoundCap, IsSoundState}
-use Rattle.cap_machine.specs.Helds.{Held, Makes, EndsStep, state_of, code_in, account_of, checks_by, value_by, granule_cap}
-use Rattle.cap_machine.specs.Changes.{Derives, EndsPut, IsParentsCode, WritesRegister, code_for, is_same_cap, last_checks, rules_for}
+use Rattle.cap_machine.specs.Helds.{Held, AnswersStep, Makes, EndsStep, state_of, code_in, account_of, checks_by, value_by, granule_cap}
+use Rattle.cap_machine.specs.Changes.{AnswersPut, Derives, EndsPut, IsParentsCode, WritesRegister, code_for, is_same_cap, last_checks, rules_for}
 use Rattle.cap_machine.specs.Changes.{is_past_limits, result_in, with_register, with_cap_put, with_value_put}
 use Rattle.cap_machine.specs.Values.{number_at}
 use Rattle.cap_machine.proofs.GranuleLemmas.{cap_of}
-use Rattle.cap_machine.proofs.StateLemmas.{account_with, state-register, state-granule, codes-register, codes-granule}
-use Rattle.cap_machine.proofs.StateLemmas.{named-put, named_in, also_named}
-use Rattle.cap_machine.proofs.CodeLemmas.{IsFrom, code-register, code_for-coded, coded_from, origins_by, origins-put, origin-written}
+use Rattle.cap_machine.proofs.CodeLemmas.{IsFrom, account-granule, account-register, code-register, code_for-coded, origins_by}
+use Rattle.cap_machine.proofs.CodeLemmas.{origin-written}
+use Rattle.cap_machine.proofs.SoundLemmas.{equal_caps}
 use Rattle.cap_machine.proofs.StepLemmas.{WritesWithin, row_by-access, writes_within_by}
 
 -- the row of an access
@@ -62,75 +62,54 @@ same_row old step access is = row_by-access old.rules (row_of (state_of old) ste
 abbrev pub ending : Bool → Bool → List (Bool × Refusal)
 ending recorded limit = (not recorded, WrongResult) ∷ (limit, LimitPassed) ∷ []
 
-neither : (recorded limit : Bool) → first_of (ending recorded limit) ≡ None → (recorded ≡ true) × (limit ≡ false)
-neither true true h = absurd (none-some LimitPassed (sym h))
-neither true false h = (refl, refl)
-neither false limit h = absurd (none-some WrongResult (sym h))
+recorded_so : (recorded limit : Bool) → first_of (ending recorded limit) ≡ None → recorded ≡ true
+recorded_so true limit h = refl
+recorded_so false limit h = absurd (none-some WrongResult (sym h))
 
--- the tests of a step whose operation none refuses
-step_checks-free : (old : Held) (step : Step) → first_of (row_in (account_of old) step).checks ≡ None
-    → first_of (step_checks (account_of old) step)
-    ≡ first_of (ending (is_recorded (row_in (account_of old) step)) (nat_le most_steps old.steps || passes_granule_limit (account_of old)
-    (named_by (row_in (account_of old) step))))
-step_checks-free old step free = first_of-append_none ((row_in (account_of old) step).checks) _ free
+-- those of a step that names no granule
+unnamed : (old : Held) (recorded : Bool) → first_of (ending recorded (nat_le most_steps old.steps || false)) ≡ first_of (last_checks old recorded)
+unnamed old recorded = ap (λ (b : Bool). first_of (ending recorded b)) (or-false (nat_le most_steps old.steps))
 
--- a step that names no granule
-tail_unnamed : (old : Held) (step : Step) (recorded : Bool) → named_by (row_in (account_of old) step) ≡ None
-    → is_recorded (row_in (account_of old) step) ≡ recorded
-    → first_of (ending (is_recorded (row_in (account_of old) step)) (nat_le most_steps old.steps || passes_granule_limit (account_of old)
-    (named_by (row_in (account_of old) step))))
-    ≡ first_of (last_checks old recorded)
-tail_unnamed old step recorded named same =
-    ap (λ (r : Bool). first_of (ending r (nat_le most_steps old.steps || passes_granule_limit (account_of old)
-    (named_by (row_in (account_of old) step))))) same
-    ∙ ap (λ (o : Option ℕ). first_of (ending recorded (nat_le most_steps old.steps || passes_granule_limit (account_of old) o))) named
-    ∙ ap (λ (b : Bool). first_of (ending recorded b)) (or-false (nat_le most_steps old.steps))
+-- the last two tests of a step, by its row
+abbrev ending_of : Held → Row → List (Bool × Refusal)
+ending_of old row = ending (is_recorded row) (nat_le most_steps old.steps || passes_granule_limit (account_of old) (named_by row))
 
--- a step that names a granule and records nothing
-tail_named : (old : Held) (step : Step) (granule : ℕ) (past : Bool) → named_by (row_in (account_of old) step) ≡ Some granule
-    → is_recorded (row_in (account_of old) step) ≡ true
-    → is_past_limits old granule ≡ past
-    → first_of (ending (is_recorded (row_in (account_of old) step)) (nat_le most_steps old.steps || passes_granule_limit (account_of old)
-    (named_by (row_in (account_of old) step))))
-    ≡ (if past then Some LimitPassed else None)
-tail_named old step granule past named same limit =
-    ap (λ (r : Bool). first_of (ending r (nat_le most_steps old.steps || passes_granule_limit (account_of old)
-    (named_by (row_in (account_of old) step))))) same
-    ∙ ap (λ (o : Option ℕ). first_of (ending true (nat_le most_steps old.steps || passes_granule_limit (account_of old) o))) named
-    ∙ ap (λ (b : Bool). first_of (ending true b)) limit
+-- all its tests, where none of its operation or access holds
+checks_free : (old : Held) (step : Step) (row : Row) → row_in (account_of old) step ≡ row → first_of row.checks ≡ None
+    → first_of (step_checks (account_of old) step) ≡ first_of (ending_of old row)
+checks_free old step row is free =
+    ap (λ (r : Row). first_of (r.checks ++ ending_of old r)) is ∙ first_of-append_none row.checks (ending_of old row) free
 
--- the account after a step that names this granule, or none
-abbrev stepped_on : Held → Step → Option ℕ → Account
-stepped_on old step granule =
-    let named = naming (account_of old) granule in
-    let next = state_with (state_of old) (row_in (account_of old) step).writes in
+-- the account after it, by its row
+abbrev account_by : Held → Step → Row → Account
+account_by old step row =
+    let named = naming (account_of old) (named_by row) in
+    let next = state_with (state_of old) row.writes in
     record named { state = next; origin = origins_after (origins_by (code_in old)) (state_of old) step next; steps = old.steps + 1 }
 
--- a step that writes a register
-made : (old : Held) (step : Step) (target : ℕ) (value recorded : Cap) (code : ℕ) → named_by (row_in (account_of old) step) ≡ None
-    → (row_in (account_of old) step).writes ≡ Some (Register target, value)
-    → is_recorded (row_in (account_of old) step) ≡ is_same_cap recorded value
-    → length old.registers ≡ 32 → length old.codes ≡ 32 → target ≤ 31 → first_of (row_in (account_of old) step).checks ≡ None
-    → IsFrom old step value code
-    → first_of (last_checks old (is_same_cap recorded value)) ≡ None → Makes old step (with_register old target value code)
-made old step target value recorded code named writes same sized coded_so low free from last =
-    let next = state_with (state_of old) (row_in (account_of old) step).writes in
-    let codes = set old.codes target (code_for value.tag code) in
-    let after = state-register old.registers old.memory target value sized low ∙ sym (ap (state_with (state_of old)) writes) in
-    let origins = ap origins_by (codes-register old.codes old.memory target (code_for value.tag code) coded_so low)
-    ∙ origins-put (code_in old) target (code_for value.tag code) ∙ origin-written old step (Register target) value code writes from in
+-- a step is made where none of its tests holds and the account is that after it: so it leads to the new state
+makes : (old new : Held) (step : Step) (row : Row) → row_in (account_of old) step ≡ row → first_of row.checks ≡ None
+    → first_of (ending_of old row) ≡ None → account_of new ≡ account_by old step row → Makes old step new
+makes old new step row is free last account =
+    let checks = checks_free old step row is free ∙ last in
+    let after : account_of new ≡ with_step (account_of old) step = account ∙ sym (ap (account_by old step) is) in
+    let each = first_of-append_free (row_in (account_of old) step).checks _ checks in
     record {
-      checks = step_checks-free old step free ∙ tail_unnamed old step (is_same_cap recorded value) named same ∙ last;
-      leads = record { allowed = free; recorded = same ∙ (neither _ _ last).0; after = after };
-      account =
-          ap (λ (s : State). account_with old.rules s (origins_by (codes_of codes old.memory)) old.roots (old.steps + 1)
-          (named_in old.memory) (fin.len old.memory)) after
-          ∙ ap (λ (o : Origins). account_with old.rules next o old.roots (old.steps + 1) (named_in old.memory) (fin.len old.memory)) origins
-          ∙ sym (ap (stepped_on old step) named);
+      checks = checks;
+      leads = record { allowed = each.0; recorded = recorded_so _ _ each.1; after = ap (λ (a : Account). a.state) after };
+      account = after;
     }
 
-abbrev pub EndsIn : Held → Step → Result (Unit {0}) StepEnd → Held → Type 0
-EndsIn old step result new = MatchResult result (λ _. Makes old step new) (λ end. EndsStep old step end new)
+-- a step is refused for one of its last tests
+refused : (old : Held) (step : Step) (row : Row) (refusal : Refusal) → row_in (account_of old) step ≡ row → first_of row.checks ≡ None
+    → first_of (ending_of old row) ≡ Some refusal → EndsStep old step (Refused refusal) old
+refused old step row refusal is free found = (checks_free old step row is free ∙ found, refl)
+
+-- or by its operation or access
+refused_first : (old : Held) (step : Step) (row : Row) (fault : OpFault) → row_in (account_of old) step ≡ row
+    → first_of row.checks ≡ Some (refusal_of fault) → EndsStep old step (Refused (refusal_of fault)) old
+refused_first old step row fault is found =
+    (ap (λ (r : Row). first_of (r.checks ++ ending_of old r)) is ∙ first_of-append_some row.checks _ (refusal_of fault) found, refl)
 
 -- a row that writes a place
 abbrev written : List (Bool × Refusal) → Place → Cap → Option Place → Recorded → Option Access → Row
@@ -143,200 +122,146 @@ pub row_by-written : (rules : Rules) (checks : List (Bool × Refusal)) (place : 
     → row_by rules (written checks place value parent recorded access)
     ≡ written (checks_by (rules_for rules access) checks) place (value_by (rules_for rules access) checks value) parent recorded access
 row_by-written One checks place value parent recorded None = refl
-row_by-written One checks place value parent recorded (Some access) = refl
 row_by-written TwoStrict checks place value parent recorded None = refl
-row_by-written TwoStrict checks place value parent recorded (Some access) = refl
 row_by-written TwoClear checks place value parent recorded None = refl
+row_by-written One checks place value parent recorded (Some access) = refl
+row_by-written TwoStrict checks place value parent recorded (Some access) = refl
 row_by-written TwoClear checks place value parent recorded (Some access) = refl
 
--- a row of a step that writes a register, by the rules
-abbrev row_for : Held → Step → ℕ → Cap → Row
-row_for old step target recorded =
+-- a row of a step that writes this to a register, by the rules
+abbrev row_for : Held → Step → ℕ → Cap → Cap → Row
+row_for old step target recorded value =
     let row = row_of (state_of old) step in
-    let by = rules_for old.rules row.access in
-    written (checks_by by row.checks) (Register target) (value_by by row.checks (result_in row.writes)) row.parent (Written recorded)
-    row.access
+    written (checks_by (rules_for old.rules row.access) row.checks) (Register target) value row.parent (Written recorded) row.access
 
 written_row : (old : Held) (step : Step) (target : ℕ) (recorded : Cap) → WritesRegister (state_of old) step target recorded
-    → row_in (account_of old) step ≡ row_for old step target recorded
+    → let row = row_of (state_of old) step in
+    row_in (account_of old) step ≡ row_for old step target recorded (value_by (rules_for old.rules row.access) row.checks (result_in row.writes))
 written_row old step target recorded is =
     let row = row_of (state_of old) step in
     ap (λ (w : Option (Place × Cap)). row_by old.rules (record row { writes = w })) is.0
     ∙ ap (λ (r : Recorded). row_by old.rules (written row.checks (Register target) (result_in row.writes) row.parent r row.access)) is.1
     ∙ row_by-written old.rules row.checks (Register target) (result_in row.writes) row.parent (Written recorded) row.access
 
--- what a step that writes a register comes to, where its operation or access refuses nothing
-pub record Concluded (old : Held) (step : Step) (target : ℕ) (recorded derived : Cap) : Type 0 where
-  pub named : named_by (row_in (account_of old) step) ≡ None
-  pub writes : (row_in (account_of old) step).writes ≡ Some (Register target, derived)
-  pub same : is_recorded (row_in (account_of old) step) ≡ is_same_cap recorded derived
-  pub free : first_of (row_in (account_of old) step).checks ≡ None
-
-pub concluded : (old : Held) (step : Step) (target : ℕ) (recorded derived : Cap)
-    → WritesRegister (state_of old) step target recorded → Derives old step (Ok derived) → Concluded old step target recorded derived
-concluded old step target recorded derived is derives =
-    let row = written_row old step target recorded is in
-    record {
-      named = ap named_by row;
-      writes = ap (λ (r : Row). r.writes) row ∙ ap (λ (c : Cap). Some (Register target, c)) (sym derives.1);
-      same = ap is_recorded row ∙ ap (is_same_cap recorded) (sym derives.1);
-      free = ap (λ (r : Row). first_of r.checks) row ∙ derives.0;
-    }
-
--- its result is sound, and so is its code
-pub concluded_within : (old : Held) (step : Step) (target : ℕ) (recorded derived : Cap) → IsStepInRange step
-    → Concluded old step target recorded derived
-    → WritesWithin (state_of old) (row_of (state_of old) step).parent (Some (Register target, derived))
-concluded_within old step target recorded derived range is =
-    subst (WritesWithin (state_of old) (row_of (state_of old) step).parent) is.writes
-    (writes_within_by old.rules (state_of old) step range is.free)
-
+-- what is written is sound, and so is its code
 pub result_sound : (state : State) (parent : Option Place) (place : Place) (cap : Cap) → IsSoundState state
     → WritesWithin state parent (Some (place, cap)) → IsSoundCap cap
 result_sound state None place cap all within held = absurd (within held)
 result_sound state (Some from) place cap all within held = within.sound held (all (key_of from) (within.from_tagged held))
 
-untagged_coded : (tag : Bool) (code : ℕ) → (tag ≡ true → ⊥) → IsCoded tag (code_for tag code)
-untagged_coded true code never = absurd (never refl)
-untagged_coded false code never = ((λ _. refl, λ _. refl), lit< tt)
-
-tagged_coded : (tag parent_tag : Bool) (code from : ℕ) → (tag ≡ true → parent_tag ≡ true) → (tag ≡ true → Some from ≡ Some code)
-    → IsCoded parent_tag from → IsCoded tag (code_for tag code)
-tagged_coded true parent_tag code from held same coded =
-    coded_from true parent_tag code held (subst (IsCoded parent_tag) (same_Some from code (same refl)) coded)
-tagged_coded false parent_tag code from held same coded = ((λ _. refl, λ _. refl), lit< tt)
+coded_so : (tag : Bool) (code : ℕ) → (tag ≡ true → IsCoded true code) → IsCoded tag (code_for tag code)
+coded_so true code coded = coded refl
+coded_so false code coded = ((λ _. refl, λ _. refl), lit< tt)
 
 pub result_coded : (state : State) (codes : ℕ → ℕ) (parent : Option Place) (place : Place) (cap : Cap) (code : ℕ) → AreCoded state codes
     → WritesWithin state parent (Some (place, cap)) → (cap.tag ≡ true → option_map (λ from. codes (key_of from)) parent ≡ Some code)
     → IsCoded cap.tag (code_for cap.tag code)
-result_coded state codes None place cap code all within same = untagged_coded cap.tag code within
-result_coded state codes (Some from) place cap code all within same =
-    tagged_coded cap.tag (state (key_of from)).tag code (codes (key_of from)) within.from_tagged same (all (key_of from))
+result_coded state codes None place cap code all within same = coded_so cap.tag code (λ held. absurd (within held))
+result_coded state codes (Some from) place cap code all within same = coded_so cap.tag code (λ held.
+    subst (λ (b : Bool). IsCoded b code) (within.from_tagged held)
+    (subst (IsCoded (state (key_of from)).tag) (same_Some (codes (key_of from)) code (same held)) (all (key_of from))))
 
 origin_by_code : (codes : ℕ → ℕ) (parent : Option Place) (code : ℕ) → option_map (λ from. codes (key_of from)) parent ≡ Some code
     → option_and_then (origins_by codes) (option_map key_of parent) ≡ place_at code
 origin_by_code codes None code same = absurd (none-some code same)
 origin_by_code codes (Some from) code same = ap place_at (same_Some (codes (key_of from)) code same)
 
--- it is made
-pub concluded_made : (old : Held) (step : Step) (target : ℕ) (recorded derived : Cap) (code : ℕ)
-    → Concluded old step target recorded derived
-    → length old.registers ≡ 32 → length old.codes ≡ 32 → target ≤ 31 → IsParentsCode old step (Ok derived) code
-    → not (is_same_cap recorded derived) ≡ false → old.steps < most_steps → Makes old step (with_register old target derived code)
-concluded_made old step target recorded derived code is sized coded_so low parents like few =
-    made old step target derived recorded code is.named is.writes is.same sized coded_so low is.free
-    (λ held. origin_by_code (code_in old) (row_of (state_of old) step).parent code (parents derived refl held))
-    (ap (λ (b : Bool). first_of ((b, WrongResult) ∷ (nat_le most_steps old.steps, LimitPassed) ∷ [])) like
-    ∙ ap (λ (b : Bool). first_of (ending true b)) (lt-leb most_steps old.steps few))
+-- a step that writes a register, where its operation or access gives this
+module _ (old : Held) (step : Step) (target : ℕ) (recorded derived : Cap) (writes : WritesRegister (state_of old) step target recorded)
+    (derives : Derives old step (Ok derived)) where
+  row_is : row_in (account_of old) step ≡ row_for old step target recorded derived
+  row_is = written_row old step target recorded writes ∙ ap (row_for old step target recorded) (sym derives.1)
 
--- it is refused: its line records another result, or the limit on steps is passed
-concluded_refused : (old : Held) (step : Step) (target : ℕ) (recorded derived : Cap) (refusal : Refusal)
-    → Concluded old step target recorded derived
-    → first_of (last_checks old (is_same_cap recorded derived)) ≡ Some refusal → EndsStep old step (Refused refusal) old
-concluded_refused old step target recorded derived refusal is found =
-    (step_checks-free old step is.free ∙ tail_unnamed old step (is_same_cap recorded derived) is.named is.same ∙ found, refl)
+  pub concluded_within : IsStepInRange step → WritesWithin (state_of old) (row_of (state_of old) step).parent (Some (Register target, derived))
+  concluded_within range =
+      subst (λ (row : Row). first_of row.checks ≡ None → WritesWithin (state_of old) (row_of (state_of old) step).parent row.writes)
+      row_is (writes_within_by old.rules (state_of old) step range) derives.0
 
-pub concluded_unlike : (old : Held) (step : Step) (target : ℕ) (recorded derived : Cap) → Concluded old step target recorded derived
-    → not (is_same_cap recorded derived) ≡ true → EndsStep old step (Refused WrongResult) old
-concluded_unlike old step target recorded derived is unlike =
-    concluded_refused old step target recorded derived WrongResult is
-    (ap (λ (b : Bool). first_of ((b, WrongResult) ∷ (nat_le most_steps old.steps, LimitPassed) ∷ [])) unlike)
+  -- it is refused: its line records another result, or the limit on steps is passed
+  concluded_refused : (refusal : Refusal) → first_of (last_checks old (is_same_cap recorded derived)) ≡ Some refusal
+      → EndsStep old step (Refused refusal) old
+  concluded_refused refusal found =
+      refused old step _ refusal row_is derives.0 (unnamed old (is_same_cap recorded derived) ∙ found)
 
-pub concluded_past : (old : Held) (step : Step) (target : ℕ) (recorded derived : Cap) → Concluded old step target recorded derived
-    → not (is_same_cap recorded derived) ≡ false → nat_le most_steps old.steps ≡ true → EndsStep old step (Refused LimitPassed) old
-concluded_past old step target recorded derived is like past =
-    concluded_refused old step target recorded derived LimitPassed is
-    (ap (λ (b : Bool). first_of ((b, WrongResult) ∷ (nat_le most_steps old.steps, LimitPassed) ∷ [])) like
-    ∙ ap (λ (b : Bool). first_of (ending true b)) past)
+  pub concluded_unlike : not (is_same_cap recorded derived) ≡ true → EndsStep old step (Refused WrongResult) old
+  concluded_unlike unlike =
+      concluded_refused WrongResult (ap (λ (b : Bool). first_of ((b, WrongResult) ∷ (nat_le most_steps old.steps, LimitPassed) ∷ [])) unlike)
+
+  like_so : not (is_same_cap recorded derived) ≡ false → (past : Bool) → nat_le most_steps old.steps ≡ past
+      → first_of (last_checks old (is_same_cap recorded derived)) ≡ (if past then Some LimitPassed else None)
+  like_so like past is =
+      ap (λ (b : Bool). first_of ((b, WrongResult) ∷ (nat_le most_steps old.steps, LimitPassed) ∷ [])) like
+      ∙ ap (λ (b : Bool). first_of (ending true b)) is
+
+  pub concluded_past : not (is_same_cap recorded derived) ≡ false → nat_le most_steps old.steps ≡ true
+      → EndsStep old step (Refused LimitPassed) old
+  concluded_past like past = concluded_refused LimitPassed (like_so like true past)
+
+  -- it is made
+  pub concluded_made : (code stored : ℕ) → length old.registers ≡ 32 → length old.codes ≡ 32 → target ≤ 31
+      → IsParentsCode old step (Ok derived) code → stored ≡ code_for derived.tag code → not (is_same_cap recorded derived) ≡ false
+      → old.steps < most_steps
+      → Makes old step (record old {
+        registers = set old.registers target recorded;
+        codes = set old.codes target stored;
+        steps = old.steps + 1;
+      })
+  concluded_made code stored sized coded_so low parents stored_is like few =
+      rw (stored_is, equal_caps recorded derived like) (makes old (with_register old target derived code) step _ row_is derives.0
+      (unnamed old (is_same_cap recorded derived) ∙ like_so like false (lt-leb most_steps old.steps few))
+      (ap (λ (a : Account). record a { steps = a.steps + 1 }) (account-register old target derived (code_for derived.tag code) _
+      sized coded_so low (origin-written old step (Register target) derived code (ap (λ (r : Row). r.writes) row_is)
+      (λ held. origin_by_code (code_in old) (row_of (state_of old) step).parent code (parents derived refl held))))))
 
 -- its operation or access refuses it
-pub concluded_faulted : (old : Held) (step : Step) (target : ℕ) (recorded : Cap) (fault : OpFault) (refusal : Refusal)
-    → WritesRegister (state_of old) step target recorded → Derives old step (Err fault) → refusal ≡ refusal_of fault
-    → EndsStep old step (Refused refusal) old
-concluded_faulted old step target recorded fault refusal is derives same =
-    let row = written_row old step target recorded is in (
-      first_of-append_some (row_in (account_of old) step).checks _ (refusal_of fault) (ap (λ (r : Row). first_of r.checks) row ∙ derives)
-          ∙ ap (λ (r : Refusal). Some r) (sym same),
-      refl,
-    )
+pub concluded_faulted : (old : Held) (step : Step) (target : ℕ) (recorded : Cap) (fault : OpFault)
+    → WritesRegister (state_of old) step target recorded → Derives old step (Err fault)
+    → EndsStep old step (Refused (refusal_of fault)) old
+concluded_faulted old step target recorded fault writes derives =
+    refused_first old step _ fault (written_row old step target recorded writes) derives
 
 -- a step that puts an entry into a granule
-put_made : (old : Held) (step : Step) (granule : ℕ) (entry : Entry) (value : Cap) (code : ℕ)
-    → named_by (row_in (account_of old) step) ≡ Some granule
-    → (row_in (account_of old) step).writes ≡ Some (Granule granule, value) → is_recorded (row_in (account_of old) step) ≡ true
-    → cap_of entry ≡ value
-    → entry.2 ≡ code_for value.tag code → IsFrom old step value code → first_of (row_in (account_of old) step).checks ≡ None
-    → is_past_limits old granule ≡ false
-    → Makes old step (record old { memory = fin.insert old.memory granule entry; steps = old.steps + 1 })
-put_made old step granule entry value code named writes same holds code_is from free within =
-    let memory = fin.insert old.memory granule entry in
-    let next = state_with (state_of old) (row_in (account_of old) step).writes in
-    let origins = origins_after (origins_by (code_in old)) (state_of old) step next in
-    let after = state-granule old.registers old.memory granule entry
-    ∙ ap (put (state_of old) (granule_key granule)) holds
-    ∙ sym (ap (state_with (state_of old)) writes) in
-    let origins_are = ap origins_by (codes-granule old.codes old.memory granule entry)
-    ∙ origins-put (code_in old) (granule_key granule) entry.2
-    ∙ ap (λ (n : ℕ). put (origins_by (code_in old)) (granule_key granule) (place_at n)) code_is
-    ∙ origin-written old step (Granule granule) value code writes from in
-    record {
-      checks = step_checks-free old step free ∙ tail_named old step granule false named same within;
-      leads = record { allowed = free; recorded = same; after = after };
-      account =
-          ap (λ (s : State). account_with old.rules s (origins_by (codes_of old.codes memory)) old.roots (old.steps + 1)
-          (named_in memory) (fin.len memory)) after
-          ∙ ap (λ (o : Origins). account_with old.rules next o old.roots (old.steps + 1) (named_in memory) (fin.len memory)) origins_are
-          ∙ ap (λ (names : ℕ → Bool). account_with old.rules next origins old.roots (old.steps + 1) names (fin.len memory))
-          (named-put old.memory granule entry)
-          ∙ ap (account_with old.rules next origins old.roots (old.steps + 1) (also_named granule (named_in old.memory)))
-          (len-put old.memory granule entry)
-          ∙ sym (ap (stepped_on old step) named);
-    }
+module _ (old new : Held) (step : Step) (granule : ℕ) (checks : List (Bool × Refusal)) (value : Cap) (parent : Option Place)
+    (access : Option Access) (is : row_in (account_of old) step ≡ written checks (Granule granule) value parent Nothing access)
+    (free : first_of checks ≡ None) where
+  put_ended : (end : StepEnd) → EndsPut old granule end new → EndsStep old step end new
+  put_ended (Refused refusal) end =
+      (checks_free old step _ is free ∙ ap (λ (b : Bool). first_of (ending true b)) end.0 ∙ ap (λ (r : Refusal). Some r) (sym end.1), end.2)
+  put_ended NoMemory end = (
+    checks_free old step _ is free ∙ ap (λ (b : Bool). first_of (ending true b)) end.0,
+    ap (λ (r : Row). is_new (account_of old) (named_by r)) is ∙ end.1,
+    end.2,
+  )
 
-put_ended : (old new : Held) (step : Step) (granule : ℕ) (end : StepEnd) → named_by (row_in (account_of old) step) ≡ Some granule
-    → is_recorded (row_in (account_of old) step) ≡ true
-    → first_of (row_in (account_of old) step).checks ≡ None → EndsPut old granule end new → EndsStep old step end new
-put_ended old new step granule (Refused refusal) named same free end =
-    (step_checks-free old step free ∙ tail_named old step granule true named same end.0 ∙ ap (λ (r : Refusal). Some r) (sym end.1), end.2)
-put_ended old new step granule NoMemory named same free end =
-    (step_checks-free old step free ∙ tail_named old step granule false named same end.0, ap (is_new (account_of old)) named ∙ end.1, end.2)
-
-abbrev pub EndsPutIn : Held → ℕ → Held → Result (Unit {0}) StepEnd → Held → Type 0
-EndsPutIn old granule after result new =
-    MatchResult result (λ _. (is_past_limits old granule ≡ false) × (new ≡ after)) (λ end. EndsPut old granule end new)
-
-put_finished : (old new : Held) (step : Step) (granule : ℕ) (entry : Entry) (value : Cap) (code : ℕ) (result : Result (Unit {0}) StepEnd)
-    → named_by (row_in (account_of old) step) ≡ Some granule → (row_in (account_of old) step).writes ≡ Some (Granule granule, value)
-    → is_recorded (row_in (account_of old) step) ≡ true
-    → cap_of entry ≡ value → entry.2 ≡ code_for value.tag code → IsFrom old step value code
-    → first_of (row_in (account_of old) step).checks ≡ None
-    → EndsPutIn old granule (record old { memory = fin.insert old.memory granule entry; steps = old.steps + 1 }) result new
-    → EndsIn old step result new
-put_finished old new step granule entry value code (Ok done) named writes same holds code_is from free put_is =
-    subst (λ (h : Held). Makes old step h) (sym put_is.1) (put_made old step granule entry value code named writes same
-    holds code_is from free put_is.0)
-put_finished old new step granule entry value code (Err end) named writes same holds code_is from free put_is =
-    put_ended old new step granule end named same free put_is
+  put_finished : (entry : Entry) (code : ℕ) (result : Result (Unit {0}) StepEnd) → cap_of entry ≡ value → entry.2 ≡ code_for value.tag code
+      → IsFrom old step value code
+      → AnswersPut old granule (record old { memory = fin.insert old.memory granule entry; steps = old.steps + 1 }) result new
+      → AnswersStep old step result new
+  put_finished entry code (Ok done) holds code_is from put_is =
+      subst (λ (h : Held). Makes old step h) (sym put_is.1) (makes old _ step _ is free
+      (ap (λ (b : Bool). first_of (ending true b)) put_is.0)
+      (ap (λ (a : Account). record a { steps = a.steps + 1 }) (account-granule old granule entry value _ holds
+      (ap (λ (n : ℕ). put (origins_by (code_in old)) (granule_key granule) (place_at n)) code_is
+      ∙ origin-written old step (Granule granule) value code (ap (λ (r : Row). r.writes) is) from))))
+  put_finished entry code (Err end) holds code_is from put_is = put_ended end put_is
 
 -- a stored capability
 pub stored : (old new : Held) (store : StoreCap) (result : Result (Unit {0}) StepEnd)
     → (state_of old store.source).word.0 < 2 ^ 128
     → store.source ≤ 31 → IsCoded (state_of old store.source).tag (code_in old store.source)
     → first_of (row_of (state_of old) (steps.StoreCap store)).checks ≡ None
-    → EndsPutIn old (address_through (state_of old) store.authority store.offset / 16)
+    → AnswersPut old (address_through (state_of old) store.authority store.offset / 16)
     (with_cap_put old (address_through (state_of old) store.authority store.offset / 16) (state_of old store.source) (get_or old.codes store.source 0)) result new
-    → EndsIn old (steps.StoreCap store) result new
+    → AnswersStep old (steps.StoreCap store) result new
 stored old new store result fits low coded free put_is =
+    let step = steps.StoreCap store in
     let cap_is = state_of old store.source in
     let code = get_or old.codes store.source 0 in
     let same = code-register old store.source low in
-    let row = same_row old (steps.StoreCap store) _ refl in
-    put_finished old new (steps.StoreCap store) (address_through (state_of old) store.authority store.offset / 16)
-    (cap_is.tag, memory_of cap_is.word.0, code) cap_is code result
-    (ap named_by row) (ap (λ (r : Row). r.writes) row) (ap is_recorded row)
+    put_finished old new step (address_through (state_of old) store.authority store.offset / 16) _ cap_is _ _
+    (same_row old step _ refl) free (cap_is.tag, memory_of cap_is.word.0, code) code result
     (ap (λ (n : ℕ). let c : Cap = record { tag = cap_is.tag; word = record { 0 = n } } in c) (stored_word-memory_of cap_is.word.0 fits))
-    (sym (code_for-coded cap_is.tag code (subst (IsCoded cap_is.tag) same coded))) (λ held. ap place_at same)
-    (ap (λ (r : Row). first_of r.checks) row ∙ free) put_is
+    (sym (code_for-coded cap_is.tag code (subst (IsCoded cap_is.tag) same coded))) (λ held. ap place_at same) put_is
 
 byte_small : (bytes : List ℕ) (i : ℕ) → All (λ byte. byte < 256) bytes → get_or bytes i 0 < 256
 byte_small bytes i small =
@@ -362,30 +287,20 @@ granule_bytes held granule stored_all =
 pub stored_value : (old new : Held) (store : Store) (result : Result (Unit {0}) StepEnd)
     → AreStored old.memory
     → first_of (row_of (state_of old) (steps.Store store)).checks ≡ None
-    → EndsPutIn old (address_through (state_of old) store.authority store.offset / 16)
+    → AnswersPut old (address_through (state_of old) store.authority store.offset / 16)
     (with_value_put old (address_through (state_of old) store.authority store.offset / 16)
     (address_through (state_of old) store.authority store.offset % 16) store.datum.size store.datum.value) result new
-    → EndsIn old (steps.Store store) result new
+    → AnswersStep old (steps.Store store) result new
 stored_value old new store result stored_all free put_is =
+    let step = steps.Store store in
     let a = address_through (state_of old) store.authority store.offset in
     let g = a / 16 in
-    let cap_is = state_of old (granule_key g) in
-    let row = same_row old (steps.Store store) _ refl in
-    put_finished old new (steps.Store store) g (
-      false,
-      overwritten (bytes_at old.memory g) (a % 16) (low_bytes store.datum.size store.datum.value),
-      0,
-    ) (with_value cap_is (a % 16) store.datum.size store.datum.value) 0 result
-    (ap named_by row) (ap (λ (r : Row). r.writes) row) (ap is_recorded row)
-    (ap (λ (bytes : List ℕ). let c : Cap = record {
-      tag = false;
-      word = record {
-        0 = stored_word
-            (overwritten bytes (a % 16) (low_bytes store.datum.size store.datum.value));
-      };
-    } in c) (sym (granule_bytes old g stored_all)))
-    refl (λ held. absurd (false≢true held))
-    (ap (λ (r : Row). first_of r.checks) row ∙ free) put_is
+    let given = low_bytes store.datum.size store.datum.value in
+    put_finished old new step g _ (with_value (state_of old (granule_key g)) (a % 16) store.datum.size store.datum.value) _ _
+    (same_row old step _ refl) free (false, overwritten (bytes_at old.memory g) (a % 16) given, 0) 0 result
+    (ap (λ (bytes : List ℕ). let c : Cap = record { tag = false; word = record { 0 = stored_word (overwritten bytes (a % 16) given) } } in c)
+    (sym (granule_bytes old g stored_all)))
+    refl (λ held. absurd (false≢true held)) put_is
 
 -- the value that a load reads is the number of the granule's bytes
 pub value_in : (held : Held) (address size : ℕ) → AreStored held.memory
@@ -407,21 +322,9 @@ pub loaded_value : (old : Held) (load : Load)
     → Makes old (steps.Load load) (record old { steps = old.steps + 1 })
 loaded_value old load free same few =
     let step = steps.Load load in
-    let row = same_row old step _ refl in
-    let recorded = ap is_recorded row ∙ eq-eqb load.datum.value _ same in
-    let allowed = ap (λ (r : Row). first_of r.checks) row ∙ free in
-    let after = sym (ap (λ (r : Row). state_with (state_of old) r.writes) row) in
-    record {
-      checks =
-          step_checks-free old step allowed
-          ∙ tail_unnamed old step true (ap named_by row) recorded
-          ∙ ap (λ (b : Bool). first_of (ending true b)) (lt-leb most_steps old.steps few);
-      leads = record { allowed = allowed; recorded = recorded; after = after };
-      account =
-          ap (λ (s : State). account_with old.rules s (origins_after (origins_by (code_in old)) (state_of old) step s) old.roots
-          (old.steps + 1) (named_in old.memory) (fin.len old.memory)) after
-          ∙ sym (ap (stepped_on old step) (ap named_by row));
-    }
+    makes old (record old { steps = old.steps + 1 }) step _ (same_row old step _ refl) free
+    (unnamed old _ ∙ ap (λ (b : Bool). first_of (last_checks old b)) (eq-eqb load.datum.value _ same)
+    ∙ ap (λ (b : Bool). first_of (ending true b)) (lt-leb most_steps old.steps few)) refl
 
 -- a load is refused
 pub load_refused : (old : Held) (load : Load) (recorded : Bool) (refusal : Refusal)
@@ -431,19 +334,12 @@ pub load_refused : (old : Held) (load : Load) (recorded : Bool) (refusal : Refus
     → EndsStep old (steps.Load load) (Refused refusal) old
 load_refused old load recorded refusal free same found =
     let step = steps.Load load in
-    let row = same_row old step _ refl in (
-      step_checks-free old step (ap (λ (r : Row). first_of r.checks) row ∙ free)
-          ∙ tail_unnamed old step recorded (ap named_by row) (ap is_recorded row ∙ same) ∙ found,
-      refl,
-    )
+    refused old step _ refusal (same_row old step _ refl) free
+    (unnamed old _ ∙ ap (λ (b : Bool). first_of (last_checks old b)) same ∙ found)
 
 -- an access that is refused
-pub faulted_as : (old : Held) (step : Step) (access : Access) (fault : OpFault) (refusal : Refusal)
+pub faulted_as : (old : Held) (step : Step) (access : Access) (fault : OpFault)
     → (row_of (state_of old) step).access ≡ Some access
-    → first_of (row_of (state_of old) step).checks ≡ Some (refusal_of fault) → refusal ≡ refusal_of fault → EndsStep old step (Refused refusal) old
-faulted_as old step access fault refusal accesses found is =
-    let row = same_row old step access accesses in (
-      first_of-append_some (row_in (account_of old) step).checks _ (refusal_of fault) (ap (λ (r : Row). first_of r.checks) row ∙ found)
-          ∙ ap (λ (r : Refusal). Some r) (sym is),
-      refl,
-    )
+    → first_of (row_of (state_of old) step).checks ≡ Some (refusal_of fault) → EndsStep old step (Refused (refusal_of fault)) old
+faulted_as old step access fault accesses found =
+    refused_first old step _ fault (same_row old step access accesses) found

@@ -2,7 +2,7 @@
 use Rattle.std.proofs.Common.{[], ◌≡◌, ℕ, ◌<◌, ◌≤◌, ◌^◌, ◌==◌, ◌-◌, Bool, true, false, not, ◌&&◌, eqb, refl, nat_lt, get_or, arith, List}
 use Rattle.std.proofs.Common.{length, sym, ap, subst, ◌∙◌}
 use Rattle.std.specs.Bool.{if◌then◌else◌}
-use Rattle.std.proofs.Math.ListN.{set}
+use Rattle.std.proofs.Math.ListN.{set, length-set}
 use Rattle.std.proofs.lemmas.List.{get_or-set_other}
 use Rattle.std.proofs.Math.Bool.{beq}
 use Rattle.std.proofs.lemmas.Bool.{false≢true, le-ltb, and_parts, not-false, eqb-true}
@@ -14,10 +14,13 @@ use Rattle.cap_word.proofs.Bytes.{stored_word-memory_of}
 use Rattle.cap_bounds.specs.Bounds.{IsSound}
 use Rattle.tagmem.specs.Granules.{Granules, Entry}
 use Rattle.cap_machine.specs.States.{State, put, start, granule_key, untagged_null}
-use Rattle.cap_machine.specs.Places.{places_of, granule_cap}
+use Rattle.cap_log.specs.Ranges.{IsTarget}
+use Rattle.cap_machine.specs.Places.{AreCoded, IsCoded, codes_of, places_of}
+use Rattle.cap_machine.specs.Helds.{IsKept}
 use Rattle.cap_machine.specs.Parents.{IsSoundCap, IsSoundState}
 use Rattle.cap_machine.proofs.GranuleLemmas.{cap_of}
-use Rattle.cap_machine.proofs.StateLemmas.{state-register, state-granule}
+use Rattle.cap_machine.proofs.CodeLemmas.{coded_put}
+use Rattle.cap_machine.proofs.StateLemmas.{codes-granule, codes-register, state-register, state-granule}
 
 either : (b : Bool) (x y : Cap) → IsSoundCap x → IsSoundCap y → IsSoundCap (if b then x else y)
 either true x y h k = h
@@ -31,21 +34,6 @@ IsSoundState-put state key cap all one other = either (key == other) cap (state 
 pub IsSoundState-start : (state : State) → ((key : ℕ) → state key ≡ start [] key) → IsSoundState state
 IsSoundState-start state empty key held = absurd (false≢true (sym (ap (λ (cap : Cap). cap.tag) (empty key)) ∙ held))
 
--- a register that holds another sound capability
-pub sound_register : (registers : List Cap) (memory : Granules) (target : ℕ) (cap : Cap) → length registers ≡ 32 → target ≤ 31
-    → IsSoundState (places_of registers memory) → IsSoundCap cap → IsSoundState (places_of (set registers target cap) memory)
-sound_register registers memory target cap sized low all one =
-    subst IsSoundState (sym (state-register registers memory target cap sized low))
-    (IsSoundState-put (places_of registers memory) target cap all one)
-
--- a granule that holds another sound capability
-pub sound_granule : (registers : List Cap) (memory : Granules) (granule : ℕ) (entry : Entry)
-    → IsSoundState (places_of registers memory) → IsSoundCap (cap_of entry)
-    → IsSoundState (places_of registers (map.insert memory granule entry))
-sound_granule registers memory granule entry all one =
-    subst IsSoundState (sym (state-granule registers memory granule entry))
-    (IsSoundState-put (places_of registers memory) (granule_key granule) (cap_of entry) all one)
-
 -- a capability as its granule keeps it
 pub sound_entry : (cap : Cap) (code : ℕ) → cap.word.0 < 2 ^ 128 → IsSoundCap cap → IsSoundCap (cap_of (cap.tag, memory_of cap.word.0, code))
 sound_entry cap code fits one held = subst IsSound (sym (stored_word-memory_of cap.word.0 fits)) (one held)
@@ -54,11 +42,37 @@ sound_entry cap code fits one held = subst IsSound (sym (stored_word-memory_of c
 pub untagged_sound : (word : Word) → IsSoundCap (record { tag = false; word = word })
 untagged_sound word held = absurd (false≢true held)
 
--- register 0 stays NULL without a tag where another register is written
-pub zero_register : (registers : List Cap) (target : ℕ) (cap : Cap) → 1 ≤ target → get_or registers 0 untagged_null ≡ untagged_null
-    → get_or (set registers target cap) 0 untagged_null ≡ untagged_null
-zero_register registers target cap written null =
-    get_or-set_other registers target 0 cap untagged_null (λ e. let same : 0 ≡ target = e in omega arith) ∙ null
+-- what is true of every machine stays true where a register holds another capability, with its code
+pub kept_register : (registers : List Cap) (codes : List ℕ) (memory : Granules) (target : ℕ) (cap : Cap) (code : ℕ)
+    → IsKept registers codes memory → length codes ≡ 32 → IsTarget target → IsSoundCap cap → IsCoded cap.tag code
+    → IsKept (set registers target cap) (set codes target code) memory
+kept_register registers codes memory target cap code kept sized low sound coded =
+    let state = state-register registers memory target cap kept.sized low.1 in
+    record {
+      sized = length-set registers target cap ∙ kept.sized;
+      zero =
+          get_or-set_other registers target 0 cap untagged_null (λ e. let same : 0 ≡ target = e in omega (arith, low.0)) ∙ kept.zero;
+      sound = subst IsSoundState (sym state) (IsSoundState-put (places_of registers memory) target cap kept.sound sound);
+      coded = subst (λ (s : State). AreCoded s (codes_of (set codes target code) memory)) (sym state)
+          (subst (AreCoded (put (places_of registers memory) target cap)) (sym (codes-register codes memory target code sized low.1))
+          (coded_put (places_of registers memory) (codes_of codes memory) target cap code kept.coded coded));
+    }
+
+-- and where a granule holds another entry
+pub kept_granule : (registers : List Cap) (codes : List ℕ) (memory : Granules) (granule : ℕ) (entry : Entry)
+    → IsKept registers codes memory → IsSoundCap (cap_of entry) → IsCoded entry.0 entry.2
+    → IsKept registers codes (map.insert memory granule entry)
+kept_granule registers codes memory granule entry kept sound coded =
+    let state = state-granule registers memory granule entry in
+    let after = put (places_of registers memory) (granule_key granule) (cap_of entry) in
+    record {
+      sized = kept.sized;
+      zero = kept.zero;
+      sound = subst IsSoundState (sym state) (IsSoundState-put (places_of registers memory) (granule_key granule) (cap_of entry) kept.sound sound);
+      coded = subst (λ (s : State). AreCoded s (codes_of codes (map.insert memory granule entry))) (sym state)
+          (subst (AreCoded after) (sym (codes-granule codes memory granule entry))
+          (coded_put (places_of registers memory) (codes_of codes memory) (granule_key granule) (cap_of entry) entry.2 kept.coded coded));
+    }
 
 beq_true : (a b : Bool) → beq a b ≡ true → a ≡ b
 beq_true true true same = refl

@@ -116,3 +116,8 @@ with_value_put held granule byte_index size value =
 abbrev pub EndsPut : Held → ℕ → StepEnd → Held → Type 0
 EndsPut old granule (Refused refusal) new = (is_past_limits old granule ≡ true) × (refusal ≡ LimitPassed) × (new ≡ old)
 EndsPut old granule NoMemory new = (is_past_limits old granule ≡ false) × IsTrue (is_new (account_of old) (Some granule)) × (new ≡ old)
+
+-- a machine's answer to a put: no limit was passed and it became so, or it ended there
+abbrev pub AnswersPut : Held → ℕ → Held → Result (Unit {0}) StepEnd → Held → Type 0
+AnswersPut old granule after result new =
+    MatchResult result (λ _. (is_past_limits old granule ≡ false) × (new ≡ after)) (λ end. EndsPut old granule end new)

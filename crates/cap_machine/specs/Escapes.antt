@@ -1,10 +1,8 @@
 -- When a step that sets bounds is refused for them, or loses its tag.
-use Rattle.std.specs.Prelude.{◌≡◌, ◌≢◌, ◌↔◌, ℕ, suc, ◌+◌, List, Option, Some, None, IsTrue, IsFalse, slice_get}
-use Rattle.cap_word.specs.declared.word.Cap.{Cap}
-use Rattle.cap_word.specs.Fields.{address_of}
-use Rattle.cap_bounds.specs.Bounds.{base_of, top_of, IsInside}
+use Rattle.std.specs.Prelude.{◌≡◌, ◌≢◌, ◌↔◌, ℕ, suc, List, Option, Some, None, IsTrue, IsFalse, slice_get}
 use Rattle.cap_log.specs.declared.kinds.Step.{Step}
 use Rattle.cap_log.specs.declared.kinds.Step.TheVariants.{SetBounds, SetBoundsExact}
+use Rattle.cap_ops.specs.Operations.{HasRoomFor}
 use Rattle.cap_ops.specs.Permissions.{is_sealed}
 use Rattle.cap_machine.specs.declared.rules.Rules.{Rules}
 use Rattle.cap_machine.specs.declared.rules.Rules.TheVariants.{TwoClear}
@@ -16,10 +14,6 @@ abbrev pub asked_by : Step → Option (ℕ × ℕ)
 asked_by (SetBounds step) = Some (step.source, step.length)
 asked_by (SetBoundsExact step) = Some (step.source, step.length)
 asked_by step = None
-
--- the length from a capability's address on lies inside its bounds
-abbrev pub HasRoomFor : Cap → ℕ → Type 0
-HasRoomFor cap length = IsInside (address_of cap.word.0) (address_of cap.word.0 + length) (base_of cap.word.0) (top_of cap.word.0)
 
 -- the requested bounds, before rounding, do not lie inside those of a tagged, unsealed source
 abbrev pub AsksBeyond : State → Option (ℕ × ℕ) → Type 0

@@ -8,8 +8,7 @@ use Rattle.cap_log.specs.declared.lines.Place.{Place}
 use Rattle.cap_log.specs.declared.kinds.Step.{Step}
 use Rattle.cap_ops.specs.declared.faults.OpFault.{OpFault}
 use Rattle.cap_ops.specs.Operations.{clear_result}
-use Rattle.cap_ops.specs.Refusals.{refusal_of}
-use Rattle.cap_ops.specs.Checks.{first_of}
+use Rattle.cap_ops.specs.Checks.{Ends, first_of}
 use Rattle.cap_ops.specs.declared.refusal.Refusal.{Refusal}
 use Rattle.tagmem.specs.Granules.{Granules}
 use Rattle.cap_machine.specs.declared.ends.StepEnd.{StepEnd}
@@ -122,10 +121,7 @@ value_by TwoClear checks result = clear_result checks result
 
 -- how an operation on registers ends, by the rules
 abbrev pub EndsBy : Rules → List (Bool × Refusal) → Cap → Result Cap OpFault → Type 0
-EndsBy rules_are checks result outcome =
-    MatchResult outcome
-    (λ cap. (first_of (checks_by rules_are checks) ≡ None) × (cap ≡ value_by rules_are checks result))
-    (λ fault. first_of (checks_by rules_are checks) ≡ Some (refusal_of fault))
+EndsBy rules checks result outcome = Ends outcome (checks_by rules checks) (λ cap. cap ≡ value_by rules checks result)
 
 -- the machine made the step: none of its checks fails, it leads to the new state, and the account is that after it
 pub record Makes (old : Held) (step : Step) (new : Held) : Type 0 where

@@ -30,11 +30,6 @@ use cap_ops::{
 use cap_word::Cap;
 use tagmem::TaggedStore;
 
-// The permissions that an authority over object types needs, as bits of the view.
-const SEAL: u32 = 1 << PERMIT_SEAL;
-
-const UNSEAL: u32 = 1 << PERMIT_UNSEAL;
-
 // The permission that a load needs, as a bit of the view.
 const LOAD: u32 = 1 << PERMIT_LOAD;
 
@@ -273,7 +268,7 @@ impl Operation for Seal {
 
     #[inline(always)]
     fn parts(self) -> OperationParts {
-        let request = Request::Authority(self.authority, SEAL);
+        let request = Request::Authority(self.authority, 1 << PERMIT_SEAL);
         OperationParts::new(self.target, self.source, request, self.result)
     }
 
@@ -293,7 +288,7 @@ impl Operation for Unseal {
 
     #[inline(always)]
     fn parts(self) -> OperationParts {
-        let request = Request::Authority(self.authority, UNSEAL);
+        let request = Request::Authority(self.authority, 1 << PERMIT_UNSEAL);
         OperationParts::new(self.target, self.source, request, self.result)
     }
 

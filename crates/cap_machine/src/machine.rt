@@ -11,7 +11,7 @@ ghost use Rattle.cap_ops.specs.Sizes.{size_fits};
 ghost use Rattle.cap_ops.specs.Checks.{first_of};
 ghost use Rattle.cap_log.specs.Lines.{IsPlace, IsStepInRange};
 ghost use Rattle.cap_machine.specs.Accounts.{granule_of, is_new, no_account, passes_granule_limit, root_checks};
-ghost use Rattle.cap_machine.specs.Changes.{Derives, EndsPut, IsAccess, IsParentsCode, Placed, WritesRegister};
+ghost use Rattle.cap_machine.specs.Changes.{AnswersPut, Derives, IsAccess, IsParentsCode, Placed, WritesRegister};
 ghost use Rattle.cap_machine.specs.Changes.{address_in, is_past_limits, with_cap_put, with_value_put};
 ghost use Rattle.cap_machine.specs.Escapes.{ClearsBeyond, Escapes};
 ghost use Rattle.cap_machine.specs.Helds.{AnswersStep, EndsRoot, EndsStep, IsKept, TakesRoot, account_of, code_in, granule_cap, state_of};
@@ -475,10 +475,7 @@ impl<M: TaggedStore> Machine<M> {
         requires in_memory { granule < 2 ^ 60 }
         requires sound { IsSoundCap stored }
         requires coded { IsCoded stored.tag code }
-        ensures { MatchResult result
-            (λ _. (is_past_limits self.old granule ≡ false)
-            × (self.new ≡ with_cap_put self.old granule stored code))
-            (λ end. EndsPut self.old granule end self.new) }
+        ensures { AnswersPut self.old granule (with_cap_put self.old granule stored code) result self.new }
     {
         if self.is_past_limits(granule) {
             return Err(StepEnd::Refused(Refusal::LimitPassed));
@@ -498,10 +495,8 @@ impl<M: TaggedStore> Machine<M> {
     ) -> Result<(), StepEnd>
         requires in_memory { granule < 2 ^ 60 }
         requires inside { byte_index + datum.size ≤ 16 }
-        ensures { MatchResult result
-            (λ _. (is_past_limits self.old granule ≡ false)
-            × (self.new ≡ with_value_put self.old granule byte_index datum.size datum.value))
-            (λ end. EndsPut self.old granule end self.new) }
+        ensures { AnswersPut self.old granule
+            (with_value_put self.old granule byte_index datum.size datum.value) result self.new }
     {
         if self.is_past_limits(granule) {
             return Err(StepEnd::Refused(Refusal::LimitPassed));

@@ -15,11 +15,11 @@ use Rattle.cap_ops.specs.Authority.{StaysWithin}
 use Rattle.cap_ops.specs.Operations.{is_kept_at, set_addr_checks, set_addr_result}
 use Rattle.cap_ops.specs.Permissions.{is_sealed}
 use Rattle.cap_ops.specs.Refusals.{refusal_of}
-use Rattle.cap_ops.specs.Checks.{first_of}
+use Rattle.cap_ops.specs.Checks.{Ends, first_of}
 use Rattle.cap_ops.proofs.ReplacedFields.{perms_of-high}
 use Rattle.cap_ops.proofs.ReachLemmas.{ReachesNoMore-same, StaysWithin-words}
 use Rattle.cap_ops.proofs.PermissionLemmas.{IsFewer-same}
-use Rattle.cap_ops.proofs.TestLemmas.{EndsWith, first_of-on_tagged, none_hold-tagged}
+use Rattle.cap_ops.proofs.TestLemmas.{first_of-on_tagged, none_hold-tagged}
 
 pub KeepsBounds-kept : (w address : ℕ) → is_kept_at w address ≡ true → KeepsBounds w address
 unfolding is_kept_at
@@ -56,24 +56,18 @@ first_of-set_addr source address =
 kept_since : (tagged seal kept : Bool) → tagged ≡ true → seal ≡ false → first_fault tagged seal kept ≡ None → kept ≡ true
 unfolding first_fault
 kept_since true false true t u h = refl
-kept_since true false false t u h = cc
-kept_since true true kept t u h = cc
-kept_since false seal kept t u h = cc
+kept_since tagged seal kept t u h = cc
 
 fault_since : (tagged seal kept : Bool) (fault : Refusal) → tagged ≡ true → seal ≡ false
     → first_fault tagged seal kept ≡ Some fault → fault ≡ NotRepresentable
 unfolding first_fault
 fault_since true false true fault t u h = cc
-fault_since true false false fault t u h = cc
-fault_since true true kept fault t u h = cc
-fault_since false seal kept fault t u h = cc
+fault_since tagged seal kept fault t u h = cc
 
 lost_since : (tagged seal kept : Bool) → first_fault tagged seal kept ≡ Some NotRepresentable → kept ≡ false
 unfolding first_fault
-lost_since true false true h = cc
 lost_since true false false h = refl
-lost_since true true kept h = cc
-lost_since false seal kept h = cc
+lost_since tagged seal kept h = cc
 
 -- where a new address is refused for itself, it does not keep the bounds
 lost : (source : Cap) (address : ℕ) → first_of (set_addr_checks source address) ≡ Some NotRepresentable
@@ -90,7 +84,7 @@ same_fault fault h = cc
 
 -- a new address is refused exactly outside the representable range
 pub NotRepresentable-exact : (source : Cap) (address : ℕ) (result : Result Cap OpFault) → address < 2 ^ 64
-    → EndsWith result (set_addr_checks source address) (set_addr_result source address)
+    → Ends result (set_addr_checks source address) (λ cap. cap ≡ set_addr_result source address)
     → source.tag ≡ true → is_sealed source.word.0 ≡ false → (result ≡ Err faults.NotRepresentable) ↔ (IsRepresentable source.word.0 address → ⊥)
 NotRepresentable-exact source address (Ok cap) fits ends tagged unsealed =
     let w = source.word.0 in
@@ -105,7 +99,7 @@ NotRepresentable-exact source address (Err fault) fits ends tagged unsealed =
 
 -- and so never from the base to the top
 pub NotRepresentable-near : (source : Cap) (address : ℕ) (result : Result Cap OpFault) → address < 2 ^ 64
-    → EndsWith result (set_addr_checks source address) (set_addr_result source address)
+    → Ends result (set_addr_checks source address) (λ cap. cap ≡ set_addr_result source address)
     → base_of source.word.0 ≤ address → address ≤ top_of source.word.0 → result ≡ Err faults.NotRepresentable → ⊥
 NotRepresentable-near source address (Ok cap) fits ends from until e = cc
 NotRepresentable-near source address (Err fault) fits ends from until e =

@@ -1,19 +1,18 @@
 -- The results of clear mode.
-use Rattle.std.proofs.Common.{◌≡◌, ◌↔◌, ℕ, ◌+◌, ◌^◌, ◌<◌, true, false, Bool, List, Some, None, Option, is_some, Result, Ok, Err, refl, sym}
+use Rattle.std.proofs.Common.{◌≡◌, ◌↔◌, ℕ, ◌^◌, ◌<◌, true, false, Bool, List, Some, None, Option, is_some, Result, Ok, Err, refl, sym}
 use Rattle.std.proofs.Common.{ap, subst, ◌∙◌}
 use Rattle.std.specs.Bool.{if◌then◌else◌}
 use Rattle.std.proofs.lemmas.Bool.{false≢true}
 use Rattle.cap_word.specs.declared.word.Cap.{Cap}
-use Rattle.cap_word.specs.Fields.{address_of}
-use Rattle.cap_bounds.specs.Bounds.{IsInside, IsSound, base_of, top_of}
+use Rattle.cap_bounds.specs.Bounds.{IsSound}
 use Rattle.cap_ops.specs.declared.faults.OpFault.{OpFault}
 use Rattle.cap_ops.specs.declared.refusal.Refusal.{Refusal}
 use Rattle.cap_ops.specs.Authority.{StaysWithin}
-use Rattle.cap_ops.specs.Operations.{Clears, IsStrictWhereTagged, clear_result, cleared, set_bounds_checks, set_bounds_result}
+use Rattle.cap_ops.specs.Operations.{Clears, HasRoomFor, IsStrictWhereTagged, clear_result, cleared, set_bounds_checks, set_bounds_result}
 use Rattle.cap_ops.specs.Permissions.{is_sealed}
-use Rattle.cap_ops.specs.Checks.{first_of}
+use Rattle.cap_ops.specs.Checks.{Ends, first_of}
 use Rattle.cap_ops.proofs.NarrowingLemmas.{first_escapes, inside_passes}
-use Rattle.cap_ops.proofs.TestLemmas.{EndsWith}
+use Rattle.cap_ops.proofs.ReachLemmas.{StaysWithin-same}
 
 -- what has no tag stays within anything
 pub StaysWithin-untagged : (cap source : Cap) → StaysWithin (cleared cap) source
@@ -41,14 +40,14 @@ StaysWithin-clear checks result source within =
     ] refl
 
 -- a call's outcome, or the result without its tag
-pub clear_result-outcome : (outcome : Result Cap OpFault) (checks : List (Bool × Refusal)) (result made : Cap)
-    → EndsWith outcome checks result → Clears outcome result made
+clear_result-outcome : (outcome : Result Cap OpFault) (checks : List (Bool × Refusal)) (result made : Cap)
+    → Ends outcome checks (λ cap. cap ≡ result) → Clears outcome result made
     → made ≡ clear_result checks result
 clear_result-outcome (Ok cap) checks result made ends clears = clears ∙ ends.1 ∙ sym (clear_result-none checks result ends.0)
 clear_result-outcome (Err fault) checks result made ends clears = clears ∙ sym (clear_result-some checks result _ ends)
 
 -- what has a tag in clear mode is the strict result
-pub strict_where_tagged : (checks : List (Bool × Refusal)) (result made : Cap) → made ≡ clear_result checks result
+strict_where_tagged : (checks : List (Bool × Refusal)) (result made : Cap) → made ≡ clear_result checks result
     → IsStrictWhereTagged checks result made
 strict_where_tagged checks result made is =
     elim (first_of checks) as (λ o. first_of checks ≡ o → IsStrictWhereTagged checks result made) [
@@ -56,6 +55,18 @@ strict_where_tagged checks result made is =
       | Some fault ↦ λ found. λ held. absurd (false≢true (sym (ap (λ (cap : Cap). cap.tag)
           (is ∙ clear_result-some checks result fault found)) ∙ held))
     ] refl
+
+-- what a call in clear mode gives, whose strict call ends so
+pub in_clear_mode : (outcome : Result Cap OpFault) (checks : List (Bool × Refusal)) (result unchecked made source : Cap)
+    → Ends outcome checks (λ cap. cap ≡ result) → unchecked ≡ result → Clears outcome unchecked made
+    → (first_of checks ≡ None → StaysWithin result source)
+    → (made ≡ clear_result checks result) × IsStrictWhereTagged checks result made × StaysWithin made source
+in_clear_mode outcome checks result unchecked made source ends same clears within =
+    let is = clear_result-outcome outcome checks result made ends (subst (λ (cap : Cap). Clears outcome cap made) same clears) in (
+      is,
+      strict_where_tagged checks result made is,
+      StaysWithin-same made _ source is (StaysWithin-clear checks result source within),
+    )
 
 set_bounds_tag : (source : Cap) (length : ℕ) → (set_bounds_result source length).tag ≡ source.tag
 unfolding set_bounds_result
@@ -65,8 +76,7 @@ set_bounds_tag source length = refl
 pub untagged_where_beyond : (source : Cap) (length : ℕ) (exact : Bool) (made : Cap) → length < 2 ^ 64
     → made ≡ clear_result (set_bounds_checks source length exact) (set_bounds_result source length)
     → exact ≡ false → source.tag ≡ true → is_sealed source.word.0 ≡ false → IsSound source.word.0
-    → (made.tag ≡ false) ↔ (IsInside (address_of source.word.0) (address_of source.word.0 + length)
-    (base_of source.word.0) (top_of source.word.0) → ⊥)
+    → (made.tag ≡ false) ↔ (HasRoomFor source length → ⊥)
 untagged_where_beyond source length exact made fits is inexact tagged unsealed sound =
     let checks = set_bounds_checks source length exact in
     let result = set_bounds_result source length in

@@ -16,14 +16,14 @@ use Rattle.cap_ops.specs.declared.faults.OpFault.TheVariants as faults
 use Rattle.cap_ops.specs.declared.refusal.Refusal.{Refusal}
 use Rattle.cap_ops.specs.declared.refusal.Refusal.TheVariants.{SourceSealed, BoundsEscape, NotExact}
 use Rattle.cap_ops.specs.Authority.{ReachesNoMore, StaysWithin}
-use Rattle.cap_ops.specs.Operations.{covers, is_exact, set_bounds_checks, set_bounds_result, with_word}
+use Rattle.cap_ops.specs.Operations.{HasRoomFor, covers, is_exact, set_bounds_checks, set_bounds_result, with_word}
 use Rattle.cap_ops.specs.Permissions.{is_sealed}
 use Rattle.cap_ops.specs.Refusals.{refusal_of}
-use Rattle.cap_ops.specs.Checks.{first_of}
+use Rattle.cap_ops.specs.Checks.{Ends, first_of}
 use Rattle.cap_ops.proofs.ReplacedFields.{perms_of-high}
 use Rattle.cap_ops.proofs.ReachLemmas.{StaysWithin-words}
 use Rattle.cap_ops.proofs.PermissionLemmas.{IsFewer-same}
-use Rattle.cap_ops.proofs.TestLemmas.{EndsWith, IsInside-covers, covers-inside, first_of-on_tagged, none_hold-tagged}
+use Rattle.cap_ops.proofs.TestLemmas.{IsInside-covers, covers-inside, first_of-on_tagged, none_hold-tagged}
 
 pub IsExact-is_exact : (base length : ℕ) → is_exact base length ≡ true → IsExact base length
 unfolding is_exact
@@ -98,17 +98,14 @@ first_of-set_bounds source length exact =
 escapes_since : (tagged seal covered rounds : Bool) → tagged ≡ true → seal ≡ false → covered ≡ false
     → first_fault tagged seal covered rounds ≡ Some BoundsEscape
 unfolding first_fault
-escapes_since true false true rounds t u h = cc
 escapes_since true false false rounds t u h = refl
-escapes_since true true covered rounds t u h = cc
-escapes_since false seal covered rounds t u h = cc
+escapes_since tagged seal covered rounds t u h = cc
 
 held_since : (tagged seal covered rounds : Bool) → first_fault tagged seal covered rounds ≡ Some BoundsEscape
     → (tagged ≡ true) × (seal ≡ false)
 unfolding first_fault
 held_since true false covered rounds h = (refl, refl)
-held_since true true covered rounds h = cc
-held_since false seal covered rounds h = cc
+held_since tagged seal covered rounds h = cc
 
 -- only a tagged, unsealed source meets that test
 pub BoundsEscape-source : (source : Cap) (length : ℕ) (exact : Bool) → first_of (set_bounds_checks source length exact) ≡ Some BoundsEscape
@@ -120,24 +117,19 @@ passes_since : (tagged seal covered rounds : Bool) → tagged ≡ true → seal 
     → first_fault tagged seal covered rounds ≡ None
 unfolding first_fault
 passes_since true false true false t u h k = refl
-passes_since true false true true t u h k = cc
-passes_since true false false rounds t u h k = cc
-passes_since true true covered rounds t u h k = cc
-passes_since false seal covered rounds t u h k = cc
+passes_since tagged seal covered rounds t u h k = cc
 
 escaped_since : (tagged seal covered rounds : Bool) → first_fault tagged seal covered rounds ≡ Some BoundsEscape → covered ≡ false
 unfolding first_fault
 escaped_since true false true true h = cc
-escaped_since true false true false h = cc
 escaped_since true false false rounds h = refl
-escaped_since true true covered rounds h = cc
-escaped_since false seal covered rounds h = cc
+escaped_since tagged seal covered rounds h = cc
 
 -- new bounds are refused for themselves exactly where the requested ones do not lie inside a sound source's
 module _ (source : Cap) (length : ℕ) (exact : Bool) (fits : length < 2 ^ 64) (tagged : source.tag ≡ true)
     (unsealed : is_sealed source.word.0 ≡ false) (sound : IsSound source.word.0) where
   pub escapes_first : first_of (set_bounds_checks source length exact) ≡ Some BoundsEscape
-      → IsInside (address_of source.word.0) (address_of source.word.0 + length) (base_of source.word.0) (top_of source.word.0) → ⊥
+      → HasRoomFor source length → ⊥
   escapes_first h inside =
       let w = source.word.0 in
       let base = address_of w in
@@ -146,8 +138,7 @@ module _ (source : Cap) (length : ℕ) (exact : Bool) (fits : length < 2 ^ 64) (
       both_ways _ lost (covers-inside w (rounded_base base length) (rounded_top base length)
       (IsInside-rounded w base length fits sound inside))
 
-  pub first_escapes : (IsInside (address_of source.word.0) (address_of source.word.0 + length) (base_of source.word.0)
-      (top_of source.word.0) → ⊥) → first_of (set_bounds_checks source length exact) ≡ Some BoundsEscape
+  pub first_escapes : (HasRoomFor source length → ⊥) → first_of (set_bounds_checks source length exact) ≡ Some BoundsEscape
   first_escapes outside =
       let w = source.word.0 in
       let base = address_of w in
@@ -157,9 +148,7 @@ module _ (source : Cap) (length : ℕ) (exact : Bool) (fits : length < 2 ^ 64) (
       (exact && not (is_exact base length)) tagged unsealed lost
 
   -- requested bounds inside the source's pass, where they may be rounded
-  pub inside_passes : exact ≡ false → IsInside (address_of source.word.0) (address_of source.word.0 + length)
-      (base_of source.word.0) (top_of source.word.0)
-      → first_of (set_bounds_checks source length exact) ≡ None
+  pub inside_passes : exact ≡ false → HasRoomFor source length → first_of (set_bounds_checks source length exact) ≡ None
   inside_passes inexact inside =
       let w = source.word.0 in
       let base = address_of w in
@@ -174,10 +163,9 @@ same_fault faults.BoundsEscape h = refl
 same_fault fault h = cc
 
 pub BoundsEscape-exact : (source : Cap) (length : ℕ) (exact : Bool) (result : Result Cap OpFault) → length < 2 ^ 64
-    → EndsWith result (set_bounds_checks source length exact) (set_bounds_result source length)
+    → Ends result (set_bounds_checks source length exact) (λ cap. cap ≡ set_bounds_result source length)
     → source.tag ≡ true → is_sealed source.word.0 ≡ false → IsSound source.word.0
-    → (result ≡ Err faults.BoundsEscape) ↔ (IsInside (address_of source.word.0) (address_of source.word.0 + length)
-    (base_of source.word.0) (top_of source.word.0) → ⊥)
+    → (result ≡ Err faults.BoundsEscape) ↔ (HasRoomFor source length → ⊥)
 BoundsEscape-exact source length exact (Ok cap) fits ends tagged unsealed sound =
     (λ e. cc, λ outside. let first = first_escapes source length exact fits tagged unsealed sound outside in cc)
 BoundsEscape-exact source length exact (Err fault) fits ends tagged unsealed sound = (
@@ -192,13 +180,4 @@ pub set_bounds_result-made : (source : Cap) (v length : ℕ) (ie : Bool) (e b t 
     → with_word source v ≡ set_bounds_result source length
 unfolding set_bounds_result
 set_bounds_result-made source v length ie e b t address at fields is_bounded =
-    let w = source.word.0 in
-    let base = address_of w in
-    ap (with_word source) (
-    is_bounded
-    ∙ ap (λ (x : Bool). bounded_word w x e b t address) fields.0
-    ∙ ap (λ (x : ℕ). bounded_word w (rounded_ie length) x b t address) fields.1
-    ∙ ap (λ (x : ℕ). bounded_word w (rounded_ie length) (rounded_exponent base length) x t address) fields.2
-    ∙ ap (λ (x : ℕ). bounded_word w (rounded_ie length) (rounded_exponent base length) (rounded_b base length) x address) fields.3
-    ∙ ap (λ (x : ℕ). bounded_word w (rounded_ie length) (rounded_exponent base length) (rounded_b base length) (rounded_t base length) x)
-    at)
+    rw (is_bounded, fields.0, fields.1, fields.2, fields.3, at) refl

@@ -50,10 +50,6 @@ pub covers-inside : (w base top : ℕ) → IsInside base top (base_of w) (top_of
 unfolding covers
 covers-inside w base top h = and_from _ _ (le-leb _ _ h.0) (le-leb _ _ h.1)
 
--- how a call ends that answers the first test that holds, or a capability where none does
-abbrev pub EndsWith : Result Cap OpFault → List (Bool × Refusal) → Cap → Type 0
-EndsWith result checks cap = MatchResult result (λ made. (first_of checks ≡ None) × (made ≡ cap)) (λ fault. first_of checks ≡ Some (refusal_of fault))
-
 -- where no test of a first list holds, the first of both is the second's
 pub first_of-append_none : {F : Type 0} (xs ys : List (Bool × F)) → first_of xs ≡ None → first_of (xs ++ ys) ≡ first_of ys
 first_of-append_none [] ys h = refl

@@ -6,7 +6,7 @@ use Rattle.std.specs.Prelude.{ℕ, ◌+◌, ◌*◌, ◌/◌, ◌%◌, ◌^◌, 
 use Rattle.std.specs.Prelude.{is_some, bit_and, ◌≡◌, IsTrue, None, Result, MatchResult}
 use Rattle.cap_word.specs.declared.word.Cap.{Cap}
 use Rattle.cap_word.specs.Fields.{address_of, bit_of, otype_of, perms_of}
-use Rattle.cap_bounds.specs.Bounds.{base_of, top_of}
+use Rattle.cap_bounds.specs.Bounds.{base_of, top_of, IsInside}
 use Rattle.cap_bounds.specs.Range.{with_address}
 use Rattle.cap_bounds.specs.Rounding.{rounded_base, rounded_top, rounded_word}
 use Rattle.cap_ops.specs.declared.faults.OpFault.{OpFault}
@@ -69,6 +69,10 @@ set_bounds_checks source size exact =
 -- the source with the rounded bounds of this size, from its address on
 unfoldable pub set_bounds_result : Cap → ℕ → Cap
 set_bounds_result source size = with_word source (rounded_word source.word.0 (address_of source.word.0) size)
+
+-- the length from a capability's address on lies inside its bounds
+abbrev pub HasRoomFor : Cap → ℕ → Type 0
+HasRoomFor cap length = IsInside (address_of cap.word.0) (address_of cap.word.0 + length) (base_of cap.word.0) (top_of cap.word.0)
 
 -- setting the address: the source is unsealed, and the address keeps its bounds
 unfoldable pub set_addr_checks : Cap → ℕ → List (Bool × Refusal)

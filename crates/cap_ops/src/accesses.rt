@@ -1,6 +1,6 @@
 //! Accesses to memory through an authority.
 
-ghost use Rattle.std.specs.Prelude.{◌≡◌, ◌<◌, ◌≤◌, ◌%◌, ◌+◌, ◌↔◌, None, Some, true, MatchResult, IfOk, IsTrue, option_map};
+ghost use Rattle.std.specs.Prelude.{◌≡◌, ◌<◌, ◌≤◌, ◌%◌, ◌+◌, ◌↔◌, true, IfOk, IsTrue, option_map};
 ghost use Rattle.cap_ops.specs.Accesses.{IsAllowed, access_address, access_checks, loaded_result};
 ghost use Rattle.cap_ops.specs.Accesses.{permission_for, stored_checks};
 ghost use Rattle.cap_bounds.specs.Bounds.{IsSound};
@@ -8,7 +8,7 @@ ghost use Rattle.cap_ops.specs.Authority.{StaysWithin};
 ghost use Rattle.cap_ops.specs.Operations.{covers};
 ghost use Rattle.cap_ops.specs.Sizes.{size_fits};
 ghost use Rattle.cap_ops.specs.Refusals.{refusal_of};
-ghost use Rattle.cap_ops.specs.Checks.{first_of};
+ghost use Rattle.cap_ops.specs.Checks.{Ends, first_of};
 
 use crate::access::Access;
 use crate::bits::{
@@ -116,10 +116,8 @@ fn access_fault<const SOUND: bool>(authority: Cap, access: Access, address: u64)
 /// Capability, and Store Local Capability if the capability isn't global.
 #[inline(always)]
 pub fn may_access(authority: Cap, access: Access) -> Result<u64, OpFault>
-    ensures outcome { MatchResult result
-        (λ address. (first_of (access_checks authority access.kind access.offset access.size) ≡ None)
-        × (address ≡ access_address authority.word.0 access.offset))
-        (λ fault. first_of (access_checks authority access.kind access.offset access.size) ≡ Some (refusal_of fault)) }
+    ensures outcome { Ends result (access_checks authority access.kind access.offset access.size)
+        (λ address. address ≡ access_address authority.word.0 access.offset) }
     ensures allowed { IfOk result (λ address. IsAllowed authority.word.0 address access.size (permission_for access.kind)) }
     ensures in_one_granule { IfOk result (λ address. address % 16 + access.size ≤ 16) }
 {
@@ -131,10 +129,8 @@ pub fn may_access(authority: Cap, access: Access) -> Result<u64, OpFault>
 #[inline(always)]
 pub fn may_access_soundly(authority: Cap, access: Access) -> Result<u64, OpFault>
     requires sound { IsTrue authority.tag → IsSound authority.word.0 }
-    ensures outcome { MatchResult result
-        (λ address. (first_of (access_checks authority access.kind access.offset access.size) ≡ None)
-        × (address ≡ access_address authority.word.0 access.offset))
-        (λ fault. first_of (access_checks authority access.kind access.offset access.size) ≡ Some (refusal_of fault)) }
+    ensures outcome { Ends result (access_checks authority access.kind access.offset access.size)
+        (λ address. address ≡ access_address authority.word.0 access.offset) }
     ensures allowed { IfOk result (λ address. IsAllowed authority.word.0 address access.size (permission_for access.kind)) }
     ensures in_one_granule { IfOk result (λ address. address % 16 + access.size ≤ 16) }
 {
@@ -145,10 +141,8 @@ pub fn may_access_soundly(authority: Cap, access: Access) -> Result<u64, OpFault
 #[inline(always)]
 fn access_by<const SOUND: bool>(authority: Cap, access: Access) -> Result<u64, OpFault>
     requires sound { SOUND ≡ true → IsTrue authority.tag → IsSound authority.word.0 }
-    ensures outcome { MatchResult result
-        (λ address. (first_of (access_checks authority access.kind access.offset access.size) ≡ None)
-        × (address ≡ access_address authority.word.0 access.offset))
-        (λ fault. first_of (access_checks authority access.kind access.offset access.size) ≡ Some (refusal_of fault)) }
+    ensures outcome { Ends result (access_checks authority access.kind access.offset access.size)
+        (λ address. address ≡ access_address authority.word.0 access.offset) }
     ensures allowed { IfOk result (λ address. IsAllowed authority.word.0 address access.size (permission_for access.kind)) }
     ensures in_one_granule { IfOk result (λ address. address % 16 + access.size ≤ 16) }
 {

@@ -1,6 +1,6 @@
 //! New addresses.
 
-ghost use Rattle.std.specs.Prelude.{◌≡◌, ◌≢◌, ◌≤◌, ◌↔◌, None, Some, MatchResult, IfOk, IsFalse, IsTrue, option_map};
+ghost use Rattle.std.specs.Prelude.{◌≡◌, ◌≢◌, ◌≤◌, ◌↔◌, IfOk, IsFalse, IsTrue, option_map};
 ghost use Rattle.cap_word.specs.Fields.{address_of};
 ghost use Rattle.cap_bounds.specs.Bounds.{base_of, top_of};
 ghost use Rattle.cap_bounds.specs.Range.{IsRepresentable, with_address};
@@ -8,7 +8,7 @@ ghost use Rattle.cap_ops.specs.Authority.{StaysWithin};
 ghost use Rattle.cap_ops.specs.Operations.{is_kept_at, set_addr_result, set_addr_checks};
 ghost use Rattle.cap_ops.specs.Permissions.{is_sealed};
 ghost use Rattle.cap_ops.specs.Refusals.{refusal_of};
-ghost use Rattle.cap_ops.specs.Checks.{first_of};
+ghost use Rattle.cap_ops.specs.Checks.{Ends, first_of};
 
 use crate::faults::OpFault;
 use crate::sealing::sealed;
@@ -61,9 +61,7 @@ pub(crate) fn moved(source: Cap, address: u64) -> Cap
 /// A tagged source is refused where it is sealed, and then where the address does not keep its bounds:
 /// exactly outside its representable range, and so never from its base to its top.
 pub fn set_addr(source: Cap, address: u64) -> Result<Cap, OpFault>
-    ensures outcome { MatchResult result
-        (λ cap. (first_of (set_addr_checks source address) ≡ None) × (cap ≡ set_addr_result source address))
-        (λ fault. first_of (set_addr_checks source address) ≡ Some (refusal_of fault)) }
+    ensures outcome { Ends result (set_addr_checks source address) (λ cap. cap ≡ set_addr_result source address) }
     ensures moved_so { IfOk result (λ cap. (cap.tag ≡ source.tag) × (address_of cap.word.0 ≡ address)) }
     ensures stays_within { IfOk result (λ cap. StaysWithin cap source) }
     ensures range { IsTrue source.tag → IsFalse (is_sealed source.word.0)

@@ -2,12 +2,11 @@
 //! current CHERI-RISC-V do): each gives what the strict operation gives, and where that refuses, the
 //! same result without its tag.
 
-ghost use Rattle.std.specs.Prelude.{◌≡◌, ◌+◌, ◌↔◌, IsFalse, IsTrue, false};
-ghost use Rattle.cap_word.specs.Fields.{address_of};
-ghost use Rattle.cap_bounds.specs.Bounds.{IsInside, IsSound, base_of, top_of};
+ghost use Rattle.std.specs.Prelude.{◌≡◌, ◌↔◌, IsFalse, IsTrue, false};
+ghost use Rattle.cap_bounds.specs.Bounds.{IsSound};
 ghost use Rattle.cap_ops.specs.Authority.{StaysWithin};
 ghost use Rattle.cap_ops.specs.Permissions.{is_sealed};
-ghost use Rattle.cap_ops.specs.Operations.{Clears, IsStrictWhereTagged, and_perm_result, and_perm_checks};
+ghost use Rattle.cap_ops.specs.Operations.{Clears, HasRoomFor, IsStrictWhereTagged, and_perm_result, and_perm_checks};
 ghost use Rattle.cap_ops.specs.Operations.{clear_result, seal_result, seal_checks, set_addr_result};
 ghost use Rattle.cap_ops.specs.Operations.{set_addr_checks, set_bounds_result, set_bounds_checks};
 ghost use Rattle.cap_ops.specs.Operations.{unseal_result, unseal_checks};
@@ -39,8 +38,7 @@ pub fn set_bounds_clear(source: Cap, length: u64, exact: bool) -> Cap
     ensures strict { IsStrictWhereTagged (set_bounds_checks source length exact) (set_bounds_result source length) result }
     ensures stays_within { StaysWithin result source }
     ensures escape { exact ≡ false → IsTrue source.tag → IsFalse (is_sealed source.word.0) → IsSound source.word.0
-        → IsFalse result.tag ↔ (¬ IsInside (address_of source.word.0)
-        (address_of source.word.0 + length) (base_of source.word.0) (top_of source.word.0)) }
+        → IsFalse result.tag ↔ (¬ HasRoomFor source length) }
 {
     or_cleared(set_bounds(source, length, exact), narrowed(source, length))
 }

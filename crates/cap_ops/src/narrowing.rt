@@ -1,14 +1,13 @@
 //! New bounds, inside those of a source.
 
-ghost use Rattle.std.specs.Prelude.{◌≡◌, ◌<◌, ◌+◌, ◌↔◌, None, Some, MatchResult, IfOk, IfNone, IfSome, IsFalse, IsTrue, true, false};
+ghost use Rattle.std.specs.Prelude.{◌≡◌, ◌<◌, ◌↔◌, IfOk, IfNone, IfSome, IsFalse, IsTrue, true, false};
 ghost use Rattle.cap_word.specs.Fields.{address_of};
-ghost use Rattle.cap_bounds.specs.Bounds.{IsInside, IsSound, base_of, top_of};
+ghost use Rattle.cap_bounds.specs.Bounds.{IsSound};
 ghost use Rattle.cap_bounds.specs.Rounding.{HasRounding, rounded_base, rounded_top};
 ghost use Rattle.cap_ops.specs.Authority.{StaysWithin};
-ghost use Rattle.cap_ops.specs.Operations.{covers, is_exact, set_bounds_result, set_bounds_checks};
+ghost use Rattle.cap_ops.specs.Operations.{HasRoomFor, covers, is_exact, set_bounds_result, set_bounds_checks};
 ghost use Rattle.cap_ops.specs.Permissions.{is_sealed};
-ghost use Rattle.cap_ops.specs.Refusals.{refusal_of};
-ghost use Rattle.cap_ops.specs.Checks.{first_of};
+ghost use Rattle.cap_ops.specs.Checks.{Ends};
 
 use crate::faults::OpFault;
 use crate::sealing::sealed;
@@ -39,10 +38,8 @@ fn rounding_of(word: Word, length: u64) -> Rounded
 #[tactic(auto, unfolding(crate::specs::Operations::set_bounds_checks))]
 #[inline(always)]
 fn permitted(source: Cap, length: u64, exact: bool) -> Result<Rounded, OpFault>
-    ensures { MatchResult result
-        (λ rounded. (first_of (set_bounds_checks source length exact) ≡ None)
-        × HasRounding rounded.ie rounded.e rounded.b rounded.t (address_of source.word.0) length)
-        (λ fault. first_of (set_bounds_checks source length exact) ≡ Some (refusal_of fault)) }
+    ensures { Ends result (set_bounds_checks source length exact)
+        (λ rounded. HasRounding rounded.ie rounded.e rounded.b rounded.t (address_of source.word.0) length) }
 {
     let rounded = rounding_of(source.word, length);
     if !source.tag {
@@ -85,10 +82,8 @@ fn permitted_soundly(source: Cap, length: u64, exact: bool) -> Result<Rounded, O
     requires tagged { IsTrue source.tag }
     requires sound { IsSound source.word.0 }
     requires some { 0 < length }
-    ensures { MatchResult result
-        (λ rounded. (first_of (set_bounds_checks source length exact) ≡ None)
-        × HasRounding rounded.ie rounded.e rounded.b rounded.t (address_of source.word.0) length)
-        (λ fault. first_of (set_bounds_checks source length exact) ≡ Some (refusal_of fault)) }
+    ensures { Ends result (set_bounds_checks source length exact)
+        (λ rounded. HasRounding rounded.ie rounded.e rounded.b rounded.t (address_of source.word.0) length) }
 {
     if sealed(source.word) {
         return Err(OpFault::SourceSealed);
@@ -115,10 +110,8 @@ fn permitted_by<const SOUND: bool>(
     requires tagged { SOUND ≡ true → IsTrue source.tag }
     requires sound { SOUND ≡ true → IsSound source.word.0 }
     requires some { SOUND ≡ true → 0 < length }
-    ensures { MatchResult result
-        (λ rounded. (first_of (set_bounds_checks source length exact) ≡ None)
-        × HasRounding rounded.ie rounded.e rounded.b rounded.t (address_of source.word.0) length)
-        (λ fault. first_of (set_bounds_checks source length exact) ≡ Some (refusal_of fault)) }
+    ensures { Ends result (set_bounds_checks source length exact)
+        (λ rounded. HasRounding rounded.ie rounded.e rounded.b rounded.t (address_of source.word.0) length) }
 {
     if SOUND {
         permitted_soundly(source, length, exact)
@@ -135,13 +128,10 @@ fn permitted_by<const SOUND: bool>(
 /// instruction: the requested bounds do not lie inside its own.
 #[inline(always)]
 pub fn set_bounds(source: Cap, length: u64, exact: bool) -> Result<Cap, OpFault>
-    ensures outcome { MatchResult result
-        (λ cap. (first_of (set_bounds_checks source length exact) ≡ None) × (cap ≡ set_bounds_result source length))
-        (λ fault. first_of (set_bounds_checks source length exact) ≡ Some (refusal_of fault)) }
+    ensures outcome { Ends result (set_bounds_checks source length exact) (λ cap. cap ≡ set_bounds_result source length) }
     ensures stays_within { IfOk result (λ cap. StaysWithin cap source) }
     ensures escape { IsTrue source.tag → IsFalse (is_sealed source.word.0) → IsSound source.word.0
-        → (result ≡ Err OpFault.BoundsEscape) ↔ (¬ IsInside (address_of source.word.0)
-        (address_of source.word.0 + length) (base_of source.word.0) (top_of source.word.0)) }
+        → (result ≡ Err OpFault.BoundsEscape) ↔ (¬ HasRoomFor source length) }
 {
     narrowed_by::<false>(source, length, exact)
 }
@@ -151,50 +141,27 @@ pub fn set_bounds(source: Cap, length: u64, exact: bool) -> Result<Cap, OpFault>
 #[inline(always)]
 pub fn set_bounds_soundly(source: Cap, length: u64, exact: bool) -> Result<Cap, OpFault>
     requires sound { IsTrue source.tag → IsSound source.word.0 }
-    ensures outcome { MatchResult result
-        (λ cap. (first_of (set_bounds_checks source length exact) ≡ None) × (cap ≡ set_bounds_result source length))
-        (λ fault. first_of (set_bounds_checks source length exact) ≡ Some (refusal_of fault)) }
+    ensures outcome { Ends result (set_bounds_checks source length exact) (λ cap. cap ≡ set_bounds_result source length) }
     ensures stays_within { IfOk result (λ cap. StaysWithin cap source) }
     ensures escape { IsTrue source.tag → IsFalse (is_sealed source.word.0) → IsSound source.word.0
-        → (result ≡ Err OpFault.BoundsEscape) ↔ (¬ IsInside (address_of source.word.0)
-        (address_of source.word.0 + length) (base_of source.word.0) (top_of source.word.0)) }
+        → (result ≡ Err OpFault.BoundsEscape) ↔ (¬ HasRoomFor source length) }
 {
     if source.tag && length > 0 {
         narrowed_by::<true>(source, length, exact)
     } else {
-        set_bounds_apart(source, length, exact)
+        // The callee gets its own copy of the source, so the source needn't be in memory if there is no call.
+        let Cap { tag, word } = source;
+        set_bounds_called(Cap { tag, word }, length, exact)
     }
-}
-
-/// [`set_bounds`], out of line. The callee gets its own copy of the source, so the caller needn't keep the source
-/// in memory if it doesn't call.
-#[inline(always)]
-fn set_bounds_apart(source: Cap, length: u64, exact: bool) -> Result<Cap, OpFault>
-    ensures outcome { MatchResult result
-        (λ cap. (first_of (set_bounds_checks source length exact) ≡ None) × (cap ≡ set_bounds_result source length))
-        (λ fault. first_of (set_bounds_checks source length exact) ≡ Some (refusal_of fault)) }
-    ensures stays_within { IfOk result (λ cap. StaysWithin cap source) }
-    ensures escape { IsTrue source.tag → IsFalse (is_sealed source.word.0) → IsSound source.word.0
-        → (result ≡ Err OpFault.BoundsEscape) ↔ (¬ IsInside (address_of source.word.0)
-        (address_of source.word.0 + length) (base_of source.word.0) (top_of source.word.0)) }
-{
-    let called = Cap {
-        tag: source.tag,
-        word: source.word,
-    };
-    set_bounds_called(called, length, exact)
 }
 
 /// [`set_bounds`], in a function of its own.
 #[inline(never)]
 fn set_bounds_called(source: Cap, length: u64, exact: bool) -> Result<Cap, OpFault>
-    ensures outcome { MatchResult result
-        (λ cap. (first_of (set_bounds_checks source length exact) ≡ None) × (cap ≡ set_bounds_result source length))
-        (λ fault. first_of (set_bounds_checks source length exact) ≡ Some (refusal_of fault)) }
+    ensures outcome { Ends result (set_bounds_checks source length exact) (λ cap. cap ≡ set_bounds_result source length) }
     ensures stays_within { IfOk result (λ cap. StaysWithin cap source) }
     ensures escape { IsTrue source.tag → IsFalse (is_sealed source.word.0) → IsSound source.word.0
-        → (result ≡ Err OpFault.BoundsEscape) ↔ (¬ IsInside (address_of source.word.0)
-        (address_of source.word.0 + length) (base_of source.word.0) (top_of source.word.0)) }
+        → (result ≡ Err OpFault.BoundsEscape) ↔ (¬ HasRoomFor source length) }
 {
     set_bounds(source, length, exact)
 }
@@ -205,13 +172,10 @@ fn narrowed_by<const SOUND: bool>(source: Cap, length: u64, exact: bool) -> Resu
     requires tagged { SOUND ≡ true → IsTrue source.tag }
     requires sound { SOUND ≡ true → IsSound source.word.0 }
     requires some { SOUND ≡ true → 0 < length }
-    ensures outcome { MatchResult result
-        (λ cap. (first_of (set_bounds_checks source length exact) ≡ None) × (cap ≡ set_bounds_result source length))
-        (λ fault. first_of (set_bounds_checks source length exact) ≡ Some (refusal_of fault)) }
+    ensures outcome { Ends result (set_bounds_checks source length exact) (λ cap. cap ≡ set_bounds_result source length) }
     ensures stays_within { IfOk result (λ cap. StaysWithin cap source) }
     ensures escape { IsTrue source.tag → IsFalse (is_sealed source.word.0) → IsSound source.word.0
-        → (result ≡ Err OpFault.BoundsEscape) ↔ (¬ IsInside (address_of source.word.0)
-        (address_of source.word.0 + length) (base_of source.word.0) (top_of source.word.0)) }
+        → (result ≡ Err OpFault.BoundsEscape) ↔ (¬ HasRoomFor source length) }
 {
     match permitted_by::<SOUND>(source, length, exact) {
         Err(fault) => Err(fault),

@@ -1,11 +1,11 @@
 //! Permissions, and the tag.
 
-ghost use Rattle.std.specs.Prelude.{◌≡◌, None, Some, MatchResult, IfOk, bit_and, option_map};
+ghost use Rattle.std.specs.Prelude.{◌≡◌, IfOk, bit_and, option_map};
 ghost use Rattle.cap_ops.specs.Authority.{StaysWithin};
 ghost use Rattle.cap_ops.specs.Operations.{and_perm_result, and_perm_checks, cleared};
 ghost use Rattle.cap_ops.specs.Permissions.{perm_view_of, perms_from_view};
 ghost use Rattle.cap_ops.specs.Refusals.{refusal_of};
-ghost use Rattle.cap_ops.specs.Checks.{first_of};
+ghost use Rattle.cap_ops.specs.Checks.{Ends, first_of};
 
 use crate::bits::replace_permissions;
 use crate::faults::OpFault;
@@ -67,9 +67,7 @@ pub(crate) fn masked(source: Cap, mask: u64) -> Cap
 ///
 /// A tagged source that is sealed is refused, as `SourceSealed`.
 pub fn and_perm(source: Cap, mask: u64) -> Result<Cap, OpFault>
-    ensures outcome { MatchResult result
-        (λ cap. (first_of (and_perm_checks source) ≡ None) × (cap ≡ and_perm_result source mask))
-        (λ fault. first_of (and_perm_checks source) ≡ Some (refusal_of fault)) }
+    ensures outcome { Ends result (and_perm_checks source) (λ cap. cap ≡ and_perm_result source mask) }
     ensures view { IfOk result (λ cap. perm_view_of cap.word.0 ≡ bit_and (perm_view_of source.word.0) mask) }
     ensures stays_within { IfOk result (λ cap. StaysWithin cap source) }
 {

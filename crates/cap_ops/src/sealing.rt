@@ -1,6 +1,6 @@
 //! Object types: sealing and unsealing.
 
-ghost use Rattle.std.specs.Prelude.{◌≡◌, ◌+◌, ◌<◌, ◌==◌, ◌&&◌, nat_le, None, Some, MatchResult, IfOk, IsFalse, IsTrue, option_map};
+ghost use Rattle.std.specs.Prelude.{◌≡◌, ◌+◌, ◌<◌, ◌==◌, ◌&&◌, nat_le, IfOk, IsFalse, IsTrue, option_map};
 ghost use Rattle.cap_word.specs.Fields.{address_of, otype_of};
 ghost use Rattle.cap_ops.specs.Authority.{StaysWithin};
 ghost use Rattle.cap_ops.specs.Operations.{covers, perms_with_common_global};
@@ -8,7 +8,7 @@ ghost use Rattle.cap_ops.specs.Operations.{seal_result, seal_checks, type_author
 ghost use Rattle.cap_ops.specs.Operations.{unseal_checks};
 ghost use Rattle.cap_ops.specs.Permissions.{greatest_type, has_permission, is_sealed, permit_global};
 ghost use Rattle.cap_ops.specs.Refusals.{refusal_of};
-ghost use Rattle.cap_ops.specs.Checks.{first_of};
+ghost use Rattle.cap_ops.specs.Checks.{Ends, first_of};
 
 use crate::bits::{GLOBAL, PERMIT_SEAL, PERMIT_UNSEAL, permits, replace_permissions, replace_type};
 use crate::faults::OpFault;
@@ -97,9 +97,7 @@ pub(crate) fn with_authority_type(source: Cap, authority: Cap) -> Cap
 /// bounds, and that address is at most `0x3fffb`; the source is tagged and unsealed.
 #[inline(always)]
 pub fn seal(source: Cap, authority: Cap) -> Result<Cap, OpFault>
-    ensures outcome { MatchResult result
-        (λ cap. (first_of (seal_checks source authority) ≡ None) × (cap ≡ seal_result source authority))
-        (λ fault. first_of (seal_checks source authority) ≡ Some (refusal_of fault)) }
+    ensures outcome { Ends result (seal_checks source authority) (λ cap. cap ≡ seal_result source authority) }
     ensures sealed_so { IfOk result (λ cap. IsTrue cap.tag × IsTrue (is_sealed cap.word.0)
         × (otype_of cap.word.0 ≡ address_of authority.word.0) × (address_of cap.word.0 ≡ address_of source.word.0)) }
     ensures stays_within { IfOk result (λ cap. StaysWithin cap source) }
@@ -167,9 +165,7 @@ pub(crate) fn without_type(source: Cap, authority: Cap) -> Cap
 /// in its bounds; the source is tagged, and its object type is that address and not reserved.
 #[inline(always)]
 pub fn unseal(source: Cap, authority: Cap) -> Result<Cap, OpFault>
-    ensures outcome { MatchResult result
-        (λ cap. (first_of (unseal_checks source authority) ≡ None) × (cap ≡ unseal_result source authority))
-        (λ fault. first_of (unseal_checks source authority) ≡ Some (refusal_of fault)) }
+    ensures outcome { Ends result (unseal_checks source authority) (λ cap. cap ≡ unseal_result source authority) }
     ensures unsealed_so { IfOk result (λ cap. IsTrue cap.tag × IsFalse (is_sealed cap.word.0)
         × (has_permission cap.word.0 permit_global ≡ (has_permission source.word.0 permit_global && has_permission authority.word.0 permit_global))
         × (address_of cap.word.0 ≡ address_of source.word.0)) }

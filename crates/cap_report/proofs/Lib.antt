@@ -1,5 +1,4 @@
 pub mod AnswerLemmas
 mod DetailLemmas
-mod StepLemmas
 pub mod TextLemmas
 mod WhyLemmas

@@ -4,13 +4,12 @@ ghost use Rattle.std.specs.Prelude.{◌≡◌, ℕ, List, ◌+◌, ◌++◌, ◌
 ghost use Rattle.cap_machine.specs.Helds.{account_of};
 ghost use Rattle.cap_log.specs.Lines.{IsPlace};
 ghost use Rattle.cap_log.specs.Parts.{Writes};
-ghost use Rattle.cap_bounds.specs.Bounds.{length_of};
 ghost use Rattle.cap_log.specs.FaultLines.{bytes_of};
 ghost use Rattle.cap_report.specs.FaultReports.{AreDetails, IsLineReport, count_lines, due_line, root_lines};
 
 use crate::bad_lines::{put_bad_header, put_bad_line};
 use crate::step_lines::put_step_lines;
-use cap_bounds::mantissa;
+use cap_bounds::length_of;
 use cap_judge::FaultLine;
 use cap_log::{Line, Place, read_line};
 use cap_machine::{Machine, Refusal};
@@ -18,7 +17,7 @@ use cap_texts::cap_lines::{put_cap_lines, put_operand_lines};
 use cap_texts::shown_bytes::put_shown_line;
 use cap_texts::text_lines::{put_decimal_line, put_hex_line, put_line};
 use cap_texts::wrong_lines::put_header_lines;
-use cap_word::{Cap, Word, split};
+use cap_word::{Cap, Word};
 use tagmem::TaggedStore;
 
 /// Writes the report of a line that was refused at an index of the buffer, and returns the index after it.
@@ -170,13 +169,4 @@ fn put_root_lines<M: TaggedStore>(
             put_hex_line(buffer, at, b"length", 17, length_of(word))
         }
     }
-}
-
-// The length of a word.
-fn length_of(word: Word) -> u128
-    ensures { result ≡ length_of word.0 }
-{
-    let fields = split(word);
-    let span = (u128::from(mantissa(&fields)) + 16384 - u128::from(fields.b)) % 16384;
-    span << fields.e.min(52)
 }

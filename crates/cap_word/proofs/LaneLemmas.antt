@@ -1,9 +1,11 @@
 -- Lanes that were computed one by one from the bytes, and what their mask says.
 use Rattle.std.proofs.Common.{◌≡◌, ◌+◌, ◌-◌, ◌*◌, ◌/◌, ◌%◌, ◌^◌, ◌<◌, ◌≤◌, ◌||◌, ◌∷◌, ◌++◌, ◌∙◌}
 use Rattle.std.proofs.Common.{ℕ, suc, zero, Bool, true, false, not, cond, eqb, ltb, List, [], map}
-use Rattle.std.proofs.Common.{length, take, get_or, replicate, Fits, w8, refl, sym, ap, arith}
-use Rattle.std.proofs.lemmas.Bool.{agree_below, agree_below_at, eqb-true, false≢true, not-false, lt-ltb, ltb-true}
-use Rattle.std.proofs.lemmas.List.{get_or-map, get_or-take, length-map, get_or_append_left}
+use Rattle.std.proofs.Common.{length, take, get_or, replicate, Fits, w8, inl, inr, refl, sym, ap, arith}
+use Rattle.std.proofs.lemmas.Bool.{agree_below, agree_below_at, cases_lt, eqb-true, false≢true, not-false, lt-ltb, ltb-true}
+use Rattle.std.proofs.lemmas.List.{get_or-map, get_or-take, get_or_past, length-map, get_or_append_left}
+use Rattle.std.proofs.lemmas.List.FromFn.{get_or-map-range_with_len}
+use Rattle.std.specs.List.{range_with_len}
 use Rattle.hex.specs.Hex.{encode_with, encode_lower}
 use lib.Lanes.{Each1, sel_l, mask_l, zip2, top}
 use lib.Bits.{bit_or}
@@ -209,37 +211,24 @@ pair v i j = bit_or (get_or (v ++ v) i 0 * 16 % 256) (get_or (v ++ v) j 0)
 
 -- the bytes of eight pairs of lanes
 abbrev pub pairs : List ℕ → List ℕ
-pairs v = pair v 0 1 ∷ pair v 2 3 ∷ pair v 4 5 ∷ pair v 6 7 ∷ pair v 8 9 ∷ pair v 10 11 ∷ pair v 12 13 ∷ pair v 14 15 ∷ []
+pairs v = map (λ j. pair v (2 * j) (2 * j + 1)) (range_with_len 0 8)
+
+pair_at : (v : List ℕ) (j : ℕ) → j < 8 → get_or (pairs v) j 0 ≡ pair v (2 * j) (2 * j + 1)
+pair_at v j lt = get_or-map-range_with_len (λ j. pair v (2 * j) (2 * j + 1)) 0 8 j j 0 lt (omega arith)
 
 pub pairs_at : (v : List ℕ) → length v ≡ 16 → (j : ℕ) → j < 8 → get_or v (2 * j) 0 < 16 → get_or v (2 * j + 1) 0 < 16
     → get_or (pairs v) j 0 ≡ 16 * get_or v (2 * j) 0 + get_or v (2 * j + 1) 0
-pairs_at v long zero lt high low = paired v 0 1 long (omega arith) (omega arith) high low
-pairs_at v long (suc zero) lt high low = paired v 2 3 long (omega arith) (omega arith) high low
-pairs_at v long (suc (suc zero)) lt high low = paired v 4 5 long (omega arith) (omega arith) high low
-pairs_at v long (suc (suc (suc zero))) lt high low = paired v 6 7 long (omega arith) (omega arith) high low
-pairs_at v long (suc (suc (suc (suc zero)))) lt high low = paired v 8 9 long (omega arith) (omega arith) high low
-pairs_at v long (suc (suc (suc (suc (suc zero))))) lt high low = paired v 10 11 long (omega arith) (omega arith) high low
-pairs_at v long (suc (suc (suc (suc (suc (suc zero)))))) lt high low = paired v 12 13 long (omega arith) (omega arith) high low
-pairs_at v long (suc (suc (suc (suc (suc (suc (suc zero))))))) lt high low = paired v 14 15 long (omega arith) (omega arith) high low
-pairs_at v long (suc (suc (suc (suc (suc (suc (suc (suc j)))))))) lt high low = absurd (omega arith)
+pairs_at v long j lt high low = pair_at v j lt ∙ paired v (2 * j) (2 * j + 1) long (omega arith) (omega arith) high low
 
 pub pairs_fit : (v : List ℕ) → (length v ≡ 16) × Each1 (Fits w8) v → (j : ℕ) → get_or (pairs v) j 0 < 256
-pairs_fit v fits j = at j where
-  few : (i k : ℕ) → i < 16 → k < 16 → pair v i k < 256
-  few i k first second =
-      let b = get_or_append_left v v 0 k (omega (arith, fits.0)) in
-      or_of_8 (get_or (v ++ v) i 0 * 16 % 256) (get_or (v ++ v) k 0) (omega arith) (rw b (below_256 v fits k second))
-
-  at : (j : ℕ) → get_or (pairs v) j 0 < 256
-  at zero = few 0 1 (omega arith) (omega arith)
-  at (suc zero) = few 2 3 (omega arith) (omega arith)
-  at (suc (suc zero)) = few 4 5 (omega arith) (omega arith)
-  at (suc (suc (suc zero))) = few 6 7 (omega arith) (omega arith)
-  at (suc (suc (suc (suc zero)))) = few 8 9 (omega arith) (omega arith)
-  at (suc (suc (suc (suc (suc zero))))) = few 10 11 (omega arith) (omega arith)
-  at (suc (suc (suc (suc (suc (suc zero)))))) = few 12 13 (omega arith) (omega arith)
-  at (suc (suc (suc (suc (suc (suc (suc zero))))))) = few 14 15 (omega arith) (omega arith)
-  at (suc (suc (suc (suc (suc (suc (suc (suc j)))))))) = omega arith
+pairs_fit v fits j =
+    elim (cases_lt j 8) [
+      | inl lt ↦
+          let low = get_or_append_left v v 0 (2 * j + 1) (omega (arith, fits.0)) in
+          rw (pair_at v j lt) (or_of_8 (get_or (v ++ v) (2 * j) 0 * 16 % 256) (get_or (v ++ v) (2 * j + 1) 0) (omega arith)
+          (rw low (below_256 v fits (2 * j + 1) (omega arith))))
+      | inr past ↦ rw (get_or_past (pairs v) j 0 past) (omega arith)
+    ]
 
 -- the two digits of a byte
 pub pair_spelled : (x y v w b : ℕ) → IsLaneOf x v → IsLaneOf y w → v < 16 → w < 16 → b ≡ 16 * v + w

@@ -1,7 +1,7 @@
 -- What the search for an exponent finds is the rounding of the request.
 use Rattle.std.proofs.Common.{◌≡◌, ℕ, ◌+◌, ◌*◌, ◌/◌, ◌%◌, ◌^◌, ◌<◌, ◌≤◌, sym, ap, ◌∙◌, refl, arith}
 use Rattle.cap_bounds.specs.Rounding.{div_up, IsLeastExponent, rounded_base, rounded_top, rounded_b, rounded_t}
-use Rattle.cap_bounds.proofs.Roundings.{rounded_base_is, rounded_top_is, rounded_top-le, long_b, long_t}
+use Rattle.cap_bounds.proofs.Roundings.{rounded_base_is, rounded_top_is, rounded_top-le, long_request}
 use Rattle.cap_bounds.proofs.Powers.{pow_le}
 
 pub unit-lt : (e : ℕ) → e ≤ 52 → 1 * 2 ^ (e + 3) % 2 ^ 128 < 2 ^ 56
@@ -27,8 +27,8 @@ module _ (b l e unit base top up : ℕ) (long : 4096 ≤ l) (b_fits : b < 2 ^ 64
 
   pub b_found : 8 * (base / unit) % 2 ^ 14 ≡ rounded_b b l
   b_found = ap (λ (x : ℕ). 8 * x % 2 ^ 14) down
-      ∙ long_b b l e (b / 2 ^ (e + 3)) (div_up (b + l) (2 ^ (e + 3))) long b_fits l_fits least refl refl
+      ∙ (long_request b l e (b / 2 ^ (e + 3)) (div_up (b + l) (2 ^ (e + 3))) long b_fits l_fits least refl refl).b_is
 
   pub t_found : 8 * up % 2 ^ 14 ≡ rounded_t b l
   t_found = ap (λ (x : ℕ). 8 * x % 2 ^ 14) above
-      ∙ long_t b l e (b / 2 ^ (e + 3)) (div_up (b + l) (2 ^ (e + 3))) long b_fits l_fits least refl refl
+      ∙ (long_request b l e (b / 2 ^ (e + 3)) (div_up (b + l) (2 ^ (e + 3))) long b_fits l_fits least refl refl).t_is

@@ -47,28 +47,15 @@ impl Operands for LoadCap {
 
     #[inline(always)]
     fn take(bytes: &[u8]) -> Option<(Self, &[u8])> {
-        let Some((parts, rest)) = take_parts(Head::LoadCap, bytes) else {
-            return None;
-        };
-        let (target, (authority, (offset, recorded))) = parts;
-        let operands = Self {
-            target,
-            authority,
-            offset,
-            result: recorded,
-        };
-        Some((operands, rest))
+        taken!(Head::LoadCap, bytes, (target, (authority, (offset, recorded))) =>
+            Self { target, authority, offset, result: recorded })
     }
 
     #[inline(always)]
     fn write(&self, buffer: &mut [u8]) -> usize {
         let line = Line::Step((*self).into_step());
-        write_parts(
-            &line,
-            Head::LoadCap,
-            (self.target, (self.authority, (self.offset, self.result))),
-            buffer,
-        )
+        let parts = (self.target, (self.authority, (self.offset, self.result)));
+        write_parts(&line, Head::LoadCap, parts, buffer)
     }
 
     #[inline(always)]
@@ -111,27 +98,15 @@ impl Operands for StoreCap {
 
     #[inline(always)]
     fn take(bytes: &[u8]) -> Option<(Self, &[u8])> {
-        let Some((parts, rest)) = take_parts(Head::StoreCap, bytes) else {
-            return None;
-        };
-        let (source, (authority, offset)) = parts;
-        let operands = Self {
-            source,
-            authority,
-            offset,
-        };
-        Some((operands, rest))
+        taken!(Head::StoreCap, bytes, (source, (authority, offset)) =>
+            Self { source, authority, offset })
     }
 
     #[inline(always)]
     fn write(&self, buffer: &mut [u8]) -> usize {
         let line = Line::Step((*self).into_step());
-        write_parts(
-            &line,
-            Head::StoreCap,
-            (self.source, (self.authority, self.offset)),
-            buffer,
-        )
+        let parts = (self.source, (self.authority, self.offset));
+        write_parts(&line, Head::StoreCap, parts, buffer)
     }
 
     #[inline(always)]
@@ -189,12 +164,8 @@ impl Operands for Load {
     #[inline(always)]
     fn write(&self, buffer: &mut [u8]) -> usize {
         let line = Line::Step((*self).into_step());
-        write_parts(
-            &line,
-            Head::Load,
-            (self.authority, (self.offset, Accessed::<true>(self.datum))),
-            buffer,
-        )
+        let parts = (self.authority, (self.offset, Accessed::<true>(self.datum)));
+        write_parts(&line, Head::Load, parts, buffer)
     }
 
     #[inline(always)]
@@ -252,12 +223,8 @@ impl Operands for Store {
     #[inline(always)]
     fn write(&self, buffer: &mut [u8]) -> usize {
         let line = Line::Step((*self).into_step());
-        write_parts(
-            &line,
-            Head::Store,
-            (self.authority, (self.offset, Accessed::<false>(self.datum))),
-            buffer,
-        )
+        let parts = (self.authority, (self.offset, Accessed::<false>(self.datum)));
+        write_parts(&line, Head::Store, parts, buffer)
     }
 
     #[inline(always)]

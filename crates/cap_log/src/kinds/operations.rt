@@ -42,27 +42,15 @@ impl Operands for Move {
 
     #[inline(always)]
     fn take(bytes: &[u8]) -> Option<(Self, &[u8])> {
-        let Some((parts, rest)) = take_parts(Head::Move, bytes) else {
-            return None;
-        };
-        let (target, (source, recorded)) = parts;
-        let operands = Self {
-            target,
-            source,
-            result: recorded,
-        };
-        Some((operands, rest))
+        taken!(Head::Move, bytes, (target, (source, recorded)) =>
+            Self { target, source, result: recorded })
     }
 
     #[inline(always)]
     fn write(&self, buffer: &mut [u8]) -> usize {
         let line = Line::Step((*self).into_step());
-        write_parts(
-            &line,
-            Head::Move,
-            (self.target, (self.source, self.result)),
-            buffer,
-        )
+        let parts = (self.target, (self.source, self.result));
+        write_parts(&line, Head::Move, parts, buffer)
     }
 
     #[inline(always)]
@@ -104,27 +92,15 @@ impl Operands for ClearTag {
 
     #[inline(always)]
     fn take(bytes: &[u8]) -> Option<(Self, &[u8])> {
-        let Some((parts, rest)) = take_parts(Head::ClearTag, bytes) else {
-            return None;
-        };
-        let (target, (source, recorded)) = parts;
-        let operands = Self {
-            target,
-            source,
-            result: recorded,
-        };
-        Some((operands, rest))
+        taken!(Head::ClearTag, bytes, (target, (source, recorded)) =>
+            Self { target, source, result: recorded })
     }
 
     #[inline(always)]
     fn write(&self, buffer: &mut [u8]) -> usize {
         let line = Line::Step((*self).into_step());
-        write_parts(
-            &line,
-            Head::ClearTag,
-            (self.target, (self.source, self.result)),
-            buffer,
-        )
+        let parts = (self.target, (self.source, self.result));
+        write_parts(&line, Head::ClearTag, parts, buffer)
     }
 
     #[inline(always)]
@@ -169,28 +145,15 @@ impl Operands for SetBounds {
 
     #[inline(always)]
     fn take(bytes: &[u8]) -> Option<(Self, &[u8])> {
-        let Some((parts, rest)) = take_parts(Head::SetBounds, bytes) else {
-            return None;
-        };
-        let (target, (source, (length, recorded))) = parts;
-        let operands = Self {
-            target,
-            source,
-            length,
-            result: recorded,
-        };
-        Some((operands, rest))
+        taken!(Head::SetBounds, bytes, (target, (source, (length, recorded))) =>
+            Self { target, source, length, result: recorded })
     }
 
     #[inline(always)]
     fn write(&self, buffer: &mut [u8]) -> usize {
         let line = Line::Step((*self).into_step());
-        write_parts(
-            &line,
-            Head::SetBounds,
-            (self.target, (self.source, (self.length, self.result))),
-            buffer,
-        )
+        let parts = (self.target, (self.source, (self.length, self.result)));
+        write_parts(&line, Head::SetBounds, parts, buffer)
     }
 
     #[inline(always)]
@@ -235,28 +198,15 @@ impl Operands for SetBoundsExact {
 
     #[inline(always)]
     fn take(bytes: &[u8]) -> Option<(Self, &[u8])> {
-        let Some((parts, rest)) = take_parts(Head::SetBoundsExact, bytes) else {
-            return None;
-        };
-        let (target, (source, (length, recorded))) = parts;
-        let operands = Self {
-            target,
-            source,
-            length,
-            result: recorded,
-        };
-        Some((operands, rest))
+        taken!(Head::SetBoundsExact, bytes, (target, (source, (length, recorded))) =>
+            Self { target, source, length, result: recorded })
     }
 
     #[inline(always)]
     fn write(&self, buffer: &mut [u8]) -> usize {
         let line = Line::Step((*self).into_step());
-        write_parts(
-            &line,
-            Head::SetBoundsExact,
-            (self.target, (self.source, (self.length, self.result))),
-            buffer,
-        )
+        let parts = (self.target, (self.source, (self.length, self.result)));
+        write_parts(&line, Head::SetBoundsExact, parts, buffer)
     }
 
     #[inline(always)]
@@ -301,28 +251,15 @@ impl Operands for SetAddr {
 
     #[inline(always)]
     fn take(bytes: &[u8]) -> Option<(Self, &[u8])> {
-        let Some((parts, rest)) = take_parts(Head::SetAddr, bytes) else {
-            return None;
-        };
-        let (target, (source, (address, recorded))) = parts;
-        let operands = Self {
-            target,
-            source,
-            address,
-            result: recorded,
-        };
-        Some((operands, rest))
+        taken!(Head::SetAddr, bytes, (target, (source, (address, recorded))) =>
+            Self { target, source, address, result: recorded })
     }
 
     #[inline(always)]
     fn write(&self, buffer: &mut [u8]) -> usize {
         let line = Line::Step((*self).into_step());
-        write_parts(
-            &line,
-            Head::SetAddr,
-            (self.target, (self.source, (self.address, self.result))),
-            buffer,
-        )
+        let parts = (self.target, (self.source, (self.address, self.result)));
+        write_parts(&line, Head::SetAddr, parts, buffer)
     }
 
     #[inline(always)]
@@ -367,28 +304,15 @@ impl Operands for AndPerm {
 
     #[inline(always)]
     fn take(bytes: &[u8]) -> Option<(Self, &[u8])> {
-        let Some((parts, rest)) = take_parts(Head::AndPerm, bytes) else {
-            return None;
-        };
-        let (target, (source, (mask, recorded))) = parts;
-        let operands = Self {
-            target,
-            source,
-            mask,
-            result: recorded,
-        };
-        Some((operands, rest))
+        taken!(Head::AndPerm, bytes, (target, (source, (mask, recorded))) =>
+            Self { target, source, mask, result: recorded })
     }
 
     #[inline(always)]
     fn write(&self, buffer: &mut [u8]) -> usize {
         let line = Line::Step((*self).into_step());
-        write_parts(
-            &line,
-            Head::AndPerm,
-            (self.target, (self.source, (self.mask, self.result))),
-            buffer,
-        )
+        let parts = (self.target, (self.source, (self.mask, self.result)));
+        write_parts(&line, Head::AndPerm, parts, buffer)
     }
 
     #[inline(always)]
@@ -433,28 +357,15 @@ impl Operands for Seal {
 
     #[inline(always)]
     fn take(bytes: &[u8]) -> Option<(Self, &[u8])> {
-        let Some((parts, rest)) = take_parts(Head::Seal, bytes) else {
-            return None;
-        };
-        let (target, (source, (authority, recorded))) = parts;
-        let operands = Self {
-            target,
-            source,
-            authority,
-            result: recorded,
-        };
-        Some((operands, rest))
+        taken!(Head::Seal, bytes, (target, (source, (authority, recorded))) =>
+            Self { target, source, authority, result: recorded })
     }
 
     #[inline(always)]
     fn write(&self, buffer: &mut [u8]) -> usize {
         let line = Line::Step((*self).into_step());
-        write_parts(
-            &line,
-            Head::Seal,
-            (self.target, (self.source, (self.authority, self.result))),
-            buffer,
-        )
+        let parts = (self.target, (self.source, (self.authority, self.result)));
+        write_parts(&line, Head::Seal, parts, buffer)
     }
 
     #[inline(always)]
@@ -500,28 +411,15 @@ impl Operands for Unseal {
 
     #[inline(always)]
     fn take(bytes: &[u8]) -> Option<(Self, &[u8])> {
-        let Some((parts, rest)) = take_parts(Head::Unseal, bytes) else {
-            return None;
-        };
-        let (target, (source, (authority, recorded))) = parts;
-        let operands = Self {
-            target,
-            source,
-            authority,
-            result: recorded,
-        };
-        Some((operands, rest))
+        taken!(Head::Unseal, bytes, (target, (source, (authority, recorded))) =>
+            Self { target, source, authority, result: recorded })
     }
 
     #[inline(always)]
     fn write(&self, buffer: &mut [u8]) -> usize {
         let line = Line::Step((*self).into_step());
-        write_parts(
-            &line,
-            Head::Unseal,
-            (self.target, (self.source, (self.authority, self.result))),
-            buffer,
-        )
+        let parts = (self.target, (self.source, (self.authority, self.result)));
+        write_parts(&line, Head::Unseal, parts, buffer)
     }
 
     #[inline(always)]

@@ -3,8 +3,8 @@ use Rattle.std.proofs.Math.Nat.{le-mul_of_pos_right}
 use Rattle.std.proofs.lemmas.Bool.{false≢true, le-leb, leb-true}
 use Rattle.std.proofs.lemmas.Nat.{pow_pos}
 use Rattle.cap_word.specs.Fields.{address_of}
-use Rattle.cap_bounds.specs.Bounds.{base_of, length_of, top_of, raw_base_at}
-use Rattle.cap_bounds.proofs.Decoded.{decoded_base, decoded_length}
+use Rattle.cap_bounds.specs.Bounds.{base_of, length_of, top_of}
+use Rattle.cap_bounds.proofs.Decoded.{decoded}
 use Rattle.cap_bounds.proofs.WrappedBounds.{in_bounds, bounds_in}
 use Rattle.cap_bounds.proofs.decoding.sound_word_holds_more.Goals as goal
 
@@ -12,16 +12,13 @@ pub returns-then-span-eq0 : goal.returns-then-span-eq0
 returns-then-span-eq0 c =
     let w = c.args.word.0 in
     let s = c.scale_of-cut_exponent in
-    let raw = raw_base_at s.result.cut_exponent s.result.b (address_of w) in
-    let length : s.result.span * 2 ^ s.result.cut_exponent ≡ length_of w =
-    decoded_length w s.result.cut_exponent s.result.b s.result.span (address_of w) raw
-    s.ensures.cut_exponent s.ensures.b s.ensures.span refl refl in
+    let is = decoded w s.result.cut_exponent s.result.b s.result.span (address_of w) s.ensures.cut_exponent s.ensures.b s.ensures.span refl in
     let none : s.result.span * 2 ^ s.result.cut_exponent ≡ 0 * 2 ^ s.result.cut_exponent =
     ap (λ n. n * 2 ^ s.result.cut_exponent) c.if-span-eq0.true in
     record {
       inside = (
-        λ is. absurd (false≢true is),
-        λ inside. absurd (omega (arith, length, none, c.requires.sound.0, inside.0, inside.1)),
+        λ held. absurd (false≢true held),
+        λ inside. absurd (omega (arith, is.1, none, c.requires.sound.0, inside.0, inside.1)),
       );
     }
 
@@ -29,13 +26,10 @@ pub returns-then-first-last : goal.returns-then-first-last
 returns-then-first-last c =
     let w = c.args.word.0 in
     let s = c.scale_of-cut_exponent in
-    let raw = raw_base_at s.result.cut_exponent s.result.b c.address.result in
-    let length : s.result.span * 2 ^ s.result.cut_exponent ≡ length_of w =
-    decoded_length w s.result.cut_exponent s.result.b s.result.span c.address.result raw
-    s.ensures.cut_exponent s.ensures.b s.ensures.span c.address.ensures.value refl in
-    let base : c.base_from.result ≡ base_of w =
-    c.base_from.ensures ∙ decoded_base w s.result.cut_exponent s.result.b s.result.span c.address.result raw
-    s.ensures.cut_exponent s.ensures.b s.ensures.span c.address.ensures.value refl in
+    let decodes = decoded w s.result.cut_exponent s.result.b s.result.span c.address.result s.ensures.cut_exponent s.ensures.b
+    s.ensures.span c.address.ensures.value in
+    let length : s.result.span * 2 ^ s.result.cut_exponent ≡ length_of w = decodes.1 in
+    let base : c.base_from.result ≡ base_of w = c.base_from.ensures ∙ decodes.0 in
     let first = (c.args.address + (2 ^ 64 - c.base_from.result)) % 2 ^ 64 in
     let last = (s.result.span * 2 ^ s.result.cut_exponent % 2 ^ 64 + (2 ^ 64 - 1)) % 2 ^ 64 in
     let within = bounds_in (base_of w) (length_of w) (top_of w) c.args.address (c.args.more + 1) first last c.requires.sound.0
@@ -49,13 +43,10 @@ pub returns : goal.returns
 returns c =
     let w = c.args.word.0 in
     let s = c.scale_of-cut_exponent in
-    let raw = raw_base_at s.result.cut_exponent s.result.b c.address.result in
-    let length : s.result.span * 2 ^ s.result.cut_exponent ≡ length_of w =
-    decoded_length w s.result.cut_exponent s.result.b s.result.span c.address.result raw
-    s.ensures.cut_exponent s.ensures.b s.ensures.span c.address.ensures.value refl in
-    let base : c.base_from.result ≡ base_of w =
-    c.base_from.ensures ∙ decoded_base w s.result.cut_exponent s.result.b s.result.span c.address.result raw
-    s.ensures.cut_exponent s.ensures.b s.ensures.span c.address.ensures.value refl in
+    let decodes = decoded w s.result.cut_exponent s.result.b s.result.span c.address.result s.ensures.cut_exponent s.ensures.b
+    s.ensures.span c.address.ensures.value in
+    let length : s.result.span * 2 ^ s.result.cut_exponent ≡ length_of w = decodes.1 in
+    let base : c.base_from.result ≡ base_of w = c.base_from.ensures ∙ decodes.0 in
     let some : s.result.span ≤ s.result.span * 2 ^ s.result.cut_exponent =
     le-mul_of_pos_right s.result.span (pow_pos s.result.cut_exponent) in
     let first = (c.args.address + (2 ^ 64 - c.base_from.result)) % 2 ^ 64 in

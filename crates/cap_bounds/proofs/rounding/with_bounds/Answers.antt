@@ -8,8 +8,7 @@ use Rattle.cap_bounds.proofs.rounding.with_bounds.Goals as goal
 -- a rounding's fields are fields of a word
 fields : (r : Rounded) → AreFields r.ie r.e r.b r.t
 fields r = record {
-  e_fits = omega
-      (arith, r.e_fits);
+  e_fits = omega (arith, r.e_fits);
   b_fits = r.b_fits;
   t_fits = r.t_fits;
   no_exponent = r.no_exponent;
@@ -17,27 +16,19 @@ fields r = record {
   t_aligned = r.t_aligned;
 }
 
-pub returns-clause-ie : goal.returns-clause-ie
-returns-clause-ie c =
+pub returns : goal.returns
+returns c =
+    let w = c.args.word.0 in
     let r = c.args.rounded.now in
-    ap ie_of c.replace_bounds.ensures.word ∙ ie_of-bounded_word c.args.word.0 r.ie r.e r.b r.t c.args.address (omega arith) (fields r)
-
-pub returns-clause-e : goal.returns-clause-e
-returns-clause-e c =
-    let r = c.args.rounded.now in
-    ap e_of c.replace_bounds.ensures.word ∙ e_of-bounded_word c.args.word.0 r.ie r.e r.b r.t c.args.address (omega arith) (fields r)
-
-pub returns-clause-b : goal.returns-clause-b
-returns-clause-b c =
-    let r = c.args.rounded.now in
-    ap b_of c.replace_bounds.ensures.word ∙ b_of-bounded_word c.args.word.0 r.ie r.e r.b r.t c.args.address (omega arith) (fields r)
-
-pub returns-clause-t : goal.returns-clause-t
-returns-clause-t c =
-    let r = c.args.rounded.now in
-    ap t_of c.replace_bounds.ensures.word ∙ t_of-bounded_word c.args.word.0 r.ie r.e r.b r.t c.args.address (omega arith) (fields r)
-
-pub returns-clause-decodes : goal.returns-clause-decodes
-returns-clause-decodes c = λ base length fits l_fits within at r.
-    decodes c.args.word.0 c.replace_bounds.result.0 c.args.rounded.now.ie c.args.rounded.now.e c.args.rounded.now.b c.args.rounded.now.t
-    c.args.address base length c.replace_bounds.ensures.word fits l_fits within at r
+    let is = c.replace_bounds.ensures.word in
+    record {
+      word = is;
+      kept = c.replace_bounds.ensures.kept;
+      address = c.replace_bounds.ensures.address;
+      ie = ap ie_of is ∙ ie_of-bounded_word w r.ie r.e r.b r.t c.args.address (omega arith) (fields r);
+      e = ap e_of is ∙ e_of-bounded_word w r.ie r.e r.b r.t c.args.address (omega arith) (fields r);
+      b = ap b_of is ∙ b_of-bounded_word w r.ie r.e r.b r.t c.args.address (omega arith) (fields r);
+      t = ap t_of is ∙ t_of-bounded_word w r.ie r.e r.b r.t c.args.address (omega arith) (fields r);
+      decodes = λ base length fits l_fits within at rounds.
+          decodes w c.replace_bounds.result.0 r.ie r.e r.b r.t c.args.address base length is fits l_fits within at rounds;
+    }

@@ -6,14 +6,10 @@ use Rattle.cap_machine.proofs.GranuleLemmas.{low_taken}
 use Rattle.cap_machine.proofs.machine.put_number.Goals as goal
 
 few : (size : ℕ) → IsDataSize size → size ≤ 8
-few size sized = elim sized [
-  | inl e ↦ omega arith
-  | inr s ↦ elim s [
-    | inl e ↦ omega arith
-    | inr t ↦
-        elim t [ inl e ↦ omega arith | inr e ↦ omega arith ]
-  ]
-]
+few size (inl e) = omega arith
+few size (inr (inl e)) = omega arith
+few size (inr (inr (inl e))) = omega arith
+few size (inr (inr (inr e))) = omega arith
 
 pub returns-clause-ok : goal.returns-clause-ok
 returns-clause-ok g c =

@@ -9,9 +9,7 @@ use Rattle.cap_ops.proofs.permissions.masked.Goals as goal
 -- the word that the code makes has the masked permissions
 masked_word : (w v mask field kept : ℕ) → field ≡ perms_of w → kept ≡ perms_from_view mask → v ≡ with_perms w (bit_and field kept)
     → v ≡ with_perms w (perms_from_view (bit_and (perm_view_of w) mask))
-masked_word w v mask field kept e f g =
-    g ∙ ap (λ (x : ℕ). with_perms w (bit_and x kept)) e ∙ ap (λ (x : ℕ). with_perms w (bit_and (perms_of w) x)) f
-    ∙ ap (with_perms w) (perms_from_view-and w mask)
+masked_word w v mask field kept e f g = rw (g, e, f) (ap (with_perms w) (perms_from_view-and w mask))
 
 pub returns : goal.returns
 unfolding and_perm_result

@@ -1,16 +1,14 @@
 use Rattle.std.proofs.Common.{◌≡◌, ◌∙◌, ◌+◌, ◌<◌, Bool, ap, length, refl, rules, slice_set, subst, sym, ℕ}
 use Rattle.std.proofs.lemmas.Result.{err_from_is_err_and}
 use Rattle.cap_word.specs.declared.word.Cap.{Cap}
-use Rattle.cap_ops.specs.Refusals.{refusal_of}
 use Rattle.cap_machine.specs.Changes.{Derives, IsParentsCode, code_for}
 use Rattle.cap_machine.specs.Helds.{Held, IsKept, Makes, code_in, state_of}
 use Rattle.cap_machine.specs.Parents.{IsSoundCap}
 use Rattle.cap_machine.specs.Places.{IsCoded}
 use Rattle.cap_machine.specs.Steps.{row_of}
-use Rattle.cap_machine.proofs.CodeLemmas.{coded_register}
-use Rattle.cap_machine.proofs.MadeLemmas.{concluded, concluded_faulted, concluded_made, concluded_past, concluded_unlike}
+use Rattle.cap_machine.proofs.MadeLemmas.{concluded_faulted, concluded_made, concluded_past, concluded_unlike}
 use Rattle.cap_machine.proofs.MadeLemmas.{concluded_within, result_coded, result_sound}
-use Rattle.cap_machine.proofs.SoundLemmas.{equal_caps, zero_register, sound_register}
+use Rattle.cap_machine.proofs.SoundLemmas.{equal_caps, kept_register}
 use Rattle.cap_machine.proofs.machine.Machine.conclude.Goals as goal
 use Rattle.cap_machine.proofs.machine.Machine.conclude.Goals.{then-derived, else-derived}
 
@@ -19,27 +17,22 @@ returns-in_err-derived g c =
     let old = c.args.self.now in
     let fault = c.in_err-derived.field-0.0 in
     let is = err_from_is_err_and c.from_residual.result c.from_residual.ensures.1 in
-    rw (is.1, is.2) (concluded_faulted old (g.O.Operands.step c.args.step.now) c.args.target c.args.recorded fault
-    (refusal_of fault) c.requires.writes
-    (subst (Derives old (g.O.Operands.step c.args.step.now)) c.in_err-derived.was c.requires.derives) refl)
+    rw (is.1, is.2) (concluded_faulted old (g.O.Operands.step c.args.step.now) c.args.target c.args.recorded fault c.requires.writes
+    (subst (Derives old (g.O.Operands.step c.args.step.now)) c.in_err-derived.was c.requires.derives))
 
 pub returns-then-ne : goal.returns-then-ne
 returns-then-ne g c =
     let old = c.args.self.now in
     let step = g.O.Operands.step c.args.step.now in
-    let derived = c.in_ok-derived.derived in
-    let is = concluded old step c.args.target c.args.recorded derived c.requires.writes
-    (subst (Derives old step) c.in_ok-derived.was c.requires.derives) in
-    concluded_unlike old step c.args.target c.args.recorded derived is (sym c.ne.ensures ∙ c.if-ne.true)
+    concluded_unlike old step c.args.target c.args.recorded c.in_ok-derived.derived c.requires.writes
+    (subst (Derives old step) c.in_ok-derived.was c.requires.derives) (sym c.ne.ensures ∙ c.if-ne.true)
 
 pub returns-then-self-ge-MOST_STEPS : goal.returns-then-self-ge-MOST_STEPS
 returns-then-self-ge-MOST_STEPS g c =
     let old = c.args.self.now in
     let step = g.O.Operands.step c.args.step.now in
-    let derived = c.in_ok-derived.derived in
-    let is = concluded old step c.args.target c.args.recorded derived c.requires.writes
-    (subst (Derives old step) c.in_ok-derived.was c.requires.derives) in
-    concluded_past old step c.args.target c.args.recorded derived is (sym c.ne.ensures ∙ c.if-ne.false) (search rules)
+    concluded_past old step c.args.target c.args.recorded c.in_ok-derived.derived c.requires.writes
+    (subst (Derives old step) c.in_ok-derived.was c.requires.derives) (sym c.ne.ensures ∙ c.if-ne.false) (search rules)
 
 pub invariant_of-self : goal.invariant_of-self
 invariant_of-self g c =
@@ -51,9 +44,8 @@ invariant_of-self g c =
     let recorded = c.args.recorded in
     let derived = c.in_ok-derived.derived in
     let parent = (row_of (state_of old) step).parent in
-    let is = concluded old step target recorded derived c.requires.writes
-    (subst (Derives old step) c.in_ok-derived.was c.requires.derives) in
-    let within = concluded_within old step target recorded derived c.in_range.ensures.range is in
+    let within = concluded_within old step target recorded derived c.requires.writes
+    (subst (Derives old step) c.in_ok-derived.was c.requires.derives) c.in_range.ensures.range in
     let parents = subst (λ o. IsParentsCode old step o c.args.code) c.in_ok-derived.was c.requires.code in
     let same : derived ≡ recorded = sym (equal_caps recorded derived (sym c.ne.ensures ∙ c.if-ne.false)) in
     let code_is : c.if-derived.self ≡ code_for derived.tag c.args.code =
@@ -65,14 +57,9 @@ invariant_of-self g c =
     let sound = subst IsSoundCap same (result_sound (state_of old) parent _ derived kept.sound within) in
     let coded = subst (IsCoded derived.tag) (sym code_is)
     (result_coded (state_of old) (code_in old) parent _ derived c.args.code kept.coded within (parents derived refl)) in
-    rw (c.overwrite.ensures, c.number-target.ensures.number) (record {
-      sized = search rules;
-      zero = zero_register machine.registers target recorded c.number-target.ensures.range.0 c.self.invariant.zero;
-      sound = sound_register machine.registers memory target recorded (search rules) c.number-target.ensures.range.1 c.self.invariant.sound sound;
-      coded = coded_register machine.registers machine.codes memory target recorded c.if-derived.self
-          (search rules) (search rules)
-          c.number-target.ensures.range.1 c.self.invariant.coded (subst (λ (cap : Cap). IsCoded cap.tag c.if-derived.self) same coded);
-    })
+    rw (c.overwrite.ensures, c.number-target.ensures.number)
+    (kept_register machine.registers machine.codes memory target recorded c.if-derived.self c.self.invariant (search rules)
+    c.number-target.ensures.range sound (subst (λ (cap : Cap). IsCoded cap.tag c.if-derived.self) same coded))
 
 pub returns : goal.returns
 returns g c =
@@ -80,13 +67,9 @@ returns g c =
     let step = g.O.Operands.step c.args.step.now in
     let target = c.args.target in
     let recorded = c.args.recorded in
-    let derived = c.in_ok-derived.derived in
-    let is = concluded old step target recorded derived c.requires.writes
-    (subst (Derives old step) c.in_ok-derived.was c.requires.derives) in
+    let derives = subst (Derives old step) c.in_ok-derived.was c.requires.derives in
     let parents = subst (λ o. IsParentsCode old step o c.args.code) c.in_ok-derived.was c.requires.code in
-    let like = sym c.ne.ensures ∙ c.if-ne.false in
-    let same : derived ≡ recorded = sym (equal_caps recorded derived like) in
-    let code_is : c.if-derived.self ≡ code_for derived.tag c.args.code =
+    let code_is : c.if-derived.self ≡ code_for c.in_ok-derived.derived.tag c.args.code =
     elim c.if-derived.branch [
       | then-derived w ↦ w.self-is ∙ sym (ap (λ (b : Bool). code_for b c.args.code) w.if-derived.true)
       | else-derived w ↦ w.self-is ∙ sym (ap (λ (b : Bool). code_for b c.args.code) w.if-derived.false)
@@ -96,17 +79,8 @@ returns g c =
       codes = slice_set held.codes target c.if-derived.self;
       steps = held.steps + 1;
     })) (sym c.self.view_is)
-    (subst (λ (code : ℕ). Makes old step (record old {
-      registers = slice_set old.registers target recorded;
-      codes = slice_set old.codes target code;
-      steps = old.steps + 1;
-    })) (sym code_is)
-    (subst (λ (cap : Cap). Makes old step (record old {
-      registers = slice_set old.registers target cap;
-      codes = slice_set old.codes target (code_for derived.tag c.args.code);
-      steps = old.steps + 1;
-    })) same
-    (concluded_made old step target recorded derived c.args.code is
+    (concluded_made old step target recorded c.in_ok-derived.derived c.requires.writes derives c.args.code c.if-derived.self
     (subst (λ (held : Held). length held.registers ≡ 32) c.self.view_is (search rules))
-    (subst (λ (held : Held). length held.codes ≡ 32) c.self.view_is (search rules)) c.number-target.ensures.range.1 parents like
-    (subst (λ (held : Held). held.steps < 4294967295) c.self.view_is c.if-self-ge-MOST_STEPS.false)))))
+    (subst (λ (held : Held). length held.codes ≡ 32) c.self.view_is (search rules)) c.number-target.ensures.range.1 parents code_is
+    (sym c.ne.ensures ∙ c.if-ne.false)
+    (subst (λ (held : Held). held.steps < 4294967295) c.self.view_is c.if-self-ge-MOST_STEPS.false)))

@@ -1,4 +1,4 @@
-use Rattle.std.proofs.Common.{◌≡◌, ℤ, Some, refl, rules, subst}
+use Rattle.std.proofs.Common.{◌≡◌, ℤ, Some, rules, subst}
 use Rattle.std.proofs.lemmas.Int.{to_z-of_z}
 use Rattle.std.specs.Prelude.{FitsSigned}
 use Rattle.std.specs.Int.{w16}
@@ -17,5 +17,4 @@ returns-in-Err-clause-outcome g c =
     let found : first_of (access_checks (state_of old c.args.authority) c.args.kind c.args.offset c.args.size) ≡ Some (refusal_of fault) =
     subst (λ (z : ℤ). first_of (access_checks (state_of old c.args.authority) c.args.kind z c.args.size) ≡ Some (refusal_of fault))
     (to_z-of_z w16 c.args.offset fits) (rw (c.register.ensures.holds, c.number-2.ensures.number, c.number.ensures.number) at c.in-Err.ensures.outcome) in
-    rw c.from.ensures (faulted_as old (g.O.Operands.step c.args.step.now) _ fault (refusal_of fault) c.requires.row.1
-    (rw (c.requires.row.0) found) refl)
+    rw c.from.ensures (faulted_as old (g.O.Operands.step c.args.step.now) _ fault c.requires.row.1 (rw (c.requires.row.0) found))
