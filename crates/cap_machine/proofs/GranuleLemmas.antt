@@ -15,7 +15,7 @@ use Rattle.cap_word.proofs.Bytes.{byte_at_is}
 use Rattle.tagmem.specs.Granules.{Granules, AreStored, Entry, IsNextPut, blank}
 use Rattle.cap_machine.specs.States.{untagged_null}
 use Rattle.cap_machine.specs.Helds.{granule_cap}
-use Rattle.cap_machine.specs.Values.{number_at}
+use Rattle.cap_machine.specs.Changes.{number_at}
 
 zero_word : stored_word (replicate 16 0) ≡ null_word
 unfolding number_of

@@ -45,8 +45,7 @@ use Rattle.cap_machine.specs.Places.{AreCoded, IsCoded, place_at}
 use Rattle.cap_machine.specs.Parents.{IsSoundCap, IsSoundState}
 use Rattle.cap_machine.specs.Helds.{Held, AnswersStep, Makes, EndsStep, state_of, code_in, account_of, checks_by, value_by, granule_cap}
 use Rattle.cap_machine.specs.Changes.{AnswersPut, Derives, EndsPut, IsParentsCode, WritesRegister, code_for, is_same_cap, last_checks, rules_for}
-use Rattle.cap_machine.specs.Changes.{is_past_limits, result_in, with_register, with_cap_put, with_value_put}
-use Rattle.cap_machine.specs.Values.{number_at}
+use Rattle.cap_machine.specs.Changes.{is_past_limits, number_at, result_in, with_register, with_cap_put, with_value_put}
 use Rattle.cap_machine.proofs.GranuleLemmas.{cap_of}
 use Rattle.cap_machine.proofs.CodeLemmas.{IsFrom, account-granule, account-register, code-register, code_for-coded, origins_by}
 use Rattle.cap_machine.proofs.CodeLemmas.{origin-written}

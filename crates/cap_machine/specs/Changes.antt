@@ -1,10 +1,10 @@
 -- What single parts of taking a root or making a step do, each for one private function (this profile's own).
 use Rattle.std.specs.Bool.{beq}
-use Rattle.std.specs.Prelude.{◌&&◌, ◌==◌, ◌≡◌, ℕ, ℤ, ◌+◌, Bool, true, false, not, ◌||◌, nat_le, if◌then◌else◌, List, [], ◌∷◌, slice_set, Option}
+use Rattle.std.specs.Prelude.{◌&&◌, ◌==◌, ◌≡◌, ℕ, ℤ, ◌+◌, Bool, true, false, not, ◌||◌, nat_le, if◌then◌else◌, List, [], ◌∷◌, drop, slice_set, take, Option}
 use Rattle.std.specs.Prelude.{Some, None, IsTrue, Result, Ok, MatchResult, option_map}
 use Rattle.cap_word.specs.declared.word.Word.{Word}
 use Rattle.cap_word.specs.declared.word.Cap.{Cap}
-use Rattle.cap_word.specs.Memory.{low_bytes, memory_of}
+use Rattle.cap_word.specs.Memory.{low_bytes, memory_of, number_of}
 use Rattle.cap_log.specs.declared.lines.Place.{Place}
 use Rattle.cap_log.specs.declared.lines.Place.TheVariants.{Register, Granule}
 use Rattle.cap_log.specs.declared.kinds.Step.{Step}
@@ -97,6 +97,10 @@ address_in (Some access) = access.address
 -- the last checks of a step that names no granule: the recorded result, then the limit on steps
 abbrev pub last_checks : Held → Bool → List (Bool × Refusal)
 last_checks held recorded = (not recorded, WrongResult) ∷ (nat_le most_steps held.steps, LimitPassed) ∷ []
+
+-- the number that size bytes from a byte index on spell, the least significant first
+abbrev pub number_at : List ℕ → ℕ → ℕ → ℕ
+number_at bytes byte_index size = number_of (take size (drop byte_index bytes))
 
 -- whether one step more that names a granule passes a limit
 abbrev pub is_past_limits : Held → ℕ → Bool

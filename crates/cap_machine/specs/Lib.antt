@@ -4,7 +4,6 @@ pub mod Steps
 pub mod Runs
 pub mod Parents
 pub mod Accounts
-pub mod Values
 pub mod Helds
 pub mod Changes
 pub mod RunAccounts

@@ -12,7 +12,7 @@ ghost use Rattle.cap_ops.specs.Checks.{first_of};
 ghost use Rattle.cap_log.specs.Lines.{IsPlace, IsStepInRange};
 ghost use Rattle.cap_machine.specs.Accounts.{granule_of, is_new, no_account, passes_granule_limit, root_checks};
 ghost use Rattle.cap_machine.specs.Changes.{AnswersPut, Derives, IsAccess, IsParentsCode, Placed, WritesRegister};
-ghost use Rattle.cap_machine.specs.Changes.{address_in, is_past_limits, with_cap_put, with_value_put};
+ghost use Rattle.cap_machine.specs.Changes.{address_in, is_past_limits, number_at, with_cap_put, with_value_put};
 ghost use Rattle.cap_machine.specs.Escapes.{ClearsBeyond, Escapes};
 ghost use Rattle.cap_machine.specs.Helds.{AnswersStep, EndsRoot, EndsStep, IsKept, TakesRoot, account_of, code_in, granule_cap, state_of};
 ghost use Rattle.cap_machine.specs.Parents.{IsSoundCap, StaysWithinParents};
@@ -20,7 +20,6 @@ ghost use Rattle.cap_machine.specs.Places.{IsCoded, place_at};
 ghost use Rattle.cap_machine.specs.Shown.{IsShown, shown_of};
 ghost use Rattle.cap_machine.specs.States.{granule_key, key_of, untagged_null, value_at};
 ghost use Rattle.cap_machine.specs.Steps.{address_through, row_of};
-ghost use Rattle.cap_machine.specs.Values.{number_at};
 
 use crate::ends::StepEnd;
 use crate::instructions::{make, show};

@@ -17,8 +17,9 @@ use crate::bits::{
 };
 use crate::faults::OpFault;
 use crate::kinds::Kind;
+use crate::narrowing::covers;
 use crate::sealing::sealed;
-use cap_bounds::{bounds, sound_word_holds};
+use cap_bounds::sound_word_holds;
 use cap_word::{Cap, Word};
 
 /// The number of the permission that a kind of access needs.
@@ -44,7 +45,7 @@ fn holds_bytes<const SOUND: bool>(word: Word, address: u64, size: u8) -> bool
     if SOUND {
         sound_word_holds(word, address, size)
     } else {
-        bounds(word).contains(address, u128::from(address) + u128::from(size))
+        covers(word, address, u128::from(address) + u128::from(size))
     }
 }
 

@@ -32,4 +32,4 @@ pub use crate::narrowing::{set_bounds, set_bounds_soundly};
 pub use crate::permissions::{and_perm, clear_tag, perm_view};
 pub use crate::refusal::Refusal;
 pub use crate::roots::root_word;
-pub use crate::sealing::{seal, sealed, unseal};
+pub use crate::sealing::{GREATEST_TYPE, UNSEALED_TYPE, seal, sealed, unseal};

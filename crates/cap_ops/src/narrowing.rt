@@ -14,13 +14,13 @@ use crate::sealing::sealed;
 use cap_bounds::{Rounded, bounds, round, round_inside, sound_word_holds_more, with_bounds};
 use cap_word::{Cap, Word};
 
-/// Whether rounded bounds lie inside a word's.
+/// Whether the addresses from a base up to a top lie in a word's bounds.
 #[tactic(auto, unfolding(crate::specs::Operations::covers))]
 #[inline(always)]
-fn covers_rounded(word: Word, rounded: &Rounded) -> bool
-    ensures { result ≡ covers word.0 rounded.now.base rounded.now.top }
+pub(crate) fn covers(word: Word, base: u64, top: u128) -> bool
+    ensures { result ≡ covers word.0 base top }
 {
-    bounds(word).contains(rounded.base, rounded.top)
+    bounds(word).contains(base, top)
 }
 
 /// The rounding of the length from a word's address on.
@@ -46,7 +46,7 @@ fn permitted(source: Cap, length: u64, exact: bool) -> Result<Rounded, OpFault>
         Ok(rounded)
     } else if sealed(source.word) {
         Err(OpFault::SourceSealed)
-    } else if !covers_rounded(source.word, &rounded) {
+    } else if !covers(source.word, rounded.base, rounded.top) {
         Err(OpFault::BoundsEscape)
     } else if exact && !rounded.exact {
         Err(OpFault::NotExact)

@@ -16,10 +16,10 @@ use cap_bounds::bounds;
 use cap_word::{Cap, Word};
 
 /// The object type of a word that is not sealed.
-const UNSEALED_TYPE: u32 = 0x3_ffff;
+pub const UNSEALED_TYPE: u32 = 0x3_ffff;
 
 /// The greatest object type for sealing. Those above it are reserved.
-const GREATEST_TYPE: u32 = 0x3_fffb;
+pub const GREATEST_TYPE: u32 = 0x3_fffb;
 
 /// Whether a word is sealed: its object type is not `0x3ffff` (Sail CHERI-RISC-V: `isCapSealed`).
 #[tactic(auto, unfolding(crate::specs::Permissions::is_sealed))]

@@ -10,14 +10,8 @@ ghost use Rattle.cap_texts.specs.TextLines.{bytes_text, text_line};
 use crate::text_lines::{put_answer_line, put_decimal_line, put_hex_line, put_line};
 use cap_bounds::{Interval, bounds, mantissa, sound};
 use cap_log::buffers::{put, put_hex};
-use cap_ops::perm_view;
+use cap_ops::{GREATEST_TYPE, UNSEALED_TYPE, perm_view};
 use cap_word::{Word, split, to_memory, word_text};
-
-/// The object type of what is not sealed.
-const UNSEALED_TYPE: u32 = 0x3_ffff;
-
-/// The greatest object type for sealing: those above it, except the unsealed one, are reserved.
-const GREATEST_TYPE: u32 = 0x3_fffb;
 
 /// Writes the fifteen lines that explain a capability at the front of the buffer, and answers their
 /// length. The rest of the buffer stays as it was.

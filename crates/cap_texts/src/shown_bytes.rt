@@ -3,18 +3,29 @@
 ghost use Rattle.std.specs.Prelude.{◌*◌, ◌+◌, ◌≤◌, length};
 ghost use Rattle.cap_log.specs.Parts.{Writes};
 ghost use Rattle.cap_texts.specs.ShownBytes.{shown, shown_byte, shown_line};
+ghost use Rattle.cap_texts.specs.TextLines.{text_line};
 
 use cap_log::buffers::{put, put_hex};
 
 /// Writes a line of a log so that it can be shown, after its name, and returns the index after it. Nothing
 /// else of the buffer changes.
-#[tactic(auto, unfolding(crate::specs::ShownBytes::shown_line, crate::specs::TextLines::text_line))]
+#[tactic(auto, unfolding(crate::specs::ShownBytes::shown_line))]
 pub fn put_shown_line(buffer: &mut [u8], at: usize, text: &[u8]) -> usize
     requires { at + 4 * length text.now + 6 ≤ length buffer.old }
     ensures written { Writes at (shown_line text.now) buffer.old buffer.new result }
     ensures fits { result ≤ at + 4 * length text.now + 6 }
 {
-    let at = put(buffer, at, b"line");
+    put_shown_text(buffer, at, b"line", text)
+}
+
+/// Writes a line whose value is text as it is shown, as [`put_line`](crate::text_lines::put_line) does.
+#[tactic(auto, unfolding(crate::specs::TextLines::text_line))]
+pub(crate) fn put_shown_text(buffer: &mut [u8], at: usize, name: &[u8], text: &[u8]) -> usize
+    requires { at + length name.now + 4 * length text.now + 2 ≤ length buffer.old }
+    ensures written { Writes at (text_line name.now (shown text.now)) buffer.old buffer.new result }
+    ensures fits { result ≤ at + length name.now + 4 * length text.now + 2 }
+{
+    let at = put(buffer, at, name);
     let at = put(buffer, at, b" ");
     let at = put_shown(buffer, at, text);
     put(buffer, at, b"\n")

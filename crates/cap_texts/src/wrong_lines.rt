@@ -2,12 +2,11 @@
 
 ghost use Rattle.std.specs.Prelude.{◌≡◌, ◌+◌, ◌-◌, ◌≤◌, ◌++◌, codes, decimal, length, take};
 ghost use Rattle.cap_log.specs.Parts.{Writes};
-ghost use Rattle.cap_texts.specs.ShownBytes.{shown};
 ghost use Rattle.cap_texts.specs.TextLines.{text_line};
 ghost use Rattle.cap_texts.specs.WrongLines.{end_text, found_line, header_lines, hint_line, hint_of, mark_hint, wrong_lines};
 
 use crate::fields::{Wrong, expected_text};
-use crate::shown_bytes::put_shown;
+use crate::shown_bytes::put_shown_text;
 use crate::text_lines::{put_decimal_line, put_line};
 use cap_log::buffers::put;
 
@@ -53,24 +52,10 @@ fn put_found_line(buffer: &mut [u8], at: usize, rest: &[u8]) -> usize
     ensures fits { result ≤ at + 395 }
 {
     if rest.len() > 1 {
-        put_found(buffer, at, &rest[..rest.len() - 1])
+        put_shown_text(buffer, at, b"found", &rest[..rest.len() - 1])
     } else {
         at
     }
-}
-
-// Writes what was found.
-#[tactic(auto, unfolding(crate::specs::TextLines::text_line))]
-fn put_found(buffer: &mut [u8], at: usize, text: &[u8]) -> usize
-    requires few { length text.now ≤ 96 }
-    requires room { at + 395 ≤ length buffer.old }
-    ensures written { Writes at (text_line (codes "found") (shown text.now)) buffer.old buffer.new result }
-    ensures fits { result ≤ at + 395 }
-{
-    let at = put(buffer, at, b"found");
-    let at = put(buffer, at, b" ");
-    let at = put_shown(buffer, at, text);
-    put(buffer, at, b"\n")
 }
 
 // Writes what is expected, and what has to follow it.

@@ -5,7 +5,7 @@ use Rattle.std.proofs.Math.ListN.{replicate}
 use Rattle.cap_word.specs.Memory.{number_of}
 use Rattle.tagmem.specs.Granules.{Entry, blank}
 use Rattle.tagmem.proofs.Granules.{shown-none, shown-some}
-use Rattle.cap_machine.specs.Values.{number_at}
+use Rattle.cap_machine.specs.Changes.{number_at}
 use Rattle.cap_machine.proofs.machine.number_in.Goals as goal
 
 -- bytes that are all 0 spell 0

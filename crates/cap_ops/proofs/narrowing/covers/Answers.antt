@@ -2,17 +2,16 @@ use Rattle.std.proofs.Common.{arith}
 use Rattle.std.proofs.lemmas.Bool.Decides.{same_from_decides}
 use Rattle.cap_ops.specs.Operations.{covers}
 use Rattle.cap_ops.proofs.TestLemmas.{IsInside-covers, covers-inside}
-use Rattle.cap_ops.proofs.narrowing.covers_rounded.Goals as goal
+use Rattle.cap_ops.proofs.narrowing.covers.Goals as goal
 
 pub returns : goal.returns
 returns c =
     let w = c.args.word.0 in
     let held = c.bounds.ensures in
-    let given = c.args.rounded.now in
-    same_from_decides _ (covers w given.base given.top) c.contains.ensures.inside (
-      λ test. let inside = IsInside-covers w given.base given.top test in (
+    same_from_decides _ (covers w c.args.base c.args.top) c.contains.ensures.inside (
+      λ test. let inside = IsInside-covers w c.args.base c.args.top test in (
         omega (arith, held.base, inside.0),
         omega (arith, held.top, inside.1),
       ),
-      λ inside. covers-inside w given.base given.top (omega (arith, held.base, inside.0), omega (arith, held.top, inside.1)),
+      λ inside. covers-inside w c.args.base c.args.top (omega (arith, held.base, inside.0), omega (arith, held.top, inside.1)),
     )
