@@ -28,24 +28,19 @@ use Rattle.cap_machine.specs.Steps.{Access, Recorded, Row, Nothing as Unrecorded
 use Rattle.cap_machine.proofs.StepLemmas.{is_recorded}
 use Rattle.cap_machine.specs.Shown.{given_by, given_for as shown_for}
 use Rattle.cap_machine.specs.Accounts.{Account, row_in, step_checks}
-use Rattle.cap_machine.specs.Helds.{Held, account_of}
 use Rattle.cap_judge.specs.declared.verdict.Expected.{Expected}
 use Rattle.cap_judge.specs.declared.verdict.Expected.TheVariants.{Capability, Number}
 use Rattle.cap_judge.specs.declared.verdict.Verdict.TheVariants.{Yes, No}
-use Rattle.cap_judge.specs.declared.faults.Fault.{Fault}
-use Rattle.cap_log.specs.FaultLines.{bytes_of}
 use Rattle.cap_judge.specs.Logs.{Beginning, Empty, NoMode, Body, Whole, IsFirstFault, Refuses, account_after, body_lines, IsAccepted}
 use Rattle.cap_judge.specs.Logs.{RunsBy, lines_of, text_of}
 use Rattle.cap_judge.specs.Judgings.{IsLastFront, account_before}
-use Rattle.cap_judge.specs.Expectations.{Expects, IsExpected, GivesFor, GivesForText, expected_of, given_in}
-use Rattle.cap_judge.specs.declared.judges.Stage.{Stage}
-use Rattle.cap_judge.specs.declared.judges.Stage.TheVariants as stages
-use Rattle.cap_judge.specs.Readings.{IsAtFault, IsFaultAt, IsRest, Known, Read as Reads}
+use Rattle.cap_judge.specs.Expectations.{Expects, ExpectsAt, IsExpected, GivesFor, GivesForText, expected_of, given_in}
+use Rattle.cap_judge.specs.Readings.{IsAtFault, IsReached, IsRest}
+use Rattle.cap_judge.specs.Turns.{Due, Refused, Stage}
 use Rattle.cap_judge.proofs.EscapeLaws.{is_of_step, is_step, never_front}
 use Rattle.cap_judge.proofs.OneVerdict.{one_verdict}
 use Rattle.cap_judge.proofs.JudgeLemmas.{IsUnended, fault_behind, front_refused, yes_of}
-use Rattle.cap_judge.proofs.ReadingLemmas.{account_stands, all_read}
-use Rattle.cap_judge.proofs.EndingLemmas.{fault_now}
+use Rattle.cap_judge.proofs.TurnLaws.{begins, fault_stands}
 
 other_recorded : (recorded limit : Bool) → first_of ((not recorded, WrongResult) ∷ (limit, LimitPassed) ∷ [])
     ≡ Some WrongResult → recorded ≡ false
@@ -159,15 +154,15 @@ nothing_wrong (Whole rules_are roots steps_are) accepted line fault =
     cc
 nothing_wrong beginning accepted line fault = cut_off beginning accepted tt line fault
 
-pub none_at_fault : (known : Known) (bytes : List ℕ) → (IsAtFault known.stage → ⊥) → Reads known bytes → Expects bytes None
-none_at_fault known bytes clear read = λ line fault.
-    nothing_wrong read.beginning read.behind.accepted line
-    (subst (λ (b : List ℕ). IsFirstFault b line WrongResult) (all_read known bytes read clear) fault)
+none_expected : (bytes : List ℕ) (stage : Stage) → IsReached stage bytes → (IsAtFault stage.due → ⊥) → Expects bytes None
+none_expected bytes stage is clear = λ line fault.
+    let whole = begins bytes stage is clear in
+    nothing_wrong whole.beginning whole.accepted line (subst (λ (b : List ℕ). IsFirstFault b line WrongResult) whole.bytes_are fault)
 
-pub other_fault : (known : Known) (fault : Fault) (bytes : List ℕ) → known.stage ≡ stages.Refused fault → (fault.refusal ≡ WrongResult → ⊥)
-    → Reads known bytes → Expects bytes None
-other_fault known fault bytes some other read = λ line wrong.
-    let same = one_verdict bytes (No fault.line fault.refusal) (No line WrongResult) (fault_now known fault bytes some read) wrong in
+other_fault : (bytes : List ℕ) (stage : Stage) (line : ℕ) (refusal : Refusal) (text : List ℕ) → IsReached stage bytes
+    → stage.due ≡ Refused line refusal text → refusal ≢ WrongResult → Expects bytes None
+other_fault bytes stage line refusal text is due other = λ number wrong.
+    let same = one_verdict bytes (No line refusal) (No number WrongResult) (fault_stands bytes stage line refusal text is due true) wrong in
     other cc
 
 -- the text of a fault is that of the line
@@ -214,28 +209,32 @@ body_expects rules_are roots steps_are rest bytes text result is runs (inr (inr 
     one.2 (gives one.0 (subst (λ (t : List ℕ). Spells t (lines.Step one.0)) (sym (text_is rest text line more front whole)) spells))
 
 -- before the body, and after the end line, nothing is refused so
-by_beginning : (held : Held) (beginning : Beginning) (rest bytes text : List ℕ) (result : Option Expected)
-    → account_of held ≡ account_before beginning → bytes ≡ text_of (lines_of beginning) ++ rest → IsAccepted beginning
-    → Refuses beginning rest WrongResult → IsLastFront rest false text → GivesForText (account_of held) text result → Expects bytes result
-by_beginning held Empty rest bytes text result account is accepted refused front gives =
+by_beginning : (account_is : Account) (beginning : Beginning) (rest bytes text : List ℕ) (result : Option Expected)
+    → account_is ≡ account_before beginning → bytes ≡ text_of (lines_of beginning) ++ rest → IsAccepted beginning
+    → Refuses beginning rest WrongResult → IsLastFront rest false text → GivesForText account_is text result → Expects bytes result
+by_beginning account_is Empty rest bytes text result account is accepted refused front gives =
     absurd (never_front rest WrongResult _ refl (λ text whole. ap is_of_step whole.1) refused)
-by_beginning held NoMode rest bytes text result account is accepted refused front gives =
+by_beginning account_is NoMode rest bytes text result account is accepted refused front gives =
     absurd (never_front rest WrongResult _ refl (λ text whole. ap is_of_step whole.1) refused)
-by_beginning held (Whole rules_are roots steps_are) rest bytes text result account is accepted refused front gives =
+by_beginning account_is (Whole rules_are roots steps_are) rest bytes text result account is accepted refused front gives =
     absurd (let bad = refused.1 in cc)
-by_beginning held (Body rules_are roots steps_are) rest bytes text result account is accepted refused front gives =
+by_beginning account_is (Body rules_are roots steps_are) rest bytes text result account is accepted refused front gives =
     body_expects rules_are roots steps_are rest bytes text result is accepted refused front
     (subst (λ (a : Account). GivesForText a text result) account gives)
 
-pub wrong_result : (known : Known) (fault : Fault) (bytes : List ℕ) (result : Option Expected) → known.stage ≡ stages.Refused fault
-    → fault.refusal ≡ WrongResult → GivesForText (account_of known.held) (bytes_of fault.text) result → Reads known bytes
-    → Expects bytes result
-wrong_result known fault bytes result some wrong gives read =
-    let is : IsFaultAt read.beginning read.rest fault = subst (λ (s : Stage). IsRest s read.beginning read.rest) some read.rest_is in
-    let refused = subst (λ (r : List ℕ). Refuses read.beginning r fault.refusal) (append-nil read.rest) (is.refused []) in
-    by_beginning known.held read.beginning read.rest bytes (bytes_of fault.text) result
-    (account_stands known.stage known.held read.beginning read.after) read.behind.bytes_are read.behind.accepted
-    (subst (Refuses read.beginning read.rest) wrong refused) is.front gives
+wrong_result : (bytes : List ℕ) (stage : Stage) (line : ℕ) (text : List ℕ) (result : Option Expected) → IsReached stage bytes
+    → stage.due ≡ Refused line WrongResult text → GivesForText stage.account text result → Expects bytes result
+wrong_result bytes stage line text result is due gives =
+    let found = subst (λ (d : Due). IsRest d is.beginning is.rest) due is.rest_is in
+    by_beginning stage.account is.beginning is.rest bytes text result is.account is.behind.bytes_are is.behind.accepted
+    (subst (λ (r : List ℕ). Refuses is.beginning r WrongResult) (append-nil is.rest) (found.2 [])) found.1 gives
+
+pub expects : (bytes : List ℕ) (account_is : Account) (due : Due) (result : Option Expected)
+    → IsReached (record { account = account_is; due = due }) bytes → ExpectsAt account_is due result → Expects bytes result
+expects bytes account (Refused line WrongResult text) result is told = wrong_result bytes _ line text result is refl (told.0 refl)
+expects bytes account (Refused line refusal text) result is told =
+    subst (Expects bytes) (sym (told.1 (λ e. cc))) (other_fault bytes _ line refusal text is refl (λ e. cc))
+expects bytes account due result is told = subst (Expects bytes) (sym told) (none_expected bytes _ is (λ f. f))
 
 -- and no other line
 pub not_spelled : (account : Account) (text : List ℕ) (line : Line) → Spells text line → ((step : Step) → line ≡ lines.Step step → ⊥)

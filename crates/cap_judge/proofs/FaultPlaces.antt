@@ -7,17 +7,15 @@ use Rattle.cap_log.specs.declared.lines.Line.{Line}
 use Rattle.cap_log.specs.Lines.{IsInRange}
 use Rattle.cap_log.proofs.FrontLemmas.{IsLine-more, IsTooLong-more}
 use Rattle.cap_ops.specs.declared.refusal.Refusal.{Refusal}
-use Rattle.cap_machine.specs.declared.rules.Rules.TheVariants.{One}
-use Rattle.cap_machine.specs.Accounts.{Account, no_account}
+use Rattle.cap_machine.specs.Accounts.{Account}
 use Rattle.cap_machine.specs.Helds.{Held, account_of}
 use Rattle.cap_judge.specs.declared.verdict.Verdict.TheVariants.{No}
-use Rattle.cap_judge.specs.Logs.{Beginning, Empty, NoMode, Body, Whole, lines_of, text_of, IsFirstFault}
+use Rattle.cap_judge.specs.Logs.{Beginning, lines_of, text_of, IsFirstFault}
 use Rattle.cap_judge.specs.Judgings.{IsBehind, IsVerdictOf, account_before, IsLastFront, StopsBefore}
 use Rattle.cap_log.specs.Front.{IsFrontText}
 use Rattle.cap_judge.proofs.LogLemmas.{accepted_in_range}
 use Rattle.cap_judge.proofs.OneVerdict.{text_cons, same_front}
-use Rattle.cap_judge.specs.Turns.{Stage, Unread, Versioned, Within, Ended, Reads, behind}
-use Rattle.cap_judge.proofs.InTurn.{stage_of, accepted_read}
+use Rattle.cap_judge.proofs.InTurn.{same_beginning}
 use Rattle.cap_judge.proofs.SourceLemmas.{whole_verdict}
 
 -- as many lines at the front of the same bytes are the same
@@ -31,34 +29,13 @@ same_lines (line ∷ lines) (other ∷ lines') rest rest' range range' long same
     let all = same_lines lines lines' rest rest' range.1 range'.1 (omega (arith, long)) first.1 in
     (ap (λ (l : Line). l ∷ lines) first.0 ∙ ap (λ (ls : List Line). other ∷ ls) all.0, all.1)
 
--- lines lead from a stage to one stage
-reads_one : (from : Stage) (lines : List Line) (to to' : Stage) → Reads from lines to → Reads from lines to' → to ≡ to'
-reads_one from [] to to' h k = sym h ∙ k
-reads_one from (line ∷ lines) to to' h k = reads_one (behind from line) lines to to' h.1 k.1
-
--- the account at a stage
-account_at : Stage → Account
-account_at Unread = no_account One
-account_at Versioned = no_account One
-account_at (Within account) = account
-account_at (Ended account) = account
-
-at_beginning : (beginning : Beginning) → account_at (stage_of beginning) ≡ account_before beginning
-unfolding account_at
-at_beginning Empty = refl
-at_beginning NoMode = refl
-at_beginning (Body rules_are roots steps) = refl
-at_beginning (Whole rules_are roots steps) = refl
-
--- two beginnings of the same bytes with as many lines lead to the same account, and leave the same rest
+-- two beginnings of the same bytes with as many lines are one, and leave the same rest
 same_place : (bytes : List ℕ) (a b : Beginning) (rest rest' : List ℕ) → IsBehind bytes a rest → IsBehind bytes b rest'
-    → length (lines_of a) ≡ length (lines_of b) → (account_before a ≡ account_before b) × (rest ≡ rest')
+    → length (lines_of a) ≡ length (lines_of b) → (a ≡ b) × (rest ≡ rest')
 same_place bytes a b rest rest' here there long =
     let same = same_lines (lines_of a) (lines_of b) rest rest' (accepted_in_range a here.accepted) (accepted_in_range b there.accepted) long
     (sym here.bytes_are ∙ there.bytes_are) in
-    let read = subst (λ (ls : List Line). Reads Unread ls (stage_of a)) same.0 (accepted_read a here.accepted) in
-    let stage = reads_one Unread (lines_of b) (stage_of a) (stage_of b) read (accepted_read b there.accepted) in
-    (sym (at_beginning a) ∙ ap account_at stage ∙ at_beginning b, same.1)
+    (same_beginning a b same.0, same.1)
 
 -- the text of a front, whatever bytes follow where the source has not ended
 front_more : (rest : List ℕ) (ended : Bool) (text more : List ℕ) → (ended ≡ true → more ≡ []) → IsLastFront rest ended text
@@ -94,7 +71,7 @@ fault_at bytes line refusal beginning rest text account fault here number is fro
     record {
       fault = fault;
       front = subst (λ (r : List ℕ). IsFrontText r text) same.1 front;
-      account_is = is ∙ same.0;
+      account_is = is ∙ ap account_before same.0;
     }
 
 -- where a judge stopped is at the first fault, whatever bytes follow where the source has not ended

@@ -15,8 +15,8 @@ use Rattle.cap_machine.specs.Accounts.{Account, no_account, with_step, root_chec
 use Rattle.cap_machine.proofs.AccountLemmas.{account_after-grows, first_of-none, after_roots, with_root-grows, with_step-grows}
 use Rattle.cap_machine.proofs.AccountLemmas.{after_roots-grows, after_steps-grows, root_free, step_free, after_steps}
 use Rattle.cap_judge.specs.Logs.{Beginning, Empty, NoMode, Body, Whole, header_lines, body_lines, lines_of, account_after, RunsBy}
-use Rattle.cap_judge.specs.Logs.{IsAccepted, line_checks, has_form}
-use Rattle.cap_judge.specs.Turns.{Stage, Unread, Within, Reads, behind, Versioned, Ended, Allows}
+use Rattle.cap_judge.specs.Logs.{IsAccepted, has_form, line_checks}
+use Rattle.cap_judge.specs.Turns.{Allows, Ended, Mode as ModeDue, Reads, Stage, behind, rules_of, unread}
 use Rattle.cap_judge.proofs.LogLemmas.{after_roots-push, after_steps-push, steps_push, roots_push, accepted_in_range, step_runs, root_runs}
 use Rattle.cap_judge.proofs.LogLemmas.{no_roots}
 use Rattle.std.proofs.lemmas.Bool.{false≢true, cond-false, eqb-false, false_from_ne_true, le-ltb, lt-ltb, not-false, eqb-true}
@@ -27,18 +27,12 @@ use Rattle.cap_machine.specs.Runs.{IsRun}
 use Rattle.cap_machine.proofs.OriginLemmas.{keys, IsFree, roots_start}
 use Rattle.std.proofs.lemmas.Option.{none-some}
 use Rattle.cap_ops.specs.Checks.{first_of}
-use Rattle.cap_ops.specs.declared.refusal.Refusal.TheVariants.{Misplaced}
+use Rattle.cap_ops.specs.declared.refusal.Refusal.TheVariants.{BadLine, Misplaced}
 use Rattle.cap_log.specs.declared.lines.Mode.TheVariants.{Strict, Clear}
 use Rattle.cap_log.specs.declared.lines.Place.{Place}
 use Rattle.cap_word.specs.declared.word.Word.{Word}
 use Rattle.std.specs.Bool.{if◌then◌else◌}
-use Rattle.cap_judge.specs.Readings.{rules_of}
-
--- one reading after another
-pub Reads-append : (from middle to : Stage) (lines more : List Line) → Reads from lines middle → Reads middle more to
-    → Reads from (lines ++ more) to
-Reads-append from middle to [] more h k = subst (λ (stage : Stage). Reads stage more to) (sym h) k
-Reads-append from middle to (line ∷ lines) more h k = (h.0, Reads-append (behind from line) middle to lines more h.1 k)
+use Rattle.cap_judge.proofs.TurnLemmas.{Reads-append, body, by_checks}
 
 -- Distinct roots
 
@@ -59,17 +53,12 @@ still_free account root roots own free key held =
 
 -- What is accepted is read
 
--- a line that has a form by the rules of version 1 has one by any rules
-formed : (rules_are : Rules) (line : Line) → has_form One line ≡ true → has_form rules_are line ≡ true
-formed One line one = one
-formed rules_are line one = refl
-
 -- sound roots at distinct places are read, where their account keeps to the limits
 roots_read : (rules_are : Rules) (account : Account) (roots : List DeclaredRoot) → account.rules ≡ rules_are → account.steps ≡ 0
     → IsDistinct nat_eq (keys roots) → AreFree account.state roots → AllByRecursion
     (λ (root : DeclaredRoot). IsTrue (is_sound root.word.0)) roots
     → account.roots + length roots ≤ most_roots → (after_roots account roots).granules ≤ most_granules rules_are
-    → Reads (Within account) (map (λ (root : DeclaredRoot). Root root.place root.word) roots) (Within (after_roots account roots))
+    → Reads (body account) (map (λ (root : DeclaredRoot). Root root.place root.word) roots) (body (after_roots account roots))
 unfolding IsDistinct
 roots_read rules_are account [] same none distinct free sound few_roots few_granules = refl
 roots_read rules_are account (root ∷ roots) same none distinct free sound few_roots few_granules =
@@ -80,7 +69,7 @@ roots_read rules_are account (root ∷ roots) same none distinct free sound few_
     let most = ap most_granules same in
     let untagged = false_from_ne_true _ (λ held. eqb-false (key_of root.place) _ (free (key_of root.place) held).0 refl) in
     let unrefused = root_free account root.place root.word untagged sound.0 (omega arith) (omega arith) in (
-      (formed account.rules line refl, first_of-none (line_checks account line) (le-ltb 0 account.steps (omega arith), unrefused)),
+      by_checks account line refl ∙ first_of-none (line_checks account line) (le-ltb 0 account.steps (omega arith), unrefused),
       roots_read rules_are after roots (one.rules_stay ∙ same) (omega arith) distinct.1 (still_free account root roots distinct.0 free)
           sound.1 (omega arith) few_granules,
     )
@@ -89,7 +78,7 @@ roots_read rules_are account (root ∷ roots) same none distinct free sound few_
 steps_read : (rules_are : Rules) (account : Account) (steps : List steps_module.Step) (states : List State) → account.rules ≡ rules_are
     → IsRun rules_are account.state steps states → account.steps + length steps ≤ most_steps
     → (after_steps account steps).granules ≤ most_granules rules_are
-    → Reads (Within account) (map Step steps) (Within (after_steps account steps))
+    → Reads (body account) (map Step steps) (body (after_steps account steps))
 steps_read rules_are account [] states same run few_steps few_granules = refl
 steps_read rules_are account (step ∷ steps) [] same run few_steps few_granules = absurd run
 steps_read rules_are account (step ∷ steps) (next ∷ states) same run few_steps few_granules =
@@ -99,17 +88,17 @@ steps_read rules_are account (step ∷ steps) (next ∷ states) same run few_ste
     let most = ap most_granules same in
     let leads = subst (λ (r : Rules). Leads r account.state step next) (sym same) run.0 in
     let later = subst (λ (state : State). IsRun rules_are state steps states) leads.after run.1 in (
-      (formed account.rules (Step step) refl, step_free account step next leads (omega arith) (omega arith)),
+      by_checks account (Step step) refl ∙ step_free account step next leads (omega arith) (omega arith),
       steps_read rules_are after steps states (one.rules_stay ∙ same) later (omega arith) few_granules,
     )
 
-header_read : (rules_are : Rules) → Reads Unread (header_lines rules_are) (Within (no_account rules_are))
-header_read One = (tt, refl)
-header_read TwoStrict = (tt, (tt, refl))
-header_read TwoClear = (tt, (tt, refl))
+header_read : (rules_are : Rules) → Reads unread (header_lines rules_are) (body (no_account rules_are))
+header_read One = (refl, refl)
+header_read TwoStrict = (refl, (refl, refl))
+header_read TwoClear = (refl, (refl, refl))
 
 body_read : (rules_are : Rules) (roots : List DeclaredRoot) (steps : List steps_module.Step) → RunsBy rules_are roots steps
-    → Reads Unread (body_lines rules_are roots steps) (Within (account_after rules_are roots steps))
+    → Reads unread (body_lines rules_are roots steps) (body (account_after rules_are roots steps))
 body_read rules_are roots steps runs =
     let first = no_account rules_are in
     let rooted = after_roots first roots in
@@ -124,27 +113,27 @@ body_read rules_are roots steps runs =
     let free = λ (key : ℕ) (held : IsTrue (start [] key).tag). absurd (false≢true held) in
     let roots_are = roots_read rules_are first roots refl refl runs.distinct free runs.sound (omega arith) (omega arith) in
     let steps_are = steps_read rules_are rooted steps runs.run.0 by_roots.rules_stay run (omega arith) few_granules in
-    Reads-append Unread (Within first) (Within last) (header_lines rules_are) _ (header_read rules_are)
-    (Reads-append (Within first) (Within rooted) (Within last) _ (map Step steps) roots_are steps_are)
+    Reads-append unread (body first) (body last) (header_lines rules_are) _ (header_read rules_are)
+    (Reads-append (body first) (body rooted) (body last) _ (map Step steps) roots_are steps_are)
 
 -- the stage behind a beginning
-abbrev pub stage_of : Beginning → Stage
-stage_of Empty = Unread
-stage_of NoMode = Versioned
-stage_of (Body rules_are roots steps) = Within (account_after rules_are roots steps)
-stage_of (Whole rules_are roots steps) = Ended (account_after rules_are roots steps)
+abbrev pub stage_after : Beginning → Stage
+stage_after Empty = unread
+stage_after NoMode = record { account = no_account One; due = ModeDue }
+stage_after (Body rules_are roots steps) = body (account_after rules_are roots steps)
+stage_after (Whole rules_are roots steps) = record { account = account_after rules_are roots steps; due = Ended }
 
-pub accepted_read : (beginning : Beginning) → IsAccepted beginning → Reads Unread (lines_of beginning) (stage_of beginning)
+pub accepted_read : (beginning : Beginning) → IsAccepted beginning → Reads unread (lines_of beginning) (stage_after beginning)
 accepted_read Empty accepted = refl
-accepted_read NoMode accepted = (tt, refl)
+accepted_read NoMode accepted = (refl, refl)
 accepted_read (Body rules_are roots steps) runs = body_read rules_are roots steps runs
 accepted_read (Whole rules_are roots steps) runs =
     let last = account_after rules_are roots steps in
     let end = End (length steps) in
     let counts = account_after-grows rules_are roots steps in
     let free = first_of-none (line_checks last end) (ap not (eq-eqb (length steps) last.steps (omega arith)), tt) in
-    Reads-append Unread (Within last) (Ended last) (body_lines rules_are roots steps) (end ∷ []) (body_read rules_are roots steps runs)
-    ((formed last.rules end refl, free), refl)
+    Reads-append unread (body last) (stage_after (Whole rules_are roots steps)) (body_lines rules_are roots steps) (end ∷ [])
+    (body_read rules_are roots steps runs) (by_checks last end refl ∙ free, refl)
 
 -- A line that is allowed makes the beginning longer
 
@@ -161,7 +150,7 @@ with_line beginning line = beginning
 pub record Longer (beginning : Beginning) (line : Line) : Type 0 where
   pub accepted : IsAccepted (with_line beginning line)
   pub lines_are : lines_of (with_line beginning line) ≡ lines_of beginning ++ line ∷ []
-  pub stage_is : stage_of (with_line beginning line) ≡ behind (stage_of beginning) line
+  pub stage_is : stage_after (with_line beginning line) ≡ behind (stage_after beginning) line
 
 -- a root is declared before the first step
 no_root : (rules_are : Rules) (roots : List DeclaredRoot) (step : steps_module.Step) (steps : List steps_module.Step) (place : Place)
@@ -180,7 +169,7 @@ end_counts rules_are roots steps count free =
     let is = eqb-true count account.steps (not-false _ (none_hold (line_checks account (End count)) free).0) in
     omega (arith, is)
 
-pub longer : (beginning : Beginning) (line : Line) → IsAccepted beginning → IsInRange line → Allows (stage_of beginning) line
+pub longer : (beginning : Beginning) (line : Line) → IsAccepted beginning → IsInRange line → Allows (stage_after beginning) line
     → Longer beginning line
 longer Empty (Version version) accepted (inl is) allowed =
     subst (λ (v : ℕ). Longer Empty (Version v)) (sym is) (record { accepted = no_roots One; lines_are = refl; stage_is = refl })
@@ -191,41 +180,46 @@ longer NoMode (Mode Clear) accepted range allowed = record { accepted = no_roots
 longer (Body rules_are roots []) (Root place word) runs range allowed =
     let account = account_after rules_are roots [] in
     let root : DeclaredRoot = record { place = place; word = word } in
-    let free = first_of-none (root_checks account place word) (none_hold (line_checks account (Root place word)) allowed.1).1 in
+    let checks = none_hold (line_checks account (Root place word)) (sym (by_checks account (Root place word) refl) ∙ allowed) in
     record {
-      accepted = root_runs rules_are roots root runs range.0 range.1 free;
+      accepted = root_runs rules_are roots root runs range.0 range.1 (first_of-none (root_checks account place word) checks.1);
       lines_are = roots_push rules_are roots root;
-      stage_is = ap Within (after_roots-push (no_account rules_are) roots root);
+      stage_is = ap body (after_roots-push (no_account rules_are) roots root);
     }
 longer (Body rules_are roots (step ∷ steps)) (Root place word) runs range allowed =
-    absurd (no_root rules_are roots step steps place word allowed.1)
+    let account = account_after rules_are roots (step ∷ steps) in
+    absurd (no_root rules_are roots step steps place word (sym (by_checks account (Root place word) refl) ∙ allowed))
 longer (Body rules_are roots steps) (Step step) runs range allowed = record {
-  accepted = step_runs rules_are roots steps step runs range allowed.1;
+  accepted = step_runs rules_are roots steps step runs range (sym (by_checks (account_after rules_are roots steps) (Step step) refl) ∙ allowed);
   lines_are = steps_push rules_are roots steps step;
-  stage_is = ap Within (after_steps-push (after_roots (no_account rules_are) roots) steps step);
+  stage_is = ap body (after_steps-push (after_roots (no_account rules_are) roots) steps step);
 }
 longer (Body rules_are roots steps) (End count) runs range allowed =
-    let all = end_counts rules_are roots steps count allowed.1 in
+    let all = end_counts rules_are roots steps count (sym (by_checks (account_after rules_are roots steps) (End count) refl) ∙ allowed) in
     record { accepted = runs; lines_are = ap (λ n. body_lines rules_are roots steps ++ End n ∷ []) all; stage_is = refl }
-longer (Body rules_are roots steps) (Version version) runs range allowed = absurd (none-some Misplaced (sym allowed.1))
-longer (Body rules_are roots steps) (Mode mode) runs range allowed = absurd (none-some Misplaced (sym allowed.1))
-longer beginning line accepted range allowed = absurd allowed
+longer (Body rules_are roots steps) line runs range allowed =
+    let form = has_form (account_after rules_are roots steps).rules line in
+    absurd (false≢true (sym (none_hold ((not form, BadLine) ∷ (true, Misplaced) ∷ []) allowed).1.0))
+longer beginning line accepted range allowed = absurd (none-some _ (sym allowed))
 
 -- So do lines that are allowed in turn, and the lines of a beginning lead to it
 
 abbrev root_line : DeclaredRoot → Line
 root_line root = Root root.place root.word
 
-abbrev with_lines : Beginning → List Line → Beginning
+abbrev pub with_lines : Beginning → List Line → Beginning
 with_lines beginning [] = beginning
 with_lines beginning (line ∷ lines) = with_lines (with_line beginning line) lines
 
-all_longer : (beginning : Beginning) (lines : List Line) (to : Stage) → IsAccepted beginning → AllByRecursion IsInRange lines
-    → Reads (stage_of beginning) lines to → IsAccepted (with_lines beginning lines)
-all_longer beginning [] to accepted range reads = accepted
+pub all_longer : (beginning : Beginning) (lines : List Line) (to : Stage) → IsAccepted beginning → AllByRecursion IsInRange lines
+    → Reads (stage_after beginning) lines to
+    → (let last = with_lines beginning lines in IsAccepted last × (lines_of last ≡ lines_of beginning ++ lines) × (stage_after last ≡ to))
+all_longer beginning [] to accepted range reads = (accepted, sym (append-nil (lines_of beginning)), reads)
 all_longer beginning (line ∷ lines) to accepted range reads =
     let one = longer beginning line accepted range.0 reads.0 in
-    all_longer (with_line beginning line) lines to one.accepted range.1 (subst (λ (s : Stage). Reads s lines to) (sym one.stage_is) reads.1)
+    let all = all_longer (with_line beginning line) lines to one.accepted range.1
+    (subst (λ (s : Stage). Reads s lines to) (sym one.stage_is) reads.1) in
+    (all.0, all.1 ∙ ap (λ ls. ls ++ lines) one.lines_are ∙ append_assoc (lines_of beginning) (line ∷ []) lines, all.2)
 
 roots_back : (rules_are : Rules) (before roots : List DeclaredRoot) (lines : List Line)
     → with_lines (Body rules_are before []) (map root_line roots ++ lines) ≡ with_lines (Body rules_are (before ++ roots) []) lines
@@ -261,8 +255,12 @@ lines_back (Body rules_are roots steps) =
 lines_back (Whole rules_are roots steps) = body_back rules_are roots steps (End (length steps) ∷ [])
 
 pub accepted_in_turn : (beginning : Beginning)
-    → IsAccepted beginning ↔ (AllByRecursion IsInRange (lines_of beginning) × ((stage : Stage) × Reads Unread (lines_of beginning) stage))
+    → IsAccepted beginning ↔ (AllByRecursion IsInRange (lines_of beginning) × ((stage : Stage) × Reads unread (lines_of beginning) stage))
 accepted_in_turn beginning = (
-  λ accepted. (accepted_in_range beginning accepted, (stage_of beginning, accepted_read beginning accepted)),
-  λ h. subst IsAccepted (lines_back beginning) (all_longer Empty (lines_of beginning) h.1.0 tt h.0 h.1.1),
+  λ accepted. (accepted_in_range beginning accepted, (stage_after beginning, accepted_read beginning accepted)),
+  λ h. subst IsAccepted (lines_back beginning) (all_longer Empty (lines_of beginning) h.1.0 tt h.0 h.1.1).0,
 )
+
+-- one beginning has these lines
+pub same_beginning : (a b : Beginning) → lines_of a ≡ lines_of b → a ≡ b
+same_beginning a b same = sym (lines_back a) ∙ ap (with_lines Empty) same ∙ lines_back b

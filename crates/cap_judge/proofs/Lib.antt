@@ -12,8 +12,7 @@ pub mod ReportLemmas
 mod SomeVerdict
 mod InTurn
 mod ExpectedLemmas
-mod ReachLemmas
-mod HeadLemmas
-mod ReadingLemmas
-pub mod EndingLemmas
+pub mod TurnLemmas
+pub mod FollowLemmas
+pub mod TurnLaws
 mod KeepingLemmas

@@ -1,32 +1,25 @@
 -- All bytes have a verdict: read a line at a time, they come to an end, or to a line that is refused.
-use Rattle.std.proofs.Common.{◌≡◌, ℕ, zero, suc, ◌+◌, ◌<◌, Bool, true, false, inl, inr, ◌⊎◌, List, [], ◌∷◌, ◌++◌, length, Option, Some}
+use Rattle.std.proofs.Common.{◌≡◌, ℕ, zero, suc, ◌+◌, ◌<◌, inl, inr, ◌⊎◌, List, [], ◌∷◌, ◌++◌, length, Option, Some}
 use Rattle.std.proofs.Common.{None, refl, sym, ap, ◌∙◌, append-nil, arith}
-use Rattle.std.proofs.lemmas.Bool.{false≢true}
+use Rattle.std.proofs.lemmas.Option.{none-some}
 use Rattle.std.proofs.lemmas.List.{length-append}
-use Rattle.cap_ops.specs.Checks.{first_of}
 use Rattle.cap_ops.specs.declared.refusal.Refusal.{Refusal}
-use Rattle.cap_ops.specs.declared.refusal.Refusal.TheVariants.{BadHeader, BadMode, BadLine, LineTooLong, Misplaced, Truncated}
+use Rattle.cap_ops.specs.declared.refusal.Refusal.TheVariants.{LineTooLong, Misplaced, Truncated}
 use Rattle.cap_log.specs.declared.lines.Line.{Line}
-use Rattle.cap_log.specs.declared.lines.Line.TheVariants.{Version, Mode}
-use Rattle.cap_log.specs.declared.lines.Mode as modes_module
-use Rattle.cap_log.specs.Lines.{Spells}
+use Rattle.cap_log.specs.Lines.{IsInRange, Spells, spelling}
+use Rattle.cap_log.specs.Parts.{Reads as Spelled}
 use Rattle.cap_log.specs.Front.{IsLine}
 use Rattle.cap_log.proofs.DecidedLines.{line_decided, front_decided}
-use Rattle.cap_log.proofs.SpellingLemmas.{one_spelling}
-use Rattle.cap_machine.specs.declared.rules.Rules.{Rules}
-use Rattle.cap_machine.specs.States.{DeclaredRoot}
-use Rattle.cap_machine.specs.Accounts.{Account}
-use Rattle.cap_log.specs.declared.kinds.Step as steps_module
 use Rattle.cap_judge.specs.declared.verdict.Verdict.{Verdict}
 use Rattle.cap_judge.specs.declared.verdict.Verdict.TheVariants.{Yes, No}
-use Rattle.cap_judge.specs.Logs.{Beginning, Empty, NoMode, Body, Whole, lines_of, text_of, account_after, IsAccepted, has_form}
-use Rattle.cap_judge.specs.Logs.{line_checks, RefusesLine, RefusesWhole, Refuses}
+use Rattle.cap_judge.specs.Logs.{Beginning, Empty, NoMode, Body, Whole, lines_of, text_of, IsAccepted}
+use Rattle.cap_judge.specs.Logs.{RefusesWhole, Refuses}
 use Rattle.cap_judge.specs.Judgings.{IsBehind}
 use Rattle.cap_judge.specs.Verdicts.{IsVerdict}
 use Rattle.cap_judge.proofs.JudgeLemmas.{IsUnended, fault_behind, front_refused, text_push, yes_of}
-use Rattle.cap_judge.proofs.FormLemmas.{no_form}
-use Rattle.cap_judge.proofs.InTurn.{stage_of, longer, with_line}
-use Rattle.cap_judge.specs.Turns.{Allows}
+use Rattle.cap_judge.proofs.InTurn.{longer, stage_after, with_line}
+use Rattle.cap_judge.proofs.TurnLaws.{refuses_text}
+use Rattle.cap_judge.specs.Turns.{Allows, refusal_at}
 
 -- Each line is refused or allowed
 
@@ -34,60 +27,22 @@ use Rattle.cap_judge.specs.Turns.{Allows}
 abbrev pub Turn : Beginning → List ℕ → Type 0
 Turn beginning text =
     ((refusal : Refusal) × RefusesWhole beginning text refusal)
-    ⊎ ((line : Line) × Spells text line × Allows (stage_of beginning) line)
+    ⊎ ((line : Line) × Spells text line × Allows (stage_after beginning) line)
 
-abbrev is_version : Line → Bool
-is_version (Version version) = true
-is_version line = false
-
-abbrev is_mode : Line → Bool
-is_mode (Mode mode) = true
-is_mode line = false
-
--- bytes that spell a line of another kind spell none of this kind
-no_version : (text : List ℕ) (line : Line) → Spells text line → is_version line ≡ false → (version : ℕ) → Spells text (Version version) → ⊥
-no_version text line spells other version is =
-    false≢true (sym other ∙ ap is_version (one_spelling text line (Version version) spells is))
-
-no_mode : (text : List ℕ) (line : Line) → Spells text line → is_mode line ≡ false → (mode : modes_module.Mode) → Spells text (Mode mode) → ⊥
-no_mode text line spells other mode is = false≢true (sym other ∙ ap is_mode (one_spelling text line (Mode mode) spells is))
-
-first_turn : (text : List ℕ) (line : Line) → Spells text line → Turn Empty text
-first_turn text (Version version) spells = inr (Version version, spells, tt)
-first_turn text line spells = inl (BadHeader, (no_version text line spells refl, refl))
-
-mode_turn : (text : List ℕ) (line : Line) → Spells text line → Turn NoMode text
-mode_turn text (Mode mode) spells = inr (Mode mode, spells, tt)
-mode_turn text line spells = inl (BadMode, (no_mode text line spells refl, refl))
-
--- a line that has no form by the rules
-formless : (account : Account) (text : List ℕ) (line : Line) → Spells text line → has_form account.rules line ≡ false
-    → RefusesLine account text BadLine
-formless account text line spells none = inl (no_form account.rules text line spells none, refl)
-
--- the first test that holds, or none
-by_tests : (rules_are : Rules) (roots : List DeclaredRoot) (steps : List steps_module.Step) (text : List ℕ) (line : Line)
-    → let account = account_after rules_are roots steps in Spells text line → has_form account.rules line ≡ true
-    → (first : Option Refusal) → first_of (line_checks account line) ≡ first → Turn (Body rules_are roots steps) text
-by_tests rules_are roots steps text line spells formed (Some refusal) found = inl (refusal, inr (line, (spells, formed), found))
-by_tests rules_are roots steps text line spells formed None free = inr (line, spells, (formed, free))
-
-by_form : (rules_are : Rules) (roots : List DeclaredRoot) (steps : List steps_module.Step) (text : List ℕ) (line : Line)
-    → let account = account_after rules_are roots steps in Spells text line → (formed : Bool) → has_form account.rules line ≡ formed
-    → Turn (Body rules_are roots steps) text
-by_form rules_are roots steps text line spells true formed = by_tests rules_are roots steps text line spells formed _ refl
-by_form rules_are roots steps text line spells false none =
-    inl (BadLine, formless (account_after rules_are roots steps) text line spells none)
+by_refusal : (beginning : Beginning) → IsUnended beginning → (text : List ℕ) (line : Option Line) → Spelled IsInRange spelling text line
+    → (refusal : Option Refusal) → refusal_at (stage_after beginning).account (stage_after beginning).due line ≡ refusal
+    → Turn beginning text
+by_refusal beginning goes text line is (Some refusal) refused = inl (refusal, refuses_text beginning text line refusal goes is refused)
+by_refusal beginning goes text (Some line) is None allowed = inr (line, is, allowed)
+by_refusal Empty goes text None is None allowed = absurd (none-some _ (sym allowed))
+by_refusal NoMode goes text None is None allowed = absurd (none-some _ (sym allowed))
+by_refusal (Body rules_are roots steps) goes text None is None allowed = absurd (none-some _ (sym allowed))
+by_refusal (Whole rules_are roots steps) goes text None is None allowed = absurd goes
 
 turn : (beginning : Beginning) → IsUnended beginning → (text : List ℕ)
     → ((line : Line) × Spells text line) ⊎ ((line : Line) → Spells text line → ⊥) → Turn beginning text
-turn Empty unended text (inl found) = first_turn text found.0 found.1
-turn Empty unended text (inr none) = inl (BadHeader, (λ version. none (Version version), refl))
-turn NoMode unended text (inl found) = mode_turn text found.0 found.1
-turn NoMode unended text (inr none) = inl (BadMode, (λ mode. none (Mode mode), refl))
-turn (Body rules_are roots steps) unended text (inl found) = by_form rules_are roots steps text found.0 found.1 _ refl
-turn (Body rules_are roots steps) unended text (inr none) = inl (BadLine, inl (λ line is. none line is.0, refl))
-turn (Whole rules_are roots steps) unended text line = absurd unended
+turn beginning goes text (inl found) = by_refusal beginning goes text (Some found.0) found.1 _ refl
+turn beginning goes text (inr none) = by_refusal beginning goes text None (λ line range is. none line (range, is)) _ refl
 
 -- What follows a beginning
 

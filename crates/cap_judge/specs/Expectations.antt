@@ -1,5 +1,5 @@
 -- What the rules give for the step at fault, where its line records another result (this profile's own).
-use Rattle.std.specs.Prelude.{◌≡◌, ℕ, List, ◌∷◌, ◌++◌, Option, Some, None}
+use Rattle.std.specs.Prelude.{◌≡◌, ◌≢◌, ℕ, List, ◌∷◌, ◌++◌, Option, Some, None}
 use Rattle.cap_word.specs.declared.word.Cap.{Cap}
 use Rattle.cap_log.specs.declared.lines.Line.TheVariants as lines
 use Rattle.cap_log.specs.declared.lines.Place.{Place}
@@ -15,6 +15,7 @@ use Rattle.cap_machine.specs.Steps.{Access, Recorded, Row, Written, ReadNumber}
 use Rattle.cap_machine.specs.Accounts.{Account, row_in, step_checks}
 use Rattle.cap_judge.specs.declared.verdict.Expected.{Expected}
 use Rattle.cap_judge.specs.declared.verdict.Expected.TheVariants.{Capability, Number}
+use Rattle.cap_judge.specs.Turns.{Due, Refused}
 use Rattle.cap_judge.specs.Logs.{RunsBy, IsFirstFault, account_after, body_lines, text_of}
 
 -- what is written, or the number in memory, where a line records it
@@ -56,6 +57,12 @@ GivesFor account step (Some expected) =
 -- what they give for the step that a text spells
 abbrev pub GivesForText : Account → List ℕ → Option Expected → Type 0
 GivesForText account text result = (step : Step) → Spells text (lines.Step step) → GivesFor account step result
+
+-- what is told of the faulty line: what the rules give for its step, if it is refused for its result, and else nothing
+abbrev pub ExpectsAt : Account → Due → Option Expected → Type 0
+ExpectsAt account (Refused line refusal text) result =
+    (refusal ≡ WrongResult → GivesForText account text result) × (refusal ≢ WrongResult → result ≡ None)
+ExpectsAt account due result = result ≡ None
 
 -- what the rules give, without the recorded result
 abbrev pub expected_of : Given → Option Expected

@@ -1,194 +1,224 @@
 -- What a judge has read of the bytes that it was handed (this profile's own, as are all below).
-use Rattle.std.specs.Prelude.{◌≡◌, ◌≢◌, ℕ, ◌+◌, true, false, IsTrue, List, [], ◌∷◌, ◌++◌, length, map, Option, None, Some, Result, Ok, Err}
+use Rattle.std.specs.Prelude.{◌≡◌, ◌≢◌, ◌⊎◌, ℕ, ◌+◌, Bool, false, IsTrue, List, [], ◌++◌, length, Option, None, Some, Result, Ok, Err}
 use Rattle.std.specs.Borrow.{Bor}
+use Rattle.std.specs.List.{AllByRecursion}
 use Rattle.cap_log.specs.Front.{IsCut, IsLine, IsTooLong}
 use Rattle.cap_log.specs.Lines.{IsInRange, spelling}
-use Rattle.cap_log.specs.Parts.{Begins}
-use Rattle.cap_log.specs.declared.lines.Line.{Line}
+use Rattle.cap_log.specs.Parts.{Begins, Reads as Spelled}
+use Rattle.cap_log.specs.declared.lines.Line as lines_module
 use Rattle.cap_log.specs.declared.lines.Line.TheVariants as lines
-use Rattle.cap_log.specs.declared.lines.Mode as modes_module
-use Rattle.cap_log.specs.declared.lines.Mode.TheVariants as modes
 use Rattle.cap_log.specs.declared.kinds.Step.{Step}
-use Rattle.cap_ops.specs.Checks.{first_of}
-use Rattle.cap_machine.specs.Accounts.{is_new, no_account}
+use Rattle.cap_ops.specs.declared.refusal.Refusal.{Refusal}
+use Rattle.cap_ops.specs.declared.refusal.Refusal.TheVariants.{LineTooLong, Misplaced, Truncated}
+use Rattle.cap_machine.specs.Accounts.{Account, is_new}
 use Rattle.cap_machine.specs.Helds.{Held, account_of}
-use Rattle.cap_machine.specs.States.{DeclaredRoot}
 use Rattle.cap_machine.specs.declared.ends.StepEnd.{StepEnd}
 use Rattle.cap_machine.specs.declared.ends.StepEnd.TheVariants as ends
-use Rattle.cap_machine.specs.declared.rules.Rules.{Rules}
-use Rattle.cap_machine.specs.declared.rules.Rules.TheVariants.{One, TwoStrict, TwoClear}
 use Rattle.cap_judge.specs.declared.judges.Judge.{Judge}
-use Rattle.cap_judge.specs.declared.judges.Stage.{Stage}
-use Rattle.cap_judge.specs.declared.judges.Stage.TheVariants.{Version, Mode, Body, Ended, Refused}
+use Rattle.cap_judge.specs.declared.judges.Stage as code
+use Rattle.cap_judge.specs.declared.judges.Stage.TheVariants as stages
 use Rattle.cap_judge.specs.declared.judges.Stop.{Stop}
-use Rattle.cap_judge.specs.declared.judges.Stop.TheVariants.{Cut, Fault, NoMemory}
+use Rattle.cap_judge.specs.declared.judges.Stop.TheVariants as stops
 use Rattle.cap_judge.specs.declared.faults.Fault as faults
 use Rattle.cap_log.specs.declared.judge_faults.JudgeFault.{JudgeFault}
 use Rattle.cap_judge.specs.declared.verdict.Verdict.{Verdict}
 use Rattle.cap_judge.specs.declared.verdict.Verdict.TheVariants.{Yes, No}
 use Rattle.cap_log.specs.FaultLines.{bytes_of}
-use Rattle.cap_judge.specs.Judgings.{IsBehind, IsLastFront, IsVerdictOf, LeadsTo, StopsBefore, account_before}
-use Rattle.cap_judge.specs.Logs.{Beginning, lines_of, text_of, IsAccepted, IsFirstFault, Refuses, MayLackMemory, RunsBy, account_after}
-use Rattle.cap_judge.specs.Logs.{line_checks, named_by_line}
-use Rattle.cap_judge.specs.Logs as logs
-use Rattle.cap_judge.specs.Verdicts.{IsYes}
-
--- the rules of version 2 in a mode
-abbrev pub rules_of : modes_module.Mode → Rules
-rules_of modes.Strict = TwoStrict
-rules_of modes.Clear = TwoClear
-
--- roots and steps have a run, and their account is that of what a machine holds
-pub record Reaches (held : Held) (rules : Rules) (roots : List DeclaredRoot) (steps : List Step) : Type 0 where
-  pub runs : RunsBy rules roots steps
-  pub account : account_of held ≡ account_after rules roots steps
-  pub roots_are : held.roots ≡ length roots
-  pub steps_are : held.steps ≡ length steps
-
--- how a line ends in what a machine holds: at its first check that fails; or no check fails and it names a granule
--- for the first time
-abbrev pub EndsFor : Held → Line → StepEnd → Type 0
-EndsFor held line (ends.Refused refusal) = first_of (line_checks (account_of held) line) ≡ Some refusal
-EndsFor held line ends.NoMemory =
-    (first_of (line_checks (account_of held) line) ≡ None) × IsTrue (is_new (account_of held) (named_by_line (account_of held) line))
+use Rattle.cap_judge.specs.Judgings.{IsBehind, IsLastFront, IsVerdictOf, LeadsAfter, StopsIn, account_before}
+use Rattle.cap_judge.specs.Logs.{Beginning, lines_of, text_of, IsAccepted, Refuses, header_lines, named_by_line}
+use Rattle.cap_judge.specs.Turns.{Allows, Body, Due, Ended, Mode, Reads, Refused, Stage, Version, behind, refusal_at, unread}
 
 -- what a judge knows: what its machine holds, and what the next line has to be
 pub record Known : Type 0 where
   pub held : Held
-  pub stage : Stage
+  pub stage : code.Stage
 
 -- what a judge knows, whatever its store
 abbrev pub known_of : {M : Type 0} → Judge M → Known
 known_of judge = record { held = judge.machine; stage = judge.stage }
 
--- a line is at fault
-abbrev pub IsAtFault : Stage → Type 0
-IsAtFault (Refused fault) = Unit {0}
-IsAtFault stage = ⊥
+-- what the code's stage says
+abbrev pub due_of : code.Stage → Due
+due_of stages.Version = Version
+due_of stages.Mode = Mode
+due_of stages.Body = Body
+due_of stages.Ended = Ended
+due_of (stages.Refused fault) = Refused fault.line fault.refusal (bytes_of fault.text)
 
--- the lines of a beginning lead to what a machine holds, and what the next line has to be is what may follow them;
--- where a line is at fault, they are those before it
-abbrev pub IsAfter : Stage → Held → Beginning → Type 0
-IsAfter Version held logs.Empty = account_of held ≡ no_account One
-IsAfter Mode held logs.NoMode = account_of held ≡ no_account One
-IsAfter Body held (logs.Body rules roots steps) = Reaches held rules roots steps
-IsAfter Ended held (logs.Whole rules roots steps) = Reaches held rules roots steps
-IsAfter (Refused fault) held beginning = IsAccepted beginning × (account_of held ≡ account_before beginning)
-IsAfter stage held beginning = ⊥
+-- how far a log is read, by what a machine holds and the code's stage
+abbrev pub at : code.Stage → Held → Stage
+at stage held = record { account = account_of held; due = due_of stage }
 
--- this rest behind a beginning is refused, whatever follows it
-pub record IsFaultAt (beginning : Beginning) (rest : List ℕ) (fault : faults.Fault) : Type 0 where
-  pub line_is : fault.line ≡ length (lines_of beginning) + 1
-  pub front : IsLastFront rest false (bytes_of fault.text)
-  pub refused : (more : List ℕ) → Refuses beginning (rest ++ more) fault.refusal
+-- how far a judge has read
+abbrev pub stage_of : {M : Type 0} → Judge M → Stage
+stage_of judge = at judge.stage judge.machine
 
--- what follows a beginning: nothing, or a line at fault
-abbrev pub IsRest : Stage → Beginning → List ℕ → Type 0
-IsRest (Refused fault) beginning rest = IsFaultAt beginning rest fault
-IsRest stage beginning rest = rest ≡ []
+-- a line is faulty
+abbrev pub IsAtFault : Due → Type 0
+IsAtFault (Refused line refusal text) = Unit {0}
+IsAtFault due = ⊥
 
--- the bytes are the text of a beginning that is accepted, which leads to what is known, and a rest: nothing, or what
--- begins with a line at fault
-pub record Read (known : Known) (bytes : List ℕ) : Type 0 where
-  pub beginning : Beginning
-  pub rest : List ℕ
-  pub behind : IsBehind bytes beginning rest
-  pub after : IsAfter known.stage known.held beginning
-  pub rest_is : IsRest known.stage beginning rest
+-- how many lines were read, where none is faulty
+abbrev pub lines_read : Account → Due → ℕ
+lines_read account Version = 0
+lines_read account Mode = 1
+lines_read account Body = length (header_lines account.rules) + account.roots + account.steps
+lines_read account due = length (header_lines account.rules) + account.roots + account.steps + 1
+
+-- the next line as the faulty one
+abbrev pub refused_at : Account → Due → Refusal → List ℕ → Due
+refused_at account due refusal text = Refused (lines_read account due + 1) refusal text
+
+-- why more bytes than a line has are refused
+abbrev pub long_refusal : Due → Refusal
+long_refusal Version = LineTooLong
+long_refusal Mode = LineTooLong
+long_refusal Body = LineTooLong
+long_refusal due = Misplaced
+
+-- what the bytes begin with is refused at a stage, whatever follows them: a whole line, or more bytes than a line has
+abbrev pub RefusesNext : Stage → List ℕ → Refusal → Type 0
+RefusesNext stage bytes refusal =
+    ((text : List ℕ) × (more : List ℕ) × (line : Option lines_module.Line) × IsLine bytes text more × Spelled IsInRange spelling text line
+    × (refusal_at stage.account stage.due line ≡ Some refusal))
+    ⊎ (IsTooLong bytes × (refusal ≡ long_refusal stage.due))
+
+-- a line that nothing refuses names a granule for the first time
+abbrev pub NamesFirst : Stage → lines_module.Line → Type 0
+NamesFirst stage line = (stage.due ≡ Body) × Allows stage line × IsTrue (is_new stage.account (named_by_line stage.account line))
+
+-- the bytes begin with such a line, before this rest
+pub record Lacks (stage : Stage) (bytes more : List ℕ) : Type 0 where
+  pub line : lines_module.Line
+  pub begins : Begins IsInRange spelling 10 bytes line more
+  pub names : NamesFirst stage line
+
+-- why a line is not taken
+abbrev pub EndsFor : Stage → lines_module.Line → StepEnd → Type 0
+EndsFor stage line (ends.Refused refusal) = refusal_at stage.account stage.due (Some line) ≡ Some refusal
+EndsFor stage line ends.NoMemory = NamesFirst stage line
+
+-- why what the bytes begin with is not taken
+abbrev pub EndsAt : Stage → List ℕ → StepEnd → Type 0
+EndsAt stage bytes (ends.Refused refusal) = RefusesNext stage bytes refusal
+EndsAt stage bytes ends.NoMemory = (more : List ℕ) × Lacks stage bytes more
+
+-- a line that is allowed leads from a stage to a stage
+abbrev pub Takes : Stage → lines_module.Line → Stage → Type 0
+Takes old line new = Allows old line × (new ≡ behind old line)
+
+-- the bytes are lines that lead from a stage to a stage
+pub record Goes (old : Stage) (bytes : List ℕ) (new : Stage) : Type 0 where
+  pub lines : List lines_module.Line
+  pub in_range : AllByRecursion IsInRange lines
+  pub bytes_are : bytes ≡ text_of lines
+  pub reads : Reads old lines new
+
+-- a line is faulty: one before the bytes, or the first is what they begin with
+abbrev pub Faults : Stage → List ℕ → Stage → Type 0
+Faults old bytes new =
+    (IsAtFault old.due × (new ≡ old))
+    ⊎ ((IsAtFault old.due → ⊥) × (refusal : Refusal) × (text : List ℕ) × RefusesNext old bytes refusal × IsLastFront bytes false text
+    × (new ≡ record { account = old.account; due = refused_at old.account old.due refusal text }))
+
+-- the bytes lead from a stage to a stage: they are lines, or lines before what begins with a faulty one
+abbrev pub Follows : Stage → List ℕ → Stage → Type 0
+Follows old bytes new =
+    Goes old bytes new
+    ⊎ ((front : List ℕ) × (rest : List ℕ) × (bytes ≡ front ++ rest) × (middle : Stage) × Goes old front middle × Faults middle rest new)
 
 -- a judge has read these bytes
 abbrev pub HasRead : {M : Type 0} → Judge M → List ℕ → Type 0
-HasRead judge bytes = Read (known_of judge) bytes
-
--- whatever bytes were read before, these were read behind them, and what stood behind the lines still does
-abbrev pub GoesOn : Known → List ℕ → Known → Type 0
-GoesOn old bytes new = (before : List ℕ) → (read : Read old before) → (now : Read new (before ++ bytes)) × (now.rest ≡ read.rest)
-
--- these were read, a front and a rest, and the line at fault begins the rest; where one was at fault before, it still
--- stands there
-abbrev pub Faults : Known → List ℕ → List ℕ → Known → Type 0
-Faults old front rest new =
-    (before : List ℕ) → (read : Read old before) → (now : Read new (before ++ (front ++ rest))) × (now.rest ≡ read.rest ++ rest)
-
--- why what follows a beginning is not taken: it is refused, whatever follows it; or a whole line, which fails no
--- check, names a granule for the first time
-abbrev pub EndsBehind : Beginning → List ℕ → StepEnd → Type 0
-EndsBehind beginning rest (ends.Refused refusal) = (more : List ℕ) → Refuses beginning (rest ++ more) refusal
-EndsBehind beginning rest ends.NoMemory =
-    (text : List ℕ) × (more : List ℕ) × IsLine rest text more × MayLackMemory (text_of (lines_of beginning) ++ rest) more
-
--- so behind whatever was read
-abbrev pub EndsAt : Known → List ℕ → StepEnd → Type 0
-EndsAt known rest end = (beginning : Beginning) → IsAfter known.stage known.held beginning → EndsBehind beginning rest end
-
--- the same of a line, whatever comes behind it
-abbrev pub EndsFrom : Known → Line → StepEnd → Type 0
-EndsFrom known line end = (bytes rest : List ℕ) → IsLine bytes (spelling line) rest → EndsAt known bytes end
+HasRead judge bytes = Follows unread bytes (stage_of judge)
 
 -- a judge that was handed a front and a rest took the front and stopped: the rest is less than a line; or begins with a
--- faulty line, and was taken too; or with a line that fails no check and names a granule for the first time
-abbrev pub StopsAt : Known → List ℕ → List ℕ → Stop → Known → Type 0
-StopsAt old front rest Cut new = GoesOn old front new × IsCut rest × (IsAtFault new.stage → ⊥)
-StopsAt old front rest Fault new = Faults old front rest new × IsAtFault new.stage
-StopsAt old front rest NoMemory new =
-    GoesOn old front new
-    × ((before : List ℕ) → Read old before
-    → (text : List ℕ) × (more : List ℕ) × IsLine rest text more × MayLackMemory (before ++ front ++ rest) more)
+-- faulty line, and was taken too; or with a line that nothing refuses and that names a granule for the first time
+abbrev pub StopsAt : Stage → List ℕ → List ℕ → Stop → Stage → Type 0
+StopsAt old front rest stops.Cut new = Goes old front new × IsCut rest × (IsAtFault new.due → ⊥)
+StopsAt old front rest stops.Fault new = (middle : Stage) × Goes old front middle × Faults middle rest new
+StopsAt old front rest stops.NoMemory new = Goes old front new × (more : List ℕ) × Lacks new rest more
 
 -- it stopped so, or took a front that is not empty
-abbrev pub GoesOrStops : Known → List ℕ → List ℕ → Option Stop → Known → Type 0
-GoesOrStops old front rest None new = (front ≢ []) × GoesOn old front new
+abbrev pub GoesOrStops : Stage → List ℕ → List ℕ → Option Stop → Stage → Type 0
+GoesOrStops old front rest None new = (front ≢ []) × Goes old front new
 GoesOrStops old front rest (Some stop) new = StopsAt old front rest stop new
 
--- what bytes are that end behind lines that a machine has followed: a log, or a first fault, before which the machine
--- stands
-abbrev pub EndsWith : Held → List ℕ → Result Verdict faults.Fault → Type 0
-EndsWith held bytes (Ok (Yes steps roots)) = IsYes bytes steps roots × LeadsTo bytes held
-EndsWith held bytes (Ok (No line refusal)) = ⊥
-EndsWith held bytes (Err fault) =
-    IsFirstFault bytes fault.line fault.refusal × StopsBefore bytes true held fault.line (bytes_of fault.text)
-
--- a yes or a no, and after a no the text of the line at fault
-abbrev pub IsAnswered : Result Verdict faults.Fault → Result Verdict JudgeFault → List ℕ → Type 0
-IsAnswered (Ok verdict) answer text = answer ≡ Ok verdict
-IsAnswered (Err fault) answer text = (answer ≡ Ok (No fault.line fault.refusal)) × (text ≡ bytes_of fault.text)
-
--- the bytes begin with the line of a step, by which whatever run has led to what a machine held goes on to what it
--- holds
+-- the bytes begin with the line of a step, by which a machine goes from what it held to what it holds, before this rest
 abbrev pub TakesStep : Held → List ℕ → Held → List ℕ → Type 0
 TakesStep old bytes new rest =
-    (step : Step) × Begins IsInRange spelling 10 bytes (lines.Step step) rest
-    × ((rules_are : Rules) (roots : List DeclaredRoot) (steps : List Step) → Reaches old rules_are roots steps
-    → Reaches new rules_are roots (steps ++ step ∷ []))
-
--- they begin with the line of a step that the machine does not make, before this rest
-abbrev pub EndsStepAt : Held → List ℕ → List ℕ → StepEnd → Type 0
-EndsStepAt held bytes rest end =
-    (step : Step) × Begins IsInRange spelling 10 bytes (lines.Step step) rest × EndsFor held (lines.Step step) end
+    (step : Step) × Begins IsInRange spelling 10 bytes (lines.Step step) rest × Takes (at stages.Body old) (lines.Step step) (at stages.Body new)
 
 -- a step was taken from the front of the bytes; or none, and nothing has changed; or the one there isn't made, and
 -- nothing has changed
 abbrev pub TakesOne : Held → List ℕ → Result (Option (Bor (List ℕ))) StepEnd → Held → Type 0
 TakesOne old bytes (Ok (Some rest)) new = TakesStep old bytes new rest.now
 TakesOne old bytes (Ok None) new = new ≡ old
-TakesOne old bytes (Err end) new = ((behind : List ℕ) × EndsStepAt old bytes behind end) × (new ≡ old)
+TakesOne old bytes (Err end) new = EndsAt (at stages.Body old) bytes end × (new ≡ old)
+
+-- the bytes are the line of a step that the machine does not make
+abbrev pub EndsLine : Held → List ℕ → StepEnd → Type 0
+EndsLine held bytes end =
+    (step : Step) × Begins IsInRange spelling 10 bytes (lines.Step step) [] × EndsFor (at stages.Body held) (lines.Step step) end
 
 -- the bytes are the line of a step, which was taken, or isn't made; or they are none
 abbrev pub TakesAll : Held → List ℕ → Option (Result (Unit {0}) StepEnd) → Held → Type 0
 TakesAll old bytes (Some (Ok done)) new = TakesStep old bytes new []
-TakesAll old bytes (Some (Err end)) new = EndsStepAt old bytes [] end × (new ≡ old)
+TakesAll old bytes (Some (Err end)) new = EndsLine old bytes end × (new ≡ old)
 TakesAll old bytes None new = new ≡ old
-
--- the bytes are lines of steps, by which whatever run has led to what a machine held goes on to what it holds
-pub record TakesSteps (old : Held) (bytes : List ℕ) (new : Held) : Type 0 where
-  pub made : List Step
-  pub bytes_are : bytes ≡ text_of (map lines.Step made)
-  pub leads : (rules_are : Rules) (roots : List DeclaredRoot) (steps : List Step) → Reaches old rules_are roots steps
-      → Reaches new rules_are roots (steps ++ made)
 
 -- the bytes are neither one line with its line feed nor begin with more bytes than a line has
 abbrev pub IsNoLine : List ℕ → Type 0
 IsNoLine bytes = ((text : List ℕ) → IsLine bytes text [] → ⊥) × (IsTooLong bytes → ⊥)
+
+-- the `no` that stands whatever bytes follow, once a line is faulty
+abbrev pub verdict_so_far : Due → Option Verdict
+verdict_so_far (Refused line refusal text) = Some (No line refusal)
+verdict_so_far due = None
+
+-- which line is faulty, or that none is
+abbrev pub IsFaultOf : Due → Option faults.Fault → Type 0
+IsFaultOf due (Some fault) = due ≡ Refused fault.line fault.refusal (bytes_of fault.text)
+IsFaultOf due None = IsAtFault due → ⊥
+
+-- what is due where a log ends with these bytes, which are less than a line: they are faulty, or none after the end line
+abbrev pub due_at_end : Account → Due → List ℕ → Due
+due_at_end account Ended [] = Ended
+due_at_end account Ended rest = refused_at account Ended Misplaced rest
+due_at_end account (Refused line refusal text) rest = Refused line refusal text
+due_at_end account due rest = refused_at account due Truncated rest
+
+-- the verdict on a log that ends there, and after a no the text of the faulty line
+abbrev pub EndsIn : Stage → List ℕ → Verdict → List ℕ → Type 0
+EndsIn stage rest (Yes steps roots) text =
+    (due_at_end stage.account stage.due rest ≡ Ended) × (steps ≡ stage.account.steps) × (roots ≡ stage.account.roots)
+EndsIn stage rest (No line refusal) text = due_at_end stage.account stage.due rest ≡ Refused line refusal text
+
+-- a yes, or the faulty line
+abbrev pub EndsAs : Stage → List ℕ → Result Verdict faults.Fault → Type 0
+EndsAs stage rest (Ok (Yes steps roots)) = EndsIn stage rest (Yes steps roots) []
+EndsAs stage rest (Ok (No line refusal)) = ⊥
+EndsAs stage rest (Err fault) = EndsIn stage rest (No fault.line fault.refusal) (bytes_of fault.text)
+
+-- a verdict on bytes whose source has ended, or a no that stands whatever follows them; with what the machine holds
+-- then, and the text of the faulty line
+abbrev pub EndsWith : List ℕ → Bool → Held → Verdict → List ℕ → Type 0
+EndsWith bytes ended held verdict text =
+    IsVerdictOf bytes ended verdict × LeadsAfter bytes held verdict × StopsIn bytes ended held text verdict
+
+-- what follows a beginning, by what the next line has to be: nothing; or what begins with a faulty line, whatever follows
+abbrev pub IsRest : Due → Beginning → List ℕ → Type 0
+IsRest (Refused line refusal text) beginning rest =
+    (line ≡ length (lines_of beginning) + 1) × IsLastFront rest false text × ((more : List ℕ) → Refuses beginning (rest ++ more) refusal)
+IsRest due beginning rest = rest ≡ []
+
+-- the bytes are the text of a beginning that is accepted, whose account this is, and a rest: nothing, or what begins
+-- with the faulty line
+pub record IsReached (stage : Stage) (bytes : List ℕ) : Type 0 where
+  pub beginning : Beginning
+  pub rest : List ℕ
+  pub behind : IsBehind bytes beginning rest
+  pub account : stage.account ≡ account_before beginning
+  pub rest_is : IsRest stage.due beginning rest
 
 -- the bytes are whole lines that begin a log, whose steps have a run: none of them is a fault
 pub record BeginsWhole (bytes : List ℕ) : Type 0 where
@@ -202,9 +232,7 @@ abbrev pub Stands : List ℕ → Option Verdict → Type 0
 Stands bytes None = BeginsWhole bytes
 Stands bytes (Some verdict) = IsVerdictOf bytes false verdict
 
--- how a log that begins with these bytes stands, and where: none of its lines so far is a fault; or one is, whatever
--- bytes follow, whose text is this, and the machine holds what the lines before it lead to
-abbrev pub StandsIn : Held → List ℕ → Option faults.Fault → Type 0
-StandsIn held bytes None = BeginsWhole bytes
-StandsIn held bytes (Some fault) =
-    IsVerdictOf bytes false (No fault.line fault.refusal) × StopsBefore bytes false held fault.line (bytes_of fault.text)
+-- a yes or a no, and after a no the text of the line at fault
+abbrev pub IsAnswered : Result Verdict faults.Fault → Result Verdict JudgeFault → List ℕ → Type 0
+IsAnswered (Ok verdict) answer text = answer ≡ Ok verdict
+IsAnswered (Err fault) answer text = (answer ≡ Ok (No fault.line fault.refusal)) × (text ≡ bytes_of fault.text)

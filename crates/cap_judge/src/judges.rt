@@ -2,23 +2,23 @@
 //! lines that stand there.
 
 ghost use Rattle.std.specs.Prelude.{◌≡◌, ◌≤◌, ◌<◌, ◌^◌, ◌↔◌, ◌⊎◌, ℕ, List, [], ◌++◌, length, take, drop, true, false, Err, None, IfSome};
-ghost use Rattle.std.specs.Prelude.{OnOk, IfErr, ◌≢◌, ◌∷◌, ◌+◌, IfOk};
+ghost use Rattle.std.specs.Prelude.{OnOk, IfErr, ◌≢◌, ◌∷◌, ◌+◌, IfOk, Some};
 ghost use Rattle.cap_log.specs.Front.{IsCut, IsFrontText, IsLine, IsTooLong};
 ghost use Rattle.cap_machine.specs.States.{granule_key, key_of};
-ghost use Rattle.cap_judge.specs.Expectations.{Expects};
-ghost use Rattle.cap_judge.specs.Judgings.{account_before};
-ghost use Rattle.cap_judge.specs.Logs.{MayLackMemory, Beginning, has_form, header_lines, lines_of};
-ghost use Rattle.cap_judge.specs.Verdicts.{EscapesExactly, IsGuarded, IsVerdict, NamesEscapes};
-ghost use Rattle.cap_judge.specs.Readings.{BeginsWhole, EndsStepAt, EndsWith, HasRead, IsNoLine, Stands, StopsAt, known_of, StandsIn};
-ghost use Rattle.cap_judge.specs.Readings.{EndsAt, EndsFor, EndsFrom, Faults, GoesOn, GoesOrStops, IsAfter, IsAtFault, rules_of};
+ghost use Rattle.cap_judge.specs.Expectations.{ExpectsAt};
+ghost use Rattle.cap_judge.specs.Logs.{has_form, header_lines};
+ghost use Rattle.cap_judge.specs.Verdicts.{NamesEscapes};
+ghost use Rattle.cap_judge.specs.Turns.{refusal_at, rules_of, unread};
+ghost use Rattle.cap_judge.specs.Readings.{EndsAs, EndsAt, EndsFor, EndsIn, EndsLine, Faults, Follows, Goes, GoesOrStops, IsAtFault};
+ghost use Rattle.cap_judge.specs.Readings.{IsFaultOf, IsNoLine, Lacks, RefusesNext, StopsAt, Takes, known_of, lines_read, long_refusal, stage_of};
+ghost use Rattle.cap_judge.specs.Readings.{verdict_so_far};
 ghost use Rattle.cap_judge.specs.declared.judges.Stage.TheVariants.{Body, Refused as RefusedIn, Mode as ModeStage, Version};
 ghost use Rattle.cap_judge.specs.declared.faults.Fault.{Fault as FaultIn};
 ghost use Rattle.cap_judge.specs.declared.verdict.TakeFault.TheVariants.{NoLine, NoMemory};
-ghost use Rattle.cap_log.specs.Lines.{IsStepInRange, spelling, IsInRange, IsPlace, Spells};
-ghost use Rattle.cap_log.specs.Parts.{BeginsWithNone};
+ghost use Rattle.cap_log.specs.Lines.{IsStepInRange, spelling, IsInRange, IsPlace};
+ghost use Rattle.cap_log.specs.Parts.{Begins, BeginsWithNone};
 ghost use Rattle.cap_log.specs.declared.lines.Line.{Line};
 ghost use Rattle.cap_machine.specs.Helds.{account_of};
-ghost use Rattle.cap_machine.specs.declared.ends.StepEnd.TheVariants.{Refused};
 ghost use Rattle.cap_ops.specs.declared.refusal.Refusal.TheVariants.{BadLine, Misplaced};
 ghost use Rattle.cap_log.specs.FaultLines.{bytes_of};
 ghost use Rattle.std.specs.FinMap as map;
@@ -81,7 +81,7 @@ pub struct Judge<M: TaggedStore> {
 impl Judge<PageStore> {
     /// Nothing was read yet. It takes no memory.
     pub fn over_pages(alloc: Global) -> Judge<PageStore>
-        ensures read { HasRead result [] }
+        ensures read { stage_of result ≡ unread }
     {
         Judge::new(PageStore::new(alloc))
     }
@@ -91,7 +91,7 @@ impl<M: TaggedStore> Judge<M> {
     /// Nothing was read yet. The store has to be empty.
     pub fn new(memory: M) -> Judge<M>
         requires { map.len (M.contents memory) ≡ 0 }
-        ensures read { HasRead result [] }
+        ensures read { stage_of result ≡ unread }
     {
         Judge {
             machine: Machine::new(memory),
@@ -105,8 +105,8 @@ impl<M: TaggedStore> Judge<M> {
     /// follows, and from then on the count is 0.
     pub fn take(&mut self, bytes: &[u8]) -> Taken
         ensures count { result.count ≤ length bytes.now }
-        ensures stops { StopsAt (known_of self.old) (take result.count bytes.now) (drop result.count bytes.now)
-            result.stop (known_of self.new) }
+        ensures stops { StopsAt (stage_of self.old) (take result.count bytes.now) (drop result.count bytes.now)
+            result.stop (stage_of self.new) }
     {
         let mut rest = bytes;
         'lines: loop {
@@ -123,15 +123,12 @@ impl<M: TaggedStore> Judge<M> {
     /// aren't one line with its line feed, unless more than 95 of them come before any, which is a line that is too
     /// long; and a line for which memory runs out. That line may be handed over again.
     pub fn take_line(&mut self, line: &[u8]) -> Result<(), TakeFault>
-        // Whatever bytes were read before, these are read after them.
-        ensures taken { OnOk result ((bytes : List ℕ) → HasRead self.old bytes
-            → HasRead self.new (bytes ++ line.now)) }
+        ensures taken { OnOk result (Follows (stage_of self.old) line.now (stage_of self.new)) }
         ensures unchanged { IfErr result (λ _. known_of self.new ≡ known_of self.old) }
         ensures no_line { (result ≡ Err NoLine) ↔ IsNoLine line.now }
 
         // Memory is wanted only where this very line, which no check refuses, names a granule for the first time.
-        ensures no_memory { result ≡ Err NoMemory → (bytes : List ℕ) → HasRead self.old bytes
-            → MayLackMemory (bytes ++ line.now) [] }
+        ensures no_memory { result ≡ Err NoMemory → Lacks (stage_of self.old) line.now [] }
     {
         if let Stage::Body = self.stage {
             return self.take_body(line);
@@ -142,8 +139,7 @@ impl<M: TaggedStore> Judge<M> {
     /// `None` exactly while the lines so far begin a log, and otherwise the `no` that stays whatever lines
     /// follow. It is never a `yes`, since after the end line of a log too a line may follow.
     pub fn answer(&self) -> Option<Verdict>
-        ensures stands { (bytes : List ℕ) → HasRead self.now bytes → Stands bytes result }
-        ensures none { (bytes : List ℕ) → HasRead self.now bytes → BeginsWhole bytes → result ≡ None }
+        ensures so_far { result ≡ verdict_so_far (stage_of self.now).due }
         ensures escape { IfSome result NamesEscapes }
     {
         match &self.stage {
@@ -154,9 +150,8 @@ impl<M: TaggedStore> Judge<M> {
 
     /// The verdict if no other bytes follow than these, which are less than a line.
     pub fn end(&self, rest: &[u8]) -> Verdict
-        ensures verdict { (bytes : List ℕ) → HasRead self.now bytes → IsCut rest.now → IsVerdict (bytes ++ rest.now) result }
-        ensures authority { (bytes : List ℕ) → HasRead self.now bytes → IsGuarded (bytes ++ rest.now) }
-        ensures escape { (bytes : List ℕ) → HasRead self.now bytes → EscapesExactly (bytes ++ rest.now) result }
+        ensures verdict { IsCut rest.now → (text : List ℕ) × EndsIn (stage_of self.now) rest.now result text }
+        ensures escape { NamesEscapes result }
     {
         match self.ending(rest) {
             Ok(verdict) => verdict,
@@ -166,7 +161,7 @@ impl<M: TaggedStore> Judge<M> {
 
     /// After a `no` for a step's result, the result that the rules give for that step; otherwise `None`.
     pub fn expected(&self) -> Option<Expected>
-        ensures expects { (bytes : List ℕ) → HasRead self.now bytes → Expects bytes result }
+        ensures expects { ExpectsAt (stage_of self.now).account (stage_of self.now).due result }
     {
         match &self.stage {
             Stage::Refused(fault) => match fault.refusal {
@@ -180,8 +175,7 @@ impl<M: TaggedStore> Judge<M> {
     /// What a register holds after the lines so far, or before the faulty line. Register 0 is c0.
     pub fn register(&self, number: u8) -> Cap
         requires { number ≤ 31 }
-        ensures holds { (bytes : List ℕ) → (read : HasRead self.now bytes)
-            → result ≡ (account_before read.beginning).state number }
+        ensures holds { result ≡ (stage_of self.now).account.state number }
     {
         self.machine.register(number)
     }
@@ -190,8 +184,7 @@ impl<M: TaggedStore> Judge<M> {
     /// address `16 * granule` on.
     pub fn granule(&self, granule: u64) -> Cap
         requires { granule < 2 ^ 60 }
-        ensures holds { (bytes : List ℕ) → (read : HasRead self.now bytes)
-            → result ≡ (account_before read.beginning).state (granule_key granule) }
+        ensures holds { result ≡ (stage_of self.now).account.state (granule_key granule) }
     {
         self.machine.granule(granule)
     }
@@ -200,8 +193,7 @@ impl<M: TaggedStore> Judge<M> {
     /// line. `None` if it is untagged.
     pub fn origin(&self, place: Place) -> Option<Place>
         requires { IsPlace place }
-        ensures holds { (bytes : List ℕ) → (read : HasRead self.now bytes)
-            → result ≡ (account_before read.beginning).origin (key_of place) }
+        ensures holds { result ≡ (stage_of self.now).account.origin (key_of place) }
         ensures in_range { IfSome result IsPlace }
     {
         self.machine.origin(place)
@@ -211,12 +203,10 @@ impl<M: TaggedStore> Judge<M> {
     #[inline(always)]
     fn take_body(&mut self, line: &[u8]) -> Result<(), TakeFault>
         requires body { self.old.stage ≡ Body }
-        ensures taken { OnOk result ((bytes : List ℕ) → HasRead self.old bytes
-            → HasRead self.new (bytes ++ line.now)) }
+        ensures taken { OnOk result (Follows (stage_of self.old) line.now (stage_of self.new)) }
         ensures unchanged { IfErr result (λ _. known_of self.new ≡ known_of self.old) }
         ensures no_line { (result ≡ Err NoLine) ↔ IsNoLine line.now }
-        ensures no_memory { result ≡ Err NoMemory → (bytes : List ℕ) → HasRead self.old bytes
-            → MayLackMemory (bytes ++ line.now) [] }
+        ensures no_memory { result ≡ Err NoMemory → Lacks (stage_of self.old) line.now [] }
     {
         match take_alone(&mut self.machine, line) {
             Some(Ok(())) => Ok(()),
@@ -228,12 +218,10 @@ impl<M: TaggedStore> Judge<M> {
     // Takes bytes of any kind as one line.
     #[inline(never)]
     fn take_whole(&mut self, line: &[u8]) -> Result<(), TakeFault>
-        ensures taken { OnOk result ((bytes : List ℕ) → HasRead self.old bytes
-            → HasRead self.new (bytes ++ line.now)) }
+        ensures taken { OnOk result (Follows (stage_of self.old) line.now (stage_of self.new)) }
         ensures unchanged { IfErr result (λ _. known_of self.new ≡ known_of self.old) }
         ensures no_line { (result ≡ Err NoLine) ↔ IsNoLine line.now }
-        ensures no_memory { result ≡ Err NoMemory → (bytes : List ℕ) → HasRead self.old bytes
-            → MayLackMemory (bytes ++ line.now) [] }
+        ensures no_memory { result ≡ Err NoMemory → Lacks (stage_of self.old) line.now [] }
     {
         if !is_whole(line) {
             return Err(TakeFault::NoLine);
@@ -250,12 +238,10 @@ impl<M: TaggedStore> Judge<M> {
     #[inline(never)]
     fn take_end(&mut self, end: StepEnd, line: &[u8]) -> Result<(), TakeFault>
         requires body { self.old.stage ≡ Body }
-        requires ends { EndsStepAt self.old.machine line.now [] end }
-        ensures taken { OnOk result ((bytes : List ℕ) → HasRead self.old bytes
-            → HasRead self.new (bytes ++ line.now)) }
+        requires ends { EndsLine self.old.machine line.now end }
+        ensures taken { OnOk result (Follows (stage_of self.old) line.now (stage_of self.new)) }
         ensures unchanged { IfErr result (λ _. known_of self.new ≡ known_of self.old) }
-        ensures no_memory { IfErr result (λ fault. (fault ≡ NoMemory) × ((bytes : List ℕ) → HasRead self.old bytes
-            → MayLackMemory (bytes ++ line.now) [])) }
+        ensures no_memory { IfErr result (λ fault. (fault ≡ NoMemory) × Lacks (stage_of self.old) line.now []) }
     {
         match self.stop(end, line) {
             Stop::NoMemory => Err(TakeFault::NoMemory),
@@ -265,8 +251,7 @@ impl<M: TaggedStore> Judge<M> {
 
     /// The verdict if no other bytes follow than these, which are less than a line: a `yes`, or the faulty line.
     pub fn ending(&self, rest: &[u8]) -> Result<Verdict, Fault>
-        ensures ends { (bytes : List ℕ) → HasRead self.now bytes → IsCut rest.now
-            → EndsWith self.now.machine (bytes ++ rest.now) result }
+        ensures ends { IsCut rest.now → EndsAs (stage_of self.now) rest.now result }
         ensures fault { (fault : FaultIn) → self.now.stage ≡ RefusedIn fault → result ≡ Err fault }
     {
         match &self.stage {
@@ -294,8 +279,7 @@ impl<M: TaggedStore> Judge<M> {
 
     /// The faulty line, where one is: its `no` stays whatever lines follow.
     pub fn refused(&self) -> Option<Fault>
-        ensures stands { (bytes : List ℕ) → HasRead self.now bytes
-            → StandsIn (known_of self.now).held bytes result }
+        ensures fault { IsFaultOf (stage_of self.now).due result }
     {
         match &self.stage {
             Stage::Refused(fault) => Some(*fault),
@@ -308,12 +292,11 @@ impl<M: TaggedStore> Judge<M> {
     /// If memory runs out, nothing has changed, and the step may be handed over again.
     #[inline(always)]
     pub fn take_step<I: Instruction>(&mut self, step: I) -> Result<(), TakeFault>
-        ensures taken { OnOk result ((bytes : List ℕ) → HasRead self.old bytes
-            → HasRead self.new (bytes ++ (spelling (lines.Step (I.step step)) ++ 10 ∷ []))) }
+        ensures taken { OnOk result (Follows (stage_of self.old) (spelling (lines.Step (I.step step)) ++ 10 ∷ [])
+            (stage_of self.new)) }
         ensures unchanged { IfErr result (λ _. known_of self.new ≡ known_of self.old) }
         ensures line { result ≢ Err NoLine }
-        ensures no_memory { result ≡ Err NoMemory → (bytes : List ℕ) → HasRead self.old bytes
-            → MayLackMemory (bytes ++ (spelling (lines.Step (I.step step)) ++ 10 ∷ [])) [] }
+        ensures no_memory { result ≡ Err NoMemory → Lacks (stage_of self.old) (spelling (lines.Step (I.step step)) ++ 10 ∷ []) [] }
     {
         if let Stage::Body = self.stage {
             return match step.perform(&mut self.machine) {
@@ -328,12 +311,11 @@ impl<M: TaggedStore> Judge<M> {
     // made.
     #[inline(always)]
     fn take_unmade<I: Instruction>(&mut self, step: I) -> Result<(), TakeFault>
-        ensures taken { OnOk result ((bytes : List ℕ) → HasRead self.old bytes
-            → HasRead self.new (bytes ++ (spelling (lines.Step (I.step step)) ++ 10 ∷ []))) }
+        ensures taken { OnOk result (Follows (stage_of self.old) (spelling (lines.Step (I.step step)) ++ 10 ∷ [])
+            (stage_of self.new)) }
         ensures unchanged { IfErr result (λ _. known_of self.new ≡ known_of self.old) }
         ensures line { result ≢ Err NoLine }
-        ensures no_memory { result ≡ Err NoMemory → (bytes : List ℕ) → HasRead self.old bytes
-            → MayLackMemory (bytes ++ (spelling (lines.Step (I.step step)) ++ 10 ∷ [])) [] }
+        ensures no_memory { result ≡ Err NoMemory → Lacks (stage_of self.old) (spelling (lines.Step (I.step step)) ++ 10 ∷ []) [] }
     {
         step.in_range();
         self.take_written(step.into_step())
@@ -343,12 +325,11 @@ impl<M: TaggedStore> Judge<M> {
     #[inline(never)]
     fn take_written(&mut self, step: Step) -> Result<(), TakeFault>
         requires { IsStepInRange step }
-        ensures taken { OnOk result ((bytes : List ℕ) → HasRead self.old bytes
-            → HasRead self.new (bytes ++ (spelling (lines.Step step) ++ 10 ∷ []))) }
+        ensures taken { OnOk result (Follows (stage_of self.old) (spelling (lines.Step step) ++ 10 ∷ [])
+            (stage_of self.new)) }
         ensures unchanged { IfErr result (λ _. known_of self.new ≡ known_of self.old) }
         ensures line { result ≢ Err NoLine }
-        ensures no_memory { result ≡ Err NoMemory → (bytes : List ℕ) → HasRead self.old bytes
-            → MayLackMemory (bytes ++ (spelling (lines.Step step) ++ 10 ∷ [])) [] }
+        ensures no_memory { result ≡ Err NoMemory → Lacks (stage_of self.old) (spelling (lines.Step step) ++ 10 ∷ []) [] }
     {
         let mut buffer = [0; 96];
         let length = write_line(&Line::Step(step), &mut buffer);
@@ -359,7 +340,7 @@ impl<M: TaggedStore> Judge<M> {
     /// stopped, if it did.
     pub(crate) fn take_some<'a>(&mut self, bytes: &'a [u8]) -> (&'a [u8], Option<Stop>)
         ensures { (front : List ℕ) × (bytes.now ≡ front ++ result.0.now)
-            × GoesOrStops (known_of self.old) front result.0.now result.1 (known_of self.new) }
+            × GoesOrStops (stage_of self.old) front result.0.now result.1 (stage_of self.new) }
     {
         let (rest, end) = self.take_front(bytes);
         if let Some(end) = end {
@@ -375,9 +356,9 @@ impl<M: TaggedStore> Judge<M> {
     #[inline(always)]
     fn take_front<'a>(&mut self, bytes: &'a [u8]) -> (&'a [u8], Option<StepEnd>)
         ensures taken { (front : List ℕ) × (bytes.now ≡ front ++ result.0.now)
-            × GoesOn (known_of self.old) front (known_of self.new) }
-        ensures end { IfSome result.1 (λ end. EndsAt (known_of self.new) result.0.now end
-            × (IsCut result.0.now → ⊥) × (IsAtFault self.new.stage → ⊥)) }
+            × Goes (stage_of self.old) front (stage_of self.new) }
+        ensures end { IfSome result.1 (λ end. EndsAt (stage_of self.new) result.0.now end
+            × (IsAtFault (stage_of self.new).due → ⊥)) }
     {
         match self.stage {
             Stage::Body => take_steps(&mut self.machine, bytes),
@@ -388,9 +369,9 @@ impl<M: TaggedStore> Judge<M> {
     /// Takes the line at the front of some bytes, whatever it is: what follows it.
     #[inline(never)]
     pub(crate) fn take_any<'a>(&mut self, bytes: &'a [u8]) -> Result<&'a [u8], Stop>
-        ensures ok { IfOk result (λ rest. (text : List ℕ) × IsLine bytes.now text rest.now
-            × GoesOn (known_of self.old) (text ++ 10 ∷ []) (known_of self.new)) }
-        ensures err { IfErr result (λ stop. StopsAt (known_of self.old) [] bytes.now stop (known_of self.new)) }
+        ensures ok { IfOk result (λ rest. (line : Line) × Begins IsInRange spelling 10 bytes.now line rest.now
+            × Takes (stage_of self.old) line (stage_of self.new)) }
+        ensures err { IfErr result (λ stop. StopsAt (stage_of self.old) [] bytes.now stop (stage_of self.new)) }
         ensures same { IfErr result (λ stop. stop ≢ stops.Fault → known_of self.new ≡ known_of self.old) }
     {
         if self.is_at_fault() {
@@ -407,8 +388,8 @@ impl<M: TaggedStore> Judge<M> {
 
     // Whether a line was faulty.
     fn is_at_fault(&self) -> bool
-        ensures at { result ≡ true → IsAtFault self.now.stage }
-        ensures none { result ≡ false → IsAtFault self.now.stage → ⊥ }
+        ensures at { result ≡ true → IsAtFault (stage_of self.now).due }
+        ensures none { result ≡ false → IsAtFault (stage_of self.now).due → ⊥ }
     {
         match self.stage {
             Stage::Refused(_) => true,
@@ -418,10 +399,9 @@ impl<M: TaggedStore> Judge<M> {
 
     /// Stops at a line that is not taken.
     pub(crate) fn stop(&mut self, end: StepEnd, bytes: &[u8]) -> Stop
-        requires clear { IsAtFault self.old.stage → ⊥ }
-        requires uncut { IsCut bytes.now → ⊥ }
-        requires ends { EndsAt (known_of self.old) bytes.now end }
-        ensures stops { StopsAt (known_of self.old) [] bytes.now result (known_of self.new) }
+        requires clear { IsAtFault (stage_of self.old).due → ⊥ }
+        requires ends { EndsAt (stage_of self.old) bytes.now end }
+        ensures stops { StopsAt (stage_of self.old) [] bytes.now result (stage_of self.new) }
         ensures same { result ≢ stops.Fault → known_of self.new ≡ known_of self.old }
         ensures uncut { result ≢ stops.Cut }
     {
@@ -436,9 +416,9 @@ impl<M: TaggedStore> Judge<M> {
 
     // Stops at bytes that no line in range begins.
     fn stop_formless(&mut self, bytes: &[u8]) -> Stop
-        requires clear { IsAtFault self.old.stage → ⊥ }
+        requires clear { IsAtFault (stage_of self.old).due → ⊥ }
         requires none { BeginsWithNone IsInRange spelling 10 bytes.now }
-        ensures stops { StopsAt (known_of self.old) [] bytes.now result (known_of self.new) }
+        ensures stops { StopsAt (stage_of self.old) [] bytes.now result (stage_of self.new) }
         ensures same { result ≢ stops.Fault → known_of self.new ≡ known_of self.old }
     {
         match front(bytes) {
@@ -451,20 +431,16 @@ impl<M: TaggedStore> Judge<M> {
     // Takes the faulty line.
     #[inline(never)]
     fn refuse(&mut self, refusal: Refusal, bytes: &[u8])
-        requires clear { IsAtFault self.old.stage → ⊥ }
-        requires uncut { IsCut bytes.now → ⊥ }
-        requires refused { EndsAt (known_of self.old) bytes.now (Refused refusal) }
-        ensures taken { Faults (known_of self.old) [] bytes.now (known_of self.new) }
-        ensures fault { IsAtFault self.new.stage }
+        requires clear { IsAtFault (stage_of self.old).due → ⊥ }
+        requires refused { RefusesNext (stage_of self.old) bytes.now refusal }
+        ensures { Faults (stage_of self.old) bytes.now (stage_of self.new) }
     {
         self.stage = Stage::Refused(self.fault(refusal, bytes));
     }
 
     /// The next line, which these bytes begin with, as the faulty line.
     pub(crate) fn fault(&self, refusal: Refusal, bytes: &[u8]) -> Fault
-        requires clear { IsAtFault self.now.stage → ⊥ }
-        ensures line { (beginning : Beginning) → IsAfter self.now.stage self.now.machine beginning
-            → result.line ≡ length (lines_of beginning) + 1 }
+        ensures line { result.line ≡ lines_read (stage_of self.now).account (stage_of self.now).due + 1 }
         ensures refusal { result.refusal ≡ refusal }
         ensures front { IsFrontText bytes.now (bytes_of result.text) }
     {
@@ -477,9 +453,7 @@ impl<M: TaggedStore> Judge<M> {
 
     // The number of the next line.
     fn next_line(&self) -> u64
-        requires clear { IsAtFault self.now.stage → ⊥ }
-        ensures { (beginning : Beginning) → IsAfter self.now.stage self.now.machine beginning
-            → result ≡ length (lines_of beginning) + 1 }
+        ensures { result ≡ lines_read (stage_of self.now).account (stage_of self.now).due + 1 }
     {
         let roots = u64::from(self.machine.roots());
         let behind = header_length(self.machine.rules()) + roots + u64::from(self.machine.steps());
@@ -493,8 +467,7 @@ impl<M: TaggedStore> Judge<M> {
 
     // Why more bytes than a line has are refused.
     fn refusal_of_long(&self) -> Refusal
-        requires clear { IsAtFault self.now.stage → ⊥ }
-        ensures { (bytes : List ℕ) → IsTooLong bytes → EndsAt (known_of self.now) bytes (Refused result) }
+        ensures { result ≡ long_refusal (stage_of self.now).due }
     {
         match self.stage {
             Stage::Version | Stage::Mode | Stage::Body => Refusal::LineTooLong,
@@ -504,9 +477,7 @@ impl<M: TaggedStore> Judge<M> {
 
     // Why a line is refused that has no form.
     fn refusal_of_formless(&self) -> Refusal
-        requires clear { IsAtFault self.now.stage → ⊥ }
-        ensures { (bytes text more : List ℕ) → IsLine bytes text more → ((line : Line) → Spells text line → ⊥)
-            → EndsAt (known_of self.now) bytes (Refused result) }
+        ensures { refusal_at (stage_of self.now).account (stage_of self.now).due None ≡ Some result }
     {
         match self.stage {
             Stage::Version => Refusal::BadHeader,
@@ -518,10 +489,9 @@ impl<M: TaggedStore> Judge<M> {
 
     // Goes on by a line.
     fn follow(&mut self, line: &Line) -> Result<(), StepEnd>
-        requires clear { IsAtFault self.old.stage → ⊥ }
         requires in_range { IsInRange line.now }
-        ensures ok { OnOk result (GoesOn (known_of self.old) (spelling line.now ++ 10 ∷ []) (known_of self.new)) }
-        ensures err { IfErr result (EndsFrom (known_of self.old) line.now) }
+        ensures ok { OnOk result (Takes (stage_of self.old) line.now (stage_of self.new)) }
+        ensures err { IfErr result (EndsFor (stage_of self.old) line.now) }
         ensures same { IfErr result (λ _. known_of self.new ≡ known_of self.old) }
     {
         match self.stage {
@@ -536,8 +506,8 @@ impl<M: TaggedStore> Judge<M> {
     fn follow_version(&mut self, line: &Line) -> Result<(), StepEnd>
         requires version { self.old.stage ≡ Version }
         requires in_range { IsInRange line.now }
-        ensures ok { OnOk result (GoesOn (known_of self.old) (spelling line.now ++ 10 ∷ []) (known_of self.new)) }
-        ensures err { IfErr result (EndsFrom (known_of self.old) line.now) }
+        ensures ok { OnOk result (Takes (stage_of self.old) line.now (stage_of self.new)) }
+        ensures err { IfErr result (EndsFor (stage_of self.old) line.now) }
         ensures same { IfErr result (λ _. known_of self.new ≡ known_of self.old) }
     {
         match *line {
@@ -558,8 +528,8 @@ impl<M: TaggedStore> Judge<M> {
     fn follow_mode(&mut self, line: &Line) -> Result<(), StepEnd>
         requires mode { self.old.stage ≡ ModeStage }
         requires in_range { IsInRange line.now }
-        ensures ok { OnOk result (GoesOn (known_of self.old) (spelling line.now ++ 10 ∷ []) (known_of self.new)) }
-        ensures err { IfErr result (EndsFrom (known_of self.old) line.now) }
+        ensures ok { OnOk result (Takes (stage_of self.old) line.now (stage_of self.new)) }
+        ensures err { IfErr result (EndsFor (stage_of self.old) line.now) }
         ensures same { IfErr result (λ _. known_of self.new ≡ known_of self.old) }
     {
         match *line {
@@ -576,8 +546,8 @@ impl<M: TaggedStore> Judge<M> {
     fn follow_body(&mut self, line: &Line) -> Result<(), StepEnd>
         requires body { self.old.stage ≡ Body }
         requires in_range { IsInRange line.now }
-        ensures ok { OnOk result (GoesOn (known_of self.old) (spelling line.now ++ 10 ∷ []) (known_of self.new)) }
-        ensures err { IfErr result (EndsFrom (known_of self.old) line.now) }
+        ensures ok { OnOk result (Takes (stage_of self.old) line.now (stage_of self.new)) }
+        ensures err { IfErr result (EndsFor (stage_of self.old) line.now) }
         ensures same { IfErr result (λ _. known_of self.new ≡ known_of self.old) }
     {
         match *line {
@@ -592,9 +562,8 @@ impl<M: TaggedStore> Judge<M> {
     fn follow_root(&mut self, place: Place, word: Word) -> Result<(), StepEnd>
         requires body { self.old.stage ≡ Body }
         requires in_range { IsPlace place }
-        ensures ok { OnOk result (GoesOn (known_of self.old) (spelling (lines.Root place word) ++ 10 ∷ [])
-            (known_of self.new)) }
-        ensures err { IfErr result (EndsFor self.old.machine (lines.Root place word)) }
+        ensures ok { OnOk result (Takes (stage_of self.old) (lines.Root place word) (stage_of self.new)) }
+        ensures err { IfErr result (EndsFor (stage_of self.old) (lines.Root place word)) }
         ensures same { IfErr result (λ _. known_of self.new ≡ known_of self.old) }
     {
         if self.machine.steps() > 0 {
@@ -606,9 +575,8 @@ impl<M: TaggedStore> Judge<M> {
     // Goes on by the end line.
     fn follow_end(&mut self, count: u32) -> Result<(), StepEnd>
         requires body { self.old.stage ≡ Body }
-        ensures ok { OnOk result (GoesOn (known_of self.old) (spelling (lines.End count) ++ 10 ∷ [])
-            (known_of self.new)) }
-        ensures err { IfErr result (EndsFor self.old.machine (lines.End count)) }
+        ensures ok { OnOk result (Takes (stage_of self.old) (lines.End count) (stage_of self.new)) }
+        ensures err { IfErr result (EndsFor (stage_of self.old) (lines.End count)) }
         ensures same { IfErr result (λ _. known_of self.new ≡ known_of self.old) }
     {
         if count != self.machine.steps() {

@@ -1,10 +1,11 @@
 //! Judging bytes in memory all at once, where the machine of the judge is kept.
 
-ghost use Rattle.std.specs.Prelude.{◌≡◌, []};
+ghost use Rattle.std.specs.Prelude.{◌≡◌};
 ghost use Rattle.std.specs.FinMap as map;
 ghost use Rattle.cap_log.specs.FaultLines.{bytes_of};
 ghost use Rattle.cap_judge.specs.Judgings.{JudgedAll};
-ghost use Rattle.cap_judge.specs.Readings.{HasRead};
+ghost use Rattle.cap_judge.specs.Readings.{stage_of};
+ghost use Rattle.cap_judge.specs.Turns.{unread};
 
 use crate::judges::{Judge, Stop};
 use crate::streams::{Judging, answered};
@@ -33,7 +34,7 @@ fn judge_all<M: TaggedStore>(
     judge: &mut Judge<M>,
     bytes: &[u8],
 ) -> (Result<Verdict, JudgeFault>, FaultLine)
-    requires begun { HasRead judge.old [] }
+    requires begun { stage_of judge.old ≡ unread }
     ensures judged { JudgedAll bytes.now result.0 judge.new.machine (bytes_of result.1) }
 {
     let taken = judge.take(bytes);

@@ -1,6 +1,6 @@
 //! Laws about logs. Their functions do nothing: what each says is its contract.
 
-ghost use Rattle.std.specs.Prelude.{◌≡◌, ◌↔◌, ℕ, List};
+ghost use Rattle.std.specs.Prelude.{◌≡◌, ◌↔◌, ◌++◌, ℕ, Bool, List, None, Option, true};
 ghost use Rattle.std.specs.List.{AllByRecursion};
 ghost use Rattle.cap_log.specs.Lines.{IsInRange};
 ghost use Rattle.cap_log.specs.declared.kinds.Step.{Step};
@@ -8,8 +8,15 @@ ghost use Rattle.cap_machine.specs.declared.rules.Rules.{Rules};
 ghost use Rattle.cap_machine.specs.States.{DeclaredRoot, State, start};
 ghost use Rattle.cap_machine.specs.Runs.{IsRun};
 ghost use Rattle.cap_machine.specs.Escapes.{ClearsExactly};
-ghost use Rattle.cap_judge.specs.Logs.{Beginning, IsAccepted, IsLogOf, lines_of};
-ghost use Rattle.cap_judge.specs.Turns.{Reads, Stage, Unread};
+ghost use Rattle.cap_judge.specs.Logs.{Beginning, IsAccepted, IsLogOf, MayLackMemory, lines_of};
+ghost use Rattle.cap_judge.specs.Expectations.{Expects, ExpectsAt};
+ghost use Rattle.cap_judge.specs.Readings.{BeginsWhole, EndsIn, EndsWith, Faults, Follows, Goes, IsReached, Lacks, Stands, verdict_so_far};
+ghost use Rattle.cap_judge.specs.Turns.{Reads, Refused, Stage, unread};
+ghost use Rattle.cap_judge.specs.declared.verdict.Expected.{Expected};
+ghost use Rattle.cap_judge.specs.declared.verdict.Verdict.TheVariants.{No};
+ghost use Rattle.cap_log.specs.Front.{IsCut};
+ghost use Rattle.cap_machine.specs.Helds.{Held, account_of};
+ghost use Rattle.cap_ops.specs.declared.refusal.Refusal.{Refusal};
 ghost use Rattle.cap_judge.specs.declared.verdict.Verdict.{Verdict};
 ghost use Rattle.cap_judge.specs.Verdicts.{IsByVersionOne, IsGuarded, IsOfVersionOne, IsVerdict, IsVerdictOne, NamesEscapes};
 
@@ -48,7 +55,45 @@ pub fn other_bytes_are_of_version_one()
 /// test of a line holds in what the lines before it lead to.
 pub fn accepted_in_turn()
     ensures law { (beginning : Beginning) → IsAccepted beginning
-        ↔ (AllByRecursion IsInRange (lines_of beginning) × ((stage : Stage) × Reads Unread (lines_of beginning) stage)) }
+        ↔ (AllByRecursion IsInRange (lines_of beginning) × ((stage : Stage) × Reads unread (lines_of beginning) stage)) }
+{}
+
+/// Where a [`Judge`](crate::Judge) is once it has read some bytes: its stage is that of the beginning of a log, and of
+/// the first fault if a line is faulty. So what the calls of a judge say of its stage is said of the bytes.
+pub fn stages_are_of_logs()
+    // The stage has the account of a beginning: what follows that is nothing, or begins with the faulty line.
+    ensures reached { (bytes : List ℕ) (stage : Stage) → Follows unread bytes stage → IsReached stage bytes }
+
+    // The faulty line begins what stands after the lines that were taken.
+    ensures after { (front rest : List ℕ) (middle new : Stage) → Goes unread front middle → Faults middle rest new
+        → (is : IsReached new (front ++ rest)) × (is.rest ≡ rest) }
+
+    // No line is faulty exactly while the lines so far begin a log; otherwise the `no` stays whatever lines follow.
+    ensures stands { (bytes : List ℕ) (stage : Stage) → Follows unread bytes stage → Stands bytes (verdict_so_far stage.due) }
+    ensures none { (bytes : List ℕ) (stage : Stage) → Follows unread bytes stage → BeginsWhole bytes
+        → verdict_so_far stage.due ≡ None }
+
+    // The account is that of the lines before the faulty one, whose text is the stage's.
+    ensures fault { (bytes : List ℕ) (stage : Stage) (held : Held) (line : ℕ) (refusal : Refusal) (text : List ℕ) (ended : Bool)
+        → Follows unread bytes stage → account_of held ≡ stage.account → stage.due ≡ Refused line refusal text
+        → EndsWith bytes ended held (No line refusal) text }
+
+    // Memory is wanted only where a line that no check refuses names a granule for the first time.
+    ensures memory { (bytes rest more : List ℕ) (stage : Stage) → Follows unread bytes stage → Lacks stage rest more
+        → MayLackMemory (bytes ++ rest) more }
+
+    // How the log ends if no other bytes follow than these, which are less than a line.
+    ensures ends { (bytes rest : List ℕ) (stage : Stage) (held : Held) (verdict : Verdict) (text : List ℕ)
+        → Follows unread bytes stage → account_of held ≡ stage.account → IsCut rest → EndsIn stage rest verdict text
+        → EndsWith (bytes ++ rest) true held verdict text }
+
+    // What is told of the faulty line is what the rules give for its step, if it is refused for its result.
+    ensures expects { (bytes : List ℕ) (stage : Stage) (result : Option Expected) → Follows unread bytes stage
+        → ExpectsAt stage.account stage.due result → Expects bytes result }
+
+    // What is read after some bytes is read after all that was read before.
+    ensures goes_on { (first old new : Stage) (bytes more : List ℕ) → Follows first bytes old → Follows old more new
+        → Follows first (bytes ++ more) new }
 {}
 
 /// All bytes have a verdict: they are a log whose steps have a run, or there is a first fault.

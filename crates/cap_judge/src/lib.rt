@@ -24,7 +24,7 @@ pub use crate::judges::{Judge, Stop, Taken};
 pub use crate::keeping::judge_bytes_keeping;
 pub use crate::laws::{
     accepted_in_turn, escapes_are_named_exactly, logs_are_guarded, logs_clear_exactly, one_verdict,
-    other_bytes_are_of_version_one, some_verdict,
+    other_bytes_are_of_version_one, some_verdict, stages_are_of_logs,
 };
 pub use crate::origin_lines::origin_text;
 pub use crate::reporting::{judge_origins, judge_to, push_report, push_verdict};

@@ -2,7 +2,8 @@
 
 ghost use Rattle.std.specs.Prelude.{◌≡◌, ℕ, List, [], ◌++◌, false, IfSome};
 ghost use Rattle.cap_machine.specs.Helds.{AnswersStep};
-ghost use Rattle.cap_judge.specs.Readings.{EndsStepAt, TakesAll, TakesOne, TakesSteps};
+ghost use Rattle.cap_judge.specs.Readings.{EndsAt, Goes, TakesAll, TakesOne, at};
+ghost use Rattle.cap_judge.specs.declared.judges.Stage.TheVariants.{Body};
 
 use cap_log::{Head, Part};
 use cap_machine::{ByKind, Instruction, Machine, StepEnd, by_head};
@@ -29,8 +30,8 @@ pub(crate) fn take_steps<'a, M: TaggedStore>(
     bytes: &'a [u8],
 ) -> (&'a [u8], Option<StepEnd>)
     ensures taken { (front : List ℕ) × (bytes.now ≡ front ++ result.0.now)
-        × TakesSteps machine.old front machine.new }
-    ensures end { IfSome result.1 (λ end. (behind : List ℕ) × EndsStepAt machine.new result.0.now behind end) }
+        × Goes (at Body machine.old) front (at Body machine.new) }
+    ensures end { IfSome result.1 (EndsAt (at Body machine.new) result.0.now) }
 {
     let mut rest = bytes;
     'steps: loop {
@@ -54,8 +55,8 @@ fn take_usual<'a, M: TaggedStore>(
     bytes: &'a [u8],
 ) -> (&'a [u8], Option<StepEnd>)
     ensures taken { (front : List ℕ) × (bytes.now ≡ front ++ result.0.now)
-        × TakesSteps machine.old front machine.new }
-    ensures end { IfSome result.1 (λ end. (behind : List ℕ) × EndsStepAt machine.new result.0.now behind end) }
+        × Goes (at Body machine.old) front (at Body machine.new) }
+    ensures end { IfSome result.1 (EndsAt (at Body machine.new) result.0.now) }
 {
     let mut rest = bytes;
     'steps: loop {

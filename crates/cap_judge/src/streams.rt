@@ -7,7 +7,8 @@ ghost use Rattle.cap_log.specs.Pulled.{items};
 ghost use Rattle.cap_log.specs.FaultLines.{bytes_of};
 ghost use Rattle.cap_judge.specs.Judgings.{Judged, JudgedBy};
 ghost use Rattle.cap_judge.specs.Logs.{NamesNoGranules};
-ghost use Rattle.cap_judge.specs.Readings.{HasRead, IsAnswered, StopsAt, known_of};
+ghost use Rattle.cap_judge.specs.Readings.{IsAnswered, StopsAt, stage_of};
+ghost use Rattle.cap_judge.specs.Turns.{unread};
 ghost use Rattle.cap_judge.specs.Verdicts.{EscapesExactly, NoVerdictIn, IsGuarded, IsVerdict, NamesEscapes};
 ghost use Rattle.cap_log.specs.declared.judge_faults.JudgeFault.TheVariants.{Pull};
 
@@ -102,7 +103,7 @@ fn judge_source<S: Source, M: TaggedStore>(
     judge: &mut Judge<M>,
     source: &mut S,
 ) -> (Result<Verdict, JudgeFault>, FaultLine)
-    requires begun { HasRead judge.old [] }
+    requires begun { stage_of judge.old ≡ unread }
     ensures judged { JudgedBy S.gave S.ended source.old source.new result.0 judge.new.machine (bytes_of result.1) }
     ensures counted { CountsOnly (Err Pull) (S.faults source.old) (S.faults source.new) result.0 }
 {
@@ -124,7 +125,7 @@ fn judge_source<S: Source, M: TaggedStore>(
 // Hands over the bytes that were pulled, and keeps those that were not taken.
 fn take_pulled<M: TaggedStore>(judge: &mut Judge<M>, pulled: &mut Pulled) -> Stop
     ensures { (front : List ℕ) × (items pulled.old ≡ front ++ items pulled.new)
-        × StopsAt (known_of judge.old) front (items pulled.new) result (known_of judge.new) }
+        × StopsAt (stage_of judge.old) front (items pulled.new) result (stage_of judge.new) }
 {
     let taken = judge.take(pulled.as_slice());
     pulled.consume(taken.count);

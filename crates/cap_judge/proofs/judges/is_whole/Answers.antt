@@ -1,7 +1,7 @@
 use Rattle.std.proofs.Common.{◌+◌, ◌∙◌, eq-eqb, length, subst, sym}
 use Rattle.std.proofs.lemmas.Bool.{false≢true}
 use Rattle.cap_log.specs.Front.{IsFront}
-use Rattle.cap_judge.proofs.EndingLemmas.{cut_no_line, longer_no_line}
+use Rattle.cap_judge.proofs.TurnLemmas.{cut_no_line, longer_no_line}
 use Rattle.cap_judge.proofs.judges.is_whole.Goals as goal
 
 pub returns-in-Line-clause-none : goal.returns-in-Line-clause-none

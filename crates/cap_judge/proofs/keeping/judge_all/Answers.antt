@@ -1,39 +1,58 @@
-use Rattle.std.proofs.Common.{◌≤◌, ◌-◌, arith, drop, length, take}
-use Rattle.std.proofs.lemmas.List.{length-drop, take_all}
+use Rattle.std.proofs.Common.{◌≡◌, ◌≢◌, ◌≤◌, ◌-◌, [], List, ℕ, arith, drop, inl, length, refl, subst, take, true}
+use Rattle.std.proofs.lemmas.List.Elements.{All-nil}
+use Rattle.std.proofs.lemmas.List.{length-drop, take-append-drop, take_all}
 use Rattle.cap_log.specs.FaultLines.{bytes_of}
-use Rattle.cap_judge.specs.Readings.{known_of}
-use Rattle.cap_judge.proofs.KeepingLemmas.{all_judged, all_lack, cut_ends, fault_ends}
-use Rattle.cap_judge.proofs.SourceLemmas.{bytes_lack}
+use Rattle.cap_judge.specs.Logs.{MayLackMemory}
+use Rattle.cap_judge.specs.Readings.{EndsWith, Follows, stage_of}
+use Rattle.cap_judge.specs.Turns.{unread}
+use Rattle.cap_judge.proofs.KeepingLemmas.{all_judged, all_lack}
+use Rattle.cap_judge.proofs.SourceLemmas.{ended_answer}
+use Rattle.cap_judge.proofs.FollowLemmas.{faults_at}
+use Rattle.cap_judge.proofs.TurnLaws.{lacks_memory, reached, refused_told, told}
+use Rattle.cap_judge.proofs.TurnLemmas.{stop_follows}
 use Rattle.cap_judge.proofs.keeping.judge_all.Goals as goal
 
 pub returns-in-Cut : goal.returns-in-Cut
 returns-in-Cut g c = record {
   judged = let bytes = c.args.bytes.now in
       let count = c.take-taken.result.count in
-      let all : length (drop count bytes) ≤ length bytes - count = omega (arith, length-drop count bytes) in
-      let old = known_of c.args.judge.now in
-      let new = known_of c.take-taken.new.self in
-      all_judged bytes (bytes_of c.answered.result.1) new.held c.ending.result c.answered.result.0 c.answered.ensures
-      (cut_ends old new bytes count c.requires.begun c.ending.result (take (length bytes - count) (drop count bytes))
-      (rw c.in-Cut.is at c.take-taken.ensures.stops) (take_all (length bytes - count) (drop count bytes) all) c.ending.ensures.ends);
+      let rest = drop count bytes in
+      let all : length rest ≤ length bytes - count = omega (arith, length-drop count bytes) in
+      let new = stage_of c.take-taken.new.self in
+      let held = c.take-taken.new.self.machine in
+      let text = bytes_of c.answered.result.1 in
+      let stop = rw (c.in-Cut.is, c.requires.begun) at c.take-taken.ensures.stops in
+      let shown : take (length bytes - count) rest ≡ rest = take_all (length bytes - count) rest all in
+      let ends = rw shown at c.ending.ensures.ends in
+      let answer = ended_answer new rest text c.ending.result c.answered.result.0 c.answered.ensures (ends stop.1) in
+      all_judged bytes text held c.answered.result.0 answer.0 answer.1
+      (subst (λ (b : List ℕ). EndsWith b true held answer.0 text) (take-append-drop count bytes)
+      (told (take count bytes) rest new held answer.0 text (inl stop.0) refl stop.1 answer.2));
 }
 
 pub returns-in-Fault : goal.returns-in-Fault
 returns-in-Fault g c = record {
   judged = let bytes = c.args.bytes.now in
-      let old = known_of c.args.judge.now in
-      let new = known_of c.take-taken.new.self in
-      all_judged bytes (bytes_of c.answered-in-Fault.result.1) new.held c.ending-in-Fault.result c.answered-in-Fault.result.0
-      c.answered-in-Fault.ensures
-      (fault_ends old new bytes c.take-taken.result.count c.requires.begun c.ending-in-Fault.result
-      (rw c.in-Fault.is at c.take-taken.ensures.stops) c.ending-in-Fault.ensures.ends);
+      let count = c.take-taken.result.count in
+      let new = stage_of c.take-taken.new.self in
+      let held = c.take-taken.new.self.machine in
+      let text = bytes_of c.answered-in-Fault.result.1 in
+      let stop = rw (c.in-Fault.is, c.requires.begun) at c.take-taken.ensures.stops in
+      let ends = c.ending-in-Fault.ensures.ends (omega arith, All-nil (λ b. b ≢ 10)) in
+      let answer = ended_answer new [] text c.ending-in-Fault.result c.answered-in-Fault.result.0 c.answered-in-Fault.ensures ends in
+      let read = subst (λ (b : List ℕ). Follows unread b new) (take-append-drop count bytes)
+      (stop_follows unread new (take count bytes) (drop count bytes) stop) in
+      all_judged bytes text held c.answered-in-Fault.result.0 answer.0 answer.1
+      (refused_told bytes [] new held answer.0 text (reached bytes new read) (faults_at stop.0 (drop count bytes) new stop.2) refl answer.2 true);
 }
 
 pub returns-in-NoMemory : goal.returns-in-NoMemory
 returns-in-NoMemory g c = record {
   judged = let bytes = c.args.bytes.now in
-      let old = known_of c.args.judge.now in
-      let new = known_of c.take-taken.new.self in
-      all_lack bytes (bytes_of c.new.result) new.held
-      (bytes_lack old new bytes c.take-taken.result.count c.requires.begun (rw c.in-NoMemory.is at c.take-taken.ensures.stops));
+      let count = c.take-taken.result.count in
+      let new = stage_of c.take-taken.new.self in
+      let stop = rw (c.in-NoMemory.is, c.requires.begun) at c.take-taken.ensures.stops in
+      all_lack bytes stop.1 (bytes_of c.new.result) c.take-taken.new.self.machine
+      (subst (λ (b : List ℕ). MayLackMemory b stop.1) (take-append-drop count bytes)
+      (lacks_memory (take count bytes) (drop count bytes) stop.1 new (inl stop.0) stop.2));
 }

@@ -1,11 +1,14 @@
-use Rattle.std.proofs.Common.{◌≡◌, ◌≢◌, ◌++◌, [], ℕ, List, append-nil, append_assoc, arith, length, refl, rules, subst, sym, true, ◌∙◌}
+use Rattle.std.proofs.Common.{◌≡◌, ◌≢◌, ◌++◌, [], ℕ, List, append-nil, append_assoc, arith, inl, length, refl, rules, subst, sym, true, ◌∙◌}
 use Rattle.std.proofs.lemmas.List.Elements.{All-nil}
 use Rattle.cap_log.specs.Front.{IsCut}
 use Rattle.cap_log.specs.Pulled.{items}
 use Rattle.cap_log.specs.FaultLines.{bytes_of}
-use Rattle.cap_judge.specs.Readings.{EndsWith, known_of}
-use Rattle.cap_judge.proofs.SourceLemmas.{closer, ended_judged, fault_judged, given_more, lacking_judged, nothing_clear, nothing_more}
-use Rattle.cap_judge.proofs.SourceLemmas.{pull_judged}
+use Rattle.cap_judge.specs.Readings.{EndsAs, stage_of}
+use Rattle.cap_judge.specs.Turns.{unread}
+use Rattle.cap_judge.proofs.FollowLemmas.{faults_at, follows_on}
+use Rattle.cap_judge.proofs.SourceLemmas.{closer, ended_answer, given_more, lacking_judged, nothing_more, pull_judged, verdict_judged}
+use Rattle.cap_judge.proofs.TurnLaws.{lacks_memory, reached, refused_told, told}
+use Rattle.cap_judge.proofs.TurnLemmas.{goes_none, goes_on, stop_follows}
 use Rattle.cap_judge.proofs.streams.judge_source.Goals as goal
 
 pub pieces-init : goal.pieces-init
@@ -15,9 +18,8 @@ pieces-init g c =
       here = (
         [],
         subst (λ (b : List ℕ). g.S.Source.gave c.args.source.now c.args.source.now b) none (g.met.S.Source.nothing c.args.source.now),
-        c.requires.begun,
+        rw c.requires.begun (goes_none unread),
       );
-      clear = nothing_clear (known_of c.args.judge.now) c.requires.begun;
       cut = subst IsCut none (omega arith, All-nil (λ b. b ≢ 10));
       counted = refl;
     }
@@ -29,23 +31,24 @@ returns-in-Ok-eq0-clause-judged g c =
     let none : length ok.0 ≡ 0 = search rules in
     let end : g.S.Source.ended c.fill.new.source ≡ true = search rules in
     let held = c.pieces.judge.machine in
+    let stage = stage_of c.pieces.judge in
     let now = items c.fill.new.self in
     let cut = subst IsCut (sym (nothing_more (items c.pieces.pulled) ok.0 now ok.2 none)) c.pieces.invariant.cut in
     let shown = c.as_slice.ensures.value in
-    let ends = subst (λ (b : List ℕ). EndsWith held (here.0 ++ b) c.ending.result) shown
-    (c.ending.ensures.ends here.0 here.2 (subst IsCut (sym shown) cut)) in
-    ended_judged g.S.Source.gave g.S.Source.ended c.args.source.now c.fill.new.source held (bytes_of c.answered.result.1) (here.0 ++ now)
-    c.ending.result c.answered.result.0 c.answered.ensures ends
-    (given_more g.S.Source.gave here.0 (items c.pieces.pulled) now g.met.S.Source.joined here.1 ok.3 ok.2) end
+    let ends = subst (λ (b : List ℕ). EndsAs stage b c.ending.result) shown (c.ending.ensures.ends (subst IsCut (sym shown) cut)) in
+    let answer = ended_answer stage now (bytes_of c.answered.result.1) c.ending.result c.answered.result.0 c.answered.ensures ends in
+    let tells = told here.0 now stage held answer.0 (bytes_of c.answered.result.1) (inl here.2) refl cut answer.2 in
+    verdict_judged g.S.Source.gave g.S.Source.ended c.args.source.now c.fill.new.source held (bytes_of c.answered.result.1) (here.0 ++ now)
+    c.answered.result.0 answer.0 answer.1 (rw end tells)
+    (given_more g.S.Source.gave here.0 (items c.pieces.pulled) now g.met.S.Source.joined here.1 ok.3 ok.2)
 
 pub returns-in-Err-clause-judged : goal.returns-in-Err-clause-judged
 returns-in-Err-clause-judged g c =
     let gave = g.S.Source.gave in
     let here = c.pieces.invariant.here in
-    let known = known_of c.pieces.judge in
     let given = here.0 ++ items c.pieces.pulled in
-    pull_judged gave g.S.Source.ended c.args.source.now c.fill.new.source known.held _ given known here.0 (items c.pieces.pulled)
-    here.2 c.pieces.invariant.clear c.pieces.invariant.cut refl
+    pull_judged gave g.S.Source.ended c.args.source.now c.fill.new.source c.pieces.judge.machine _ given (stage_of c.pieces.judge) here.0
+    (items c.pieces.pulled) here.2 c.pieces.invariant.cut refl
     (subst (gave c.args.source.now c.fill.new.source) (append-nil given)
     (g.met.S.Source.joined c.args.source.now c.pieces.source c.fill.new.source given [] here.1 c.in-Err.ensures.err.1))
 
@@ -62,9 +65,8 @@ pieces-preserved g c =
       here = (
         here.0 ++ taken.0,
         subst (g.S.Source.gave c.args.source.now c.fill.new.source) (sym (append_assoc here.0 taken.0 rest)) gives,
-        (stop.0 here.0 here.2).0,
+        goes_on unread (stage_of c.pieces.judge) (stage_of c.take_pulled.new.judge) here.0 taken.0 here.2 stop.0,
       );
-      clear = stop.2;
       cut = stop.1;
       counted = c.in-Ok.ensures.counted ∙ c.pieces.invariant.counted;
     }
@@ -76,21 +78,28 @@ pieces-smaller g c =
     let taken = c.take_pulled.ensures in
     let stop = rw c.in-Cut.is at taken.2 in
     let some : length ok.0 ≢ 0 = search rules in
-    closer (known_of c.pieces.judge) (known_of c.take_pulled.new.judge) here.0 taken.0
-    (items c.pieces.pulled) ok.0 (items c.take_pulled.new.pulled) c.pieces.invariant.clear stop.2 here.2 (stop.0 here.0 here.2).0
-    (sym ok.2 ∙ taken.1) c.pieces.invariant.cut stop.1 some
+    closer (stage_of c.pieces.judge) (stage_of c.take_pulled.new.judge) here.0 taken.0 (items c.pieces.pulled) ok.0
+    (items c.take_pulled.new.pulled) here.2 stop.0 (sym ok.2 ∙ taken.1) c.pieces.invariant.cut stop.1 some
 
 pub returns-in-Fault-clause-judged : goal.returns-in-Fault-clause-judged
 returns-in-Fault-clause-judged g c =
     let here = c.pieces.invariant.here in
     let ok = c.in-Ok.ensures.ok in
-    let new = known_of c.take_pulled.new.judge in
+    let held = c.take_pulled.new.judge.machine in
+    let new = stage_of c.take_pulled.new.judge in
     let taken = c.take_pulled.ensures in
-    let given = taken.0 ++ items c.take_pulled.new.pulled in
+    let rest = items c.take_pulled.new.pulled in
+    let given = taken.0 ++ rest in
+    let text = bytes_of c.answered-in-Fault.result.1 in
     let stop = rw c.in-Fault.is at taken.2 in
-    fault_judged g.S.Source.gave g.S.Source.ended c.args.source.now c.fill.new.source new.held (bytes_of c.answered-in-Fault.result.1)
-    (here.0 ++ given) new c.ending-in-Fault.result c.answered-in-Fault.result.0 refl stop.1
-    c.ending-in-Fault.ensures.fault c.answered-in-Fault.ensures (stop.0 here.0 here.2).0
+    let follows = follows_on unread (stage_of c.pieces.judge) new here.0 given (inl here.2)
+    (stop_follows (stage_of c.pieces.judge) new taken.0 rest stop) in
+    let ends = c.ending-in-Fault.ensures.ends (omega arith, All-nil (λ b. b ≢ 10)) in
+    let answer = ended_answer new [] text c.ending-in-Fault.result c.answered-in-Fault.result.0 c.answered-in-Fault.ensures ends in
+    verdict_judged g.S.Source.gave g.S.Source.ended c.args.source.now c.fill.new.source held text (here.0 ++ given)
+    c.answered-in-Fault.result.0 answer.0 answer.1
+    (refused_told (here.0 ++ given) [] new held answer.0 text (reached (here.0 ++ given) new follows) (faults_at stop.0 rest new stop.2) refl answer.2
+    (g.S.Source.ended c.fill.new.source))
     (given_more g.S.Source.gave here.0 (items c.pieces.pulled) given g.met.S.Source.joined here.1 ok.3 (sym taken.1 ∙ ok.2))
 
 pub returns-in-NoMemory-clause-judged : goal.returns-in-NoMemory-clause-judged
@@ -99,8 +108,11 @@ returns-in-NoMemory-clause-judged g c =
     let ok = c.in-Ok.ensures.ok in
     let taken = c.take_pulled.ensures in
     let rest = items c.take_pulled.new.pulled in
-    let lack = (rw c.in-NoMemory.is at taken.2).1 here.0 here.2 in
+    let new = stage_of c.take_pulled.new.judge in
+    let stop = rw c.in-NoMemory.is at taken.2 in
+    let goes = goes_on unread (stage_of c.pieces.judge) new here.0 taken.0 here.2 stop.0 in
     let gives = given_more g.S.Source.gave here.0 (items c.pieces.pulled) (taken.0 ++ rest) g.met.S.Source.joined here.1 ok.3
     (sym taken.1 ∙ ok.2) in
-    lacking_judged g.S.Source.gave g.S.Source.ended c.args.source.now c.fill.new.source _ _ (here.0 ++ taken.0 ++ rest) lack.1 lack.3
+    lacking_judged g.S.Source.gave g.S.Source.ended c.args.source.now c.fill.new.source _ _ ((here.0 ++ taken.0) ++ rest) stop.1
+    (lacks_memory (here.0 ++ taken.0) rest stop.1 new (inl goes) stop.2)
     (subst (g.S.Source.gave c.args.source.now c.fill.new.source) (sym (append_assoc here.0 taken.0 rest)) gives)

@@ -1,15 +1,14 @@
 use Rattle.std.proofs.Common.{◌≡◌, ◌+◌, ◌-◌, ◌*◌, ◌++◌, ℕ, List, length}
 use Rattle.cap_log.specs.Front.{IsCut}
 use Rattle.cap_log.specs.Pulled.{items}
-use Rattle.cap_judge.specs.Readings.{HasRead, IsAtFault}
-use Rattle.cap_judge.proofs.EndingLemmas.{lines_read}
+use Rattle.cap_judge.specs.Readings.{Goes, lines_read, stage_of}
+use Rattle.cap_judge.specs.Turns.{unread}
 use Rattle.cap_judge.proofs.streams.judge_source.Given as goal
 
--- what was given was read, but for less than a line, which the pulled holds
+-- what was given is lines that were read, except less than a line, which the pulled holds
 abbrev pub invariant-pieces : goal.invariant-pieces
 invariant-pieces g l = record {
-  here : (taken : List ℕ) × g.S.Source.gave l.fn.source l.source (taken ++ items l.pulled) × HasRead l.judge taken;
-  clear : IsAtFault l.judge.stage → ⊥;
+  here : (taken : List ℕ) × g.S.Source.gave l.fn.source l.source (taken ++ items l.pulled) × Goes unread taken (stage_of l.judge);
   cut : IsCut (items l.pulled);
   counted : g.S.Source.faults l.source ≡ g.S.Source.faults l.fn.source;
 }
@@ -17,4 +16,4 @@ invariant-pieces g l = record {
 -- the limits bound the lines, and each pull gives more of one
 abbrev pub decreases-pieces : goal.decreases-pieces
 decreases-pieces g l =
-    96 * (4294971400 - lines_read l.judge.stage l.judge.machine) + 96 - length (items l.pulled)
+    96 * (4294971400 - lines_read (stage_of l.judge).account (stage_of l.judge).due) + 96 - length (items l.pulled)

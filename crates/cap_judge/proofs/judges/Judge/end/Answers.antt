@@ -1,25 +1,19 @@
-use Rattle.std.proofs.Common.{◌++◌, sym, subst}
-use Rattle.cap_judge.specs.Verdicts.{IsVerdict}
-use Rattle.cap_judge.proofs.EndingLemmas.{verdict_no, verdict_yes}
-use Rattle.cap_judge.proofs.EscapeLaws.{escapes_exactly}
-use Rattle.cap_judge.proofs.JudgeLemmas.{guarded}
+use Rattle.std.proofs.Common.{[]}
+use Rattle.cap_log.specs.FaultLines.{bytes_of}
+use Rattle.cap_judge.specs.Readings.{stage_of}
+use Rattle.cap_judge.proofs.EscapeLaws.{named}
+use Rattle.cap_judge.proofs.TurnLemmas.{ends_ok}
 use Rattle.cap_judge.proofs.judges.Judge.end.Goals as goal
 
 pub returns-in-Ok : goal.returns-in-Ok
 returns-in-Ok g c = record {
-  verdict = λ bytes read cut.
-      verdict_yes c.args.self.now.machine (bytes ++ c.args.rest.now) c.ending.result c.in-Ok.verdict
-      c.in-Ok.is (c.ending.ensures.ends bytes read cut);
-  authority = λ bytes read. guarded (bytes ++ c.args.rest.now);
-  escape = λ bytes read. escapes_exactly (bytes ++ c.args.rest.now) c.in-Ok.verdict;
+  verdict = λ cut.
+      ([], ends_ok (stage_of c.args.self.now) c.args.rest.now c.in-Ok.verdict (rw c.in-Ok.is at (c.ending.ensures.ends cut)));
+  escape = named c.in-Ok.verdict;
 }
 
 pub returns-in-Err : goal.returns-in-Err
 returns-in-Err g c = record {
-  verdict = λ bytes read cut.
-      subst (IsVerdict (bytes ++ c.args.rest.now)) (sym c.verdict.ensures.value)
-      (verdict_no c.args.self.now.machine (bytes ++ c.args.rest.now) c.ending.result c.in-Err.fault
-      c.in-Err.is (c.ending.ensures.ends bytes read cut));
-  authority = λ bytes read. guarded (bytes ++ c.args.rest.now);
-  escape = λ bytes read. escapes_exactly (bytes ++ c.args.rest.now) c.verdict.result;
+  verdict = λ cut. (bytes_of c.in-Err.fault.text, rw c.verdict.ensures.value (rw c.in-Err.is at (c.ending.ensures.ends cut)));
+  escape = named c.verdict.result;
 }

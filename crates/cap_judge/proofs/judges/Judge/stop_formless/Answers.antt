@@ -1,18 +1,15 @@
-use Rattle.std.proofs.Common.{subst}
+use Rattle.std.proofs.Common.{None, inl, inr, subst, take, drop, ◌+◌}
 use Rattle.cap_log.specs.Front.{IsFront}
-use Rattle.cap_log.proofs.FrontLemmas.{IsLine-not_cut}
-use Rattle.cap_judge.specs.Readings.{known_of}
-use Rattle.cap_judge.proofs.ReadingLemmas.{stays}
+use Rattle.cap_judge.proofs.TurnLemmas.{none_spelled}
 use Rattle.cap_judge.proofs.judges.Judge.stop_formless.Goals as goal
 
-pub stop-requires-in-Line-clause-uncut : goal.stop-requires-in-Line-clause-uncut
-stop-requires-in-Line-clause-uncut g c =
-    let found = subst (IsFront c.args.bytes.now) c.in-Line.is c.front.ensures.found in
-    IsLine-not_cut c.args.bytes.now _ _ found.1
+pub stop-requires-clause-ends : goal.stop-requires-clause-ends
+stop-requires-clause-ends g c =
+    inr (subst (IsFront c.args.bytes.now) c.in-TooLong.is c.front.ensures.found, c.refusal_of_long.ensures)
 
-pub returns-in-Cut-clause-stops : goal.returns-in-Cut-clause-stops
-returns-in-Cut-clause-stops g c = (
-  stays (known_of c.args.self.now),
-  subst (IsFront c.args.bytes.now) c.in-Cut.is c.front.ensures.found,
-  c.requires.clear,
-)
+pub stop-requires-in-Line-clause-ends : goal.stop-requires-in-Line-clause-ends
+stop-requires-in-Line-clause-ends g c =
+    let bytes = c.args.bytes.now in
+    let n = c.in-Line.field-0 in
+    let found = (subst (IsFront bytes) c.in-Line.is c.front.ensures.found).1 in
+    inl (take n bytes, drop (n + 1) bytes, None, found, none_spelled bytes _ _ c.requires.none found, c.refusal_of_formless.ensures)

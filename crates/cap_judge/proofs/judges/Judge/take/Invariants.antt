@@ -1,12 +1,12 @@
 use Rattle.std.proofs.Common.{◌≡◌, ◌++◌, ℕ, List, length}
-use Rattle.cap_judge.specs.Readings.{GoesOn, known_of}
+use Rattle.cap_judge.specs.Readings.{Goes, stage_of}
 use Rattle.cap_judge.proofs.judges.Judge.take.Given as goal
 
 -- the lines so far are the front of the bytes
 abbrev pub invariant-lines : goal.invariant-lines
 invariant-lines g l = record {
   taken : (front : List ℕ) × (l.fn.bytes ≡ front ++ l.rest)
-      × GoesOn (known_of l.fn.self) front (known_of l.self);
+      × Goes (stage_of l.fn.self) front (stage_of l.self);
 }
 
 -- each line shortens the rest

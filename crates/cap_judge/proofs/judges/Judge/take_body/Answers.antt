@@ -1,23 +1,21 @@
 use Rattle.std.proofs.Common.{◌∙◌, Some, ap}
-use Rattle.cap_judge.proofs.EndingLemmas.{end_whole, memory_only, no_line, step_alone, whole_some}
+use Rattle.cap_judge.proofs.TurnLemmas.{memory_only, no_line, step_follows, step_whole, whole_some}
 use Rattle.cap_judge.proofs.judges.Judge.take_body.Goals as goal
 
 pub returns-in-Some-Ok-clause-taken : goal.returns-in-Some-Ok-clause-taken
-returns-in-Some-Ok-clause-taken g c = λ bytes read.
+returns-in-Some-Ok-clause-taken g c =
     let step = rw (c.in-Some-Ok.is ∙ ap Some c.in-Some-Ok.field-0-is) at c.take_alone.ensures in
-    ((step_alone c.args.self.now.stage _ _ c.args.line.now c.requires.body step).0 bytes read).0
+    step_follows c.args.self.now.stage c.args.self.now.machine _ c.args.line.now c.requires.body step
 
 pub returns-in-Some-Ok-clause-no_line : goal.returns-in-Some-Ok-clause-no_line
 returns-in-Some-Ok-clause-no_line g c =
     let step = rw (c.in-Some-Ok.is ∙ ap Some c.in-Some-Ok.field-0-is) at c.take_alone.ensures in
-    no_line _ c.args.line.now (whole_some c.args.line.now (step_alone c.args.self.now.stage _ _ c.args.line.now c.requires.body step).1)
-    (λ e. cc)
+    no_line _ c.args.line.now (whole_some c.args.line.now (step_whole c.args.line.now step.0 step.1)) (λ e. cc)
 
 pub returns-in-Some-Err-clause-no_line : goal.returns-in-Some-Err-clause-no_line
 returns-in-Some-Err-clause-no_line g c =
-    let old = c.args.self.now.machine in
-    let ends = rw (c.in-Some-Err.is ∙ ap Some c.in-Some-Err.field-0-is) at c.take_alone.ensures in
-    no_line c.take_end.result c.args.line.now (whole_some c.args.line.now (end_whole old c.args.line.now c.in-Some-Err.end ends.0))
+    let ends = (rw (c.in-Some-Err.is ∙ ap Some c.in-Some-Err.field-0-is) at c.take_alone.ensures).0 in
+    no_line c.take_end.result c.args.line.now (whole_some c.args.line.now (step_whole c.args.line.now ends.0 ends.1))
     (memory_only c.take_end.result _ c.take_end.ensures.no_memory)
 
 pub returns-in-None-clause-taken : goal.returns-in-None-clause-taken

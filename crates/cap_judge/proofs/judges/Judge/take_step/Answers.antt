@@ -1,8 +1,13 @@
-use Rattle.cap_judge.proofs.ReadingLemmas.{step_goes}
+use Rattle.std.proofs.Common.{◌++◌, ◌∷◌, [], refl}
+use Rattle.cap_log.specs.Lines.{spelling}
+use Rattle.cap_log.specs.declared.lines.Line.TheVariants as lines
+use Rattle.cap_judge.proofs.TurnLemmas.{makes_takes, step_follows}
 use Rattle.cap_judge.proofs.judges.Judge.take_step.Goals as goal
 
 pub returns-in-Ok-clause-taken : goal.returns-in-Ok-clause-taken
-returns-in-Ok-clause-taken g c = λ bytes read.
-    (step_goes c.args.self.now.stage c.args.self.now.machine
-    c.perform.new.machine (g.I.Operands.step c.args.step) c.in-Body.is c.perform.ensures.range
-    c.in-Ok.ensures.outcome bytes read).0
+returns-in-Ok-clause-taken g c =
+    let old = c.args.self.now.machine in
+    let new = c.perform.new.machine in
+    let step = g.I.Operands.step c.args.step in
+    step_follows c.args.self.now.stage old new (spelling (lines.Step step) ++ 10 ∷ []) c.in-Body.is
+    (step, (c.perform.ensures.range, refl), makes_takes old new step c.in-Ok.ensures.outcome)

@@ -1,9 +1,9 @@
 use Rattle.std.proofs.Common.{[], ◌∷◌, ◌++◌, subst}
-use Rattle.cap_judge.specs.Readings.{IsNoLine}
 use Rattle.cap_log.specs.Lines.{IsStepInRange, spelling}
 use Rattle.cap_log.specs.declared.lines.Line.TheVariants as lines
 use Rattle.cap_log.specs.declared.kinds.Step.{Step}
 use Rattle.cap_log.proofs.SpellingLemmas.{IsLine-spelling}
+use Rattle.cap_judge.specs.Readings.{IsNoLine}
 use Rattle.cap_judge.proofs.judges.Judge.take_written.Goals as goal
 
 -- what a step spells is one line

@@ -1,0 +1,465 @@
+-- From stages to logs and their first faults: a stage that is reached is that of a beginning.
+use Rattle.std.proofs.Common.{◌≡◌, ◌≢◌, ℕ, ◌+◌, ◌≤◌, inl, inr, Bool, true, false, List, [], ◌∷◌, ◌++◌, length, map, refl, sym, ap, subst, ◌∙◌}
+use Rattle.std.proofs.Common.{append-nil, append_assoc, arith, not, None, Some, Option}
+use Rattle.std.proofs.lemmas.Bool.{false≢true}
+use Rattle.std.proofs.lemmas.Grind.{flat_map-append}
+use Rattle.std.proofs.lemmas.List.{length-append, length-map}
+use Rattle.std.proofs.lemmas.Option.{none-some, same_Some}
+use Rattle.cap_log.proofs.FrontLemmas.{IsLine-more, IsTooLong-more}
+use Rattle.cap_log.proofs.SpellingLemmas.{one_spelling}
+use Rattle.cap_log.specs.Front.{IsCut}
+use Rattle.cap_log.specs.Lines.{IsInRange, Spells, spelling}
+use Rattle.cap_log.specs.Parts.{Reads as Spelled}
+use Rattle.cap_log.specs.declared.lines.Line.{Line}
+use Rattle.cap_log.specs.declared.lines.Line.TheVariants as lines
+use Rattle.cap_log.specs.declared.lines.Mode.TheVariants as modes
+use Rattle.cap_log.specs.declared.kinds.Step.{Step}
+use Rattle.cap_ops.specs.Checks.{first_of}
+use Rattle.cap_ops.specs.declared.refusal.Refusal.{Refusal}
+use Rattle.cap_ops.specs.declared.refusal.Refusal.TheVariants.{BadLine, LineTooLong, Misplaced, Truncated}
+use Rattle.cap_machine.proofs.AccountLemmas.{account_after-grows}
+use Rattle.cap_machine.specs.Accounts.{Account}
+use Rattle.cap_machine.specs.Helds.{Held, account_of}
+use Rattle.cap_machine.specs.States.{DeclaredRoot}
+use Rattle.cap_machine.specs.declared.rules.Rules.{Rules}
+use Rattle.cap_machine.specs.declared.rules.Rules.TheVariants.{One, TwoStrict}
+use Rattle.cap_judge.specs.declared.verdict.Verdict.{Verdict}
+use Rattle.cap_judge.specs.declared.verdict.Verdict.TheVariants.{Yes, No}
+use Rattle.cap_judge.specs.Judgings.{IsBehind, IsLastFront, IsVerdictOf, StopsBefore, account_before}
+use Rattle.cap_judge.specs.Logs.{Beginning, Empty, NoMode, Body as BodyOf, Whole, body_lines, header_lines, lines_of, text_of, account_after}
+use Rattle.cap_judge.specs.Logs.{IsAccepted, IsFirstFault, MayLackMemory, Refuses, RefusesLine, RefusesWhole, RunsBy, has_form, line_checks}
+use Rattle.cap_judge.specs.Readings.{BeginsWhole, EndsIn, EndsWith, Faults, Follows, Goes, IsAtFault, IsReached, IsRest, Lacks, RefusesNext, Stands}
+use Rattle.cap_judge.specs.Readings.{due_at_end, lines_read, long_refusal, refused_at, verdict_so_far}
+use Rattle.cap_judge.specs.Turns.{Body, Due, Ended, Refused, Stage, refusal_at, unread}
+use Rattle.cap_judge.specs.Verdicts.{IsYes}
+use Rattle.cap_judge.proofs.FollowLemmas.{faults_at, follows_more}
+use Rattle.cap_judge.proofs.FormLemmas.{no_form}
+use Rattle.cap_judge.proofs.InTurn.{all_longer, stage_after, with_lines}
+use Rattle.cap_judge.proofs.JudgeLemmas.{IsUnended, front_refused, text_push, yes_of}
+use Rattle.cap_judge.proofs.LogLemmas.{no_roots}
+use Rattle.cap_judge.proofs.OneVerdict.{one_verdict}
+use Rattle.cap_judge.proofs.TurnLemmas.{allowed_form}
+
+-- What a stage says of a beginning
+
+-- lines that are read lead to a beginning
+pub begun : (bytes : List ℕ) (new : Stage) → (goes : Goes unread bytes new)
+    → (beginning : Beginning) × IsAccepted beginning × (lines_of beginning ≡ goes.lines) × (stage_after beginning ≡ new)
+begun bytes new goes =
+    let all = all_longer Empty goes.lines new tt goes.in_range goes.reads in (with_lines Empty goes.lines, all.0, all.1, all.2)
+
+account_is : (beginning : Beginning) → (stage_after beginning).account ≡ account_before beginning
+account_is Empty = refl
+account_is NoMode = refl
+account_is (BodyOf rules_are roots steps) = refl
+account_is (Whole rules_are roots steps) = refl
+
+not_fault : (beginning : Beginning) → IsAtFault (stage_after beginning).due → ⊥
+not_fault Empty is = is
+not_fault NoMode is = is
+not_fault (BodyOf rules_are roots steps) is = is
+not_fault (Whole rules_are roots steps) is = is
+
+no_rest : (beginning : Beginning) → IsRest (stage_after beginning).due beginning []
+no_rest Empty = refl
+no_rest NoMode = refl
+no_rest (BodyOf rules_are roots steps) = refl
+no_rest (Whole rules_are roots steps) = refl
+
+-- how many lines it has
+body_count : (rules_are : Rules) (roots : List DeclaredRoot) (steps : List Step)
+    → length (body_lines rules_are roots steps) ≡ length (header_lines rules_are) + (length roots + length steps)
+body_count rules_are roots steps =
+    let root_line = λ (root : DeclaredRoot). lines.Root root.place root.word in
+    omega (
+      arith,
+      length-append (header_lines rules_are) (map root_line roots ++ map lines.Step steps),
+      length-append (map root_line roots) (map lines.Step steps),
+      length-map roots root_line,
+      length-map steps lines.Step,
+    )
+
+body_counted : (rules_are : Rules) (roots : List DeclaredRoot) (steps : List Step)
+    → lines_read (account_after rules_are roots steps) Body ≡ length (body_lines rules_are roots steps)
+body_counted rules_are roots steps =
+    let grown = account_after-grows rules_are roots steps in
+    omega (
+      arith,
+      ap (λ (r : Rules). length (header_lines r)) grown.rules_stay,
+      grown.roots_are,
+      grown.steps_are,
+      body_count rules_are roots steps,
+    )
+
+end_count : (rules_are : Rules) (roots : List DeclaredRoot) (steps : List Step)
+    → length (lines_of (Whole rules_are roots steps)) ≡ length (body_lines rules_are roots steps) + 1
+end_count rules_are roots steps = length-append (body_lines rules_are roots steps) (lines.End (length steps) ∷ [])
+
+counted : (beginning : Beginning)
+    → (let stage = stage_after beginning in lines_read stage.account stage.due ≡ length (lines_of beginning))
+counted Empty = refl
+counted NoMode = refl
+counted (BodyOf rules_are roots steps) = body_counted rules_are roots steps
+counted (Whole rules_are roots steps) = omega (arith, body_counted rules_are roots steps, end_count rules_are roots steps)
+
+few_header : (rules_are : Rules) → length (header_lines rules_are) ≤ 2
+few_header One = omega arith
+few_header rules_are = omega arith
+
+-- there are no more than the limits allow
+few_lines : (beginning : Beginning) → IsAccepted beginning → length (lines_of beginning) ≤ 4294971394
+few_lines Empty accepted = omega arith
+few_lines NoMode accepted = omega arith
+few_lines (BodyOf rules_are roots steps) runs =
+    omega (arith, runs.few_roots, runs.few_steps, few_header rules_are, body_count rules_are roots steps)
+few_lines (Whole rules_are roots steps) runs =
+    let body = body_count rules_are roots steps in
+    omega (arith, runs.few_roots, runs.few_steps, few_header rules_are, body, end_count rules_are roots steps)
+
+pub count_read : (bytes : List ℕ) (new : Stage) → (goes : Goes unread bytes new)
+    → (lines_read new.account new.due ≡ length goes.lines) × (length goes.lines ≤ 4294971394)
+count_read bytes new goes =
+    let b = begun bytes new goes in (
+      subst (λ (s : Stage). lines_read s.account s.due ≡ length goes.lines) b.3 (counted b.0 ∙ ap length b.2),
+      subst (λ (ls : List Line). length ls ≤ 4294971394) b.2 (few_lines b.0 b.1),
+    )
+
+-- A line that is refused at a stage is refused behind its beginning, whatever follows it
+
+body_refuses : (account : Account) (text : List ℕ) (line : Line) (form : Bool) (refusal : Refusal) → Spells text line
+    → has_form account.rules line ≡ form → first_of ((not form, BadLine) ∷ line_checks account line) ≡ Some refusal
+    → RefusesLine account text refusal
+body_refuses account text line true refusal spells is refused = inr (line, (spells, is), refused)
+body_refuses account text line false refusal spells is refused =
+    inl (no_form account.rules text line spells is, sym (same_Some BadLine refusal refused))
+
+pub refuses_text : (beginning : Beginning) (text : List ℕ) (line : Option Line) (refusal : Refusal) → IsUnended beginning
+    → Spelled IsInRange spelling text line → refusal_at (stage_after beginning).account (stage_after beginning).due line ≡ Some refusal
+    → RefusesWhole beginning text refusal
+refuses_text Empty text (Some (lines.Version version)) refusal goes is refused = absurd (none-some _ refused)
+refuses_text Empty text (Some line) refusal goes is refused =
+    (λ version spells. let same = one_spelling text line (lines.Version version) is spells in cc, sym (same_Some _ _ refused))
+refuses_text Empty text None refusal goes none refused = (λ version spells. none _ spells.0 spells.1, sym (same_Some _ _ refused))
+refuses_text NoMode text (Some (lines.Mode mode)) refusal goes is refused = absurd (none-some _ refused)
+refuses_text NoMode text (Some line) refusal goes is refused =
+    (λ mode spells. let same = one_spelling text line (lines.Mode mode) is spells in cc, sym (same_Some _ _ refused))
+refuses_text NoMode text None refusal goes none refused = (λ mode spells. none _ spells.0 spells.1, sym (same_Some _ _ refused))
+refuses_text (BodyOf rules_are roots steps) text (Some line) refusal goes is refused =
+    body_refuses (account_after rules_are roots steps) text line _ refusal is refl refused
+refuses_text (BodyOf rules_are roots steps) text None refusal goes none refused =
+    inl (λ line by. none line by.0.0 by.0.1, sym (same_Some _ _ refused))
+refuses_text (Whole rules_are roots steps) text line refusal goes is refused = absurd goes
+
+long_is : (beginning : Beginning) → IsUnended beginning → long_refusal (stage_after beginning).due ≡ LineTooLong
+long_is Empty goes = refl
+long_is NoMode goes = refl
+long_is (BodyOf rules_are roots steps) goes = refl
+long_is (Whole rules_are roots steps) goes = absurd goes
+
+-- such bytes are some
+some_next : (stage : Stage) (bytes after : List ℕ) (refusal : Refusal) → RefusesNext stage bytes refusal → bytes ++ after ≢ []
+some_next stage bytes after refusal (inl (text, more, line, whole, is, refused)) = λ none.
+    omega (arith, ap length (sym (IsLine-more bytes text more after whole).whole ∙ none), length-append text (10 ∷ more ++ after))
+some_next stage bytes after refusal (inr long) = λ none. omega (arith, long.0.0, ap length none, length-append bytes after)
+
+unended_refuses : (beginning : Beginning) (rest : List ℕ) (refusal : Refusal) → IsUnended beginning
+    → RefusesNext (stage_after beginning) rest refusal → (after : List ℕ) → Refuses beginning (rest ++ after) refusal
+unended_refuses beginning rest refusal goes (inl (text, more, line, whole, is, refused)) after =
+    front_refused beginning (rest ++ after) refusal goes
+    (inr (inr (text, more ++ after, IsLine-more rest text more after whole, refuses_text beginning text line refusal goes is refused)))
+unended_refuses beginning rest refusal goes (inr long) after =
+    front_refused beginning (rest ++ after) refusal goes (inl (IsTooLong-more rest after long.0, long.1 ∙ long_is beginning goes))
+
+ended_refuses : (account : Account) (rest : List ℕ) (refusal : Refusal)
+    → RefusesNext (record { account = account; due = Ended }) rest refusal → refusal ≡ Misplaced
+ended_refuses account rest refusal (inl (text, more, line, whole, is, refused)) = sym (same_Some Misplaced refusal refused)
+ended_refuses account rest refusal (inr long) = long.1
+
+refuses : (beginning : Beginning) (rest : List ℕ) (refusal : Refusal) → RefusesNext (stage_after beginning) rest refusal
+    → (after : List ℕ) → Refuses beginning (rest ++ after) refusal
+refuses (Whole rules_are roots steps) rest refusal refused after =
+    (some_next (stage_after (Whole rules_are roots steps)) rest after refusal refused, ended_refuses (account_after rules_are roots steps) rest refusal refused)
+refuses Empty rest refusal refused after = unended_refuses Empty rest refusal tt refused after
+refuses NoMode rest refusal refused after = unended_refuses NoMode rest refusal tt refused after
+refuses (BodyOf rules_are roots steps) rest refusal refused after =
+    unended_refuses (BodyOf rules_are roots steps) rest refusal tt refused after
+
+-- A stage that is reached
+
+-- what begins with the first faulty line stands behind the lines before it
+pub fault_reached : (front rest : List ℕ) (middle new : Stage) → Goes unread front middle → Faults middle rest new
+    → (is : IsReached new (front ++ rest)) × (is.rest ≡ rest)
+fault_reached front rest middle new goes (inl (at_fault, same)) =
+    let b = begun front middle goes in absurd (not_fault b.0 (subst (λ (s : Stage). IsAtFault s.due) (sym b.3) at_fault))
+fault_reached front rest middle new goes (inr (clear, refusal, text, refused, is_front, new_is)) =
+    let b = begun front middle goes in (
+      record {
+        beginning = b.0;
+        rest = rest;
+        behind = record { bytes_are = ap (λ (f : List ℕ). f ++ rest) (goes.bytes_are ∙ ap text_of (sym b.2)); accepted = b.1 };
+        account = ap (λ (s : Stage). s.account) new_is ∙ ap (λ (s : Stage). s.account) (sym b.3) ∙ account_is b.0;
+        rest_is = subst (λ (s : Stage). IsRest s.due b.0 rest) (sym new_is) (
+          ap (λ (n : ℕ). n + 1) (subst (λ (s : Stage). lines_read s.account s.due ≡ length (lines_of b.0)) b.3 (counted b.0)),
+          is_front,
+          refuses b.0 rest refusal (subst (λ (s : Stage). RefusesNext s rest refusal) (sym b.3) refused),
+        );
+      },
+      refl,
+    )
+
+pub reached : (bytes : List ℕ) (new : Stage) → Follows unread bytes new → IsReached new bytes
+reached bytes new (inl goes) =
+    let b = begun bytes new goes in
+    record {
+      beginning = b.0;
+      rest = [];
+      behind = record { bytes_are = goes.bytes_are ∙ ap text_of (sym b.2) ∙ sym (append-nil _); accepted = b.1 };
+      account = ap (λ (s : Stage). s.account) (sym b.3) ∙ account_is b.0;
+      rest_is = subst (λ (s : Stage). IsRest s.due b.0 []) b.3 (no_rest b.0);
+    }
+reached bytes new (inr (front, rest, are, middle, goes, faults)) =
+    subst (IsReached new) (sym are) (fault_reached front rest middle new goes faults).0
+
+-- where no line is faulty, all that was read begins a log
+all_read : (due : Due) (beginning : Beginning) (rest : List ℕ) → (IsAtFault due → ⊥) → IsRest due beginning rest → rest ≡ []
+all_read (Refused line refusal text) beginning rest clear is = absurd (clear tt)
+all_read due beginning rest clear is = is
+
+pub begins : (bytes : List ℕ) (stage : Stage) → IsReached stage bytes → (IsAtFault stage.due → ⊥) → BeginsWhole bytes
+begins bytes stage is clear = record {
+  beginning = is.beginning;
+  bytes_are = is.behind.bytes_are
+      ∙ ap (λ (r : List ℕ). text_of (lines_of is.beginning) ++ r) (all_read stage.due is.beginning is.rest clear is.rest_is) ∙ append-nil _;
+  accepted = is.behind.accepted;
+}
+
+-- where one is, its no stands, whatever bytes follow
+pub first_fault : (bytes : List ℕ) (stage : Stage) (line : ℕ) (refusal : Refusal) (text : List ℕ) → IsReached stage bytes
+    → stage.due ≡ Refused line refusal text → (more : List ℕ) → IsFirstFault (bytes ++ more) line refusal
+first_fault bytes stage line refusal text is due more =
+    let found = subst (λ (d : Due). IsRest d is.beginning is.rest) due is.rest_is in
+    record {
+      beginning = is.beginning;
+      rest = is.rest ++ more;
+      bytes_are = ap (λ (b : List ℕ). b ++ more) is.behind.bytes_are ∙ append_assoc (text_of (lines_of is.beginning)) is.rest more;
+      accepted = is.behind.accepted;
+      number_is = found.0;
+      refused = found.2 more;
+    }
+
+pub fault_stands : (bytes : List ℕ) (stage : Stage) (line : ℕ) (refusal : Refusal) (text : List ℕ) → IsReached stage bytes
+    → stage.due ≡ Refused line refusal text → (ended : Bool) → IsVerdictOf bytes ended (No line refusal)
+fault_stands bytes stage line refusal text is due true =
+    subst (λ (b : List ℕ). IsFirstFault b line refusal) (append-nil bytes) (first_fault bytes stage line refusal text is due [])
+fault_stands bytes stage line refusal text is due false = first_fault bytes stage line refusal text is due
+
+-- the text of a front, whether the source has ended or not
+ended_front : (rest : List ℕ) (ended : Bool) (text : List ℕ) → IsLastFront rest false text → IsLastFront rest ended text
+ended_front rest ended text (inl long) = inl long
+ended_front rest ended text (inr (inl cut)) = absurd (false≢true cut.1.1)
+ended_front rest ended text (inr (inr line)) = inr (inr line)
+
+pub fault_stops : (bytes : List ℕ) (stage : Stage) (line : ℕ) (refusal : Refusal) (text : List ℕ) (held : Held) → IsReached stage bytes
+    → stage.due ≡ Refused line refusal text → account_of held ≡ stage.account → (ended : Bool) → StopsBefore bytes ended held line text
+fault_stops bytes stage line refusal text held is due same ended =
+    let found = subst (λ (d : Due). IsRest d is.beginning is.rest) due is.rest_is in
+    record {
+      beginning = is.beginning;
+      rest = is.rest;
+      behind = is.behind;
+      line_is = found.0;
+      account = same ∙ is.account;
+      front = ended_front is.rest ended text found.1;
+    }
+
+pub stands_so_far : (bytes : List ℕ) (account_is : Account) (due : Due) → IsReached (record { account = account_is; due = due }) bytes
+    → Stands bytes (verdict_so_far due)
+stands_so_far bytes account (Refused line refusal text) is = first_fault bytes _ line refusal text is refl
+stands_so_far bytes account due is = begins bytes _ is (λ f. f)
+
+-- what begins a log goes on to a yes
+record GoesToYes (bytes : List ℕ) : Type 0 where
+  more : List ℕ
+  steps : ℕ
+  roots : ℕ
+  log : IsYes (bytes ++ more) steps roots
+
+goes_to_yes : (beginning : Beginning) → IsAccepted beginning → GoesToYes (text_of (lines_of beginning))
+goes_to_yes Empty accepted =
+    record { more = text_of (lines_of (Whole One [] [])); steps = 0; roots = 0; log = yes_of _ One [] [] refl (no_roots One) }
+goes_to_yes NoMode accepted =
+    let more = lines.Mode modes.Strict ∷ lines.End 0 ∷ [] in record {
+      more = text_of more;
+      steps = 0;
+      roots = 0;
+      log = yes_of _ TwoStrict [] [] (sym (flat_map-append (λ (l : Line). spelling l ++ 10 ∷ []) (lines.Version 2 ∷ []) more))
+          (no_roots TwoStrict);
+    }
+goes_to_yes (BodyOf rules_are roots steps) accepted =
+    let whole = ap (λ (t : List ℕ). text_of (body_lines rules_are roots steps) ++ t) (append-nil _)
+    ∙ sym (text_push (body_lines rules_are roots steps) (lines.End (length steps)) [])
+    ∙ append-nil _ in record {
+      more = text_of (lines.End (length steps) ∷ []);
+      steps = length steps;
+      roots = length roots;
+      log = yes_of _ rules_are roots steps whole accepted;
+    }
+goes_to_yes (Whole rules_are roots steps) accepted =
+    record { more = []; steps = length steps; roots = length roots; log = yes_of _ rules_are roots steps (append-nil _) accepted }
+
+-- so no line of it is faulty
+pub not_refused : (bytes : List ℕ) (stage : Stage) (line : ℕ) (refusal : Refusal) (text : List ℕ) → IsReached stage bytes
+    → stage.due ≡ Refused line refusal text → BeginsWhole bytes → ⊥
+not_refused bytes stage line refusal text is due whole =
+    let on = goes_to_yes whole.beginning whole.accepted in
+    let yes = subst (λ (b : List ℕ). IsYes (b ++ on.more) on.steps on.roots) (sym whole.bytes_are) on.log in
+    let same = one_verdict (bytes ++ on.more) (Yes on.steps on.roots) (No line refusal) yes
+    (first_fault bytes stage line refusal text is due on.more) in
+    cc
+
+pub none_so_far : (bytes : List ℕ) (account_is : Account) (due : Due) → IsReached (record { account = account_is; due = due }) bytes
+    → BeginsWhole bytes → verdict_so_far due ≡ None
+none_so_far bytes account (Refused line refusal text) is whole = absurd (not_refused bytes _ line refusal text is refl whole)
+none_so_far bytes account due is whole = refl
+
+-- Want of memory
+
+lacks_line : (beginning : Beginning) (rest more : List ℕ) → IsAccepted beginning → Lacks (stage_after beginning) rest more
+    → MayLackMemory (text_of (lines_of beginning) ++ rest) more
+lacks_line (BodyOf rules_are roots steps) rest more runs lacks =
+    let line = lacks.line in
+    let allowed = allowed_form (account_after rules_are roots steps) line lacks.names.1 in
+    record {
+      rules = rules_are;
+      roots = roots;
+      steps = steps;
+      line = line;
+      text = spelling line;
+      bytes_are = ap (λ (b : List ℕ). text_of (body_lines rules_are roots steps) ++ b) lacks.begins.1
+          ∙ sym (append_assoc (text_of (body_lines rules_are roots steps)) (spelling line) (10 ∷ more));
+      runs = runs;
+      spelled = (
+        (lacks.begins.0, refl),
+        subst (λ (r : Rules). has_form r line ≡ true) (account_after-grows rules_are roots steps).rules_stay allowed.0,
+      );
+      free = allowed.1;
+      first = lacks.names.2;
+    }
+lacks_line Empty rest more accepted lacks = let no : ⊥ = cc (lacks.names.0) in absurd no
+lacks_line NoMode rest more accepted lacks = let no : ⊥ = cc (lacks.names.0) in absurd no
+lacks_line (Whole rules_are roots steps) rest more accepted lacks = let no : ⊥ = cc (lacks.names.0) in absurd no
+
+-- where no line is faulty, all were read
+pub clear_goes : (old : Stage) (bytes : List ℕ) (new : Stage) → Follows old bytes new → (IsAtFault new.due → ⊥) → Goes old bytes new
+clear_goes old bytes new (inl goes) clear = goes
+clear_goes old bytes new (inr (front, rest, are, middle, goes, faults)) clear = absurd (clear (faults_at middle rest new faults))
+
+pub lacks_memory : (bytes rest more : List ℕ) (stage : Stage) → Follows unread bytes stage → Lacks stage rest more
+    → MayLackMemory (bytes ++ rest) more
+lacks_memory bytes rest more stage follows lacks =
+    let goes = clear_goes unread bytes stage follows (λ at_fault. subst IsAtFault lacks.names.0 at_fault) in
+    let b = begun bytes stage goes in
+    subst (λ (t : List ℕ). MayLackMemory (t ++ rest) more) (ap text_of b.2 ∙ sym goes.bytes_are)
+    (lacks_line b.0 rest more b.1 (subst (λ (s : Stage). Lacks s rest more) (sym b.3) lacks))
+
+-- Where the bytes end
+
+-- a log
+whole_told : (rules_are : Rules) (roots : List DeclaredRoot) (steps : List Step) (bytes : List ℕ) (held : Held) (verdict : Verdict) (text : List ℕ)
+    → RunsBy rules_are roots steps → bytes ≡ text_of (lines_of (Whole rules_are roots steps)) → account_of held ≡ account_after rules_are roots steps
+    → EndsIn (stage_after (Whole rules_are roots steps)) [] verdict text → EndsWith bytes true held verdict text
+whole_told rules_are roots steps bytes held (Yes step_count root_count) text runs are account ends =
+    let counts = account_after-grows rules_are roots steps in (
+      record {
+        rules = rules_are;
+        roots = roots;
+        steps = steps;
+        log = record { bytes_are = are; runs = runs };
+        step_count_is = omega (arith, ends.1, counts.steps_are);
+        root_count_is = omega (arith, ends.2, counts.roots_are);
+      },
+      record { rules = rules_are; roots = roots; steps = steps; log = record { bytes_are = are; runs = runs }; account = account },
+      tt,
+    )
+whole_told rules_are roots steps bytes held (No line refusal) text runs are account ends = let no : ⊥ = cc in absurd no
+
+-- a faulty line, cut or after the end line
+cut_told : (beginning : Beginning) (rest bytes : List ℕ) (held : Held) (refusal : Refusal) (verdict : Verdict) (text : List ℕ)
+    → IsBehind bytes beginning rest → IsCut rest → Refuses beginning rest refusal → account_of held ≡ account_before beginning
+    → (let stage = stage_after beginning in due_at_end stage.account stage.due rest ≡ refused_at stage.account stage.due refusal rest)
+    → EndsIn (stage_after beginning) rest verdict text → EndsWith bytes true held verdict text
+cut_told beginning rest bytes held refusal (Yes steps roots) text here cut refused account is ends =
+    let at = sym is ∙ ends.0 in let no : ⊥ = cc in absurd no
+cut_told beginning rest bytes held refusal (No line why) text here cut refused account is ends =
+    let at = sym is ∙ ends in
+    let number : lines_read (stage_after beginning).account (stage_after beginning).due + 1 ≡ line = cc in
+    let same : refusal ≡ why = cc in
+    let whole : rest ≡ text = cc in
+    let line_is : line ≡ length (lines_of beginning) + 1 = sym number ∙ ap (λ (n : ℕ). n + 1) (counted beginning) in (
+      record {
+        beginning = beginning;
+        rest = rest;
+        bytes_are = here.bytes_are;
+        accepted = here.accepted;
+        number_is = line_is;
+        refused = subst (Refuses beginning rest) same refused;
+      },
+      tt,
+      record {
+        beginning = beginning;
+        rest = rest;
+        behind = here;
+        line_is = line_is;
+        account = account;
+        front = inr (inl (cut, (sym whole, refl)));
+      },
+    )
+
+end_told : (beginning : Beginning) (rest bytes : List ℕ) (held : Held) (verdict : Verdict) (text : List ℕ) → IsBehind bytes beginning rest
+    → IsCut rest → account_of held ≡ account_before beginning → EndsIn (stage_after beginning) rest verdict text → EndsWith bytes true held verdict text
+end_told (Whole rules_are roots steps) [] bytes held verdict text here cut account ends =
+    whole_told rules_are roots steps bytes held verdict text here.accepted (here.bytes_are ∙ append-nil _) account ends
+end_told (Whole rules_are roots steps) (b ∷ rest) bytes held verdict text here cut account ends =
+    cut_told (Whole rules_are roots steps) (b ∷ rest) bytes held Misplaced verdict text here cut (λ e. cc, refl) account refl ends
+end_told Empty rest bytes held verdict text here cut account ends =
+    cut_told Empty rest bytes held Truncated verdict text here cut (inr (inl (cut, refl))) account refl ends
+end_told NoMode rest bytes held verdict text here cut account ends =
+    cut_told NoMode rest bytes held Truncated verdict text here cut (inr (inl (cut, refl))) account refl ends
+end_told (BodyOf rules_are roots steps) rest bytes held verdict text here cut account ends =
+    cut_told (BodyOf rules_are roots steps) rest bytes held Truncated verdict text here cut (inr (inl (cut, refl))) account refl ends
+
+-- behind a faulty line
+pub fault_ends : (bytes : List ℕ) (stage : Stage) (line : ℕ) (refusal : Refusal) (text : List ℕ) (held : Held) → IsReached stage bytes
+    → stage.due ≡ Refused line refusal text → account_of held ≡ stage.account → (ended : Bool)
+    → EndsWith bytes ended held (No line refusal) text
+fault_ends bytes stage line refusal text held is due same ended =
+    (fault_stands bytes stage line refusal text is due ended, tt, fault_stops bytes stage line refusal text held is due same ended)
+
+fault_in : (due : Due) → IsAtFault due → (line : ℕ) × (refusal : Refusal) × (text : List ℕ) × (due ≡ Refused line refusal text)
+fault_in (Refused line refusal text) is = (line, refusal, text, refl)
+fault_in due is = absurd is
+
+pub refused_told : (bytes rest : List ℕ) (stage : Stage) (held : Held) (verdict : Verdict) (text : List ℕ) → IsReached stage bytes
+    → IsAtFault stage.due → account_of held ≡ stage.account → EndsIn stage rest verdict text → (ended : Bool)
+    → EndsWith bytes ended held verdict text
+refused_told bytes rest stage held (Yes steps roots) text is at_fault same ends ended =
+    let due = (fault_in stage.due at_fault).3 in
+    let at = subst (λ (d : Due). due_at_end stage.account d rest ≡ Ended) due ends.0 in let no : ⊥ = cc in absurd no
+refused_told bytes rest stage held (No line refusal) text is at_fault same ends ended =
+    let due = (fault_in stage.due at_fault).3 in
+    let at = due ∙ subst (λ (d : Due). due_at_end stage.account d rest ≡ Refused line refusal text) due ends in
+    fault_ends bytes stage line refusal text held is at same ended
+
+pub told : (bytes rest : List ℕ) (stage : Stage) (held : Held) (verdict : Verdict) (text : List ℕ) → Follows unread bytes stage
+    → account_of held ≡ stage.account → IsCut rest → EndsIn stage rest verdict text → EndsWith (bytes ++ rest) true held verdict text
+told bytes rest stage held verdict text (inl goes) same cut ends =
+    let b = begun bytes stage goes in
+    let here : IsBehind (bytes ++ rest) b.0 rest = record {
+      bytes_are = ap (λ (t : List ℕ). t ++ rest) (goes.bytes_are ∙ ap text_of (sym b.2));
+      accepted = b.1;
+    } in
+    end_told b.0 rest (bytes ++ rest) held verdict text here cut (same ∙ ap (λ (s : Stage). s.account) (sym b.3) ∙ account_is b.0)
+    (subst (λ (s : Stage). EndsIn s rest verdict text) (sym b.3) ends)
+told bytes rest stage held verdict text (inr faulty) same cut ends =
+    refused_told (bytes ++ rest) rest stage held verdict text (reached (bytes ++ rest) stage (follows_more unread bytes rest stage faulty))
+    (faults_at faulty.3 faulty.1 stage faulty.5) same ends true

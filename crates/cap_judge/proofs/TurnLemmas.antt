@@ -1,0 +1,331 @@
+-- What lines lead to, and where a judge stops.
+use Rattle.std.proofs.Common.{◌≡◌, ◌≢◌, ℕ, ◌+◌, ◌-◌, inl, inr, true, false, List, [], ◌∷◌, ◌++◌, length, take, drop, refl, sym, ap, subst, ◌∙◌, arith}
+use Rattle.std.proofs.Common.{append-nil, append_assoc, not, None, Some, Option, Result, Ok, Err, Bool, ◌⊎◌, ◌↔◌, ◌<◌, IfSome, IfErr, OnOk, MatchResult, nat_lt}
+use Rattle.std.proofs.lemmas.Bool.{not-false}
+use Rattle.cap_machine.proofs.AccountLemmas.{first_of-none}
+use Rattle.cap_ops.proofs.TestLemmas.{none_hold}
+use Rattle.std.proofs.lemmas.Grind.{flat_map-append}
+use Rattle.std.proofs.lemmas.List.{length-append, length-drop, take_at}
+use Rattle.std.proofs.lemmas.List.Prefix.{end_rest}
+use Rattle.cap_log.proofs.ElementLemmas.{AllByRecursion-append}
+use Rattle.cap_log.proofs.FrontLemmas.{IsLine-not_cut, IsLine-not_too_long, IsLine-same, IsTooLong-not_cut}
+use Rattle.cap_log.proofs.SpellingLemmas.{IsLine-spelling}
+use Rattle.cap_log.specs.Front.{IsCut, IsFrontText, IsLine, IsTooLong}
+use Rattle.cap_log.specs.Lines.{IsInRange, spelling}
+use Rattle.cap_log.specs.Parts.{Begins, BeginsWithNone}
+use Rattle.cap_log.specs.declared.lines.Line.{Line}
+use Rattle.cap_log.specs.declared.lines.Line.TheVariants as lines
+use Rattle.cap_log.specs.declared.lines.Place.{Place}
+use Rattle.cap_log.specs.declared.kinds.Step.{Step}
+use Rattle.cap_word.specs.declared.word.Word.{Word}
+use Rattle.cap_ops.specs.Checks.{first_of}
+use Rattle.cap_ops.specs.declared.refusal.Refusal.{Refusal}
+use Rattle.cap_ops.specs.declared.refusal.Refusal.TheVariants.{BadLine, Misplaced, Truncated}
+use Rattle.cap_machine.specs.Accounts.{Account, root_checks}
+use Rattle.cap_machine.specs.Helds.{Held, account_of, AnswersStep, EndsRoot, EndsStep, Makes, TakesRoot}
+use Rattle.cap_machine.specs.declared.ends.StepEnd.{StepEnd}
+use Rattle.cap_machine.specs.declared.ends.StepEnd.TheVariants as ends
+use Rattle.cap_machine.specs.declared.rules.Rules.{Rules}
+use Rattle.cap_machine.specs.declared.rules.Rules.TheVariants.{One}
+use Rattle.cap_judge.specs.declared.judges.Stage as code
+use Rattle.cap_judge.specs.declared.judges.Stage.TheVariants as stages
+use Rattle.cap_judge.specs.declared.judges.Stop.{Stop}
+use Rattle.cap_judge.specs.declared.judges.Stop.TheVariants as stops
+use Rattle.cap_judge.specs.declared.faults.Fault.{Fault}
+use Rattle.cap_judge.specs.declared.verdict.Verdict.{Verdict}
+use Rattle.cap_judge.specs.declared.verdict.Verdict.TheVariants.{Yes, No}
+use Rattle.cap_judge.specs.declared.verdict.TakeFault.{TakeFault}
+use Rattle.cap_judge.specs.declared.verdict.TakeFault.TheVariants.{NoLine, NoMemory}
+use Rattle.cap_log.specs.FaultLines.{bytes_of}
+use Rattle.cap_judge.specs.Logs.{has_form, line_checks, text_of}
+use Rattle.cap_judge.specs.Readings.{EndsAs, EndsAt, EndsFor, EndsIn, Follows, Goes, GoesOrStops, IsAtFault, IsNoLine, Lacks}
+use Rattle.cap_judge.specs.Judgings.{IsLastFront}
+use Rattle.cap_judge.specs.Readings.{RefusesNext, StopsAt, Takes, TakesAll, TakesStep, at, due_of, due_at_end, lines_read, refused_at}
+use Rattle.cap_judge.specs.Turns.{Body, Ended, Reads, Stage, behind, refusal_at}
+
+-- Lines that are read
+
+-- one reading after another
+pub Reads-append : (from middle to : Stage) (lines more : List Line) → Reads from lines middle → Reads middle more to
+    → Reads from (lines ++ more) to
+Reads-append from middle to [] more h k = subst (λ (stage : Stage). Reads stage more to) (sym h) k
+Reads-append from middle to (line ∷ lines) more h k = (h.0, Reads-append (behind from line) middle to lines more h.1 k)
+
+pub goes_none : (stage : Stage) → Goes stage [] stage
+goes_none stage = record { lines = []; in_range = tt; bytes_are = refl; reads = refl }
+
+unfoldable pub goes_on : (first old new : Stage) (front more : List ℕ) → Goes first front old → Goes old more new → Goes first (front ++ more) new
+goes_on first old new front more so_far next = record {
+  lines = so_far.lines ++ next.lines;
+  in_range = AllByRecursion-append IsInRange so_far.lines next.lines so_far.in_range next.in_range;
+  bytes_are = ap (λ (t : List ℕ). t ++ more) so_far.bytes_are ∙ ap (λ (t : List ℕ). text_of so_far.lines ++ t) next.bytes_are
+      ∙ sym (flat_map-append (λ (line : Line). spelling line ++ 10 ∷ []) so_far.lines next.lines);
+  reads = Reads-append first old new so_far.lines next.lines so_far.reads next.reads;
+}
+
+pub one_goes : (old new : Stage) (line : Line) → IsInRange line → Takes old line new → Goes old (spelling line ++ 10 ∷ []) new
+one_goes old new line range takes =
+    record { lines = line ∷ []; in_range = (range, tt); bytes_are = sym (append-nil _); reads = (takes.0, sym takes.1) }
+
+-- the same of bytes that go on
+abbrev pub goes_more : (first old new : Stage) (bytes front rest more behind : List ℕ) → bytes ≡ front ++ rest → Goes first front old
+    → rest ≡ more ++ behind → Goes old more new → (fronts : List ℕ) × (bytes ≡ fronts ++ behind) × Goes first fronts new
+goes_more first old new bytes front rest more behind is so_far is_more next = (
+  front ++ more,
+  is ∙ ap (λ (r : List ℕ). front ++ r) is_more ∙ sym (append_assoc front more behind),
+  goes_on first old new front more so_far next,
+)
+
+-- one line more
+abbrev pub goes_line : (first old new : Stage) (bytes front rest behind : List ℕ) (line : Line) → bytes ≡ front ++ rest
+    → Goes first front old → Begins IsInRange spelling 10 rest line behind → Takes old line new
+    → (fronts : List ℕ) × (bytes ≡ fronts ++ behind) × Goes first fronts new
+goes_line first old new bytes front rest behind line is so_far begins takes =
+    goes_more first old new bytes front rest (spelling line ++ 10 ∷ []) behind is so_far
+    (begins.1 ∙ sym (append_assoc (spelling line) (10 ∷ []) behind)) (one_goes old new line begins.0 takes)
+
+-- what ends with a line feed is not empty
+feed_some : (front text : List ℕ) → front ++ (text ++ 10 ∷ []) ≢ []
+feed_some [] [] = λ e. cc
+feed_some [] (b ∷ text) = λ e. cc
+feed_some (a ∷ front) text = λ e. cc
+
+pub goes_line_some : (first old new : Stage) (bytes front rest behind : List ℕ) (line : Line) → bytes ≡ front ++ rest
+    → Goes first front old → Begins IsInRange spelling 10 rest line behind → Takes old line new
+    → (fronts : List ℕ) × (bytes ≡ fronts ++ behind) × GoesOrStops first fronts behind None new
+goes_line_some first old new bytes front rest behind line is so_far begins takes =
+    let on = goes_line first old new bytes front rest behind line is so_far begins takes in
+    (on.0, on.1, (feed_some front (spelling line), on.2))
+
+-- Stops behind what was taken
+
+stops_later : (first old new : Stage) (front middle rest : List ℕ) (stop : Stop) → Goes first front old
+    → StopsAt old middle rest stop new → StopsAt first (front ++ middle) rest stop new
+stops_later first old new front middle rest stops.Cut so_far stop = (goes_on first old new front middle so_far stop.0, stop.1, stop.2)
+stops_later first old new front middle rest stops.Fault so_far stop = (stop.0, goes_on first old stop.0 front middle so_far stop.1, stop.2)
+stops_later first old new front middle rest stops.NoMemory so_far stop = (goes_on first old new front middle so_far stop.0, stop.1, stop.2)
+
+pub stops_after : (first old new : Stage) (front rest : List ℕ) (stop : Stop) → Goes first front old → StopsAt old [] rest stop new
+    → StopsAt first front rest stop new
+stops_after first old new front rest stop so_far stops =
+    subst (λ (f : List ℕ). StopsAt first f rest stop new) (append-nil front) (stops_later first old new front [] rest stop so_far stops)
+
+-- how much of some bytes a front is
+front_count : (bytes front rest : List ℕ) → bytes ≡ front ++ rest
+    → (take (length bytes - length rest) bytes ≡ front) × (drop (length bytes - length rest) bytes ≡ rest)
+front_count bytes front rest split =
+    let count : length bytes - length rest ≡ length front = omega (arith, ap length split, length-append front rest) in (
+      ap (take (length bytes - length rest)) split ∙ take_at front rest (length bytes - length rest) (sym count),
+      end_rest bytes rest front split,
+    )
+
+-- where the whole stopped
+pub stops_here : (first old new : Stage) (bytes so_far front middle rest : List ℕ) (stop : Stop) → bytes ≡ so_far ++ front → front ≡ middle ++ rest
+    → Goes first so_far old → StopsAt old middle rest stop new
+    → StopsAt first (take (length bytes - length rest) bytes) (drop (length bytes - length rest) bytes) stop new
+stops_here first old new bytes so_far front middle rest stop split there on stops =
+    let whole = split ∙ ap (λ (b : List ℕ). so_far ++ b) there ∙ sym (append_assoc so_far middle rest) in
+    let counts = front_count bytes (so_far ++ middle) rest whole in
+    subst (λ (f : List ℕ). StopsAt first f (drop (length bytes - length rest) bytes) stop new) (sym counts.0)
+    (subst (λ (r : List ℕ). StopsAt first (so_far ++ middle) r stop new) (sym counts.1)
+    (stops_later first old new so_far middle rest stop on stops))
+
+-- Lines after the header
+
+-- a line that has a form by the rules of version 1 has one by any rules
+formed : (rules_are : Rules) (line : Line) → has_form One line ≡ true → has_form rules_are line ≡ true
+formed One line one = one
+formed rules_are line one = refl
+
+-- so only its checks refuse it
+pub by_checks : (account : Account) (line : Line) → has_form One line ≡ true
+    → refusal_at account Body (Some line) ≡ first_of (line_checks account line)
+by_checks account line one =
+    ap (λ (form : Bool). first_of ((not form, BadLine) ∷ line_checks account line)) (formed account.rules line one)
+
+-- and a line that is allowed has a form, and none of its checks fails
+pub allowed_form : (account : Account) (line : Line) → refusal_at account Body (Some line) ≡ None
+    → (has_form account.rules line ≡ true) × (first_of (line_checks account line) ≡ None)
+allowed_form account line allowed =
+    let checks = none_hold ((not (has_form account.rules line), BadLine) ∷ line_checks account line) allowed in
+    (not-false _ checks.0, first_of-none (line_checks account line) checks.1)
+
+-- the stage in a body
+abbrev pub body : Account → Stage
+body account_is = record { account = account_is; due = Body }
+
+-- a step that a machine makes, or not
+pub makes_takes : (old new : Held) (step : Step) → Makes old step new → Takes (at stages.Body old) (lines.Step step) (at stages.Body new)
+makes_takes old new step makes = (by_checks (account_of old) (lines.Step step) refl ∙ makes.checks, ap body makes.account)
+
+pub step_ends : (old new : Held) (step : Step) (end : StepEnd) → EndsStep old step end new
+    → EndsFor (at stages.Body old) (lines.Step step) end × (new ≡ old)
+step_ends old new step (ends.Refused refusal) ended = (by_checks (account_of old) (lines.Step step) refl ∙ ended.0, ended.1)
+step_ends old new step ends.NoMemory ended =
+    ((refl, by_checks (account_of old) (lines.Step step) refl ∙ ended.0, ended.1), ended.2)
+
+pub step_answered : (old new : Held) (bytes : List ℕ) (step : Step) (result : Result (Unit {0}) StepEnd)
+    → Begins IsInRange spelling 10 bytes (lines.Step step) [] → AnswersStep old step result new → TakesAll old bytes (Some result) new
+step_answered old new bytes step (Ok done) begins makes = (step, begins, makes_takes old new step makes)
+step_answered old new bytes step (Err end) begins ends =
+    let stop = step_ends old new step end ends in ((step, begins, stop.0), stop.1)
+
+pub step_outcome : (stage : code.Stage) (old new : Held) (line : Line) (step : Step) (result : Result (Unit {0}) StepEnd)
+    → stage ≡ stages.Body → line ≡ lines.Step step → AnswersStep old step result new
+    → OnOk result (Takes (at stage old) line (at stage new)) × IfErr result (EndsFor (at stage old) line)
+step_outcome stage old new line step (Ok done) is same makes = rw (is, same) (makes_takes old new step makes, tt)
+step_outcome stage old new line step (Err end) is same ended = rw (is, same) (tt, (step_ends old new step end ended).0)
+
+-- a root before all steps
+root_checked : (held : Held) (place : Place) (word : Word) → held.steps ≡ 0
+    → refusal_at (account_of held) Body (Some (lines.Root place word)) ≡ first_of (root_checks (account_of held) place word)
+root_checked held place word none =
+    by_checks (account_of held) (lines.Root place word) refl
+    ∙ ap (λ (n : ℕ). first_of ((nat_lt 0 n, Misplaced) ∷ root_checks (account_of held) place word)) none
+
+pub root_outcome : (stage : code.Stage) (old new : Held) (place : Place) (word : Word) (result : Result (Unit {0}) StepEnd)
+    → stage ≡ stages.Body → old.steps ≡ 0
+    → MatchResult result (λ _. TakesRoot old place word new) (λ end. EndsRoot old place word end new)
+    → OnOk result (Takes (at stage old) (lines.Root place word) (at stage new)) × IfErr result (EndsFor (at stage old) (lines.Root place word))
+root_outcome stage old new place word (Ok done) is none takes =
+    rw is ((root_checked old place word none ∙ takes.checks, ap body takes.account), tt)
+root_outcome stage old new place word (Err (ends.Refused refusal)) is none ended = rw is (tt, root_checked old place word none ∙ ended.0)
+root_outcome stage old new place word (Err ends.NoMemory) is none ended =
+    rw is (tt, (refl, root_checked old place word none ∙ ended.0, ended.1))
+
+-- a line of the header
+pub header_ends : (account : Account) (line : Line) (form : Bool) (refusal : Refusal) → has_form account.rules line ≡ form
+    → first_of (line_checks account line) ≡ Some Misplaced → (form ≡ true → refusal ≡ Misplaced) → (form ≡ false → refusal ≡ BadLine)
+    → refusal_at account Body (Some line) ≡ Some refusal
+header_ends account line true refusal is checks misplaced bad =
+    ap (λ (form : Bool). first_of ((not form, BadLine) ∷ line_checks account line)) is ∙ checks ∙ ap Some (sym (misplaced refl))
+header_ends account line false refusal is checks misplaced bad =
+    ap (λ (form : Bool). first_of ((not form, BadLine) ∷ line_checks account line)) is ∙ ap Some (sym (bad refl))
+
+-- Fronts
+
+-- a line at the front of some bytes
+pub line_is : (line : Line) (bytes rest : List ℕ) → Begins IsInRange spelling 10 bytes line rest → IsLine bytes (spelling line) rest
+line_is line bytes rest is = subst (λ (b : List ℕ). IsLine b (spelling line) rest) (sym is.1) (IsLine-spelling line is.0 rest)
+
+-- bytes that no line in range begins
+pub none_spelled : (bytes text rest : List ℕ) → BeginsWithNone IsInRange spelling 10 bytes → IsLine bytes text rest
+    → (line : Line) → IsInRange line → text ≡ spelling line → ⊥
+none_spelled bytes text rest none whole line range is = none line rest (range, whole.whole ∙ ap (λ (t : List ℕ). t ++ 10 ∷ rest) is)
+
+-- one that is not taken
+pub ends_at : (stage : Stage) (bytes rest : List ℕ) (line : Line) (end : StepEnd) → Begins IsInRange spelling 10 bytes line rest
+    → EndsFor stage line end → EndsAt stage bytes end
+ends_at stage bytes rest line (ends.Refused refusal) is refused =
+    inl (spelling line, rest, Some line, line_is line bytes rest is, (is.0, refl), refused)
+ends_at stage bytes rest line ends.NoMemory is names = (rest, record { line = line; begins = is; names = names })
+
+pub front_end : (stage : code.Stage) (held : Held) (rest : List ℕ) (end : Option StepEnd) → stage ≡ stages.Body
+    → IfSome end (EndsAt (at stages.Body held) rest)
+    → IfSome end (λ e. EndsAt (at stage held) rest e × (IsAtFault (due_of stage) → ⊥))
+front_end stage held rest None is ends_at = tt
+front_end stage held rest (Some end) is ends_at = rw is (ends_at, λ fault. fault)
+
+-- the text of what is refused, whatever follows
+pub last_front : (stage : Stage) (rest text : List ℕ) (refusal : Refusal) → RefusesNext stage rest refusal → IsFrontText rest text
+    → IsLastFront rest false text
+last_front stage rest text refusal refused (inl long) = inl long
+last_front stage rest text refusal (inl line) (inr (inl cut)) = absurd (IsLine-not_cut rest line.0 line.1 line.3 cut.0)
+last_front stage rest text refusal (inr long) (inr (inl cut)) = absurd (IsTooLong-not_cut rest long.0 cut.0)
+last_front stage rest text refusal refused (inr (inr whole)) = inr (inr whole)
+
+-- Lines alone
+
+abbrev pub IsWhole : List ℕ → Type 0
+IsWhole line = ((text : List ℕ) × IsLine line text []) ⊎ IsTooLong line
+
+pub whole_some : (line : List ℕ) → IsWhole line → IsNoLine line → ⊥
+whole_some line (inl whole) none = none.0 whole.0 whole.1
+whole_some line (inr long) none = none.1 long
+
+pub whole_uncut : (line : List ℕ) → IsWhole line → IsCut line → ⊥
+whole_uncut line (inl whole) cut = IsLine-not_cut line whole.0 [] whole.1 cut
+whole_uncut line (inr long) cut = IsTooLong-not_cut line long cut
+
+-- nothing comes behind the line
+whole_rest : (line text rest : List ℕ) → IsWhole line → IsLine line text rest → rest ≡ []
+whole_rest line text rest (inl whole) is = (IsLine-same line text rest whole.0 [] is whole.1).1
+whole_rest line text rest (inr long) is = absurd (IsLine-not_too_long line text rest is long)
+
+-- it was taken, or is faulty; or memory is wanted for it
+pub whole_taken : (old new : Stage) (bytes rest : List ℕ) (line : Line) → IsWhole bytes → Begins IsInRange spelling 10 bytes line rest
+    → Takes old line new → Follows old bytes new
+whole_taken old new bytes rest line whole is takes =
+    let none = whole_rest bytes (spelling line) rest whole (line_is line bytes rest is) in
+    inl (subst (λ (b : List ℕ). Goes old b new) (sym (is.1 ∙ ap (λ (r : List ℕ). spelling line ++ 10 ∷ r) none)) (one_goes old new line is.0 takes))
+
+pub whole_lacks : (stage : Stage) (bytes rest : List ℕ) → IsWhole bytes → Lacks stage bytes rest → Lacks stage bytes []
+whole_lacks stage bytes rest whole lacks =
+    subst (Lacks stage bytes) (whole_rest bytes (spelling lacks.line) rest whole (line_is lacks.line bytes rest lacks.begins)) lacks
+
+pub stop_follows : (old new : Stage) (front rest : List ℕ) → StopsAt old front rest stops.Fault new → Follows old (front ++ rest) new
+stop_follows old new front rest stop = inr (front, rest, refl, stop.0, stop.1, stop.2)
+
+-- the line of a step, alone
+pub step_whole : (bytes : List ℕ) (step : Step) → Begins IsInRange spelling 10 bytes (lines.Step step) [] → IsWhole bytes
+step_whole bytes step begins = inl (spelling (lines.Step step), line_is (lines.Step step) bytes [] begins)
+
+pub step_follows : (stage : code.Stage) (old new : Held) (bytes : List ℕ) → stage ≡ stages.Body → TakesStep old bytes new []
+    → Follows (at stage old) bytes (at stage new)
+step_follows stage old new bytes is (step, begins, takes) =
+    rw (is, begins.1) (inl (one_goes (at stages.Body old) (at stages.Body new) (lines.Step step) begins.0 takes))
+
+-- more than a line, or less than one
+pub longer_no_line : (line : List ℕ) (n : ℕ) → (n < length line) × IsLine line (take n line) (drop (n + 1) line)
+    → (n + 1 ≡ length line → ⊥) → IsNoLine line
+longer_no_line line n found longer = (
+  λ text whole.
+      let none = ap length (IsLine-same line text [] (take n line) (drop (n + 1) line) whole found.1).1 in
+      longer (omega (arith, none, length-drop (n + 1) line, found.0)),
+  λ long. IsLine-not_too_long line (take n line) (drop (n + 1) line) found.1 long,
+)
+
+pub cut_no_line : (line : List ℕ) → IsCut line → IsNoLine line
+cut_no_line line cut = (λ text whole. IsLine-not_cut line text [] whole cut, λ long. IsTooLong-not_cut line long cut)
+
+-- a line is never refused as none
+pub no_line : (result : Result (Unit {0}) TakeFault) (line : List ℕ) → (IsNoLine line → ⊥) → (result ≡ Err NoLine → ⊥)
+    → (result ≡ Err NoLine) ↔ IsNoLine line
+no_line result line some other = (λ is. absurd (other is), λ none. absurd (some none))
+
+-- what is refused for want of memory alone
+pub memory_only : (result : Result (Unit {0}) TakeFault) (X : Type 0) → IfErr result (λ fault. (fault ≡ NoMemory) × X)
+    → result ≡ Err NoLine → ⊥
+memory_only (Ok done) X said is = cc
+memory_only (Err fault) X said is = let only = said.0 in cc
+
+-- Where the bytes end
+
+-- the text of a front that is cut
+cut_text : (rest text : List ℕ) → IsCut rest → IsFrontText rest text → text ≡ rest
+cut_text rest text cut (inl long) = absurd (IsTooLong-not_cut rest long.0 cut)
+cut_text rest text cut (inr (inl is)) = is.1
+cut_text rest text cut (inr (inr whole)) = absurd (IsLine-not_cut rest whole.0 whole.1 whole.2 cut)
+
+-- the faulty line there
+pub ends_refused : (stage : Stage) (rest : List ℕ) (refusal : Refusal) (fault : Fault)
+    → due_at_end stage.account stage.due rest ≡ refused_at stage.account stage.due refusal rest → IsCut rest
+    → fault.line ≡ lines_read stage.account stage.due + 1 → fault.refusal ≡ refusal → IsFrontText rest (bytes_of fault.text)
+    → EndsAs stage rest (Err fault)
+ends_refused stage rest refusal fault refused cut number same front =
+    refused ∙ cc (number, same, cut_text rest (bytes_of fault.text) cut front)
+
+pub ended_some : (account : Account) (rest : List ℕ) → rest ≢ [] → due_at_end account Ended rest ≡ refused_at account Ended Misplaced rest
+ended_some account [] some = absurd (some refl)
+ended_some account (b ∷ rest) some = refl
+
+pub unended : (stage : code.Stage) (account : Account) (rest : List ℕ) → (stage ≡ stages.Ended → ⊥)
+    → ((fault : Fault) → stage ≡ stages.Refused fault → ⊥)
+    → due_at_end account (due_of stage) rest ≡ refused_at account (due_of stage) Truncated rest
+unended stages.Ended account rest goes clear = absurd (goes refl)
+unended (stages.Refused fault) account rest goes clear = absurd (clear fault refl)
+unended stage account rest goes clear = refl
+
+pub ends_ok : (stage : Stage) (rest : List ℕ) (verdict : Verdict) → EndsAs stage rest (Ok verdict) → EndsIn stage rest verdict []
+ends_ok stage rest (Yes steps roots) ends = ends
+ends_ok stage rest (No line refusal) ends = absurd ends
