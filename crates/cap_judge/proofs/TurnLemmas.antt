@@ -299,6 +299,11 @@ pub memory_only : (result : Result (Unit {0}) TakeFault) (X : Type 0) → IfErr 
 memory_only (Ok done) X said is = cc
 memory_only (Err fault) X said is = let only = said.0 in cc
 
+pub memory_why : (result : Result (Unit {0}) TakeFault) (X : Type 0) → IfErr result (λ fault. (fault ≡ NoMemory) × X)
+    → result ≡ Err NoMemory → X
+memory_why (Ok done) X said is = absurd (cc)
+memory_why (Err fault) X said is = said.1
+
 -- Where the bytes end
 
 -- the text of a front that is cut

@@ -160,6 +160,10 @@ abbrev pub EndsLine : Held → List ℕ → StepEnd → Type 0
 EndsLine held bytes end =
     (step : Step) × Begins IsInRange spelling 10 bytes (lines.Step step) [] × EndsFor (at stages.Body held) (lines.Step step) end
 
+-- a step may come next, and the machine does not make this one
+abbrev pub IsUnmade : {M : Type 0} → Judge M → Step → StepEnd → Type 0
+IsUnmade judge step end = (judge.stage ≡ stages.Body) × EndsFor (at stages.Body judge.machine) (lines.Step step) end
+
 -- the bytes are the line of a step, which was taken, or isn't made; or they are none
 abbrev pub TakesAll : Held → List ℕ → Option (Result (Unit {0}) StepEnd) → Held → Type 0
 TakesAll old bytes (Some (Ok done)) new = TakesStep old bytes new []

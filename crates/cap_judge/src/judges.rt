@@ -9,7 +9,7 @@ ghost use Rattle.cap_judge.specs.Expectations.{ExpectsAt};
 ghost use Rattle.cap_judge.specs.Logs.{has_form, header_lines};
 ghost use Rattle.cap_judge.specs.Verdicts.{NamesEscapes};
 ghost use Rattle.cap_judge.specs.Turns.{refusal_at, rules_of, unread};
-ghost use Rattle.cap_judge.specs.Readings.{EndsAs, EndsAt, EndsFor, EndsIn, EndsLine, Faults, Follows, Goes, GoesOrStops, IsAtFault};
+ghost use Rattle.cap_judge.specs.Readings.{EndsAs, EndsAt, EndsFor, EndsIn, EndsLine, Faults, Follows, Goes, GoesOrStops, IsAtFault, IsUnmade};
 ghost use Rattle.cap_judge.specs.Readings.{IsFaultOf, IsNoLine, Lacks, RefusesNext, StopsAt, Takes, known_of, lines_read, long_refusal, stage_of};
 ghost use Rattle.cap_judge.specs.Readings.{verdict_so_far};
 ghost use Rattle.cap_judge.specs.declared.judges.Stage.TheVariants.{Body, Refused as RefusedIn, Mode as ModeStage, Version};
@@ -301,16 +301,21 @@ impl<M: TaggedStore> Judge<M> {
         if let Stage::Body = self.stage {
             return match step.perform(&mut self.machine) {
                 Ok(()) => Ok(()),
-                Err(_) => self.take_unmade(step),
+                Err(end) => self.take_unmade(step, Some(end)),
             };
         }
-        self.take_unmade(step)
+        self.take_unmade(step, None)
     }
 
-    // Takes a step that was not made. The call gets a value of its own: so a step needn't stand in memory where it is
-    // made.
+    // Takes a step that was not made, for the reason at which it ended, if it was tried. The call gets a value of its
+    // own: so a step needn't stand in memory where it is made.
     #[inline(always)]
-    fn take_unmade<I: Instruction>(&mut self, step: I) -> Result<(), TakeFault>
+    fn take_unmade<I: Instruction>(
+        &mut self,
+        step: I,
+        end: Option<StepEnd>,
+    ) -> Result<(), TakeFault>
+        requires ends { IfSome end (IsUnmade self.old (I.step step)) }
         ensures taken { OnOk result (Follows (stage_of self.old) (spelling (lines.Step (I.step step)) ++ 10 ∷ [])
             (stage_of self.new)) }
         ensures unchanged { IfErr result (λ _. known_of self.new ≡ known_of self.old) }
@@ -318,13 +323,14 @@ impl<M: TaggedStore> Judge<M> {
         ensures no_memory { result ≡ Err NoMemory → Lacks (stage_of self.old) (spelling (lines.Step (I.step step)) ++ 10 ∷ []) [] }
     {
         step.in_range();
-        self.take_written(step.into_step())
+        self.take_written(step.into_step(), end)
     }
 
-    // Takes a step by its line.
+    // Takes a step by its line, which is written. A step that ended isn't tried again.
     #[inline(never)]
-    fn take_written(&mut self, step: Step) -> Result<(), TakeFault>
-        requires { IsStepInRange step }
+    fn take_written(&mut self, step: Step, end: Option<StepEnd>) -> Result<(), TakeFault>
+        requires range { IsStepInRange step }
+        requires ends { IfSome end (IsUnmade self.old step) }
         ensures taken { OnOk result (Follows (stage_of self.old) (spelling (lines.Step step) ++ 10 ∷ [])
             (stage_of self.new)) }
         ensures unchanged { IfErr result (λ _. known_of self.new ≡ known_of self.old) }
@@ -333,7 +339,11 @@ impl<M: TaggedStore> Judge<M> {
     {
         let mut buffer = [0; 96];
         let length = write_line(&Line::Step(step), &mut buffer);
-        self.take_line(&buffer[..length])
+        let line = &buffer[..length];
+        match end {
+            Some(end) => self.take_end(end, line),
+            None => self.take_line(line),
+        }
     }
 
     /// Takes the steps at the front of some bytes, and then a line of any kind: what follows, and why it
