@@ -11,7 +11,7 @@ mod OriginLemmas
 pub mod ReportLemmas
 mod SomeVerdict
 mod InTurn
-mod ExpectedLemmas
+pub mod ExpectedLemmas
 pub mod TurnLemmas
 pub mod FollowLemmas
 pub mod TurnLaws

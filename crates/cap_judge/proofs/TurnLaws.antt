@@ -435,7 +435,7 @@ pub fault_ends : (bytes : List ℕ) (stage : Stage) (line : ℕ) (refusal : Refu
 fault_ends bytes stage line refusal text held is due same ended =
     (fault_stands bytes stage line refusal text is due ended, tt, fault_stops bytes stage line refusal text held is due same ended)
 
-fault_in : (due : Due) → IsAtFault due → (line : ℕ) × (refusal : Refusal) × (text : List ℕ) × (due ≡ Refused line refusal text)
+pub fault_in : (due : Due) → IsAtFault due → (line : ℕ) × (refusal : Refusal) × (text : List ℕ) × (due ≡ Refused line refusal text)
 fault_in (Refused line refusal text) is = (line, refusal, text, refl)
 fault_in due is = absurd is
 

@@ -9,12 +9,16 @@ use Rattle.cap_judge.specs.declared.verdict.Verdict.{Verdict}
 use Rattle.cap_judge.specs.declared.verdict.Verdict.TheVariants.{Yes, No}
 use Rattle.cap_judge.specs.Judgings.{IsVerdictOf, IsAnswerOf, LeadsAfter, StopsBefore, StopsIn}
 use Rattle.cap_log.specs.FaultLines.{bytes_of}
-use Rattle.cap_judge.specs.Readings.{EndsWith, StandsIn}
+use Rattle.cap_log.specs.Front.{IsCut}
+use Rattle.cap_judge.specs.Readings.{EndsAs, EndsWith, Follows, IsFaultOf, at, due_of}
+use Rattle.cap_judge.specs.Turns.{unread}
+use Rattle.cap_judge.specs.declared.judges.Stage.{Stage}
 use Rattle.cap_judge.specs.Reports.{Tells}
 use Rattle.cap_judge.specs.OriginLists.{report_text}
 use Rattle.cap_judge.specs.VerdictLines.{verdict_line}
 use Rattle.cap_judge.proofs.FaultPlaces.{at_fault}
 use Rattle.cap_judge.proofs.ReportLemmas.{IsHeld, tells}
+use Rattle.cap_judge.proofs.TurnLaws.{fault_ends, reached, told as told_at_end}
 use Rattle.cap_report.specs.FaultReports.{IsLineReport, IsReport}
 use Rattle.cap_report.specs.Whys.{Explains, ExplainsEnd, ExplainsSoFar, IsWhyText}
 
@@ -65,26 +69,35 @@ pub why_no : (origins : Bool) (held : Held) (text : List ℕ) (verdict : Verdict
 why_no origins held text verdict line refusal report is by =
     subst (λ (v : Verdict). IsWhyText origins held text v (verdict_line v ++ report)) (sym is) (report, by, refl)
 
--- the text of a line at fault that a judge was handed
-pub so_far : (bytes : List ℕ) (held : Held) (fault : Fault) (report : List ℕ) → StandsIn held bytes (Some fault)
-    → IsLineReport (account_of held) (bytes_of fault.text) fault.refusal report
+-- the text of a faulty line
+no_text : (bytes : List ℕ) (ended : Bool) (held : Held) (line : ℕ) (refusal : Refusal) (text report : List ℕ)
+    → EndsWith bytes ended held (No line refusal) text → IsLineReport (account_of held) text refusal report
+    → IsVerdictOf bytes ended (No line refusal) × Explains false bytes ended (No line refusal) (verdict_line (No line refusal) ++ report)
+no_text bytes ended held line refusal text report ends told =
+    (ends.0, (report, reported bytes ended held line refusal text report ends.0 ends.2 told, refl))
+
+-- of one that a judge was handed
+pub so_far : (bytes : List ℕ) (stage : Stage) (held : Held) (fault : Fault) (report : List ℕ) → Follows unread bytes (at stage held)
+    → IsFaultOf (due_of stage) (Some fault) → IsLineReport (account_of held) (bytes_of fault.text) fault.refusal report
     → ExplainsSoFar bytes (Some (No fault.line fault.refusal)) (verdict_line (No fault.line fault.refusal) ++ report)
-so_far bytes held fault report stands told = (
-  stands.0,
-  (report, reported bytes false held fault.line fault.refusal (bytes_of fault.text) report stands.0 stands.1 told, refl),
-)
+so_far bytes stage held fault report follows is told =
+    let reached = reached bytes (at stage held) follows in
+    no_text bytes false held fault.line fault.refusal (bytes_of fault.text) report
+    (fault_ends bytes (at stage held) fault.line fault.refusal (bytes_of fault.text) held reached is refl false) told
 
 -- the text of a verdict on bytes that end after lines that a judge was handed
-pub yes_at_end : (held : Held) (bytes : List ℕ) (end : Result Verdict Fault) (verdict : Verdict) → end ≡ Ok verdict
-    → EndsWith held bytes end → ExplainsEnd bytes verdict (verdict_line verdict)
-yes_at_end held bytes end (Yes steps roots) is ends = ((subst (EndsWith held bytes) is ends).0, refl)
-yes_at_end held bytes end (No line refusal) is ends = absurd (subst (EndsWith held bytes) is ends)
+pub yes_at_end : (bytes rest : List ℕ) (stage : Stage) (held : Held) (end : Result Verdict Fault) (verdict : Verdict) → end ≡ Ok verdict
+    → Follows unread bytes (at stage held) → IsCut rest → EndsAs (at stage held) rest end
+    → ExplainsEnd (bytes ++ rest) verdict (verdict_line verdict)
+yes_at_end bytes rest stage held end (Yes steps roots) is follows cut ends =
+    ((told_at_end bytes rest (at stage held) held (Yes steps roots) [] follows refl cut (subst (EndsAs (at stage held) rest) is ends)).0, refl)
+yes_at_end bytes rest stage held end (No line refusal) is follows cut ends = absurd (subst (EndsAs (at stage held) rest) is ends)
 
-pub no_at_end : (held : Held) (bytes : List ℕ) (end : Result Verdict Fault) (fault : Fault) (report : List ℕ) → end ≡ Err fault
-    → EndsWith held bytes end → IsLineReport (account_of held) (bytes_of fault.text) fault.refusal report
-    → ExplainsEnd bytes (No fault.line fault.refusal) (verdict_line (No fault.line fault.refusal) ++ report)
-no_at_end held bytes end fault report is ends told =
-    let stops = subst (EndsWith held bytes) is ends in (
-      stops.0,
-      (report, reported bytes true held fault.line fault.refusal (bytes_of fault.text) report stops.0 stops.1 told, refl),
-    )
+pub no_at_end : (bytes rest : List ℕ) (stage : Stage) (held : Held) (end : Result Verdict Fault) (fault : Fault) (report : List ℕ)
+    → end ≡ Err fault → Follows unread bytes (at stage held) → IsCut rest → EndsAs (at stage held) rest end
+    → IsLineReport (account_of held) (bytes_of fault.text) fault.refusal report
+    → ExplainsEnd (bytes ++ rest) (No fault.line fault.refusal) (verdict_line (No fault.line fault.refusal) ++ report)
+no_at_end bytes rest stage held end fault report is follows cut ends told =
+    let no = No fault.line fault.refusal in
+    no_text (bytes ++ rest) true held fault.line fault.refusal (bytes_of fault.text) report
+    (told_at_end bytes rest (at stage held) held no (bytes_of fault.text) follows refl cut (subst (EndsAs (at stage held) rest) is ends)) told

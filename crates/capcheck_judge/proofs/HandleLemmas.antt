@@ -1,5 +1,5 @@
 -- What a handle holds, by the judge that was taken out of it.
-use Rattle.std.proofs.Common.{◌≡◌, ◌<◌, ◌⊎◌, ◌∙◌, inl, inr, ℕ, List, [], ◌∷◌, ◌++◌, ap, arith, sym, subst}
+use Rattle.std.proofs.Common.{◌≡◌, ◌≢◌, refl, ◌<◌, ◌⊎◌, ◌∙◌, inl, inr, ℕ, List, [], ◌∷◌, ◌++◌, ap, arith, sym, subst}
 use Rattle.std.proofs.lemmas.Bool.{false≢true}
 use Rattle.std.specs.Prelude.{None, Option, is_some}
 use denote.RattleType.{RattleType}
@@ -11,10 +11,14 @@ use Rattle.cap_log.specs.declared.lines.Place.{Place}
 use Rattle.tagmem.specs.contracts.page_store.PageStore.{the_row as store_row}
 use Rattle.tagmem.specs.contracts.page_store.PageStoreTaggedStore.TheImpl.{ghosts}
 use Rattle.cap_judge.specs.contracts.judges.Judge.{the_row as judge_row}
-use Rattle.cap_judge.specs.Judgings.{account_before}
 use Rattle.cap_judge.specs.Logs.{MayLackMemory}
-use Rattle.cap_judge.specs.Readings.{BeginsWhole, HasRead, Known, Read, known_of}
-use Rattle.capcheck_judge.specs.Handles.{HandsOver, Held, Holds, known_in, origin_behind, state_behind}
+use Rattle.cap_judge.specs.Readings.{BeginsWhole, Follows, HasRead, Known, Lacks, Stands, at, known_of, stage_of, verdict_so_far}
+use Rattle.cap_judge.specs.Turns.{unread}
+use Rattle.cap_judge.specs.declared.verdict.Verdict.{Verdict}
+use Rattle.cap_judge.proofs.FollowLemmas.{follows_on}
+use Rattle.cap_judge.proofs.TurnLaws.{lacks_memory, none_so_far, reached, stands_so_far}
+use Rattle.cap_report.specs.declared.answers.Answer.{Answer}
+use Rattle.capcheck_judge.specs.Handles.{AnswersSoFar, Standing, HandsOver, Held, Holds, known_in, origin_behind, state_behind}
 
 -- a judge over pages
 abbrev pub J : Type 0
@@ -32,28 +36,66 @@ held_taken held bytes holds judge is = subst (λ j. HasRead j bytes) (sym
 
 -- what its machine holds is what the handle's does
 pub held_state : (held : Held) (bytes : List ℕ) (holds : Holds held bytes) (judge : J) → held ≡ Some judge → (cap : Cap) (key : ℕ)
-    → ((bytes : List ℕ) → (taken : HasRead judge bytes) → cap ≡ (account_before taken.beginning).state key)
-    → cap ≡ state_behind holds key
+    → cap ≡ (stage_of judge).account.state key → cap ≡ state_behind holds key
 held_state held bytes holds judge is cap key told =
-    subst (λ (j : J). (taken : HasRead j bytes)
-    → cap ≡ (account_before taken.beginning).state key) (one_held held bytes holds judge is) (told bytes) holds.taken
+    told ∙ ap (λ (j : J). (stage_of j).account.state key) (one_held held bytes holds judge is)
 
 -- the origin of what a place of its machine holds is that in the handle's
 pub held_origin : (held : Held) (bytes : List ℕ) (holds : Holds held bytes) (judge : J) → held ≡ Some judge → (root : Option Place)
-    (key : ℕ) → ((bytes : List ℕ) → (taken : HasRead judge bytes) → root ≡ (account_before taken.beginning).origin key)
-    → root ≡ origin_behind holds key
+    (key : ℕ) → root ≡ (stage_of judge).account.origin key → root ≡ origin_behind holds key
 held_origin held bytes holds judge is root key told =
-    subst (λ (j : J). (taken : HasRead j bytes)
-    → root ≡ (account_before taken.beginning).origin key) (one_held held bytes holds judge is) (told bytes) holds.taken
+    told ∙ ap (λ (j : J). (stage_of j).account.origin key) (one_held held bytes holds judge is)
 
--- a judge took a step, by the line that spells it
-pub record Stepped (line : Line) (old new : J) (state : ℕ) : Type 0 where
-  pub answers : (state ≡ 0) ⊎ ((state ≡ 2) ⊎ (state ≡ 3))
-  pub taken : state < 3 → (bytes : List ℕ) → HasRead old bytes → HasRead new (bytes ++ (spelling line ++ 10 ∷ []))
-  pub goes_on : state ≡ 0 → (bytes : List ℕ) → HasRead old bytes → BeginsWhole (bytes ++ (spelling line ++ 10 ∷ []))
-  pub at_fault : state ≡ 2 → (bytes : List ℕ) → HasRead old bytes → BeginsWhole (bytes ++ (spelling line ++ 10 ∷ [])) → ⊥
-  pub unchanged : 2 < state → known_of new ≡ known_of old
-  pub no_memory : state ≡ 3 → (bytes : List ℕ) → HasRead old bytes → MayLackMemory (bytes ++ (spelling line ++ 10 ∷ [])) []
+-- what holds a judge isn't without one
+pub there : (held : Held) (judge : J) → held ≡ Some judge → held ≡ None → ⊥
+there held judge is none = false≢true (ap is_some (sym none ∙ is))
+
+-- how the bytes stand that a judge has taken
+held_stands : (judge : J) (bytes : List ℕ) (so_far : Option Verdict) → HasRead judge bytes
+    → so_far ≡ verdict_so_far (stage_of judge).due → Stands bytes so_far × (BeginsWhole bytes → so_far ≡ None)
+held_stands judge bytes so_far read is =
+    let stage = stage_of judge in
+    let reached = reached bytes stage read in (
+      subst (Stands bytes) (sym is) (stands_so_far bytes stage.account stage.due reached),
+      λ whole. is ∙ none_so_far bytes stage.account stage.due reached whole,
+    )
+
+pub answered_so_far : (held : Held) (judge : J) (bytes : List ℕ) (so_far : Option Verdict) (answer : Answer) → held ≡ Some judge
+    → so_far ≡ verdict_so_far (stage_of judge).due → Standing so_far answer → Holds held bytes → AnswersSoFar bytes answer
+answered_so_far held judge bytes so_far answer is told numbers holds =
+    let stands = held_stands judge bytes so_far (held_taken held bytes holds judge is) told in
+    record { verdict = so_far; numbers = numbers; stands = stands.0; none = stands.1 }
+
+-- a handle's judge was handed a line
+pub record HandsLine (text : List ℕ) (old new : Held) (state : ℕ) : Type 0 where
+  pub taken : state < 3 → (bytes : List ℕ) → Holds old bytes → Holds new (bytes ++ text)
+  pub goes_on : state ≡ 0 → (bytes : List ℕ) → Holds old bytes → BeginsWhole (bytes ++ text)
+  pub at_fault : state ≡ 2 → (bytes : List ℕ) → Holds old bytes → BeginsWhole (bytes ++ text) → ⊥
+  pub unchanged : 2 < state → known_in new ≡ known_in old
+  pub still_holds : 2 < state → (bytes : List ℕ) → Holds old bytes → Holds new bytes
+  pub no_memory : state ≡ 3 → (bytes : List ℕ) → Holds old bytes → MayLackMemory (bytes ++ text) []
+
+pub line_handed : (text : List ℕ) (held after : Held) (old new : J) (state : ℕ) → held ≡ Some old → after ≡ Some new
+    → (state < 3 → Follows (stage_of old) text (stage_of new)) → (state ≡ 0 → verdict_so_far (stage_of new).due ≡ None)
+    → (state ≡ 2 → verdict_so_far (stage_of new).due ≢ None) → (2 < state → known_of new ≡ known_of old)
+    → (state ≡ 3 → Lacks (stage_of old) text []) → HandsLine text held after state
+line_handed text held after old new state is now takes goes_on at_fault unchanged lacks =
+    let read : state < 3 → (bytes : List ℕ) → Holds held bytes → HasRead new (bytes ++ text) = λ below bytes holds.
+    follows_on unread (stage_of old) (stage_of new) bytes text (held_taken held bytes holds old is) (takes below) in
+    record {
+      taken = λ below bytes holds. record { judge = new; held_is = now; taken = read below bytes holds };
+      goes_on = λ zero bytes holds.
+          (held_stands new (bytes ++ text) None (read (omega (arith, zero)) bytes holds) (sym (goes_on zero))).0;
+      at_fault = λ two bytes holds whole.
+          at_fault two ((held_stands new (bytes ++ text) _ (read (omega (arith, two)) bytes holds) refl).1 whole);
+      unchanged = λ large. ap known_in now ∙ ap Some (unchanged large) ∙ sym (ap known_in is);
+      still_holds = λ large bytes holds. record {
+        judge = new;
+        held_is = now;
+        taken = subst (λ (k : Known). Follows unread bytes (at k.stage k.held)) (sym (unchanged large)) (held_taken held bytes holds old is);
+      };
+      no_memory = λ three bytes holds. lacks_memory bytes text [] (stage_of old) (held_taken held bytes holds old is) (lacks three);
+    }
 
 -- its answer is small, no yes, and neither that there is no judge nor that there is no line
 few : (state : ℕ) → (state ≡ 0) ⊎ ((state ≡ 2) ⊎ (state ≡ 3)) → state < 4
@@ -66,29 +108,20 @@ not_one state (inl zero) one = omega (arith, zero, one)
 not_one state (inr (inl two)) one = omega (arith, two, one)
 not_one state (inr (inr three)) one = omega (arith, three, one)
 
--- what holds a judge isn't without one
-pub there : (held : Held) (judge : J) → held ≡ Some judge → held ≡ None → ⊥
-there held judge is none = false≢true (ap is_some (sym none ∙ is))
-
--- so the handle's judge took it
+-- so its answer is that of the line that spells the step
 pub handed : (line : Line) (held after : Held) (old new : J) (state : ℕ) → IsInRange line → held ≡ Some old → after ≡ Some new
-    → Stepped line old new state → HandsOver line held after state
-handed line held after old new state range is now stepped =
-    let small = few state stepped.answers in
+    → (state ≡ 0) ⊎ ((state ≡ 2) ⊎ (state ≡ 3)) → HandsLine (spelling line ++ 10 ∷ []) held after state → HandsOver line held after state
+handed line held after old new state range is now answers line_is =
+    let small = few state answers in
     record {
       answers = omega arith;
-      never_yes = not_one state stepped.answers;
-      taken = λ below bytes holds.
-          record { judge = new; held_is = now; taken = stepped.taken below bytes (held_taken held bytes holds old is) };
-      goes_on = λ zero bytes holds. stepped.goes_on zero bytes (held_taken held bytes holds old is);
-      at_fault = λ two bytes holds. stepped.at_fault two bytes (held_taken held bytes holds old is);
-      unchanged = λ large. ap known_in now ∙ ap Some (stepped.unchanged large) ∙ sym (ap known_in is);
-      still_holds = λ large bytes holds. record {
-        judge = new;
-        held_is = now;
-        taken = subst (λ (k : Known). Read k bytes) (sym (stepped.unchanged large)) (held_taken held bytes holds old is);
-      };
-      no_memory = λ lacks bytes holds. stepped.no_memory lacks bytes (held_taken held bytes holds old is);
+      never_yes = not_one state answers;
+      taken = line_is.taken;
+      goes_on = line_is.goes_on;
+      at_fault = line_is.at_fault;
+      unchanged = line_is.unchanged;
+      still_holds = line_is.still_holds;
+      no_memory = line_is.no_memory;
       no_judge = (λ four. absurd (omega (arith, four, small)), λ none. absurd (there held old is none));
       no_line = (λ five. absurd (omega (arith, five, small)), λ both. absurd (both.1 range));
       held = (λ none. absurd (there after new now none), λ none. absurd (there held old is none));

@@ -17,9 +17,9 @@ use Rattle.cap_judge.specs.declared.verdict.Expected.TheVariants.{Capability, Nu
 use Rattle.cap_judge.specs.declared.verdict.Verdict.{Verdict}
 use Rattle.cap_judge.specs.Expectations.{Expects}
 use Rattle.cap_ops.specs.declared.refusal.Refusal.{Refusal}
-use Rattle.cap_judge.specs.Judgings.{IsBehind, account_before}
+use Rattle.cap_judge.specs.Judgings.{IsBehind}
 use Rattle.cap_judge.specs.Logs.{Beginning, MayLackMemory, Refuses}
-use Rattle.cap_judge.specs.Readings.{BeginsWhole, HasRead, Known, Stands, known_of}
+use Rattle.cap_judge.specs.Readings.{BeginsWhole, HasRead, Known, Stands, known_of, stage_of}
 use Rattle.cap_judge.specs.Verdicts.{IsVerdict, IsGuarded}
 use Rattle.cap_report.specs.Whys.{ExplainsEnd, ExplainsSoFar}
 use Rattle.cap_report.specs.Answers.{numbers_of, without_verdict}
@@ -51,7 +51,7 @@ pub record Holds (held : Held) (bytes : List ℕ) : Type 0 where
 
 -- what the machine holds behind these bytes, or before their line at fault
 abbrev pub state_behind : {held : Held} {bytes : List ℕ} → Holds held bytes → State
-state_behind holds = (account_before holds.taken.beginning).state
+state_behind holds = (stage_of holds.judge).account.state
 
 -- what a call answers that hands over a step: where the step's line is in range, what the call answers that hands over
 -- that line; else that it is none
@@ -96,7 +96,7 @@ pub record HandsOverLines (given : List ℕ) (old new : Held) (answer : LinesTak
 
 -- the place of the root that a place's capability descends from, behind these bytes, or before their faulty line
 abbrev pub origin_behind : {held : Held} {bytes : List ℕ} → Holds held bytes → ℕ → Option Place
-origin_behind holds = (account_before holds.taken.beginning).origin
+origin_behind holds = (stage_of holds.judge).account.origin
 
 -- a place in numbers: the kind 1 is a register, 2 the granule with this address, and 0 none
 abbrev pub IsPassed : Option Place → PassedPlace → Type 0

@@ -4,7 +4,7 @@ use denote.RattleType.{RattleType}
 use Rattle.tagmem.specs.contracts.page_store.PageStore.{the_row as store_row}
 use Rattle.tagmem.specs.contracts.page_store.PageStoreTaggedStore.TheImpl.{ghosts}
 use Rattle.cap_judge.specs.contracts.judges.Judge.{the_row as judge_row}
-use Rattle.cap_judge.specs.Readings.{StopsAt, known_of}
+use Rattle.cap_judge.specs.Readings.{StopsAt, stage_of}
 use Rattle.cap_judge.specs.declared.judges.Stop.{Stop}
 use Rattle.cap_judge.specs.declared.judges.Stop.TheVariants.{Cut, Fault, NoMemory}
 use Rattle.capcheck_judge.specs.declared.answers.LinesTaken.{LinesTaken}
@@ -21,4 +21,4 @@ pub record TakesLines (old : RattleType.Denot (judge_row store_row ghosts)) (giv
   pub few : answer.bytes ≤ length given
   pub stop : Stop
   pub state_is : answer.state ≡ state_at stop
-  pub stops : StopsAt (known_of old) (take answer.bytes given) (drop answer.bytes given) stop (known_of new)
+  pub stops : StopsAt (stage_of old) (take answer.bytes given) (drop answer.bytes given) stop (stage_of new)

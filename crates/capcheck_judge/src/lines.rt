@@ -2,7 +2,7 @@
 
 ghost use Rattle.std.specs.Prelude.{◌≡◌, ◌≢◌, ◌↔◌, ◌⊎◌, ◌<◌, ℕ, List, [], ◌++◌, None};
 ghost use Rattle.cap_judge.specs.Logs.{MayLackMemory};
-ghost use Rattle.cap_judge.specs.Readings.{BeginsWhole, HasRead, IsNoLine, known_of};
+ghost use Rattle.cap_judge.specs.Readings.{BeginsWhole, Follows, IsNoLine, Lacks, known_of, stage_of, verdict_so_far};
 ghost use Rattle.cap_report.specs.Answers.{NamesEscapesIn, without_verdict};
 ghost use Rattle.capcheck_judge.specs.Handles.{AnswersEnd, AnswersSoFar, HandsOverLines, Holds, held_in, known_in};
 ghost use Rattle.capcheck_judge.specs.Takings.{TakesLines};
@@ -145,16 +145,11 @@ pub extern "C" fn capcheck_judge_close(alloc: Global, judge: &mut Handle)
 /// Hands a line to a judge: 0, 2, 3 or 5, as [`capcheck_judge_line`] says.
 fn take_line(judge: &mut Judge<PageStore>, line: &[u8]) -> u8
     ensures answers { (result ≡ 0) ⊎ (result ≡ 2) ⊎ (result ≡ 3) ⊎ (result ≡ 5) }
-    ensures taken { result < 3 → (bytes : List ℕ) → HasRead judge.old bytes
-        → HasRead judge.new (bytes ++ line.now) }
-    ensures goes_on { result ≡ 0 → (bytes : List ℕ) → HasRead judge.old bytes
-        → BeginsWhole (bytes ++ line.now) }
-    ensures at_fault { result ≡ 2 → (bytes : List ℕ) → HasRead judge.old bytes
-        → BeginsWhole (bytes ++ line.now) → ⊥ }
-    ensures unchanged { 2 < result → known_of judge.new
-        ≡ known_of judge.old }
-    ensures no_memory { result ≡ 3 → (bytes : List ℕ) → HasRead judge.old bytes
-        → MayLackMemory (bytes ++ line.now) [] }
+    ensures taken { result < 3 → Follows (stage_of judge.old) line.now (stage_of judge.new) }
+    ensures goes_on { result ≡ 0 → verdict_so_far (stage_of judge.new).due ≡ None }
+    ensures at_fault { result ≡ 2 → verdict_so_far (stage_of judge.new).due ≢ None }
+    ensures unchanged { 2 < result → known_of judge.new ≡ known_of judge.old }
+    ensures no_memory { result ≡ 3 → Lacks (stage_of judge.old) line.now [] }
     ensures no_line { (result ≡ 5) ↔ IsNoLine line.now }
 {
     match judge.take_line(line) {

@@ -3,12 +3,12 @@
 //! Each call answers as `capcheck_judge_line` does on the line that spells the step. Where a number is out of its
 //! range no line spells it: it answers 5, and nothing has changed.
 
-ghost use Rattle.std.specs.Prelude.{◌≡◌, ◌⊎◌, ◌<◌, ℕ, List, [], ◌∷◌, ◌++◌};
+ghost use Rattle.std.specs.Prelude.{◌≡◌, ◌⊎◌, ◌<◌, ℕ, List, [], ◌∷◌, ◌++◌, ◌≢◌, None};
 ghost use Rattle.cap_log.specs.Lines.{spelling};
 ghost use Rattle.cap_log.specs.declared.lines.Line.TheVariants as line;
 ghost use Rattle.cap_halves.specs.PassedSteps as steps;
 ghost use Rattle.cap_judge.specs.Logs.{MayLackMemory};
-ghost use Rattle.cap_judge.specs.Readings.{BeginsWhole, HasRead, known_of};
+ghost use Rattle.cap_judge.specs.Readings.{Follows, Lacks, known_of, stage_of, verdict_so_far};
 ghost use Rattle.capcheck_judge.specs.Handles.{HandsOver, held_in};
 
 use crate::handle::Handle;
@@ -233,16 +233,12 @@ fn hand_over<I: Instruction>(alloc: Global, judge: &mut Handle, numbers: I::Numb
 #[inline(always)]
 fn take_step<I: Instruction>(judge: &mut Judge<PageStore>, step: I) -> u8
     ensures answers { (result ≡ 0) ⊎ (result ≡ 2) ⊎ (result ≡ 3) }
-    ensures taken { result < 3 → (bytes : List ℕ) → HasRead judge.old bytes
-        → HasRead judge.new (bytes ++ (spelling (line.Step (I.step step)) ++ 10 ∷ [])) }
-    ensures goes_on { result ≡ 0 → (bytes : List ℕ) → HasRead judge.old bytes
-        → BeginsWhole (bytes ++ (spelling (line.Step (I.step step)) ++ 10 ∷ [])) }
-    ensures at_fault { result ≡ 2 → (bytes : List ℕ) → HasRead judge.old bytes
-        → BeginsWhole (bytes ++ (spelling (line.Step (I.step step)) ++ 10 ∷ [])) → ⊥ }
-    ensures unchanged { 2 < result → known_of judge.new
-        ≡ known_of judge.old }
-    ensures no_memory { result ≡ 3 → (bytes : List ℕ) → HasRead judge.old bytes
-        → MayLackMemory (bytes ++ (spelling (line.Step (I.step step)) ++ 10 ∷ [])) [] }
+    ensures taken { result < 3
+        → Follows (stage_of judge.old) (spelling (line.Step (I.step step)) ++ 10 ∷ []) (stage_of judge.new) }
+    ensures goes_on { result ≡ 0 → verdict_so_far (stage_of judge.new).due ≡ None }
+    ensures at_fault { result ≡ 2 → verdict_so_far (stage_of judge.new).due ≢ None }
+    ensures unchanged { 2 < result → known_of judge.new ≡ known_of judge.old }
+    ensures no_memory { result ≡ 3 → Lacks (stage_of judge.old) (spelling (line.Step (I.step step)) ++ 10 ∷ []) [] }
 {
     match judge.take_step(step) {
         Ok(()) => match judge.answer() {

@@ -13,8 +13,8 @@ returns-in-Ok-clause-ok g c =
     on_ok c.push_verdict.result (λ took. λ bytes read cut. (
       c.in-Ok.verdict,
       verdict_line c.in-Ok.verdict,
-      yes_at_end c.args.judge.now.machine (bytes ++ c.args.rest.now) c.ending.result c.in-Ok.verdict c.in-Ok.is
-          (c.ending.ensures.ends bytes read cut),
+      yes_at_end bytes c.args.rest.now c.args.judge.now.stage c.args.judge.now.machine c.ending.result c.in-Ok.verdict c.in-Ok.is read cut
+          (c.ending.ensures.ends cut),
       took,
       omega (arith, c.push_verdict.ensures.few),
     )) c.push_verdict.ensures.ok
@@ -24,8 +24,8 @@ returns-in-Ok-clause-err g c =
     on_err c.push_verdict.result (λ part. λ bytes read cut. (
       c.in-Ok.verdict,
       verdict_line c.in-Ok.verdict,
-      yes_at_end c.args.judge.now.machine (bytes ++ c.args.rest.now) c.ending.result c.in-Ok.verdict c.in-Ok.is
-          (c.ending.ensures.ends bytes read cut),
+      yes_at_end bytes c.args.rest.now c.args.judge.now.stage c.args.judge.now.machine c.ending.result c.in-Ok.verdict c.in-Ok.is read cut
+          (c.ending.ensures.ends cut),
       part.0,
       part.1,
     )) c.push_verdict.ensures.err
@@ -37,7 +37,7 @@ returns-in-Err-clause-ok g c =
     on_ok c.push_fault.result (λ p. λ bytes read cut. (
       No fault.line fault.refusal,
       verdict_line (No fault.line fault.refusal) ++ p.0,
-      no_at_end held (bytes ++ c.args.rest.now) c.ending.result fault p.0 c.in-Err.is (c.ending.ensures.ends bytes read cut)
+      no_at_end bytes c.args.rest.now c.args.judge.now.stage held c.ending.result fault p.0 c.in-Err.is read cut (c.ending.ensures.ends cut)
           (subst (λ h. IsLineReport (account_of h) (bytes_of fault.text) fault.refusal p.0) c.machine.ensures.held p.1),
       p.2,
       p.3,
@@ -50,7 +50,7 @@ returns-in-Err-clause-err g c =
     on_err c.push_fault.result (λ p. λ bytes read cut. (
       No fault.line fault.refusal,
       verdict_line (No fault.line fault.refusal) ++ p.0,
-      no_at_end held (bytes ++ c.args.rest.now) c.ending.result fault p.0 c.in-Err.is (c.ending.ensures.ends bytes read cut)
+      no_at_end bytes c.args.rest.now c.args.judge.now.stage held c.ending.result fault p.0 c.in-Err.is read cut (c.ending.ensures.ends cut)
           (subst (λ h. IsLineReport (account_of h) (bytes_of fault.text) fault.refusal p.0) c.machine.ensures.held p.1),
       p.2,
       p.3,

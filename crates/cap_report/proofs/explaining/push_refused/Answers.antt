@@ -1,12 +1,18 @@
-use Rattle.std.proofs.Common.{◌++◌, Some, subst}
+use Rattle.std.proofs.Common.{◌++◌, [], None, Some, arith, refl, subst}
 use Rattle.cap_machine.specs.Helds.{account_of}
 use Rattle.cap_log.specs.FaultLines.{bytes_of}
-use Rattle.cap_judge.specs.Readings.{known_of}
+use Rattle.cap_judge.specs.Readings.{known_of, stage_of}
 use Rattle.cap_judge.specs.VerdictLines.{verdict_line}
 use Rattle.cap_judge.specs.declared.verdict.Verdict.TheVariants.{No}
+use Rattle.cap_judge.proofs.TurnLaws.{begins, reached}
 use Rattle.cap_report.specs.FaultReports.{IsLineReport}
 use Rattle.cap_report.proofs.WhyLemmas.{on_err, on_ok, so_far}
 use Rattle.cap_report.proofs.explaining.push_refused.Goals as goal
+
+pub returns-in-None-clause-ok : goal.returns-in-None-clause-ok
+returns-in-None-clause-ok g c = λ bytes read.
+    let stage = stage_of c.args.judge.now in
+    (None, [], (begins bytes stage (reached bytes stage read) c.in-None.ensures.fault, refl), g.met.K.Sink.nothing c.args.sink.now, omega arith)
 
 pub returns-in-Some-clause-ok : goal.returns-in-Some-clause-ok
 returns-in-Some-clause-ok g c =
@@ -15,7 +21,7 @@ returns-in-Some-clause-ok g c =
     on_ok c.push_fault.result (λ p. λ bytes read. (
       Some (No fault.line fault.refusal),
       verdict_line (No fault.line fault.refusal) ++ p.0,
-      so_far bytes held fault p.0 (c.in-Some.ensures.stands bytes read)
+      so_far bytes c.args.judge.now.stage held fault p.0 read c.in-Some.ensures.fault
           (subst (λ h. IsLineReport (account_of h) (bytes_of fault.text) fault.refusal p.0) c.machine.ensures.held p.1),
       p.2,
       p.3,
@@ -28,7 +34,7 @@ returns-in-Some-clause-err g c =
     on_err c.push_fault.result (λ p. λ bytes read. (
       Some (No fault.line fault.refusal),
       verdict_line (No fault.line fault.refusal) ++ p.0,
-      so_far bytes held fault p.0 (c.in-Some.ensures.stands bytes read)
+      so_far bytes c.args.judge.now.stage held fault p.0 read c.in-Some.ensures.fault
           (subst (λ h. IsLineReport (account_of h) (bytes_of fault.text) fault.refusal p.0) c.machine.ensures.held p.1),
       p.2,
       p.3,

@@ -1,26 +1,27 @@
-use Rattle.std.proofs.Common.{◌≡◌, ◌∙◌, ap, subst, sym}
-use Rattle.cap_judge.specs.Readings.{Known, Read}
+use Rattle.std.proofs.Common.{◌≡◌, ◌∙◌, ap, sym}
 use Rattle.std.specs.Prelude.{Some}
-use Rattle.capcheck_judge.proofs.HandleLemmas.{held_taken}
+use Rattle.capcheck_judge.proofs.HandleLemmas.{HandsLine, line_handed}
 use Rattle.capcheck_judge.proofs.lines.capcheck_judge_line.Goals as goal
 
-pub returns-in-Some-clause-taken : goal.returns-in-Some-clause-taken
-returns-in-Some-clause-taken c = λ small bytes holds.
+-- the handle's judge was handed the line
+handed : (c : goal.After-put) → HandsLine c.args.line.now c.args.judge.now.judge c.put.new.self.judge c.take_line-state.result
+handed c =
     let is : c.args.judge.now.judge ≡ Some c.deref_mut.result.now = c.in-Some.ensures.taken ∙ ap Some (sym c.deref_mut.ensures.value) in
-    let taken = held_taken c.args.judge.now.judge bytes holds c.deref_mut.result.now is in
-    record { judge = c.take_line-state.new.judge; held_is = c.put.ensures; taken = c.take_line-state.ensures.taken small bytes taken }
+    let ensures = c.take_line-state.ensures in
+    line_handed c.args.line.now c.args.judge.now.judge c.put.new.self.judge c.deref_mut.result.now c.take_line-state.new.judge
+    c.take_line-state.result is c.put.ensures ensures.taken ensures.goes_on ensures.at_fault ensures.unchanged ensures.no_memory
+
+pub returns-in-Some-clause-taken : goal.returns-in-Some-clause-taken
+returns-in-Some-clause-taken c = (handed c).taken
+
+pub returns-in-Some-clause-goes_on : goal.returns-in-Some-clause-goes_on
+returns-in-Some-clause-goes_on c = (handed c).goes_on
+
+pub returns-in-Some-clause-at_fault : goal.returns-in-Some-clause-at_fault
+returns-in-Some-clause-at_fault c = (handed c).at_fault
 
 pub returns-in-Some-clause-still_holds : goal.returns-in-Some-clause-still_holds
-returns-in-Some-clause-still_holds c = λ large bytes holds.
-    let is : c.args.judge.now.judge ≡ Some c.deref_mut.result.now = c.in-Some.ensures.taken ∙ ap Some (sym c.deref_mut.ensures.value) in
-    let taken = held_taken c.args.judge.now.judge bytes holds c.deref_mut.result.now is in
-    record {
-      judge = c.take_line-state.new.judge;
-      held_is = c.put.ensures;
-      taken = subst (λ (k : Known). Read k bytes) (sym (c.take_line-state.ensures.unchanged large)) taken;
-    }
+returns-in-Some-clause-still_holds c = (handed c).still_holds
 
 pub returns-in-Some-clause-no_memory : goal.returns-in-Some-clause-no_memory
-returns-in-Some-clause-no_memory c = λ lacks bytes holds.
-    let is : c.args.judge.now.judge ≡ Some c.deref_mut.result.now = c.in-Some.ensures.taken ∙ ap Some (sym c.deref_mut.ensures.value) in
-    c.take_line-state.ensures.no_memory lacks bytes (held_taken c.args.judge.now.judge bytes holds c.deref_mut.result.now is)
+returns-in-Some-clause-no_memory c = (handed c).no_memory

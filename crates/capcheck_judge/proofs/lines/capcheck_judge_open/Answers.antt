@@ -1,6 +1,6 @@
-use Rattle.std.proofs.Common.{◌≡◌, [], rules, subst, sym}
-use Rattle.cap_judge.specs.Readings.{HasRead}
-use Rattle.capcheck_judge.proofs.HandleLemmas.{J}
+use Rattle.std.proofs.Common.{◌≡◌, inl, rules}
+use Rattle.cap_judge.specs.Turns.{unread}
+use Rattle.cap_judge.proofs.TurnLemmas.{goes_none}
 use Rattle.capcheck_judge.proofs.lines.capcheck_judge_open.Goals as goal
 
 pub returns-in-Ok-clause-opened : goal.returns-in-Ok-clause-opened
@@ -9,5 +9,5 @@ returns-in-Ok-clause-opened c = λ _.
     record {
       judge = c.in-Ok.opened.value;
       held_is = c.put.ensures;
-      taken = subst (λ (j : J). HasRead j []) (sym same) c.over_pages.ensures.read;
+      taken = inl (rw (same, c.over_pages.ensures.read) (goes_none unread));
     }

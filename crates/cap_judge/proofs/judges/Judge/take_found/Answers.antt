@@ -1,0 +1,29 @@
+use Rattle.std.proofs.Common.{inl, inr, refl, subst, sym, drop, take, ◌+◌}
+use Rattle.cap_log.specs.Front.{IsFront}
+use Rattle.cap_judge.specs.Readings.{EndsAt, Known, at, stage_of}
+use Rattle.cap_judge.proofs.TurnLemmas.{begins_by, goes_none, text_ends_at}
+use Rattle.cap_judge.proofs.judges.Judge.take_found.Goals as goal
+
+pub returns-then-is_at_fault-clause-err : goal.returns-then-is_at_fault-clause-err
+returns-then-is_at_fault-clause-err g c =
+    let stage = stage_of c.args.self.now in
+    (stage, goes_none stage, inl (c.is_at_fault.ensures.at c.if-is_at_fault.true, refl))
+
+pub stop-requires-clause-ends : goal.stop-requires-clause-ends
+stop-requires-clause-ends g c = inr (subst (IsFront c.args.bytes.now) c.in-TooLong.is c.requires, c.refusal_of_long.ensures)
+
+pub stop-requires-in-Err-clause-ends : goal.stop-requires-in-Err-clause-ends
+stop-requires-in-Err-clause-ends g c =
+    let n = c.in-Line.length in
+    let bytes = c.args.bytes.now in
+    let found = (subst (IsFront bytes) c.in-Line.is c.requires).1 in
+    subst (λ (k : Known). EndsAt (at k.stage k.held) bytes c.in-Err.end) (sym c.in-Err.ensures.same)
+    (text_ends_at (stage_of c.args.self.now) bytes (take n bytes) (drop (n + 1) bytes) c.in-Err.end found c.in-Err.ensures.err)
+
+pub returns-in-Ok-clause-ok : goal.returns-in-Ok-clause-ok
+returns-in-Ok-clause-ok g c =
+    let n = c.in-Line.length in
+    let bytes = c.args.bytes.now in
+    let found = (subst (IsFront bytes) c.in-Line.is c.requires).1 in
+    let line = c.in-Ok.ensures.ok in
+    (line.0, begins_by line.0 bytes (take n bytes) (drop (n + 1) bytes) found line.1, line.2)
