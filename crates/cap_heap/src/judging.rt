@@ -15,7 +15,7 @@ use crate::progress::Progress;
 use crate::refusal::HeapRefusal;
 use crate::stage::Stage;
 use crate::verdict::HeapVerdict;
-use cap_log::{FaultLine, JudgeFault, Lines, Next, PullFault, Source};
+use cap_log::{FaultLine, JudgeFault, Lines, Next, PullFault, Source, front};
 use std::alloc::Global;
 
 /// Judges the log of an allocator that a source gives, each line as soon as it is there. It is `Yes` exactly
@@ -55,15 +55,17 @@ pub(crate) fn judge_lines<S: Source>(
             Ok(Next::Finished) => return (Ok(finished(progress, line)), FaultLine::new()),
             Ok(Next::Truncated) => {
                 let verdict = refused(progress.stage, line, HeapRefusal::Truncated);
-                return (Ok(verdict), FaultLine::of(lines.kept()));
+                let kept = lines.kept();
+                return (Ok(verdict), FaultLine::of(front(kept), kept));
             }
             Ok(Next::LineTooLong) => {
                 let verdict = refused(progress.stage, line, HeapRefusal::LineTooLong);
-                return (Ok(verdict), FaultLine::of(lines.kept()));
+                let kept = lines.kept();
+                return (Ok(verdict), FaultLine::of(front(kept), kept));
             }
             Ok(Next::Line(text)) => {
                 if let Err(end) = progress.take_line(text) {
-                    return (answer_at(line, end), FaultLine::of(text));
+                    return (answer_at(line, end), FaultLine::of(front(text), text));
                 }
                 line += 1;
             }

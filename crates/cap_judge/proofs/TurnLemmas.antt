@@ -11,7 +11,7 @@ use Rattle.cap_log.proofs.ElementLemmas.{AllByRecursion-append}
 use Rattle.cap_log.proofs.FrontLemmas.{IsLine-not_cut, IsLine-not_too_long, IsLine-same, IsTooLong-not_cut}
 use Rattle.cap_log.proofs.SpellingLemmas.{IsLine-spelling}
 use Rattle.cap_log.specs.Front.{IsCut, IsFrontText, IsLine, IsTooLong}
-use Rattle.cap_log.specs.Lines.{IsInRange, spelling}
+use Rattle.cap_log.specs.Lines.{IsInRange, Spells, spelling}
 use Rattle.cap_log.specs.Parts.{Begins, BeginsWithNone}
 use Rattle.cap_log.specs.declared.lines.Line.{Line}
 use Rattle.cap_log.specs.declared.lines.Line.TheVariants as lines
@@ -38,7 +38,7 @@ use Rattle.cap_judge.specs.declared.verdict.TakeFault.{TakeFault}
 use Rattle.cap_judge.specs.declared.verdict.TakeFault.TheVariants.{NoLine, NoMemory}
 use Rattle.cap_log.specs.FaultLines.{bytes_of}
 use Rattle.cap_judge.specs.Logs.{has_form, line_checks, text_of}
-use Rattle.cap_judge.specs.Readings.{EndsAs, EndsAt, EndsFor, EndsIn, Follows, Goes, GoesOrStops, IsAtFault, IsNoLine, Lacks}
+use Rattle.cap_judge.specs.Readings.{EndsAs, EndsText, EndsAt, EndsFor, EndsIn, Follows, Goes, GoesOrStops, IsAtFault, IsNoLine, Lacks}
 use Rattle.cap_judge.specs.Judgings.{IsLastFront}
 use Rattle.cap_judge.specs.Readings.{RefusesNext, StopsAt, Takes, TakesAll, TakesStep, at, due_of, due_at_end, lines_read, refused_at}
 use Rattle.cap_judge.specs.Turns.{Body, Ended, Reads, Stage, behind, refusal_at}
@@ -193,25 +193,26 @@ root_outcome stage old new place word (Err (ends.Refused refusal)) is none ended
 root_outcome stage old new place word (Err ends.NoMemory) is none ended =
     rw is (tt, (refl, root_checked old place word none ∙ ended.0, ended.1))
 
--- a line of the header
-pub header_ends : (account : Account) (line : Line) (form : Bool) (refusal : Refusal) → has_form account.rules line ≡ form
-    → first_of (line_checks account line) ≡ Some Misplaced → (form ≡ true → refusal ≡ Misplaced) → (form ≡ false → refusal ≡ BadLine)
-    → refusal_at account Body (Some line) ≡ Some refusal
-header_ends account line true refusal is checks misplaced bad =
-    ap (λ (form : Bool). first_of ((not form, BadLine) ∷ line_checks account line)) is ∙ checks ∙ ap Some (sym (misplaced refl))
-header_ends account line false refusal is checks misplaced bad =
-    ap (λ (form : Bool). first_of ((not form, BadLine) ∷ line_checks account line)) is ∙ ap Some (sym (bad refl))
-
 -- Fronts
 
 -- a line at the front of some bytes
 pub line_is : (line : Line) (bytes rest : List ℕ) → Begins IsInRange spelling 10 bytes line rest → IsLine bytes (spelling line) rest
 line_is line bytes rest is = subst (λ (b : List ℕ). IsLine b (spelling line) rest) (sym is.1) (IsLine-spelling line is.0 rest)
 
--- bytes that no line in range begins
-pub none_spelled : (bytes text rest : List ℕ) → BeginsWithNone IsInRange spelling 10 bytes → IsLine bytes text rest
-    → (line : Line) → IsInRange line → text ≡ spelling line → ⊥
-none_spelled bytes text rest none whole line range is = none line rest (range, whole.whole ∙ ap (λ (t : List ℕ). t ++ 10 ∷ rest) is)
+-- bytes that begin with the text of a line
+pub begins_by : (line : Line) (bytes text rest : List ℕ) → IsLine bytes text rest → Spells text line → Begins IsInRange spelling 10 bytes line rest
+begins_by line bytes text rest whole spells = (spells.0, whole.whole ∙ ap (λ (t : List ℕ). t ++ 10 ∷ rest) spells.1)
+
+-- why a line is not taken, told of its text; and of bytes that it begins
+pub text_ends : (stage : Stage) (text : List ℕ) (line : Line) (end : StepEnd) → Spells text line → EndsFor stage line end → EndsText stage text end
+text_ends stage text line (ends.Refused refusal) spells refused = (Some line, spells, refused)
+text_ends stage text line ends.NoMemory spells names = (line, spells, names)
+
+pub text_ends_at : (stage : Stage) (bytes text rest : List ℕ) (end : StepEnd) → IsLine bytes text rest → EndsText stage text end
+    → EndsAt stage bytes end
+text_ends_at stage bytes text rest (ends.Refused refusal) whole (line, spells, refused) = inl (text, rest, line, whole, spells, refused)
+text_ends_at stage bytes text rest ends.NoMemory whole (line, spells, names) =
+    (rest, record { line = line; begins = begins_by line bytes text rest whole spells; names = names })
 
 -- one that is not taken
 pub ends_at : (stage : Stage) (bytes rest : List ℕ) (line : Line) (end : StepEnd) → Begins IsInRange spelling 10 bytes line rest

@@ -3,7 +3,7 @@ use Rattle.std.specs.Prelude.{◌≡◌, ◌≢◌, ◌⊎◌, ℕ, ◌+◌, Boo
 use Rattle.std.specs.Borrow.{Bor}
 use Rattle.std.specs.List.{AllByRecursion}
 use Rattle.cap_log.specs.Front.{IsCut, IsLine, IsTooLong}
-use Rattle.cap_log.specs.Lines.{IsInRange, spelling}
+use Rattle.cap_log.specs.Lines.{IsInRange, Spells, spelling}
 use Rattle.cap_log.specs.Parts.{Begins, Reads as Spelled}
 use Rattle.cap_log.specs.declared.lines.Line as lines_module
 use Rattle.cap_log.specs.declared.lines.Line.TheVariants as lines
@@ -97,6 +97,12 @@ pub record Lacks (stage : Stage) (bytes more : List ℕ) : Type 0 where
 abbrev pub EndsFor : Stage → lines_module.Line → StepEnd → Type 0
 EndsFor stage line (ends.Refused refusal) = refusal_at stage.account stage.due (Some line) ≡ Some refusal
 EndsFor stage line ends.NoMemory = NamesFirst stage line
+
+-- why a line with this text is not taken
+abbrev pub EndsText : Stage → List ℕ → StepEnd → Type 0
+EndsText stage text (ends.Refused refusal) =
+    (line : Option lines_module.Line) × Spelled IsInRange spelling text line × (refusal_at stage.account stage.due line ≡ Some refusal)
+EndsText stage text ends.NoMemory = (line : lines_module.Line) × Spells text line × NamesFirst stage line
 
 -- why what the bytes begin with is not taken
 abbrev pub EndsAt : Stage → List ℕ → StepEnd → Type 0

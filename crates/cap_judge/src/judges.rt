@@ -3,20 +3,20 @@
 
 ghost use Rattle.std.specs.Prelude.{◌≡◌, ◌≤◌, ◌<◌, ◌^◌, ◌↔◌, ◌⊎◌, ℕ, List, [], ◌++◌, length, take, drop, true, false, Err, None, IfSome};
 ghost use Rattle.std.specs.Prelude.{OnOk, IfErr, ◌≢◌, ◌∷◌, ◌+◌, IfOk, Some};
-ghost use Rattle.cap_log.specs.Front.{IsCut, IsFrontText, IsLine, IsTooLong};
+ghost use Rattle.cap_log.specs.Front.{IsCut, IsFront, IsFrontText, IsLine, IsTooLong};
 ghost use Rattle.cap_machine.specs.States.{granule_key, key_of};
 ghost use Rattle.cap_judge.specs.Expectations.{ExpectsAt};
 ghost use Rattle.cap_judge.specs.Logs.{has_form, header_lines};
 ghost use Rattle.cap_judge.specs.Verdicts.{NamesEscapes};
 ghost use Rattle.cap_judge.specs.Turns.{refusal_at, rules_of, unread};
-ghost use Rattle.cap_judge.specs.Readings.{EndsAs, EndsAt, EndsFor, EndsIn, EndsLine, Faults, Follows, Goes, GoesOrStops, IsAtFault, IsUnmade};
+ghost use Rattle.cap_judge.specs.Readings.{EndsAs, EndsAt, EndsFor, EndsIn, EndsLine, EndsText, Faults, Follows, Goes, GoesOrStops, IsAtFault, IsUnmade};
 ghost use Rattle.cap_judge.specs.Readings.{IsFaultOf, IsNoLine, Lacks, RefusesNext, StopsAt, Takes, known_of, lines_read, long_refusal, stage_of};
 ghost use Rattle.cap_judge.specs.Readings.{verdict_so_far};
 ghost use Rattle.cap_judge.specs.declared.judges.Stage.TheVariants.{Body, Refused as RefusedIn, Mode as ModeStage, Version};
 ghost use Rattle.cap_judge.specs.declared.faults.Fault.{Fault as FaultIn};
 ghost use Rattle.cap_judge.specs.declared.verdict.TakeFault.TheVariants.{NoLine, NoMemory};
-ghost use Rattle.cap_log.specs.Lines.{IsStepInRange, spelling, IsInRange, IsPlace};
-ghost use Rattle.cap_log.specs.Parts.{Begins, BeginsWithNone};
+ghost use Rattle.cap_log.specs.Lines.{IsStepInRange, Spells, spelling, IsInRange, IsPlace};
+ghost use Rattle.cap_log.specs.Parts.{Begins};
 ghost use Rattle.cap_log.specs.declared.lines.Line.{Line};
 ghost use Rattle.cap_machine.specs.Helds.{account_of};
 ghost use Rattle.cap_ops.specs.declared.refusal.Refusal.TheVariants.{BadLine, Misplaced};
@@ -29,7 +29,7 @@ use crate::expecting::expected_by;
 use crate::faults::Fault;
 use crate::steps::{take_alone, take_steps};
 use crate::verdict::{Expected, TakeFault, Verdict};
-use cap_log::{FaultLine, Front, Line, Mode, Operands, Place, Step, front, take_line, write_line};
+use cap_log::{FaultLine, Front, Line, Mode, Operands, Place, Step, front, read_line, write_line};
 use cap_machine::{Instruction, Machine, Refusal, Rules, StepEnd};
 use cap_word::{Cap, Word};
 use std::alloc::Global;
@@ -223,10 +223,11 @@ impl<M: TaggedStore> Judge<M> {
         ensures no_line { (result ≡ Err NoLine) ↔ IsNoLine line.now }
         ensures no_memory { result ≡ Err NoMemory → Lacks (stage_of self.old) line.now [] }
     {
-        if !is_whole(line) {
+        let found = front(line);
+        if !is_whole(found, line) {
             return Err(TakeFault::NoLine);
         }
-        match self.take_any(line) {
+        match self.take_found(found, line) {
             Ok(_) => Ok(()),
             Err(Stop::Fault) => Ok(()),
             Err(Stop::NoMemory) => Err(TakeFault::NoMemory),
@@ -243,7 +244,7 @@ impl<M: TaggedStore> Judge<M> {
         ensures unchanged { IfErr result (λ _. known_of self.new ≡ known_of self.old) }
         ensures no_memory { IfErr result (λ fault. (fault ≡ NoMemory) × Lacks (stage_of self.old) line.now []) }
     {
-        match self.stop(end, line) {
+        match self.stop(end, front(line), line) {
             Stop::NoMemory => Err(TakeFault::NoMemory),
             Stop::Fault | Stop::Cut => Ok(()),
         }
@@ -263,10 +264,10 @@ impl<M: TaggedStore> Judge<M> {
                         roots: self.machine.roots(),
                     })
                 } else {
-                    Err(self.fault(Refusal::Misplaced, rest))
+                    Err(self.fault(Refusal::Misplaced, front(rest), rest))
                 }
             }
-            _ => Err(self.fault(Refusal::Truncated, rest)),
+            _ => Err(self.fault(Refusal::Truncated, front(rest), rest)),
         }
     }
 
@@ -354,7 +355,7 @@ impl<M: TaggedStore> Judge<M> {
     {
         let (rest, end) = self.take_front(bytes);
         if let Some(end) = end {
-            return (rest, Some(self.stop(end, rest)));
+            return (rest, Some(self.stop(end, front(rest), rest)));
         }
         match self.take_any(rest) {
             Ok(behind) => (behind, None),
@@ -382,17 +383,50 @@ impl<M: TaggedStore> Judge<M> {
         ensures ok { IfOk result (λ rest. (line : Line) × Begins IsInRange spelling 10 bytes.now line rest.now
             × Takes (stage_of self.old) line (stage_of self.new)) }
         ensures err { IfErr result (λ stop. StopsAt (stage_of self.old) [] bytes.now stop (stage_of self.new)) }
+    {
+        match self.take_found(front(bytes), bytes) {
+            Ok(count) => Ok(&bytes[count..]),
+            Err(stop) => Err(stop),
+        }
+    }
+
+    // Takes the line that was found at the front of some bytes: how many bytes it has, with its line feed.
+    fn take_found(&mut self, found: Front, bytes: &[u8]) -> Result<usize, Stop>
+        requires found { IsFront bytes.now found }
+        ensures few { IfOk result (λ count. count ≤ length bytes.now) }
+        ensures ok { IfOk result (λ count. (line : Line) × Begins IsInRange spelling 10 bytes.now line (drop count bytes.now)
+            × Takes (stage_of self.old) line (stage_of self.new)) }
+        ensures err { IfErr result (λ stop. StopsAt (stage_of self.old) [] bytes.now stop (stage_of self.new)) }
         ensures same { IfErr result (λ stop. stop ≢ stops.Fault → known_of self.new ≡ known_of self.old) }
     {
         if self.is_at_fault() {
             return Err(Stop::Fault);
         }
-        match take_line(bytes) {
-            Some((line, rest)) => match self.follow(&line) {
-                Ok(()) => Ok(rest),
-                Err(end) => Err(self.stop(end, bytes)),
+        match found {
+            Front::Cut => Err(Stop::Cut),
+            Front::TooLong => {
+                let end = StepEnd::Refused(self.refusal_of_long());
+                Err(self.stop(end, found, bytes))
+            }
+            Front::Line(length) => match self.take_text(&bytes[..length]) {
+                Ok(()) => Ok(length + 1),
+                Err(end) => Err(self.stop(end, found, bytes)),
             },
-            None => Err(self.stop_formless(bytes)),
+        }
+    }
+
+    // Takes a line by its text, without its line feed.
+    fn take_text(&mut self, text: &[u8]) -> Result<(), StepEnd>
+        ensures ok { OnOk result ((line : Line) × Spells text.now line × Takes (stage_of self.old) line (stage_of self.new)) }
+        ensures err { IfErr result (EndsText (stage_of self.old) text.now) }
+        ensures same { IfErr result (λ _. known_of self.new ≡ known_of self.old) }
+    {
+        match read_line(text) {
+            Some(line) => match self.follow(&line) {
+                Ok(()) => Ok(()),
+                Err(end) => Err(end),
+            },
+            None => Err(StepEnd::Refused(self.refusal_of_formless())),
         }
     }
 
@@ -408,7 +442,8 @@ impl<M: TaggedStore> Judge<M> {
     }
 
     /// Stops at a line that is not taken.
-    pub(crate) fn stop(&mut self, end: StepEnd, bytes: &[u8]) -> Stop
+    fn stop(&mut self, end: StepEnd, found: Front, bytes: &[u8]) -> Stop
+        requires found { IsFront bytes.now found }
         requires clear { IsAtFault (stage_of self.old).due → ⊥ }
         requires ends { EndsAt (stage_of self.old) bytes.now end }
         ensures stops { StopsAt (stage_of self.old) [] bytes.now result (stage_of self.new) }
@@ -418,38 +453,26 @@ impl<M: TaggedStore> Judge<M> {
         match end {
             StepEnd::NoMemory => Stop::NoMemory,
             StepEnd::Refused(refusal) => {
-                self.refuse(refusal, bytes);
+                self.refuse(refusal, found, bytes);
                 Stop::Fault
             }
         }
     }
 
-    // Stops at bytes that no line in range begins.
-    fn stop_formless(&mut self, bytes: &[u8]) -> Stop
-        requires clear { IsAtFault (stage_of self.old).due → ⊥ }
-        requires none { BeginsWithNone IsInRange spelling 10 bytes.now }
-        ensures stops { StopsAt (stage_of self.old) [] bytes.now result (stage_of self.new) }
-        ensures same { result ≢ stops.Fault → known_of self.new ≡ known_of self.old }
-    {
-        match front(bytes) {
-            Front::Cut => Stop::Cut,
-            Front::TooLong => self.stop(StepEnd::Refused(self.refusal_of_long()), bytes),
-            Front::Line(_) => self.stop(StepEnd::Refused(self.refusal_of_formless()), bytes),
-        }
-    }
-
     // Takes the faulty line.
     #[inline(never)]
-    fn refuse(&mut self, refusal: Refusal, bytes: &[u8])
+    fn refuse(&mut self, refusal: Refusal, found: Front, bytes: &[u8])
+        requires found { IsFront bytes.now found }
         requires clear { IsAtFault (stage_of self.old).due → ⊥ }
         requires refused { RefusesNext (stage_of self.old) bytes.now refusal }
         ensures { Faults (stage_of self.old) bytes.now (stage_of self.new) }
     {
-        self.stage = Stage::Refused(self.fault(refusal, bytes));
+        self.stage = Stage::Refused(self.fault(refusal, found, bytes));
     }
 
     /// The next line, which these bytes begin with, as the faulty line.
-    pub(crate) fn fault(&self, refusal: Refusal, bytes: &[u8]) -> Fault
+    fn fault(&self, refusal: Refusal, found: Front, bytes: &[u8]) -> Fault
+        requires found { IsFront bytes.now found }
         ensures line { result.line ≡ lines_read (stage_of self.now).account (stage_of self.now).due + 1 }
         ensures refusal { result.refusal ≡ refusal }
         ensures front { IsFrontText bytes.now (bytes_of result.text) }
@@ -457,7 +480,7 @@ impl<M: TaggedStore> Judge<M> {
         Fault {
             line: self.next_line(),
             refusal,
-            text: FaultLine::of(bytes),
+            text: FaultLine::of(found, bytes),
         }
     }
 
@@ -610,11 +633,12 @@ impl<M: TaggedStore> Judge<M> {
 }
 
 // Whether some bytes are one line with its line feed, or more of a line than a line has.
-fn is_whole(line: &[u8]) -> bool
+fn is_whole(found: Front, line: &[u8]) -> bool
+    requires found { IsFront line.now found }
     ensures whole { result ≡ true → ((text : List ℕ) × IsLine line.now text []) ⊎ IsTooLong line.now }
     ensures none { result ≡ false → IsNoLine line.now }
 {
-    match front(line) {
+    match found {
         Front::Line(length) => length + 1 == line.len(),
         Front::TooLong => true,
         Front::Cut => false,

@@ -2,7 +2,6 @@
 
 ghost use Rattle.std.specs.Prelude.{◌≡◌, ◌≤◌, [], length};
 
-use crate::fronts::front;
 use crate::lines::Front;
 
 /// The bytes of the faulty line, without its line feed: the first 96 if no line feed comes by then, or those up to
@@ -16,7 +15,7 @@ pub struct FaultLine {
 
 impl FaultLine {
     ghost use Rattle.cap_log.specs.FaultLines.{bytes_of};
-    ghost use Rattle.cap_log.specs.Front.{IsFrontText};
+    ghost use Rattle.cap_log.specs.Front.{IsFront, IsFrontText};
 
     /// No bytes.
     pub fn new() -> FaultLine
@@ -28,12 +27,14 @@ impl FaultLine {
         }
     }
 
-    /// The line that some bytes begin with. It stays out of the loop over lines, which runs no slower for it.
+    /// The line that was found at the front of some bytes. It stays out of the loop over lines, which runs no slower
+    /// for it.
     #[inline(never)]
-    pub fn of(bytes: &[u8]) -> FaultLine
+    pub fn of(found: Front, bytes: &[u8]) -> FaultLine
+        requires found { IsFront bytes.now found }
         ensures front { IsFrontText bytes.now (bytes_of result) }
     {
-        let length = match front(bytes) {
+        let length = match found {
             Front::Line(length) => length,
             Front::TooLong => 96,
             Front::Cut => bytes.len(),

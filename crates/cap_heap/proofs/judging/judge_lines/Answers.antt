@@ -20,7 +20,7 @@ pub returns-in-Ok-Truncated-clause-judged : goal.returns-in-Ok-Truncated-clause-
 returns-in-Ok-Truncated-clause-judged g c =
     let p = stands g.S.Source.gave g.S.Source.ended c.args.source.now c.lines.source c.next.new.source c.lines.progress c.lines.line _ _ _ _
     g.met.S.Source.joined c.lines.invariant.here (c.next.follows.holds-at-none.0 c.lines.invariant.more) (c.in-Ok-Truncated.is ∙ ap Ok c.in-Ok-Truncated.field-0-is) in
-    let front = subst (λ (b : List ℕ). IsFrontText b (bytes_of c.of.result)) c.kept.ensures.value c.of.ensures.front in
+    let front = subst (λ (b : List ℕ). IsFrontText b (bytes_of c.of.result)) c.kept-kept.ensures.value c.of.ensures.front in
     rw (c.refused-verdict.ensures) (at_cut c.lines.line (bytes_of c.of.result) front p)
 
 pub returns-in-Ok-LineTooLong-clause-judged : goal.returns-in-Ok-LineTooLong-clause-judged
@@ -28,7 +28,7 @@ returns-in-Ok-LineTooLong-clause-judged g c =
     let p = stands g.S.Source.gave g.S.Source.ended c.args.source.now c.lines.source c.next.new.source c.lines.progress c.lines.line _ _ _ _
     g.met.S.Source.joined c.lines.invariant.here (c.next.follows.holds-at-none.0 c.lines.invariant.more) (c.in-Ok-LineTooLong.is ∙ ap Ok c.in-Ok-LineTooLong.field-0-is) in
     let held = bytes_of c.of-in-Ok-LineTooLong.result in
-    let front = subst (λ (b : List ℕ). IsFrontText b held) c.kept-in-Ok-LineTooLong.ensures.value c.of-in-Ok-LineTooLong.ensures.front in
+    let front = subst (λ (b : List ℕ). IsFrontText b held) c.kept-kept-in-Ok-LineTooLong.ensures.value c.of-in-Ok-LineTooLong.ensures.front in
     rw (c.refused-verdict-in-Ok-LineTooLong.ensures) (at_long c.lines.line held front p)
 
 pub returns-in-Err-take_line-clause-judged : goal.returns-in-Err-take_line-clause-judged

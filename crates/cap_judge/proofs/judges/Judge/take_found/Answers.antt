@@ -10,13 +10,13 @@ returns-then-is_at_fault-clause-err g c =
     (stage, goes_none stage, inl (c.is_at_fault.ensures.at c.if-is_at_fault.true, refl))
 
 pub stop-requires-clause-ends : goal.stop-requires-clause-ends
-stop-requires-clause-ends g c = inr (subst (IsFront c.args.bytes.now) c.in-TooLong.is c.requires, c.refusal_of_long.ensures)
+stop-requires-clause-ends g c = inr (subst (IsFront c.args.bytes.now) c.in-TooLong.is c.requires.found, c.refusal_of_long.ensures)
 
 pub stop-requires-in-Err-clause-ends : goal.stop-requires-in-Err-clause-ends
 stop-requires-in-Err-clause-ends g c =
     let n = c.in-Line.length in
     let bytes = c.args.bytes.now in
-    let found = (subst (IsFront bytes) c.in-Line.is c.requires).1 in
+    let found = (subst (IsFront bytes) c.in-Line.is c.requires.found).1 in
     subst (λ (k : Known). EndsAt (at k.stage k.held) bytes c.in-Err.end) (sym c.in-Err.ensures.same)
     (text_ends_at (stage_of c.args.self.now) bytes (take n bytes) (drop (n + 1) bytes) c.in-Err.end found c.in-Err.ensures.err)
 
@@ -24,6 +24,6 @@ pub returns-in-Ok-clause-ok : goal.returns-in-Ok-clause-ok
 returns-in-Ok-clause-ok g c =
     let n = c.in-Line.length in
     let bytes = c.args.bytes.now in
-    let found = (subst (IsFront bytes) c.in-Line.is c.requires).1 in
+    let found = (subst (IsFront bytes) c.in-Line.is c.requires.found).1 in
     let line = c.in-Ok.ensures.ok in
     (line.0, begins_by line.0 bytes (take n bytes) (drop (n + 1) bytes) found line.1, line.2)

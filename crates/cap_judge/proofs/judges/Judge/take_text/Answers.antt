@@ -3,8 +3,8 @@ use Rattle.cap_judge.specs.Readings.{stage_of}
 use Rattle.cap_judge.proofs.TurnLemmas.{text_ends}
 use Rattle.cap_judge.proofs.judges.Judge.take_text.Goals as goal
 
-pub returns-in-Some-Ok-clause-ok : goal.returns-in-Some-Ok-clause-ok
-returns-in-Some-Ok-clause-ok g c = (c.in-Some.line, c.in-Some.ensures.some, c.in-Ok.ensures.ok)
+pub returns-in-Ok-clause-ok : goal.returns-in-Ok-clause-ok
+returns-in-Ok-clause-ok g c = (c.in-Some.line, c.in-Some.ensures.some, c.in-Ok.ensures.ok)
 
 pub returns-in-Err-clause-err : goal.returns-in-Err-clause-err
 returns-in-Err-clause-err g c =

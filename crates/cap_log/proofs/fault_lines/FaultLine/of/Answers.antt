@@ -29,40 +29,40 @@ held_line bytes Cut is = inr (inl (is, take_all (length bytes) bytes (omega arit
 
 pub slice_bounds-line-end : goal.slice_bounds-line-end
 slice_bounds-line-end c =
-    let is : c.match-front.length ≡ held c.args.bytes.now c.front.result =
-    elim c.match-front.branch [
+    let is : c.match-found.length ≡ held c.args.bytes.now c.args.found =
+    elim c.match-found.branch [
       | in-Line w ↦ w.length-is ∙ ap (held c.args.bytes.now) (sym w.in-Line.is)
       | in-TooLong w ↦ w.length-is ∙ ap (held c.args.bytes.now) (sym w.in-TooLong.is)
       | in-Cut w ↦ w.length-is ∙ ap (held c.args.bytes.now) (sym w.in-Cut.is)
     ] in
-    subst (λ (n : ℕ). n ≤ 96) (sym is) (held_few c.args.bytes.now c.front.result c.front.ensures.found).0
+    subst (λ (n : ℕ). n ≤ 96) (sym is) (held_few c.args.bytes.now c.args.found c.requires.found).0
 
 pub slice_bounds-copy_from_slice-end-2 : goal.slice_bounds-copy_from_slice-end-2
 slice_bounds-copy_from_slice-end-2 c =
-    let is : c.match-front.length ≡ held c.args.bytes.now c.front.result =
-    elim c.match-front.branch [
+    let is : c.match-found.length ≡ held c.args.bytes.now c.args.found =
+    elim c.match-found.branch [
       | in-Line w ↦ w.length-is ∙ ap (held c.args.bytes.now) (sym w.in-Line.is)
       | in-TooLong w ↦ w.length-is ∙ ap (held c.args.bytes.now) (sym w.in-TooLong.is)
       | in-Cut w ↦ w.length-is ∙ ap (held c.args.bytes.now) (sym w.in-Cut.is)
     ] in
-    let counted = held_few c.args.bytes.now c.front.result c.front.ensures.found in
+    let counted = held_few c.args.bytes.now c.args.found c.requires.found in
     let few = subst (λ (n : ℕ). n ≤ length c.args.bytes.now) (sym is) counted.1 in
-    sym (length-take-le c.match-front.length c.args.bytes.now few)
+    sym (length-take-le c.match-found.length c.args.bytes.now few)
 
 pub returns : goal.returns
 returns c = record {
-  front = let n = c.match-front.length in
+  front = let n = c.match-found.length in
       let bytes = c.args.bytes.now in
-      let is : c.match-front.length ≡ held c.args.bytes.now c.front.result =
-      elim c.match-front.branch [
+      let is : c.match-found.length ≡ held c.args.bytes.now c.args.found =
+      elim c.match-found.branch [
         | in-Line w ↦ w.length-is ∙ ap (held c.args.bytes.now) (sym w.in-Line.is)
         | in-TooLong w ↦ w.length-is ∙ ap (held c.args.bytes.now) (sym w.in-TooLong.is)
         | in-Cut w ↦ w.length-is ∙ ap (held c.args.bytes.now) (sym w.in-Cut.is)
       ] in
-      let counted = held_few bytes c.front.result c.front.ensures.found in
+      let counted = held_few bytes c.args.found c.requires.found in
       let few = subst (λ (m : ℕ). m ≤ length bytes) (sym is) counted.1 in
       let copied = c.copy_from_slice.ensures.after in
       let kept = ap length copied ∙ length-take-le n bytes few in
       subst (IsFrontText bytes) (sym (take_at c.copy_from_slice.new.self _ n kept ∙ copied ∙ ap (λ (m : ℕ). take m bytes) is))
-      (held_line bytes c.front.result c.front.ensures.found);
+      (held_line bytes c.args.found c.requires.found);
 }
