@@ -66,7 +66,8 @@ recorded_so true limit h = refl
 recorded_so false limit h = absurd (none-some WrongResult (sym h))
 
 -- those of a step that names no granule
-unnamed : (old : Held) (recorded : Bool) → first_of (ending recorded (nat_le most_steps old.steps || false)) ≡ first_of (last_checks old recorded)
+unnamed : (old : Held) (recorded : Bool)
+    → first_of (ending recorded (nat_le most_steps old.steps || false)) ≡ first_of (last_checks old recorded)
 unnamed old recorded = ap (λ (b : Bool). first_of (ending recorded b)) (or-false (nat_le most_steps old.steps))
 
 -- the last two tests of a step, by its row
@@ -135,7 +136,8 @@ row_for old step target recorded value =
 
 written_row : (old : Held) (step : Step) (target : ℕ) (recorded : Cap) → WritesRegister (state_of old) step target recorded
     → let row = row_of (state_of old) step in
-    row_in (account_of old) step ≡ row_for old step target recorded (value_by (rules_for old.rules row.access) row.checks (result_in row.writes))
+    row_in (account_of old) step
+    ≡ row_for old step target recorded (value_by (rules_for old.rules row.access) row.checks (result_in row.writes))
 written_row old step target recorded is =
     let row = row_of (state_of old) step in
     ap (λ (w : Option (Place × Cap)). row_by old.rules (record row { writes = w })) is.0

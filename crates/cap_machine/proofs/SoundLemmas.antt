@@ -68,7 +68,8 @@ kept_granule registers codes memory granule entry kept sound coded =
     record {
       sized = kept.sized;
       zero = kept.zero;
-      sound = subst IsSoundState (sym state) (IsSoundState-put (places_of registers memory) (granule_key granule) (cap_of entry) kept.sound sound);
+      sound = subst IsSoundState (sym state)
+          (IsSoundState-put (places_of registers memory) (granule_key granule) (cap_of entry) kept.sound sound);
       coded = subst (λ (s : State). AreCoded s (codes_of codes (map.insert memory granule entry))) (sym state)
           (subst (AreCoded after) (sym (codes-granule codes memory granule entry))
           (coded_put (places_of registers memory) (codes_of codes memory) (granule_key granule) (cap_of entry) entry.2 kept.coded coded));

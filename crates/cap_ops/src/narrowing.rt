@@ -149,10 +149,24 @@ pub fn set_bounds_soundly(source: Cap, length: u64, exact: bool) -> Result<Cap, 
     if source.tag && length > 0 {
         narrowed_by::<true>(source, length, exact)
     } else {
-        // The callee gets its own copy of the source, so the source needn't be in memory if there is no call.
-        let Cap { tag, word } = source;
-        set_bounds_called(Cap { tag, word }, length, exact)
+        set_bounds_apart(source, length, exact)
     }
+}
+
+/// [`set_bounds`], out of line. The callee gets its own copy of the source, so the caller needn't keep the source
+/// in memory if it doesn't call.
+#[inline(always)]
+fn set_bounds_apart(source: Cap, length: u64, exact: bool) -> Result<Cap, OpFault>
+    ensures outcome { Ends result (set_bounds_checks source length exact) (λ cap. cap ≡ set_bounds_result source length) }
+    ensures stays_within { IfOk result (λ cap. StaysWithin cap source) }
+    ensures escape { IsTrue source.tag → IsFalse (is_sealed source.word.0) → IsSound source.word.0
+        → (result ≡ Err OpFault.BoundsEscape) ↔ (¬ HasRoomFor source length) }
+{
+    let called = Cap {
+        tag: source.tag,
+        word: source.word,
+    };
+    set_bounds_called(called, length, exact)
 }
 
 /// [`set_bounds`], in a function of its own.

@@ -7,8 +7,8 @@ use Rattle.cap_ops.proofs.clearing.set_bounds_clear.Goals as goal
 pub returns : goal.returns
 returns c =
     let fits : c.args.length < 2 ^ 64 = omega arith in
-    let told = in_clear_mode c.set_bounds.result (set_bounds_checks c.args.source c.args.length c.args.exact) (set_bounds_result c.args.source c.args.length)
-    _ c.or_cleared.result c.args.source c.set_bounds.ensures.outcome c.narrowed.ensures c.or_cleared.ensures
+    let told = in_clear_mode c.set_bounds.result (set_bounds_checks c.args.source c.args.length c.args.exact)
+    (set_bounds_result c.args.source c.args.length) _ c.or_cleared.result c.args.source c.set_bounds.ensures.outcome c.narrowed.ensures c.or_cleared.ensures
     (λ free. StaysWithin-set_bounds c.args.source c.args.length c.args.exact fits free) in
     record {
       result_is = told.0;

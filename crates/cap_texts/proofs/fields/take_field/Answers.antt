@@ -11,22 +11,29 @@ none_as field given size end bytes result is =
     subst (λ (f : Field). IfNone result ((rest : List ℕ) → Stands f size end bytes rest → ⊥)) (sym is)
 
 pub returns-in-LogVersion-clause-none : goal.returns-in-LogVersion-clause-none
-returns-in-LogVersion-clause-none c = none_as _ _ c.args.size c.args.end c.args.bytes.now c.take_digit.result c.in-LogVersion.is c.take_digit.ensures.none
+returns-in-LogVersion-clause-none c =
+    none_as _ _ _ _ _ _ c.in-LogVersion.is c.take_digit.ensures.none
 
 pub returns-in-HeapVersion-clause-none : goal.returns-in-HeapVersion-clause-none
-returns-in-HeapVersion-clause-none c = none_as _ _ c.args.size c.args.end c.args.bytes.now c.take_digit-in-HeapVersion.result c.in-HeapVersion.is c.take_digit-in-HeapVersion.ensures.none
+returns-in-HeapVersion-clause-none c =
+    none_as _ _ _ _ _ _ c.in-HeapVersion.is c.take_digit-in-HeapVersion.ensures.none
 
 pub returns-in-Top-clause-none : goal.returns-in-Top-clause-none
-returns-in-Top-clause-none c = none_as _ _ c.args.size c.args.end c.args.bytes.now c.take_top.result c.in-Top.is c.take_top.ensures.none
+returns-in-Top-clause-none c =
+    none_as _ _ _ _ _ _ c.in-Top.is c.take_top.ensures.none
 
 pub returns-in-Size-clause-none : goal.returns-in-Size-clause-none
-returns-in-Size-clause-none c = none_as _ _ c.args.size c.args.end c.args.bytes.now c.take_digit-in-Size.result c.in-Size.is c.take_digit-in-Size.ensures.none
+returns-in-Size-clause-none c =
+    none_as _ _ _ _ _ _ c.in-Size.is c.take_digit-in-Size.ensures.none
 
 pub returns-in-Equals-clause-none : goal.returns-in-Equals-clause-none
-returns-in-Equals-clause-none c = none_as _ _ c.args.size c.args.end c.args.bytes.now c.take_digit-in-Equals.result c.in-Equals.is c.take_digit-in-Equals.ensures.none
+returns-in-Equals-clause-none c =
+    none_as _ _ _ _ _ _ c.in-Equals.is c.take_digit-in-Equals.ensures.none
 
 pub returns-in-Value-clause-none : goal.returns-in-Value-clause-none
-returns-in-Value-clause-none c = none_as _ _ c.args.size c.args.end c.args.bytes.now c.take_value.result c.in-Value.is c.take_value.ensures.none
+returns-in-Value-clause-none c =
+    none_as _ _ _ _ _ _ c.in-Value.is c.take_value.ensures.none
 
 pub returns-in-Tag-clause-none : goal.returns-in-Tag-clause-none
-returns-in-Tag-clause-none c = none_as _ _ c.args.size c.args.end c.args.bytes.now c.take_digit-in-Tag.result c.in-Tag.is c.take_digit-in-Tag.ensures.none
+returns-in-Tag-clause-none c =
+    none_as _ _ _ _ _ _ c.in-Tag.is c.take_digit-in-Tag.ensures.none
