@@ -1,4 +1,3 @@
-mod ResultLemmas
 mod LogLemmas
 pub mod JudgeLemmas
 mod VersionLemmas

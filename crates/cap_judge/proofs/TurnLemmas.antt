@@ -193,15 +193,6 @@ root_outcome stage old new place word (Err (ends.Refused refusal)) is none ended
 root_outcome stage old new place word (Err ends.NoMemory) is none ended =
     rw is (tt, (refl, root_checked old place word none ∙ ended.0, ended.1))
 
--- a line of the header
-pub header_ends : (account : Account) (line : Line) (form : Bool) (refusal : Refusal) → has_form account.rules line ≡ form
-    → first_of (line_checks account line) ≡ Some Misplaced → (form ≡ true → refusal ≡ Misplaced) → (form ≡ false → refusal ≡ BadLine)
-    → refusal_at account Body (Some line) ≡ Some refusal
-header_ends account line true refusal is checks misplaced bad =
-    ap (λ (form : Bool). first_of ((not form, BadLine) ∷ line_checks account line)) is ∙ checks ∙ ap Some (sym (misplaced refl))
-header_ends account line false refusal is checks misplaced bad =
-    ap (λ (form : Bool). first_of ((not form, BadLine) ∷ line_checks account line)) is ∙ ap Some (sym (bad refl))
-
 -- Fronts
 
 -- a line at the front of some bytes
