@@ -1,6 +1,6 @@
 -- What the rules give for a step that is refused for its result.
-use Rattle.std.proofs.Common.{◌≡◌, ◌≢◌, ℕ, ◌+◌, inl, inr, Bool, true, false, not, List, [], ◌∷◌, ◌++◌, length, refl, sym, ap, subst, ◌∙◌}
-use Rattle.std.proofs.Common.{Option, Some, None, append-nil, append_assoc, arith}
+use Rattle.std.proofs.Common.{◌≡◌, ◌≢◌, ℕ, inl, inr, Bool, true, false, not, List, [], ◌∷◌, ◌++◌, refl, sym, ap, subst, ◌∙◌}
+use Rattle.std.proofs.Common.{Option, Some, None, append-nil, append_assoc}
 use Rattle.std.proofs.lemmas.Bool.{false≢true}
 use Rattle.std.proofs.lemmas.Option.{none-some}
 use Rattle.cap_word.specs.declared.word.Cap.{Cap}
@@ -9,8 +9,7 @@ use Rattle.cap_log.specs.declared.lines.Line.TheVariants as lines
 use Rattle.cap_log.specs.declared.lines.Place.{Place}
 use Rattle.cap_log.specs.declared.kinds.Step.{Step}
 use Rattle.cap_log.specs.declared.kinds.Step.TheVariants as steps
-use Rattle.cap_log.specs.Front.{IsCut, IsLine}
-use Rattle.std.proofs.lemmas.List.Elements.{All-nil}
+use Rattle.cap_log.specs.Front.{IsLine}
 use Rattle.cap_log.proofs.SpellingLemmas.{one_spelling}
 use Rattle.cap_log.specs.Lines.{Spells}
 use Rattle.cap_log.proofs.FrontLemmas.{IsLine-same, IsLine-not_too_long}
@@ -20,7 +19,7 @@ use Rattle.cap_ops.specs.Checks.{first_of}
 use Rattle.cap_ops.proofs.TestLemmas.{first_of-append}
 use Rattle.cap_machine.proofs.EscapeLemmas.{never_wrong}
 use Rattle.cap_ops.specs.declared.refusal.Refusal.{Refusal}
-use Rattle.cap_ops.specs.declared.refusal.Refusal.TheVariants.{WrongResult, LimitPassed, Truncated}
+use Rattle.cap_ops.specs.declared.refusal.Refusal.TheVariants.{WrongResult, LimitPassed}
 use Rattle.cap_machine.specs.declared.rules.Rules.{Rules}
 use Rattle.cap_machine.specs.declared.rules.Rules.TheVariants.{TwoClear}
 use Rattle.cap_machine.specs.States.{State, DeclaredRoot}
@@ -30,17 +29,16 @@ use Rattle.cap_machine.specs.Shown.{given_by, given_for as shown_for}
 use Rattle.cap_machine.specs.Accounts.{Account, row_in, step_checks}
 use Rattle.cap_judge.specs.declared.verdict.Expected.{Expected}
 use Rattle.cap_judge.specs.declared.verdict.Expected.TheVariants.{Capability, Number}
-use Rattle.cap_judge.specs.declared.verdict.Verdict.TheVariants.{Yes, No}
-use Rattle.cap_judge.specs.Logs.{Beginning, Empty, NoMode, Body, Whole, IsFirstFault, Refuses, account_after, body_lines, IsAccepted}
+use Rattle.cap_judge.specs.declared.verdict.Verdict.TheVariants.{No}
+use Rattle.cap_judge.specs.Logs.{Beginning, Body, Whole, Refuses, account_after, body_lines, IsAccepted}
 use Rattle.cap_judge.specs.Logs.{RunsBy, lines_of, text_of}
-use Rattle.cap_judge.specs.Judgings.{IsLastFront, account_before}
+use Rattle.cap_judge.specs.Judgings.{IsBehind, IsLastFront, account_before}
 use Rattle.cap_judge.specs.Expectations.{Expects, ExpectsAt, IsExpected, GivesFor, GivesForText, expected_of, given_in}
 use Rattle.cap_judge.specs.Readings.{IsAtFault, IsReached, IsRest}
 use Rattle.cap_judge.specs.Turns.{Due, Refused, Stage}
 use Rattle.cap_judge.proofs.EscapeLaws.{is_of_step, is_step, never_front}
 use Rattle.cap_judge.proofs.OneVerdict.{one_verdict}
-use Rattle.cap_judge.proofs.JudgeLemmas.{IsUnended, fault_behind, front_refused, yes_of}
-use Rattle.cap_judge.proofs.TurnLaws.{begins, fault_stands}
+use Rattle.cap_judge.proofs.TurnLaws.{begins, fault_stands, nothing_left, some_bytes}
 
 other_recorded : (recorded limit : Bool) → first_of ((not recorded, WrongResult) ∷ (limit, LimitPassed) ∷ [])
     ≡ Some WrongResult → recorded ≡ false
@@ -135,29 +133,19 @@ for_text account text step result spells gives other spelled =
 
 -- The first fault
 
--- no line of what is accepted is refused so
-cut_off : (beginning : Beginning) → IsAccepted beginning → IsUnended beginning → (line : ℕ)
-    → IsFirstFault (text_of (lines_of beginning)) line WrongResult → ⊥
-cut_off beginning accepted goes line fault =
-    let text = text_of (lines_of beginning) in
-    let cut : IsCut [] = (omega arith, All-nil (λ b. b ≢ 10)) in
-    let here = fault_behind text [] beginning Truncated (record { bytes_are = sym (append-nil text); accepted = accepted })
-    (front_refused beginning [] Truncated goes (inr (inl (cut, refl)))) in
-    let same = one_verdict text (No (length (lines_of beginning) + 1) Truncated) (No line WrongResult) here fault in
-    cc
-
-nothing_wrong : (beginning : Beginning) → IsAccepted beginning → (line : ℕ)
-    → IsFirstFault (text_of (lines_of beginning)) line WrongResult → ⊥
-nothing_wrong (Whole rules_are roots steps_are) accepted line fault =
-    let yes = yes_of (text_of (lines_of (Whole rules_are roots steps_are))) rules_are roots steps_are refl accepted in
-    let same = one_verdict _ (Yes (length steps_are) (length roots)) (No line WrongResult) yes fault in
-    cc
-nothing_wrong beginning accepted line fault = cut_off beginning accepted tt line fault
+-- nothing is not refused so
+never_nothing : (beginning : Beginning) → Refuses beginning [] WrongResult → ⊥
+never_nothing (Whole rules_are roots steps_are) refused = let bad = refused.1 in cc
+never_nothing beginning (inl long) = let bad = long.1 in cc
+never_nothing beginning (inr (inl cut)) = let bad = cut.1 in cc
+never_nothing beginning (inr (inr line)) = some_bytes line.0 line.1 line.2.whole
 
 none_expected : (bytes : List ℕ) (stage : Stage) → IsReached stage bytes → (IsAtFault stage.due → ⊥) → Expects bytes None
 none_expected bytes stage is clear = λ line fault.
-    let whole = begins bytes stage is clear in
-    nothing_wrong whole.beginning whole.accepted line (subst (λ (b : List ℕ). IsFirstFault b line WrongResult) whole.bytes_are fault)
+    let here : IsBehind bytes fault.beginning fault.rest = record { bytes_are = fault.bytes_are; accepted = fault.accepted } in
+    let none = nothing_left bytes fault.beginning fault.rest (No line WrongResult) (begins bytes stage is clear) here
+    (fault.number_is, fault.refused) in
+    never_nothing fault.beginning (subst (λ (r : List ℕ). Refuses fault.beginning r WrongResult) (sym none) fault.refused)
 
 other_fault : (bytes : List ℕ) (stage : Stage) (line : ℕ) (refusal : Refusal) (text : List ℕ) → IsReached stage bytes
     → stage.due ≡ Refused line refusal text → refusal ≢ WrongResult → Expects bytes None
@@ -212,15 +200,13 @@ body_expects rules_are roots steps_are rest bytes text result is runs (inr (inr 
 by_beginning : (account_is : Account) (beginning : Beginning) (rest bytes text : List ℕ) (result : Option Expected)
     → account_is ≡ account_before beginning → bytes ≡ text_of (lines_of beginning) ++ rest → IsAccepted beginning
     → Refuses beginning rest WrongResult → IsLastFront rest false text → GivesForText account_is text result → Expects bytes result
-by_beginning account_is Empty rest bytes text result account is accepted refused front gives =
-    absurd (never_front rest WrongResult _ refl (λ text whole. ap is_of_step whole.1) refused)
-by_beginning account_is NoMode rest bytes text result account is accepted refused front gives =
-    absurd (never_front rest WrongResult _ refl (λ text whole. ap is_of_step whole.1) refused)
 by_beginning account_is (Whole rules_are roots steps_are) rest bytes text result account is accepted refused front gives =
     absurd (let bad = refused.1 in cc)
 by_beginning account_is (Body rules_are roots steps_are) rest bytes text result account is accepted refused front gives =
     body_expects rules_are roots steps_are rest bytes text result is accepted refused front
     (subst (λ (a : Account). GivesForText a text result) account gives)
+by_beginning account_is beginning rest bytes text result account is accepted refused front gives =
+    absurd (never_front rest WrongResult _ refl (λ text whole. ap is_of_step whole.1) refused)
 
 wrong_result : (bytes : List ℕ) (stage : Stage) (line : ℕ) (text : List ℕ) (result : Option Expected) → IsReached stage bytes
     → stage.due ≡ Refused line WrongResult text → GivesForText stage.account text result → Expects bytes result

@@ -16,7 +16,8 @@ use Rattle.cap_machine.proofs.AccountLemmas.{account_after-grows, first_of-none,
 use Rattle.cap_machine.proofs.AccountLemmas.{after_roots-grows, after_steps-grows, root_free, step_free, after_steps}
 use Rattle.cap_judge.specs.Logs.{Beginning, Empty, NoMode, Body, Whole, header_lines, body_lines, lines_of, account_after, RunsBy}
 use Rattle.cap_judge.specs.Logs.{IsAccepted, has_form, line_checks}
-use Rattle.cap_judge.specs.Turns.{Allows, Ended, Mode as ModeDue, Reads, Stage, behind, rules_of, unread}
+use Rattle.cap_judge.specs.Judgings.{account_before}
+use Rattle.cap_judge.specs.Turns.{Allows, Body as BodyDue, Due, Ended, First, Reads, Second, Stage, behind, rules_of, unread}
 use Rattle.cap_judge.proofs.LogLemmas.{after_roots-push, after_steps-push, steps_push, roots_push, accepted_in_range, step_runs, root_runs}
 use Rattle.cap_judge.proofs.LogLemmas.{no_roots}
 use Rattle.std.proofs.lemmas.Bool.{false≢true, cond-false, eqb-false, false_from_ne_true, le-ltb, lt-ltb, not-false, eqb-true}
@@ -117,11 +118,14 @@ body_read rules_are roots steps runs =
     (Reads-append (body first) (body rooted) (body last) _ (map Step steps) roots_are steps_are)
 
 -- the stage behind a beginning
+abbrev pub due_after : Beginning → Due
+due_after Empty = First
+due_after NoMode = Second
+due_after (Body rules_are roots steps) = BodyDue
+due_after (Whole rules_are roots steps) = Ended
+
 abbrev pub stage_after : Beginning → Stage
-stage_after Empty = unread
-stage_after NoMode = record { account = no_account One; due = ModeDue }
-stage_after (Body rules_are roots steps) = body (account_after rules_are roots steps)
-stage_after (Whole rules_are roots steps) = record { account = account_after rules_are roots steps; due = Ended }
+stage_after beginning = record { account = account_before beginning; due = due_after beginning }
 
 pub accepted_read : (beginning : Beginning) → IsAccepted beginning → Reads unread (lines_of beginning) (stage_after beginning)
 accepted_read Empty accepted = refl

@@ -13,9 +13,10 @@ use Rattle.cap_ops.specs.Checks.{first_of}
 use Rattle.cap_ops.specs.declared.refusal.Refusal.{Refusal}
 use Rattle.cap_judge.specs.declared.verdict.Verdict.{Verdict}
 use Rattle.cap_judge.specs.declared.verdict.Verdict.TheVariants.{Yes, No}
-use Rattle.cap_judge.specs.Logs.{Beginning, Empty, NoMode, Body, Whole, account_after, lines_of, text_of, line_checks, IsAccepted}
+use Rattle.cap_judge.specs.Logs.{Beginning, Empty, NoMode, Body, Whole, account_after, lines_of, text_of, line_checks}
 use Rattle.cap_judge.specs.Logs.{Refuses, RefusesWhole}
 use Rattle.cap_judge.proofs.TurnLemmas.{allowed_form}
+use Rattle.cap_judge.specs.Judgings.{IsBehind}
 use Rattle.cap_judge.specs.Verdicts.{IsVerdict}
 use Rattle.cap_judge.proofs.LogLemmas.{accepted_in_range}
 use Rattle.cap_judge.proofs.InTurn.{accepted_read, same_beginning, stage_after}
@@ -94,14 +95,11 @@ refused_stops beginning rest refusal refused line more range allowed is =
     let whole = subst (λ (bytes : List ℕ). IsLine bytes (spelling line) more) (sym is) (IsLine-spelling line range more) in
     not_refused beginning line refusal range allowed (front_refused beginning rest (spelling line) more refusal whole refused)
 
-answer_stops : (beginning : Beginning) (rest : List ℕ) (verdict : Verdict) → Answers beginning rest verdict
+pub answer_stops : (beginning : Beginning) (rest : List ℕ) (verdict : Verdict) → Answers beginning rest verdict
     → Stops (stage_after beginning) rest
 answer_stops (Whole rules_are roots steps) rest verdict answers = λ line more range allowed is. none-some _ (sym allowed)
 answer_stops beginning rest (Yes steps roots) answers = absurd answers
-answer_stops Empty rest (No line refusal) answers = refused_stops Empty rest refusal answers.1
-answer_stops NoMode rest (No line refusal) answers = refused_stops NoMode rest refusal answers.1
-answer_stops (Body rules_are roots steps) rest (No line refusal) answers =
-    refused_stops (Body rules_are roots steps) rest refusal answers.1
+answer_stops beginning rest (No line refusal) answers = refused_stops beginning rest refusal answers.1
 
 -- a whole line is refused with one refusal
 one_text : (beginning : Beginning) (text : List ℕ) (a b : Refusal) → RefusesWhole beginning text a → RefusesWhole beginning text b → a ≡ b
@@ -126,9 +124,7 @@ one_front beginning rest a b (inr (inl h)) (inl k) = absurd (IsTooLong-not_cut r
 
 one_refusal : (beginning : Beginning) (rest : List ℕ) (a b : Refusal) → Refuses beginning rest a → Refuses beginning rest b → a ≡ b
 one_refusal (Whole rules_are roots steps) rest a b h k = h.1 ∙ sym k.1
-one_refusal Empty rest a b h k = one_front Empty rest a b h k
-one_refusal NoMode rest a b h k = one_front NoMode rest a b h k
-one_refusal (Body rules_are roots steps) rest a b h k = one_front (Body rules_are roots steps) rest a b h k
+one_refusal beginning rest a b h k = one_front beginning rest a b h k
 
 -- where a reading stops there is one verdict
 one_answer : (beginning : Beginning) (rest : List ℕ) (a b : Verdict) → Answers beginning rest a → Answers beginning rest b → a ≡ b
@@ -142,39 +138,26 @@ one_answer beginning rest verdict (Yes steps roots) h k = absurd k
 
 -- Verdicts
 
--- the bytes are a beginning that is accepted, and a rest that has this verdict
-record Reading (bytes : List ℕ) (verdict : Verdict) : Type 0 where
-  beginning : Beginning
-  rest : List ℕ
-  bytes_are : bytes ≡ text_of (lines_of beginning) ++ rest
-  accepted : IsAccepted beginning
-  answers : Answers beginning rest verdict
-
--- each verdict comes from a reading
-read : (bytes : List ℕ) (verdict : Verdict) → IsVerdict bytes verdict → Reading bytes verdict
-read bytes (Yes steps roots) is = record {
-  beginning = Whole is.rules is.roots is.steps;
-  rest = [];
-  bytes_are = is.log.bytes_are ∙ sym (append-nil _);
-  accepted = is.log.runs;
-  answers = (refl, is.step_count_is, is.root_count_is);
-}
-read bytes (No line refusal) is = record {
-  beginning = is.beginning;
-  rest = is.rest;
-  bytes_are = is.bytes_are;
-  accepted = is.accepted;
-  answers = (is.number_is, is.refused);
-}
+-- each comes from a reading: the bytes are a beginning that is accepted, and a rest that has this verdict
+read : (bytes : List ℕ) (verdict : Verdict) → IsVerdict bytes verdict
+    → (beginning : Beginning) × (rest : List ℕ) × IsBehind bytes beginning rest × Answers beginning rest verdict
+read bytes (Yes steps roots) is = (
+  Whole is.rules is.roots is.steps,
+  [],
+  record { bytes_are = is.log.bytes_are ∙ sym (append-nil _); accepted = is.log.runs },
+  (refl, is.step_count_is, is.root_count_is),
+)
+read bytes (No line refusal) is =
+    (is.beginning, is.rest, record { bytes_are = is.bytes_are; accepted = is.accepted }, (is.number_is, is.refused))
 
 pub one_verdict : (bytes : List ℕ) (a b : Verdict) → IsVerdict bytes a → IsVerdict bytes b → a ≡ b
 one_verdict bytes a b is_a is_b =
-    let first = read bytes a is_a in
-    let second = read bytes b is_b in
-    let same = one_reading unread (stage_after first.beginning) (stage_after second.beginning) (lines_of first.beginning)
-    (lines_of second.beginning) first.rest second.rest (accepted_in_range _ first.accepted) (accepted_in_range _ second.accepted)
-    (accepted_read _ first.accepted) (accepted_read _ second.accepted)
-    (answer_stops _ _ a first.answers) (answer_stops _ _ b second.answers) (sym first.bytes_are ∙ second.bytes_are) in
-    let there = subst (λ (beginning : Beginning). Answers beginning second.rest b) (sym (same_beginning _ _ same.0)) second.answers in
-    one_answer first.beginning first.rest a b first.answers
-    (subst (λ (rest : List ℕ). Answers first.beginning rest b) (sym same.1) there)
+    let (first, rest, here, answers) = read bytes a is_a in
+    let (second, rest', there, answers') = read bytes b is_b in
+    let same = one_reading unread (stage_after first) (stage_after second) (lines_of first) (lines_of second) rest rest'
+    (accepted_in_range first here.accepted) (accepted_in_range second there.accepted)
+    (accepted_read first here.accepted) (accepted_read second there.accepted)
+    (answer_stops first rest a answers) (answer_stops second rest' b answers') (sym here.bytes_are ∙ there.bytes_are) in
+    one_answer first rest a b answers
+    (subst (λ (r : List ℕ). Answers first r b) (sym same.1)
+    (subst (λ (beginning : Beginning). Answers beginning rest' b) (sym (same_beginning first second same.0)) answers'))

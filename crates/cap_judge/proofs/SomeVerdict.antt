@@ -12,7 +12,7 @@ use Rattle.cap_log.specs.Front.{IsLine}
 use Rattle.cap_log.proofs.DecidedLines.{line_decided, front_decided}
 use Rattle.cap_judge.specs.declared.verdict.Verdict.{Verdict}
 use Rattle.cap_judge.specs.declared.verdict.Verdict.TheVariants.{Yes, No}
-use Rattle.cap_judge.specs.Logs.{Beginning, Empty, NoMode, Body, Whole, lines_of, text_of, IsAccepted}
+use Rattle.cap_judge.specs.Logs.{Beginning, Empty, Whole, lines_of, text_of, IsAccepted}
 use Rattle.cap_judge.specs.Logs.{RefusesWhole, Refuses}
 use Rattle.cap_judge.specs.Judgings.{IsBehind}
 use Rattle.cap_judge.specs.Verdicts.{IsVerdict}
@@ -34,10 +34,8 @@ by_refusal : (beginning : Beginning) → IsUnended beginning → (text : List �
     → Turn beginning text
 by_refusal beginning goes text line is (Some refusal) refused = inl (refusal, refuses_text beginning text line refusal goes is refused)
 by_refusal beginning goes text (Some line) is None allowed = inr (line, is, allowed)
-by_refusal Empty goes text None is None allowed = absurd (none-some _ (sym allowed))
-by_refusal NoMode goes text None is None allowed = absurd (none-some _ (sym allowed))
-by_refusal (Body rules_are roots steps) goes text None is None allowed = absurd (none-some _ (sym allowed))
 by_refusal (Whole rules_are roots steps) goes text None is None allowed = absurd goes
+by_refusal beginning goes text None is None allowed = absurd (none-some _ (sym allowed))
 
 turn : (beginning : Beginning) → IsUnended beginning → (text : List ℕ)
     → ((line : Line) × Spells text line) ⊎ ((line : Line) → Spells text line → ⊥) → Turn beginning text

@@ -141,17 +141,13 @@ module _ {S : Type 0} (gave : S → S → List ℕ → Type 0) (ended : S → Bo
       }
 
 -- lines were read, or what is left grows
-some_text : (lines : List Line) (front : List ℕ) → front ≡ text_of lines → front ≢ [] → length lines ≢ 0
-some_text [] front are some = absurd (some are)
-some_text (line ∷ lines) front are some = λ none. omega (arith, none)
-
-by_front : (front rest kept more : List ℕ) (old new first last : ℕ) → kept ++ more ≡ front ++ rest → length kept ≤ 95 → length rest ≤ 95
-    → length more ≢ 0 → first ≤ last → (front ≢ [] → first < last) → old ≡ first → new ≡ last → last ≤ 4294971394
+by_lines : (lines : List Line) (front rest kept more : List ℕ) (old new : ℕ) → front ≡ text_of lines → kept ++ more ≡ front ++ rest
+    → length kept ≤ 95 → length rest ≤ 95 → length more ≢ 0 → new ≡ old + length lines → new ≤ 4294971394
     → 96 * (4294971400 - new) + 96 - length rest < 96 * (4294971400 - old) + 96 - length kept
-by_front [] rest kept more old new first last split cut left some no_fewer more_read is also few =
-    let long = ap length split in omega (arith, long, length-append kept more, some, no_fewer, is, also, few)
-by_front (b ∷ front) rest kept more old new first last split cut left some no_fewer more_read is also few =
-    let fewer : first < last = more_read (λ e. cc) in omega (arith, cut, left, fewer, is, also, few)
+by_lines [] front rest kept more old new are split cut left some is few =
+    let long = ap length split ∙ ap (λ (f : List ℕ). length (f ++ rest)) are in
+    omega (arith, long, length-append kept more, some, is, few)
+by_lines (line ∷ lines) front rest kept more old new are split cut left some is few = omega (arith, cut, left, is, few)
 
 pub closer : (old new : Stage) (taken front kept more rest : List ℕ) → Goes unread taken old → Goes old front new
     → kept ++ more ≡ front ++ rest → IsCut kept → IsCut rest → length more ≢ 0
@@ -161,6 +157,5 @@ unfolding goes_on
 closer old new taken front kept more rest was on split cut left some =
     let before = count_read taken old was in
     let after = count_read (taken ++ front) new (goes_on unread old new taken front was on) in
-    let long = length-append was.lines on.lines in
-    by_front front rest kept more _ _ (length was.lines) (length (was.lines ++ on.lines)) split cut.0 left.0 some (omega (arith, long))
-    (λ there. let lines = some_text on.lines front on.bytes_are there in omega (arith, long, lines)) before.0 after.0 after.1
+    by_lines on.lines front rest kept more _ _ on.bytes_are split cut.0 left.0 some
+    (after.0 ∙ length-append was.lines on.lines ∙ ap (λ (n : ℕ). n + length on.lines) (sym before.0)) (omega (arith, after.0, after.1))

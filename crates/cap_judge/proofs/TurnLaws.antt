@@ -2,7 +2,6 @@
 use Rattle.std.proofs.Common.{◌≡◌, ◌≢◌, ℕ, ◌+◌, ◌≤◌, inl, inr, Bool, true, false, List, [], ◌∷◌, ◌++◌, length, map, refl, sym, ap, subst, ◌∙◌}
 use Rattle.std.proofs.Common.{append-nil, append_assoc, arith, not, None, Some, Option}
 use Rattle.std.proofs.lemmas.Bool.{false≢true}
-use Rattle.std.proofs.lemmas.Grind.{flat_map-append}
 use Rattle.std.proofs.lemmas.List.{length-append, length-map}
 use Rattle.std.proofs.lemmas.Option.{none-some, same_Some}
 use Rattle.cap_log.proofs.FrontLemmas.{IsLine-more, IsTooLong-more}
@@ -12,7 +11,6 @@ use Rattle.cap_log.specs.Lines.{IsInRange, Spells, spelling}
 use Rattle.cap_log.specs.Parts.{Reads as Spelled}
 use Rattle.cap_log.specs.declared.lines.Line.{Line}
 use Rattle.cap_log.specs.declared.lines.Line.TheVariants as lines
-use Rattle.cap_log.specs.declared.lines.Mode.TheVariants as modes
 use Rattle.cap_log.specs.declared.kinds.Step.{Step}
 use Rattle.cap_ops.specs.Checks.{first_of}
 use Rattle.cap_ops.specs.declared.refusal.Refusal.{Refusal}
@@ -22,7 +20,7 @@ use Rattle.cap_machine.specs.Accounts.{Account}
 use Rattle.cap_machine.specs.Helds.{Held, account_of}
 use Rattle.cap_machine.specs.States.{DeclaredRoot}
 use Rattle.cap_machine.specs.declared.rules.Rules.{Rules}
-use Rattle.cap_machine.specs.declared.rules.Rules.TheVariants.{One, TwoStrict}
+use Rattle.cap_machine.specs.declared.rules.Rules.TheVariants.{One}
 use Rattle.cap_judge.specs.declared.verdict.Verdict.{Verdict}
 use Rattle.cap_judge.specs.declared.verdict.Verdict.TheVariants.{Yes, No}
 use Rattle.cap_judge.specs.Judgings.{IsBehind, IsLastFront, IsVerdictOf, StopsBefore, account_before}
@@ -31,13 +29,12 @@ use Rattle.cap_judge.specs.Logs.{IsAccepted, IsFirstFault, MayLackMemory, Refuse
 use Rattle.cap_judge.specs.Readings.{BeginsWhole, EndsIn, EndsWith, Faults, Follows, Goes, IsAtFault, IsReached, IsRest, Lacks, RefusesNext, Stands}
 use Rattle.cap_judge.specs.Readings.{due_at_end, lines_read, long_refusal, refused_at, verdict_so_far}
 use Rattle.cap_judge.specs.Turns.{Body, Due, Ended, Refused, Stage, refusal_at, unread}
-use Rattle.cap_judge.specs.Verdicts.{IsYes}
 use Rattle.cap_judge.proofs.FollowLemmas.{faults_at, follows_more}
 use Rattle.cap_judge.proofs.FormLemmas.{no_form}
-use Rattle.cap_judge.proofs.InTurn.{all_longer, stage_after, with_lines}
-use Rattle.cap_judge.proofs.JudgeLemmas.{IsUnended, front_refused, text_push, yes_of}
-use Rattle.cap_judge.proofs.LogLemmas.{no_roots}
-use Rattle.cap_judge.proofs.OneVerdict.{one_verdict}
+use Rattle.cap_judge.proofs.InTurn.{accepted_read, all_longer, due_after, stage_after, with_lines}
+use Rattle.cap_judge.proofs.JudgeLemmas.{IsUnended, front_refused}
+use Rattle.cap_judge.proofs.LogLemmas.{accepted_in_range}
+use Rattle.cap_judge.proofs.OneVerdict.{Answers, answer_stops, one_reading}
 use Rattle.cap_judge.proofs.TurnLemmas.{allowed_form}
 
 -- What a stage says of a beginning
@@ -48,23 +45,13 @@ pub begun : (bytes : List ℕ) (new : Stage) → (goes : Goes unread bytes new)
 begun bytes new goes =
     let all = all_longer Empty goes.lines new tt goes.in_range goes.reads in (with_lines Empty goes.lines, all.0, all.1, all.2)
 
-account_is : (beginning : Beginning) → (stage_after beginning).account ≡ account_before beginning
-account_is Empty = refl
-account_is NoMode = refl
-account_is (BodyOf rules_are roots steps) = refl
-account_is (Whole rules_are roots steps) = refl
-
-not_fault : (beginning : Beginning) → IsAtFault (stage_after beginning).due → ⊥
+not_fault : (beginning : Beginning) → IsAtFault (due_after beginning) → ⊥
 not_fault Empty is = is
-not_fault NoMode is = is
-not_fault (BodyOf rules_are roots steps) is = is
-not_fault (Whole rules_are roots steps) is = is
+not_fault beginning is = is
 
-no_rest : (beginning : Beginning) → IsRest (stage_after beginning).due beginning []
+no_rest : (beginning : Beginning) → IsRest (due_after beginning) beginning []
 no_rest Empty = refl
-no_rest NoMode = refl
-no_rest (BodyOf rules_are roots steps) = refl
-no_rest (Whole rules_are roots steps) = refl
+no_rest beginning = refl
 
 -- how many lines it has
 body_count : (rules_are : Rules) (roots : List DeclaredRoot) (steps : List Step)
@@ -97,10 +84,9 @@ end_count rules_are roots steps = length-append (body_lines rules_are roots step
 
 counted : (beginning : Beginning)
     → (let stage = stage_after beginning in lines_read stage.account stage.due ≡ length (lines_of beginning))
-counted Empty = refl
-counted NoMode = refl
 counted (BodyOf rules_are roots steps) = body_counted rules_are roots steps
 counted (Whole rules_are roots steps) = omega (arith, body_counted rules_are roots steps, end_count rules_are roots steps)
+counted beginning = refl
 
 few_header : (rules_are : Rules) → length (header_lines rules_are) ≤ 2
 few_header One = omega arith
@@ -108,13 +94,12 @@ few_header rules_are = omega arith
 
 -- there are no more than the limits allow
 few_lines : (beginning : Beginning) → IsAccepted beginning → length (lines_of beginning) ≤ 4294971394
-few_lines Empty accepted = omega arith
-few_lines NoMode accepted = omega arith
 few_lines (BodyOf rules_are roots steps) runs =
     omega (arith, runs.few_roots, runs.few_steps, few_header rules_are, body_count rules_are roots steps)
 few_lines (Whole rules_are roots steps) runs =
     let body = body_count rules_are roots steps in
     omega (arith, runs.few_roots, runs.few_steps, few_header rules_are, body, end_count rules_are roots steps)
+few_lines beginning accepted = omega arith
 
 pub count_read : (bytes : List ℕ) (new : Stage) → (goes : Goes unread bytes new)
     → (lines_read new.account new.due ≡ length goes.lines) × (length goes.lines ≤ 4294971394)
@@ -151,10 +136,8 @@ refuses_text (BodyOf rules_are roots steps) text None refusal goes none refused 
 refuses_text (Whole rules_are roots steps) text line refusal goes is refused = absurd goes
 
 long_is : (beginning : Beginning) → IsUnended beginning → long_refusal (stage_after beginning).due ≡ LineTooLong
-long_is Empty goes = refl
-long_is NoMode goes = refl
-long_is (BodyOf rules_are roots steps) goes = refl
 long_is (Whole rules_are roots steps) goes = absurd goes
+long_is beginning goes = refl
 
 -- such bytes are some
 some_next : (stage : Stage) (bytes after : List ℕ) (refusal : Refusal) → RefusesNext stage bytes refusal → bytes ++ after ≢ []
@@ -179,10 +162,7 @@ refuses : (beginning : Beginning) (rest : List ℕ) (refusal : Refusal) → Refu
     → (after : List ℕ) → Refuses beginning (rest ++ after) refusal
 refuses (Whole rules_are roots steps) rest refusal refused after =
     (some_next (stage_after (Whole rules_are roots steps)) rest after refusal refused, ended_refuses (account_after rules_are roots steps) rest refusal refused)
-refuses Empty rest refusal refused after = unended_refuses Empty rest refusal tt refused after
-refuses NoMode rest refusal refused after = unended_refuses NoMode rest refusal tt refused after
-refuses (BodyOf rules_are roots steps) rest refusal refused after =
-    unended_refuses (BodyOf rules_are roots steps) rest refusal tt refused after
+refuses beginning rest refusal refused after = unended_refuses beginning rest refusal tt refused after
 
 -- A stage that is reached
 
@@ -197,7 +177,7 @@ fault_reached front rest middle new goes (inr (clear, refusal, text, refused, is
         beginning = b.0;
         rest = rest;
         behind = record { bytes_are = ap (λ (f : List ℕ). f ++ rest) (goes.bytes_are ∙ ap text_of (sym b.2)); accepted = b.1 };
-        account = ap (λ (s : Stage). s.account) new_is ∙ ap (λ (s : Stage). s.account) (sym b.3) ∙ account_is b.0;
+        account = ap (λ (s : Stage). s.account) new_is ∙ ap (λ (s : Stage). s.account) (sym b.3);
         rest_is = subst (λ (s : Stage). IsRest s.due b.0 rest) (sym new_is) (
           ap (λ (n : ℕ). n + 1) (subst (λ (s : Stage). lines_read s.account s.due ≡ length (lines_of b.0)) b.3 (counted b.0)),
           is_front,
@@ -214,7 +194,7 @@ reached bytes new (inl goes) =
       beginning = b.0;
       rest = [];
       behind = record { bytes_are = goes.bytes_are ∙ ap text_of (sym b.2) ∙ sym (append-nil _); accepted = b.1 };
-      account = ap (λ (s : Stage). s.account) (sym b.3) ∙ account_is b.0;
+      account = ap (λ (s : Stage). s.account) (sym b.3);
       rest_is = subst (λ (s : Stage). IsRest s.due b.0 []) b.3 (no_rest b.0);
     }
 reached bytes new (inr (front, rest, are, middle, goes, faults)) =
@@ -277,45 +257,32 @@ pub stands_so_far : (bytes : List ℕ) (account_is : Account) (due : Due) → Is
 stands_so_far bytes account (Refused line refusal text) is = first_fault bytes _ line refusal text is refl
 stands_so_far bytes account due is = begins bytes _ is (λ f. f)
 
--- what begins a log goes on to a yes
-record GoesToYes (bytes : List ℕ) : Type 0 where
-  more : List ℕ
-  steps : ℕ
-  roots : ℕ
-  log : IsYes (bytes ++ more) steps roots
+-- nothing begins with a line
+pub some_bytes : (text rest : List ℕ) → [] ≡ text ++ 10 ∷ rest → ⊥
+some_bytes text rest is = omega (arith, ap length is, length-append text (10 ∷ rest))
 
-goes_to_yes : (beginning : Beginning) → IsAccepted beginning → GoesToYes (text_of (lines_of beginning))
-goes_to_yes Empty accepted =
-    record { more = text_of (lines_of (Whole One [] [])); steps = 0; roots = 0; log = yes_of _ One [] [] refl (no_roots One) }
-goes_to_yes NoMode accepted =
-    let more = lines.Mode modes.Strict ∷ lines.End 0 ∷ [] in record {
-      more = text_of more;
-      steps = 0;
-      roots = 0;
-      log = yes_of _ TwoStrict [] [] (sym (flat_map-append (λ (l : Line). spelling l ++ 10 ∷ []) (lines.Version 2 ∷ []) more))
-          (no_roots TwoStrict);
-    }
-goes_to_yes (BodyOf rules_are roots steps) accepted =
-    let whole = ap (λ (t : List ℕ). text_of (body_lines rules_are roots steps) ++ t) (append-nil _)
-    ∙ sym (text_push (body_lines rules_are roots steps) (lines.End (length steps)) [])
-    ∙ append-nil _ in record {
-      more = text_of (lines.End (length steps) ∷ []);
-      steps = length steps;
-      roots = length roots;
-      log = yes_of _ rules_are roots steps whole accepted;
-    }
-goes_to_yes (Whole rules_are roots steps) accepted =
-    record { more = []; steps = length steps; roots = length roots; log = yes_of _ rules_are roots steps (append-nil _) accepted }
+no_front : (text : List ℕ) → IsLastFront [] false text → ⊥
+no_front text (inl long) = omega (arith, long.0.0)
+no_front text (inr (inl cut)) = false≢true cut.1.1
+no_front text (inr (inr line)) = some_bytes line.0 line.1 line.2.whole
+
+-- of what begins a log, nothing is left where a verdict is
+pub nothing_left : (bytes : List ℕ) (beginning : Beginning) (rest : List ℕ) (verdict : Verdict) → BeginsWhole bytes
+    → IsBehind bytes beginning rest → Answers beginning rest verdict → [] ≡ rest
+nothing_left bytes beginning rest verdict whole here answers =
+    (one_reading unread (stage_after whole.beginning) (stage_after beginning) (lines_of whole.beginning) (lines_of beginning) [] rest
+    (accepted_in_range _ whole.accepted) (accepted_in_range _ here.accepted) (accepted_read _ whole.accepted) (accepted_read _ here.accepted)
+    (λ line more range allowed front. some_bytes (spelling line) more front) (answer_stops beginning rest verdict answers)
+    (append-nil _ ∙ sym whole.bytes_are ∙ here.bytes_are)).1
 
 -- so no line of it is faulty
 pub not_refused : (bytes : List ℕ) (stage : Stage) (line : ℕ) (refusal : Refusal) (text : List ℕ) → IsReached stage bytes
     → stage.due ≡ Refused line refusal text → BeginsWhole bytes → ⊥
 not_refused bytes stage line refusal text is due whole =
-    let on = goes_to_yes whole.beginning whole.accepted in
-    let yes = subst (λ (b : List ℕ). IsYes (b ++ on.more) on.steps on.roots) (sym whole.bytes_are) on.log in
-    let same = one_verdict (bytes ++ on.more) (Yes on.steps on.roots) (No line refusal) yes
-    (first_fault bytes stage line refusal text is due on.more) in
-    cc
+    let found = subst (λ (d : Due). IsRest d is.beginning is.rest) due is.rest_is in
+    let refused = subst (λ (r : List ℕ). Refuses is.beginning r refusal) (append-nil is.rest) (found.2 []) in
+    let none = nothing_left bytes is.beginning is.rest (No line refusal) whole is.behind (found.0, refused) in
+    no_front text (subst (λ (r : List ℕ). IsLastFront r false text) (sym none) found.1)
 
 pub none_so_far : (bytes : List ℕ) (account_is : Account) (due : Due) → IsReached (record { account = account_is; due = due }) bytes
     → BeginsWhole bytes → verdict_so_far due ≡ None
@@ -345,9 +312,7 @@ lacks_line (BodyOf rules_are roots steps) rest more runs lacks =
       free = allowed.1;
       first = lacks.names.2;
     }
-lacks_line Empty rest more accepted lacks = let no : ⊥ = cc (lacks.names.0) in absurd no
-lacks_line NoMode rest more accepted lacks = let no : ⊥ = cc (lacks.names.0) in absurd no
-lacks_line (Whole rules_are roots steps) rest more accepted lacks = let no : ⊥ = cc (lacks.names.0) in absurd no
+lacks_line beginning rest more accepted lacks = let no : ⊥ = cc (lacks.names.0) in absurd no
 
 -- where no line is faulty, all were read
 pub clear_goes : (old : Stage) (bytes : List ℕ) (new : Stage) → Follows old bytes new → (IsAtFault new.due → ⊥) → Goes old bytes new
@@ -421,12 +386,8 @@ end_told (Whole rules_are roots steps) [] bytes held verdict text here cut accou
     whole_told rules_are roots steps bytes held verdict text here.accepted (here.bytes_are ∙ append-nil _) account ends
 end_told (Whole rules_are roots steps) (b ∷ rest) bytes held verdict text here cut account ends =
     cut_told (Whole rules_are roots steps) (b ∷ rest) bytes held Misplaced verdict text here cut (λ e. cc, refl) account refl ends
-end_told Empty rest bytes held verdict text here cut account ends =
-    cut_told Empty rest bytes held Truncated verdict text here cut (inr (inl (cut, refl))) account refl ends
-end_told NoMode rest bytes held verdict text here cut account ends =
-    cut_told NoMode rest bytes held Truncated verdict text here cut (inr (inl (cut, refl))) account refl ends
-end_told (BodyOf rules_are roots steps) rest bytes held verdict text here cut account ends =
-    cut_told (BodyOf rules_are roots steps) rest bytes held Truncated verdict text here cut (inr (inl (cut, refl))) account refl ends
+end_told beginning rest bytes held verdict text here cut account ends =
+    cut_told beginning rest bytes held Truncated verdict text here cut (inr (inl (cut, refl))) account refl ends
 
 -- behind a faulty line
 pub fault_ends : (bytes : List ℕ) (stage : Stage) (line : ℕ) (refusal : Refusal) (text : List ℕ) (held : Held) → IsReached stage bytes
@@ -458,7 +419,7 @@ told bytes rest stage held verdict text (inl goes) same cut ends =
       bytes_are = ap (λ (t : List ℕ). t ++ rest) (goes.bytes_are ∙ ap text_of (sym b.2));
       accepted = b.1;
     } in
-    end_told b.0 rest (bytes ++ rest) held verdict text here cut (same ∙ ap (λ (s : Stage). s.account) (sym b.3) ∙ account_is b.0)
+    end_told b.0 rest (bytes ++ rest) held verdict text here cut (same ∙ ap (λ (s : Stage). s.account) (sym b.3))
     (subst (λ (s : Stage). EndsIn s rest verdict text) (sym b.3) ends)
 told bytes rest stage held verdict text (inr faulty) same cut ends =
     refused_told (bytes ++ rest) rest stage held verdict text (reached (bytes ++ rest) stage (follows_more unread bytes rest stage faulty))

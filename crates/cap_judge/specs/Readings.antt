@@ -5,7 +5,7 @@ use Rattle.std.specs.List.{AllByRecursion}
 use Rattle.cap_log.specs.Front.{IsCut, IsLine, IsTooLong}
 use Rattle.cap_log.specs.Lines.{IsInRange, Spells, spelling}
 use Rattle.cap_log.specs.Parts.{Begins, Reads as Spelled}
-use Rattle.cap_log.specs.declared.lines.Line as lines_module
+use Rattle.cap_log.specs.declared.lines.Line.{Line}
 use Rattle.cap_log.specs.declared.lines.Line.TheVariants as lines
 use Rattle.cap_log.specs.declared.kinds.Step.{Step}
 use Rattle.cap_ops.specs.declared.refusal.Refusal.{Refusal}
@@ -26,7 +26,7 @@ use Rattle.cap_judge.specs.declared.verdict.Verdict.TheVariants.{Yes, No}
 use Rattle.cap_log.specs.FaultLines.{bytes_of}
 use Rattle.cap_judge.specs.Judgings.{IsBehind, IsLastFront, IsVerdictOf, LeadsAfter, StopsIn, account_before}
 use Rattle.cap_judge.specs.Logs.{Beginning, lines_of, text_of, IsAccepted, Refuses, header_lines, named_by_line}
-use Rattle.cap_judge.specs.Turns.{Allows, Body, Due, Ended, Mode, Reads, Refused, Stage, Version, behind, refusal_at, unread}
+use Rattle.cap_judge.specs.Turns.{Allows, Body, Due, Ended, First, Reads, Refused, Second, Stage, behind, refusal_at, unread}
 
 -- what a judge knows: what its machine holds, and what the next line has to be
 pub record Known : Type 0 where
@@ -39,8 +39,8 @@ known_of judge = record { held = judge.machine; stage = judge.stage }
 
 -- what the code's stage says
 abbrev pub due_of : code.Stage → Due
-due_of stages.Version = Version
-due_of stages.Mode = Mode
+due_of stages.Version = First
+due_of stages.Mode = Second
 due_of stages.Body = Body
 due_of stages.Ended = Ended
 due_of (stages.Refused fault) = Refused fault.line fault.refusal (bytes_of fault.text)
@@ -60,8 +60,8 @@ IsAtFault due = ⊥
 
 -- how many lines were read, where none is faulty
 abbrev pub lines_read : Account → Due → ℕ
-lines_read account Version = 0
-lines_read account Mode = 1
+lines_read account First = 0
+lines_read account Second = 1
 lines_read account Body = length (header_lines account.rules) + account.roots + account.steps
 lines_read account due = length (header_lines account.rules) + account.roots + account.steps + 1
 
@@ -71,30 +71,30 @@ refused_at account due refusal text = Refused (lines_read account due + 1) refus
 
 -- why more bytes than a line has are refused
 abbrev pub long_refusal : Due → Refusal
-long_refusal Version = LineTooLong
-long_refusal Mode = LineTooLong
+long_refusal First = LineTooLong
+long_refusal Second = LineTooLong
 long_refusal Body = LineTooLong
 long_refusal due = Misplaced
 
 -- what the bytes begin with is refused at a stage, whatever follows them: a whole line, or more bytes than a line has
 abbrev pub RefusesNext : Stage → List ℕ → Refusal → Type 0
 RefusesNext stage bytes refusal =
-    ((text : List ℕ) × (more : List ℕ) × (line : Option lines_module.Line) × IsLine bytes text more × Spelled IsInRange spelling text line
+    ((text : List ℕ) × (more : List ℕ) × (line : Option Line) × IsLine bytes text more × Spelled IsInRange spelling text line
     × (refusal_at stage.account stage.due line ≡ Some refusal))
     ⊎ (IsTooLong bytes × (refusal ≡ long_refusal stage.due))
 
 -- a line that nothing refuses names a granule for the first time
-abbrev pub NamesFirst : Stage → lines_module.Line → Type 0
+abbrev pub NamesFirst : Stage → Line → Type 0
 NamesFirst stage line = (stage.due ≡ Body) × Allows stage line × IsTrue (is_new stage.account (named_by_line stage.account line))
 
 -- the bytes begin with such a line, before this rest
 pub record Lacks (stage : Stage) (bytes more : List ℕ) : Type 0 where
-  pub line : lines_module.Line
+  pub line : Line
   pub begins : Begins IsInRange spelling 10 bytes line more
   pub names : NamesFirst stage line
 
 -- why a line is not taken
-abbrev pub EndsFor : Stage → lines_module.Line → StepEnd → Type 0
+abbrev pub EndsFor : Stage → Line → StepEnd → Type 0
 EndsFor stage line (ends.Refused refusal) = refusal_at stage.account stage.due (Some line) ≡ Some refusal
 EndsFor stage line ends.NoMemory = NamesFirst stage line
 
@@ -110,12 +110,12 @@ EndsAt stage bytes (ends.Refused refusal) = RefusesNext stage bytes refusal
 EndsAt stage bytes ends.NoMemory = (more : List ℕ) × Lacks stage bytes more
 
 -- a line that is allowed leads from a stage to a stage
-abbrev pub Takes : Stage → lines_module.Line → Stage → Type 0
+abbrev pub Takes : Stage → Line → Stage → Type 0
 Takes old line new = Allows old line × (new ≡ behind old line)
 
 -- the bytes are lines that lead from a stage to a stage
 pub record Goes (old : Stage) (bytes : List ℕ) (new : Stage) : Type 0 where
-  pub lines : List lines_module.Line
+  pub lines : List Line
   pub in_range : AllByRecursion IsInRange lines
   pub bytes_are : bytes ≡ text_of lines
   pub reads : Reads old lines new

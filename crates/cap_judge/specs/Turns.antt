@@ -1,7 +1,7 @@
 -- A log read a line at a time, each line allowed in its turn. All of it is this profile's own.
 use Rattle.std.specs.Prelude.{◌≡◌, ◌==◌, if◌then◌else◌, not, ℕ, List, [], ◌∷◌, Option, Some, None}
-use Rattle.cap_log.specs.declared.lines.Line as lines_module
-use Rattle.cap_log.specs.declared.lines.Line.TheVariants as lines
+use Rattle.cap_log.specs.declared.lines.Line.{Line}
+use Rattle.cap_log.specs.declared.lines.Line.TheVariants.{Version, Mode, Root, Step, End}
 use Rattle.cap_log.specs.declared.lines.Mode as modes_module
 use Rattle.cap_log.specs.declared.lines.Mode.TheVariants.{Strict, Clear}
 use Rattle.cap_ops.specs.Checks.{first_of}
@@ -13,10 +13,10 @@ use Rattle.cap_machine.specs.Accounts.{Account, no_account, with_root, with_step
 use Rattle.cap_judge.specs.Logs.{has_form, line_checks}
 
 -- what the next line of a log has to be: the version line; the mode line; a root, a step or the end line; none, after
--- the end line; or none, after the faulty line of this number and text
+-- the end line; or none, after the faulty line with this number and this text
 pub data Due : Type 0 where
-  Version : Due
-  Mode : Due
+  First : Due
+  Second : Due
   Body : Due
   Ended : Due
   Refused : (line : ℕ) (refusal : Refusal) (text : List ℕ) → Due
@@ -28,20 +28,20 @@ pub record Stage : Type 0 where
 
 -- nothing is read
 abbrev pub unread : Stage
-unread = record { account = no_account One; due = Version }
+unread = record { account = no_account One; due = First }
 
 -- why a line is refused there, or bytes that no line spells
-abbrev pub refusal_at : Account → Due → Option lines_module.Line → Option Refusal
-refusal_at account Version (Some (lines.Version version)) = None
-refusal_at account Version line = Some BadHeader
-refusal_at account Mode (Some (lines.Mode mode)) = None
-refusal_at account Mode line = Some BadMode
+abbrev pub refusal_at : Account → Due → Option Line → Option Refusal
+refusal_at account First (Some (Version version)) = None
+refusal_at account First line = Some BadHeader
+refusal_at account Second (Some (Mode mode)) = None
+refusal_at account Second line = Some BadMode
 refusal_at account Body (Some line) = first_of ((not (has_form account.rules line), BadLine) ∷ line_checks account line)
 refusal_at account Body None = Some BadLine
 refusal_at account due line = Some Misplaced
 
 -- a line that nothing refuses at a stage
-abbrev pub Allows : Stage → lines_module.Line → Type 0
+abbrev pub Allows : Stage → Line → Type 0
 Allows stage line = refusal_at stage.account stage.due (Some line) ≡ None
 
 -- the rules of version 2 in a mode
@@ -50,23 +50,23 @@ rules_of Strict = TwoStrict
 rules_of Clear = TwoClear
 
 -- what a line leads to
-abbrev pub account_behind : Account → lines_module.Line → Account
-account_behind account (lines.Mode mode) = record account { rules = rules_of mode }
-account_behind account (lines.Root place word) = with_root account place word
-account_behind account (lines.Step step) = with_step account step
+abbrev pub account_behind : Account → Line → Account
+account_behind account (Mode mode) = record account { rules = rules_of mode }
+account_behind account (Root place word) = with_root account place word
+account_behind account (Step step) = with_step account step
 account_behind account line = account
 
 -- what the line after it has to be
-abbrev pub due_behind : lines_module.Line → Due
-due_behind (lines.Version version) = if version == 1 then Body else Mode
-due_behind (lines.End count) = Ended
+abbrev pub due_behind : Line → Due
+due_behind (Version version) = if version == 1 then Body else Second
+due_behind (End count) = Ended
 due_behind line = Body
 
 -- the stage behind a line that is allowed
-abbrev pub behind : Stage → lines_module.Line → Stage
+abbrev pub behind : Stage → Line → Stage
 behind stage line = record { account = account_behind stage.account line; due = due_behind line }
 
 -- lines, each allowed at the stage behind those before it, lead from a stage to a stage
-abbrev pub Reads : Stage → List lines_module.Line → Stage → Type 0
+abbrev pub Reads : Stage → List Line → Stage → Type 0
 Reads from [] to = from ≡ to
 Reads from (line ∷ lines) to = Allows from line × Reads (behind from line) lines to
