@@ -16,7 +16,7 @@ os.chdir(os.path.join(os.path.dirname(os.path.abspath(__file__)), ".."))
 WORD = r"[A-Za-z_][\w'-]*(?:\.[A-Za-z_][\w'-]*)*"
 HEAD = re.compile(r"^(?:abbrev |unfoldable )?(?:pub )?(?:abbrev |unfoldable )?(?:record |data )?(" + r"[A-Za-z_][\w'-]*" + r")\b.*:")
 NO_BELIEF = re.compile(r"need no belief|Nothing rests on them")
-USE = re.compile(r"^\s*(?:ghost )?(?:pub )?use Rattle\.(\w+)\.specs\.([\w.]+?)(?:\.\{([^}]*)\}| as (\w+))?;?\s*$")
+USE = re.compile(r"^\s*(pub )?(?:ghost )?use ([^;]+?);?\s*$", re.M)
 
 
 def read(path):
@@ -24,21 +24,40 @@ def read(path):
         return it.read()
 
 
+def spread(path):
+    """The items of an import, each by its whole path: a.{b, c.{d as e}} is a.b and a.c.d as e."""
+    head, brace, rest = path.partition("{")
+    if not brace:
+        return [path]
+    items, depth = [""], 0
+    for it in rest[:-1]:
+        depth += (it == "{") - (it == "}")
+        if it == "," and not depth:
+            items.append("")
+        else:
+            items[-1] += it
+    return [whole for it in items for whole in spread(head + it.strip())]
+
+
+def imports(text):
+    """What a file imports: whether it passes it on, its module, its name there, "" for the module itself, and its name here."""
+    for public, path in USE.findall(text):
+        for item in spread(path):
+            whole, _, other = item.partition(" as ")
+            module, _, name = whole.rpartition(".") if "{" in path else (whole, "", "")
+            yield bool(public), module, name, other or name
+
+
 def uses(text):
-    """The names that a file's use lines bring, each with the module and the name there."""
+    """The names that a file's imports bring of definitions, each with the module and the name there, and those of modules."""
     names, aliases = {}, {}
-    text = re.sub(r"\{([^{}]*)\}", lambda m: "{" + " ".join(m[1].split()) + "}", text)
-    for line in text.split("\n"):
-        m = USE.match(line)
-        if not m or m[2].startswith(("declared", "contracts")):
-            continue
-        module = (m[1], m[2])
-        for item in (m[3] or "").split(","):
-            name, _, other = item.strip().partition(" as ")
+    for _, path, name, here in imports(text):
+        m = re.fullmatch(r"Rattle\.(\w+)\.specs\.([\w.]+)", path)
+        if m and not m[2].startswith(("declared", "contracts")):
             if name:
-                names[other or name] = (module, name)
-        if m[4]:
-            aliases[m[4]] = module
+                names[here] = (m[1], m[2]), name
+            elif here:
+                aliases[here] = m[1], m[2]
     return names, aliases
 
 

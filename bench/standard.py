@@ -25,9 +25,9 @@ import re
 import sys
 
 from antt import wrapped
-from definitions import SPECS, closure, named, read
+from definitions import SPECS, closure, imports, named, read
 from tables import SAID, TABLES, numbers_from
-from tree import KIT, PASSED, WIDTH, comment_of, contract, declarations, fail, kit_definition, module_of, modules_with, spec_text, text_of
+from tree import KIT, WIDTH, comment_of, contract, declarations, fail, kit_definition, module_of, modules_with, spec_text, text_of
 
 PAGE, WORDS, CORPUS = "docs/STANDARD.md", "docs/standard.txt", "conformance/INDEX.tsv"
 SHORT = 5
@@ -185,13 +185,11 @@ def unexplained(found, explained):
     lacking = set()
     for module, name in found:
         words = set(re.findall(r"[^\s(){}\[\],.;]+", "\n".join(SPECS[module][0][name])))
-        for m in PASSED.finditer(spec_text(module)):
-            of_tree = m[2].startswith(("Rattle.cap", "Rattle.tagmem")) and (".declared." not in m[2] or ".TheVariants" in m[2])
-            for item in "" if of_tree else (m[3] or "").split(","):
-                own = item.strip().split(" as ")[-1]
-                parts = [it for it in own.split("◌") if it]
-                if parts and all(it in words for it in parts) and not any(all(re.search(rf"(?<!\w){re.escape(it)}(?!\w)", text) for it in parts) for text in explained):
-                    lacking.add(own)
+        for _, path, name, own in imports(spec_text(module)):
+            of_tree = path.startswith(("Rattle.cap", "Rattle.tagmem")) and (".declared." not in path or ".TheVariants" in path)
+            parts = [it for it in own.split("◌") if it] if name and not of_tree else []
+            if parts and all(it in words for it in parts) and not any(all(re.search(rf"(?<!\w){re.escape(it)}(?!\w)", text) for it in parts) for text in explained):
+                lacking.add(own)
     return lacking
 
 

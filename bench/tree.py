@@ -7,14 +7,13 @@ import shutil
 import sys
 
 from antt import wrapped
-from definitions import SPECS, public_items, read, uses
+from definitions import SPECS, imports, public_items, read, uses
 
 WIDTH = 118
 PROFILE = re.compile(r",? ?\((?:all of it is |this is )?this profile's own(?:, as are all below)?\)")
-# The kit in which `rt` stands, where its library's crates are, and a line that passes names on.
+# The kit in which `rt` stands, and where its library's crates are.
 KIT = os.path.join(os.path.dirname(os.path.dirname(os.path.realpath(shutil.which("rt") or "/"))), "rattle")
 HOMES = {"lib": "logic/Lib", "mir": "logic/Mir", "mathlib": "antt/port/mathlib/src"}
-PASSED = re.compile(r"^\s*(pub )?use ([\w.◌-]+?)(?:\.\{([^}]*)\}| as (\w+))?;?\s*$", re.M)
 
 
 def fail(text):
@@ -133,9 +132,9 @@ def kit_definition(module, name):
     if not os.path.isfile(path):
         crate, *rest = module.split(".")[1:2] + module.split(".")[3:]
         lib = f"{KIT}/{crate}/specs/Lib.antt"
-        for m in PASSED.finditer(read(lib)) if os.path.isfile(lib) else []:
-            if m[1] and not m[3] and m[2].split(".")[-1] == rest[0]:
-                return kit_definition(".".join([m[2], *rest[1:]]), name)
+        for is_public, passed, own, _ in imports(read(lib)) if os.path.isfile(lib) else []:
+            if is_public and not own and passed.split(".")[-1] == rest[0]:
+                return kit_definition(".".join([passed, *rest[1:]]), name)
         return None
     text = read(path)
     lines = text.split("\n")
@@ -146,10 +145,8 @@ def kit_definition(module, name):
             while lines[end].strip() and not lines[end][:indent].strip() and not re.match(r"abbrev|unfoldable|pub |--|infix", lines[end][indent:]):
                 end += 1
             return [re.sub(r"^(?:abbrev |unfoldable )?pub ", "", it[indent:]).replace("  pub ", "  ") for it in lines[at:end]]
-    for m in PASSED.finditer(text):
-        for item in (m[3] or "").split(","):
-            own, _, other = item.strip().partition(" as ")
-            if (other or own) == name:
-                found = kit_definition(m[2], own)
-                return found and [re.sub(rf"(?<![\w]){re.escape(own)}(?![\w])", name, it) for it in found]
+    for _, passed, own, here in imports(text):
+        if own and here == name:
+            found = kit_definition(passed, own)
+            return found and [re.sub(rf"(?<![\w]){re.escape(own)}(?![\w])", name, it) for it in found]
     return None

@@ -2,7 +2,7 @@
 """Prints the definitions and lemmas that nothing names: python3 bench/unused.py
 
 A name counts as used if it stands anywhere in the sources, contracts, definitions, proofs or edits of the crates, or in
-docs/standard.txt, except in its own declaration and in `use` lines. What a proof answers, in the folders of proofs/, is named by the
+docs/standard.txt, except in its own declaration and in imports that give it no other name. What a proof answers, in the folders of proofs/, is named by the
 prover. Two declarations with one name are used together. The status is 1 if there is one."""
 import collections
 import glob
@@ -41,7 +41,7 @@ def main():
     everything = files + glob.glob("crates/*/src/**/*.rt", recursive=True) + glob.glob("crates/*/proofs/*/**/*.antt", recursive=True) + glob.glob("crates/*/must-fail/*.edit")
     for path in everything:
         text = re.sub(r"^\s*(?:--|//).*$", "", text_of(path), flags=re.M)
-        text = re.sub(r"^\s*(?:pub |ghost )*use .*$", "", text, flags=re.M)
+        text = re.sub(r"^\s*(?:pub |ghost )*use .*$", lambda it: " ".join(re.findall(r"([^\s{,.]+) as ", it[0])), text, flags=re.M)
         for word in re.findall(r"[^\s(){}\[\],;:.λ∷`\"]+", text):
             counts[word] += word in declared
     prose = text_of("docs/standard.txt")

@@ -1,19 +1,15 @@
 -- The closed forms of a word's bounds are the one answer of the relation.
-use Rattle.std.proofs.Common.{◌≡◌, ℕ, ◌+◌, ◌-◌, ◌*◌, ◌/◌, ◌%◌, ◌^◌, ◌<◌, ◌≤◌, sym, ap, ◌∙◌, refl, inl, inr, arith, subst}
-use Rattle.std.proofs.Math.Nat.{min-le_right}
-use Rattle.std.proofs.lemmas.Nat.{pow_pos, shl_whole, shl_below}
-use Rattle.std.proofs.lemmas.Bool.{cases_lt}
-use Rattle.std.proofs.lemmas.Bool.Decides.{nat_tests}
+use Rattle.std.proofs.Common.{◌≡◌, ℕ, ◌+◌, ◌-◌, ◌*◌, ◌/◌, ◌%◌, ◌^◌, ◌<◌, ◌≤◌, sym, ap, ◌∙◌, refl, inl, inr, arith}
+use Rattle.std.proofs.{Common.{subst, pow_pos}, Math.Nat.min-le_right, lemmas.Bool.{cases_lt, Decides.nat_tests}}
+use Rattle.std.proofs.lemmas.Nat.{shl_whole, shl_below}
 use Rattle.cap_word.specs.Fields.{ie_of, e_of, b_of, t_of, address_of}
 use Rattle.cap_bounds.specs.Bounds.{window_start_at, IsResidue, IsMantissa, IsWindow, AreBounds, span_at, span_of}
-use Rattle.cap_bounds.specs.Bounds.{mantissa_of, cut_exponent_of, unit_of, window_size, raw_base_at}
-use Rattle.cap_bounds.specs.Bounds.{top_at, length_of, base_of, top_of}
-use Rattle.cap_bounds.specs.Range.{window_start}
-use Rattle.cap_bounds.proofs.Residues.{IsResidue-unique, same_residue}
-use Rattle.cap_bounds.proofs.Windows.{start_below, end_above, start_aligned, raw_from_start, raw_above, raw_within, raw_residue}
-use Rattle.cap_bounds.proofs.Windows.{top_residue}
-use Rattle.cap_bounds.proofs.Powers.{eighth_is, size_is, size-le, length-lt, pow_le}
-use Rattle.cap_bounds.proofs.Mantissas.{span_at-lt, mantissa_is, span_of-mantissa_of, IsMantissa-mantissa_of, IsMantissa-unique}
+use Rattle.cap_bounds.specs.Bounds.{mantissa_of, cut_exponent_of, unit_of, window_size, raw_base_at, top_at, length_of}
+use Rattle.cap_bounds.specs.{Bounds.{base_of, top_of}, Range.window_start}
+use Rattle.cap_bounds.proofs.Mantissas.{span_at-lt, mantissa_is, span_of-mantissa_of, IsMantissa-mantissa_of}
+use Rattle.cap_bounds.proofs.{Mantissas.IsMantissa-unique, Powers.{eighth_is, size_is, size-le, length-lt, pow_le}}
+use Rattle.cap_bounds.proofs.{Residues.{IsResidue-unique, same_residue}, Windows.{start_below, end_above}}
+use Rattle.cap_bounds.proofs.Windows.{start_aligned, raw_from_start, raw_above, raw_within, raw_residue, top_residue}
 
 pub exponent-le : (w : ℕ) → cut_exponent_of w ≤ 52
 exponent-le w = min-le_right (e_of w) 52

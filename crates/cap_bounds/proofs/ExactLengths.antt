@@ -1,19 +1,14 @@
 -- Which lengths need no rounding, and at which bases.
 use Rattle.std.proofs.Common.{◌≡◌, ℕ, ◌+◌, ◌-◌, ◌*◌, ◌/◌, ◌%◌, ◌^◌, ◌<◌, ◌≤◌, sym, ap, ◌∙◌, inl, inr, arith, subst}
-use Rattle.std.proofs.Math.Nat.{mul-le-mul_right, le_of_mul-le-mul_right, mul_assoc, mul-mod_left}
-use Rattle.std.proofs.Math.Nat.{mul-div_cancel, div-add-mod, mod-one, mul-le-mul_left, zero-add}
-use Rattle.std.proofs.Math.Nat.{zero-div}
-use Rattle.std.proofs.lemmas.Bool.{cases_lt}
-use Rattle.std.proofs.lemmas.Bool.Decides.{nat_tests}
-use Rattle.std.proofs.lemmas.Nat.{pow_pos}
-use Rattle.std.proofs.lemmas.Nat.Bits.{ones_shl}
-use Rattle.cap_bounds.specs.Rounding.{div_up, units_of, IsLeastExponent, IsExact, alignment_of, rounded_exponent, rounded_top}
-use Rattle.cap_bounds.proofs.Powers.{pow_split, pow_le}
+use Rattle.std.proofs.Common.{mul-le-mul_right, le_of_mul-le-mul_right, mul_assoc, mul-div_cancel, mul-le-mul_left}
+use Rattle.std.proofs.{Common.{zero-add, pow_pos}, Math.Nat.{mul-mod_left, div-add-mod, mod-one, zero-div}}
+use Rattle.std.proofs.lemmas.{Bool.{cases_lt, Decides.nat_tests}, Nat.Bits.ones_shl}
+use Rattle.cap_bounds.specs.Rounding.{div_up, units_of, IsLeastExponent, IsExact, alignment_of, rounded_exponent}
+use Rattle.cap_bounds.specs.Rounding.{rounded_top}
+use Rattle.cap_bounds.proofs.{LeastExponents.{IsLeastExponent-rounded, rounded_exponent-le}, Powers.{pow_split, pow_le}}
+use Rattle.cap_bounds.proofs.Roundings.{grain_of, rounded_base-short, rounded_top-short, rounded_base-long}
+use Rattle.cap_bounds.proofs.Roundings.{rounded_top-long, rounded_top-ge, rounded_top-le}
 use Rattle.cap_bounds.proofs.Units.{div_up-ge, div_up-le, down-le-up, covered-ge}
-use Rattle.cap_bounds.proofs.LeastExponents.{IsLeastExponent-rounded, rounded_exponent-le}
-use Rattle.cap_bounds.proofs.Roundings.{grain_of, rounded_base-short, rounded_top-short}
-use Rattle.cap_bounds.proofs.Roundings.{rounded_base-long, rounded_top-long, rounded_top-ge}
-use Rattle.cap_bounds.proofs.Roundings.{rounded_top-le}
 
 pub alignment-short : (n : ℕ) → n < 4096 → alignment_of n ≡ 1
 unfolding alignment_of

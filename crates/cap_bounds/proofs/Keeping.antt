@@ -1,19 +1,15 @@
 -- Which addresses keep a word's bounds: exactly those of its representable range.
-use Rattle.std.proofs.Common.{◌≡◌, ℕ, suc, ◌+◌, ◌-◌, ◌*◌, ◌/◌, ◌%◌, ◌^◌, ◌<◌, ◌≤◌, sym, ap, ◌∙◌, refl, inl, inr, arith, subst}
-use Rattle.std.proofs.Math.Nat.{div-add-mod, mod-lt, mod-eq_of_lt, mod-add-mod, add-mod_right, mul-mod_right, mul-le-mul_right}
-use Rattle.std.proofs.lemmas.Bool.{cases_lt}
-use Rattle.std.proofs.lemmas.Nat.{pow_pos}
+use Rattle.std.proofs.Common.{◌≡◌, ℕ, ◌+◌, ◌-◌, ◌*◌, ◌/◌, ◌%◌, ◌^◌, ◌<◌, ◌≤◌, sym, ap, ◌∙◌, refl, inl, inr, arith}
+use Rattle.std.proofs.Common.{subst, mod-lt, mod-eq_of_lt, mul-le-mul_right, pow_pos}
+use Rattle.std.proofs.{Math.Nat.{div-add-mod, mod-add-mod, add-mod_right}, lemmas.Bool.cases_lt}
 use Rattle.cap_word.specs.Fields.{b_of, t_of, ie_of, address_of}
-use Rattle.cap_bounds.specs.Bounds.{window_start_at, cut_exponent_of, unit_of, window_size, span_at}
-use Rattle.cap_bounds.specs.Bounds.{raw_base_at, base_of, top_of, length_of}
+use Rattle.cap_bounds.specs.Bounds.{window_start_at, cut_exponent_of, unit_of, window_size, span_at, raw_base_at}
+use Rattle.cap_bounds.specs.Bounds.{base_of, top_of, length_of}
 use Rattle.cap_bounds.specs.Range.{KeepsBounds, IsRepresentable, with_address, window_start}
-use Rattle.cap_bounds.proofs.Residues.{mul-add-mod-mul}
-use Rattle.cap_bounds.proofs.Powers.{pow_le, size_is, size_divides, size_covers}
-use Rattle.cap_bounds.proofs.Decoded.{exponent-le, b_of-lt, window_start_at-le, window_start_at-gt}
-use Rattle.cap_bounds.proofs.Decoded.{window_start_at-mod, raw_base_from_start, raw_base_at-ge}
-use Rattle.cap_bounds.proofs.Decoded.{raw_top-lt, top_at-corrected, top_at-uncorrected}
-use Rattle.cap_bounds.proofs.Decoded.{top_of-corrected, length_is}
-use Rattle.cap_bounds.proofs.Mantissas.{span_at-lt}
+use Rattle.cap_bounds.proofs.Decoded.{exponent-le, b_of-lt, window_start_at-le, window_start_at-gt, window_start_at-mod}
+use Rattle.cap_bounds.proofs.Decoded.{raw_base_from_start, raw_base_at-ge, raw_top-lt, top_at-corrected}
+use Rattle.cap_bounds.proofs.{Decoded.{top_at-uncorrected, top_of-corrected, length_is}, Mantissas.span_at-lt}
+use Rattle.cap_bounds.proofs.{Powers.{pow_le, size_is, size_divides, size_covers}, Residues.mul-add-mod-mul}
 use Rattle.cap_bounds.proofs.SameFields.{base_of-with_address, top_of-with_address}
 
 sub-mod-zero : (x r n : ℕ) → r < n → (x + n - r) % n ≡ 0 → x % n ≡ r

@@ -1,12 +1,9 @@
 -- The least exponent of a request: it is there, it is one, and the code finds it.
-use Rattle.std.proofs.Common.{◌≡◌, ℕ, zero, suc, ◌+◌, ◌-◌, ◌*◌, ◌^◌, ◌<◌, ◌≤◌, sym, inl, inr, arith, subst}
-use Rattle.std.proofs.lemmas.Nat.{pow_pos, leading_top}
+use Rattle.std.proofs.Common.{◌≡◌, ℕ, zero, suc, ◌+◌, ◌-◌, ◌*◌, ◌^◌, ◌<◌, ◌≤◌, sym, inl, inr, arith, subst, pow_pos}
+use Rattle.std.proofs.lemmas.{Bool.{cases_lt, cases_order, Decides.nat_tests}, Nat.leading_top}
 use lib.Count.{count_leading_zeros}
-use Rattle.std.proofs.lemmas.Bool.{cases_lt, cases_order}
-use Rattle.std.proofs.lemmas.Bool.Decides.{nat_tests}
 use Rattle.cap_bounds.specs.Rounding.{units_of, IsLeastExponent, first_exponent, rounded_exponent}
-use Rattle.cap_bounds.proofs.Units.{many, few}
-use Rattle.cap_bounds.proofs.Powers.{pow_split, pow_le}
+use Rattle.cap_bounds.proofs.{Powers.{pow_split, pow_le}, Units.{many, few}}
 
 first-here : (b l count e : ℕ) → units_of b l e < 1024 → first_exponent b l (suc count) e ≡ e
 unfolding first_exponent

@@ -1,20 +1,16 @@
 -- Least rounding: a sound word contains a request exactly where it contains the rounded request.
-use Rattle.std.proofs.Common.{◌≡◌, ℕ, ◌+◌, ◌-◌, ◌*◌, ◌/◌, ◌%◌, ◌^◌, ◌<◌, ◌≤◌, min, Bool, true, false, sym, ap, ◌∙◌, inl, inr, arith, subst}
-use Rattle.std.proofs.Math.Nat.{mul-le-mul_right, le-div_iff_mul-le, mul_assoc}
+use Rattle.std.proofs.Common.{◌≡◌, ℕ, ◌+◌, ◌-◌, ◌*◌, ◌/◌, ◌%◌, ◌^◌, ◌<◌, ◌≤◌, min, Bool, true, false, sym, ap, ◌∙◌, inl}
+use Rattle.std.proofs.Common.{inr, arith, subst, mul-le-mul_right, le-div_iff_mul-le, mul_assoc, pow_pos}
 use Rattle.std.proofs.lemmas.Bool.{cases_lt, cases_Bool}
-use Rattle.std.proofs.lemmas.Nat.{pow_pos}
 use Rattle.cap_word.specs.Fields.{ie_of, e_of, b_of, t_of, address_of, b_field, t_field}
-use Rattle.cap_bounds.specs.Bounds.{IsSound, IsInside, cut_exponent_of, span_at, raw_base_at, base_of, top_of, length_of}
+use Rattle.cap_bounds.specs.Bounds.{IsSound, IsInside, cut_exponent_of, span_at, raw_base_at, base_of, top_of}
+use Rattle.cap_bounds.specs.Bounds.{length_of}
 use Rattle.cap_bounds.specs.Rounding.{div_up, units_of, IsLeastExponent, rounded_exponent, rounded_base, rounded_top}
-use Rattle.cap_bounds.proofs.Residues.{mul-mod-mul}
-use Rattle.cap_bounds.proofs.Powers.{pow_split, grain_is}
-use Rattle.cap_bounds.proofs.BoundedWords.{e_from, cut_from}
-use Rattle.cap_bounds.proofs.Decoded.{exponent-le, b_of-lt, length_is}
+use Rattle.cap_bounds.proofs.{BoundedWords.{e_from, cut_from}, Decoded.{exponent-le, b_of-lt, length_is}}
+use Rattle.cap_bounds.proofs.{LeastExponents.IsLeastExponent-rounded, Powers.{pow_split, grain_is}}
+use Rattle.cap_bounds.proofs.{Residues.mul-mod-mul, Roundings.{grain_of, rounded_base-short, rounded_top-short}}
+use Rattle.cap_bounds.proofs.Roundings.{rounded_base-long, rounded_top-long, rounded_base-le, rounded_top-ge}
 use Rattle.cap_bounds.proofs.Units.{div_up-le}
-use Rattle.cap_bounds.proofs.LeastExponents.{IsLeastExponent-rounded}
-use Rattle.cap_bounds.proofs.Roundings.{grain_of, rounded_base-short, rounded_top-short}
-use Rattle.cap_bounds.proofs.Roundings.{rounded_base-long, rounded_top-long, rounded_base-le}
-use Rattle.cap_bounds.proofs.Roundings.{rounded_top-ge}
 
 -- without IE a word is shorter than 4096
 length-short : (w : ℕ) → ie_of w ≡ false → length_of w < 4096

@@ -1,29 +1,22 @@
 -- The word of a rounded request has exactly the rounded bounds, and is sound.
-use Rattle.std.proofs.Common.{◌≡◌, ◌+◌, ◌-◌, ◌*◌, ◌/◌, ◌%◌, ◌^◌, ◌<◌, ◌≤◌, ◌∙◌}
-use Rattle.std.proofs.Common.{ℕ, zero, suc, min, Bool, true, false, sym, ap, inl, inr, arith, subst}
-use Rattle.std.proofs.Math.Nat.{min-eq_left, mul-le-mul_right, lt_of_mul-lt-mul_right}
-use Rattle.std.proofs.lemmas.Nat.{pow_pos}
-use Rattle.std.proofs.lemmas.Bool.{cases_lt}
+use Rattle.std.proofs.Common.{◌≡◌, ◌+◌, ◌-◌, ◌*◌, ◌/◌, ◌%◌, ◌^◌, ◌<◌, ◌≤◌, ◌∙◌, ℕ, zero, suc, min, Bool, true, false}
+use Rattle.std.proofs.Common.{sym, ap, inl, inr, arith, subst, mul-le-mul_right, lt_of_mul-lt-mul_right, pow_pos}
+use Rattle.std.proofs.{Math.Nat.min-eq_left, lemmas.Bool.cases_lt}
 use Rattle.cap_word.specs.Fields.{ie_of, b_of, t_of, address_of}
-use Rattle.cap_bounds.specs.Bounds.{window_start_at, IsResidue, IsSound, cut_exponent_of, span_at}
-use Rattle.cap_bounds.specs.Bounds.{raw_base_at, top_at, base_of, top_of, length_of}
-use Rattle.cap_bounds.specs.Rounding.{div_up, units_of, IsLeastExponent, HasRounding, bounded_word}
-use Rattle.cap_bounds.specs.Rounding.{rounded_word, rounded_ie, rounded_exponent, rounded_base}
-use Rattle.cap_bounds.specs.Rounding.{rounded_top, rounded_b, rounded_t}
-use Rattle.cap_bounds.proofs.Residues.{IsResidue-unique, mul-mod-mul}
-use Rattle.cap_bounds.proofs.Windows.{eighth_of}
-use Rattle.cap_bounds.proofs.Powers.{pow_split, grain_is}
-use Rattle.cap_bounds.proofs.Decoded.{window_start_at-le, window_start_at-gt, raw_base_at-residue}
-use Rattle.cap_bounds.proofs.Decoded.{top_at-corrected, top_at-uncorrected, decoded}
-use Rattle.cap_bounds.proofs.Units.{covered-ge, covered-lt, many, down-le, down-gt, down-le-up}
+use Rattle.cap_bounds.specs.Bounds.{window_start_at, IsResidue, IsSound, cut_exponent_of, span_at, raw_base_at, top_at}
+use Rattle.cap_bounds.specs.Bounds.{base_of, top_of, length_of}
+use Rattle.cap_bounds.specs.Rounding.{div_up, units_of, IsLeastExponent, HasRounding, bounded_word, rounded_word}
+use Rattle.cap_bounds.specs.Rounding.{rounded_ie, rounded_exponent, rounded_base, rounded_top, rounded_b, rounded_t}
+use Rattle.cap_bounds.proofs.BoundedWords.{AreFields, address_of-bounded_word, ie_of-bounded_word, e_of-bounded_word}
+use Rattle.cap_bounds.proofs.BoundedWords.{b_of-bounded_word, t_of-bounded_word, above-bounded_word}
+use Rattle.cap_bounds.proofs.Decoded.{window_start_at-le, window_start_at-gt, raw_base_at-residue, top_at-corrected}
+use Rattle.cap_bounds.proofs.Decoded.{top_at-uncorrected, decoded}
 use Rattle.cap_bounds.proofs.LeastExponents.{IsLeastExponent-rounded, rounded_exponent-short, rounded_exponent-le}
-use Rattle.cap_bounds.proofs.Roundings.{grain_of, rounded_base-short, rounded_top-short}
-use Rattle.cap_bounds.proofs.Roundings.{rounded_ie-short, rounded_ie-long, rounded_base-long}
-use Rattle.cap_bounds.proofs.Roundings.{rounded_top-long, rounded_base-le, rounded_top-ge}
-use Rattle.cap_bounds.proofs.Roundings.{rounded_top-le, in_units, short_b, short_t}
-use Rattle.cap_bounds.proofs.BoundedWords.{AreFields, address_of-bounded_word, ie_of-bounded_word}
-use Rattle.cap_bounds.proofs.BoundedWords.{e_of-bounded_word, b_of-bounded_word, t_of-bounded_word}
-use Rattle.cap_bounds.proofs.BoundedWords.{above-bounded_word}
+use Rattle.cap_bounds.proofs.{Powers.{pow_split, grain_is}, Residues.{IsResidue-unique, mul-mod-mul}}
+use Rattle.cap_bounds.proofs.Roundings.{grain_of, rounded_base-short, rounded_top-short, rounded_ie-short}
+use Rattle.cap_bounds.proofs.Roundings.{rounded_ie-long, rounded_base-long, rounded_top-long, rounded_base-le}
+use Rattle.cap_bounds.proofs.Roundings.{rounded_top-ge, rounded_top-le, in_units, short_b, short_t}
+use Rattle.cap_bounds.proofs.{Units.{covered-ge, covered-lt, many, down-le, down-gt, down-le-up}, Windows.eighth_of}
 
 -- a long request covers 512 units or more at its least exponent
 pub units-ge : (b l e : ℕ) → 4096 ≤ l → IsLeastExponent b l e → 512 ≤ units_of b l e

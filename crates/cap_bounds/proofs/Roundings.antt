@@ -1,14 +1,12 @@
 -- The bounds of a rounded request.
-use Rattle.std.proofs.Common.{◌≡◌, ℕ, ◌+◌, ◌-◌, ◌*◌, ◌/◌, ◌%◌, ◌^◌, ◌<◌, ◌≤◌, true, false, sym, ap, ◌∙◌, inl, inr, refl, arith}
-use Rattle.std.proofs.Math.Nat.{mul-le-mul_right, mul-div_cancel, mod-eq_of_lt, div-one}
-use Rattle.std.proofs.lemmas.Nat.{pow_pos}
-use Rattle.std.proofs.lemmas.Bool.{cases_lt}
-use Rattle.std.proofs.lemmas.Bool.Decides.{nat_tests}
-use Rattle.cap_bounds.specs.Rounding.{div_up, IsExact, IsLeastExponent, rounded_ie, rounded_exponent}
-use Rattle.cap_bounds.specs.Rounding.{rounded_base, rounded_top, rounded_b, rounded_t}
-use Rattle.cap_bounds.proofs.Units.{div_up-ge, div_up-le, down-le, down-whole, whole-down, up-whole, whole-up, behind-whole}
-use Rattle.cap_bounds.proofs.LeastExponents.{IsLeastExponent-rounded, IsLeastExponent-unique, rounded_exponent-short, rounded_exponent-le}
-use Rattle.cap_bounds.proofs.Powers.{pow_split, grain_is}
+use Rattle.std.proofs.Common.{◌≡◌, ℕ, ◌+◌, ◌-◌, ◌*◌, ◌/◌, ◌%◌, ◌^◌, ◌<◌, ◌≤◌, true, false, sym, ap, ◌∙◌, inl, inr, refl}
+use Rattle.std.proofs.Common.{arith, mul-le-mul_right, mul-div_cancel, mod-eq_of_lt, div-one, pow_pos}
+use Rattle.std.proofs.lemmas.Bool.{cases_lt, Decides.nat_tests}
+use Rattle.cap_bounds.specs.Rounding.{div_up, IsExact, IsLeastExponent, rounded_ie, rounded_exponent, rounded_base}
+use Rattle.cap_bounds.specs.Rounding.{rounded_top, rounded_b, rounded_t}
+use Rattle.cap_bounds.proofs.LeastExponents.{IsLeastExponent-rounded, IsLeastExponent-unique, rounded_exponent-short}
+use Rattle.cap_bounds.proofs.{LeastExponents.rounded_exponent-le, Powers.{pow_split, grain_is}, Units.div_up-ge}
+use Rattle.cap_bounds.proofs.Units.{div_up-le, down-le, down-whole, whole-down, up-whole, whole-up, behind-whole}
 
 pub rounded_base-short : (b l : ℕ) → l < 4096 → rounded_base b l ≡ b
 unfolding rounded_base

@@ -1,17 +1,13 @@
 -- The bounds that Sail decodes of a word are those of its window.
-use Rattle.std.proofs.Common.{◌≡◌, ℕ, ◌+◌, ◌-◌, ◌*◌, ◌/◌, ◌%◌, ◌^◌, ◌<◌, ◌≤◌, Bool, true, false, sym, ap, ◌∙◌, inl, inr, ◌⊎◌, arith}
-use Rattle.std.proofs.Math.Nat.{add-mul-div_right}
-use Rattle.std.proofs.lemmas.Nat.{pow_pos, shr-shr}
-use Rattle.std.proofs.lemmas.Bool.{cases_lt}
+use Rattle.std.proofs.Common.{◌≡◌, ℕ, ◌+◌, ◌-◌, ◌*◌, ◌/◌, ◌%◌, ◌^◌, ◌<◌, ◌≤◌, Bool, true, false, sym, ap, ◌∙◌, inl, inr}
+use Rattle.std.proofs.{Common.{◌⊎◌, arith, pow_pos, shr-shr}, Math.Nat.add-mul-div_right, lemmas.Bool.cases_lt}
 use Rattle.std.proofs.lemmas.Bool.Decides.{nat_tests}
 use Rattle.cap_word.specs.Fields.{ie_of, b_of, t_of, address_of}
 use Rattle.cap_bounds.specs.Bounds.{span_at, cut_exponent_of, unit_of, raw_base_at, length_of, base_of, top_of}
-use Rattle.cap_bounds.specs.SailDecoding.{below_bit, sail_mantissa, sail_a3, sail_a_top}
-use Rattle.cap_bounds.specs.SailDecoding.{sail_high_three, sail_r3, sail_bound, sail_corrected_top}
-use Rattle.cap_bounds.specs.SailDecoding.{sail_base_65, sail_base, sail_top}
-use Rattle.cap_bounds.proofs.Powers.{pow_split}
-use Rattle.cap_bounds.proofs.Mantissas.{span_at-lt}
-use Rattle.cap_bounds.proofs.Decoded.{exponent-le, b_of-lt, t_of-lt, length_is, length_of-lt, top_at-corrected, top_at-uncorrected}
+use Rattle.cap_bounds.specs.SailDecoding.{below_bit, sail_mantissa, sail_a3, sail_a_top, sail_high_three, sail_r3}
+use Rattle.cap_bounds.specs.SailDecoding.{sail_bound, sail_corrected_top, sail_base_65, sail_base, sail_top}
+use Rattle.cap_bounds.proofs.Decoded.{exponent-le, b_of-lt, t_of-lt, length_is, length_of-lt, top_at-corrected}
+use Rattle.cap_bounds.proofs.{Decoded.top_at-uncorrected, Mantissas.span_at-lt, Powers.pow_split}
 
 -- the bit of a comparison x < y
 abbrev IsBelowBit : ℕ → ℕ → ℕ → Type 0

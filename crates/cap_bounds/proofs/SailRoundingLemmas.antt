@@ -1,25 +1,20 @@
 -- The rounding that Sail makes of a request is that of the least exponent.
+use Rattle.std.proofs.Common.{◌≡◌, ◌+◌, ◌-◌, ◌*◌, ◌/◌, ◌%◌, ◌^◌, ◌<◌, ◌≤◌, ◌&&◌, ◌||◌, ◌==◌, ◌↔◌, ◌∙◌, ℕ, suc, Bool}
+use Rattle.std.proofs.Common.{true, false, nat_lt, IsTrue, not, refl, sym, ap, inl, inr, arith, subst}
+use Rattle.std.proofs.{Common.{le_of_mul-le-mul_right, lt_of_mul-lt-mul_right, pow_pos}, Math.Bool.or-false}
+use Rattle.std.proofs.{Math.Nat.div-add-mod, lemmas.Bool.{cases_lt, Decides.nat_tests}}
+use Rattle.std.proofs.lemmas.Nat.{mod_below, mod-pow-add, leading_top}
 use lib.Count.{count_leading_zeros}
-use Rattle.std.proofs.Common.{◌≡◌, ◌+◌, ◌-◌, ◌*◌, ◌/◌, ◌%◌, ◌^◌, ◌<◌, ◌≤◌, ◌&&◌, ◌||◌, ◌==◌, ◌↔◌}
-use Rattle.std.proofs.Common.{◌∙◌}
-use Rattle.std.proofs.Common.{ℕ, suc, Bool, true, false, nat_lt, IsTrue, not, refl, sym, ap, inl}
-use Rattle.std.proofs.Common.{inr, arith, subst}
-use Rattle.std.proofs.Math.Nat.{div-add-mod, le_of_mul-le-mul_right, lt_of_mul-lt-mul_right}
-use Rattle.std.proofs.Math.Bool.{or-false}
-use Rattle.std.proofs.lemmas.Nat.{mod_below, pow_pos, mod-pow-add, leading_top}
-use Rattle.std.proofs.lemmas.Bool.{cases_lt}
-use Rattle.std.proofs.lemmas.Bool.Decides.{nat_tests}
 use Rattle.cap_word.specs.Fields.{bit_of}
-use Rattle.cap_bounds.specs.Rounding.{div_up, units_of, IsLeastExponent, rounded_ie, rounded_exponent, rounded_b, rounded_t, IsExact}
-use Rattle.cap_bounds.specs.SailRounding.{sail_first_e, sail_ie, sail_lost, sail_b_ie, sail_t_ie}
-use Rattle.cap_bounds.specs.SailRounding.{sail_inc_e, sail_lost_base, sail_lost_top, sail_last_e}
+use Rattle.cap_bounds.specs.Rounding.{div_up, units_of, IsLeastExponent, rounded_ie, rounded_exponent, rounded_b}
+use Rattle.cap_bounds.specs.{Rounding.{rounded_t, IsExact}, SailRounding.{sail_first_e, sail_ie, sail_lost, sail_b_ie}}
+use Rattle.cap_bounds.specs.SailRounding.{sail_t_ie, sail_inc_e, sail_lost_base, sail_lost_top, sail_last_e}
 use Rattle.cap_bounds.specs.SailRounding.{sail_exponent, sail_b, sail_t, sail_exact}
-use Rattle.cap_bounds.proofs.Powers.{pow_split, pow_le}
-use Rattle.cap_bounds.proofs.Units.{div_up-ge, div_up-le, down-le, down-gt, down-le-up, few}
 use Rattle.cap_bounds.proofs.LeastExponents.{IsLeastExponent-start, IsLeastExponent-raised, rounded_exponent-short}
-use Rattle.cap_bounds.proofs.Roundings.{rounded_base-short, rounded_top-short, rounded_ie-short}
-use Rattle.cap_bounds.proofs.Roundings.{rounded_ie-long, exponent_is, rounded_base_is}
-use Rattle.cap_bounds.proofs.Roundings.{rounded_top_is, long_request, short_b, short_t}
+use Rattle.cap_bounds.proofs.Powers.{pow_split, pow_le}
+use Rattle.cap_bounds.proofs.Roundings.{rounded_base-short, rounded_top-short, rounded_ie-short, rounded_ie-long}
+use Rattle.cap_bounds.proofs.Roundings.{exponent_is, rounded_base_is, rounded_top_is, long_request, short_b, short_t}
+use Rattle.cap_bounds.proofs.Units.{div_up-ge, div_up-le, down-le, down-gt, down-le-up, few}
 
 -- a quotient rounded up is one more just where there is a rest
 div_up-whole : (n v : ℕ) → 0 < v → n % v ≡ 0 → div_up n v ≡ n / v

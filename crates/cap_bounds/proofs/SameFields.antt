@@ -1,11 +1,10 @@
 -- Words that share the fields that bounds come from. Base, top and length depend on the word modulo
 -- 2 ^ 91 alone: not on its permissions, reserved bits, flag or object type.
-use Rattle.std.proofs.Common.{◌≡◌, ℕ, ◌+◌, ◌*◌, ◌/◌, ◌%◌, ◌^◌, ◌<◌, ◌≤◌, min, Bool, ◌==◌, sym, ap, ◌∙◌, arith, refl, subst}
+use Rattle.std.proofs.Common.{◌≡◌, ℕ, ◌+◌, ◌/◌, ◌%◌, ◌^◌, ◌<◌, ◌≤◌, min, ◌==◌, sym, ap, ◌∙◌, arith, refl, subst}
 use Rattle.cap_word.specs.Fields.{ie_of, e_of, b_of, t_of, address_of, b_field, t_field}
-use Rattle.cap_bounds.specs.Bounds.{IsSound, cut_exponent_of, span_at, raw_base_at, top_at, base_of, top_of, length_of}
+use Rattle.cap_bounds.specs.Bounds.{IsSound, cut_exponent_of, raw_base_at, top_at, base_of, top_of, length_of}
 use Rattle.cap_bounds.specs.Range.{KeepsBounds, with_address}
-use Rattle.cap_bounds.proofs.BoundedWords.{e_from, cut_from}
-use Rattle.cap_bounds.proofs.Decoded.{length_is}
+use Rattle.cap_bounds.proofs.{BoundedWords.{e_from, cut_from}, Decoded.length_is}
 
 -- two words with the same bits 64 .. 90
 module _ (v w : ℕ) (same : v / 2 ^ 64 % 2 ^ 27 ≡ w / 2 ^ 64 % 2 ^ 27) where

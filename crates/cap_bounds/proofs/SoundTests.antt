@@ -1,7 +1,6 @@
 -- The test of soundness.
 use Rattle.std.proofs.Common.{◌≡◌, ℕ, ◌+◌, ◌^◌, ◌≤◌, Bool, eqb, leb, Decides, inl, inr, sym, ◌∙◌, arith}
-use Rattle.std.proofs.lemmas.Bool.{false≢true}
-use Rattle.std.proofs.lemmas.Bool.Decides.{same_from_decides, leb_tells, Decides-and, Decides-eqb}
+use Rattle.std.proofs.lemmas.Bool.{false≢true, Decides.{same_from_decides, leb_tells, Decides-and, Decides-eqb}}
 use Rattle.cap_bounds.specs.Bounds.{base_of, top_of, length_of, IsSound, is_sound}
 
 Decides-leb : (a b : ℕ) → Decides (leb a b) (a ≤ b)

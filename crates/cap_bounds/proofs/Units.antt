@@ -1,7 +1,8 @@
 -- Numbers rounded down and up to a unit v, and how many units a request covers.
-use Rattle.std.proofs.Common.{◌≡◌, ℕ, suc, ◌+◌, ◌-◌, ◌*◌, ◌/◌, ◌%◌, ◌<◌, ◌≤◌, sym, ap, ◌∙◌, arith}
-use Rattle.std.proofs.Math.Nat.{lt-div-mul-add, div-mul-le_self, div-lt_iff_lt-mul, lt_of_mul-lt-mul_right, le_of_mul-le-mul_right}
-use Rattle.std.proofs.Math.Nat.{add-mul-div_right, mul-le-mul_right, div-add-mod, mod-eq-sub-div-mul, mul-mod_left, mul-add-mod_self_right}
+use Rattle.std.proofs.Common.{◌≡◌, ℕ, suc, ◌+◌, ◌-◌, ◌*◌, ◌/◌, ◌%◌, ◌<◌, ◌≤◌, sym, ap, ◌∙◌, arith, div-mul-le_self}
+use Rattle.std.proofs.Common.{div-lt_iff_lt-mul, lt_of_mul-lt-mul_right, le_of_mul-le-mul_right, mul-le-mul_right}
+use Rattle.std.proofs.Math.Nat.{lt-div-mul-add, add-mul-div_right, div-add-mod, mod-eq-sub-div-mul, mul-mod_left}
+use Rattle.std.proofs.Math.Nat.{mul-add-mod_self_right}
 use Rattle.cap_bounds.specs.Rounding.{div_up}
 
 pub div_up-ge : (n v : ℕ) → 0 < v → n ≤ div_up n v * v

@@ -1,6 +1,6 @@
 -- The window of an address, and the raw bounds in it, over any unit u.
-use Rattle.std.proofs.Common.{◌≡◌, ℕ, ◌+◌, ◌-◌, ◌*◌, ◌/◌, ◌%◌, ◌<◌, ◌≤◌, sym, ap, ◌∙◌, arith}
-use Rattle.std.proofs.Math.Nat.{mul-le-mul_right, mul-lt-mul_of_pos_right, le-div_iff_mul-le, div-lt_iff_lt-mul, mul_assoc, add-mul}
+use Rattle.std.proofs.Common.{◌≡◌, ℕ, ◌+◌, ◌-◌, ◌*◌, ◌/◌, ◌%◌, ◌<◌, ◌≤◌, sym, ap, ◌∙◌, arith, mul-le-mul_right}
+use Rattle.std.proofs.Common.{mul-lt-mul_of_pos_right, le-div_iff_mul-le, div-lt_iff_lt-mul, mul_assoc, add-mul}
 use Rattle.cap_bounds.proofs.Residues.{mul-mod-mul}
 
 -- which window holds an address whose quotient by an eighth of a window is a, in windows

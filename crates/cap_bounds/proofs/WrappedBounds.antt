@@ -1,11 +1,9 @@
 -- What the code computes of bounds in 64 bits: the window's start, the base, and the top that hangs on no address.
-use Rattle.std.proofs.Common.{◌≡◌, ℕ, ◌+◌, ◌-◌, ◌*◌, ◌/◌, ◌%◌, ◌^◌, ◌<◌, ◌≤◌, sym, ap, ◌∙◌, arith}
-use Rattle.std.proofs.Math.Nat.{add-mul-div_right}
-use Rattle.std.proofs.lemmas.Nat.{pow_pos, shr-shr, shl_whole, shl_below}
+use Rattle.std.proofs.Common.{◌≡◌, ℕ, ◌+◌, ◌-◌, ◌*◌, ◌/◌, ◌%◌, ◌^◌, ◌<◌, ◌≤◌, sym, ap, ◌∙◌, arith, pow_pos, shr-shr}
+use Rattle.std.proofs.{Math.Nat.add-mul-div_right, lemmas.Nat.{shl_whole, shl_below}}
 use Rattle.cap_bounds.specs.Bounds.{raw_base_at, top_at, window_start_at}
-use Rattle.cap_bounds.proofs.Powers.{pow_split, pow_le, eighth_is, size_covers}
+use Rattle.cap_bounds.proofs.{Decoded.top_at-uncorrected, Powers.{pow_split, pow_le, eighth_is, size_covers}}
 use Rattle.cap_bounds.proofs.Windows.{eighth_of, eighth-le, eighth-gt, eighth-mod}
-use Rattle.cap_bounds.proofs.Decoded.{top_at-uncorrected}
 
 -- a wrapped difference from a multiple of 2048 below 2 ^ 14, modulo 2 ^ 14
 wrapped : (units k : ℕ) → k < 8 → (units + (2 ^ 64 - k * 2048 % 2 ^ 64)) % 2 ^ 64 % 2 ^ 14 ≡ (units + 16384 - k * 2048) % 16384

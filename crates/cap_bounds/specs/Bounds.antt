@@ -3,7 +3,8 @@
 --
 -- A window may begin below 0, and so may what lies in it. All of these are given 2 ^ 66 higher, where
 -- they are natural numbers: 2 ^ 66 is a multiple of every window's size, of 2 ^ 65 and of 2 ^ 64.
-use Rattle.std.specs.Prelude.{◌≡◌, ℕ, ◌+◌, ◌-◌, ◌*◌, ◌/◌, ◌%◌, ◌^◌, ◌<◌, ◌≤◌, min, Bool, ◌==◌, ◌&&◌, nat_le, if◌then◌else◌}
+use Rattle.std.specs.Prelude.{◌≡◌, ℕ, ◌+◌, ◌-◌, ◌*◌, ◌/◌, ◌%◌, ◌^◌, ◌<◌, ◌≤◌, min, Bool, ◌==◌, ◌&&◌, nat_le}
+use Rattle.std.specs.Prelude.{if◌then◌else◌}
 use Rattle.cap_word.specs.Fields.{bit_of, ie_of, e_of, b_of, t_of, address_of}
 
 -- x is the number from low to low + size - 1 that is congruent to value modulo size (this profile's own)

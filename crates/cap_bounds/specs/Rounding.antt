@@ -1,6 +1,7 @@
 -- How a request for bounds, a base and a size (their length), both below 2 ^ 64, is rounded to bounds that a word can
 -- have (UCAM-CL-TR-987, CSetBounds; Sail CHERI-RISC-V: `setCapBounds`).
-use Rattle.std.specs.Prelude.{◌≡◌, ℕ, zero, suc, ◌+◌, ◌-◌, ◌*◌, ◌/◌, ◌%◌, ◌^◌, ◌<◌, ◌≤◌, Bool, nat_lt, nat_le, if◌then◌else◌}
+use Rattle.std.specs.Prelude.{◌≡◌, ℕ, zero, suc, ◌+◌, ◌-◌, ◌*◌, ◌/◌, ◌%◌, ◌^◌, ◌<◌, ◌≤◌, Bool, nat_lt, nat_le}
+use Rattle.std.specs.Prelude.{if◌then◌else◌}
 use Rattle.cap_word.specs.Fields.{bit_of}
 
 -- the quotient n / v, rounded up

@@ -3,8 +3,8 @@
 -- number. A difference that may be below 0 is given the modulus first. That these steps find the rounding
 -- of the least exponent is a law, proved on `round`. Steps so marked are this project's reading of the
 -- model: of the test of IE, of the widths, and of how lost bits are found.
-use lib.Count.{count_leading_zeros}
 use Rattle.std.specs.Prelude.{ℕ, ◌+◌, ◌-◌, ◌*◌, ◌/◌, ◌%◌, ◌^◌, Bool, nat_lt, ◌==◌, ◌&&◌, ◌||◌, not, if◌then◌else◌}
+use lib.Count.{count_leading_zeros}
 use Rattle.cap_word.specs.Fields.{bit_of}
 
 -- e at first: 52 less the leading zeros of the 52 bits 64..13 of the length

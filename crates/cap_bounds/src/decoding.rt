@@ -2,10 +2,9 @@
 
 ghost use Rattle.std.specs.Prelude.{◌≡◌, ◌<◌, ◌≤◌, ◌+◌, ◌*◌, ◌%◌, ◌^◌, ◌↔◌, ℕ, IsTrue};
 ghost use Rattle.cap_word.specs.Fields.{b_of, ie_of, t_of};
-ghost use Rattle.cap_bounds.specs.Bounds.{AreBounds, IsInside, IsMantissa, IsSound, base_of};
-ghost use Rattle.cap_bounds.specs.Bounds.{cut_exponent_of, length_of, mantissa_of, raw_base_at, span_at};
-ghost use Rattle.cap_bounds.specs.Bounds.{span_of, top_of, unit_of, window_start_at};
-ghost use Rattle.cap_bounds.specs.SailDecoding.{sail_base, sail_top};
+ghost use Rattle.cap_bounds.specs.Bounds.{AreBounds, IsInside, IsMantissa, IsSound, base_of, cut_exponent_of};
+ghost use Rattle.cap_bounds.specs.Bounds.{length_of, mantissa_of, raw_base_at, span_at, span_of, top_of, unit_of};
+ghost use Rattle.cap_bounds.specs.{Bounds.window_start_at, SailDecoding.{sail_base, sail_top}};
 
 use cap_word::{Fields, Word, split};
 

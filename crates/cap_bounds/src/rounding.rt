@@ -2,10 +2,9 @@
 
 ghost use Rattle.std.specs.Prelude.{◌≡◌, ◌<◌, ◌≤◌, ◌+◌, ◌*◌, ◌/◌, ◌%◌, ◌^◌, ◌↔◌, ℕ, IsTrue, true, false};
 ghost use Rattle.cap_word.specs.Fields.{address_of, b_of, e_of, ie_of, t_of};
-ghost use Rattle.cap_bounds.specs.Bounds.{IsSound, base_of, top_of};
-ghost use Rattle.cap_bounds.specs.Rounding.{HasRounding, bounded_word, IsExact, IsLeastExponent, div_up, units_of};
-ghost use Rattle.cap_bounds.specs.Rounding.{rounded_b, rounded_base, rounded_exponent, rounded_ie};
-ghost use Rattle.cap_bounds.specs.Rounding.{rounded_t, rounded_top};
+ghost use Rattle.cap_bounds.specs.{Bounds.{IsSound, base_of, top_of}, Rounding.{HasRounding, bounded_word, IsExact}};
+ghost use Rattle.cap_bounds.specs.Rounding.{IsLeastExponent, div_up, units_of, rounded_b, rounded_base};
+ghost use Rattle.cap_bounds.specs.Rounding.{rounded_exponent, rounded_ie, rounded_t, rounded_top};
 ghost use Rattle.cap_bounds.specs.SailRounding.{sail_b, sail_exact, sail_exponent, sail_ie, sail_t};
 
 use cap_word::Word;

@@ -1,10 +1,8 @@
 -- What passes between C and the libraries for C, as the numbers and capabilities that it stands for (this
 -- profile's own).
-use Rattle.std.specs.Prelude.{◌≡◌, ℕ, ◌+◌, ◌*◌, ◌^◌, Bool, false, not, ◌==◌}
-use Rattle.cap_word.specs.Word.{null_word}
-use Rattle.cap_word.specs.declared.word.Cap.{Cap}
-use Rattle.cap_halves.specs.declared.values.Halves.{Halves}
-use Rattle.cap_halves.specs.declared.values.Capability.{Capability}
+use Rattle.std.specs.Prelude.{ℕ, ◌+◌, ◌*◌, ◌^◌, Bool, false, not, ◌==◌}
+use Rattle.cap_word.specs.{declared.word.Cap.Cap, Word.null_word}
+use Rattle.cap_halves.specs.declared.values.{Capability.Capability, Halves.Halves}
 
 -- the number that two halves of 64 bits make
 unfoldable pub whole_of : Halves → ℕ

@@ -1,10 +1,8 @@
 -- The steps that C's numbers name, one word for each kind (this profile's own).
 use Rattle.std.specs.Prelude.{ℕ, ℤ}
-use Rattle.cap_log.specs.declared.kinds.Step.{Step}
-use Rattle.cap_log.specs.declared.kinds.Step.TheVariants.{Move, ClearTag, SetBounds, SetBoundsExact, SetAddr, AndPerm, Seal, Unseal}
-use Rattle.cap_log.specs.declared.kinds.Step.TheVariants.{LoadCap, StoreCap, Load, Store}
-use Rattle.cap_halves.specs.declared.values.Capability.{Capability}
-use Rattle.cap_halves.specs.Passed.{cap_of}
+use Rattle.cap_log.specs.declared.kinds.Step.{Step, TheVariants.{Move, ClearTag, SetBounds, SetBoundsExact, SetAddr}}
+use Rattle.cap_log.specs.declared.kinds.Step.TheVariants.{AndPerm, Seal, Unseal, LoadCap, StoreCap, Load, Store}
+use Rattle.cap_halves.specs.{declared.values.Capability.Capability, Passed.cap_of}
 
 -- `move`
 abbrev pub move_passed : ℕ → ℕ → Capability → Step

@@ -2,16 +2,11 @@
 use Rattle.std.proofs.Common.{ℕ, List, [], ◌∷◌, ◌++◌, length, map, refl, sym, subst, append-nil, arith}
 use Rattle.cap_bounds.specs.declared.decoding.Interval.{Interval}
 use Rattle.cap_log.proofs.ElementLemmas.{AllByRecursion-append}
-use Rattle.cap_heap.specs.declared.events.Event.{Event}
-use Rattle.cap_heap.specs.declared.lines.HeapLine.{HeapLine}
-use Rattle.cap_heap.specs.declared.lines.HeapLine.TheVariants.{Happens, End}
-use Rattle.cap_heap.specs.declared.progress.Progress.{Progress}
-use Rattle.cap_heap.specs.declared.refusal.HeapRefusal.{HeapRefusal}
-use Rattle.cap_heap.specs.HeapLines.{IsHeapLineInRange}
-use Rattle.cap_heap.specs.HeapLogs.{IsHeapLogOf, IsFirstHeapFault}
-use Rattle.cap_heap.specs.Beginnings.{Beginning, Nothing, Headed, Body, Whole, IsAccepted, Runs, body_lines, lines_of, due_of, events_of, nowhere, root_of}
-use Rattle.cap_heap.specs.Objects.{IsApart}
-use Rattle.cap_heap.specs.Progresses.{IsStopped}
+use Rattle.cap_heap.specs.declared.{events.Event.Event, lines.HeapLine.{HeapLine, TheVariants.{Happens, End}}}
+use Rattle.cap_heap.specs.declared.{progress.Progress.Progress, refusal.HeapRefusal.HeapRefusal}
+use Rattle.cap_heap.specs.Beginnings.{Beginning, Nothing, Headed, Body, Whole, IsAccepted, Runs, body_lines, lines_of}
+use Rattle.cap_heap.specs.{Beginnings.{due_of, events_of, nowhere, root_of}, HeapLines.IsHeapLineInRange}
+use Rattle.cap_heap.specs.{HeapLogs.{IsHeapLogOf, IsFirstHeapFault}, Objects.IsApart, Progresses.IsStopped}
 use Rattle.cap_heap.proofs.RunLemmas.{Runs-start}
 
 -- a root and events that run are a log with their end line

@@ -1,21 +1,14 @@
 -- What is told of an event behind a beginning, by what its judge has read.
-use Rattle.std.proofs.Common.{◌≡◌, ◌⊎◌, ℕ, inl, inr, List, [], ◌∷◌, length, refl, subst, fold}
+use Rattle.std.proofs.Common.{◌≡◌, ◌⊎◌, ℕ, List, [], ◌∷◌, length, refl, subst, fold}
 use Rattle.cap_bounds.specs.declared.decoding.Interval.{Interval}
-use Rattle.cap_heap.specs.declared.events.Event.{Event}
-use Rattle.cap_heap.specs.declared.heap.Heap.{Heap}
-use Rattle.cap_heap.specs.declared.lines.HeapLine.{HeapLine}
-use Rattle.cap_heap.specs.declared.lines.HeapLine.TheVariants.{Happens, End}
-use Rattle.cap_heap.specs.declared.progress.Progress.{Progress}
-use Rattle.cap_heap.specs.declared.refusal.HeapRefusal.{HeapRefusal}
-use Rattle.cap_heap.specs.declared.refusal.HeapRefusal.TheVariants.{BadHeader, LineTooLong, BadLine, Misplaced, Truncated, WrongCount, LimitPassed}
-use Rattle.cap_heap.specs.declared.stage.Stage.TheVariants as stages
-use Rattle.cap_heap.specs.HeapLines.{SpellsHeapLine}
-use Rattle.cap_heap.specs.HeapWhys.{AreHeapDetails, AreEventDetails}
-use Rattle.cap_heap.specs.Heaps.{objects_in}
-use Rattle.cap_heap.specs.Events.{after_event}
-use Rattle.cap_heap.specs.Objects.{Objects, no_objects}
+use Rattle.cap_heap.specs.declared.{events.Event.Event, lines.HeapLine.{HeapLine, TheVariants.{Happens, End}}}
+use Rattle.cap_heap.specs.declared.{progress.Progress.Progress, refusal.HeapRefusal.HeapRefusal}
+use Rattle.cap_heap.specs.declared.refusal.HeapRefusal.TheVariants.{BadHeader, LineTooLong, BadLine, Misplaced}
+use Rattle.cap_heap.specs.declared.refusal.HeapRefusal.TheVariants.{Truncated, WrongCount, LimitPassed}
+use Rattle.cap_heap.specs.declared.stage.Stage.{Stage}
 use Rattle.cap_heap.specs.Beginnings.{Beginning, Nothing, Headed, Body, Whole, AreDetailsBehind, lines_of}
-use Rattle.cap_heap.specs.Progresses.{AreEventDetailsIn, StandsFor}
+use Rattle.cap_heap.specs.{Events.after_event, HeapLines.SpellsHeapLine, HeapWhys.{AreHeapDetails, AreEventDetails}}
+use Rattle.cap_heap.specs.{Heaps.objects_in, Objects.{Objects, no_objects}, Progresses.{AreEventDetailsIn, StandsFor}}
 
 -- a refusal that a test of an event decides
 pub record IsOfEvent (refusal : HeapRefusal) : Type 0 where
@@ -46,7 +39,7 @@ event_details root events before text LimitPassed details is told = absurd (is.f
 event_details root events before text refusal details is told = told
 
 pub behind : (progress : Progress) (beginning : Beginning) (text : List ℕ) (refusal : HeapRefusal) (details : List ℕ)
-    → progress.stage ≡ stages.Within → StandsFor progress beginning → IsOfEvent refusal
+    → progress.stage ≡ Stage.Within → StandsFor progress beginning → IsOfEvent refusal
     → AreEventDetailsIn progress.heap text refusal details → AreDetailsBehind beginning text refusal details
 behind progress Nothing text refusal details within h is told = let no : ⊥ = cc in absurd no
 behind progress Headed text refusal details within h is told = let no : ⊥ = cc in absurd no

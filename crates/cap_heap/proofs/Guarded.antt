@@ -1,18 +1,12 @@
 -- Events at each moment of which words can be given are those at each moment of which rounded bounds lie apart.
-use Rattle.std.proofs.Common.{ℕ, ◌<◌, ◌^◌, inl, inr, List, [], ◌∷◌, ◌++◌, length, map, subst}
 use Rattle.std.specs.List.{AllByRecursion}
-use Rattle.std.proofs.lemmas.Option.{none-some}
+use Rattle.std.proofs.{Common.{ℕ, ◌<◌, ◌^◌, inl, inr, List, [], ◌∷◌, ◌++◌, length, map, subst}, lemmas.Option.none-some}
 use Rattle.cap_bounds.specs.declared.decoding.Interval.{Interval}
-use Rattle.cap_heap.specs.declared.events.Event.{Event}
-use Rattle.cap_heap.specs.declared.events.Event.TheVariants.{Malloc, Free}
-use Rattle.cap_heap.specs.declared.lines.HeapLine.{HeapLine}
-use Rattle.cap_heap.specs.declared.lines.HeapLine.TheVariants.{Happens, End}
-use Rattle.cap_heap.specs.HeapLines.{IsHeapLineInRange}
-use Rattle.cap_heap.specs.HeapLogs.{IsHeapLogOf}
+use Rattle.cap_heap.specs.declared.{events.Event.{Event, TheVariants.{Malloc, Free}}, lines.HeapLine.HeapLine}
+use Rattle.cap_heap.specs.{declared.lines.HeapLine.TheVariants.{Happens, End}, Events.{Throughout, after_event}}
+use Rattle.cap_heap.specs.{HeapLines.IsHeapLineInRange, HeapLogs.IsHeapLogOf}
 use Rattle.cap_heap.specs.Objects.{Objects, no_objects, IsApart, CanBeGuarded}
-use Rattle.cap_heap.specs.Events.{Throughout, after_event}
-use Rattle.cap_heap.proofs.Objects.{with_object-some, without_object-some}
-use Rattle.cap_heap.proofs.Guarding.{AreRequests, guards, guarded}
+use Rattle.cap_heap.proofs.{Guarding.{AreRequests, guards, guarded}, Objects.{with_object-some, without_object-some}}
 
 -- objects of events in range have numbers of 64 bits
 with_request : (objects : Objects) (at size : ℕ) → AreRequests objects → at < 2 ^ 64 → size < 2 ^ 64 → AreRequests (after_event objects (Malloc at size))

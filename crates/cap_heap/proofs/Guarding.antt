@@ -1,11 +1,10 @@
 -- The rounded bounds of objects lie apart exactly where sound words can guard them.
 use Rattle.std.proofs.Common.{◌≡◌, ℕ, ◌+◌, ◌^◌, ◌<◌, ◌≤◌, Some, None, Option, sym, ap, subst, ◌∙◌, arith}
-use Rattle.cap_bounds.specs.declared.decoding.Interval.{Interval}
-use Rattle.cap_bounds.specs.Bounds.{IsInside, IsSound, base_of, top_of}
+use Rattle.cap_bounds.specs.{declared.decoding.Interval.Interval, Bounds.{IsInside, IsSound, base_of, top_of}}
 use Rattle.cap_bounds.specs.Rounding.{rounded_base, rounded_top, rounded_word}
+use Rattle.cap_bounds.proofs.{LeastRounding.IsInside-rounded, RoundedWords.{base_of-rounded_word, top_of-rounded_word}}
+use Rattle.cap_bounds.proofs.RoundedWords.{IsSound-rounded_word, above-rounded_word}
 use Rattle.cap_bounds.proofs.Roundings.{rounded_base-le, rounded_top-ge}
-use Rattle.cap_bounds.proofs.RoundedWords.{base_of-rounded_word, top_of-rounded_word, IsSound-rounded_word, above-rounded_word}
-use Rattle.cap_bounds.proofs.LeastRounding.{IsInside-rounded}
 use Rattle.cap_heap.specs.Objects.{Objects, CanBeGuarded, IsApart}
 
 -- addresses and lengths are numbers of 64 bits

@@ -1,38 +1,24 @@
 -- Where a judge is, and what it may answer there.
-use Rattle.std.proofs.Common.{◌≡◌, ◌≢◌, ℕ, ◌+◌, ◌^◌, ◌≤◌, inl, inr, Bool, true, List, [], ◌∷◌, ◌++◌, length, take, refl, sym, ap}
-use Rattle.std.proofs.Common.{subst, ◌∙◌, append-nil, append_assoc, arith, Result, Ok, Err}
-use Rattle.std.proofs.lemmas.Grind.{flat_map-append}
-use Rattle.std.proofs.lemmas.List.Elements.{All-nil}
-use Rattle.std.proofs.lemmas.List.{length_push, length-map, length-append, take-append-le, take_all}
-use Rattle.cap_log.specs.Front.{IsLine, IsCut, IsFrontText, IsTooLong}
-use Rattle.cap_log.specs.Takings.{IsNext, Answered, kept, over_of}
-use Rattle.cap_log.specs.declared.taking.Lines.{Lines}
-use Rattle.cap_log.specs.declared.taking.Next.{Next}
+use Rattle.std.proofs.Common.{◌≡◌, ◌≢◌, ℕ, ◌+◌, ◌^◌, ◌≤◌, inl, inr, Bool, true, List, [], ◌∷◌, ◌++◌, length, refl, sym}
+use Rattle.std.proofs.Common.{ap, subst, ◌∙◌, append-nil, append_assoc, arith, Result, Ok, Err, length-append}
+use Rattle.std.proofs.lemmas.{Grind.flat_map-append, List.{length_push, length-map, take-append-le, Elements.All-nil}}
+use Rattle.cap_log.specs.declared.{judge_faults.JudgeFault.TheVariants.Pull, sources.PullFault.PullFault}
+use Rattle.cap_log.specs.declared.taking.{Lines.Lines, Next.Next}
 use Rattle.cap_log.specs.declared.taking.Next.TheVariants.{Line, LineTooLong, Truncated, Finished}
-use Rattle.cap_log.specs.declared.sources.PullFault.{PullFault}
-use Rattle.cap_log.proofs.FrontLemmas.{IsLine-more, IsLine-not_cut, IsLine-not_too_long, IsTooLong-more, IsTooLong-not_cut}
-use Rattle.cap_heap.specs.declared.events.EventEnd.{EventEnd}
-use Rattle.cap_heap.specs.declared.events.EventEnd.TheVariants as ends
-use Rattle.cap_heap.specs.declared.lines.HeapLine.{HeapLine}
-use Rattle.cap_heap.specs.declared.lines.HeapLine.TheVariants.{Happens, End}
-use Rattle.cap_heap.specs.declared.progress.Progress.{Progress}
-use Rattle.cap_heap.specs.declared.refusal.HeapRefusal.{HeapRefusal}
-use Rattle.cap_heap.specs.declared.refusal.HeapRefusal.TheVariants as refusals
-use Rattle.cap_heap.specs.declared.stage.Stage.{Stage}
-use Rattle.cap_heap.specs.declared.stage.Stage.TheVariants as stages
-use Rattle.cap_heap.specs.declared.verdict.HeapVerdict.{HeapVerdict}
-use Rattle.cap_heap.specs.declared.verdict.HeapVerdict.TheVariants.{No, Yes}
-use Rattle.cap_log.specs.declared.judge_faults.JudgeFault.TheVariants.{Pull}
-use Rattle.cap_heap.specs.HeapLines.{IsHeapLineInRange, heap_spelling}
-use Rattle.cap_heap.specs.Heaps.{live_in}
-use Rattle.cap_heap.specs.HeapLogs.{heap_text_of}
-use Rattle.cap_heap.specs.Beginnings.{Beginning, Nothing, Headed, Body, Whole, lines_of, events_of, due_of, root_of, IsAccepted, RefusesWhole, RefusesBehind}
-use Rattle.cap_heap.specs.Beginnings.{body_lines}
-use Rattle.cap_heap.specs.Progresses.{StandsFor, Stays, TakesText, EndsText, IsAt, IsStopped, LacksMemory}
-use Rattle.cap_heap.specs.HeapVerdicts.{IsHeapVerdictOf, Lasts, MayLackHeapMemory, ReportsAfter}
+use Rattle.cap_log.specs.{Front.{IsLine, IsCut, IsFrontText, IsTooLong}, Takings.{IsNext, Answered, kept, over_of}}
+use Rattle.cap_log.proofs.FrontLemmas.{IsLine-more, IsLine-not_cut, IsLine-not_too_long, IsTooLong-more}
+use Rattle.cap_log.proofs.FrontLemmas.{IsTooLong-not_cut}
+use Rattle.cap_heap.specs.declared.{events.EventEnd.EventEnd, lines.HeapLine.{HeapLine, TheVariants.{Happens, End}}}
+use Rattle.cap_heap.specs.declared.{progress.Progress.Progress, refusal.HeapRefusal.HeapRefusal, stage.Stage.Stage}
+use Rattle.cap_heap.specs.declared.verdict.HeapVerdict.{HeapVerdict, TheVariants.{No, Yes}}
+use Rattle.cap_heap.specs.Beginnings.{Beginning, Nothing, Headed, Body, Whole, lines_of, events_of, due_of, root_of}
+use Rattle.cap_heap.specs.Beginnings.{IsAccepted, RefusesWhole, RefusesBehind, body_lines}
+use Rattle.cap_heap.specs.{HeapLines.{IsHeapLineInRange, heap_spelling}, HeapLogs.heap_text_of}
+use Rattle.cap_heap.specs.{HeapVerdicts.{IsHeapVerdictOf, Lasts, MayLackHeapMemory, ReportsAfter}, Heaps.live_in}
 use Rattle.cap_heap.specs.Judgings.{JudgedBy, StopsAfter, answer_at, finished_in, refused_in}
-use Rattle.cap_heap.proofs.BeginningLemmas.{begins, fault_of, is_log}
-use Rattle.cap_heap.proofs.Optimal.{optimal}
+use Rattle.cap_heap.specs.Progresses.{StandsFor, Stays, TakesText, EndsText, IsAt, IsStopped, LacksMemory}
+use Rattle.cap_heap.specs.declared.stage.Stage.TheVariants as stages
+use Rattle.cap_heap.proofs.{BeginningLemmas.{begins, fault_of, is_log}, Optimal.optimal}
 
 pub accepted : (progress : Progress) (beginning : Beginning) → StandsFor progress beginning → IsAccepted beginning
 accepted progress Nothing stands = tt
@@ -123,27 +109,27 @@ shown_as : (progress : Progress) (line : ℕ) (refusal : HeapRefusal) (stage : S
 shown_as progress line refusal stage is = ap (λ (s : Stage). refused_in s line refusal) is
 
 refuses_cut : (progress : Progress) (line : ℕ) (rest : List ℕ) (beginning : Beginning) → StandsFor progress beginning → IsCut rest → rest ≢ []
-    → RefusedAt progress line refusals.Truncated (RefusesBehind beginning rest)
+    → RefusedAt progress line HeapRefusal.Truncated (RefusesBehind beginning rest)
 refuses_cut progress line rest Nothing stands cut some =
-    (refusals.Truncated, shown_as progress line refusals.Truncated _ stands, inr (inl (cut, refl)))
+    (HeapRefusal.Truncated, shown_as progress line HeapRefusal.Truncated _ stands, inr (inl (cut, refl)))
 refuses_cut progress line rest Headed stands cut some =
-    (refusals.Truncated, shown_as progress line refusals.Truncated _ stands, inr (inl (cut, refl)))
+    (HeapRefusal.Truncated, shown_as progress line HeapRefusal.Truncated _ stands, inr (inl (cut, refl)))
 refuses_cut progress line rest (Body root events) stands cut some =
-    (refusals.Truncated, shown_as progress line refusals.Truncated _ stands.0, inr (inl (cut, refl)))
+    (HeapRefusal.Truncated, shown_as progress line HeapRefusal.Truncated _ stands.0, inr (inl (cut, refl)))
 refuses_cut progress line rest (Whole root events) stands cut some =
-    (refusals.Misplaced, shown_as progress line refusals.Truncated _ stands.0, (some, refl))
+    (HeapRefusal.Misplaced, shown_as progress line HeapRefusal.Truncated _ stands.0, (some, refl))
 
 refuses_long : (progress : Progress) (line : ℕ) (rest : List ℕ) (beginning : Beginning) → StandsFor progress beginning → IsTooLong rest
-    → RefusedAt progress line refusals.LineTooLong (λ shown. (more : List ℕ) → RefusesBehind beginning (rest ++ more) shown)
+    → RefusedAt progress line HeapRefusal.LineTooLong (λ shown. (more : List ℕ) → RefusesBehind beginning (rest ++ more) shown)
 refuses_long progress line rest Nothing stands long =
-    (refusals.LineTooLong, shown_as progress line refusals.LineTooLong _ stands, λ more. inl (IsTooLong-more rest more long, refl))
+    (HeapRefusal.LineTooLong, shown_as progress line HeapRefusal.LineTooLong _ stands, λ more. inl (IsTooLong-more rest more long, refl))
 refuses_long progress line rest Headed stands long =
-    (refusals.LineTooLong, shown_as progress line refusals.LineTooLong _ stands, λ more. inl (IsTooLong-more rest more long, refl))
+    (HeapRefusal.LineTooLong, shown_as progress line HeapRefusal.LineTooLong _ stands, λ more. inl (IsTooLong-more rest more long, refl))
 refuses_long progress line rest (Body root events) stands long =
-    (refusals.LineTooLong, shown_as progress line refusals.LineTooLong _ stands.0, λ more. inl (IsTooLong-more rest more long, refl))
+    (HeapRefusal.LineTooLong, shown_as progress line HeapRefusal.LineTooLong _ stands.0, λ more. inl (IsTooLong-more rest more long, refl))
 refuses_long progress line rest (Whole root events) stands long = (
-  refusals.Misplaced,
-  shown_as progress line refusals.LineTooLong _ stands.0,
+  HeapRefusal.Misplaced,
+  shown_as progress line HeapRefusal.LineTooLong _ stands.0,
   λ more. (λ none. omega (arith, ap length none, length-append rest more, long.0), refl),
 )
 
@@ -261,12 +247,12 @@ module _ {S : Type 0} {gave : S → S → List ℕ → Type 0} {ended : S → Bo
   -- the bytes end at a line's start
   module _ (p : Stands gave ended old new progress line lines (Ok Finished)) where
     ends_here : (beginning : Beginning) → StandsFor progress beginning → p.given ≡ heap_text_of (lines_of beginning) ++ []
-        → line ≡ length (lines_of beginning) + 1 → ((rest : List ℕ) → IsCut rest → RefusesBehind beginning rest refusals.Truncated)
-        → JudgedBy gave ended old new (Ok (No line refusals.Truncated)) progress []
+        → line ≡ length (lines_of beginning) + 1 → ((rest : List ℕ) → IsCut rest → RefusesBehind beginning rest HeapRefusal.Truncated)
+        → JudgedBy gave ended old new (Ok (No line HeapRefusal.Truncated)) progress []
     ends_here beginning stands bytes number refuses =
-        refused_met p progress refusals.Truncated [] [] beginning stands stands bytes number
+        refused_met p progress HeapRefusal.Truncated [] [] beginning stands stands bytes number
         (λ more none. let is = none p.next.1 in (
-          with_none (λ (b : List ℕ). RefusesBehind beginning b refusals.Truncated) [] more is (refuses [] no_bytes),
+          with_none (λ (b : List ℕ). RefusesBehind beginning b HeapRefusal.Truncated) [] more is (refuses [] no_bytes),
           with_none (λ (b : List ℕ). IsFrontText b []) [] more is (inr (inl (no_bytes, refl))),
         ))
 
@@ -296,7 +282,7 @@ module _ {S : Type 0} {gave : S → S → List ℕ → Type 0} {ended : S → Bo
 
   -- or in the middle of a line
   pub at_cut : (text : List ℕ) → IsFrontText (kept lines) text → Stands gave ended old new progress line lines (Ok Truncated)
-      → JudgedBy gave ended old new (Ok (refused_in progress.stage line refusals.Truncated)) progress text
+      → JudgedBy gave ended old new (Ok (refused_in progress.stage line HeapRefusal.Truncated)) progress text
   at_cut text front p =
       let here = refuses_cut progress line p.rest p.at.beginning p.at.stands p.next.0 p.next.1 in
       let left : kept lines ≡ p.rest = p.next.4 in
@@ -309,7 +295,7 @@ module _ {S : Type 0} {gave : S → S → List ℕ → Type 0} {ended : S → Bo
 
   -- the line is too long
   pub at_long : (text : List ℕ) → IsFrontText (kept lines) text → Stands gave ended old new progress line lines (Ok LineTooLong)
-      → JudgedBy gave ended old new (Ok (refused_in progress.stage line refusals.LineTooLong)) progress text
+      → JudgedBy gave ended old new (Ok (refused_in progress.stage line HeapRefusal.LineTooLong)) progress text
   at_long text front p =
       let here = refuses_long progress line p.rest p.at.beginning p.at.stands p.next.0 in
       let left : kept lines ≡ p.rest = p.next.2 in
@@ -324,13 +310,13 @@ module _ {S : Type 0} {gave : S → S → List ℕ → Type 0} {ended : S → Bo
   pub at_line : (text : _) → Stands gave ended old new progress line lines (Ok (Line text)) → (held : List ℕ)
       → IsFrontText text.now held → (end : EventEnd) → EndsText progress text.now end
       → (after : Progress) → Stays progress after → JudgedBy gave ended old new (answer_at line end) after held
-  at_line text p held front (ends.Refused refusal) told after stays =
+  at_line text p held front (EventEnd.Refused refusal) told after stays =
       refused_met p after refusal held p.rest p.at.beginning p.at.stands (stays p.at.beginning p.at.stands) p.at.bytes_are p.at.line_is
       (λ more none. (
         refuses_line p.at.beginning p.rest text.now (kept lines) refusal p.next.0 (told p.at.beginning p.at.stands) more,
         whole_text p.rest text.now (kept lines) more held p.next.0 front,
       ))
-  at_line text p held front ends.NoMemory told after stays = record {
+  at_line text p held front EventEnd.NoMemory told after stays = record {
     judged = record {
       given = p.given;
       gives = p.gives;

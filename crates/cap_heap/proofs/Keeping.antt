@@ -1,15 +1,10 @@
 -- What is kept with one object more, and with one less.
-use Rattle.std.proofs.Common.{◌≡◌, ℕ, true, false, Bool, eqb, Some, None, Option, inl, inr, sym, ap, refl, ◌∙◌, arith}
-use Rattle.std.specs.Option.{is_some}
-use Rattle.std.specs.Prelude.{◌≢◌, IfNone, IsSome, IsTrue, MatchBool, if◌then◌else◌, ◌⊎◌, OnOk, OnErr, Result, Ok, Err}
-use Rattle.std.proofs.lemmas.Bool.{false≢true, eqb-true, cases_Bool}
-use Rattle.std.proofs.lemmas.Bool.Decides.{nat_tests}
-use Rattle.std.proofs.lemmas.Option.{none-some, same_Some}
-use Rattle.std.specs.Ordering.{nat_cmp}
 use Rattle.std.specs.BTreeMap.{is_at}
-use Rattle.cap_heap.specs.declared.events.Event.TheVariants.{Malloc, Free}
-use Rattle.cap_heap.specs.Events.{after_event}
-use Rattle.cap_heap.specs.Kept.{length_from}
+use Rattle.std.proofs.Common.{◌≡◌, ℕ, true, false, Bool, eqb, Some, None, Option, inl, inr, sym, ap, refl, ◌∙◌, arith}
+use Rattle.std.proofs.Common.{is_some, ◌≢◌, IfNone, IsSome, IsTrue, MatchBool, if◌then◌else◌, ◌⊎◌, OnOk, OnErr, Result}
+use Rattle.std.proofs.{Common.{Ok, Err, eqb-true, nat_cmp}, lemmas.Bool.{false≢true, cases_Bool, Decides.nat_tests}}
+use Rattle.std.proofs.lemmas.Option.{none-some, same_Some}
+use Rattle.cap_heap.specs.{declared.events.Event.TheVariants.{Malloc, Free}, Events.after_event, Kept.length_from}
 
 pub either : {X E A B : Type 0} (r : Result X E) → OnOk r A → OnErr r B → A ⊎ B
 either (Ok x) ok err = inl ok

@@ -1,18 +1,15 @@
 -- Where the parts of a line stand, and that bytes spell one line at most.
-use Rattle.std.proofs.Common.{◌≡◌, ℕ, ◌^◌, ◌<◌, ◌≤◌, ◌/◌, ◌%◌, false, eqb, List, ◌∷◌, ◌++◌, take, drop, get_or}
-use Rattle.std.proofs.Common.{sym, ap, ◌∙◌, refl, arith, codes, decimal, inl, inr, subst}
-use Rattle.std.proofs.lemmas.Bool.{cases_lt, eqb-false}
-use Rattle.std.proofs.lemmas.Fmt.{decimal_is_IsNumeral}
 use Rattle.std.specs.Str.Parse.{digits_value}
-use Rattle.std.proofs.lemmas.List.{drop_at, append_cancel_left}
+use Rattle.std.proofs.Common.{◌≡◌, ℕ, ◌^◌, ◌<◌, ◌≤◌, ◌/◌, ◌%◌, false, eqb, List, ◌∷◌, ◌++◌, take, drop, get_or, sym, ap}
+use Rattle.std.proofs.Common.{◌∙◌, refl, arith, codes, decimal, inl, inr, subst, drop_at}
+use Rattle.std.proofs.lemmas.{Bool.{cases_lt, eqb-false}, Fmt.decimal_is_IsNumeral, List.append_cancel_left}
 use Rattle.cap_word.specs.Digits.{hex_digit, hex_digits}
 use Rattle.cap_word.proofs.DigitLemmas.{length-hex_digits, hex_digits-suc}
 use Rattle.cap_word.proofs.ReadingLemmas.{hex_digits-same, take-hex_digits}
 use Rattle.cap_bounds.specs.declared.decoding.Interval.{Interval}
-use Rattle.cap_log.specs.Lines as log
 use Rattle.cap_log.specs.declared.lines.Line.TheVariants.{End as Ending}
-use Rattle.cap_heap.specs.declared.events.Event.TheVariants.{Malloc, Free}
-use Rattle.cap_heap.specs.declared.lines.HeapLine.{HeapLine}
+use Rattle.cap_log.specs.Lines as log
+use Rattle.cap_heap.specs.declared.{events.Event.TheVariants.{Malloc, Free}, lines.HeapLine.HeapLine}
 use Rattle.cap_heap.specs.declared.lines.HeapLine.TheVariants.{Header, Root, Happens, End}
 use Rattle.cap_heap.specs.HeapLines.{IsHeapLineInRange, SpellsHeapLine, heap_spelling}
 

@@ -1,16 +1,11 @@
 -- Objects whose bounds lie apart lie in the order of their addresses, so that a neighbour tells of all.
-use Rattle.std.proofs.Common.{◌≡◌, ℕ, ◌<◌, ◌≤◌, Bool, Some, None, Option, inl, inr, sym, ap, subst, ◌∙◌, arith}
-use Rattle.std.proofs.lemmas.Bool.{cases_lt}
-use Rattle.std.proofs.lemmas.Option.{none-some, same_Some}
-use Rattle.std.specs.Prelude.{◌≢◌, IfSome, MatchOption}
-use Rattle.cap_bounds.specs.declared.decoding.Interval.{Interval}
-use Rattle.cap_bounds.specs.Rounding.{rounded_base, rounded_top}
+use Rattle.std.proofs.Common.{◌≡◌, ℕ, ◌<◌, ◌≤◌, Bool, Some, None, Option, inl, inr, sym, ap, subst, ◌∙◌, arith, ◌≢◌}
+use Rattle.std.proofs.{Common.{IfSome, MatchOption}, lemmas.{Bool.cases_lt, Option.{none-some, same_Some}}}
+use Rattle.cap_bounds.specs.{declared.decoding.Interval.Interval, Rounding.{rounded_base, rounded_top}}
 use Rattle.cap_bounds.proofs.Roundings.{rounded_base-le, rounded_top-ge}
+use Rattle.cap_heap.specs.{Kept.length_from, Neighbours.{IsLastBelow, IsFirstFrom}}
 use Rattle.cap_heap.specs.Objects.{IsApart, Shares, Covers, LieApart}
-use Rattle.cap_heap.specs.Kept.{length_from}
-use Rattle.cap_heap.specs.Neighbours.{IsLastBelow, IsFirstFrom}
-use Rattle.cap_heap.proofs.Objects.{apart_of}
-use Rattle.cap_heap.proofs.Rounded.{empty-apart, covers-own, length_from-long}
+use Rattle.cap_heap.proofs.{Objects.apart_of, Rounded.{empty-apart, covers-own, length_from-long}}
 
 module _ (heap : Interval) (lengths : ℕ → Option ℕ) (empty : ℕ → Bool) (known : IsApart heap (λ at. length_from (lengths at) (empty at)))
     (long : (at length : ℕ) → lengths at ≡ Some length → 0 < length) (at length : ℕ) (some : 0 < length) where

@@ -1,13 +1,9 @@
 -- Objects with one more and with one less.
-use Rattle.std.proofs.Common.{◌≡◌, ℕ, eqb, Some, None, inl, inr, sym, ap, ◌∙◌, arith}
-use Rattle.std.specs.Prelude.{◌≢◌, if◌then◌else◌, ◌⊎◌}
-use Rattle.std.proofs.lemmas.Bool.{eqb-true, cases_Bool}
-use Rattle.std.proofs.lemmas.Bool.Decides.{nat_tests}
-use Rattle.std.proofs.lemmas.Option.{none-some, same_Some}
+use Rattle.std.proofs.Common.{◌≡◌, ℕ, eqb, Some, None, inl, inr, sym, ap, ◌∙◌, arith, ◌≢◌, if◌then◌else◌, ◌⊎◌, eqb-true}
+use Rattle.std.proofs.lemmas.{Bool.{cases_Bool, Decides.nat_tests}, Option.{none-some, same_Some}}
 use Rattle.cap_bounds.specs.declared.decoding.Interval.{Interval}
-use Rattle.cap_heap.specs.declared.events.Event.TheVariants.{Malloc, Free}
+use Rattle.cap_heap.specs.{declared.events.Event.TheVariants.{Malloc, Free}, Events.{HasRoom, after_event}}
 use Rattle.cap_heap.specs.Objects.{Objects, IsApart, LieApart}
-use Rattle.cap_heap.specs.Events.{HasRoom, after_event}
 
 pub with_object-some : (objects : Objects) (at length other size : ℕ) → after_event objects (Malloc at length) other ≡ Some size
     → ((at ≡ other) × (length ≡ size)) ⊎ ((at ≢ other) × (objects other ≡ Some size))

@@ -1,33 +1,21 @@
 -- Bytes are not both a log and at fault in a line.
-use Rattle.std.proofs.Common.{◌≡◌, ◌≢◌, ℕ, ◌+◌, ◌^◌, ◌<◌, ◌≤◌, ◌⊎◌, Some, None, inl, inr, List, [], ◌∷◌, ◌++◌, length, map, refl, sym, ap, subst}
-use Rattle.std.proofs.Common.{◌∙◌, append-nil, append_assoc, arith, codes, decimal, true, not, eqb, Option, IsSome}
-use Rattle.std.specs.List.{AllByRecursion}
-use Rattle.std.proofs.lemmas.List.{length-append}
-use Rattle.std.proofs.lemmas.List.Elements.{All-append}
-use Rattle.std.proofs.lemmas.Option.{none-some}
-use Rattle.std.proofs.lemmas.Bool.{false≢true}
-use Rattle.std.specs.List.{list_all}
+use Rattle.std.specs.List.{AllByRecursion, list_all}
+use Rattle.std.proofs.Common.{◌≡◌, ◌≢◌, ℕ, ◌+◌, ◌^◌, ◌<◌, ◌≤◌, ◌⊎◌, Some, None, inl, inr, List, [], ◌∷◌, ◌++◌, length}
+use Rattle.std.proofs.Common.{map, refl, sym, ap, subst, ◌∙◌, append-nil, append_assoc, arith, codes, decimal, true}
+use Rattle.std.proofs.{Common.{not, eqb, Option, IsSome, length-append}, lemmas.Bool.{false≢true}}
+use Rattle.std.proofs.lemmas.{List.Elements.All-append, Option.none-some}
 use Rattle.cap_word.specs.Digits.{hex_digits}
 use Rattle.cap_word.proofs.DigitLemmas.{length-hex_digits}
 use Rattle.cap_bounds.specs.declared.decoding.Interval.{Interval}
-use Rattle.cap_log.specs.Front.{HasNoFeed, IsLine, FrontIs}
-use Rattle.cap_log.specs.Spaceless.{Lacks-by_test, Lacks-hex, Lacks-decimal}
-use Rattle.cap_log.proofs.ElementLemmas.{short_decimal}
-use Rattle.cap_log.proofs.FrontLemmas.{IsLine-same, IsLine-not_too_long, IsLine-not_cut}
-use Rattle.cap_heap.specs.declared.events.Event.{Event}
-use Rattle.cap_heap.specs.declared.events.Event.TheVariants.{Malloc, Free}
-use Rattle.cap_heap.specs.declared.lines.HeapLine.{HeapLine}
+use Rattle.cap_log.specs.{Front.{HasNoFeed, IsLine, FrontIs}, Spaceless.{Lacks-by_test, Lacks-hex, Lacks-decimal}}
+use Rattle.cap_log.proofs.{ElementLemmas.short_decimal, FrontLemmas.{IsLine-same, IsLine-not_too_long, IsLine-not_cut}}
+use Rattle.cap_heap.specs.declared.{events.Event.{Event, TheVariants.{Malloc, Free}}, lines.HeapLine.HeapLine}
 use Rattle.cap_heap.specs.declared.lines.HeapLine.TheVariants.{Header, Root, Happens, End}
-use Rattle.cap_heap.specs.declared.refusal.HeapRefusal.{HeapRefusal}
-use Rattle.cap_heap.specs.declared.refusal.HeapRefusal.TheVariants as refusals
-use Rattle.cap_heap.specs.Beginnings.{objects_after}
-use Rattle.cap_heap.specs.HeapLines.{IsHeapLineInRange, SpellsHeapLine, heap_spelling}
-use Rattle.cap_heap.specs.HeapLogs.{IsHeapLogOf, IsFirstHeapFault, RefusesHeapLine, RefusesText, RefusesHeap, heap_text_of}
-use Rattle.cap_heap.specs.Objects.{Objects, no_objects, IsApart}
-use Rattle.cap_heap.specs.Events.{Throughout, RefusesEvent, after_event}
-use Rattle.cap_heap.proofs.LineLemmas.{one_spelling}
-use Rattle.cap_heap.proofs.Objects.{with_object-at, with_object-other}
-use Rattle.cap_heap.proofs.RunLemmas.{from, now}
+use Rattle.cap_heap.specs.{declared.refusal.HeapRefusal.HeapRefusal, Beginnings.objects_after, Events.Throughout}
+use Rattle.cap_heap.specs.{Events.{RefusesEvent, after_event}, HeapLines.{IsHeapLineInRange, SpellsHeapLine}}
+use Rattle.cap_heap.specs.{HeapLines.heap_spelling, HeapLogs.{IsHeapLogOf, IsFirstHeapFault, RefusesHeapLine}}
+use Rattle.cap_heap.specs.{HeapLogs.{RefusesText, RefusesHeap, heap_text_of}, Objects.{Objects, no_objects, IsApart}}
+use Rattle.cap_heap.proofs.{LineLemmas.one_spelling, Objects.{with_object-at, with_object-other}, RunLemmas.{from, now}}
 
 -- a line has no line feed and at most 95 bytes
 
@@ -117,7 +105,7 @@ front_line line lines rest is range =
 -- what refuses a rest refuses the line at its front
 front_refuses : (root : Interval) (events : List Event) (due line : HeapLine) (lines : List HeapLine) (rest : List ℕ) (refusal : HeapRefusal)
     → rest ≡ heap_text_of (line ∷ lines) → IsHeapLineInRange line
-    → FrontIs rest (refusal ≡ refusals.LineTooLong) (refusal ≡ refusals.Truncated) (RefusesText root events due refusal)
+    → FrontIs rest (refusal ≡ HeapRefusal.LineTooLong) (refusal ≡ HeapRefusal.Truncated) (RefusesText root events due refusal)
     → RefusesText root events due refusal (heap_spelling line)
 front_refuses root events due line lines rest refusal is range (inl long) =
     absurd (IsLine-not_too_long rest (heap_spelling line) (heap_text_of lines ++ []) (front_line line lines rest is range) long.0)
@@ -129,7 +117,7 @@ front_refuses root events due line lines rest refusal is range (inr (inr h)) =
 
 -- a line of a form is refused as that
 text_refuses : (Holds : HeapLine → Type 0) (line : HeapLine) (refusal : HeapRefusal) → IsHeapLineInRange line
-    → ((((other : HeapLine) → SpellsHeapLine (heap_spelling line) other → ⊥) × (refusal ≡ refusals.BadLine))
+    → ((((other : HeapLine) → SpellsHeapLine (heap_spelling line) other → ⊥) × (refusal ≡ HeapRefusal.BadLine))
     ⊎ ((other : HeapLine) × SpellsHeapLine (heap_spelling line) other × Holds other)) → Holds line
 text_refuses Holds line refusal range (inl none) = absurd (none.0 line (range, refl))
 text_refuses Holds line refusal range (inr found) = subst Holds (one_spelling (heap_spelling line) found.0 line found.1 (range, refl)) found.2
@@ -141,10 +129,10 @@ none_is_some (Some n) is some = none-some n (sym is)
 -- an event that happens in a log is no fault
 no_fault : (root : Interval) (objects : Objects) (event : Event) (more : List Event) (refusal : HeapRefusal)
     → Throughout (IsApart root) objects (event ∷ more) → RefusesEvent root objects event refusal → ⊥
-no_fault root objects (Malloc at size) more refusals.AddressTaken all fault = none_is_some (objects at) all.1 fault
-no_fault root objects (Malloc at size) more refusals.OutsideHeap all fault =
+no_fault root objects (Malloc at size) more HeapRefusal.AddressTaken all fault = none_is_some (objects at) all.1 fault
+no_fault root objects (Malloc at size) more HeapRefusal.OutsideHeap all fault =
     fault.1 ((now (IsApart root) (after_event objects (Malloc at size)) more all.2).inside at size (with_object-at objects at size))
-no_fault root objects (Malloc at size) more refusals.Overlaps all (fresh, within, other, length, shares) =
+no_fault root objects (Malloc at size) more HeapRefusal.Overlaps all (fresh, within, other, length, shares) =
     let apart = now (IsApart root) (after_event objects (Malloc at size)) more all.2 in
     let differ : at ≢ other = λ same. none-some length (sym fresh ∙ ap objects same ∙ shares.0) in
     apart.apart at other size length (with_object-at objects at size) differ

@@ -1,12 +1,9 @@
 -- No choice of words does better than rounding.
 use Rattle.std.proofs.Common.{ℕ, Bool, List, ◌++◌, subst}
-use Rattle.cap_heap.specs.declared.refusal.HeapRefusal.{HeapRefusal}
-use Rattle.cap_heap.specs.declared.verdict.HeapVerdict.{HeapVerdict}
-use Rattle.cap_heap.specs.declared.verdict.HeapVerdict.TheVariants.{Yes, No}
-use Rattle.cap_heap.specs.HeapLogs.{CanBeGuardedThroughout, IsFirstHeapFault}
-use Rattle.cap_heap.specs.HeapVerdicts.{IsHeapVerdictOf, IsOptimal}
-use Rattle.cap_heap.proofs.Guarded.{guards_log, guarded_log}
-use Rattle.cap_heap.proofs.OneReading.{not_both}
+use Rattle.cap_heap.specs.declared.{refusal.HeapRefusal.HeapRefusal, verdict.HeapVerdict.HeapVerdict}
+use Rattle.cap_heap.specs.{declared.verdict.HeapVerdict.TheVariants.{Yes, No}, HeapLogs.CanBeGuardedThroughout}
+use Rattle.cap_heap.specs.{HeapLogs.IsFirstHeapFault, HeapVerdicts.{IsHeapVerdictOf, IsOptimal}}
+use Rattle.cap_heap.proofs.{Guarded.{guards_log, guarded_log}, OneReading.not_both}
 
 -- a log at fault is none that can be guarded
 not_guarded : (bytes : List ℕ) (line : ℕ) (refusal : HeapRefusal) → IsFirstHeapFault bytes line refusal → CanBeGuardedThroughout bytes → ⊥

@@ -1,22 +1,14 @@
 -- What a progress stands for, and how it goes on.
-use Rattle.std.proofs.Common.{◌≡◌, ◌⊎◌, ℕ, ◌+◌, inl, inr, List, [], ◌∷◌, ◌++◌, length, map, append-nil, codes, refl, sym, ap, subst, ◌∙◌, arith}
-use Rattle.std.proofs.Common.{Result, Ok, Err, OnOk, OnErr, IfErr}
+use Rattle.std.proofs.Common.{◌≡◌, ◌⊎◌, ℕ, ◌+◌, inl, inr, List, [], ◌∷◌, ◌++◌, length, map, append-nil, codes, refl}
+use Rattle.std.proofs.Common.{sym, ap, subst, ◌∙◌, arith, Result, Ok, Err, OnOk, OnErr, IfErr}
 use Rattle.cap_bounds.specs.declared.decoding.Interval.{Interval}
-use Rattle.cap_heap.specs.declared.events.Event.{Event}
-use Rattle.cap_heap.specs.declared.events.EventEnd.{EventEnd}
-use Rattle.cap_heap.specs.declared.events.EventEnd.TheVariants.{Refused, NoMemory}
-use Rattle.cap_heap.specs.declared.heap.Heap.{Heap}
-use Rattle.cap_heap.specs.declared.lines.HeapLine.{HeapLine}
-use Rattle.cap_heap.specs.declared.lines.HeapLine.TheVariants.{Root, Happens, End}
-use Rattle.cap_heap.specs.declared.progress.Progress.{Progress}
-use Rattle.cap_heap.specs.declared.report.HeapReport.{HeapReport}
-use Rattle.cap_heap.specs.declared.stage.Stage.TheVariants as stages
-use Rattle.cap_heap.specs.HeapLines.{IsHeapLineInRange, SpellsHeapLine}
+use Rattle.cap_heap.specs.declared.events.{Event.Event, EventEnd.{EventEnd, TheVariants.{Refused, NoMemory}}}
+use Rattle.cap_heap.specs.declared.{heap.Heap.Heap, lines.HeapLine.{HeapLine, TheVariants.{Root, Happens, End}}}
+use Rattle.cap_heap.specs.declared.{progress.Progress.Progress, report.HeapReport.HeapReport, stage.Stage.Stage}
+use Rattle.cap_heap.specs.Beginnings.{Beginning, Nothing, Headed, Body, Whole, lines_of, due_of, body_lines}
+use Rattle.cap_heap.specs.{Beginnings.RefusesWhole, HeapLines.{IsHeapLineInRange, SpellsHeapLine}}
+use Rattle.cap_heap.specs.{HeapReports.IsReportOf, HeapWhys.{count_in, due_text}, Heaps.{objects_in, live_in}}
 use Rattle.cap_heap.specs.Objects.{no_objects}
-use Rattle.cap_heap.specs.HeapReports.{IsReportOf}
-use Rattle.cap_heap.specs.HeapWhys.{count_in, due_text}
-use Rattle.cap_heap.specs.Heaps.{objects_in, live_in}
-use Rattle.cap_heap.specs.Beginnings.{Beginning, Nothing, Headed, Body, Whole, lines_of, due_of, body_lines, RefusesWhole}
 use Rattle.cap_heap.specs.Progresses.{Reaches, StandsFor, Stays, Takes, EndsLine, EndsText, LacksMemory}
 use Rattle.cap_heap.proofs.RunLemmas.{Reaches-start, lines-push}
 
@@ -27,13 +19,13 @@ record IsBody (progress : Progress) (beginning : Beginning) : Type 0 where
   is : Body root events ≡ beginning
   reaches : Reaches progress.heap progress.report progress.events root events
 
-body : (progress : Progress) → progress.stage ≡ stages.Within → (beginning : Beginning) → StandsFor progress beginning → IsBody progress beginning
+body : (progress : Progress) → progress.stage ≡ Stage.Within → (beginning : Beginning) → StandsFor progress beginning → IsBody progress beginning
 body progress within Nothing h = let no : ⊥ = cc in absurd no
 body progress within Headed h = let no : ⊥ = cc in absurd no
 body progress within (Body root events) h = record { root = root; events = events; is = refl; reaches = h.1 }
 body progress within (Whole root events) h = let bad = h.0 in let no : ⊥ = cc in absurd no
 
-headed : (progress : Progress) → progress.stage ≡ stages.Headed → (beginning : Beginning) → StandsFor progress beginning → Headed ≡ beginning
+headed : (progress : Progress) → progress.stage ≡ Stage.Headed → (beginning : Beginning) → StandsFor progress beginning → Headed ≡ beginning
 headed progress is Nothing h = let no : ⊥ = cc in absurd no
 headed progress is Headed h = refl
 headed progress is (Body root events) h = let bad = h.0 in let no : ⊥ = cc in absurd no
@@ -54,7 +46,7 @@ count_events [] later = omega arith
 count_events (event ∷ events) later = let rest = count_events events later in omega (arith, rest)
 
 -- behind the root, as many events were counted as the lines so far have
-pub counted : (progress : Progress) (beginning : Beginning) → (progress.stage ≡ stages.Within) ⊎ (progress.stage ≡ stages.Ended)
+pub counted : (progress : Progress) (beginning : Beginning) → (progress.stage ≡ Stage.Within) ⊎ (progress.stage ≡ Stage.Ended)
     → StandsFor progress beginning → progress.events ≡ count_in (lines_of beginning)
 counted progress Nothing (inl within) h = let no : ⊥ = cc in absurd no
 counted progress Nothing (inr ended) h = let no : ⊥ = cc in absurd no
@@ -71,7 +63,7 @@ counted progress (Whole root events) stage h =
     let same : progress.events ≡ count_in (map Happens events ++ End (length events) ∷ []) = omega (arith, are, have) in same
 
 -- an event more
-pub takes_event : {X : Type 0} (old new : Progress) (event : Event) → old.stage ≡ stages.Within → new.stage ≡ old.stage
+pub takes_event : {X : Type 0} (old new : Progress) (event : Event) → old.stage ≡ Stage.Within → new.stage ≡ old.stage
     → (result : Result X EventEnd)
     → OnOk result ((root : Interval) (events : List Event) → Reaches old.heap old.report old.events root events
     → Reaches new.heap new.report new.events root (events ++ event ∷ []))
@@ -94,7 +86,7 @@ stays_event old new same (Ok done) told = tt
 stays_event old new same (Err end) told = λ beginning stands. stays_for old new same told beginning stands
 
 -- the end line more
-pub takes_end : (old new : Progress) (count : ℕ) → old.stage ≡ stages.Within → new.stage ≡ stages.Ended → new.heap ≡ old.heap
+pub takes_end : (old new : Progress) (count : ℕ) → old.stage ≡ Stage.Within → new.stage ≡ Stage.Ended → new.heap ≡ old.heap
     → new.report ≡ old.report → new.events ≡ old.events → count ≡ old.events → Takes old (End count) new
 takes_end old new count within ended same same_report same_events is beginning stands =
     let here = body old within beginning stands in
@@ -108,7 +100,7 @@ takes_end old new count within ended same same_report same_events is beginning s
     )
 
 -- the root more
-pub takes_root : (old new : Progress) (bounds : Interval) → old.stage ≡ stages.Headed → new.stage ≡ stages.Within → new.events ≡ 0
+pub takes_root : (old new : Progress) (bounds : Interval) → old.stage ≡ Stage.Headed → new.stage ≡ Stage.Within → new.events ≡ 0
     → IsHeapLineInRange (Root bounds) → new.heap.bounds ≡ bounds → objects_in new.heap ≡ no_objects → live_in new.heap ≡ 0
     → IsReportOf new.report [] → Takes old (Root bounds) new
 takes_root old new bounds is within none range same objects live reported beginning stands = (
@@ -122,7 +114,7 @@ takes_root old new bounds is within none range same objects live reported beginn
 )
 
 -- a line after the root is not taken
-pub ends_within : {X : Type 0} (progress : Progress) (text : List ℕ) (line : HeapLine) → progress.stage ≡ stages.Within → SpellsHeapLine text line
+pub ends_within : {X : Type 0} (progress : Progress) (text : List ℕ) (line : HeapLine) → progress.stage ≡ Stage.Within → SpellsHeapLine text line
     → (result : Result X EventEnd)
     → IfErr result (λ end. (root : Interval) (events : List Event) → Reaches progress.heap progress.report progress.events root events
     → EndsLine root events line end)
@@ -136,11 +128,11 @@ ends_within progress text line within spells (Err NoMemory) told = λ beginning 
     subst (λ (b : Beginning). LacksMemory b text) here.is (line, spells, told here.root here.events here.reaches)
 
 -- which lines may come: a root once the header was read, and else others
-pub due_headed : (progress : Progress) (beginning : Beginning) → progress.stage ≡ stages.Headed → StandsFor progress beginning
+pub due_headed : (progress : Progress) (beginning : Beginning) → progress.stage ≡ Stage.Headed → StandsFor progress beginning
     → codes "root BASE TOP, the bounds of the heap" ≡ due_text (due_of beginning)
 due_headed progress beginning is stands = subst (λ (b : Beginning). codes "root BASE TOP, the bounds of the heap" ≡ due_text (due_of b)) (headed progress is beginning stands) refl
 
-pub due_other : (progress : Progress) (beginning : Beginning) → (progress.stage ≡ stages.Headed → ⊥) → StandsFor progress beginning
+pub due_other : (progress : Progress) (beginning : Beginning) → (progress.stage ≡ Stage.Headed → ⊥) → StandsFor progress beginning
     → codes "malloc, free or one end line, and nothing after it" ≡ due_text (due_of beginning)
 due_other progress Nothing other stands = refl
 due_other progress Headed other stands = absurd (other stands)

@@ -1,14 +1,10 @@
 -- The report of one event more.
 use Rattle.std.proofs.Common.{◌≡◌, ℕ, ◌+◌, ◌≤◌, inl, inr, List, [], ◌∷◌, ◌++◌, length, sym, subst, ◌∙◌, arith, max}
-use Rattle.std.specs.List.{sum_by}
-use Rattle.std.proofs.lemmas.Bool.{cases_lt}
-use Rattle.std.proofs.lemmas.List.{length_push, take-append-le, take_all}
+use Rattle.std.proofs.{Common.{sum_by, take_all}, lemmas.{Bool.cases_lt, List.{length_push, take-append-le}}}
 use Rattle.std.proofs.lemmas.List.Sums.{sum_by-append}
-use Rattle.cap_heap.specs.declared.events.Event.{Event}
-use Rattle.cap_heap.specs.declared.events.Event.TheVariants.{Malloc, Free}
-use Rattle.cap_heap.specs.declared.report.HeapReport.{HeapReport}
-use Rattle.cap_heap.specs.Events.{mallocs, frees}
-use Rattle.cap_heap.specs.HeapReports.{Adds, AreLive, IsMost, IsReportOf, capped, excess_of, gap_of, inexact_of, padding_of}
+use Rattle.cap_heap.specs.declared.{events.Event.{Event, TheVariants.{Malloc, Free}}, report.HeapReport.HeapReport}
+use Rattle.cap_heap.specs.{Events.{mallocs, frees}, HeapReports.{Adds, AreLive, IsMost, IsReportOf, capped, excess_of}}
+use Rattle.cap_heap.specs.HeapReports.{gap_of, inexact_of, padding_of}
 use Rattle.cap_heap.proofs.RunLemmas.{mallocs-push, frees-push}
 
 sum-push : (cost : Event → ℕ) (events : List Event) (event : Event) → sum_by cost (events ++ event ∷ []) ≡ sum_by cost events + cost event

@@ -2,8 +2,7 @@
 use Rattle.std.proofs.Common.{◌≡◌, ℕ, ◌<◌, true, false, Bool, Some, None, Option, ap, arith}
 use Rattle.std.proofs.lemmas.Option.{none-some, same_Some}
 use Rattle.cap_bounds.proofs.Roundings.{rounded_base-short, rounded_top-short, rounded_base-le, rounded_top-ge}
-use Rattle.cap_heap.specs.Objects.{Covers, LieApart}
-use Rattle.cap_heap.specs.Kept.{length_from}
+use Rattle.cap_heap.specs.{Kept.length_from, Objects.{Covers, LieApart}}
 use Rattle.cap_heap.proofs.Keeping.{none_from, some_is}
 
 -- an object of no byte covers no address

@@ -1,24 +1,16 @@
 -- Events one after another.
-use Rattle.std.proofs.Common.{◌≡◌, ℕ, ◌+◌, ◌-◌, ◌^◌, ◌<◌, List, [], ◌∷◌, ◌++◌, length, map, cond, not, refl, sym, ap, subst, ◌∙◌, arith}
 use Rattle.std.specs.List.{AllByRecursion}
-use Rattle.std.proofs.lemmas.List.{map-append, length_push}
-use Rattle.std.proofs.lemmas.List.Sums.{fold-append, sum_by-append}
-use Rattle.std.proofs.lemmas.Option.{none-some}
+use Rattle.std.proofs.Common.{◌≡◌, ℕ, ◌+◌, ◌-◌, ◌^◌, ◌<◌, List, [], ◌∷◌, ◌++◌, length, map, cond, not, refl, sym, ap}
+use Rattle.std.proofs.{Common.{subst, ◌∙◌, arith}, lemmas.List.{map-append, length_push}}
+use Rattle.std.proofs.lemmas.{List.Sums.{fold-append, sum_by-append}, Option.none-some}
 use Rattle.cap_bounds.specs.declared.decoding.Interval.{Interval}
 use Rattle.cap_log.proofs.ElementLemmas.{AllByRecursion-append}
-use Rattle.cap_heap.specs.declared.events.Event.{Event}
-use Rattle.cap_heap.specs.declared.events.Event.TheVariants.{Malloc, Free}
-use Rattle.cap_heap.specs.declared.heap.Heap.{Heap}
-use Rattle.cap_heap.specs.declared.lines.HeapLine.{HeapLine}
-use Rattle.cap_heap.specs.declared.lines.HeapLine.TheVariants.{Header, Root, Happens}
-use Rattle.cap_heap.specs.declared.report.HeapReport.{HeapReport}
-use Rattle.cap_heap.specs.HeapLines.{IsHeapLineInRange}
-use Rattle.cap_heap.specs.Beginnings.{Runs, body_lines, objects_after}
-use Rattle.cap_heap.specs.HeapReports.{IsReportOf}
-use Rattle.cap_heap.specs.Heaps.{objects_in, live_in}
-use Rattle.cap_heap.specs.Objects.{Objects, no_objects, IsApart}
+use Rattle.cap_heap.specs.declared.{events.Event.{Event, TheVariants.{Malloc, Free}}, heap.Heap.Heap}
+use Rattle.cap_heap.specs.declared.lines.HeapLine.{HeapLine, TheVariants.{Header, Root, Happens}}
+use Rattle.cap_heap.specs.{declared.report.HeapReport.HeapReport, Beginnings.{Runs, body_lines, objects_after}}
 use Rattle.cap_heap.specs.Events.{CanHappen, Throughout, after_event, is_malloc, mallocs, frees}
-use Rattle.cap_heap.specs.Progresses.{Reaches}
+use Rattle.cap_heap.specs.{HeapLines.IsHeapLineInRange, HeapReports.IsReportOf, Heaps.{objects_in, live_in}}
+use Rattle.cap_heap.specs.{Objects.{Objects, no_objects, IsApart}, Progresses.Reaches}
 use Rattle.cap_heap.proofs.Objects.{IsApart-with, IsApart-without}
 
 -- one event more

@@ -1,14 +1,10 @@
 -- What a judge that pushes a text tells.
 use Rattle.std.proofs.Common.{ℕ, Bool, true, false, List, take, refl, Ok, Err}
-use Rattle.cap_heap.specs.declared.progress.Progress.{Progress}
-use Rattle.cap_heap.specs.declared.verdict.HeapVerdict.{HeapVerdict}
-use Rattle.cap_heap.specs.declared.verdict.HeapVerdict.TheVariants.{Yes, No}
 use Rattle.cap_log.specs.declared.judge_faults.JudgeToFault.TheVariants.{Push}
-use Rattle.cap_heap.specs.HeapVerdicts.{ReportsAfter}
-use Rattle.cap_heap.specs.Judgings.{JudgedBy, StopsAfter}
-use Rattle.cap_heap.specs.Texts.{IsText}
+use Rattle.cap_heap.specs.declared.{progress.Progress.Progress, verdict.HeapVerdict.HeapVerdict}
+use Rattle.cap_heap.specs.{declared.verdict.HeapVerdict.TheVariants.{Yes, No}, HeapVerdicts.ReportsAfter}
+use Rattle.cap_heap.specs.{Judgings.{JudgedBy, StopsAfter}, Texts.IsText, VerdictLines.{TellsHeap, Told, heap_line}}
 use Rattle.cap_heap.proofs.BeginningLemmas.{fault_of}
-use Rattle.cap_heap.specs.VerdictLines.{TellsHeap, Told, heap_line}
 
 -- without reports the text is the verdict's line
 pub plain : (bytes : List ℕ) (ended : Bool) (verdict : HeapVerdict) → TellsHeap false false bytes ended verdict (heap_line verdict)

@@ -1,19 +1,11 @@
 -- What is told of a line for its refusal.
-use Rattle.std.proofs.Common.{◌≡◌, ◌⊎◌, ℕ, inl, inr, List, length, take, min, Option, refl, sym, ap, subst, ◌∙◌, arith}
-use Rattle.std.proofs.lemmas.Bool.{cases_lt}
-use Rattle.std.proofs.lemmas.List.{take_all}
-use Rattle.std.specs.Prelude.{IfNone, Some, None}
+use Rattle.std.proofs.Common.{◌≡◌, ◌⊎◌, ℕ, inl, inr, List, Option, refl, sym, subst, IfNone, Some, None}
 use Rattle.cap_bounds.specs.declared.decoding.Interval.{Interval}
-use Rattle.cap_heap.specs.declared.events.Event.{Event}
-use Rattle.cap_heap.specs.declared.events.Event.TheVariants.{Malloc, Free}
-use Rattle.cap_heap.specs.declared.lines.HeapLine.{HeapLine}
-use Rattle.cap_heap.specs.declared.lines.HeapLine.TheVariants.{Happens}
-use Rattle.cap_heap.specs.declared.refusal.HeapRefusal.{HeapRefusal}
-use Rattle.cap_heap.specs.declared.refusal.HeapRefusal.TheVariants.{Misplaced, Truncated, WrongCount}
-use Rattle.cap_heap.specs.declared.refusal.HeapRefusal.TheVariants.{LimitPassed, OutsideHeap}
-use Rattle.cap_heap.specs.HeapLines.{SpellsHeapLine}
-use Rattle.cap_heap.specs.HeapWhys.{AreHeapDetails, AreEventDetails, count_in, counted_lines}
-use Rattle.cap_heap.specs.Objects.{Objects}
+use Rattle.cap_heap.specs.declared.{events.Event.{Event, TheVariants.{Malloc, Free}}, lines.HeapLine.HeapLine}
+use Rattle.cap_heap.specs.declared.{lines.HeapLine.TheVariants.Happens, refusal.HeapRefusal.HeapRefusal}
+use Rattle.cap_heap.specs.declared.refusal.HeapRefusal.TheVariants.{Misplaced, Truncated, WrongCount, LimitPassed}
+use Rattle.cap_heap.specs.{declared.refusal.HeapRefusal.TheVariants.OutsideHeap, HeapLines.SpellsHeapLine}
+use Rattle.cap_heap.specs.{HeapWhys.{AreHeapDetails, AreEventDetails, count_in, counted_lines}, Objects.Objects}
 
 -- no event is spelled where neither kind is
 no_event : (text : List ℕ) → ((at size : ℕ) → SpellsHeapLine text (Happens (Malloc at size)) → ⊥) → ((at : ℕ) → SpellsHeapLine text (Happens (Free at)) → ⊥)

@@ -1,12 +1,9 @@
 -- What is told of bytes that are no line of an allocator's log (this profile's own, as are all below).
 use Rattle.std.specs.Prelude.{◌≡◌, ◌⊎◌, ℕ, List, [], ◌∷◌, ◌++◌, length, codes}
-use Rattle.cap_texts.specs.declared.fields.Field.{Field}
-use Rattle.cap_texts.specs.declared.fields.Field.TheVariants as fields
-use Rattle.cap_texts.specs.Fields.{AllStand, IsFirstWrong}
-use Rattle.cap_texts.specs.TextLines.{text_line}
+use Rattle.cap_texts.specs.{declared.fields.Field.Field, Fields.{AllStand, IsFirstWrong}, TextLines.text_line}
 use Rattle.cap_texts.specs.WrongLines.{header_lines, hint_line, wrong_lines}
-use Rattle.cap_heap.specs.declared.bad_lines.Name.{Name}
-use Rattle.cap_heap.specs.declared.bad_lines.Name.TheVariants.{Header, Root, Malloc, Free, End}
+use Rattle.cap_texts.specs.declared.fields.Field.TheVariants as fields
+use Rattle.cap_heap.specs.declared.bad_lines.Name.{Name, TheVariants.{Header, Root, Malloc, Free, End}}
 
 -- the first word of a line
 abbrev pub name_text : Name → List ℕ

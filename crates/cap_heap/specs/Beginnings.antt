@@ -1,17 +1,11 @@
 -- How a log begins, as its judge sees it (this profile's own, as are all below).
-use Rattle.std.specs.Prelude.{◌≡◌, ℕ, ◌^◌, ◌<◌, List, [], ◌∷◌, ◌++◌, length, map, fold}
-use Rattle.std.specs.List.{AllByRecursion}
+use Rattle.std.specs.{Prelude.{◌≡◌, ℕ, ◌^◌, ◌<◌, List, [], ◌∷◌, ◌++◌, length, map, fold}, List.AllByRecursion}
 use Rattle.cap_bounds.specs.declared.decoding.Interval.{Interval}
-use Rattle.cap_heap.specs.declared.events.Event.{Event}
-use Rattle.cap_heap.specs.declared.lines.HeapLine.{HeapLine}
-use Rattle.cap_heap.specs.declared.lines.HeapLine.TheVariants.{Header, Root, Happens, End}
-use Rattle.cap_heap.specs.declared.refusal.HeapRefusal.{HeapRefusal}
-use Rattle.cap_heap.specs.declared.refusal.HeapRefusal.TheVariants.{Misplaced}
-use Rattle.cap_heap.specs.HeapLines.{IsHeapLineInRange}
-use Rattle.cap_heap.specs.HeapLogs.{RefusesText, RefusesHeap}
-use Rattle.cap_heap.specs.HeapWhys.{AreHeapDetails}
+use Rattle.cap_heap.specs.declared.{events.Event.Event, lines.HeapLine.{HeapLine, TheVariants.{Header, Root, Happens}}}
+use Rattle.cap_heap.specs.declared.{lines.HeapLine.TheVariants.End, refusal.HeapRefusal.HeapRefusal}
+use Rattle.cap_heap.specs.{declared.refusal.HeapRefusal.TheVariants.Misplaced, Events.{Throughout, after_event}}
+use Rattle.cap_heap.specs.{HeapLines.IsHeapLineInRange, HeapLogs.{RefusesText, RefusesHeap}, HeapWhys.AreHeapDetails}
 use Rattle.cap_heap.specs.Objects.{Objects, no_objects, IsApart}
-use Rattle.cap_heap.specs.Events.{Throughout, after_event}
 
 -- not at all; with its header; with its root and events too; or with all of these and its end line
 pub data Beginning : Type 0 where

@@ -1,14 +1,10 @@
 -- What happens to the objects of an allocator, and why it can't. All of it is this profile's own.
-use Rattle.std.specs.Prelude.{◌≡◌, ℕ, ◌==◌, if◌then◌else◌, Bool, true, false, not, List, [], ◌∷◌, count_by, IsSome, Some, None}
-use Rattle.cap_bounds.specs.declared.decoding.Interval.{Interval}
-use Rattle.cap_heap.specs.declared.events.Event.{Event}
-use Rattle.cap_heap.specs.declared.events.Event.TheVariants.{Malloc, Free}
-use Rattle.cap_heap.specs.declared.events.EventEnd.{EventEnd}
-use Rattle.cap_heap.specs.declared.events.EventEnd.TheVariants.{Refused, NoMemory}
-use Rattle.cap_heap.specs.declared.refusal.HeapRefusal.{HeapRefusal}
+use Rattle.std.specs.Prelude.{◌≡◌, ℕ, ◌==◌, if◌then◌else◌, Bool, true, false, not, List, [], ◌∷◌, count_by, IsSome}
+use Rattle.std.specs.Prelude.{Some, None}
+use Rattle.cap_bounds.specs.{declared.decoding.Interval.Interval, Bounds.IsInside, Rounding.{rounded_base, rounded_top}}
+use Rattle.cap_heap.specs.declared.events.{Event.{Event, TheVariants.{Malloc, Free}}, EventEnd.EventEnd}
+use Rattle.cap_heap.specs.declared.{events.EventEnd.TheVariants.{Refused, NoMemory}, refusal.HeapRefusal.HeapRefusal}
 use Rattle.cap_heap.specs.declared.refusal.HeapRefusal.TheVariants.{AddressTaken, OutsideHeap, Overlaps, NotLive}
-use Rattle.cap_bounds.specs.Bounds.{IsInside}
-use Rattle.cap_bounds.specs.Rounding.{rounded_base, rounded_top}
 use Rattle.cap_heap.specs.Objects.{Objects, Shares, LieApart}
 
 -- the objects after an event

@@ -1,8 +1,7 @@
 -- The lines of an allocator's log. All of it is this profile's own.
 use Rattle.std.specs.Prelude.{◌≡◌, ℕ, ◌^◌, ◌<◌, ◌≤◌, List, ◌++◌, codes, decimal}
 use Rattle.cap_word.specs.Digits.{hex_digits}
-use Rattle.cap_heap.specs.declared.events.Event.TheVariants.{Malloc, Free}
-use Rattle.cap_heap.specs.declared.lines.HeapLine.{HeapLine}
+use Rattle.cap_heap.specs.declared.{events.Event.TheVariants.{Malloc, Free}, lines.HeapLine.HeapLine}
 use Rattle.cap_heap.specs.declared.lines.HeapLine.TheVariants.{Header, Root, Happens, End}
 
 -- the numbers of a line are such as a line has: a root ends at 2 ^ 64 at most, and not below its base

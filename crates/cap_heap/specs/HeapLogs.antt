@@ -1,16 +1,14 @@
 -- Allocators' logs, and the first fault of bytes that are none. All of it is this profile's own.
-use Rattle.std.specs.Prelude.{◌≡◌, ◌≢◌, ℕ, ◌+◌, ◌-◌, ◌^◌, ◌<◌, ◌⊎◌, None, List, [], ◌∷◌, ◌++◌, length, map, flat_map, fold}
-use Rattle.std.specs.List.{AllByRecursion}
+use Rattle.std.specs.Prelude.{◌≡◌, ◌≢◌, ℕ, ◌+◌, ◌-◌, ◌^◌, ◌<◌, ◌⊎◌, None, List, [], ◌∷◌, ◌++◌, length, map, flat_map}
+use Rattle.std.specs.{Prelude.fold, List.AllByRecursion}
 use Rattle.cap_bounds.specs.declared.decoding.Interval.{Interval}
 use Rattle.cap_log.specs.Front.{FrontIs}
-use Rattle.cap_heap.specs.declared.events.Event.{Event}
-use Rattle.cap_heap.specs.declared.lines.HeapLine.{HeapLine}
+use Rattle.cap_heap.specs.declared.{events.Event.Event, lines.HeapLine.HeapLine}
 use Rattle.cap_heap.specs.declared.lines.HeapLine.TheVariants.{Header, Root, Happens, End}
-use Rattle.cap_heap.specs.declared.refusal.HeapRefusal.{HeapRefusal}
-use Rattle.cap_heap.specs.declared.refusal.HeapRefusal.TheVariants.{BadHeader, LineTooLong, BadLine, Misplaced, Truncated, WrongCount, LimitPassed}
-use Rattle.cap_heap.specs.HeapLines.{IsHeapLineInRange, SpellsHeapLine, heap_spelling}
-use Rattle.cap_heap.specs.Objects.{Objects, IsApart, CanBeGuarded}
-use Rattle.cap_heap.specs.Events.{Throughout, RefusesEvent, after_event}
+use Rattle.cap_heap.specs.declared.refusal.HeapRefusal.{HeapRefusal, TheVariants.{BadHeader, LineTooLong, BadLine}}
+use Rattle.cap_heap.specs.declared.refusal.HeapRefusal.TheVariants.{Misplaced, Truncated, WrongCount, LimitPassed}
+use Rattle.cap_heap.specs.{Events.{Throughout, RefusesEvent, after_event}, HeapLines.IsHeapLineInRange}
+use Rattle.cap_heap.specs.{HeapLines.{SpellsHeapLine, heap_spelling}, Objects.{Objects, IsApart, CanBeGuarded}}
 
 -- the text of lines: each line's spelling and a line feed
 abbrev pub heap_text_of : List HeapLine → List ℕ

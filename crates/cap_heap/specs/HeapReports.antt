@@ -1,12 +1,10 @@
 -- What the author of an allocator wants to know of a log: what the bounds of its objects reach, and what exact ones
 -- would cost (this profile's own, as are all below).
-use Rattle.std.specs.Prelude.{◌≡◌, ℕ, ◌+◌, ◌-◌, ◌%◌, ◌^◌, ◌≤◌, ◌==◌, if◌then◌else◌, min, max, List, ◌++◌, take, codes, decimal}
-use Rattle.std.specs.List.{sum_by}
+use Rattle.std.specs.Prelude.{◌≡◌, ℕ, ◌+◌, ◌-◌, ◌%◌, ◌^◌, ◌≤◌, ◌==◌, if◌then◌else◌, min, max, List, ◌++◌, take, codes}
+use Rattle.std.specs.Prelude.{decimal, sum_by}
 use Rattle.cap_bounds.specs.Rounding.{rounded_base, rounded_top, alignment_of}
 use Rattle.cap_texts.specs.TextLines.{text_line}
-use Rattle.cap_heap.specs.declared.events.Event.{Event}
-use Rattle.cap_heap.specs.declared.events.Event.TheVariants.{Malloc, Free}
-use Rattle.cap_heap.specs.declared.report.HeapReport.{HeapReport}
+use Rattle.cap_heap.specs.declared.{events.Event.{Event, TheVariants.{Malloc, Free}}, report.HeapReport.HeapReport}
 use Rattle.cap_heap.specs.Events.{mallocs, frees}
 
 -- how many bytes the bounds of a new object reach beyond it

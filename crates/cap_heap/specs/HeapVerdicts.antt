@@ -1,21 +1,14 @@
 -- The verdict on an allocator's log (this profile's own, as are all below).
-use Rattle.std.specs.Prelude.{◌≡◌, ℕ, ◌+◌, ◌-◌, ◌^◌, ◌<◌, Bool, true, not, List, [], ◌∷◌, ◌++◌, length, count_by, fold, Result, IfOk, IfErr}
+use Rattle.std.specs.Prelude.{◌≡◌, ℕ, ◌+◌, ◌-◌, ◌^◌, ◌<◌, Bool, true, not, List, [], ◌∷◌, ◌++◌, length, count_by, fold}
+use Rattle.std.specs.Prelude.{Result, IfOk, IfErr}
 use Rattle.cap_bounds.specs.declared.decoding.Interval.{Interval}
-use Rattle.cap_log.specs.Front.{IsCut}
-use Rattle.cap_heap.specs.declared.events.Event.{Event}
-use Rattle.cap_heap.specs.declared.events.Event.TheVariants.{Malloc}
-use Rattle.cap_heap.specs.declared.lines.HeapLine.{HeapLine}
-use Rattle.cap_heap.specs.declared.lines.HeapLine.TheVariants.{Happens, End}
-use Rattle.cap_heap.specs.declared.report.HeapReport.{HeapReport}
-use Rattle.cap_heap.specs.declared.verdict.HeapVerdict.{HeapVerdict}
-use Rattle.cap_heap.specs.declared.verdict.HeapVerdict.TheVariants.{Yes, No}
-use Rattle.cap_log.specs.declared.judge_faults.JudgeFault.{JudgeFault}
-use Rattle.cap_log.specs.declared.judge_faults.JudgeFault.TheVariants.{Pull, NoMemory}
-use Rattle.cap_heap.specs.HeapLines.{IsHeapLineInRange, heap_spelling}
-use Rattle.cap_heap.specs.Objects.{no_objects, IsApart}
-use Rattle.cap_heap.specs.Events.{HasRoom, after_event, is_malloc}
-use Rattle.cap_heap.specs.HeapReports.{IsReportOf}
+use Rattle.cap_log.specs.{declared.judge_faults.JudgeFault.{JudgeFault, TheVariants.{Pull, NoMemory}}, Front.IsCut}
+use Rattle.cap_heap.specs.declared.{events.Event.{Event, TheVariants.Malloc}, lines.HeapLine.HeapLine}
+use Rattle.cap_heap.specs.declared.{lines.HeapLine.TheVariants.{Happens, End}, report.HeapReport.HeapReport}
+use Rattle.cap_heap.specs.declared.verdict.HeapVerdict.{HeapVerdict, TheVariants.{Yes, No}}
+use Rattle.cap_heap.specs.{Events.{HasRoom, after_event, is_malloc}, HeapLines.{IsHeapLineInRange, heap_spelling}}
 use Rattle.cap_heap.specs.HeapLogs.{IsHeapLogOf, IsFirstHeapFault, CanBeGuardedThroughout, heap_text_of}
+use Rattle.cap_heap.specs.{HeapReports.IsReportOf, Objects.{no_objects, IsApart}}
 
 -- a fact holds of the bytes, whatever follows them where their source has not ended
 abbrev pub Lasts : List ℕ → Bool → (List ℕ → Type 0) → Type 0

@@ -1,24 +1,16 @@
 -- The diagnosis after a `no`: the line that was refused, and what its checks saw (this profile's own, as are all below).
-use Rattle.std.specs.Prelude.{◌≡◌, ◌⊎◌, ℕ, ◌+◌, Bool, ◌&&◌, nat_lt, if◌then◌else◌, List, [], ◌∷◌, ◌++◌, take, fold, Option, Some, None, MatchOption, codes, decimal}
+use Rattle.std.specs.Prelude.{◌≡◌, ◌⊎◌, ℕ, ◌+◌, Bool, ◌&&◌, nat_lt, if◌then◌else◌, List, [], ◌∷◌, ◌++◌, fold, Option}
+use Rattle.std.specs.Prelude.{Some, None, MatchOption, codes, decimal}
 use Rattle.cap_word.specs.Digits.{hex_digits}
-use Rattle.cap_bounds.specs.declared.decoding.Interval.{Interval}
-use Rattle.cap_bounds.specs.Rounding.{rounded_base, rounded_top, alignment_of}
+use Rattle.cap_bounds.specs.{declared.decoding.Interval.Interval, Rounding.{rounded_base, rounded_top, alignment_of}}
 use Rattle.cap_log.specs.Front.{IsFrontText}
-use Rattle.cap_texts.specs.CapLines.{bounds_line}
-use Rattle.cap_texts.specs.ShownBytes.{shown_line}
-use Rattle.cap_texts.specs.TextLines.{text_line}
-use Rattle.cap_heap.specs.declared.events.Event.{Event}
-use Rattle.cap_heap.specs.declared.events.Event.TheVariants.{Malloc, Free}
-use Rattle.cap_heap.specs.declared.lines.HeapLine.{HeapLine}
-use Rattle.cap_heap.specs.declared.lines.HeapLine.TheVariants.{Happens, End, Root}
-use Rattle.cap_heap.specs.declared.refusal.HeapRefusal.{HeapRefusal}
-use Rattle.cap_heap.specs.declared.refusal.HeapRefusal.TheVariants.{BadHeader, LineTooLong, BadLine, Misplaced, Truncated, WrongCount}
-use Rattle.cap_heap.specs.declared.refusal.HeapRefusal.TheVariants.{LimitPassed, OutsideHeap}
-use Rattle.cap_heap.specs.BadLines.{AreBadLines, AreFirstLines}
-use Rattle.cap_heap.specs.HeapLines.{SpellsHeapLine}
-use Rattle.cap_heap.specs.Objects.{Objects, no_objects, Shares, LieApart}
-use Rattle.cap_heap.specs.Events.{after_event}
-use Rattle.cap_heap.specs.HeapLogs.{IsFirstHeapFault}
+use Rattle.cap_texts.specs.{CapLines.bounds_line, ShownBytes.shown_line, TextLines.text_line}
+use Rattle.cap_heap.specs.declared.{events.Event.{Event, TheVariants.{Malloc, Free}}, lines.HeapLine.HeapLine}
+use Rattle.cap_heap.specs.declared.{lines.HeapLine.TheVariants.{Happens, End, Root}, refusal.HeapRefusal.HeapRefusal}
+use Rattle.cap_heap.specs.declared.refusal.HeapRefusal.TheVariants.{BadHeader, LineTooLong, BadLine, Misplaced}
+use Rattle.cap_heap.specs.declared.refusal.HeapRefusal.TheVariants.{Truncated, WrongCount, LimitPassed, OutsideHeap}
+use Rattle.cap_heap.specs.{BadLines.{AreBadLines, AreFirstLines}, Events.after_event, HeapLines.SpellsHeapLine}
+use Rattle.cap_heap.specs.{HeapLogs.IsFirstHeapFault, Objects.{Objects, no_objects, Shares, LieApart}}
 
 -- how many events there were
 unfoldable pub count_line : ℕ → List ℕ

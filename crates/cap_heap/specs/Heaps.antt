@@ -1,8 +1,6 @@
 -- What a `Heap` is seen as (this profile's own).
 use Rattle.std.specs.Prelude.{ℕ}
-use Rattle.cap_heap.specs.declared.heap.Heap.{Heap}
-use Rattle.cap_heap.specs.Objects.{Objects}
-use Rattle.cap_heap.specs.Kept.{kept, kept_count}
+use Rattle.cap_heap.specs.{declared.heap.Heap.Heap, Kept.{kept, kept_count}, Objects.Objects}
 
 -- its live objects
 abbrev pub objects_in : Heap → Objects

@@ -1,18 +1,12 @@
 -- What a judge answers at the line where it stops (this profile's own).
 use Rattle.std.specs.Prelude.{ℕ, Bool, List, Result, Ok, Err, IfOk}
-use Rattle.cap_heap.specs.declared.events.EventEnd.{EventEnd}
-use Rattle.cap_heap.specs.declared.events.EventEnd.TheVariants as ends
-use Rattle.cap_heap.specs.declared.progress.Progress.{Progress}
-use Rattle.cap_heap.specs.declared.refusal.HeapRefusal.{HeapRefusal}
-use Rattle.cap_heap.specs.declared.refusal.HeapRefusal.TheVariants.{Misplaced, Truncated}
-use Rattle.cap_heap.specs.declared.stage.Stage.{Stage}
-use Rattle.cap_heap.specs.declared.stage.Stage.TheVariants.{Ended}
-use Rattle.cap_heap.specs.declared.verdict.HeapVerdict.{HeapVerdict}
+use Rattle.cap_log.specs.declared.judge_faults.JudgeFault.{JudgeFault, TheVariants.NoMemory}
+use Rattle.cap_heap.specs.declared.{events.EventEnd.EventEnd, progress.Progress.Progress}
+use Rattle.cap_heap.specs.declared.refusal.HeapRefusal.{HeapRefusal, TheVariants.{Misplaced, Truncated}}
+use Rattle.cap_heap.specs.declared.{stage.Stage.{Stage, TheVariants.Ended}, verdict.HeapVerdict.HeapVerdict}
 use Rattle.cap_heap.specs.declared.verdict.HeapVerdict.TheVariants.{Yes, No}
-use Rattle.cap_log.specs.declared.judge_faults.JudgeFault.{JudgeFault}
-use Rattle.cap_log.specs.declared.judge_faults.JudgeFault.TheVariants.{NoMemory}
-use Rattle.cap_heap.specs.HeapVerdicts.{HeapJudged, Lasts, ReportsAfter}
-use Rattle.cap_heap.specs.Progresses.{IsStopped}
+use Rattle.cap_heap.specs.{HeapVerdicts.{HeapJudged, Lasts, ReportsAfter}, Progresses.IsStopped}
+use Rattle.cap_heap.specs.declared.events.EventEnd.TheVariants as ends
 
 -- what a line that is not taken makes the answer
 abbrev pub answer_at : ℕ → EventEnd → Result HeapVerdict JudgeFault

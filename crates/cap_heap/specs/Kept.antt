@@ -1,11 +1,9 @@
 -- How a heap keeps objects: a map of lengths, and a set of the addresses of objects without a byte (this profile's
 -- own).
-use Rattle.std.specs.Prelude.{ℕ, ◌+◌, Bool, true, false, Option, Some, None}
-use Rattle.std.specs.Ordering.{nat_cmp}
+use Rattle.std.specs.{Prelude.{ℕ, ◌+◌, Bool, true, false, Option, Some, None}, BTreeMap.{BTreeMap, btree_map_len}}
+use Rattle.std.specs.{BTreeSet.{BTreeSet, btree_set_len}, Ordering.nat_cmp}
 use Rattle.std.specs.BTreeMap as tree
 use Rattle.std.specs.BTreeSet as set
-use Rattle.std.specs.BTreeMap.{BTreeMap, btree_map_len}
-use Rattle.std.specs.BTreeSet.{BTreeSet, btree_set_len}
 use Rattle.cap_heap.specs.Objects.{Objects}
 
 -- the length of an object, from what the map has and whether the set has it

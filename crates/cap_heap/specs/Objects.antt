@@ -1,7 +1,6 @@
 -- The live objects of an allocator, and the bounds of their capabilities. All of it is this profile's own.
 use Rattle.std.specs.Prelude.{◌≡◌, ◌≢◌, ℕ, ◌+◌, ◌^◌, ◌<◌, ◌≤◌, Option, Some, None}
-use Rattle.cap_bounds.specs.declared.decoding.Interval.{Interval}
-use Rattle.cap_bounds.specs.Bounds.{IsInside, IsSound, base_of, top_of}
+use Rattle.cap_bounds.specs.{declared.decoding.Interval.Interval, Bounds.{IsInside, IsSound, base_of, top_of}}
 use Rattle.cap_bounds.specs.Rounding.{rounded_base, rounded_top}
 
 -- the live objects: the length of the one at each address

@@ -2,26 +2,16 @@
 -- below).
 use Rattle.std.specs.Prelude.{◌≡◌, ◌⊎◌, ℕ, ◌+◌, ◌-◌, ◌^◌, ◌<◌, List, [], ◌∷◌, ◌++◌, length}
 use Rattle.cap_bounds.specs.declared.decoding.Interval.{Interval}
-use Rattle.cap_heap.specs.declared.events.Event.{Event}
-use Rattle.cap_heap.specs.declared.events.Event.TheVariants.{Malloc}
-use Rattle.cap_heap.specs.declared.events.EventEnd.{EventEnd}
-use Rattle.cap_heap.specs.declared.events.EventEnd.TheVariants.{Refused, NoMemory}
-use Rattle.cap_heap.specs.declared.heap.Heap.{Heap}
-use Rattle.cap_heap.specs.declared.lines.HeapLine.{HeapLine}
-use Rattle.cap_heap.specs.declared.lines.HeapLine.TheVariants.{Happens, End}
-use Rattle.cap_heap.specs.declared.progress.Progress.{Progress}
-use Rattle.cap_heap.specs.declared.refusal.HeapRefusal.{HeapRefusal}
-use Rattle.cap_heap.specs.declared.report.HeapReport.{HeapReport}
-use Rattle.cap_heap.specs.declared.stage.Stage.TheVariants as stages
-use Rattle.cap_heap.specs.HeapLines.{SpellsHeapLine}
-use Rattle.cap_heap.specs.Objects.{no_objects, IsApart}
-use Rattle.cap_heap.specs.Events.{HasRoom, mallocs, frees}
-use Rattle.cap_heap.specs.HeapReports.{IsReportOf}
-use Rattle.cap_heap.specs.Heaps.{objects_in, live_in}
 use Rattle.cap_log.specs.Front.{IsFrontText}
-use Rattle.cap_heap.specs.HeapWhys.{AreEventDetails}
-use Rattle.cap_heap.specs.HeapLogs.{RefusesHeapLine, heap_text_of}
-use Rattle.cap_heap.specs.Beginnings.{Beginning, Nothing, Headed, Body, Whole, Runs, IsAccepted, RefusesWhole, RefusesBehind, lines_of, objects_after}
+use Rattle.cap_heap.specs.declared.events.{Event.{Event, TheVariants.Malloc}, EventEnd.EventEnd}
+use Rattle.cap_heap.specs.declared.{events.EventEnd.TheVariants.{Refused, NoMemory}, heap.Heap.Heap}
+use Rattle.cap_heap.specs.declared.{lines.HeapLine.{HeapLine, TheVariants.{Happens, End}}, progress.Progress.Progress}
+use Rattle.cap_heap.specs.declared.{refusal.HeapRefusal.HeapRefusal, report.HeapReport.HeapReport}
+use Rattle.cap_heap.specs.Beginnings.{Beginning, Nothing, Headed, Body, Whole, Runs, IsAccepted, RefusesWhole}
+use Rattle.cap_heap.specs.{Beginnings.{RefusesBehind, lines_of, objects_after}, Events.{HasRoom, mallocs, frees}}
+use Rattle.cap_heap.specs.{HeapLines.SpellsHeapLine, HeapLogs.{RefusesHeapLine, heap_text_of}, HeapReports.IsReportOf}
+use Rattle.cap_heap.specs.{HeapWhys.AreEventDetails, Heaps.{objects_in, live_in}, Objects.{no_objects, IsApart}}
+use Rattle.cap_heap.specs.declared.stage.Stage.TheVariants as stages
 
 -- a root and events that are accepted lead to a heap, a report and a number of events
 pub record Reaches (heap : Heap) (report : HeapReport) (count : ℕ) (root : Interval) (events : List Event) : Type 0 where

@@ -1,8 +1,8 @@
 -- The refusals of an allocator's log: their numbers and their names.
 use Rattle.std.specs.Prelude.{ℕ, List, codes}
-use Rattle.cap_heap.specs.declared.refusal.HeapRefusal.{HeapRefusal}
-use Rattle.cap_heap.specs.declared.refusal.HeapRefusal.TheVariants.{BadHeader, LineTooLong, BadLine, Misplaced, Truncated, WrongCount}
-use Rattle.cap_heap.specs.declared.refusal.HeapRefusal.TheVariants.{LimitPassed, AddressTaken, OutsideHeap, Overlaps, NotLive}
+use Rattle.cap_heap.specs.declared.refusal.HeapRefusal.{HeapRefusal, TheVariants.{BadHeader, LineTooLong, BadLine}}
+use Rattle.cap_heap.specs.declared.refusal.HeapRefusal.TheVariants.{Misplaced, Truncated, WrongCount, LimitPassed}
+use Rattle.cap_heap.specs.declared.refusal.HeapRefusal.TheVariants.{AddressTaken, OutsideHeap, Overlaps, NotLive}
 
 -- a refusal's number: those of a log of operations keep theirs (this profile's own)
 abbrev pub heap_refusal_number : HeapRefusal → ℕ

@@ -1,13 +1,9 @@
 -- The text of a verdict, by what its judge had read and the line that it refused (this profile's own).
 use Rattle.std.specs.Prelude.{◌≡◌, ℕ, Bool, true, false, List, ◌++◌}
 use Rattle.cap_texts.specs.ShownBytes.{shown_line}
-use Rattle.cap_heap.specs.declared.progress.Progress.{Progress}
-use Rattle.cap_heap.specs.declared.refusal.HeapRefusal.{HeapRefusal}
-use Rattle.cap_heap.specs.declared.verdict.HeapVerdict.{HeapVerdict}
-use Rattle.cap_heap.specs.declared.verdict.HeapVerdict.TheVariants.{Yes, No}
-use Rattle.cap_heap.specs.Beginnings.{Beginning, AreDetailsBehind}
-use Rattle.cap_heap.specs.HeapReports.{report_lines}
-use Rattle.cap_heap.specs.Progresses.{StandsFor}
+use Rattle.cap_heap.specs.declared.{progress.Progress.Progress, refusal.HeapRefusal.HeapRefusal}
+use Rattle.cap_heap.specs.declared.verdict.HeapVerdict.{HeapVerdict, TheVariants.{Yes, No}}
+use Rattle.cap_heap.specs.{Beginnings.{Beginning, AreDetailsBehind}, HeapReports.report_lines, Progresses.StandsFor}
 use Rattle.cap_heap.specs.VerdictLines.{heap_line}
 
 -- what is told of a line that was refused

@@ -1,17 +1,12 @@
 -- The line of a verdict on an allocator's log, and what a judge that writes it answers and writes (this profile's own,
 -- as are all below).
 use Rattle.std.specs.Prelude.{◌≡◌, ℕ, Bool, true, false, List, [], ◌++◌, take, codes, decimal, Result, Ok, Err}
-use Rattle.cap_heap.specs.declared.verdict.HeapVerdict.{HeapVerdict}
-use Rattle.cap_heap.specs.declared.verdict.HeapVerdict.TheVariants.{Yes, No}
-use Rattle.cap_log.specs.declared.judge_faults.JudgeFault.{JudgeFault}
+use Rattle.cap_log.specs.declared.judge_faults.JudgeToFault.{JudgeToFault, TheVariants.{Pull, NoMemory, Push}}
 use Rattle.cap_log.specs.declared.judge_faults.JudgeFault.TheVariants as faults
-use Rattle.cap_log.specs.declared.judge_faults.JudgeToFault.{JudgeToFault}
-use Rattle.cap_log.specs.declared.judge_faults.JudgeToFault.TheVariants.{Pull, NoMemory, Push}
+use Rattle.cap_heap.specs.declared.{report.HeapReport.HeapReport, verdict.HeapVerdict.HeapVerdict}
+use Rattle.cap_heap.specs.{declared.verdict.HeapVerdict.TheVariants.{Yes, No}, HeapReports.report_lines}
+use Rattle.cap_heap.specs.{HeapVerdicts.{IsHeapAnswerOf, Lasts, ReportsAfter}, HeapWhys.IsHeapReport}
 use Rattle.cap_heap.specs.Refusals.{heap_refusal_number, heap_refusal_name}
-use Rattle.cap_heap.specs.declared.report.HeapReport.{HeapReport}
-use Rattle.cap_heap.specs.HeapReports.{report_lines}
-use Rattle.cap_heap.specs.HeapVerdicts.{IsHeapAnswerOf, Lasts, ReportsAfter}
-use Rattle.cap_heap.specs.HeapWhys.{IsHeapReport}
 
 -- the verdict in words and decimal numbers, with its line feed
 abbrev pub heap_line : HeapVerdict → List ℕ

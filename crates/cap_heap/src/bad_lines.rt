@@ -2,10 +2,9 @@
 
 ghost use Rattle.std.specs.Prelude.{◌≡◌, ◌++◌, ℕ, List, ◌+◌, ◌≤◌, IfNone, IfSome, codes, false, length, true};
 ghost use Rattle.cap_log.specs.Parts.{Writes};
-ghost use Rattle.cap_texts.specs.TextLines.{text_line};
-ghost use Rattle.cap_texts.specs.WrongLines.{hint_line};
-ghost use Rattle.cap_heap.specs.BadLines.{AreBadLines, AreFirstLines, HasNoWrongWord, IsMachineHeader, IsNamed, IsWrongWord, fields_of};
-ghost use Rattle.cap_heap.specs.declared.bad_lines.Name.{Name};
+ghost use Rattle.cap_texts.specs.{TextLines.text_line, WrongLines.hint_line};
+ghost use Rattle.cap_heap.specs.{declared.bad_lines.Name.Name, BadLines.{AreBadLines, AreFirstLines, HasNoWrongWord}};
+ghost use Rattle.cap_heap.specs.BadLines.{IsMachineHeader, IsNamed, IsWrongWord, fields_of};
 
 use crate::reading::behind;
 use cap_log::buffers::put;

@@ -1,15 +1,13 @@
 //! A heap: the objects of an allocator that live.
 
-ghost use Rattle.std.specs.Prelude.{◌≡◌, ◌<◌, ◌≤◌, ◌+◌, ◌^◌, ℕ, true, false, Some, None, IfErr, IfNone, OnOk, OnErr, IsSome, MatchBool, MatchOption, [], ◌∷◌};
-ghost use Rattle.std.specs.Ordering.{nat_cmp};
+ghost use Rattle.std.specs.Prelude.{◌≡◌, ◌<◌, ◌+◌, ℕ, true, false, Some, None, IfErr, IfNone, OnOk, OnErr, IsSome};
+ghost use Rattle.std.specs.{Prelude.{MatchBool, MatchOption, [], ◌∷◌}, Ordering.nat_cmp};
 ghost use Rattle.std.specs.BTreeMap as tree;
 ghost use Rattle.std.specs.BTreeSet as set;
 ghost use Rattle.cap_bounds.specs.Rounding.{rounded_base, rounded_top};
-ghost use Rattle.cap_heap.specs.Objects.{IsApart, LieApart, Shares, no_objects};
+ghost use Rattle.cap_heap.specs.declared.events.{Event.TheVariants.{Malloc, Free}, EventEnd.TheVariants.NoMemory};
 ghost use Rattle.cap_heap.specs.Events.{CanHappen, HasRoom, IsEndOf, RefusesEvent, after_event, frees, mallocs};
-ghost use Rattle.cap_heap.specs.Kept.{kept, kept_count};
-ghost use Rattle.cap_heap.specs.declared.events.Event.TheVariants.{Malloc, Free};
-ghost use Rattle.cap_heap.specs.declared.events.EventEnd.TheVariants.{NoMemory};
+ghost use Rattle.cap_heap.specs.{Kept.kept, Objects.{IsApart, LieApart, Shares, no_objects}};
 
 use crate::events::{Event, EventEnd};
 use crate::neighbours::{first_from, last_below, reaching_down, reaching_up};

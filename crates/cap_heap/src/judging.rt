@@ -1,14 +1,10 @@
 //! The judge of an allocator's log.
 
-ghost use Rattle.std.specs.Prelude.{◌≡◌, ℕ, List, Err, None};
-ghost use Rattle.cap_log.specs.Streams.{CountsOnly};
-ghost use Rattle.cap_log.specs.Takings.{kept, over_of};
-ghost use Rattle.cap_heap.specs.Heaps.{live_in};
-ghost use Rattle.cap_heap.specs.HeapVerdicts.{HeapJudged};
-ghost use Rattle.cap_heap.specs.declared.stage.Stage.TheVariants.{Start};
+ghost use Rattle.std.specs.Prelude.{◌≡◌, Err};
+ghost use Rattle.cap_log.specs.{declared.judge_faults.JudgeFault.TheVariants.Pull, FaultLines.bytes_of};
+ghost use Rattle.cap_log.specs.{Streams.CountsOnly, Takings.kept};
+ghost use Rattle.cap_heap.specs.{declared.stage.Stage.TheVariants.Start, HeapVerdicts.HeapJudged, Heaps.live_in};
 ghost use Rattle.cap_heap.specs.Judgings.{JudgedBy, answer_at, finished_in, refused_in};
-ghost use Rattle.cap_log.specs.FaultLines.{bytes_of};
-ghost use Rattle.cap_log.specs.declared.judge_faults.JudgeFault.TheVariants.{Pull};
 
 use crate::events::EventEnd;
 use crate::progress::Progress;

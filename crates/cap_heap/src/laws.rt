@@ -2,11 +2,9 @@
 
 ghost use Rattle.std.specs.Prelude.{ℕ, List, ◌↔◌};
 ghost use Rattle.cap_bounds.specs.declared.decoding.Interval.{Interval};
-ghost use Rattle.cap_heap.specs.declared.events.Event.{Event};
-ghost use Rattle.cap_heap.specs.declared.lines.HeapLine.{HeapLine};
-ghost use Rattle.cap_heap.specs.declared.refusal.HeapRefusal.{HeapRefusal};
-ghost use Rattle.cap_heap.specs.Objects.{CanBeGuarded, IsApart};
+ghost use Rattle.cap_heap.specs.declared.{events.Event.Event, lines.HeapLine.HeapLine, refusal.HeapRefusal.HeapRefusal};
 ghost use Rattle.cap_heap.specs.HeapLogs.{IsFirstHeapFault, IsHeapLogOf, heap_text_of};
+ghost use Rattle.cap_heap.specs.Objects.{CanBeGuarded, IsApart};
 
 /// Whatever the lines: they are a log at each moment of which the rounded bounds of the live objects lie inside the
 /// root and apart, exactly where they are one at each moment of which sound words can be given so.

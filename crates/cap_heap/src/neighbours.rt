@@ -1,7 +1,6 @@
 //! The neighbours of an address in an ordered map.
 
-ghost use Rattle.std.specs.Prelude.{◌≡◌, ◌<◌, ◌≤◌, ◌^◌, ℕ, IfSome, MatchOption, Some};
-ghost use Rattle.std.specs.Ordering.{nat_cmp};
+ghost use Rattle.std.specs.{Prelude.{◌≡◌, ◌<◌, ◌≤◌, ◌^◌, ℕ, IfSome, MatchOption, Some}, Ordering.nat_cmp};
 ghost use Rattle.std.specs.BTreeMap as tree;
 ghost use Rattle.cap_bounds.specs.Rounding.{rounded_base, rounded_top};
 ghost use Rattle.cap_heap.specs.Neighbours.{IsFirstFrom, IsLastBelow};

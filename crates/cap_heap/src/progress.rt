@@ -1,12 +1,10 @@
 //! The progress of a judge, line by line.
 
-ghost use Rattle.std.specs.Prelude.{◌≡◌, ◌++◌, ◌∷◌, [], ℕ, List, OnOk, IfErr, OnErr};
+ghost use Rattle.std.specs.Prelude.{◌≡◌, ◌++◌, ◌∷◌, [], List, OnOk, IfErr, OnErr};
 ghost use Rattle.cap_bounds.specs.declared.decoding.Interval.{Interval};
-ghost use Rattle.cap_heap.specs.declared.events.Event.{Event};
-ghost use Rattle.cap_heap.specs.declared.lines.HeapLine.TheVariants.{Happens, End};
+ghost use Rattle.cap_heap.specs.declared.{events.Event.Event, lines.HeapLine.TheVariants.{Happens, End}};
+ghost use Rattle.cap_heap.specs.{Beginnings.{Beginning, due_of, lines_of}, HeapLines.IsHeapLineInRange};
 ghost use Rattle.cap_heap.specs.declared.stage.Stage.TheVariants as stages;
-ghost use Rattle.cap_heap.specs.HeapLines.{IsHeapLineInRange};
-ghost use Rattle.cap_heap.specs.Beginnings.{Beginning, due_of, lines_of};
 
 use crate::events::{Event, EventEnd};
 use crate::heap::Heap;
@@ -32,9 +30,9 @@ pub(crate) struct Progress {
 }
 
 impl Progress {
-    ghost use Rattle.cap_heap.specs.Progresses.{EndsLine, EndsText, Reaches, StandsFor, Stays, Takes, TakesText};
     ghost use Rattle.std.specs.Prelude.{◌≤◌, length};
     ghost use Rattle.cap_heap.specs.HeapWhys.{count_in, due_text};
+    ghost use Rattle.cap_heap.specs.Progresses.{EndsLine, EndsText, Reaches, StandsFor, Stays, Takes, TakesText};
 
     /// Nothing was read.
     pub fn new(alloc: Global) -> Progress

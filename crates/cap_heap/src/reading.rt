@@ -4,11 +4,9 @@ ghost use Rattle.std.specs.Prelude.{◌≡◌, ◌<◌, ◌≤◌, ◌^◌, ◌+
 ghost use Rattle.cap_word.specs.Digits.{hex_digits};
 ghost use Rattle.cap_bounds.specs.declared.decoding.Interval.{Interval};
 ghost use Rattle.cap_log.specs.declared.lines.Line.TheVariants.{End as Ending};
-ghost use Rattle.cap_heap.specs.HeapLines.{SpellsHeapLine};
-ghost use Rattle.cap_heap.specs.declared.events.Event.{Event};
-ghost use Rattle.cap_heap.specs.declared.events.Event.TheVariants.{Malloc, Free};
-ghost use Rattle.cap_heap.specs.declared.lines.HeapLine.{HeapLine};
+ghost use Rattle.cap_heap.specs.declared.{events.Event.{Event, TheVariants.{Malloc, Free}}, lines.HeapLine.HeapLine};
 ghost use Rattle.cap_heap.specs.declared.lines.HeapLine.TheVariants.{Header, Root, Happens, End};
+ghost use Rattle.cap_heap.specs.HeapLines.{SpellsHeapLine};
 
 use crate::events::Event;
 use crate::lines::HeapLine;

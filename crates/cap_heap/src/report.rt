@@ -1,10 +1,10 @@
 //! What the objects of a log reach, and what exact bounds would cost.
 
-ghost use Rattle.std.specs.Prelude.{◌≡◌, ◌+◌, ◌-◌, ◌^◌, ◌<◌, ◌≤◌, min, length, take, drop, ◌++◌};
+ghost use Rattle.std.specs.Prelude.{◌≡◌, ◌+◌, ◌-◌, ◌^◌, ◌<◌, ◌≤◌, length};
 ghost use Rattle.cap_bounds.specs.Rounding.{alignment_of};
 ghost use Rattle.cap_log.specs.Parts.{Writes};
-ghost use Rattle.cap_heap.specs.HeapReports.{capped, excess_of, gap_of, padding_of, report_lines};
 ghost use Rattle.cap_heap.specs.declared.events.Event.TheVariants.{Malloc};
+ghost use Rattle.cap_heap.specs.HeapReports.{capped, excess_of, gap_of, padding_of, report_lines};
 
 use cap_bounds::{align_mask, round, round_length};
 use cap_texts::text_lines::put_decimal_line;
@@ -28,8 +28,8 @@ pub struct HeapReport {
 }
 
 impl HeapReport {
-    ghost use Rattle.cap_heap.specs.HeapReports.{Adds, IsReportOf};
     ghost use Rattle.std.specs.Prelude.{[]};
+    ghost use Rattle.cap_heap.specs.HeapReports.{Adds, IsReportOf};
 
     /// The report of no events.
     pub(crate) fn new() -> HeapReport

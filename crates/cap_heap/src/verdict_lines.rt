@@ -1,8 +1,8 @@
 //! The line of a verdict, and its exit status.
 
 ghost use Rattle.std.specs.Prelude.{◌≡◌, ◌≤◌, length, take, drop};
-ghost use Rattle.cap_heap.specs.VerdictLines.{heap_line, heap_status};
 ghost use Rattle.cap_heap.specs.declared.verdict.HeapVerdict.TheVariants.{Yes, No};
+ghost use Rattle.cap_heap.specs.VerdictLines.{heap_line, heap_status};
 
 use crate::refusal::HeapRefusal;
 use crate::verdict::HeapVerdict;

@@ -2,11 +2,11 @@
 
 ghost use Rattle.std.specs.Prelude.{◌≡◌, ℕ, List, ◌+◌, ◌≤◌, length};
 ghost use Rattle.cap_log.specs.Parts.{Writes};
-ghost use Rattle.cap_heap.specs.Heaps.{objects_in};
-ghost use Rattle.cap_heap.specs.Beginnings.{AreDetailsBehind, Beginning, due_of, lines_of};
-ghost use Rattle.cap_heap.specs.HeapWhys.{AreEventDetails, apart_lines, count_in, count_line, counted_lines, due_line, live_lines, live_right_lines, request_lines, right_lines, share_bytes};
-ghost use Rattle.cap_heap.specs.Progresses.{AreEventDetailsIn, StandsFor};
 ghost use Rattle.cap_heap.specs.declared.events.Event.TheVariants.{Malloc};
+ghost use Rattle.cap_heap.specs.Beginnings.{AreDetailsBehind, Beginning, due_of, lines_of};
+ghost use Rattle.cap_heap.specs.HeapWhys.{AreEventDetails, apart_lines, count_in, count_line, counted_lines, due_line};
+ghost use Rattle.cap_heap.specs.HeapWhys.{live_lines, live_right_lines, request_lines, right_lines, share_bytes};
+ghost use Rattle.cap_heap.specs.{Heaps.objects_in, Progresses.{AreEventDetailsIn, StandsFor}};
 
 use crate::bad_lines::{put_bad_header, put_bad_line};
 use crate::events::Event;

@@ -1,32 +1,18 @@
 -- Which first faults are refused by BoundsEscape.
-use Rattle.std.proofs.Common.{◌≡◌, ◌↔◌, ℕ, inl, inr, Bool, true, false, List, [], ◌∷◌, refl, sym, ap, subst, ◌∙◌, Some, Result, Ok, Err}
-use Rattle.std.proofs.Common.{IfOk}
-use Rattle.std.proofs.lemmas.Bool.{false≢true}
-use Rattle.std.proofs.lemmas.Option.{same_Some}
-use Rattle.cap_log.specs.declared.lines.Line.{Line}
-use Rattle.cap_log.specs.declared.lines.Line.TheVariants as lines
-use Rattle.cap_log.specs.declared.kinds.Step.{Step}
-use Rattle.cap_log.specs.Front.{FrontIs, IsLine}
-use Rattle.cap_log.proofs.FrontLemmas.{IsLine-same, IsLine-not_too_long, IsLine-not_cut}
-use Rattle.cap_log.proofs.SpellingLemmas.{one_spelling}
-use Rattle.cap_ops.specs.Checks.{first_of}
-use Rattle.cap_ops.specs.declared.refusal.Refusal.{Refusal}
-use Rattle.cap_ops.specs.declared.refusal.Refusal.TheVariants.{BoundsEscape, LimitPassed, LineTooLong, Misplaced, PlaceTaken, Truncated}
-use Rattle.cap_ops.specs.declared.refusal.Refusal.TheVariants.{UnsoundRoot, WrongCount, WrongResult}
-use Rattle.cap_machine.specs.declared.rules.Rules.{Rules}
-use Rattle.cap_machine.specs.States.{DeclaredRoot, start}
-use Rattle.cap_machine.specs.Accounts.{Account, step_checks}
-use Rattle.cap_machine.specs.Parents.{IsSoundState}
-use Rattle.cap_machine.specs.Escapes.{Escapes}
-use Rattle.cap_machine.proofs.AuthorityLemmas.{sound_along, start_sound}
-use Rattle.cap_machine.proofs.EscapeLemmas.{escapes_first}
-use Rattle.cap_judge.specs.declared.verdict.Verdict.{Verdict}
-use Rattle.cap_judge.specs.declared.verdict.Verdict.TheVariants.{Yes, No}
-use Rattle.cap_judge.specs.Logs.{Beginning, Empty, NoMode, Body, Whole, SpellsBy, account_after, line_checks, IsAccepted, RunsBy}
-use Rattle.cap_judge.specs.Logs.{RefusesLine, Refuses}
-use Rattle.cap_judge.specs.Verdicts.{EscapesExactly, FaultEscapes, NamesEscapes}
-use Rattle.cap_judge.proofs.LogLemmas.{last_state}
-use Rattle.cap_judge.proofs.JudgeLemmas.{are_sound, behind_header, steps_in_range}
+use Rattle.std.proofs.Common.{◌≡◌, ◌↔◌, ℕ, inl, inr, Bool, true, false, List, [], ◌∷◌, refl, sym, ap, subst, ◌∙◌, Some}
+use Rattle.std.proofs.{Common.{Result, Ok, Err, IfOk}, lemmas.{Bool.{false≢true}, Option.same_Some}}
+use Rattle.cap_ops.specs.declared.refusal.Refusal.{Refusal, TheVariants.{BoundsEscape, LimitPassed, LineTooLong}}
+use Rattle.cap_ops.specs.declared.refusal.Refusal.TheVariants.{Misplaced, PlaceTaken, Truncated, UnsoundRoot}
+use Rattle.cap_ops.specs.{declared.refusal.Refusal.TheVariants.{WrongCount, WrongResult}, Checks.first_of}
+use Rattle.cap_log.specs.{declared.{kinds.Step.Step, lines.Line.Line}, Front.{FrontIs, IsLine}}
+use Rattle.cap_log.proofs.{FrontLemmas.{IsLine-same, IsLine-not_too_long, IsLine-not_cut}, SpellingLemmas.one_spelling}
+use Rattle.cap_machine.specs.{declared.rules.Rules.Rules, Accounts.{Account, step_checks}, Escapes.Escapes}
+use Rattle.cap_machine.specs.{Parents.IsSoundState, States.{DeclaredRoot, start}}
+use Rattle.cap_machine.proofs.{AuthorityLemmas.{sound_along, start_sound}, EscapeLemmas.escapes_first}
+use Rattle.cap_judge.specs.{declared.verdict.Verdict.{Verdict, TheVariants.{Yes, No}}, Logs.{Beginning, Empty, NoMode}}
+use Rattle.cap_judge.specs.Logs.{Body, Whole, SpellsBy, account_after, line_checks, IsAccepted, RunsBy, RefusesLine}
+use Rattle.cap_judge.specs.{Logs.Refuses, Verdicts.{EscapesExactly, FaultEscapes, NamesEscapes}}
+use Rattle.cap_judge.proofs.{JudgeLemmas.{are_sound, behind_header, steps_in_range}, LogLemmas.last_state}
 
 -- every tagged word of what accepted roots and steps lead to is sound
 account_sound : (rules_are : Rules) (roots : List DeclaredRoot) (steps : List Step) → RunsBy rules_are roots steps
@@ -58,10 +44,10 @@ end_test false refusal h = cc
 
 pub is_step : (account : Account) (line : Line) (refusal : Refusal) → is_of_step refusal ≡ true
     → first_of (line_checks account line) ≡ Some refusal
-    → (step : Step) × (line ≡ lines.Step step) × (first_of (step_checks account step) ≡ Some refusal)
-is_step account (lines.Step step) refusal own h = (step, refl, h)
-is_step account (lines.Root place word) refusal own h = absurd (false≢true (sym (root_test _ _ _ _ refusal h) ∙ own))
-is_step account (lines.End count) refusal own h = absurd (false≢true (sym (end_test _ refusal h) ∙ own))
+    → (step : Step) × (line ≡ Line.Step step) × (first_of (step_checks account step) ≡ Some refusal)
+is_step account (Line.Step step) refusal own h = (step, refl, h)
+is_step account (Line.Root place word) refusal own h = absurd (false≢true (sym (root_test _ _ _ _ refusal h) ∙ own))
+is_step account (Line.End count) refusal own h = absurd (false≢true (sym (end_test _ refusal h) ∙ own))
 is_step account line refusal own h = absurd (false≢true (ap is_of_step (same_Some Misplaced refusal h) ∙ own))
 
 -- and before the body nothing is
@@ -74,7 +60,7 @@ never_front rest refusal P own whole (inr (inr line)) = false≢true (sym (whole
 -- what a whole line is refused for
 refused_escapes : (account : Account) (rest text more : List ℕ) (refusal : Refusal) → IsSoundState account.state → IsLine rest text more
     → RefusesLine account text refusal → refusal ≡ BoundsEscape
-    → (bytes : List ℕ) × (after : List ℕ) × (step : Step) × IsLine rest bytes after × SpellsBy account.rules bytes (lines.Step step)
+    → (bytes : List ℕ) × (after : List ℕ) × (step : Step) × IsLine rest bytes after × SpellsBy account.rules bytes (Line.Step step)
     × Escapes account.rules account.state step
 refused_escapes account rest text more refusal sound whole (inl none) h = absurd (let bad = none.1 in cc)
 refused_escapes account rest text more refusal sound whole (inr found) h =
@@ -84,11 +70,11 @@ refused_escapes account rest text more refusal sound whole (inr found) h =
 
 -- and what a step that asks for too much is refused for
 escape_refused : (account : Account) (text : List ℕ) (step : Step) (refusal : Refusal) → IsSoundState account.state
-    → SpellsBy account.rules text (lines.Step step)
+    → SpellsBy account.rules text (Line.Step step)
     → Escapes account.rules account.state step → RefusesLine account text refusal → refusal ≡ BoundsEscape
-escape_refused account text step refusal sound spelled escapes (inl none) = absurd (none.0 (lines.Step step) spelled)
+escape_refused account text step refusal sound spelled escapes (inl none) = absurd (none.0 (Line.Step step) spelled)
 escape_refused account text step refusal sound spelled escapes (inr found) =
-    let same = one_spelling text found.0 (lines.Step step) found.1.0 spelled.0 in
+    let same = one_spelling text found.0 (Line.Step step) found.1.0 spelled.0 in
     let first = (escapes_first account step spelled.0.0 sound).1 escapes in
     same_Some _ _ (sym found.2 ∙ ap (λ (line : Line). first_of (line_checks account line)) same ∙ first)
 
@@ -105,7 +91,7 @@ body_escapes rules_are roots steps rest refusal runs (inr (inr line)) =
       λ h. refused_escapes account rest line.0 line.1 refusal sound line.2 line.3 h,
       λ escapes.
           let same = IsLine-same rest escapes.0 escapes.1 line.0 line.1 escapes.3 line.2 in
-          escape_refused account line.0 escapes.2 refusal sound (subst (λ (t : List ℕ). SpellsBy account.rules t (lines.Step escapes.2))
+          escape_refused account line.0 escapes.2 refusal sound (subst (λ (t : List ℕ). SpellsBy account.rules t (Line.Step escapes.2))
           same.0 escapes.4) escapes.5 line.3,
     )
 

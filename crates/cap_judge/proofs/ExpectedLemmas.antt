@@ -1,43 +1,25 @@
 -- What the rules give for a step that is refused for its result.
-use Rattle.std.proofs.Common.{◌≡◌, ◌≢◌, ℕ, inl, inr, Bool, true, false, not, List, [], ◌∷◌, ◌++◌, refl, sym, ap, subst, ◌∙◌}
-use Rattle.std.proofs.Common.{Option, Some, None, append-nil, append_assoc}
-use Rattle.std.proofs.lemmas.Bool.{false≢true}
+use Rattle.std.proofs.Common.{◌≡◌, ◌≢◌, ℕ, inl, inr, Bool, true, false, not, List, [], ◌∷◌, ◌++◌, refl, sym, ap, subst}
+use Rattle.std.proofs.{Common.{◌∙◌, Option, Some, None, append-nil, append_assoc}, lemmas.Bool.{false≢true}}
 use Rattle.std.proofs.lemmas.Option.{none-some}
 use Rattle.cap_word.specs.declared.word.Cap.{Cap}
-use Rattle.cap_log.specs.declared.lines.Line.{Line}
-use Rattle.cap_log.specs.declared.lines.Line.TheVariants as lines
-use Rattle.cap_log.specs.declared.lines.Place.{Place}
-use Rattle.cap_log.specs.declared.kinds.Step.{Step}
-use Rattle.cap_log.specs.declared.kinds.Step.TheVariants as steps
-use Rattle.cap_log.specs.Front.{IsLine}
-use Rattle.cap_log.proofs.SpellingLemmas.{one_spelling}
-use Rattle.cap_log.specs.Lines.{Spells}
-use Rattle.cap_log.proofs.FrontLemmas.{IsLine-same, IsLine-not_too_long}
+use Rattle.cap_ops.specs.{declared.refusal.Refusal.{Refusal, TheVariants.{WrongResult, LimitPassed}}, Checks.first_of}
 use Rattle.cap_ops.specs.Operations.{clear_result}
-use Rattle.cap_ops.proofs.ClearLemmas.{clear_result-none}
-use Rattle.cap_ops.specs.Checks.{first_of}
-use Rattle.cap_ops.proofs.TestLemmas.{first_of-append}
-use Rattle.cap_machine.proofs.EscapeLemmas.{never_wrong}
-use Rattle.cap_ops.specs.declared.refusal.Refusal.{Refusal}
-use Rattle.cap_ops.specs.declared.refusal.Refusal.TheVariants.{WrongResult, LimitPassed}
-use Rattle.cap_machine.specs.declared.rules.Rules.{Rules}
-use Rattle.cap_machine.specs.declared.rules.Rules.TheVariants.{TwoClear}
-use Rattle.cap_machine.specs.States.{State, DeclaredRoot}
-use Rattle.cap_machine.specs.Steps.{Access, Recorded, Row, Nothing as Unrecorded, ReadNumber, Written, clear_row, row_by, row_of}
-use Rattle.cap_machine.proofs.StepLemmas.{is_recorded}
-use Rattle.cap_machine.specs.Shown.{given_by, given_for as shown_for}
-use Rattle.cap_machine.specs.Accounts.{Account, row_in, step_checks}
-use Rattle.cap_judge.specs.declared.verdict.Expected.{Expected}
-use Rattle.cap_judge.specs.declared.verdict.Expected.TheVariants.{Capability, Number}
+use Rattle.cap_ops.proofs.{ClearLemmas.clear_result-none, TestLemmas.first_of-append}
+use Rattle.cap_log.specs.{declared.{kinds.Step.Step, lines.{Line.Line, Place.Place}}, Front.IsLine, Lines.Spells}
+use Rattle.cap_log.proofs.{FrontLemmas.{IsLine-same, IsLine-not_too_long}, SpellingLemmas.one_spelling}
+use Rattle.cap_machine.specs.declared.rules.Rules.{Rules, TheVariants.TwoClear}
+use Rattle.cap_machine.specs.{Accounts.{Account, row_in, step_checks}, Shown.{given_by, given_for as shown_for}}
+use Rattle.cap_machine.specs.{States.{State, DeclaredRoot}, Steps.{Access, Recorded, Row, Nothing as Unrecorded}}
+use Rattle.cap_machine.specs.Steps.{ReadNumber, Written, clear_row, row_by, row_of}
+use Rattle.cap_machine.proofs.{EscapeLemmas.never_wrong, StepLemmas.is_recorded}
+use Rattle.cap_judge.specs.declared.verdict.Expected.{Expected, TheVariants.{Capability, Number}}
 use Rattle.cap_judge.specs.declared.verdict.Verdict.TheVariants.{No}
-use Rattle.cap_judge.specs.Logs.{Beginning, Body, Whole, Refuses, account_after, body_lines, IsAccepted}
-use Rattle.cap_judge.specs.Logs.{RunsBy, lines_of, text_of}
-use Rattle.cap_judge.specs.Judgings.{IsBehind, IsLastFront, account_before}
 use Rattle.cap_judge.specs.Expectations.{Expects, ExpectsAt, IsExpected, GivesFor, GivesForText, expected_of, given_in}
-use Rattle.cap_judge.specs.Readings.{IsAtFault, IsReached, IsRest}
-use Rattle.cap_judge.specs.Turns.{Due, Refused, Stage}
-use Rattle.cap_judge.proofs.EscapeLaws.{is_of_step, is_step, never_front}
-use Rattle.cap_judge.proofs.OneVerdict.{one_verdict}
+use Rattle.cap_judge.specs.{Judgings.{IsBehind, IsLastFront, account_before}, Logs.{Beginning, Body, Whole, Refuses}}
+use Rattle.cap_judge.specs.Logs.{account_after, body_lines, IsAccepted, RunsBy, lines_of, text_of}
+use Rattle.cap_judge.specs.{Readings.{IsAtFault, IsReached, IsRest}, Turns.{Due, Refused, Stage}}
+use Rattle.cap_judge.proofs.{EscapeLaws.{is_of_step, is_step, never_front}, OneVerdict.one_verdict}
 use Rattle.cap_judge.proofs.TurnLaws.{begins, fault_stands, nothing_left, some_bytes}
 
 other_recorded : (recorded limit : Bool) → first_of ((not recorded, WrongResult) ∷ (limit, LimitPassed) ∷ [])
@@ -62,7 +44,7 @@ ReadsThrough writes (ReadNumber recorded in_memory) access = ⊥
 ReadsThrough writes records access = Unit {0}
 
 reads_through : (state : State) (step : Step) → let row = row_of state step in ReadsThrough row.writes row.records row.access
-reads_through state (steps.Load step) = tt
+reads_through state (Step.Load step) = tt
 reads_through state step = tt
 
 -- what is shown of a row is what the rules give, where no test of it holds and its line records another result
@@ -122,14 +104,14 @@ gives_shown account step =
 
 -- which step a text spells
 abbrev OfLine : Account → Line → Option Expected → Type 0
-OfLine account (lines.Step step) result = GivesFor account step result
+OfLine account (Line.Step step) result = GivesFor account step result
 OfLine account line result = Unit {0}
 
-pub for_text : (account : Account) (text : List ℕ) (step : Step) (result : Option Expected) → Spells text (lines.Step step)
+pub for_text : (account : Account) (text : List ℕ) (step : Step) (result : Option Expected) → Spells text (Line.Step step)
     → GivesFor account step result
     → GivesForText account text result
 for_text account text step result spells gives other spelled =
-    subst (λ (l : Line). OfLine account l result) (one_spelling text (lines.Step step) (lines.Step other) spells spelled) gives
+    subst (λ (l : Line). OfLine account l result) (one_spelling text (Line.Step step) (Line.Step other) spells spelled) gives
 
 -- The first fault
 
@@ -194,7 +176,7 @@ body_expects rules_are roots steps_are rest bytes text result is runs (inr (inr 
       refused = one.2;
       given = given;
     })
-    one.2 (gives one.0 (subst (λ (t : List ℕ). Spells t (lines.Step one.0)) (sym (text_is rest text line more front whole)) spells))
+    one.2 (gives one.0 (subst (λ (t : List ℕ). Spells t (Line.Step one.0)) (sym (text_is rest text line more front whole)) spells))
 
 -- before the body, and after the end line, nothing is refused so
 by_beginning : (account_is : Account) (beginning : Beginning) (rest bytes text : List ℕ) (result : Option Expected)
@@ -223,6 +205,6 @@ expects bytes account (Refused line refusal text) result is told =
 expects bytes account due result is told = subst (Expects bytes) (sym told) (none_expected bytes _ is (λ f. f))
 
 -- and no other line
-pub not_spelled : (account : Account) (text : List ℕ) (line : Line) → Spells text line → ((step : Step) → line ≡ lines.Step step → ⊥)
+pub not_spelled : (account : Account) (text : List ℕ) (line : Line) → Spells text line → ((step : Step) → line ≡ Line.Step step → ⊥)
     → GivesForText account text None
-not_spelled account text line spells other = λ step spelled wrong. other step (one_spelling text line (lines.Step step) spells spelled)
+not_spelled account text line spells other = λ step spelled wrong. other step (one_spelling text line (Line.Step step) spells spelled)

@@ -1,21 +1,14 @@
 -- Where a judge stopped is at the first fault: its machine holds what the lines before that lead to, and it holds the text of that line.
-use Rattle.std.proofs.Common.{◌≡◌, ℕ, ◌+◌, inl, inr, Bool, true, List, [], ◌∷◌, ◌++◌, length, refl, sym, ap, subst, ◌∙◌, append-nil}
-use Rattle.std.proofs.Common.{append_assoc, arith}
 use Rattle.std.specs.List.{AllByRecursion}
-use Rattle.std.proofs.lemmas.List.{take-append-le}
-use Rattle.cap_log.specs.declared.lines.Line.{Line}
-use Rattle.cap_log.specs.Lines.{IsInRange}
-use Rattle.cap_log.proofs.FrontLemmas.{IsLine-more, IsTooLong-more}
+use Rattle.std.proofs.Common.{◌≡◌, ℕ, ◌+◌, inl, inr, Bool, true, List, [], ◌∷◌, ◌++◌, length, refl, sym, ap, subst, ◌∙◌}
+use Rattle.std.proofs.{Common.{append-nil, append_assoc, arith}, lemmas.List.take-append-le}
 use Rattle.cap_ops.specs.declared.refusal.Refusal.{Refusal}
-use Rattle.cap_machine.specs.Accounts.{Account}
-use Rattle.cap_machine.specs.Helds.{Held, account_of}
-use Rattle.cap_judge.specs.declared.verdict.Verdict.TheVariants.{No}
-use Rattle.cap_judge.specs.Logs.{Beginning, lines_of, text_of, IsFirstFault}
-use Rattle.cap_judge.specs.Judgings.{IsBehind, IsVerdictOf, account_before, IsLastFront, StopsBefore}
-use Rattle.cap_log.specs.Front.{IsFrontText}
-use Rattle.cap_judge.proofs.LogLemmas.{accepted_in_range}
-use Rattle.cap_judge.proofs.OneVerdict.{text_cons, same_front}
-use Rattle.cap_judge.proofs.InTurn.{same_beginning}
+use Rattle.cap_log.specs.{declared.lines.Line.Line, Front.IsFrontText, Lines.IsInRange}
+use Rattle.cap_log.proofs.FrontLemmas.{IsLine-more, IsTooLong-more}
+use Rattle.cap_machine.specs.{Accounts.Account, Helds.{Held, account_of}}
+use Rattle.cap_judge.specs.{declared.verdict.Verdict.TheVariants.No, Judgings.{IsBehind, IsVerdictOf, account_before}}
+use Rattle.cap_judge.specs.{Judgings.{IsLastFront, StopsBefore}, Logs.{Beginning, lines_of, text_of, IsFirstFault}}
+use Rattle.cap_judge.proofs.{InTurn.same_beginning, LogLemmas.accepted_in_range, OneVerdict.{text_cons, same_front}}
 use Rattle.cap_judge.proofs.SourceLemmas.{whole_verdict}
 
 -- as many lines at the front of the same bytes are the same

@@ -1,15 +1,11 @@
 -- What was followed, and more behind it.
-use Rattle.std.proofs.Common.{◌≡◌, ℕ, inl, inr, List, [], ◌∷◌, ◌++◌, sym, ap, subst, ◌∙◌, append_assoc, false, None, Some}
-use Rattle.std.proofs.lemmas.Bool.{false≢true}
-use Rattle.std.proofs.lemmas.Option.{none-some}
-use Rattle.std.proofs.lemmas.List.{take-append-le}
-use Rattle.cap_log.proofs.FrontLemmas.{IsLine-more, IsTooLong-more}
+use Rattle.std.proofs.Common.{◌≡◌, ℕ, inl, inr, List, [], ◌∷◌, ◌++◌, sym, ap, subst, ◌∙◌, append_assoc, false, None}
+use Rattle.std.proofs.{Common.Some, lemmas.{Bool.{false≢true}, List.take-append-le, Option.none-some}}
+use Rattle.cap_ops.specs.declared.refusal.Refusal.{Refusal, TheVariants.Misplaced}
 use Rattle.cap_log.specs.declared.lines.Line.{Line}
-use Rattle.cap_ops.specs.declared.refusal.Refusal.{Refusal}
-use Rattle.cap_ops.specs.declared.refusal.Refusal.TheVariants.{Misplaced}
+use Rattle.cap_log.proofs.FrontLemmas.{IsLine-more, IsTooLong-more}
 use Rattle.cap_machine.specs.Accounts.{Account}
-use Rattle.cap_judge.specs.Judgings.{IsLastFront}
-use Rattle.cap_judge.specs.Readings.{Faults, Follows, Goes, IsAtFault, RefusesNext}
+use Rattle.cap_judge.specs.{Judgings.IsLastFront, Readings.{Faults, Follows, Goes, IsAtFault, RefusesNext}}
 use Rattle.cap_judge.specs.Turns.{Due, Reads, Refused, Stage, refusal_at}
 use Rattle.cap_judge.proofs.TurnLemmas.{goes_on}
 

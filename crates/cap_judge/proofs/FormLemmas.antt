@@ -1,8 +1,6 @@
 -- Which lines have a form by the rules.
-use Rattle.std.proofs.Common.{◌≡◌, false, List, sym, ap, ◌∙◌, ℕ}
-use Rattle.std.proofs.lemmas.Bool.{false≢true}
-use Rattle.cap_log.specs.declared.lines.Line.{Line}
-use Rattle.cap_log.specs.Lines.{Spells}
+use Rattle.std.proofs.{Common.{◌≡◌, false, List, sym, ap, ◌∙◌, ℕ}, lemmas.Bool.{false≢true}}
+use Rattle.cap_log.specs.{declared.lines.Line.Line, Lines.Spells}
 use Rattle.cap_log.proofs.SpellingLemmas.{one_spelling}
 use Rattle.cap_machine.specs.declared.rules.Rules.{Rules}
 use Rattle.cap_judge.specs.Logs.{SpellsBy, has_form}

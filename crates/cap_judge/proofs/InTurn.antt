@@ -1,39 +1,29 @@
 -- Lines that are allowed in turn are those of a beginning that is accepted.
-use Rattle.std.proofs.Common.{◌≡◌, ◌↔◌, List, [], ◌∷◌, ◌++◌, length, map, refl, sym, subst, append_assoc, append-nil, ℕ, ◌+◌, ◌≤◌, inl, inr}
-use Rattle.std.proofs.Common.{true, not, nat_eq, ap, ◌∙◌, arith, eq-eqb, IsTrue, None, ◌==◌}
 use Rattle.std.specs.List.{AllByRecursion, IsDistinct}
-use Rattle.cap_log.specs.declared.lines.Line.{Line}
-use Rattle.cap_log.specs.declared.lines.Line.TheVariants.{Root, Step, End, Version, Mode}
-use Rattle.cap_log.specs.declared.kinds.Step as steps_module
-use Rattle.cap_log.specs.Lines.{IsInRange}
-use Rattle.cap_ops.proofs.TestLemmas.{none_hold}
-use Rattle.cap_machine.specs.declared.rules.Rules.{Rules}
-use Rattle.cap_machine.specs.declared.rules.Rules.TheVariants.{One, TwoStrict, TwoClear}
-use Rattle.cap_machine.specs.States.{DeclaredRoot, State, start, key_of, tagged}
-use Rattle.cap_machine.specs.Steps.{Leads}
-use Rattle.cap_machine.specs.Accounts.{Account, no_account, with_step, root_checks, most_roots, most_granules, most_steps, with_root}
-use Rattle.cap_machine.proofs.AccountLemmas.{account_after-grows, first_of-none, after_roots, with_root-grows, with_step-grows}
-use Rattle.cap_machine.proofs.AccountLemmas.{after_roots-grows, after_steps-grows, root_free, step_free, after_steps}
-use Rattle.cap_judge.specs.Logs.{Beginning, Empty, NoMode, Body, Whole, header_lines, body_lines, lines_of, account_after, RunsBy}
-use Rattle.cap_judge.specs.Logs.{IsAccepted, has_form, line_checks}
-use Rattle.cap_judge.specs.Judgings.{account_before}
-use Rattle.cap_judge.specs.Turns.{Allows, Body as BodyDue, Due, Ended, First, Reads, Second, Stage, behind, rules_of, unread}
-use Rattle.cap_judge.proofs.LogLemmas.{after_roots-push, after_steps-push, steps_push, roots_push, accepted_in_range, step_runs, root_runs}
-use Rattle.cap_judge.proofs.LogLemmas.{no_roots}
-use Rattle.std.proofs.lemmas.Bool.{false≢true, cond-false, eqb-false, false_from_ne_true, le-ltb, lt-ltb, not-false, eqb-true}
-use Rattle.std.proofs.lemmas.Bool.Decides.{eqb_tells}
+use Rattle.std.proofs.Common.{◌≡◌, ◌↔◌, List, [], ◌∷◌, ◌++◌, length, map, refl, sym, subst, append_assoc, append-nil, ℕ}
+use Rattle.std.proofs.Common.{◌+◌, ◌≤◌, inl, inr, true, not, nat_eq, ap, ◌∙◌, arith, eq-eqb, IsTrue, None, ◌==◌, le-ltb}
+use Rattle.std.proofs.{Common.{lt-ltb, eqb-true, if◌then◌else◌}, lemmas.Bool.{false≢true, cond-false, eqb-false}}
+use Rattle.std.proofs.lemmas.{Bool.{false_from_ne_true, not-false, Decides.eqb_tells}, Option.none-some}
+use Rattle.cap_word.specs.declared.word.{Cap.Cap, Word.Word}
 use Rattle.cap_bounds.specs.Bounds.{is_sound}
-use Rattle.cap_word.specs.declared.word.Cap.{Cap}
-use Rattle.cap_machine.specs.Runs.{IsRun}
-use Rattle.cap_machine.proofs.OriginLemmas.{keys, IsFree, roots_start}
-use Rattle.std.proofs.lemmas.Option.{none-some}
-use Rattle.cap_ops.specs.Checks.{first_of}
-use Rattle.cap_ops.specs.declared.refusal.Refusal.TheVariants.{BadLine, Misplaced}
-use Rattle.cap_log.specs.declared.lines.Mode.TheVariants.{Strict, Clear}
-use Rattle.cap_log.specs.declared.lines.Place.{Place}
-use Rattle.cap_word.specs.declared.word.Word.{Word}
-use Rattle.std.specs.Bool.{if◌then◌else◌}
-use Rattle.cap_judge.proofs.TurnLemmas.{Reads-append, body, by_checks}
+use Rattle.cap_ops.specs.{declared.refusal.Refusal.TheVariants.{BadLine, Misplaced}, Checks.first_of}
+use Rattle.cap_ops.proofs.TestLemmas.{none_hold}
+use Rattle.cap_log.specs.declared.lines.Line.{Line, TheVariants.{Root, Step, End, Version, Mode}}
+use Rattle.cap_log.specs.{declared.lines.{Mode.TheVariants.{Strict, Clear}, Place.Place}, Lines.IsInRange}
+use Rattle.cap_log.specs.declared.kinds.Step as steps_module
+use Rattle.cap_machine.specs.declared.rules.Rules.{Rules, TheVariants.{One, TwoStrict, TwoClear}}
+use Rattle.cap_machine.specs.Accounts.{Account, no_account, with_step, root_checks, most_roots, most_granules}
+use Rattle.cap_machine.specs.{Accounts.{most_steps, with_root}, Runs.IsRun}
+use Rattle.cap_machine.specs.{States.{DeclaredRoot, State, start, key_of, tagged}, Steps.Leads}
+use Rattle.cap_machine.proofs.AccountLemmas.{account_after-grows, first_of-none, after_roots, with_root-grows}
+use Rattle.cap_machine.proofs.AccountLemmas.{with_step-grows, after_roots-grows, after_steps-grows, root_free}
+use Rattle.cap_machine.proofs.{AccountLemmas.{step_free, after_steps}, OriginLemmas.{keys, IsFree, roots_start}}
+use Rattle.cap_judge.specs.{Judgings.account_before, Logs.{Beginning, Empty, NoMode, Body, Whole, header_lines}}
+use Rattle.cap_judge.specs.Logs.{body_lines, lines_of, account_after, RunsBy, IsAccepted, has_form, line_checks}
+use Rattle.cap_judge.specs.Turns.{Allows, Body as BodyDue, Due, Ended, First, Reads, Second, Stage, behind, rules_of}
+use Rattle.cap_judge.specs.Turns.{unread}
+use Rattle.cap_judge.proofs.LogLemmas.{after_roots-push, after_steps-push, steps_push, roots_push, accepted_in_range}
+use Rattle.cap_judge.proofs.{LogLemmas.{step_runs, root_runs, no_roots}, TurnLemmas.{Reads-append, body, by_checks}}
 
 -- Distinct roots
 

@@ -1,35 +1,19 @@
 -- Where the judge is, and what it may answer there.
-use Rattle.std.proofs.Common.{◌≡◌, ℕ, zero, suc, ◌+◌, true, List, [], ◌∷◌, ◌++◌, length, map, refl, sym, subst, append_assoc, arith, Result}
-use Rattle.std.proofs.Common.{Ok, Err, IsOk, IfErr}
 use Rattle.std.specs.List.{AllByRecursion}
-use Rattle.std.proofs.lemmas.Grind.{flat_map-append}
-use Rattle.std.proofs.lemmas.Bool.{false≢true, and_parts, eqb-true, leb-true}
-use Rattle.std.proofs.lemmas.Option.{none-some}
-use Rattle.std.specs.Prelude.{Option, Some, None, IsTrue}
+use Rattle.std.proofs.Common.{◌≡◌, ℕ, zero, suc, ◌+◌, true, List, [], ◌∷◌, ◌++◌, length, map, refl, sym, subst}
+use Rattle.std.proofs.Common.{append_assoc, arith, Result, Ok, Err, IsOk, IfErr, eqb-true, leb-true, Option, Some, None}
+use Rattle.std.proofs.{Common.IsTrue, lemmas.{Bool.{false≢true, and_parts}, Grind.flat_map-append, Option.none-some}}
 use Rattle.cap_bounds.specs.Bounds.{IsSound, is_sound}
-use Rattle.cap_log.specs.declared.lines.Line.{Line}
-use Rattle.cap_log.specs.declared.lines.Line.TheVariants as lines
-use Rattle.cap_log.specs.declared.kinds.Step.{Step}
-use Rattle.cap_log.specs.Lines.{spelling, IsInRange, IsStepInRange}
-use Rattle.cap_log.specs.Front.{FrontIs}
-use Rattle.cap_ops.specs.declared.refusal.Refusal.{Refusal}
-use Rattle.cap_ops.specs.declared.refusal.Refusal.TheVariants.{LineTooLong, Truncated}
-use Rattle.cap_machine.specs.States.{State, DeclaredRoot, start}
-use Rattle.cap_machine.specs.declared.rules.Rules.{Rules}
-use Rattle.cap_machine.specs.declared.rules.Rules.TheVariants.{One}
-use Rattle.cap_machine.specs.Accounts.{Account, is_new}
-use Rattle.cap_machine.specs.Runs.{AreSound, IsRun}
-use Rattle.cap_machine.proofs.AccessLemmas.{lie_inside}
-use Rattle.cap_machine.proofs.AuthorityLemmas.{one_root}
-use Rattle.cap_machine.proofs.EscapeLemmas.{clears_along}
-use Rattle.cap_judge.specs.declared.verdict.Verdict.{Verdict}
-use Rattle.cap_log.specs.declared.judge_faults.JudgeFault.{JudgeFault}
-use Rattle.cap_log.specs.declared.judge_faults.JudgeFault.TheVariants as faults
-use Rattle.cap_judge.specs.Logs.{Beginning, Whole, header_lines, body_lines, lines_of, text_of, account_after, RunsBy, RefusesWhole}
-use Rattle.cap_judge.specs.Logs.{Refuses, IsFirstFault, MayLackMemory, IsLogOf, NamesNoGranules, named_by_line}
-use Rattle.cap_machine.specs.Escapes.{ClearsExactly}
+use Rattle.cap_ops.specs.declared.refusal.Refusal.{Refusal, TheVariants.{LineTooLong, Truncated}}
+use Rattle.cap_log.specs.declared.{judge_faults.JudgeFault.JudgeFault, kinds.Step.Step, lines.Line.Line}
+use Rattle.cap_log.specs.{Front.FrontIs, Lines.{spelling, IsInRange, IsStepInRange}}
+use Rattle.cap_machine.specs.{declared.rules.Rules.{Rules, TheVariants.One}, Accounts.{Account, is_new}}
+use Rattle.cap_machine.specs.{Escapes.ClearsExactly, Runs.{AreSound, IsRun}, States.{State, DeclaredRoot, start}}
+use Rattle.cap_machine.proofs.{AccessLemmas.lie_inside, AuthorityLemmas.one_root, EscapeLemmas.clears_along}
+use Rattle.cap_judge.specs.{declared.verdict.Verdict.Verdict, Judgings.IsBehind, Logs.{Beginning, Whole, header_lines}}
+use Rattle.cap_judge.specs.Logs.{body_lines, lines_of, text_of, account_after, RunsBy, RefusesWhole, Refuses}
+use Rattle.cap_judge.specs.Logs.{IsFirstFault, MayLackMemory, IsLogOf, NamesNoGranules, named_by_line}
 use Rattle.cap_judge.specs.Verdicts.{IsYes, IsGuarded, NoVerdictIn}
-use Rattle.cap_judge.specs.Judgings.{IsBehind}
 
 -- one line more
 pub text_push : (lines : List Line) (line : Line) (rest : List ℕ)
@@ -91,12 +75,12 @@ no_lack bytes more none lack =
 -- a log without lines that name granules has a verdict
 pub answered : (bytes : List ℕ) (result : Result Verdict JudgeFault) → IfErr result (NoVerdictIn bytes) → NamesNoGranules bytes → IsOk result
 answered bytes (Ok verdict) fault none = refl
-answered bytes (Err faults.Pull) fault none = absurd fault
-answered bytes (Err faults.NoMemory) fault none = absurd (no_lack bytes fault.0 none fault.1)
+answered bytes (Err JudgeFault.Pull) fault none = absurd fault
+answered bytes (Err JudgeFault.NoMemory) fault none = absurd (no_lack bytes fault.0 none fault.1)
 
 -- the steps of lines in range are in range
 pub steps_in_range : (roots : List DeclaredRoot) (made : List Step)
-    → AllByRecursion IsInRange (map (λ (root : DeclaredRoot). lines.Root root.place root.word) roots ++ map lines.Step made)
+    → AllByRecursion IsInRange (map (λ (root : DeclaredRoot). Line.Root root.place root.word) roots ++ map Line.Step made)
     → AllByRecursion IsStepInRange made
 steps_in_range [] [] h = tt
 steps_in_range [] (step ∷ made) h = (h.0, steps_in_range [] made h.1)

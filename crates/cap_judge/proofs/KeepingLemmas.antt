@@ -1,12 +1,8 @@
 -- What a judge answers on all the bytes of a log.
 use Rattle.std.proofs.Common.{◌≡◌, List, ℕ, Result, Ok, Err, true}
+use Rattle.cap_log.specs.declared.judge_faults.JudgeFault.{JudgeFault, TheVariants.NoMemory}
 use Rattle.cap_machine.specs.Helds.{Held}
-use Rattle.cap_log.specs.declared.judge_faults.JudgeFault.{JudgeFault}
-use Rattle.cap_log.specs.declared.judge_faults.JudgeFault.TheVariants.{NoMemory}
-use Rattle.cap_judge.specs.declared.verdict.Verdict.{Verdict}
-use Rattle.cap_judge.specs.Judgings.{JudgedAll}
-use Rattle.cap_judge.specs.Logs.{MayLackMemory}
-use Rattle.cap_judge.specs.Readings.{EndsWith}
+use Rattle.cap_judge.specs.{declared.verdict.Verdict.Verdict, Judgings.JudgedAll, Logs.MayLackMemory, Readings.EndsWith}
 use Rattle.cap_judge.proofs.SourceLemmas.{answer_memory, answer_ok}
 
 -- the answer of a verdict

@@ -1,32 +1,26 @@
 -- Beginnings of a log with one line more, and that they run too where no test holds of it.
-use Rattle.std.proofs.Common.{◌≡◌, ℕ, Bool, true, false, ◌==◌, ◌||◌, nat_eq, List, [], ◌∷◌, ◌++◌, map, refl, sym, ap, ◌∙◌, append_assoc}
-use Rattle.std.proofs.Common.{◌+◌, ◌^◌, ◌<◌, ◌≤◌, not, ◌&&◌, nat_le, subst, arith, lit≤, inl, inr, Some, None, Option, IsTrue, length}
-use Rattle.std.specs.Bool.{if◌then◌else◌}
 use Rattle.std.specs.List.{IsDistinct, list_any, AllByRecursion}
-use Rattle.std.proofs.lemmas.Bool.{or_parts, leb-false, not-false}
-use Rattle.cap_word.specs.declared.word.Cap.{Cap}
-use Rattle.cap_log.specs.declared.lines.Place.{Place}
-use Rattle.cap_log.specs.declared.lines.Line.TheVariants.{Root, Step, End}
-use Rattle.cap_log.specs.declared.kinds.Step as steps_module
-use Rattle.cap_log.proofs.ElementLemmas.{AllByRecursion-append}
-use Rattle.cap_machine.specs.States.{State, DeclaredRoot, key_of, tagged, is_taken, start}
-use Rattle.cap_machine.specs.Steps.{Leads}
-use Rattle.cap_machine.specs.declared.rules.Rules.{Rules}
-use Rattle.cap_machine.specs.Accounts.{Account, with_root, with_step, no_account, most_roots, most_granules, most_steps, granule_of}
-use Rattle.cap_machine.specs.Accounts.{named_by, row_in, passes_granule_limit, naming, root_checks, step_checks}
-use Rattle.cap_machine.specs.Runs.{IsRun, last_of}
-use Rattle.cap_machine.proofs.OriginLemmas.{last_after, roots_start}
-use Rattle.cap_judge.specs.Logs.{RunsBy, body_lines, account_after, Beginning, Empty, NoMode, Body, Whole, lines_of, IsAccepted}
-use Rattle.cap_machine.proofs.AccountLemmas.{after_roots, after_steps, account_after-grows}
+use Rattle.std.proofs.Common.{◌≡◌, ℕ, Bool, true, false, ◌==◌, ◌||◌, nat_eq, List, [], ◌∷◌, ◌++◌, map, refl, sym, ap}
+use Rattle.std.proofs.Common.{◌∙◌, append_assoc, ◌+◌, ◌^◌, ◌<◌, ◌≤◌, not, ◌&&◌, nat_le, subst, arith, lit≤, inl, inr}
+use Rattle.std.proofs.Common.{Some, None, Option, IsTrue, length, if◌then◌else◌, leb-false}
+use Rattle.std.proofs.lemmas.{Bool.{or_parts, not-false}, List.{length_push, map-append}}
+use Rattle.cap_word.specs.declared.word.{Cap.Cap, Word.Word}
 use Rattle.cap_bounds.specs.Bounds.{is_sound}
-use Rattle.cap_word.specs.declared.word.Word.{Word}
-use Rattle.cap_log.specs.Lines.{IsInRange, IsStepInRange, IsPlace}
 use Rattle.cap_ops.specs.Checks.{first_of}
 use Rattle.cap_ops.proofs.TestLemmas.{first_of-append_free, none_hold}
-use Rattle.cap_machine.specs.declared.rules.Rules.TheVariants.{One, TwoStrict, TwoClear}
-use Rattle.cap_machine.proofs.StepLemmas.{is_recorded}
-use Rattle.cap_machine.proofs.MadeLemmas.{ending}
-use Rattle.std.proofs.lemmas.List.{length_push, map-append}
+use Rattle.cap_log.specs.declared.lines.{Line.TheVariants.{Root, Step, End}, Place.Place}
+use Rattle.cap_log.specs.Lines.{IsInRange, IsStepInRange, IsPlace}
+use Rattle.cap_log.specs.declared.kinds.Step as steps_module
+use Rattle.cap_log.proofs.ElementLemmas.{AllByRecursion-append}
+use Rattle.cap_machine.specs.declared.rules.Rules.{Rules, TheVariants.{One, TwoStrict, TwoClear}}
+use Rattle.cap_machine.specs.Accounts.{Account, with_root, with_step, no_account, most_roots, most_granules, most_steps}
+use Rattle.cap_machine.specs.Accounts.{granule_of, named_by, row_in, passes_granule_limit, naming, root_checks}
+use Rattle.cap_machine.specs.{Accounts.step_checks, Runs.{IsRun, last_of}}
+use Rattle.cap_machine.specs.{States.{State, DeclaredRoot, key_of, tagged, is_taken, start}, Steps.Leads}
+use Rattle.cap_machine.proofs.{AccountLemmas.{after_roots, after_steps, account_after-grows}, MadeLemmas.ending}
+use Rattle.cap_machine.proofs.{OriginLemmas.{last_after, roots_start}, StepLemmas.is_recorded}
+use Rattle.cap_judge.specs.Logs.{RunsBy, body_lines, account_after, Beginning, Empty, NoMode, Body, Whole, lines_of}
+use Rattle.cap_judge.specs.Logs.{IsAccepted}
 
 tag_of_choice : (b : Bool) (x y : Cap) (any : Bool) → x.tag ≡ true → y.tag ≡ any → (if b then x else y).tag ≡ (b || any)
 tag_of_choice true x y any h k = h

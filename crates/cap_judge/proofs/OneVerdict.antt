@@ -1,27 +1,18 @@
 -- Bytes have one reading, a line at a time, that stops, and no two verdicts: each comes from such a reading.
-use Rattle.std.proofs.Common.{◌≡◌, ℕ, inl, inr, List, [], ◌∷◌, ◌++◌, refl, sym, ap, subst, ◌∙◌, append_assoc, ◌+◌, length}
-use Rattle.std.proofs.Common.{append-nil}
 use Rattle.std.specs.List.{AllByRecursion}
-use Rattle.std.proofs.lemmas.Option.{none-some, same_Some}
-use Rattle.cap_log.specs.declared.lines.Line.{Line}
-use Rattle.cap_log.specs.declared.lines.Line.TheVariants.{Version, Mode}
+use Rattle.std.proofs.Common.{◌≡◌, ℕ, inl, inr, List, [], ◌∷◌, ◌++◌, refl, sym, ap, subst, ◌∙◌, append_assoc, ◌+◌}
+use Rattle.std.proofs.{Common.{length, append-nil}, lemmas.Option.{none-some, same_Some}}
+use Rattle.cap_ops.specs.{declared.refusal.Refusal.Refusal, Checks.first_of}
+use Rattle.cap_log.specs.{declared.lines.Line.{Line, TheVariants.{Version, Mode}}, Front.IsLine}
 use Rattle.cap_log.specs.Lines.{spelling, IsInRange}
-use Rattle.cap_log.specs.Front.{IsLine}
 use Rattle.cap_log.proofs.FrontLemmas.{IsLine-same, IsLine-not_too_long, IsLine-not_cut, IsTooLong-not_cut}
 use Rattle.cap_log.proofs.SpellingLemmas.{one_spelling, IsLine-spelling}
-use Rattle.cap_ops.specs.Checks.{first_of}
-use Rattle.cap_ops.specs.declared.refusal.Refusal.{Refusal}
-use Rattle.cap_judge.specs.declared.verdict.Verdict.{Verdict}
-use Rattle.cap_judge.specs.declared.verdict.Verdict.TheVariants.{Yes, No}
+use Rattle.cap_judge.specs.{declared.verdict.Verdict.{Verdict, TheVariants.{Yes, No}}, Judgings.IsBehind}
 use Rattle.cap_judge.specs.Logs.{Beginning, Empty, NoMode, Body, Whole, account_after, lines_of, text_of, line_checks}
-use Rattle.cap_judge.specs.Logs.{Refuses, RefusesWhole}
-use Rattle.cap_judge.proofs.TurnLemmas.{allowed_form}
-use Rattle.cap_judge.specs.Judgings.{IsBehind}
+use Rattle.cap_judge.specs.{Logs.{Refuses, RefusesWhole}, Turns.{Allows, Reads, Stage, behind, unread}}
 use Rattle.cap_judge.specs.Verdicts.{IsVerdict}
-use Rattle.cap_judge.proofs.LogLemmas.{accepted_in_range}
-use Rattle.cap_judge.proofs.InTurn.{accepted_read, same_beginning, stage_after}
-use Rattle.cap_judge.proofs.JudgeLemmas.{RefusesFront}
-use Rattle.cap_judge.specs.Turns.{Allows, Reads, Stage, behind, unread}
+use Rattle.cap_judge.proofs.{InTurn.{accepted_read, same_beginning, stage_after}, JudgeLemmas.RefusesFront}
+use Rattle.cap_judge.proofs.{LogLemmas.accepted_in_range, TurnLemmas.allowed_form}
 
 -- no line that is allowed stands at the front of the bytes
 abbrev pub Stops : Stage → List ℕ → Type 0

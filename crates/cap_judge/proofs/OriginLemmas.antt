@@ -1,20 +1,15 @@
 -- The lines of origins, place after place.
-use Rattle.std.proofs.Common.{◌≡◌, ℕ, zero, suc, ◌+◌, ◌-◌, ◌≤◌, ◌<◌, List, [], ◌∷◌, ◌++◌, take, Option, Some, None, refl, sym, ap, subst}
-use Rattle.std.proofs.Common.{◌∙◌, append-nil, append_assoc, arith, nat_lt, slice_index_or, unwrap_or, Result, Ok, Err, OnOk, OnErr}
 use Rattle.std.specs.FinMap.{get}
-use Rattle.std.proofs.lemmas.Bool.{cond-false, le-ltb}
+use Rattle.std.proofs.Common.{◌≡◌, ℕ, zero, suc, ◌+◌, ◌-◌, ◌≤◌, ◌<◌, List, [], ◌∷◌, ◌++◌, take, Option, Some, None}
+use Rattle.std.proofs.Common.{refl, sym, ap, subst, ◌∙◌, append-nil, append_assoc, arith, nat_lt, slice_index_or}
+use Rattle.std.proofs.{Common.{unwrap_or, Result, Ok, Err, OnOk, OnErr, le-ltb}, lemmas.Bool.cond-false}
 use Rattle.std.proofs.lemmas.Grind.{flat_map-append}
-use Rattle.cap_log.specs.declared.lines.Place.{Place}
-use Rattle.cap_log.specs.declared.lines.Place.TheVariants.{Register, Granule}
+use Rattle.cap_log.specs.declared.{lines.Place.{Place, TheVariants.{Register, Granule}}, sinks.PushFault.PushFault}
 use Rattle.cap_log.specs.Lines.{IsPlace}
-use Rattle.cap_log.specs.declared.sinks.PushFault.{PushFault}
 use Rattle.tagmem.specs.Granules.{Entry, NonePut, IsNextPut, blank, code_at}
-use Rattle.cap_machine.specs.States.{key_of}
-use Rattle.cap_machine.specs.Places.{place_at}
-use Rattle.cap_machine.specs.Helds.{Held, account_of}
-use Rattle.cap_judge.specs.OriginLines.{origin_line}
-use Rattle.cap_judge.specs.Origins.{Origin, origin_lines}
-use Rattle.cap_judge.specs.OriginLists.{place_of, listed, origins_from, lines_from, held_lines}
+use Rattle.cap_machine.specs.{Helds.{Held, account_of}, Places.place_at, States.key_of}
+use Rattle.cap_judge.specs.{OriginLines.origin_line, OriginLists.{place_of, listed, origins_from, lines_from}}
+use Rattle.cap_judge.specs.{OriginLists.held_lines, Origins.{Origin, origin_lines}}
 
 -- the lines of two lists
 lines_append : (a b : List Origin) → origin_lines (a ++ b) ≡ origin_lines a ++ origin_lines b

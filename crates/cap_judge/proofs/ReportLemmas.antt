@@ -1,41 +1,26 @@
 -- The report of what a machine holds is that of the log that led to it.
-use Rattle.std.proofs.Common.{◌≡◌, ℕ, zero, suc, ◌+◌, ◌-◌, ◌^◌, ◌<◌, ◌≤◌, nat_lt, slice_index_or, inl, inr, Bool, true, false, List, []}
-use Rattle.std.proofs.Common.{◌∷◌, ◌++◌, length, map, Option, Some, None, Contains, Err, IsTrue, ◌≢◌, refl, sym, ap, subst, ◌∙◌, append-nil, arith}
-use Rattle.std.specs.List.{AllByRecursion}
-use Rattle.std.specs.List.Sorted.{IsStrictlySortedBy}
-use Rattle.std.specs.Ordering.{nat_cmp}
-use Rattle.std.specs.Cmp.{nat_cmp_is}
-use Rattle.std.specs.declared.cmp.Ordering.TheVariants.{Less}
-use Rattle.std.specs.FinMap.{get}
-use Rattle.std.proofs.lemmas.Bool.{cond-true, cond-false, cases_lt, lt-ltb, le-ltb, false≢true}
-use Rattle.std.proofs.lemmas.List.{map-append}
+use Rattle.std.specs.{Cmp.nat_cmp_is, FinMap.get, List.{AllByRecursion, Sorted.IsStrictlySortedBy}}
+use Rattle.std.proofs.Common.{◌≡◌, ℕ, zero, suc, ◌+◌, ◌-◌, ◌^◌, ◌<◌, ◌≤◌, nat_lt, slice_index_or, inl, inr, Bool, true}
+use Rattle.std.proofs.Common.{false, List, [], ◌∷◌, ◌++◌, length, map, Option, Some, None, Contains, Err, IsTrue, ◌≢◌}
+use Rattle.std.proofs.Common.{refl, sym, ap, subst, ◌∙◌, append-nil, arith, nat_cmp, Less, lt-ltb, le-ltb}
+use Rattle.std.proofs.lemmas.{Bool.{cond-true, cond-false, cases_lt, false≢true}, List.map-append}
 use Rattle.std.proofs.lemmas.List.Elements.{All-nil, Contains-append_left, Contains-append_right}
 use Rattle.std.proofs.lemmas.Option.{none-some, same_Some}
 use Rattle.cap_word.specs.declared.word.Cap.{Cap}
-use Rattle.cap_log.specs.declared.lines.Place.{Place}
-use Rattle.cap_log.specs.declared.lines.Place.TheVariants.{Register, Granule}
+use Rattle.cap_log.specs.declared.judge_faults.JudgeFault.{JudgeFault, TheVariants.{NoMemory, Pull}}
+use Rattle.cap_log.specs.{declared.lines.Place.{Place, TheVariants.{Register, Granule}}, JudgeFaults.told_fault}
 use Rattle.cap_log.specs.Lines.{IsPlace}
 use Rattle.tagmem.specs.Granules.{AreStored, Entry}
-use Rattle.cap_machine.specs.States.{State, key_of, start, untagged_null}
-use Rattle.cap_machine.specs.Places.{IsCoded, AreCoded, place_at}
-use Rattle.cap_machine.specs.Runs.{DescendsFrom, last_of}
-use Rattle.cap_machine.specs.Accounts.{Account}
-use Rattle.cap_machine.specs.Helds.{Held, account_of, state_of, code_in}
-use Rattle.cap_machine.specs.RunAccounts.{OriginsAreRoots}
+use Rattle.cap_machine.specs.{Accounts.Account, Helds.{Held, account_of, state_of, code_in}}
+use Rattle.cap_machine.specs.{Places.{IsCoded, AreCoded, place_at}, RunAccounts.OriginsAreRoots}
+use Rattle.cap_machine.specs.{Runs.{DescendsFrom, last_of}, States.{State, key_of, start, untagged_null}}
 use Rattle.cap_machine.proofs.OriginLemmas.{origins_found}
-use Rattle.cap_judge.specs.declared.verdict.Verdict.{Verdict}
-use Rattle.cap_judge.specs.declared.verdict.Verdict.TheVariants.{Yes, No}
-use Rattle.cap_judge.specs.Judgings.{IsAnswerOf, IsVerdictOf, LeadsTo, LeadsAfter}
-use Rattle.cap_judge.specs.Logs.{Empty}
-use Rattle.cap_log.specs.declared.judge_faults.JudgeFault.{JudgeFault}
-use Rattle.cap_log.specs.declared.judge_faults.JudgeFault.TheVariants.{NoMemory, Pull}
-use Rattle.cap_judge.specs.Origins.{Origin, IsOrigin, AreOriginsOf}
+use Rattle.cap_judge.specs.declared.verdict.Verdict.{Verdict, TheVariants.{Yes, No}}
+use Rattle.cap_judge.specs.{Judgings.{IsAnswerOf, IsVerdictOf, LeadsTo, LeadsAfter}, Logs.Empty}
 use Rattle.cap_judge.specs.OriginLists.{place_of, listed, origins_from, held_lines, report_text}
+use Rattle.cap_judge.specs.{Origins.{Origin, IsOrigin, AreOriginsOf}, Reports.{IsPushedFor, Tells}}
 use Rattle.cap_judge.specs.VerdictLines.{verdict_line, verdict_status}
-use Rattle.cap_judge.specs.Reports.{IsPushedFor, Tells}
-use Rattle.cap_log.specs.JudgeFaults.{told_fault}
-use Rattle.cap_judge.proofs.LogLemmas.{last_state}
-use Rattle.cap_judge.proofs.JudgeLemmas.{are_sound, guarded, steps_in_range, behind_header}
+use Rattle.cap_judge.proofs.{JudgeLemmas.{are_sound, guarded, steps_in_range, behind_header}, LogLemmas.last_state}
 use Rattle.cap_judge.proofs.OriginLemmas.{origins_from-zero, origins_from-suc, unput}
 
 -- the place with a key

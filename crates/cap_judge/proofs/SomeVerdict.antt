@@ -1,25 +1,15 @@
 -- All bytes have a verdict: read a line at a time, they come to an end, or to a line that is refused.
 use Rattle.std.proofs.Common.{◌≡◌, ℕ, zero, suc, ◌+◌, ◌<◌, inl, inr, ◌⊎◌, List, [], ◌∷◌, ◌++◌, length, Option, Some}
-use Rattle.std.proofs.Common.{None, refl, sym, ap, ◌∙◌, append-nil, arith}
-use Rattle.std.proofs.lemmas.Option.{none-some}
-use Rattle.std.proofs.lemmas.List.{length-append}
-use Rattle.cap_ops.specs.declared.refusal.Refusal.{Refusal}
-use Rattle.cap_ops.specs.declared.refusal.Refusal.TheVariants.{LineTooLong, Misplaced, Truncated}
-use Rattle.cap_log.specs.declared.lines.Line.{Line}
-use Rattle.cap_log.specs.Lines.{IsInRange, Spells, spelling}
+use Rattle.std.proofs.{Common.{None, refl, sym, ap, ◌∙◌, append-nil, arith, length-append}, lemmas.Option.none-some}
+use Rattle.cap_ops.specs.declared.refusal.Refusal.{Refusal, TheVariants.{LineTooLong, Misplaced, Truncated}}
+use Rattle.cap_log.specs.{declared.lines.Line.Line, Front.IsLine, Lines.{IsInRange, Spells, spelling}}
 use Rattle.cap_log.specs.Parts.{Reads as Spelled}
-use Rattle.cap_log.specs.Front.{IsLine}
 use Rattle.cap_log.proofs.DecidedLines.{line_decided, front_decided}
-use Rattle.cap_judge.specs.declared.verdict.Verdict.{Verdict}
-use Rattle.cap_judge.specs.declared.verdict.Verdict.TheVariants.{Yes, No}
-use Rattle.cap_judge.specs.Logs.{Beginning, Empty, Whole, lines_of, text_of, IsAccepted}
-use Rattle.cap_judge.specs.Logs.{RefusesWhole, Refuses}
-use Rattle.cap_judge.specs.Judgings.{IsBehind}
-use Rattle.cap_judge.specs.Verdicts.{IsVerdict}
-use Rattle.cap_judge.proofs.JudgeLemmas.{IsUnended, fault_behind, front_refused, text_push, yes_of}
-use Rattle.cap_judge.proofs.InTurn.{longer, stage_after, with_line}
-use Rattle.cap_judge.proofs.TurnLaws.{refuses_text}
-use Rattle.cap_judge.specs.Turns.{Allows, refusal_at}
+use Rattle.cap_judge.specs.{declared.verdict.Verdict.{Verdict, TheVariants.{Yes, No}}, Judgings.IsBehind}
+use Rattle.cap_judge.specs.Logs.{Beginning, Empty, Whole, lines_of, text_of, IsAccepted, RefusesWhole, Refuses}
+use Rattle.cap_judge.specs.{Turns.{Allows, refusal_at}, Verdicts.IsVerdict}
+use Rattle.cap_judge.proofs.{InTurn.{longer, stage_after, with_line}, JudgeLemmas.{IsUnended, fault_behind}}
+use Rattle.cap_judge.proofs.{JudgeLemmas.{front_refused, text_push, yes_of}, TurnLaws.refuses_text}
 
 -- Each line is refused or allowed
 

@@ -1,24 +1,15 @@
 -- What a judge answers on the bytes that a source gave.
-use Rattle.std.proofs.Common.{◌≡◌, ◌≢◌, ℕ, ◌+◌, ◌≤◌, Bool, true, false, List, [], ◌∷◌, ◌++◌, length, refl, sym, ap, subst, ◌∙◌, append-nil}
-use Rattle.std.proofs.Common.{append_assoc, arith, Result, Ok, Err, IfOk, IfErr, ◌-◌, ◌*◌, ◌<◌}
-use Rattle.std.proofs.lemmas.List.{length-append}
-use Rattle.cap_judge.specs.declared.verdict.Verdict.{Verdict}
-use Rattle.cap_judge.specs.declared.verdict.Verdict.TheVariants.{Yes, No}
-use Rattle.cap_log.specs.declared.judge_faults.JudgeFault.{JudgeFault}
-use Rattle.cap_log.specs.declared.judge_faults.JudgeFault.TheVariants.{Pull, NoMemory}
-use Rattle.cap_judge.specs.Logs.{MayLackMemory, text_of}
-use Rattle.cap_judge.specs.Verdicts.{IsVerdict, NoVerdictIn}
-use Rattle.cap_judge.specs.Judgings.{IsVerdictOf, BeginsLog, IsAnswerOf, JudgedBy}
-use Rattle.cap_judge.proofs.JudgeLemmas.{guarded, no_lack}
+use Rattle.std.proofs.Common.{◌≡◌, ◌≢◌, ℕ, ◌+◌, ◌≤◌, Bool, true, false, List, [], ◌∷◌, ◌++◌, length, refl, sym, ap}
+use Rattle.std.proofs.Common.{subst, ◌∙◌, append-nil, append_assoc, arith, Result, Ok, Err, IfOk, IfErr, ◌-◌, ◌*◌, ◌<◌}
+use Rattle.std.proofs.Common.{length-append}
+use Rattle.cap_log.specs.declared.{judge_faults.JudgeFault.{JudgeFault, TheVariants.{Pull, NoMemory}}, lines.Line.Line}
 use Rattle.cap_log.specs.Front.{IsCut}
 use Rattle.cap_machine.specs.Helds.{Held}
-use Rattle.cap_log.specs.declared.lines.Line.{Line}
-use Rattle.cap_judge.specs.declared.faults.Fault.{Fault}
-use Rattle.cap_log.specs.declared.judge_faults.JudgeFault.TheVariants as judge_faults
-use Rattle.cap_judge.specs.Readings.{EndsAs, EndsIn, EndsWith, Goes, IsAnswered, lines_read}
-use Rattle.cap_judge.specs.Turns.{Stage, unread}
-use Rattle.cap_judge.proofs.TurnLaws.{begun, count_read}
-use Rattle.cap_judge.proofs.TurnLemmas.{goes_on}
+use Rattle.cap_judge.specs.declared.{faults.Fault.Fault, verdict.Verdict.{Verdict, TheVariants.{Yes, No}}}
+use Rattle.cap_judge.specs.{Judgings.{IsVerdictOf, BeginsLog, IsAnswerOf, JudgedBy}, Logs.{MayLackMemory, text_of}}
+use Rattle.cap_judge.specs.{Readings.{EndsAs, EndsIn, EndsWith, Goes, IsAnswered, lines_read}, Turns.{Stage, unread}}
+use Rattle.cap_judge.specs.Verdicts.{IsVerdict, NoVerdictIn}
+use Rattle.cap_judge.proofs.{JudgeLemmas.{guarded, no_lack}, TurnLaws.{begun, count_read}, TurnLemmas.goes_on}
 
 -- a verdict, want of memory, and a fault of the source
 pub answer_ok : (given : List ℕ) (ended : Bool) (verdict : Verdict) → IsVerdictOf given ended verdict → IsAnswerOf given ended (Ok verdict)
@@ -110,7 +101,7 @@ module _ {S : Type 0} (gave : S → S → List ℕ → Type 0) (ended : S → Bo
 
   -- want of memory
   pub lacking_judged : (more : List ℕ) → MayLackMemory given more → gave old new given
-      → JudgedBy gave ended old new (Err judge_faults.NoMemory) held text
+      → JudgedBy gave ended old new (Err JudgeFault.NoMemory) held text
   lacking_judged more lack gives = record {
     judged = record { given = given; gives = gives; answer = answer_memory given more (ended new) lack };
     leads = tt;
@@ -119,7 +110,7 @@ module _ {S : Type 0} (gave : S → S → List ℕ → Type 0) (ended : S → Bo
 
   -- a source that failed behind lines that begin a log, and less than a line
   pub pull_judged : (stage : Stage) (taken rest : List ℕ) → Goes unread taken stage → IsCut rest → given ≡ taken ++ rest
-      → gave old new given → JudgedBy gave ended old new (Err judge_faults.Pull) held text
+      → gave old new given → JudgedBy gave ended old new (Err JudgeFault.Pull) held text
   pull_judged stage taken rest goes cut are gives =
       let b = begun taken stage goes in
       record {

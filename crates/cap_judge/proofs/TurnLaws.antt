@@ -1,41 +1,27 @@
 -- From stages to logs and their first faults: a stage that is reached is that of a beginning.
-use Rattle.std.proofs.Common.{◌≡◌, ◌≢◌, ℕ, ◌+◌, ◌≤◌, inl, inr, Bool, true, false, List, [], ◌∷◌, ◌++◌, length, map, refl, sym, ap, subst, ◌∙◌}
-use Rattle.std.proofs.Common.{append-nil, append_assoc, arith, not, None, Some, Option}
-use Rattle.std.proofs.lemmas.Bool.{false≢true}
-use Rattle.std.proofs.lemmas.List.{length-append, length-map}
-use Rattle.std.proofs.lemmas.Option.{none-some, same_Some}
-use Rattle.cap_log.proofs.FrontLemmas.{IsLine-more, IsTooLong-more}
-use Rattle.cap_log.proofs.SpellingLemmas.{one_spelling}
-use Rattle.cap_log.specs.Front.{IsCut}
-use Rattle.cap_log.specs.Lines.{IsInRange, Spells, spelling}
-use Rattle.cap_log.specs.Parts.{Reads as Spelled}
-use Rattle.cap_log.specs.declared.lines.Line.{Line}
-use Rattle.cap_log.specs.declared.lines.Line.TheVariants as lines
-use Rattle.cap_log.specs.declared.kinds.Step.{Step}
+use Rattle.std.proofs.Common.{◌≡◌, ◌≢◌, ℕ, ◌+◌, ◌≤◌, inl, inr, Bool, true, false, List, [], ◌∷◌, ◌++◌, length, map}
+use Rattle.std.proofs.Common.{refl, sym, ap, subst, ◌∙◌, append-nil, append_assoc, arith, not, None, Some, Option}
+use Rattle.std.proofs.{Common.length-append, lemmas.{Bool.{false≢true}, List.length-map, Option.{none-some, same_Some}}}
+use Rattle.cap_ops.specs.declared.refusal.Refusal.{Refusal, TheVariants.{BadLine, LineTooLong, Misplaced, Truncated}}
 use Rattle.cap_ops.specs.Checks.{first_of}
-use Rattle.cap_ops.specs.declared.refusal.Refusal.{Refusal}
-use Rattle.cap_ops.specs.declared.refusal.Refusal.TheVariants.{BadLine, LineTooLong, Misplaced, Truncated}
-use Rattle.cap_machine.proofs.AccountLemmas.{account_after-grows}
-use Rattle.cap_machine.specs.Accounts.{Account}
-use Rattle.cap_machine.specs.Helds.{Held, account_of}
+use Rattle.cap_log.specs.{declared.{kinds.Step.Step, lines.Line.Line}, Front.IsCut, Lines.{IsInRange, Spells, spelling}}
+use Rattle.cap_log.specs.Parts.{Reads as Spelled}
+use Rattle.cap_log.proofs.{FrontLemmas.{IsLine-more, IsTooLong-more}, SpellingLemmas.one_spelling}
+use Rattle.cap_machine.specs.{declared.rules.Rules.{Rules, TheVariants.One}, Accounts.Account, Helds.{Held, account_of}}
 use Rattle.cap_machine.specs.States.{DeclaredRoot}
-use Rattle.cap_machine.specs.declared.rules.Rules.{Rules}
-use Rattle.cap_machine.specs.declared.rules.Rules.TheVariants.{One}
-use Rattle.cap_judge.specs.declared.verdict.Verdict.{Verdict}
-use Rattle.cap_judge.specs.declared.verdict.Verdict.TheVariants.{Yes, No}
+use Rattle.cap_machine.proofs.AccountLemmas.{account_after-grows}
+use Rattle.cap_judge.specs.declared.verdict.Verdict.{Verdict, TheVariants.{Yes, No}}
 use Rattle.cap_judge.specs.Judgings.{IsBehind, IsLastFront, IsVerdictOf, StopsBefore, account_before}
-use Rattle.cap_judge.specs.Logs.{Beginning, Empty, NoMode, Body as BodyOf, Whole, body_lines, header_lines, lines_of, text_of, account_after}
-use Rattle.cap_judge.specs.Logs.{IsAccepted, IsFirstFault, MayLackMemory, Refuses, RefusesLine, RefusesWhole, RunsBy, has_form, line_checks}
-use Rattle.cap_judge.specs.Readings.{BeginsWhole, EndsIn, EndsWith, Faults, Follows, Goes, IsAtFault, IsReached, IsRest, Lacks, RefusesNext, Stands}
-use Rattle.cap_judge.specs.Readings.{due_at_end, lines_read, long_refusal, refused_at, verdict_so_far}
+use Rattle.cap_judge.specs.Logs.{Beginning, Empty, NoMode, Body as BodyOf, Whole, body_lines, header_lines, lines_of}
+use Rattle.cap_judge.specs.Logs.{text_of, account_after, IsAccepted, IsFirstFault, MayLackMemory, Refuses, RefusesLine}
+use Rattle.cap_judge.specs.{Logs.{RefusesWhole, RunsBy, has_form, line_checks}, Readings.{BeginsWhole, EndsIn}}
+use Rattle.cap_judge.specs.Readings.{EndsWith, Faults, Follows, Goes, IsAtFault, IsReached, IsRest, Lacks, RefusesNext}
+use Rattle.cap_judge.specs.Readings.{Stands, due_at_end, lines_read, long_refusal, refused_at, verdict_so_far}
 use Rattle.cap_judge.specs.Turns.{Body, Due, Ended, Refused, Stage, refusal_at, unread}
-use Rattle.cap_judge.proofs.FollowLemmas.{faults_at, follows_more}
-use Rattle.cap_judge.proofs.FormLemmas.{no_form}
+use Rattle.cap_judge.proofs.{FollowLemmas.{faults_at, follows_more}, FormLemmas.no_form}
 use Rattle.cap_judge.proofs.InTurn.{accepted_read, all_longer, due_after, stage_after, with_lines}
-use Rattle.cap_judge.proofs.JudgeLemmas.{IsUnended, front_refused}
-use Rattle.cap_judge.proofs.LogLemmas.{accepted_in_range}
-use Rattle.cap_judge.proofs.OneVerdict.{Answers, answer_stops, one_reading}
-use Rattle.cap_judge.proofs.TurnLemmas.{allowed_form}
+use Rattle.cap_judge.proofs.{JudgeLemmas.{IsUnended, front_refused}, LogLemmas.accepted_in_range}
+use Rattle.cap_judge.proofs.{OneVerdict.{Answers, answer_stops, one_reading}, TurnLemmas.allowed_form}
 
 -- What a stage says of a beginning
 
@@ -57,13 +43,13 @@ no_rest beginning = refl
 body_count : (rules_are : Rules) (roots : List DeclaredRoot) (steps : List Step)
     → length (body_lines rules_are roots steps) ≡ length (header_lines rules_are) + (length roots + length steps)
 body_count rules_are roots steps =
-    let root_line = λ (root : DeclaredRoot). lines.Root root.place root.word in
+    let root_line = λ (root : DeclaredRoot). Line.Root root.place root.word in
     omega (
       arith,
-      length-append (header_lines rules_are) (map root_line roots ++ map lines.Step steps),
-      length-append (map root_line roots) (map lines.Step steps),
+      length-append (header_lines rules_are) (map root_line roots ++ map Line.Step steps),
+      length-append (map root_line roots) (map Line.Step steps),
       length-map roots root_line,
-      length-map steps lines.Step,
+      length-map steps Line.Step,
     )
 
 body_counted : (rules_are : Rules) (roots : List DeclaredRoot) (steps : List Step)
@@ -80,7 +66,7 @@ body_counted rules_are roots steps =
 
 end_count : (rules_are : Rules) (roots : List DeclaredRoot) (steps : List Step)
     → length (lines_of (Whole rules_are roots steps)) ≡ length (body_lines rules_are roots steps) + 1
-end_count rules_are roots steps = length-append (body_lines rules_are roots steps) (lines.End (length steps) ∷ [])
+end_count rules_are roots steps = length-append (body_lines rules_are roots steps) (Line.End (length steps) ∷ [])
 
 counted : (beginning : Beginning)
     → (let stage = stage_after beginning in lines_read stage.account stage.due ≡ length (lines_of beginning))
@@ -121,13 +107,13 @@ body_refuses account text line false refusal spells is refused =
 pub refuses_text : (beginning : Beginning) (text : List ℕ) (line : Option Line) (refusal : Refusal) → IsUnended beginning
     → Spelled IsInRange spelling text line → refusal_at (stage_after beginning).account (stage_after beginning).due line ≡ Some refusal
     → RefusesWhole beginning text refusal
-refuses_text Empty text (Some (lines.Version version)) refusal goes is refused = absurd (none-some _ refused)
+refuses_text Empty text (Some (Line.Version version)) refusal goes is refused = absurd (none-some _ refused)
 refuses_text Empty text (Some line) refusal goes is refused =
-    (λ version spells. let same = one_spelling text line (lines.Version version) is spells in cc, sym (same_Some _ _ refused))
+    (λ version spells. let same = one_spelling text line (Line.Version version) is spells in cc, sym (same_Some _ _ refused))
 refuses_text Empty text None refusal goes none refused = (λ version spells. none _ spells.0 spells.1, sym (same_Some _ _ refused))
-refuses_text NoMode text (Some (lines.Mode mode)) refusal goes is refused = absurd (none-some _ refused)
+refuses_text NoMode text (Some (Line.Mode mode)) refusal goes is refused = absurd (none-some _ refused)
 refuses_text NoMode text (Some line) refusal goes is refused =
-    (λ mode spells. let same = one_spelling text line (lines.Mode mode) is spells in cc, sym (same_Some _ _ refused))
+    (λ mode spells. let same = one_spelling text line (Line.Mode mode) is spells in cc, sym (same_Some _ _ refused))
 refuses_text NoMode text None refusal goes none refused = (λ mode spells. none _ spells.0 spells.1, sym (same_Some _ _ refused))
 refuses_text (BodyOf rules_are roots steps) text (Some line) refusal goes is refused =
     body_refuses (account_after rules_are roots steps) text line _ refusal is refl refused

@@ -1,47 +1,30 @@
 -- What lines lead to, and where a judge stops.
-use Rattle.std.proofs.Common.{◌≡◌, ◌≢◌, ℕ, ◌+◌, ◌-◌, inl, inr, true, false, List, [], ◌∷◌, ◌++◌, length, take, drop, refl, sym, ap, subst, ◌∙◌, arith}
-use Rattle.std.proofs.Common.{append-nil, append_assoc, not, None, Some, Option, Result, Ok, Err, Bool, ◌⊎◌, ◌↔◌, ◌<◌, IfSome, IfErr, OnOk, MatchResult, nat_lt}
-use Rattle.std.proofs.lemmas.Bool.{not-false}
-use Rattle.cap_machine.proofs.AccountLemmas.{first_of-none}
-use Rattle.cap_ops.proofs.TestLemmas.{none_hold}
-use Rattle.std.proofs.lemmas.Grind.{flat_map-append}
-use Rattle.std.proofs.lemmas.List.{length-append, length-drop, take_at}
+use Rattle.std.proofs.Common.{◌≡◌, ◌≢◌, ℕ, ◌+◌, ◌-◌, inl, inr, true, false, List, [], ◌∷◌, ◌++◌, length, take, drop}
+use Rattle.std.proofs.Common.{refl, sym, ap, subst, ◌∙◌, arith, append-nil, append_assoc, not, None, Some, Option}
+use Rattle.std.proofs.Common.{Result, Ok, Err, Bool, ◌⊎◌, ◌↔◌, ◌<◌, IfSome, IfErr, OnOk, MatchResult, nat_lt}
+use Rattle.std.proofs.{Common.{length-append, length-drop, take_at}, lemmas.{Bool.not-false, Grind.flat_map-append}}
 use Rattle.std.proofs.lemmas.List.Prefix.{end_rest}
-use Rattle.cap_log.proofs.ElementLemmas.{AllByRecursion-append}
-use Rattle.cap_log.proofs.FrontLemmas.{IsLine-not_cut, IsLine-not_too_long, IsLine-same, IsTooLong-not_cut}
-use Rattle.cap_log.proofs.SpellingLemmas.{IsLine-spelling}
-use Rattle.cap_log.specs.Front.{IsCut, IsFrontText, IsLine, IsTooLong}
-use Rattle.cap_log.specs.Lines.{IsInRange, Spells, spelling}
-use Rattle.cap_log.specs.Parts.{Begins, BeginsWithNone}
-use Rattle.cap_log.specs.declared.lines.Line.{Line}
-use Rattle.cap_log.specs.declared.lines.Line.TheVariants as lines
-use Rattle.cap_log.specs.declared.lines.Place.{Place}
-use Rattle.cap_log.specs.declared.kinds.Step.{Step}
 use Rattle.cap_word.specs.declared.word.Word.{Word}
+use Rattle.cap_ops.specs.declared.refusal.Refusal.{Refusal, TheVariants.{BadLine, Misplaced, Truncated}}
 use Rattle.cap_ops.specs.Checks.{first_of}
-use Rattle.cap_ops.specs.declared.refusal.Refusal.{Refusal}
-use Rattle.cap_ops.specs.declared.refusal.Refusal.TheVariants.{BadLine, Misplaced, Truncated}
+use Rattle.cap_ops.proofs.TestLemmas.{none_hold}
+use Rattle.cap_log.specs.{declared.{kinds.Step.Step, lines.{Line.Line, Place.Place}}, FaultLines.bytes_of, Front.IsCut}
+use Rattle.cap_log.specs.{Front.{IsFrontText, IsLine, IsTooLong}, Lines.{IsInRange, Spells, spelling}, Parts.Begins}
+use Rattle.cap_log.proofs.{ElementLemmas.AllByRecursion-append, FrontLemmas.{IsLine-not_cut, IsLine-not_too_long}}
+use Rattle.cap_log.proofs.{FrontLemmas.{IsLine-same, IsTooLong-not_cut}, SpellingLemmas.IsLine-spelling}
+use Rattle.cap_machine.specs.declared.{ends.StepEnd.StepEnd, rules.Rules.{Rules, TheVariants.One}}
 use Rattle.cap_machine.specs.Accounts.{Account, root_checks}
 use Rattle.cap_machine.specs.Helds.{Held, account_of, AnswersStep, EndsRoot, EndsStep, Makes, TakesRoot}
-use Rattle.cap_machine.specs.declared.ends.StepEnd.{StepEnd}
-use Rattle.cap_machine.specs.declared.ends.StepEnd.TheVariants as ends
-use Rattle.cap_machine.specs.declared.rules.Rules.{Rules}
-use Rattle.cap_machine.specs.declared.rules.Rules.TheVariants.{One}
+use Rattle.cap_machine.proofs.AccountLemmas.{first_of-none}
+use Rattle.cap_judge.specs.declared.{faults.Fault.Fault, judges.Stop.Stop, verdict.TakeFault.TakeFault}
+use Rattle.cap_judge.specs.declared.verdict.{TakeFault.TheVariants.{NoLine, NoMemory}, Verdict.Verdict}
+use Rattle.cap_judge.specs.{declared.verdict.Verdict.TheVariants.{Yes, No}, Judgings.IsLastFront}
+use Rattle.cap_judge.specs.{Logs.{has_form, line_checks, text_of}, Readings.{EndsAs, EndsText, EndsAt, EndsFor, EndsIn}}
+use Rattle.cap_judge.specs.Readings.{Follows, Goes, GoesOrStops, IsAtFault, IsNoLine, Lacks, RefusesNext, StopsAt}
+use Rattle.cap_judge.specs.Readings.{Takes, TakesAll, TakesStep, at, due_of, due_at_end, lines_read, refused_at}
+use Rattle.cap_judge.specs.Turns.{Body, Ended, Reads, Stage, behind, refusal_at}
 use Rattle.cap_judge.specs.declared.judges.Stage as code
 use Rattle.cap_judge.specs.declared.judges.Stage.TheVariants as stages
-use Rattle.cap_judge.specs.declared.judges.Stop.{Stop}
-use Rattle.cap_judge.specs.declared.judges.Stop.TheVariants as stops
-use Rattle.cap_judge.specs.declared.faults.Fault.{Fault}
-use Rattle.cap_judge.specs.declared.verdict.Verdict.{Verdict}
-use Rattle.cap_judge.specs.declared.verdict.Verdict.TheVariants.{Yes, No}
-use Rattle.cap_judge.specs.declared.verdict.TakeFault.{TakeFault}
-use Rattle.cap_judge.specs.declared.verdict.TakeFault.TheVariants.{NoLine, NoMemory}
-use Rattle.cap_log.specs.FaultLines.{bytes_of}
-use Rattle.cap_judge.specs.Logs.{has_form, line_checks, text_of}
-use Rattle.cap_judge.specs.Readings.{EndsAs, EndsText, EndsAt, EndsFor, EndsIn, Follows, Goes, GoesOrStops, IsAtFault, IsNoLine, Lacks}
-use Rattle.cap_judge.specs.Judgings.{IsLastFront}
-use Rattle.cap_judge.specs.Readings.{RefusesNext, StopsAt, Takes, TakesAll, TakesStep, at, due_of, due_at_end, lines_read, refused_at}
-use Rattle.cap_judge.specs.Turns.{Body, Ended, Reads, Stage, behind, refusal_at}
 
 -- Lines that are read
 
@@ -101,9 +84,9 @@ goes_line_some first old new bytes front rest behind line is so_far begins takes
 
 stops_later : (first old new : Stage) (front middle rest : List ℕ) (stop : Stop) → Goes first front old
     → StopsAt old middle rest stop new → StopsAt first (front ++ middle) rest stop new
-stops_later first old new front middle rest stops.Cut so_far stop = (goes_on first old new front middle so_far stop.0, stop.1, stop.2)
-stops_later first old new front middle rest stops.Fault so_far stop = (stop.0, goes_on first old stop.0 front middle so_far stop.1, stop.2)
-stops_later first old new front middle rest stops.NoMemory so_far stop = (goes_on first old new front middle so_far stop.0, stop.1, stop.2)
+stops_later first old new front middle rest Stop.Cut so_far stop = (goes_on first old new front middle so_far stop.0, stop.1, stop.2)
+stops_later first old new front middle rest Stop.Fault so_far stop = (stop.0, goes_on first old stop.0 front middle so_far stop.1, stop.2)
+stops_later first old new front middle rest Stop.NoMemory so_far stop = (goes_on first old new front middle so_far stop.0, stop.1, stop.2)
 
 pub stops_after : (first old new : Stage) (front rest : List ℕ) (stop : Stop) → Goes first front old → StopsAt old [] rest stop new
     → StopsAt first front rest stop new
@@ -155,42 +138,42 @@ abbrev pub body : Account → Stage
 body account_is = record { account = account_is; due = Body }
 
 -- a step that a machine makes, or not
-pub makes_takes : (old new : Held) (step : Step) → Makes old step new → Takes (at stages.Body old) (lines.Step step) (at stages.Body new)
-makes_takes old new step makes = (by_checks (account_of old) (lines.Step step) refl ∙ makes.checks, ap body makes.account)
+pub makes_takes : (old new : Held) (step : Step) → Makes old step new → Takes (at stages.Body old) (Line.Step step) (at stages.Body new)
+makes_takes old new step makes = (by_checks (account_of old) (Line.Step step) refl ∙ makes.checks, ap body makes.account)
 
 pub step_ends : (old new : Held) (step : Step) (end : StepEnd) → EndsStep old step end new
-    → EndsFor (at stages.Body old) (lines.Step step) end × (new ≡ old)
-step_ends old new step (ends.Refused refusal) ended = (by_checks (account_of old) (lines.Step step) refl ∙ ended.0, ended.1)
-step_ends old new step ends.NoMemory ended =
-    ((refl, by_checks (account_of old) (lines.Step step) refl ∙ ended.0, ended.1), ended.2)
+    → EndsFor (at stages.Body old) (Line.Step step) end × (new ≡ old)
+step_ends old new step (StepEnd.Refused refusal) ended = (by_checks (account_of old) (Line.Step step) refl ∙ ended.0, ended.1)
+step_ends old new step StepEnd.NoMemory ended =
+    ((refl, by_checks (account_of old) (Line.Step step) refl ∙ ended.0, ended.1), ended.2)
 
 pub step_answered : (old new : Held) (bytes : List ℕ) (step : Step) (result : Result (Unit {0}) StepEnd)
-    → Begins IsInRange spelling 10 bytes (lines.Step step) [] → AnswersStep old step result new → TakesAll old bytes (Some result) new
+    → Begins IsInRange spelling 10 bytes (Line.Step step) [] → AnswersStep old step result new → TakesAll old bytes (Some result) new
 step_answered old new bytes step (Ok done) begins makes = (step, begins, makes_takes old new step makes)
 step_answered old new bytes step (Err end) begins ends =
     let stop = step_ends old new step end ends in ((step, begins, stop.0), stop.1)
 
 pub step_outcome : (stage : code.Stage) (old new : Held) (line : Line) (step : Step) (result : Result (Unit {0}) StepEnd)
-    → stage ≡ stages.Body → line ≡ lines.Step step → AnswersStep old step result new
+    → stage ≡ stages.Body → line ≡ Line.Step step → AnswersStep old step result new
     → OnOk result (Takes (at stage old) line (at stage new)) × IfErr result (EndsFor (at stage old) line)
 step_outcome stage old new line step (Ok done) is same makes = rw (is, same) (makes_takes old new step makes, tt)
 step_outcome stage old new line step (Err end) is same ended = rw (is, same) (tt, (step_ends old new step end ended).0)
 
 -- a root before all steps
 root_checked : (held : Held) (place : Place) (word : Word) → held.steps ≡ 0
-    → refusal_at (account_of held) Body (Some (lines.Root place word)) ≡ first_of (root_checks (account_of held) place word)
+    → refusal_at (account_of held) Body (Some (Line.Root place word)) ≡ first_of (root_checks (account_of held) place word)
 root_checked held place word none =
-    by_checks (account_of held) (lines.Root place word) refl
+    by_checks (account_of held) (Line.Root place word) refl
     ∙ ap (λ (n : ℕ). first_of ((nat_lt 0 n, Misplaced) ∷ root_checks (account_of held) place word)) none
 
 pub root_outcome : (stage : code.Stage) (old new : Held) (place : Place) (word : Word) (result : Result (Unit {0}) StepEnd)
     → stage ≡ stages.Body → old.steps ≡ 0
     → MatchResult result (λ _. TakesRoot old place word new) (λ end. EndsRoot old place word end new)
-    → OnOk result (Takes (at stage old) (lines.Root place word) (at stage new)) × IfErr result (EndsFor (at stage old) (lines.Root place word))
+    → OnOk result (Takes (at stage old) (Line.Root place word) (at stage new)) × IfErr result (EndsFor (at stage old) (Line.Root place word))
 root_outcome stage old new place word (Ok done) is none takes =
     rw is ((root_checked old place word none ∙ takes.checks, ap body takes.account), tt)
-root_outcome stage old new place word (Err (ends.Refused refusal)) is none ended = rw is (tt, root_checked old place word none ∙ ended.0)
-root_outcome stage old new place word (Err ends.NoMemory) is none ended =
+root_outcome stage old new place word (Err (StepEnd.Refused refusal)) is none ended = rw is (tt, root_checked old place word none ∙ ended.0)
+root_outcome stage old new place word (Err StepEnd.NoMemory) is none ended =
     rw is (tt, (refl, root_checked old place word none ∙ ended.0, ended.1))
 
 -- Fronts
@@ -205,21 +188,21 @@ begins_by line bytes text rest whole spells = (spells.0, whole.whole ∙ ap (λ 
 
 -- why a line is not taken, told of its text; and of bytes that it begins
 pub text_ends : (stage : Stage) (text : List ℕ) (line : Line) (end : StepEnd) → Spells text line → EndsFor stage line end → EndsText stage text end
-text_ends stage text line (ends.Refused refusal) spells refused = (Some line, spells, refused)
-text_ends stage text line ends.NoMemory spells names = (line, spells, names)
+text_ends stage text line (StepEnd.Refused refusal) spells refused = (Some line, spells, refused)
+text_ends stage text line StepEnd.NoMemory spells names = (line, spells, names)
 
 pub text_ends_at : (stage : Stage) (bytes text rest : List ℕ) (end : StepEnd) → IsLine bytes text rest → EndsText stage text end
     → EndsAt stage bytes end
-text_ends_at stage bytes text rest (ends.Refused refusal) whole (line, spells, refused) = inl (text, rest, line, whole, spells, refused)
-text_ends_at stage bytes text rest ends.NoMemory whole (line, spells, names) =
+text_ends_at stage bytes text rest (StepEnd.Refused refusal) whole (line, spells, refused) = inl (text, rest, line, whole, spells, refused)
+text_ends_at stage bytes text rest StepEnd.NoMemory whole (line, spells, names) =
     (rest, record { line = line; begins = begins_by line bytes text rest whole spells; names = names })
 
 -- one that is not taken
 pub ends_at : (stage : Stage) (bytes rest : List ℕ) (line : Line) (end : StepEnd) → Begins IsInRange spelling 10 bytes line rest
     → EndsFor stage line end → EndsAt stage bytes end
-ends_at stage bytes rest line (ends.Refused refusal) is refused =
+ends_at stage bytes rest line (StepEnd.Refused refusal) is refused =
     inl (spelling line, rest, Some line, line_is line bytes rest is, (is.0, refl), refused)
-ends_at stage bytes rest line ends.NoMemory is names = (rest, record { line = line; begins = is; names = names })
+ends_at stage bytes rest line StepEnd.NoMemory is names = (rest, record { line = line; begins = is; names = names })
 
 pub front_end : (stage : code.Stage) (held : Held) (rest : List ℕ) (end : Option StepEnd) → stage ≡ stages.Body
     → IfSome end (EndsAt (at stages.Body held) rest)
@@ -264,17 +247,17 @@ pub whole_lacks : (stage : Stage) (bytes rest : List ℕ) → IsWhole bytes → 
 whole_lacks stage bytes rest whole lacks =
     subst (Lacks stage bytes) (whole_rest bytes (spelling lacks.line) rest whole (line_is lacks.line bytes rest lacks.begins)) lacks
 
-pub stop_follows : (old new : Stage) (front rest : List ℕ) → StopsAt old front rest stops.Fault new → Follows old (front ++ rest) new
+pub stop_follows : (old new : Stage) (front rest : List ℕ) → StopsAt old front rest Stop.Fault new → Follows old (front ++ rest) new
 stop_follows old new front rest stop = inr (front, rest, refl, stop.0, stop.1, stop.2)
 
 -- the line of a step, alone
-pub step_whole : (bytes : List ℕ) (step : Step) → Begins IsInRange spelling 10 bytes (lines.Step step) [] → IsWhole bytes
-step_whole bytes step begins = inl (spelling (lines.Step step), line_is (lines.Step step) bytes [] begins)
+pub step_whole : (bytes : List ℕ) (step : Step) → Begins IsInRange spelling 10 bytes (Line.Step step) [] → IsWhole bytes
+step_whole bytes step begins = inl (spelling (Line.Step step), line_is (Line.Step step) bytes [] begins)
 
 pub step_follows : (stage : code.Stage) (old new : Held) (bytes : List ℕ) → stage ≡ stages.Body → TakesStep old bytes new []
     → Follows (at stage old) bytes (at stage new)
 step_follows stage old new bytes is (step, begins, takes) =
-    rw (is, begins.1) (inl (one_goes (at stages.Body old) (at stages.Body new) (lines.Step step) begins.0 takes))
+    rw (is, begins.1) (inl (one_goes (at stages.Body old) (at stages.Body new) (Line.Step step) begins.0 takes))
 
 -- more than a line, or less than one
 pub longer_no_line : (line : List ℕ) (n : ℕ) → (n < length line) × IsLine line (take n line) (drop (n + 1) line)

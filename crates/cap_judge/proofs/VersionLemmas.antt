@@ -1,17 +1,12 @@
 -- Bytes that do not begin with the line `capcheck 2` have a verdict by the rules of version 1.
-use Rattle.std.proofs.Common.{◌≡◌, ◌↔◌, ℕ, inl, inr, List, [], ◌∷◌, ◌++◌, length, map, refl, sym, ap, subst, ◌∙◌, append-nil, arith, codes}
-use Rattle.std.proofs.lemmas.Fmt.{decimal_digit}
-use Rattle.cap_log.specs.declared.lines.Line.{Line}
-use Rattle.cap_log.specs.declared.lines.Line.TheVariants.{Version, Mode, Root, Step, End}
-use Rattle.cap_log.specs.declared.lines.Mode.TheVariants.{Strict, Clear}
-use Rattle.cap_log.specs.declared.kinds.Step as steps_module
-use Rattle.cap_log.specs.Lines.{Spells, spelling}
-use Rattle.cap_log.specs.Front.{IsLine}
+use Rattle.std.proofs.Common.{◌≡◌, ◌↔◌, ℕ, inl, inr, List, [], ◌∷◌, ◌++◌, length, map, refl, sym, ap, subst, ◌∙◌}
+use Rattle.std.proofs.{Common.{append-nil, arith, codes}, lemmas.Fmt.decimal_digit}
 use Rattle.cap_ops.specs.declared.refusal.Refusal.{Refusal}
-use Rattle.cap_machine.specs.declared.rules.Rules.TheVariants.{One, TwoStrict, TwoClear}
-use Rattle.cap_machine.specs.States.{DeclaredRoot}
-use Rattle.cap_judge.specs.declared.verdict.Verdict.{Verdict}
-use Rattle.cap_judge.specs.declared.verdict.Verdict.TheVariants.{Yes, No}
+use Rattle.cap_log.specs.declared.lines.Line.{Line, TheVariants.{Version, Mode, Root, Step, End}}
+use Rattle.cap_log.specs.{declared.lines.Mode.TheVariants.{Strict, Clear}, Front.IsLine, Lines.{Spells, spelling}}
+use Rattle.cap_log.specs.declared.kinds.Step as steps_module
+use Rattle.cap_machine.specs.{declared.rules.Rules.TheVariants.{One, TwoStrict, TwoClear}, States.DeclaredRoot}
+use Rattle.cap_judge.specs.declared.verdict.Verdict.{Verdict, TheVariants.{Yes, No}}
 use Rattle.cap_judge.specs.Logs.{Beginning, Empty, NoMode, Body, Whole, Refuses, lines_of, text_of}
 use Rattle.cap_judge.specs.Verdicts.{IsVerdict, IsOfVersionOne, BeginsOne, IsByVersionOne, RefusesOne, IsVerdictOne}
 use Rattle.cap_judge.proofs.JudgeLemmas.{text_push}

@@ -1,22 +1,14 @@
 -- What the rules give for the step at fault, where its line records another result (this profile's own).
 use Rattle.std.specs.Prelude.{◌≡◌, ◌≢◌, ℕ, List, ◌∷◌, ◌++◌, Option, Some, None}
 use Rattle.cap_word.specs.declared.word.Cap.{Cap}
+use Rattle.cap_ops.specs.{declared.refusal.Refusal.TheVariants.WrongResult, Checks.first_of}
+use Rattle.cap_log.specs.{declared.{kinds.Step.Step, lines.Place.Place}, Lines.Spells}
 use Rattle.cap_log.specs.declared.lines.Line.TheVariants as lines
-use Rattle.cap_log.specs.declared.lines.Place.{Place}
-use Rattle.cap_log.specs.declared.kinds.Step.{Step}
-use Rattle.cap_log.specs.Lines.{Spells}
-use Rattle.cap_ops.specs.Checks.{first_of}
-use Rattle.cap_ops.specs.declared.refusal.Refusal.TheVariants.{WrongResult}
-use Rattle.cap_machine.specs.declared.rules.Rules.{Rules}
-use Rattle.cap_machine.specs.declared.shown.Given.{Given}
+use Rattle.cap_machine.specs.{declared.{rules.Rules.Rules, shown.Given.Given}, Accounts.{Account, row_in, step_checks}}
+use Rattle.cap_machine.specs.{States.DeclaredRoot, Steps.{Access, Recorded, Row, Written, ReadNumber}}
 use Rattle.cap_machine.specs.declared.shown.Given.TheVariants as givens
-use Rattle.cap_machine.specs.States.{DeclaredRoot}
-use Rattle.cap_machine.specs.Steps.{Access, Recorded, Row, Written, ReadNumber}
-use Rattle.cap_machine.specs.Accounts.{Account, row_in, step_checks}
-use Rattle.cap_judge.specs.declared.verdict.Expected.{Expected}
-use Rattle.cap_judge.specs.declared.verdict.Expected.TheVariants.{Capability, Number}
-use Rattle.cap_judge.specs.Turns.{Due, Refused}
-use Rattle.cap_judge.specs.Logs.{RunsBy, IsFirstFault, account_after, body_lines, text_of}
+use Rattle.cap_judge.specs.declared.verdict.Expected.{Expected, TheVariants.{Capability, Number}}
+use Rattle.cap_judge.specs.{Logs.{RunsBy, IsFirstFault, account_after, body_lines, text_of}, Turns.{Due, Refused}}
 
 -- what is written, or the number in memory, where a line records it
 abbrev pub given_for : Option (Place × Cap) → Recorded → Option Access → Option Expected

@@ -1,19 +1,12 @@
 -- The answer on the bytes that a source gave (this profile's own, as are all below).
 use Rattle.std.specs.Prelude.{◌≡◌, ◌≢◌, ℕ, ◌+◌, Bool, true, false, List, ◌++◌, length, take, Result, Err, IfOk, IfErr}
+use Rattle.cap_log.specs.declared.{judge_faults.JudgeFault.{JudgeFault, TheVariants.{Pull, NoMemory}}, kinds.Step.Step}
 use Rattle.cap_log.specs.Front.{IsCut, FrontIs}
-use Rattle.cap_log.specs.declared.kinds.Step.{Step}
-use Rattle.cap_machine.specs.declared.rules.Rules.{Rules}
-use Rattle.cap_machine.specs.declared.rules.Rules.TheVariants.{One}
-use Rattle.cap_machine.specs.Accounts.{Account, no_account}
-use Rattle.cap_machine.specs.States.{DeclaredRoot}
-use Rattle.cap_machine.specs.Helds.{Held, account_of}
-use Rattle.cap_judge.specs.declared.verdict.Verdict.{Verdict}
-use Rattle.cap_judge.specs.declared.verdict.Verdict.TheVariants.{Yes, No}
-use Rattle.cap_log.specs.declared.judge_faults.JudgeFault.{JudgeFault}
-use Rattle.cap_log.specs.declared.judge_faults.JudgeFault.TheVariants.{Pull, NoMemory}
-use Rattle.cap_judge.specs.Logs.{Beginning, Empty, NoMode, Body, Whole, lines_of, text_of, account_after, IsAccepted, IsLogOf}
-use Rattle.cap_judge.specs.Logs.{IsFirstFault, MayLackMemory, NamesNoGranules}
-use Rattle.cap_judge.specs.Verdicts.{IsVerdict, IsGuarded}
+use Rattle.cap_machine.specs.{declared.rules.Rules.{Rules, TheVariants.One}, Accounts.{Account, no_account}}
+use Rattle.cap_machine.specs.{Helds.{Held, account_of}, States.DeclaredRoot}
+use Rattle.cap_judge.specs.{declared.verdict.Verdict.{Verdict, TheVariants.{Yes, No}}, Logs.{Beginning, Empty, NoMode}}
+use Rattle.cap_judge.specs.Logs.{Body, Whole, lines_of, text_of, account_after, IsAccepted, IsLogOf, IsFirstFault}
+use Rattle.cap_judge.specs.{Logs.{MayLackMemory, NamesNoGranules}, Verdicts.{IsVerdict, IsGuarded}}
 
 -- the verdict on these bytes, if their source has ended; otherwise a `no` that holds whatever bytes follow
 abbrev pub IsVerdictOf : List ℕ → Bool → Verdict → Type 0

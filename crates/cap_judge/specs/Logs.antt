@@ -1,26 +1,19 @@
 -- Logs, how they begin, and the first fault of bytes that are none. All of it is this profile's own.
-use Rattle.std.specs.Prelude.{◌≡◌, ◌≢◌, ℕ, ◌+◌, ◌≤◌, ◌==◌, Bool, true, false, not, nat_eq, nat_lt, ◌⊎◌, List, [], ◌∷◌, ◌++◌, length, map}
-use Rattle.std.specs.Prelude.{flat_map, Option, Some, None, IsTrue}
+use Rattle.std.specs.Prelude.{◌≡◌, ◌≢◌, ℕ, ◌+◌, ◌≤◌, ◌==◌, Bool, true, false, not, nat_eq, nat_lt, ◌⊎◌, List, [], ◌∷◌}
+use Rattle.std.specs.Prelude.{◌++◌, length, map, flat_map, Option, Some, None, IsTrue}
 use Rattle.std.specs.List.{AllByRecursion, IsDistinct}
 use Rattle.cap_bounds.specs.Bounds.{is_sound}
-use Rattle.cap_log.specs.declared.lines.Line.{Line}
-use Rattle.cap_log.specs.declared.lines.Line.TheVariants.{Version, Mode, Root, Step, End}
-use Rattle.cap_log.specs.declared.lines.Mode as modes_module
-use Rattle.cap_log.specs.declared.lines.Mode.TheVariants.{Strict, Clear}
-use Rattle.cap_log.specs.declared.kinds.Step as steps_module
+use Rattle.cap_ops.specs.declared.refusal.Refusal.{Refusal, TheVariants.{BadHeader, LineTooLong, BadLine, Misplaced}}
+use Rattle.cap_ops.specs.{declared.refusal.Refusal.TheVariants.{Truncated, WrongCount, BadMode}, Checks.first_of}
+use Rattle.cap_log.specs.declared.lines.Line.{Line, TheVariants.{Version, Mode, Root, Step, End}}
+use Rattle.cap_log.specs.{declared.lines.Mode.TheVariants.{Strict, Clear}, Front.FrontIs}
 use Rattle.cap_log.specs.Lines.{spelling, IsInRange, Spells}
-use Rattle.cap_log.specs.Front.{FrontIs}
-use Rattle.cap_ops.specs.Checks.{first_of}
-use Rattle.cap_ops.specs.declared.refusal.Refusal.{Refusal}
-use Rattle.cap_ops.specs.declared.refusal.Refusal.TheVariants.{BadHeader, LineTooLong, BadLine, Misplaced, Truncated}
-use Rattle.cap_ops.specs.declared.refusal.Refusal.TheVariants.{WrongCount, BadMode}
-use Rattle.cap_machine.specs.declared.rules.Rules.{Rules}
-use Rattle.cap_machine.specs.declared.rules.Rules.TheVariants.{One, TwoStrict, TwoClear}
-use Rattle.cap_machine.specs.States.{State, DeclaredRoot, key_of, start}
-use Rattle.cap_machine.specs.Accounts.{Account, most_roots, most_granules, most_steps, granule_of, named_by, is_new}
-use Rattle.cap_machine.specs.Accounts.{root_checks, row_in, step_checks}
+use Rattle.cap_log.specs.declared.kinds.Step as steps_module
+use Rattle.cap_log.specs.declared.lines.Mode as modes_module
 pub use Rattle.cap_machine.specs.RunAccounts.{account_after}
-use Rattle.cap_machine.specs.Runs.{IsRun}
+use Rattle.cap_machine.specs.{declared.rules.Rules.{Rules, TheVariants.{One, TwoStrict, TwoClear}}, Accounts.Account}
+use Rattle.cap_machine.specs.Accounts.{most_roots, most_granules, most_steps, granule_of, named_by, is_new, root_checks}
+use Rattle.cap_machine.specs.{Accounts.{row_in, step_checks}, Runs.IsRun, States.{State, DeclaredRoot, key_of, start}}
 
 -- how a log begins: not at all; with the version line of version 2 alone; with its header, roots and steps; or with
 -- its end line too

@@ -1,17 +1,11 @@
 -- The report of origins: each tagged place of a log's last state, with the place of its root. All of it is this
 -- profile's own.
-use Rattle.std.specs.Prelude.{◌≡◌, ℕ, List, length, map, flat_map, IsTrue, Contains}
-use Rattle.std.specs.List.{AllByRecursion}
-use Rattle.std.specs.List.Sorted.{IsStrictlySortedBy}
-use Rattle.std.specs.Ordering.{nat_cmp}
-use Rattle.cap_log.specs.declared.lines.Place.{Place}
-use Rattle.cap_log.specs.declared.kinds.Step.{Step}
-use Rattle.cap_log.specs.Lines.{IsPlace}
-use Rattle.cap_machine.specs.declared.rules.Rules.{Rules}
+use Rattle.std.specs.{Prelude.{◌≡◌, ℕ, List, length, map, flat_map, IsTrue, Contains}, List.AllByRecursion}
+use Rattle.std.specs.{List.Sorted.IsStrictlySortedBy, Ordering.nat_cmp}
+use Rattle.cap_log.specs.{declared.{kinds.Step.Step, lines.Place.Place}, Lines.IsPlace}
+use Rattle.cap_machine.specs.{declared.rules.Rules.Rules, Runs.{IsRun, DescendsFrom, last_of}}
 use Rattle.cap_machine.specs.States.{State, DeclaredRoot, key_of, start}
-use Rattle.cap_machine.specs.Runs.{IsRun, DescendsFrom, last_of}
-use Rattle.cap_judge.specs.Logs.{IsLogOf}
-use Rattle.cap_judge.specs.OriginLines.{origin_line}
+use Rattle.cap_judge.specs.{Logs.IsLogOf, OriginLines.origin_line}
 
 -- a place, and the place of a root
 pub record Origin : Type 0 where

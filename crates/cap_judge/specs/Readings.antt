@@ -1,32 +1,22 @@
 -- What a judge has read of the bytes that it was handed (this profile's own, as are all below).
-use Rattle.std.specs.Prelude.{◌≡◌, ◌≢◌, ◌⊎◌, ℕ, ◌+◌, Bool, false, IsTrue, List, [], ◌++◌, length, Option, None, Some, Result, Ok, Err}
-use Rattle.std.specs.Borrow.{Bor}
-use Rattle.std.specs.List.{AllByRecursion}
-use Rattle.cap_log.specs.Front.{IsCut, IsLine, IsTooLong}
-use Rattle.cap_log.specs.Lines.{IsInRange, Spells, spelling}
+use Rattle.std.specs.Prelude.{◌≡◌, ◌≢◌, ◌⊎◌, ℕ, ◌+◌, Bool, false, IsTrue, List, [], ◌++◌, length, Option, None, Some}
+use Rattle.std.specs.{Prelude.{Result, Ok, Err}, Borrow.Bor, List.AllByRecursion}
+use Rattle.cap_ops.specs.declared.refusal.Refusal.{Refusal, TheVariants.{LineTooLong, Misplaced, Truncated}}
+use Rattle.cap_log.specs.declared.{judge_faults.JudgeFault.JudgeFault, kinds.Step.Step, lines.Line.Line}
+use Rattle.cap_log.specs.{FaultLines.bytes_of, Front.{IsCut, IsLine, IsTooLong}, Lines.{IsInRange, Spells, spelling}}
 use Rattle.cap_log.specs.Parts.{Begins, Reads as Spelled}
-use Rattle.cap_log.specs.declared.lines.Line.{Line}
 use Rattle.cap_log.specs.declared.lines.Line.TheVariants as lines
-use Rattle.cap_log.specs.declared.kinds.Step.{Step}
-use Rattle.cap_ops.specs.declared.refusal.Refusal.{Refusal}
-use Rattle.cap_ops.specs.declared.refusal.Refusal.TheVariants.{LineTooLong, Misplaced, Truncated}
-use Rattle.cap_machine.specs.Accounts.{Account, is_new}
-use Rattle.cap_machine.specs.Helds.{Held, account_of}
-use Rattle.cap_machine.specs.declared.ends.StepEnd.{StepEnd}
+use Rattle.cap_machine.specs.{declared.ends.StepEnd.StepEnd, Accounts.{Account, is_new}, Helds.{Held, account_of}}
 use Rattle.cap_machine.specs.declared.ends.StepEnd.TheVariants as ends
-use Rattle.cap_judge.specs.declared.judges.Judge.{Judge}
-use Rattle.cap_judge.specs.declared.judges.Stage as code
-use Rattle.cap_judge.specs.declared.judges.Stage.TheVariants as stages
-use Rattle.cap_judge.specs.declared.judges.Stop.{Stop}
-use Rattle.cap_judge.specs.declared.judges.Stop.TheVariants as stops
-use Rattle.cap_judge.specs.declared.faults.Fault as faults
-use Rattle.cap_log.specs.declared.judge_faults.JudgeFault.{JudgeFault}
-use Rattle.cap_judge.specs.declared.verdict.Verdict.{Verdict}
-use Rattle.cap_judge.specs.declared.verdict.Verdict.TheVariants.{Yes, No}
-use Rattle.cap_log.specs.FaultLines.{bytes_of}
+use Rattle.cap_judge.specs.declared.{judges.{Judge.Judge, Stop.Stop}, verdict.Verdict.{Verdict, TheVariants.{Yes, No}}}
 use Rattle.cap_judge.specs.Judgings.{IsBehind, IsLastFront, IsVerdictOf, LeadsAfter, StopsIn, account_before}
 use Rattle.cap_judge.specs.Logs.{Beginning, lines_of, text_of, IsAccepted, Refuses, header_lines, named_by_line}
-use Rattle.cap_judge.specs.Turns.{Allows, Body, Due, Ended, First, Reads, Refused, Second, Stage, behind, refusal_at, unread}
+use Rattle.cap_judge.specs.Turns.{Allows, Body, Due, Ended, First, Reads, Refused, Second, Stage, behind, refusal_at}
+use Rattle.cap_judge.specs.Turns.{unread}
+use Rattle.cap_judge.specs.declared.faults.Fault as faults
+use Rattle.cap_judge.specs.declared.judges.Stage as code
+use Rattle.cap_judge.specs.declared.judges.Stage.TheVariants as stages
+use Rattle.cap_judge.specs.declared.judges.Stop.TheVariants as stops
 
 -- what a judge knows: what its machine holds, and what the next line has to be
 pub record Known : Type 0 where

@@ -1,14 +1,9 @@
 -- What a judge that writes its verdict answers and writes (this profile's own).
 use Rattle.std.specs.Prelude.{◌≡◌, ℕ, Bool, true, false, List, [], ◌++◌, take, Result, Ok, Err}
-use Rattle.cap_judge.specs.declared.verdict.Verdict.{Verdict}
-use Rattle.cap_judge.specs.declared.verdict.Verdict.TheVariants.{Yes, No}
-use Rattle.cap_log.specs.declared.judge_faults.JudgeFault.{JudgeFault}
+use Rattle.cap_log.specs.declared.judge_faults.JudgeToFault.{JudgeToFault, TheVariants.{Pull, NoMemory, Push}}
 use Rattle.cap_log.specs.declared.judge_faults.JudgeFault.TheVariants as judge_faults
-use Rattle.cap_log.specs.declared.judge_faults.JudgeToFault.{JudgeToFault}
-use Rattle.cap_log.specs.declared.judge_faults.JudgeToFault.TheVariants.{Pull, NoMemory, Push}
-use Rattle.cap_judge.specs.Judgings.{IsAnswerOf}
-use Rattle.cap_judge.specs.Origins.{Origin, AreOriginsOf, origin_lines}
-use Rattle.cap_judge.specs.VerdictLines.{verdict_line}
+use Rattle.cap_judge.specs.{declared.verdict.Verdict.{Verdict, TheVariants.{Yes, No}}, Judgings.IsAnswerOf}
+use Rattle.cap_judge.specs.{Origins.{Origin, AreOriginsOf, origin_lines}, VerdictLines.verdict_line}
 
 -- the text that belongs to a verdict on bytes: its line, and where origins are asked for, after a yes the lines of the
 -- log's

@@ -1,8 +1,7 @@
 -- The line of a verdict, and its exit status.
 use Rattle.std.specs.Prelude.{ℕ, List, ◌++◌, codes, decimal}
-use Rattle.cap_judge.specs.declared.verdict.Verdict.{Verdict}
-use Rattle.cap_judge.specs.declared.verdict.Verdict.TheVariants.{Yes, No}
 use Rattle.cap_ops.specs.Refusals.{refusal_number, refusal_name}
+use Rattle.cap_judge.specs.declared.verdict.Verdict.{Verdict, TheVariants.{Yes, No}}
 
 -- the verdict as a line (this profile's own)
 abbrev pub verdict_line : Verdict → List ℕ

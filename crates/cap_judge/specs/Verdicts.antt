@@ -1,25 +1,17 @@
 -- The verdict on some bytes.
 use Rattle.std.specs.Prelude.{◌≡◌, ◌≢◌, ◌↔◌, ℕ, ◌+◌, List, ◌++◌, length, codes, Result, Ok, Err}
-use Rattle.cap_machine.specs.declared.ends.StepEnd.{StepEnd}
-use Rattle.cap_machine.specs.declared.ends.StepEnd.TheVariants.{Refused}
-use Rattle.cap_machine.specs.declared.ends.StepEnd.TheVariants as ends
-use Rattle.cap_log.specs.declared.lines.Line.TheVariants.{Version, Step as Stepping}
-use Rattle.cap_log.specs.declared.kinds.Step.{Step}
-use Rattle.cap_log.specs.Front.{FrontIs, IsLine}
-use Rattle.cap_log.specs.Lines.{Spells}
 use Rattle.cap_ops.specs.declared.refusal.Refusal.{Refusal}
 use Rattle.cap_ops.specs.declared.refusal.Refusal.TheVariants.{BadHeader, BoundsEscape, LineTooLong, Truncated}
-use Rattle.cap_machine.specs.Escapes.{AsksBeyond, asked_by}
-use Rattle.cap_machine.specs.declared.rules.Rules.{Rules}
-use Rattle.cap_machine.specs.declared.rules.Rules.TheVariants.{One, TwoClear}
-use Rattle.cap_machine.specs.States.{State, DeclaredRoot, start}
-use Rattle.cap_machine.specs.Runs.{IsRun, AuthorityNeverGrows, AccessesLieInside}
-use Rattle.cap_judge.specs.declared.verdict.Verdict.{Verdict}
-use Rattle.cap_judge.specs.declared.verdict.Verdict.TheVariants.{Yes, No}
-use Rattle.cap_log.specs.declared.judge_faults.JudgeFault.{JudgeFault}
-use Rattle.cap_log.specs.declared.judge_faults.JudgeFault.TheVariants.{Pull, NoMemory}
-use Rattle.cap_judge.specs.Logs.{Beginning, Empty, NoMode, Body, Whole, SpellsBy, account_after, lines_of, text_of, IsAccepted, IsLogOf}
-use Rattle.cap_judge.specs.Logs.{Refuses, IsFirstFault, MayLackMemory}
+use Rattle.cap_log.specs.declared.{judge_faults.JudgeFault.{JudgeFault, TheVariants.{Pull, NoMemory}}, kinds.Step.Step}
+use Rattle.cap_log.specs.{declared.lines.Line.TheVariants.{Version, Step as Stepping}, Front.{FrontIs, IsLine}}
+use Rattle.cap_log.specs.Lines.{Spells}
+use Rattle.cap_machine.specs.declared.{ends.StepEnd.{StepEnd, TheVariants.Refused}, rules.Rules.Rules}
+use Rattle.cap_machine.specs.{declared.rules.Rules.TheVariants.{One, TwoClear}, Escapes.{AsksBeyond, asked_by}}
+use Rattle.cap_machine.specs.{Runs.{IsRun, AuthorityNeverGrows, AccessesLieInside}, States.{State, DeclaredRoot, start}}
+use Rattle.cap_machine.specs.declared.ends.StepEnd.TheVariants as ends
+use Rattle.cap_judge.specs.declared.verdict.Verdict.{Verdict, TheVariants.{Yes, No}}
+use Rattle.cap_judge.specs.Logs.{Beginning, Empty, NoMode, Body, Whole, SpellsBy, account_after, lines_of, text_of}
+use Rattle.cap_judge.specs.Logs.{IsAccepted, IsLogOf, Refuses, IsFirstFault, MayLackMemory}
 
 -- the bytes are a log with this many steps and roots, whose steps have a run
 pub record IsYes (bytes : List ℕ) (step_count root_count : ℕ) : Type 0 where

@@ -1,28 +1,23 @@
 //! The judge of a log: it is handed the log's bytes, cut anywhere, or its steps by their numbers, and reads the whole
 //! lines that stand there.
 
-ghost use Rattle.std.specs.Prelude.{◌≡◌, ◌≤◌, ◌<◌, ◌^◌, ◌↔◌, ◌⊎◌, ℕ, List, [], ◌++◌, length, take, drop, true, false, Err, None, IfSome};
-ghost use Rattle.std.specs.Prelude.{OnOk, IfErr, ◌≢◌, ◌∷◌, ◌+◌, IfOk, Some};
-ghost use Rattle.cap_log.specs.Front.{IsCut, IsFront, IsFrontText, IsLine, IsTooLong};
-ghost use Rattle.cap_machine.specs.States.{granule_key, key_of};
-ghost use Rattle.cap_judge.specs.Expectations.{ExpectsAt};
-ghost use Rattle.cap_judge.specs.Logs.{has_form, header_lines};
-ghost use Rattle.cap_judge.specs.Verdicts.{NamesEscapes};
-ghost use Rattle.cap_judge.specs.Turns.{refusal_at, rules_of, unread};
-ghost use Rattle.cap_judge.specs.Readings.{EndsAs, EndsAt, EndsFor, EndsIn, EndsLine, EndsText, Faults, Follows, Goes, GoesOrStops, IsAtFault, IsUnmade};
-ghost use Rattle.cap_judge.specs.Readings.{IsFaultOf, IsNoLine, Lacks, RefusesNext, StopsAt, Takes, known_of, lines_read, long_refusal, stage_of};
-ghost use Rattle.cap_judge.specs.Readings.{verdict_so_far};
-ghost use Rattle.cap_judge.specs.declared.judges.Stage.TheVariants.{Body, Refused as RefusedIn, Mode as ModeStage, Version};
-ghost use Rattle.cap_judge.specs.declared.faults.Fault.{Fault as FaultIn};
-ghost use Rattle.cap_judge.specs.declared.verdict.TakeFault.TheVariants.{NoLine, NoMemory};
-ghost use Rattle.cap_log.specs.Lines.{IsStepInRange, Spells, spelling, IsInRange, IsPlace};
-ghost use Rattle.cap_log.specs.Parts.{Begins};
-ghost use Rattle.cap_log.specs.declared.lines.Line.{Line};
-ghost use Rattle.cap_machine.specs.Helds.{account_of};
-ghost use Rattle.cap_ops.specs.declared.refusal.Refusal.TheVariants.{BadLine, Misplaced};
-ghost use Rattle.cap_log.specs.FaultLines.{bytes_of};
+ghost use Rattle.std.specs.Prelude.{◌≡◌, ◌≤◌, ◌<◌, ◌^◌, ◌↔◌, ◌⊎◌, ℕ, List, [], ◌++◌, length, take, drop, true, false};
+ghost use Rattle.std.specs.Prelude.{Err, None, IfSome, OnOk, IfErr, ◌≢◌, ◌∷◌, ◌+◌, IfOk, Some};
 ghost use Rattle.std.specs.FinMap as map;
+ghost use Rattle.cap_ops.specs.declared.refusal.Refusal.TheVariants.{BadLine, Misplaced};
+ghost use Rattle.cap_log.specs.{declared.lines.Line.Line, FaultLines.bytes_of};
+ghost use Rattle.cap_log.specs.Front.{IsCut, IsFront, IsFrontText, IsLine, IsTooLong};
+ghost use Rattle.cap_log.specs.{Lines.{IsStepInRange, Spells, spelling, IsInRange, IsPlace}, Parts.Begins};
 ghost use Rattle.cap_log.specs.declared.lines.Line.TheVariants as lines;
+ghost use Rattle.cap_machine.specs.States.{granule_key, key_of};
+ghost use Rattle.cap_judge.specs.declared.{faults.Fault.Fault as FaultIn, judges.Stage.TheVariants.Body};
+ghost use Rattle.cap_judge.specs.declared.judges.Stage.TheVariants.{Refused as RefusedIn, Mode as ModeStage, Version};
+ghost use Rattle.cap_judge.specs.{declared.verdict.TakeFault.TheVariants.{NoLine, NoMemory}, Expectations.ExpectsAt};
+ghost use Rattle.cap_judge.specs.{Logs.{has_form, header_lines}, Readings.{EndsAs, EndsAt, EndsFor, EndsIn, EndsLine}};
+ghost use Rattle.cap_judge.specs.Readings.{EndsText, Faults, Follows, Goes, GoesOrStops, IsAtFault, IsUnmade};
+ghost use Rattle.cap_judge.specs.Readings.{IsFaultOf, IsNoLine, Lacks, RefusesNext, StopsAt, Takes, known_of};
+ghost use Rattle.cap_judge.specs.Readings.{lines_read, long_refusal, stage_of, verdict_so_far};
+ghost use Rattle.cap_judge.specs.{Turns.{refusal_at, rules_of, unread}, Verdicts.NamesEscapes};
 ghost use Rattle.cap_judge.specs.declared.judges.Stop.TheVariants as stops;
 
 use crate::expecting::expected_by;

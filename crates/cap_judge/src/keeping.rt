@@ -3,9 +3,7 @@
 ghost use Rattle.std.specs.Prelude.{◌≡◌};
 ghost use Rattle.std.specs.FinMap as map;
 ghost use Rattle.cap_log.specs.FaultLines.{bytes_of};
-ghost use Rattle.cap_judge.specs.Judgings.{JudgedAll};
-ghost use Rattle.cap_judge.specs.Readings.{stage_of};
-ghost use Rattle.cap_judge.specs.Turns.{unread};
+ghost use Rattle.cap_judge.specs.{Judgings.JudgedAll, Readings.stage_of, Turns.unread};
 
 use crate::judges::{Judge, Stop};
 use crate::streams::{Judging, answered};

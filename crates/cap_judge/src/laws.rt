@@ -1,24 +1,16 @@
 //! Laws about logs. Their functions do nothing: what each says is its contract.
 
-ghost use Rattle.std.specs.Prelude.{◌≡◌, ◌↔◌, ◌++◌, ℕ, Bool, List, None, Option, true};
-ghost use Rattle.std.specs.List.{AllByRecursion};
-ghost use Rattle.cap_log.specs.Lines.{IsInRange};
-ghost use Rattle.cap_log.specs.declared.kinds.Step.{Step};
-ghost use Rattle.cap_machine.specs.declared.rules.Rules.{Rules};
-ghost use Rattle.cap_machine.specs.States.{DeclaredRoot, State, start};
-ghost use Rattle.cap_machine.specs.Runs.{IsRun};
-ghost use Rattle.cap_machine.specs.Escapes.{ClearsExactly};
-ghost use Rattle.cap_judge.specs.Logs.{Beginning, IsAccepted, IsLogOf, MayLackMemory, lines_of};
-ghost use Rattle.cap_judge.specs.Expectations.{Expects, ExpectsAt};
-ghost use Rattle.cap_judge.specs.Readings.{BeginsWhole, EndsIn, EndsWith, Faults, Follows, Goes, IsReached, Lacks, Stands, verdict_so_far};
-ghost use Rattle.cap_judge.specs.Turns.{Reads, Refused, Stage, unread};
-ghost use Rattle.cap_judge.specs.declared.verdict.Expected.{Expected};
-ghost use Rattle.cap_judge.specs.declared.verdict.Verdict.TheVariants.{No};
-ghost use Rattle.cap_log.specs.Front.{IsCut};
-ghost use Rattle.cap_machine.specs.Helds.{Held, account_of};
+ghost use Rattle.std.specs.{Prelude.{◌≡◌, ◌↔◌, ◌++◌, ℕ, Bool, List, None, Option, true}, List.AllByRecursion};
 ghost use Rattle.cap_ops.specs.declared.refusal.Refusal.{Refusal};
-ghost use Rattle.cap_judge.specs.declared.verdict.Verdict.{Verdict};
-ghost use Rattle.cap_judge.specs.Verdicts.{IsByVersionOne, IsGuarded, IsOfVersionOne, IsVerdict, IsVerdictOne, NamesEscapes};
+ghost use Rattle.cap_log.specs.{declared.kinds.Step.Step, Front.IsCut, Lines.IsInRange};
+ghost use Rattle.cap_machine.specs.{declared.rules.Rules.Rules, Escapes.ClearsExactly, Helds.{Held, account_of}};
+ghost use Rattle.cap_machine.specs.{Runs.IsRun, States.{DeclaredRoot, State, start}};
+ghost use Rattle.cap_judge.specs.declared.verdict.{Expected.Expected, Verdict.{Verdict, TheVariants.No}};
+ghost use Rattle.cap_judge.specs.{Expectations.{Expects, ExpectsAt}, Logs.{Beginning, IsAccepted, IsLogOf}};
+ghost use Rattle.cap_judge.specs.{Logs.{MayLackMemory, lines_of}, Readings.{BeginsWhole, EndsIn, EndsWith, Faults}};
+ghost use Rattle.cap_judge.specs.Readings.{Follows, Goes, IsReached, Lacks, Stands, verdict_so_far};
+ghost use Rattle.cap_judge.specs.{Turns.{Reads, Refused, Stage, unread}, Verdicts.{IsByVersionOne, IsGuarded}};
+ghost use Rattle.cap_judge.specs.Verdicts.{IsOfVersionOne, IsVerdict, IsVerdictOne, NamesEscapes};
 
 /// Whatever bytes are read: where they are a log whose steps have a run, then along it, at every moment,
 /// each tagged capability in a register or memory has bounds inside and permissions among those of the

@@ -2,8 +2,8 @@
 
 ghost use Rattle.std.specs.Prelude.{◌≡◌, ℕ, List, [], ◌++◌, false, IfSome};
 ghost use Rattle.cap_machine.specs.Helds.{AnswersStep};
-ghost use Rattle.cap_judge.specs.Readings.{EndsAt, Goes, TakesAll, TakesOne, at};
 ghost use Rattle.cap_judge.specs.declared.judges.Stage.TheVariants.{Body};
+ghost use Rattle.cap_judge.specs.Readings.{EndsAt, Goes, TakesAll, TakesOne, at};
 
 use cap_log::{Head, Part};
 use cap_machine::{ByKind, Instruction, Machine, StepEnd, by_head};

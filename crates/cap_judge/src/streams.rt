@@ -2,15 +2,11 @@
 
 ghost use Rattle.std.specs.Prelude.{◌≡◌, ℕ, List, [], ◌++◌, Err, IsOk, IfOk, IfErr};
 ghost use Rattle.std.specs.FinMap as map;
+ghost use Rattle.cap_log.specs.{declared.judge_faults.JudgeFault.TheVariants.Pull, FaultLines.bytes_of, Pulled.items};
 ghost use Rattle.cap_log.specs.Streams.{CountsOnly};
-ghost use Rattle.cap_log.specs.Pulled.{items};
-ghost use Rattle.cap_log.specs.FaultLines.{bytes_of};
-ghost use Rattle.cap_judge.specs.Judgings.{Judged, JudgedBy};
-ghost use Rattle.cap_judge.specs.Logs.{NamesNoGranules};
-ghost use Rattle.cap_judge.specs.Readings.{IsAnswered, StopsAt, stage_of};
-ghost use Rattle.cap_judge.specs.Turns.{unread};
+ghost use Rattle.cap_judge.specs.{Judgings.{Judged, JudgedBy}, Logs.NamesNoGranules};
+ghost use Rattle.cap_judge.specs.{Readings.{IsAnswered, StopsAt, stage_of}, Turns.unread};
 ghost use Rattle.cap_judge.specs.Verdicts.{EscapesExactly, NoVerdictIn, IsGuarded, IsVerdict, NamesEscapes};
-ghost use Rattle.cap_log.specs.declared.judge_faults.JudgeFault.TheVariants.{Pull};
 
 use crate::faults::Fault;
 use crate::judges::{Judge, Stop};

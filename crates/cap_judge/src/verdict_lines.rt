@@ -1,8 +1,8 @@
 //! The line of a verdict, and its exit status.
 
-ghost use Rattle.std.specs.Prelude.{◌≡◌, ◌≤◌, ◌+◌, length, take, drop};
-ghost use Rattle.cap_judge.specs.VerdictLines.{verdict_line, verdict_status};
+ghost use Rattle.std.specs.Prelude.{◌≡◌, ◌≤◌, length, take, drop};
 ghost use Rattle.cap_judge.specs.declared.verdict.Verdict.TheVariants.{Yes, No};
+ghost use Rattle.cap_judge.specs.VerdictLines.{verdict_line, verdict_status};
 
 use crate::verdict::Verdict;
 use cap_log::buffers::{put, put_decimal};

@@ -1,11 +1,10 @@
 -- Where some bytes are cut: at the first byte of a kind.
-use Rattle.std.proofs.Common.{◌≡◌, ◌≢◌, ℕ, true, eqb, List, [], ◌∷◌, ◌++◌, take, drop, sym, ap, ◌∙◌, refl}
 use Rattle.std.specs.Cmp.Lexicographic.{pointwise}
-use Rattle.std.proofs.lemmas.Bool.{and_parts, eqb-true, false≢true}
-use Rattle.std.proofs.lemmas.List.{take-append-drop}
+use Rattle.std.proofs.Common.{◌≡◌, ◌≢◌, ℕ, true, eqb, List, [], ◌∷◌, ◌++◌, take, drop, sym, ap, ◌∙◌, refl, eqb-true}
+use Rattle.std.proofs.{Common.take-append-drop, lemmas.Bool.{and_parts, false≢true}}
 use Rattle.std.proofs.lemmas.List.Elements.{All-head, All-tail}
-use Rattle.cap_log.specs.Parts.{Lacks}
 pub use Rattle.cap_log.specs.Spaceless.{Lacks-by_test}
+use Rattle.cap_log.specs.Parts.{Lacks}
 
 -- two cuts of one list are one
 pub same_cut : (c : ℕ) (a b x y : List ℕ) → Lacks c a → Lacks c b → a ++ c ∷ x ≡ b ++ c ∷ y → (a ≡ b) × (x ≡ y)

@@ -1,21 +1,13 @@
 -- Whether bytes spell a line is decided, and which front they have.
-use Rattle.std.proofs.Common.{◌≡◌, ◌≢◌, ℕ, zero, suc, ◌+◌, ◌<◌, ◌⊎◌, List, [], ◌∷◌, ◌++◌, length, take, drop, get_or, sym, ap, ◌∙◌}
-use Rattle.std.proofs.Common.{inl, inr, refl, subst, bytes_eq, eqb, if◌then◌else◌, arith}
-use Rattle.std.proofs.Math.Seq.{take-length}
-use Rattle.std.proofs.lemmas.Bool.{ne_eqb}
-use Rattle.std.proofs.lemmas.List.Elements.{All-head, All-tail}
-use Rattle.std.proofs.lemmas.Bool.Decides.{leb_tells, eqb_tells}
-use Rattle.std.proofs.lemmas.Slice.Eq.{bytes_eq-Decides}
-use Rattle.cap_log.specs.declared.kinds.Head.{Head}
-use Rattle.cap_log.specs.declared.lines.Line.{Line}
-use Rattle.cap_log.specs.Heads.{head_spelling}
-use Rattle.cap_log.specs.Lines.{Spells, spelling}
-use Rattle.cap_log.specs.Front.{HasNoFeed, IsLine, IsTooLong, IsCut}
-use Rattle.cap_log.specs.Parts.{HasNoSpace}
-use Rattle.cap_log.specs.Spaceless.{head-spaceless}
-use Rattle.cap_log.proofs.FrontLemmas.{HasNoFeed-take, IsLine-at}
-use Rattle.cap_log.proofs.Searches.{Decided, by_test}
-use Rattle.cap_log.proofs.Shapes.{Fits, Value, fits-of, head_of, is_made, made, made-of, named, named-spelling, operands_of, row, spelling-of}
+use Rattle.std.proofs.Common.{◌≡◌, ◌≢◌, ℕ, zero, suc, ◌+◌, ◌<◌, ◌⊎◌, List, [], ◌∷◌, ◌++◌, length, take, drop, get_or}
+use Rattle.std.proofs.Common.{sym, ap, ◌∙◌, inl, inr, refl, subst, bytes_eq, eqb, if◌then◌else◌, arith, ne_eqb}
+use Rattle.std.proofs.{Math.Seq.take-length, lemmas.Bool.Decides.{leb_tells, eqb_tells}}
+use Rattle.std.proofs.lemmas.{List.Elements.{All-head, All-tail}, Slice.Eq.bytes_eq-Decides}
+use Rattle.cap_log.specs.{declared.{kinds.Head.Head, lines.Line.Line}, Front.{HasNoFeed, IsLine, IsTooLong, IsCut}}
+use Rattle.cap_log.specs.{Heads.head_spelling, Lines.{Spells, spelling}, Parts.HasNoSpace, Spaceless.head-spaceless}
+use Rattle.cap_log.proofs.{FrontLemmas.{HasNoFeed-take, IsLine-at}, Searches.{Decided, by_test}}
+use Rattle.cap_log.proofs.Shapes.{Fits, Value, fits-of, head_of, is_made, made, made-of, named, named-spelling}
+use Rattle.cap_log.proofs.Shapes.{operands_of, row, spelling-of}
 
 -- bytes spell a line of this head, or none
 of_head : (bytes : List ℕ) (h : Head) → Decided ((x : Value h) × Fits h x × (bytes ≡ spelling (made h x)))

@@ -1,21 +1,15 @@
 -- Decimal numbers: which texts they have, and what a loop over the digits keeps.
-use Rattle.std.proofs.Common.{◌≡◌, ℕ, ◌+◌, ◌-◌, ◌*◌, ◌<◌, ◌≤◌, ◌^◌, List, ◌∷◌, ◌++◌, length, take, drop, get_or, sym, ap, ◌∙◌, arith, inl}
-use Rattle.std.proofs.Common.{inr, decimal}
-use Rattle.std.specs.Char.{digit_value}
-use Rattle.std.specs.Str.Parse.{AllDigits, digits_value}
-use Rattle.std.proofs.lemmas.Bool.{cases_eq, cases_lt}
-use Rattle.std.proofs.lemmas.Bool.Decides.{nat_tests}
-use Rattle.std.proofs.lemmas.Int.Digits.{digits_value-lt, digits_value_more, digits_more}
-use Rattle.std.proofs.lemmas.List.{length-take-le, length-append, get_or-take, take_at, take-append-drop, drop_more}
-use Rattle.std.proofs.Math.ListN.{get_or-append}
-use Rattle.std.proofs.Math.Nat.{pow-le-pow_right}
-use Rattle.std.proofs.Math.Seq.{get_or-append_seam}
+use Rattle.std.specs.{Char.digit_value, Str.Parse.{AllDigits, digits_value}}
+use Rattle.std.proofs.Common.{◌≡◌, ℕ, ◌+◌, ◌-◌, ◌*◌, ◌<◌, ◌≤◌, ◌^◌, List, ◌∷◌, ◌++◌, length, take, drop, get_or, sym}
+use Rattle.std.proofs.Common.{ap, ◌∙◌, arith, inl, inr, decimal, length-take-le, length-append, get_or-take, take_at}
+use Rattle.std.proofs.{Common.take-append-drop, Math.{ListN.get_or-append, Nat.pow-le-pow_right}}
+use Rattle.std.proofs.{Math.Seq.get_or-append_seam, lemmas.Bool.{cases_eq, cases_lt, Decides.nat_tests}}
+use Rattle.std.proofs.lemmas.Fmt.{decimal_is_IsNumeral, length-decimal-le, first_decimal, decimal_digit}
+use Rattle.std.proofs.lemmas.Fmt.{decimal_injective, decimal-digits_value}
+use Rattle.std.proofs.lemmas.{Int.Digits.{digits_value-lt, digits_value_more, digits_more}, List.drop_more}
 use Rattle.std.proofs.lemmas.Str.Parse.{IsNumeralModel, numerals_by_value, tells_digits, digit_at}
-use Rattle.cap_log.specs.Parts.{IsFrontNumber}
-use Rattle.cap_log.specs.Spaceless.{Lacks-decimal}
+use Rattle.cap_log.specs.{Parts.IsFrontNumber, Spaceless.Lacks-decimal}
 use Rattle.cap_log.proofs.Cuts.{same_cut}
-use Rattle.std.proofs.lemmas.Fmt.{decimal_is_IsNumeral, length-decimal-le, first_decimal, decimal_digit, decimal_injective}
-use Rattle.std.proofs.lemmas.Fmt.{decimal-digits_value}
 
 own : IsNumeralModel (AllDigits 10) (digits_value 10)
 own = numerals_by_value (AllDigits 10) tells_digits

@@ -1,6 +1,6 @@
 -- What holds of each element of a list, and the length of a number in decimal.
-use Rattle.std.proofs.Common.{ℕ, ◌^◌, ◌<◌, ◌≤◌, List, [], ◌∷◌, ◌++◌, length, decimal, arith, rules, lit<}
 use Rattle.std.specs.List.{AllByRecursion}
+use Rattle.std.proofs.Common.{ℕ, ◌^◌, ◌<◌, ◌≤◌, List, [], ◌∷◌, ◌++◌, length, decimal, arith, rules, lit<}
 use Rattle.std.proofs.lemmas.Fmt.{length-decimal-le}
 
 -- what holds of each element of two lists holds of each element of both together

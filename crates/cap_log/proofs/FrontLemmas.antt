@@ -1,7 +1,7 @@
 -- Fronts: what a search for a line feed finds, and that exactly one front fits.
-use Rattle.std.proofs.Common.{◌≡◌, ◌≢◌, ℕ, ◌+◌, ◌<◌, ◌≤◌, List, [], ◌∷◌, ◌++◌, length, take, drop, get_or, sym, ap, ◌∙◌, refl, subst}
-use Rattle.std.proofs.Common.{append_assoc, arith}
-use Rattle.std.proofs.lemmas.List.{drop_more, take-append-drop, get_or_at, get_or-take, length-take-le, length-append, take-append-le}
+use Rattle.std.proofs.Common.{◌≡◌, ◌≢◌, ℕ, ◌+◌, ◌<◌, ◌≤◌, List, [], ◌∷◌, ◌++◌, length, take, drop, get_or, sym, ap, ◌∙◌}
+use Rattle.std.proofs.Common.{refl, subst, append_assoc, arith, take-append-drop, get_or-take, length-take-le}
+use Rattle.std.proofs.{Common.length-append, lemmas.List.{drop_more, get_or_at, take-append-le}}
 use Rattle.std.proofs.lemmas.List.Elements.{All-head, All-tail, All-from_get_or}
 use Rattle.cap_log.specs.Front.{HasNoFeed, IsLine, IsTooLong, IsCut}
 

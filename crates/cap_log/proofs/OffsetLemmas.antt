@@ -1,11 +1,7 @@
 -- Offsets: what the digits with a minus sign before them, or without one, spell.
-use Rattle.std.proofs.Common.{◌≡◌, ℕ, suc, ◌<◌, ◌≤◌, ◌^◌, ℤ, pos, negsuc, List, ◌∷◌, ◌++◌, get_or, drop, sym, ap, ◌∙◌, arith, decimal}
 use Rattle.std.specs.Fmt.{signed_decimal}
-use Rattle.std.proofs.lemmas.Fmt.{decimal_nonempty}
-use Rattle.std.proofs.lemmas.Int.{ints, to_z-of_z}
-use Rattle.std.proofs.Math.ListN.{get_or-append}
-use mir.Syntax.{w16}
-use mir.Val.{SFits, of_z, to_z}
+use Rattle.std.proofs.Common.{◌≡◌, ℕ, suc, ◌<◌, ◌≤◌, ◌^◌, ℤ, pos, negsuc, List, ◌∷◌, ◌++◌, get_or, drop, sym, ap, ◌∙◌}
+use Rattle.std.proofs.{Common.{arith, decimal}, Math.ListN.get_or-append, lemmas.{Fmt.decimal_nonempty, Int.ints}}
 use Rattle.cap_log.specs.Lines.{IsOffset}
 use Rattle.cap_log.proofs.PartLemmas.{Lacks-decimal}
 

@@ -1,27 +1,19 @@
 -- The parts of a line, one by one: each value in range has one short spelling, without a line feed.
-use Rattle.std.proofs.Common.{◌≡◌, ◌≢◌, ℕ, suc, ◌+◌, ◌*◌, ◌%◌, ◌<◌, ◌≤◌, ◌^◌, ℤ, pos, negsuc, Bool, true, false, eqb, List, [], ◌∷◌, ◌++◌}
-use Rattle.std.proofs.Common.{length, get_or, take, drop, sym, ap, subst, ◌∙◌, refl, inl, inr, arith, decimal, codes, lit≤}
-use Rattle.std.specs.Fmt.{signed_decimal}
-use Rattle.std.specs.Cmp.Lexicographic.{pointwise}
-use Rattle.std.proofs.lemmas.Bool.{false≢true}
+use Rattle.std.specs.{Cmp.Lexicographic.pointwise, Fmt.signed_decimal}
+use Rattle.std.proofs.Common.{◌≡◌, ◌≢◌, ℕ, suc, ◌+◌, ◌*◌, ◌%◌, ◌<◌, ◌≤◌, ◌^◌, ℤ, pos, negsuc, Bool, true, false, eqb}
+use Rattle.std.proofs.Common.{List, [], ◌∷◌, ◌++◌, length, get_or, take, drop, sym, ap, subst, ◌∙◌, refl, inl, inr}
+use Rattle.std.proofs.{Common.{arith, decimal, codes, lit≤, length-append, take_at}, lemmas.Bool.{false≢true}}
 use Rattle.std.proofs.lemmas.Fmt.{decimal_injective, length-decimal-le, signed_decimal_injective}
-use Rattle.std.proofs.lemmas.List.{length-append, take_at}
 use Rattle.std.proofs.lemmas.List.Elements.{All-append, All-cons}
-use Rattle.cap_word.specs.Digits.{hex_digits}
-use Rattle.cap_word.specs.declared.word.Cap.{Cap}
-use Rattle.cap_word.proofs.DigitLemmas.{length-hex_digits, pow_256}
-use Rattle.cap_log.specs.Lines.{IsDataSize, IsDataValue, IsNumber, IsOffset, IsPlace, IsRegister, IsTarget, IsWord, place_spelling}
-use Rattle.cap_log.specs.Lines.{register_spelling, tag_spelling}
-use Rattle.cap_log.specs.Parts.{Begins, BeginsWithNone, HasNoSpace, accessed_spelling, result_spelling, value_mark}
-use Rattle.cap_log.specs.Ranges.{IsDatum}
-use Rattle.cap_log.specs.declared.lines.Place.{Place}
-use Rattle.cap_log.specs.declared.lines.Place.TheVariants.{Register, Granule}
-use Rattle.cap_log.specs.Parts.{Lacks}
-use Rattle.cap_log.proofs.Cuts.{Lacks-by_test, same_cut}
-use Rattle.cap_word.proofs.ReadingLemmas.{hex_digits-same}
-use Rattle.cap_log.proofs.OperandLemmas.{IsOperand}
-pub use Rattle.cap_log.specs.Spaceless.{Lacks-decimal, Lacks-hex, Lacks-signed, number-spaceless, offset-mag, offset-spaceless}
-pub use Rattle.cap_log.specs.Spaceless.{place-spaceless, register-spaceless}
+use Rattle.cap_word.specs.{declared.word.Cap.Cap, Digits.hex_digits}
+use Rattle.cap_word.proofs.{DigitLemmas.{length-hex_digits, pow_256}, ReadingLemmas.hex_digits-same}
+pub use Rattle.cap_log.specs.Spaceless.{Lacks-decimal, Lacks-hex, Lacks-signed, number-spaceless, offset-mag}
+pub use Rattle.cap_log.specs.Spaceless.{offset-spaceless, place-spaceless, register-spaceless}
+use Rattle.cap_log.specs.declared.lines.Place.{Place, TheVariants.{Register, Granule}}
+use Rattle.cap_log.specs.Lines.{IsDataSize, IsDataValue, IsNumber, IsOffset, IsPlace, IsRegister, IsTarget, IsWord}
+use Rattle.cap_log.specs.{Lines.{place_spelling, register_spelling, tag_spelling}, Parts.{Begins, BeginsWithNone}}
+use Rattle.cap_log.specs.{Parts.{HasNoSpace, accessed_spelling, result_spelling, value_mark, Lacks}, Ranges.IsDatum}
+use Rattle.cap_log.proofs.{Cuts.{Lacks-by_test, same_cut}, OperandLemmas.IsOperand}
 
 -- counts
 pub count-operand : IsOperand (λ n. n < 2 ^ 32) decimal 10

@@ -1,11 +1,11 @@
 -- The bytes that are held, after a write past its end or a step of its start.
-use Rattle.std.proofs.Common.{◌≡◌, ℕ, Bool, true, ◌&&◌, nat_lt, rules, tests, ◌==◌, ◌+◌, ◌-◌, ◌≤◌, List, ◌++◌, length, take, drop}
-use Rattle.std.proofs.Common.{slice_range, refl, sym, ap, ◌∙◌, arith}
-use Rattle.cap_log.specs.Streams.{is_end}
-use Rattle.std.proofs.lemmas.List.{append-nil, take_at, drop_at, take-append-le, drop-append-le, drop-take, drop-drop, length-take-le}
-use Rattle.std.proofs.lemmas.List.{length-drop}
+use Rattle.std.proofs.Common.{◌≡◌, ℕ, Bool, true, ◌&&◌, nat_lt, rules, tests, ◌==◌, ◌+◌, ◌-◌, ◌≤◌, List, ◌++◌, length}
+use Rattle.std.proofs.Common.{take, drop, slice_range, refl, sym, ap, ◌∙◌, arith, append-nil, take_at, drop_at}
+use Rattle.std.proofs.Common.{drop-drop, length-take-le, length-drop}
+use Rattle.std.proofs.lemmas.List.{take-append-le, drop-append-le, drop-take}
 use borrow.Rule.Slice.PartMut.{put_mid, post_of}
 use lib.Seq.{take-add}
+use Rattle.cap_log.specs.Streams.{is_end}
 
 pub grown : (xs ys : List ℕ) (start end k n : ℕ) → start ≤ end → end ≤ length xs → n ≤ length ys
     → slice_range (put_mid end k xs ys) start (end + n) ≡ slice_range xs start end ++ take n ys

@@ -1,10 +1,8 @@
 -- Registers at the front of some bytes, by their digits.
 use Rattle.std.proofs.Common.{◌≡◌, ◌≢◌, ℕ, ◌+◌, ◌-◌, ◌*◌, ◌/◌, ◌%◌, ◌<◌, ◌≤◌, List, [], ◌∷◌, ◌++◌, length, get_or, drop}
-use Rattle.std.proofs.Common.{sym, ap, ◌∙◌, inl, inr, refl, arith, decimal}
-use Rattle.std.proofs.lemmas.Bool.{cases_lt}
+use Rattle.std.proofs.{Common.{sym, ap, ◌∙◌, inl, inr, refl, arith, decimal}, lemmas.Bool.cases_lt}
 use Rattle.std.proofs.lemmas.Fmt.{decimal_digit, decimal_step}
-use Rattle.cap_log.specs.Lines.{IsRegister, register_spelling}
-use Rattle.cap_log.specs.Parts.{Begins}
+use Rattle.cap_log.specs.{Lines.{IsRegister, register_spelling}, Parts.Begins}
 
 -- the text of a number of two digits
 two_digits : (tens ones : ℕ) → 1 ≤ tens → tens ≤ 9 → ones ≤ 9 → decimal (10 * tens + ones) ≡ (48 + tens) ∷ (48 + ones) ∷ []

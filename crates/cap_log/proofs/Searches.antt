@@ -1,19 +1,12 @@
 -- What is decided, and what a search decides: whether some thing of a range has a fact that is decided of each.
-use Rattle.std.proofs.Common.{◌≡◌, ℕ, zero, suc, ◌^◌, ◌<◌, ◌≤◌, ℤ, pos, negsuc, Bool, true, false, ◌⊎◌, inl, inr, refl, subst, Decides, leb, arith}
-use Rattle.std.proofs.lemmas.Int.{ints}
-use Rattle.std.proofs.lemmas.Bool.{false≢true, leb-true, le-leb}
-use Rattle.std.proofs.lemmas.Bool.Decides.{eqb_tells}
-use Rattle.cap_word.specs.declared.word.Word.{Word}
-use Rattle.cap_word.specs.declared.word.Cap.{Cap}
-use Rattle.cap_log.specs.declared.lines.Place.{Place}
-use Rattle.cap_log.specs.declared.lines.Place.TheVariants.{Register, Granule}
-use Rattle.cap_log.specs.declared.lines.Mode.{Mode}
-use Rattle.cap_log.specs.declared.lines.Mode.TheVariants.{Strict, Clear}
-use Rattle.cap_log.specs.declared.parts.headers.Version.{Version}
-use Rattle.cap_log.specs.declared.parts.sized.Accessed.{Accessed}
-use Rattle.cap_log.specs.Lines.{IsRegister, IsTarget, IsPlace, IsWord, IsOffset, IsDataSize, IsVersion}
-use Rattle.cap_log.specs.Parts.{FitBoth, IsMode}
-use Rattle.cap_log.specs.Ranges.{Datum, IsDatum}
+use Rattle.std.proofs.Common.{◌≡◌, ℕ, zero, suc, ◌^◌, ◌<◌, ◌≤◌, ℤ, pos, negsuc, Bool, true, false, ◌⊎◌, inl, inr, refl}
+use Rattle.std.proofs.{Common.{subst, Decides, leb, arith, leb-true, le-leb}, lemmas.Bool.{false≢true}}
+use Rattle.std.proofs.lemmas.{Bool.Decides.eqb_tells, Int.ints}
+use Rattle.cap_word.specs.declared.word.{Cap.Cap, Word.Word}
+use Rattle.cap_log.specs.declared.lines.{Mode.{Mode, TheVariants.{Strict, Clear}}, Place.Place}
+use Rattle.cap_log.specs.declared.{lines.Place.TheVariants.{Register, Granule}, parts.headers.Version.Version}
+use Rattle.cap_log.specs.{declared.parts.sized.Accessed.Accessed, Lines.{IsRegister, IsTarget, IsPlace, IsWord}}
+use Rattle.cap_log.specs.{Lines.{IsOffset, IsDataSize, IsVersion}, Parts.{FitBoth, IsMode}, Ranges.{Datum, IsDatum}}
 
 -- Facts that are decided
 

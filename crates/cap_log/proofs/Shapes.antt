@@ -1,35 +1,22 @@
 -- Lines by their heads: what stands behind each head, and the line that head and operands make.
-use Rattle.std.proofs.Common.{append_assoc, ◌≡◌, ℕ, ◌+◌, ◌≤◌, ◌^◌, List, ◌∷◌, ◌++◌, length, sym, ap, subst, ◌∙◌, refl, arith}
-use Rattle.std.proofs.Common.{Bool, true, false, inl, inr, decimal, codes, lit≤, if◌then◌else◌}
 use Rattle.std.specs.Fmt.{signed_decimal}
+use Rattle.std.proofs.Common.{append_assoc, ◌≡◌, ℕ, ◌+◌, ◌≤◌, ◌^◌, List, ◌∷◌, ◌++◌, length, sym, ap, subst, ◌∙◌, refl}
+use Rattle.std.proofs.Common.{arith, Bool, true, false, inl, inr, decimal, codes, lit≤, if◌then◌else◌, bytes_eq}
 use Rattle.std.proofs.lemmas.Fmt.{decimal_digit, decimal_injective, length-decimal-le}
-use Rattle.std.specs.Str.{bytes_eq}
-use Rattle.cap_word.specs.Digits.{hex_digits}
-use Rattle.cap_word.specs.declared.word.Cap.{Cap}
-use Rattle.cap_word.specs.declared.word.Word.{Word}
-use Rattle.cap_log.specs.Front.{HasNoFeed}
-use Rattle.cap_log.specs.Heads.{IsHead, head_spelling}
-use Rattle.cap_log.specs.Lines.{IsInRange, IsNumber, IsVersion, IsOffset, IsPlace, IsRegister, IsTarget, IsWord, mode_spelling}
-use Rattle.cap_log.specs.Lines.{place_spelling, register_spelling, spelling}
-use Rattle.cap_log.specs.Parts.{BeginsWithNone, BeginsWithout, FitBoth, IsCount, IsMode, StandsBehind, accessed_spelling}
-use Rattle.cap_log.specs.Parts.{result_spelling, spaced}
-use Rattle.cap_log.specs.Ranges.{IsDatum}
-use Rattle.cap_log.specs.declared.kinds.Head.{Head}
-use Rattle.cap_log.specs.declared.kinds.Head.TheVariants as head
-use Rattle.cap_log.specs.declared.kinds.Step.TheVariants as step
-use Rattle.cap_log.specs.declared.lines.Mode.{Mode}
-use Rattle.cap_log.specs.declared.lines.Mode.TheVariants as modes
-use Rattle.cap_log.specs.declared.lines.Line.{Line}
-use Rattle.cap_log.specs.declared.lines.Line.TheVariants as line
-use Rattle.cap_log.specs.declared.parts.headers.Version.{Version}
-use Rattle.cap_log.specs.declared.parts.sized.Accessed.{Accessed}
-use Rattle.cap_log.proofs.Cuts.{Lacks-by_test, same_cut}
+use Rattle.cap_word.specs.{declared.word.{Cap.Cap, Word.Word}, Digits.hex_digits}
+use Rattle.cap_log.specs.declared.{kinds.{Head.Head, Step.Step}, lines.{Line.Line, Mode.Mode}}
+use Rattle.cap_log.specs.{declared.parts.{headers.Version.Version, sized.Accessed.Accessed}, Front.HasNoFeed}
+use Rattle.cap_log.specs.{Heads.{IsHead, head_spelling}, Lines.{IsInRange, IsNumber, IsVersion, IsOffset, IsPlace}}
+use Rattle.cap_log.specs.Lines.{IsRegister, IsTarget, IsWord, mode_spelling, place_spelling, register_spelling}
+use Rattle.cap_log.specs.{Lines.spelling, Parts.{BeginsWithNone, BeginsWithout, FitBoth, IsCount, IsMode, StandsBehind}}
+use Rattle.cap_log.specs.{Parts.{accessed_spelling, result_spelling, spaced}, Ranges.IsDatum}
 use Rattle.cap_log.specs.Spaceless.{Lacks-head, head-plain, head-spaceless}
-use Rattle.cap_log.proofs.OperandLemmas.{FitBoth-operand, IsOperand, Spaceless, mapped}
-use Rattle.cap_log.proofs.PartLemmas.{Lacks-decimal, accessed-operand, count-operand, number-operand, number-spaceless, offset-operand}
-use Rattle.cap_log.proofs.PartLemmas.{offset-spaceless, place-operand, place-spaceless, register-operand, register-spaceless}
-use Rattle.cap_log.proofs.PartLemmas.{result-operand, target-operand, word-operand}
-use Rattle.cap_log.proofs.Searches.{Searched, accesses, below, caps, modes as both_modes, offsets, pairs, places, registers, targets, versions, words}
+use Rattle.cap_log.proofs.{Cuts.{Lacks-by_test, same_cut}, OperandLemmas.{FitBoth-operand, IsOperand, Spaceless}}
+use Rattle.cap_log.proofs.{OperandLemmas.mapped, PartLemmas.{Lacks-decimal, accessed-operand, count-operand}}
+use Rattle.cap_log.proofs.PartLemmas.{number-operand, number-spaceless, offset-operand, offset-spaceless, place-operand}
+use Rattle.cap_log.proofs.PartLemmas.{place-spaceless, register-operand, register-spaceless, result-operand}
+use Rattle.cap_log.proofs.{PartLemmas.{target-operand, word-operand}, Searches.{Searched, accesses, below, caps}}
+use Rattle.cap_log.proofs.Searches.{modes as both_modes, offsets, pairs, places, registers, targets, versions, words}
 
 -- a kind of part: its values, those in range, and their bytes. Each has one spelling, and they can be searched
 pub record Shape : Type 1 where
@@ -111,18 +98,18 @@ version-operand = record {
 }
 
 one_mode : (a b : Mode) → mode_spelling a ≡ mode_spelling b → a ≡ b
-one_mode modes.Strict modes.Strict e = refl
-one_mode modes.Strict modes.Clear e = cc
-one_mode modes.Clear modes.Strict e = cc
-one_mode modes.Clear modes.Clear e = refl
+one_mode Mode.Strict Mode.Strict e = refl
+one_mode Mode.Strict Mode.Clear e = cc
+one_mode Mode.Clear Mode.Strict e = cc
+one_mode Mode.Clear Mode.Clear e = refl
 
 plain_mode : (a : Mode) → HasNoFeed (mode_spelling a)
-plain_mode modes.Strict = Lacks-by_test 10 (codes "strict") refl
-plain_mode modes.Clear = Lacks-by_test 10 (codes "clear") refl
+plain_mode Mode.Strict = Lacks-by_test 10 (codes "strict") refl
+plain_mode Mode.Clear = Lacks-by_test 10 (codes "clear") refl
 
 short_mode : (a : Mode) → length (mode_spelling a) ≤ 6
-short_mode modes.Strict = lit≤ tt
-short_mode modes.Clear = lit≤ tt
+short_mode Mode.Strict = lit≤ tt
+short_mode Mode.Clear = lit≤ tt
 
 pub mode-operand : IsOperand IsMode mode_spelling 6
 mode-operand = record { one = λ a b fits fits' e. one_mode a b e; plain = λ a fits. plain_mode a; short = λ a fits. short_mode a }
@@ -161,25 +148,25 @@ offset = one_word an_offset offset-spaceless
 
 -- what stands behind a head
 abbrev pub row : Head → Shape
-row head.Version = a_version
-row head.Mode = a_mode
-row head.Root = one_word a_place place-spaceless a_word
-row head.Move = target (register a_result)
-row head.ClearTag = target (register a_result)
-row head.Seal = target (register (register a_result))
-row head.Unseal = target (register (register a_result))
-row head.SetBounds = target (register (number a_result))
-row head.SetBoundsExact = target (register (number a_result))
-row head.SetAddr = target (register (number a_result))
-row head.AndPerm = target (register (number a_result))
-row head.LoadCap = target (register (offset a_result))
-row head.StoreCap = register (register an_offset)
-row head.Load = register (offset (an_access 1 true))
-row head.Store = register (offset (an_access 0 false))
-row head.End = a_count
+row Head.Version = a_version
+row Head.Mode = a_mode
+row Head.Root = one_word a_place place-spaceless a_word
+row Head.Move = target (register a_result)
+row Head.ClearTag = target (register a_result)
+row Head.Seal = target (register (register a_result))
+row Head.Unseal = target (register (register a_result))
+row Head.SetBounds = target (register (number a_result))
+row Head.SetBoundsExact = target (register (number a_result))
+row Head.SetAddr = target (register (number a_result))
+row Head.AndPerm = target (register (number a_result))
+row Head.LoadCap = target (register (offset a_result))
+row Head.StoreCap = register (register an_offset)
+row Head.Load = register (offset (an_access 1 true))
+row Head.Store = register (offset (an_access 0 false))
+row Head.End = a_count
 
 pub row-short : (h : Head) → (row h).most ≤ 80
-row-short head.Version = lit≤ tt
+row-short Head.Version = lit≤ tt
 row-short h = lit≤ tt
 
 abbrev pub Value : Head → Type 0
@@ -193,41 +180,41 @@ text h = (row h).text_is
 
 -- the line that they make
 abbrev pub made : (h : Head) → Value h → Line
-made head.Version version = line.Version version.0
-made head.Mode mode = line.Mode mode
-made head.Root x = line.Root x.0 x.1
-made head.Move x = line.Step (step.Move (record { target = x.0; source = x.1.0; result = x.1.1 }))
-made head.ClearTag x = line.Step (step.ClearTag (record { target = x.0; source = x.1.0; result = x.1.1 }))
-made head.Seal x = line.Step (step.Seal (record { target = x.0; source = x.1.0; authority = x.1.1.0; result = x.1.1.1 }))
-made head.Unseal x = line.Step (step.Unseal (record { target = x.0; source = x.1.0; authority = x.1.1.0; result = x.1.1.1 }))
-made head.SetBounds x = line.Step (step.SetBounds (record { target = x.0; source = x.1.0; length = x.1.1.0; result = x.1.1.1 }))
-made head.SetBoundsExact x = line.Step (step.SetBoundsExact (record { target = x.0; source = x.1.0; length = x.1.1.0; result = x.1.1.1 }))
-made head.SetAddr x = line.Step (step.SetAddr (record { target = x.0; source = x.1.0; address = x.1.1.0; result = x.1.1.1 }))
-made head.AndPerm x = line.Step (step.AndPerm (record { target = x.0; source = x.1.0; mask = x.1.1.0; result = x.1.1.1 }))
-made head.LoadCap x = line.Step (step.LoadCap (record { target = x.0; authority = x.1.0; offset = x.1.1.0; result = x.1.1.1 }))
-made head.StoreCap x = line.Step (step.StoreCap (record { source = x.0; authority = x.1.0; offset = x.1.1 }))
-made head.Load x = line.Step (step.Load (record { authority = x.0; offset = x.1.0; datum = x.1.1.0 }))
-made head.Store x = line.Step (step.Store (record { authority = x.0; offset = x.1.0; datum = x.1.1.0 }))
-made head.End x = line.End x
+made Head.Version version = Line.Version version.0
+made Head.Mode mode = Line.Mode mode
+made Head.Root x = Line.Root x.0 x.1
+made Head.Move x = Line.Step (Step.Move (record { target = x.0; source = x.1.0; result = x.1.1 }))
+made Head.ClearTag x = Line.Step (Step.ClearTag (record { target = x.0; source = x.1.0; result = x.1.1 }))
+made Head.Seal x = Line.Step (Step.Seal (record { target = x.0; source = x.1.0; authority = x.1.1.0; result = x.1.1.1 }))
+made Head.Unseal x = Line.Step (Step.Unseal (record { target = x.0; source = x.1.0; authority = x.1.1.0; result = x.1.1.1 }))
+made Head.SetBounds x = Line.Step (Step.SetBounds (record { target = x.0; source = x.1.0; length = x.1.1.0; result = x.1.1.1 }))
+made Head.SetBoundsExact x = Line.Step (Step.SetBoundsExact (record { target = x.0; source = x.1.0; length = x.1.1.0; result = x.1.1.1 }))
+made Head.SetAddr x = Line.Step (Step.SetAddr (record { target = x.0; source = x.1.0; address = x.1.1.0; result = x.1.1.1 }))
+made Head.AndPerm x = Line.Step (Step.AndPerm (record { target = x.0; source = x.1.0; mask = x.1.1.0; result = x.1.1.1 }))
+made Head.LoadCap x = Line.Step (Step.LoadCap (record { target = x.0; authority = x.1.0; offset = x.1.1.0; result = x.1.1.1 }))
+made Head.StoreCap x = Line.Step (Step.StoreCap (record { source = x.0; authority = x.1.0; offset = x.1.1 }))
+made Head.Load x = Line.Step (Step.Load (record { authority = x.0; offset = x.1.0; datum = x.1.1.0 }))
+made Head.Store x = Line.Step (Step.Store (record { authority = x.0; offset = x.1.0; datum = x.1.1.0 }))
+made Head.End x = Line.End x
 
 -- a line as its head and its operands
 abbrev lined : (l : Line) → (h : Head) × (x : Value h) × (made h x ≡ l)
-lined (line.Version version) = (head.Version, record { 0 = version }, refl)
-lined (line.Mode mode) = (head.Mode, mode, refl)
-lined (line.Root place word) = (head.Root, (place, word), refl)
-lined (line.Step (step.Move s)) = (head.Move, (s.target, (s.source, s.result)), refl)
-lined (line.Step (step.ClearTag s)) = (head.ClearTag, (s.target, (s.source, s.result)), refl)
-lined (line.Step (step.Seal s)) = (head.Seal, (s.target, (s.source, (s.authority, s.result))), refl)
-lined (line.Step (step.Unseal s)) = (head.Unseal, (s.target, (s.source, (s.authority, s.result))), refl)
-lined (line.Step (step.SetBounds s)) = (head.SetBounds, (s.target, (s.source, (s.length, s.result))), refl)
-lined (line.Step (step.SetBoundsExact s)) = (head.SetBoundsExact, (s.target, (s.source, (s.length, s.result))), refl)
-lined (line.Step (step.SetAddr s)) = (head.SetAddr, (s.target, (s.source, (s.address, s.result))), refl)
-lined (line.Step (step.AndPerm s)) = (head.AndPerm, (s.target, (s.source, (s.mask, s.result))), refl)
-lined (line.Step (step.LoadCap s)) = (head.LoadCap, (s.target, (s.authority, (s.offset, s.result))), refl)
-lined (line.Step (step.StoreCap s)) = (head.StoreCap, (s.source, (s.authority, s.offset)), refl)
-lined (line.Step (step.Load s)) = (head.Load, (s.authority, (s.offset, record { 0 = s.datum })), refl)
-lined (line.Step (step.Store s)) = (head.Store, (s.authority, (s.offset, record { 0 = s.datum })), refl)
-lined (line.End steps) = (head.End, steps, refl)
+lined (Line.Version version) = (Head.Version, record { 0 = version }, refl)
+lined (Line.Mode mode) = (Head.Mode, mode, refl)
+lined (Line.Root place word) = (Head.Root, (place, word), refl)
+lined (Line.Step (Step.Move s)) = (Head.Move, (s.target, (s.source, s.result)), refl)
+lined (Line.Step (Step.ClearTag s)) = (Head.ClearTag, (s.target, (s.source, s.result)), refl)
+lined (Line.Step (Step.Seal s)) = (Head.Seal, (s.target, (s.source, (s.authority, s.result))), refl)
+lined (Line.Step (Step.Unseal s)) = (Head.Unseal, (s.target, (s.source, (s.authority, s.result))), refl)
+lined (Line.Step (Step.SetBounds s)) = (Head.SetBounds, (s.target, (s.source, (s.length, s.result))), refl)
+lined (Line.Step (Step.SetBoundsExact s)) = (Head.SetBoundsExact, (s.target, (s.source, (s.length, s.result))), refl)
+lined (Line.Step (Step.SetAddr s)) = (Head.SetAddr, (s.target, (s.source, (s.address, s.result))), refl)
+lined (Line.Step (Step.AndPerm s)) = (Head.AndPerm, (s.target, (s.source, (s.mask, s.result))), refl)
+lined (Line.Step (Step.LoadCap s)) = (Head.LoadCap, (s.target, (s.authority, (s.offset, s.result))), refl)
+lined (Line.Step (Step.StoreCap s)) = (Head.StoreCap, (s.source, (s.authority, s.offset)), refl)
+lined (Line.Step (Step.Load s)) = (Head.Load, (s.authority, (s.offset, record { 0 = s.datum })), refl)
+lined (Line.Step (Step.Store s)) = (Head.Store, (s.authority, (s.offset, record { 0 = s.datum })), refl)
+lined (Line.End steps) = (Head.End, steps, refl)
 
 abbrev pub head_of : Line → Head
 head_of l = (lined l).0
@@ -246,15 +233,15 @@ pub record IsMade (h : Head) (x : Value h) : Type 0 where
 
 pub is_made : (h : Head) (x : Value h) → IsMade h x
 unfolding spelling
-is_made head.Version x = record { in_range = λ f. f; fits = λ f. f; spelling_is = refl }
-is_made head.Mode x = record { in_range = λ f. f; fits = λ f. f; spelling_is = refl }
-is_made head.Root x = record { in_range = λ f. f; fits = λ f. f; spelling_is = refl }
-is_made head.End x = record { in_range = λ f. f; fits = λ f. f; spelling_is = refl }
-is_made head.Move x = record { in_range = λ f. (f.0, f.1.0, f.1.1); fits = λ f. (f.0, (f.1, f.2)); spelling_is = refl }
-is_made head.ClearTag x = record { in_range = λ f. (f.0, f.1.0, f.1.1); fits = λ f. (f.0, (f.1, f.2)); spelling_is = refl }
-is_made head.StoreCap x = record { in_range = λ f. (f.0, f.1.0, f.1.1); fits = λ f. (f.0, (f.1, f.2)); spelling_is = refl }
-is_made head.Load x = record { in_range = λ f. (f.0, f.1.0, f.1.1); fits = λ f. (f.0, (f.1, f.2)); spelling_is = refl }
-is_made head.Store x = record { in_range = λ f. (f.0, f.1.0, f.1.1); fits = λ f. (f.0, (f.1, f.2)); spelling_is = refl }
+is_made Head.Version x = record { in_range = λ f. f; fits = λ f. f; spelling_is = refl }
+is_made Head.Mode x = record { in_range = λ f. f; fits = λ f. f; spelling_is = refl }
+is_made Head.Root x = record { in_range = λ f. f; fits = λ f. f; spelling_is = refl }
+is_made Head.End x = record { in_range = λ f. f; fits = λ f. f; spelling_is = refl }
+is_made Head.Move x = record { in_range = λ f. (f.0, f.1.0, f.1.1); fits = λ f. (f.0, (f.1, f.2)); spelling_is = refl }
+is_made Head.ClearTag x = record { in_range = λ f. (f.0, f.1.0, f.1.1); fits = λ f. (f.0, (f.1, f.2)); spelling_is = refl }
+is_made Head.StoreCap x = record { in_range = λ f. (f.0, f.1.0, f.1.1); fits = λ f. (f.0, (f.1, f.2)); spelling_is = refl }
+is_made Head.Load x = record { in_range = λ f. (f.0, f.1.0, f.1.1); fits = λ f. (f.0, (f.1, f.2)); spelling_is = refl }
+is_made Head.Store x = record { in_range = λ f. (f.0, f.1.0, f.1.1); fits = λ f. (f.0, (f.1, f.2)); spelling_is = refl }
 is_made h x = record { in_range = λ f. (f.0, f.1.0, f.1.1.0, f.1.1.1); fits = λ f. (f.0, (f.1, (f.2, f.3))); spelling_is = refl }
 
 pub fits-of : (l : Line) → IsInRange l → Fits (head_of l) (operands_of l)
@@ -266,26 +253,26 @@ spelling-of l = sym (ap spelling (made-of l)) ∙ (is_made (head_of l) (operands
 -- the head that a word names
 pub named : List ℕ → Head
 named word =
-    if bytes_eq word (codes "capcheck") then head.Version else (
-    if bytes_eq word (codes "mode") then head.Mode else (
-    if bytes_eq word (codes "root") then head.Root else (
-    if bytes_eq word (codes "move") then head.Move else (
-    if bytes_eq word (codes "cleartag") then head.ClearTag else (
-    if bytes_eq word (codes "seal") then head.Seal else (
-    if bytes_eq word (codes "unseal") then head.Unseal else (
-    if bytes_eq word (codes "setbounds") then head.SetBounds else (
-    if bytes_eq word (codes "setboundsexact") then head.SetBoundsExact else (
-    if bytes_eq word (codes "setaddr") then head.SetAddr else (
-    if bytes_eq word (codes "andperm") then head.AndPerm else (
-    if bytes_eq word (codes "lc") then head.LoadCap else (
-    if bytes_eq word (codes "sc") then head.StoreCap else (
-    if bytes_eq word (codes "load") then head.Load else (
-    if bytes_eq word (codes "store") then head.Store else (
-    head.End)))))))))))))))
+    if bytes_eq word (codes "capcheck") then Head.Version else (
+    if bytes_eq word (codes "mode") then Head.Mode else (
+    if bytes_eq word (codes "root") then Head.Root else (
+    if bytes_eq word (codes "move") then Head.Move else (
+    if bytes_eq word (codes "cleartag") then Head.ClearTag else (
+    if bytes_eq word (codes "seal") then Head.Seal else (
+    if bytes_eq word (codes "unseal") then Head.Unseal else (
+    if bytes_eq word (codes "setbounds") then Head.SetBounds else (
+    if bytes_eq word (codes "setboundsexact") then Head.SetBoundsExact else (
+    if bytes_eq word (codes "setaddr") then Head.SetAddr else (
+    if bytes_eq word (codes "andperm") then Head.AndPerm else (
+    if bytes_eq word (codes "lc") then Head.LoadCap else (
+    if bytes_eq word (codes "sc") then Head.StoreCap else (
+    if bytes_eq word (codes "load") then Head.Load else (
+    if bytes_eq word (codes "store") then Head.Store else (
+    Head.End)))))))))))))))
 
 pub named-spelling : (h : Head) → named (head_spelling h) ≡ h
 unfolding named
-named-spelling head.Version = refl
+named-spelling Head.Version = refl
 named-spelling h = refl
 
 pub head-operand : IsOperand IsHead head_spelling 14
@@ -330,24 +317,24 @@ none_behind h Fits spelled is bytes none l rest begins =
 abbrev Behind : Head → Type 0
 Behind h = StandsBehind h (Fits h) (text h)
 
-pub behind_each : Behind head.Version × Behind head.Mode × Behind head.Root × Behind head.End × Behind head.Move × Behind head.ClearTag
-    × Behind head.SetBounds × Behind head.SetBoundsExact × Behind head.SetAddr × Behind head.AndPerm × Behind head.Seal × Behind head.Unseal
-    × Behind head.LoadCap × Behind head.StoreCap × Behind head.Load × Behind head.Store
+pub behind_each : Behind Head.Version × Behind Head.Mode × Behind Head.Root × Behind Head.End × Behind Head.Move × Behind Head.ClearTag
+    × Behind Head.SetBounds × Behind Head.SetBoundsExact × Behind Head.SetAddr × Behind Head.AndPerm × Behind Head.Seal × Behind Head.Unseal
+    × Behind Head.LoadCap × Behind Head.StoreCap × Behind Head.Load × Behind Head.Store
 behind_each = (
-  stands_behind head.Version,
-  stands_behind head.Mode,
-  stands_behind head.Root,
-  stands_behind head.End,
-  stands_behind head.Move,
-  stands_behind head.ClearTag,
-  stands_behind head.SetBounds,
-  stands_behind head.SetBoundsExact,
-  stands_behind head.SetAddr,
-  stands_behind head.AndPerm,
-  stands_behind head.Seal,
-  stands_behind head.Unseal,
-  stands_behind head.LoadCap,
-  stands_behind head.StoreCap,
-  stands_behind head.Load,
-  stands_behind head.Store,
+  stands_behind Head.Version,
+  stands_behind Head.Mode,
+  stands_behind Head.Root,
+  stands_behind Head.End,
+  stands_behind Head.Move,
+  stands_behind Head.ClearTag,
+  stands_behind Head.SetBounds,
+  stands_behind Head.SetBoundsExact,
+  stands_behind Head.SetAddr,
+  stands_behind Head.AndPerm,
+  stands_behind Head.Seal,
+  stands_behind Head.Unseal,
+  stands_behind Head.LoadCap,
+  stands_behind Head.StoreCap,
+  stands_behind Head.Load,
+  stands_behind Head.Store,
 )

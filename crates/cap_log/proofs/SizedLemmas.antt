@@ -1,16 +1,13 @@
 -- Sizes and values behind them: what the readers' answers mean.
-use Rattle.std.proofs.Common.{Bool, ◌≡◌, ℕ, zero, suc, ◌+◌, ◌*◌, ◌-◌, ◌<◌, ◌≤◌, List, [], ◌∷◌, ◌++◌, length, take, drop, get_or}
-use Rattle.std.proofs.Common.{not, eqb, inl, inr, refl, sym, ap, subst, ◌∙◌, arith, decimal}
-use Rattle.std.proofs.lemmas.Bool.Decides.{eqb_tells}
-use Rattle.std.proofs.lemmas.List.{append_assoc, length-append, take_all}
+use Rattle.std.proofs.Common.{Bool, ◌≡◌, ℕ, zero, suc, ◌+◌, ◌*◌, ◌-◌, ◌<◌, ◌≤◌, List, [], ◌∷◌, ◌++◌, length, take, drop}
+use Rattle.std.proofs.Common.{get_or, not, eqb, inl, inr, refl, sym, ap, subst, ◌∙◌, arith, decimal, append_assoc}
+use Rattle.std.proofs.{Common.{length-append, take_all}, lemmas.Bool.Decides.eqb_tells}
 use Rattle.std.proofs.lemmas.Fmt.{decimal_digit, decimal_injective}
 use Rattle.cap_word.specs.Digits.{hex_digits}
 use Rattle.cap_word.proofs.DigitLemmas.{length-hex_digits}
-use Rattle.cap_log.specs.Ranges.{Datum, IsDataSize, IsDataValue, IsDatum}
 use Rattle.cap_log.specs.Parts.{Begins, BeginsWithNone, Writes, accessed_spelling, value_mark}
-use Rattle.cap_log.proofs.Cuts.{same_cut}
-use Rattle.cap_log.proofs.WriteLemmas.{length-Writes}
-use Rattle.cap_log.proofs.PartLemmas.{size-small, size-spaceless}
+use Rattle.cap_log.specs.Ranges.{Datum, IsDataSize, IsDataValue, IsDatum}
+use Rattle.cap_log.proofs.{Cuts.same_cut, PartLemmas.{size-small, size-spaceless}, WriteLemmas.length-Writes}
 
 -- a size is one of four texts
 pub size_text : (n : ℕ) → n < 10 → decimal n ≡ (48 + n) ∷ []

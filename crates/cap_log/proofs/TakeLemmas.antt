@@ -1,9 +1,9 @@
 -- Parts at the front of some bytes, with the byte that ends them.
-use Rattle.std.proofs.Common.{◌≡◌, ℕ, ◌+◌, ◌<◌, ◌≤◌, Bool, List, [], ◌∷◌, ◌++◌, length, take, drop, get_or, sym, ap, ◌∙◌, arith}
-use Rattle.std.proofs.lemmas.List.{append_assoc, drop_more, get_or_at, length-append, take-append-drop, take_at}
+use Rattle.std.proofs.Common.{◌≡◌, ℕ, ◌+◌, ◌<◌, ◌≤◌, Bool, List, [], ◌∷◌, ◌++◌, length, take, drop, get_or, sym, ap}
+use Rattle.std.proofs.Common.{◌∙◌, arith, append_assoc, length-append, take-append-drop, take_at}
+use Rattle.std.proofs.lemmas.List.{drop_more, get_or_at}
 use Rattle.cap_word.specs.Digits.{hex_digits}
-use Rattle.cap_log.specs.Lines.{tag_spelling}
-use Rattle.cap_log.specs.Parts.{Begins, BeginsWithNone, FitBoth, HasNoSpace, spaced}
+use Rattle.cap_log.specs.{Lines.tag_spelling, Parts.{Begins, BeginsWithNone, FitBoth, HasNoSpace, spaced}}
 use Rattle.cap_log.proofs.Cuts.{same_cut}
 
 module _ {A : Type 0} (Fits : A → Type 0) (spelled : A → List ℕ) (end : ℕ) where

@@ -1,16 +1,9 @@
 -- What was found, with more given behind it, and what follows for an answer.
-use Rattle.std.proofs.Common.{◌≡◌, ◌≢◌, ℕ, zero, suc, ◌≤◌, Bool, List, [], ◌∷◌, ◌++◌, length, take, None, refl, sym, ap, subst, ◌∙◌, arith}
-use Rattle.std.proofs.Common.{append_assoc, append-nil}
-use Rattle.std.proofs.lemmas.List.{length-append, take_at}
-use Rattle.std.proofs.lemmas.List.Elements.{All-take}
-use Rattle.cap_log.specs.Front.{HasNoFeed, IsCut, IsFront}
-use Rattle.cap_log.specs.declared.lines.Front.{Front}
-use Rattle.cap_log.specs.declared.lines.Front.TheVariants.{Cut}
-use Rattle.cap_log.specs.declared.sources.PullFault.{PullFault}
-use Rattle.cap_log.specs.declared.taking.Lines.{Lines}
-use Rattle.std.proofs.Common.{Result}
-use Rattle.std.proofs.lemmas.Option.{none-some}
-use Rattle.cap_log.specs.declared.taking.Next.{Next}
+use Rattle.std.proofs.Common.{◌≡◌, ◌≢◌, ℕ, zero, suc, ◌≤◌, Bool, List, [], ◌∷◌, ◌++◌, length, take, None, refl, sym, ap}
+use Rattle.std.proofs.Common.{subst, ◌∙◌, arith, append_assoc, append-nil, length-append, take_at, Result}
+use Rattle.std.proofs.lemmas.{List.Elements.All-take, Option.none-some}
+use Rattle.cap_log.specs.declared.{lines.Front.{Front, TheVariants.Cut}, sources.PullFault.PullFault}
+use Rattle.cap_log.specs.{declared.taking.{Lines.Lines, Next.Next}, Front.{HasNoFeed, IsCut, IsFront}}
 use Rattle.cap_log.specs.Takings.{Found, Answered, Again, IsNext, kept, over_of}
 
 -- what was kept is cut, and nothing more came

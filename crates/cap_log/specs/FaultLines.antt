@@ -1,6 +1,5 @@
 -- The line at which a judge stopped (this profile's own).
-use Rattle.std.specs.Prelude.{List, take}
-use Rattle.std.specs.Prelude.{ℕ}
+use Rattle.std.specs.Prelude.{List, take, ℕ}
 use Rattle.cap_log.specs.declared.fault_lines.FaultLine.{FaultLine}
 
 -- the bytes that are held of a line

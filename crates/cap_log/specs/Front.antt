@@ -1,7 +1,6 @@
 -- The front of some bytes: a line that a line feed ends, more than a line may have, or less than a line.
 use Rattle.std.specs.Prelude.{◌≡◌, ◌≢◌, ℕ, ◌+◌, ◌<◌, ◌≤◌, ◌⊎◌, List, ◌∷◌, ◌++◌, length, take, drop, All}
-use Rattle.cap_log.specs.declared.lines.Front.{Front}
-use Rattle.cap_log.specs.declared.lines.Front.TheVariants.{Line, TooLong, Cut}
+use Rattle.cap_log.specs.declared.lines.Front.{Front, TheVariants.{Line, TooLong, Cut}}
 
 -- no byte is a line feed (this profile's own)
 abbrev pub HasNoFeed : List ℕ → Type 0

@@ -1,8 +1,8 @@
 -- The word that a line begins with.
 use Rattle.std.specs.Prelude.{ℕ, List, codes}
-use Rattle.cap_log.specs.declared.kinds.Head.{Head}
-use Rattle.cap_log.specs.declared.kinds.Head.TheVariants.{Version, Mode, Root, Move, ClearTag, SetBounds, SetBoundsExact, SetAddr, AndPerm}
-use Rattle.cap_log.specs.declared.kinds.Head.TheVariants.{Seal, Unseal, LoadCap, StoreCap, Load, Store, End}
+use Rattle.cap_log.specs.declared.kinds.Head.{Head, TheVariants.{Version, Mode, Root, Move, ClearTag, SetBounds}}
+use Rattle.cap_log.specs.declared.kinds.Head.TheVariants.{SetBoundsExact, SetAddr, AndPerm, Seal, Unseal, LoadCap}
+use Rattle.cap_log.specs.declared.kinds.Head.TheVariants.{StoreCap, Load, Store, End}
 
 -- each head has a spelling (this profile's own)
 abbrev pub IsHead : Head → Type 0

@@ -1,6 +1,6 @@
 -- Laws of known bytes over calls in a row.
-use Rattle.std.proofs.Common.{ℕ, List, [], ◌++◌, Option, None, Some, refl, sym, ap, ◌∙◌, append_assoc, append-nil}
-use Rattle.std.specs.Io.KnownBytes.{Consumes, Appends}
+use Rattle.std.specs.{Prelude.{ℕ, List, [], ◌++◌, Option, None, Some, refl}, Io.KnownBytes.{Consumes, Appends}}
+use Rattle.std.proofs.Common.{sym, ap, ◌∙◌, append_assoc, append-nil}
 
 pub Consumes-nothing : (known : Option (List ℕ)) → Consumes known known []
 Consumes-nothing None = tt

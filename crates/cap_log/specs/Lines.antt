@@ -1,22 +1,14 @@
 -- The grammar of a log's lines: what each line is spelled as, and which lines have a spelling. All of it is this
 -- profile's own.
-use Rattle.std.specs.Prelude.{◌≡◌, ℕ, ◌+◌, ◌-◌, ◌*◌, ◌^◌, ◌<◌, ◌≤◌, Bool, if◌then◌else◌, ◌⊎◌}
-use Rattle.std.specs.Prelude.{List, [], ◌∷◌, ◌++◌, codes, decimal, length, take, drop}
-use Rattle.std.specs.Fmt.{signed_decimal}
-use Rattle.std.specs.List.{join_with_byte}
-use Rattle.cap_word.specs.Digits.{hex_digits}
-use Rattle.cap_word.specs.declared.word.Cap.{Cap}
+use Rattle.std.specs.Prelude.{◌≡◌, ℕ, ◌+◌, ◌-◌, ◌*◌, ◌^◌, ◌<◌, ◌≤◌, Bool, if◌then◌else◌, ◌⊎◌, List, [], ◌∷◌, ◌++◌}
+use Rattle.std.specs.{Prelude.{codes, decimal, length, take, drop}, Fmt.signed_decimal, List.join_with_byte}
+use Rattle.cap_word.specs.{declared.word.Cap.Cap, Digits.hex_digits}
 pub use Rattle.cap_log.specs.Ranges.{IsRegister, IsTarget, IsOffset, IsDataSize, IsDataValue}
-use Rattle.cap_log.specs.Ranges.{IsDatum}
-use Rattle.cap_log.specs.declared.lines.Place.{Place}
-use Rattle.cap_log.specs.declared.lines.Place.TheVariants.{Register, Granule}
-use Rattle.cap_log.specs.declared.kinds.Step.{Step}
-use Rattle.cap_log.specs.declared.kinds.Step.TheVariants.{Move, ClearTag, SetBounds, SetBoundsExact, SetAddr, AndPerm, Seal, Unseal}
-use Rattle.cap_log.specs.declared.kinds.Step.TheVariants.{LoadCap, StoreCap, Load, Store}
-use Rattle.cap_log.specs.declared.lines.Mode.{Mode}
-use Rattle.cap_log.specs.declared.lines.Mode.TheVariants.{Strict, Clear}
-use Rattle.cap_log.specs.declared.lines.Line.{Line}
-use Rattle.cap_log.specs.declared.lines.Line.TheVariants.{Version, Mode as Moding, Root, Step as Stepping, End}
+use Rattle.cap_log.specs.declared.kinds.Step.{Step, TheVariants.{Move, ClearTag, SetBounds, SetBoundsExact, SetAddr}}
+use Rattle.cap_log.specs.declared.kinds.Step.TheVariants.{AndPerm, Seal, Unseal, LoadCap, StoreCap, Load, Store}
+use Rattle.cap_log.specs.declared.lines.Line.{Line, TheVariants.{Version, Mode as Moding, Root, Step as Stepping, End}}
+use Rattle.cap_log.specs.declared.lines.{Mode.{Mode, TheVariants.{Strict, Clear}}, Place.Place}
+use Rattle.cap_log.specs.{declared.lines.Place.TheVariants.{Register, Granule}, Ranges.IsDatum}
 
 -- a register: c and its number in decimal
 abbrev pub register_spelling : ℕ → List ℕ

@@ -1,18 +1,11 @@
 -- What a reader of a part of a line answers and a writer writes, and the parts themselves. All of it is this profile's
 -- own.
 use Rattle.std.specs.Prelude.{◌≡◌, ◌≢◌, ℕ, ◌+◌, ◌*◌, ◌^◌, ◌<◌, ◌≤◌, List, [], ◌∷◌, ◌++◌, length, take, drop, Option}
-use Rattle.std.specs.Prelude.{Bool, true, false, Some, None, All, codes, decimal, slice_index}
-use Rattle.std.specs.List.{join_with_byte}
+use Rattle.std.specs.{Prelude.{Bool, true, false, Some, None, All, codes, decimal, slice_index}, List.join_with_byte}
 use Rattle.std.specs.Str.Parse.{AllDigits, digits_value}
-use Rattle.cap_word.specs.Digits.{hex_digits}
-use Rattle.cap_word.specs.declared.word.Cap.{Cap}
-use Rattle.cap_log.specs.declared.lines.Mode.{Mode}
-use Rattle.cap_log.specs.declared.lines.Line.{Line}
-use Rattle.cap_log.specs.declared.kinds.Head.{Head}
-use Rattle.cap_log.specs.declared.kinds.Step.{Step}
-use Rattle.cap_log.specs.Heads.{head_spelling}
-use Rattle.cap_log.specs.Lines.{IsInRange, IsStepInRange, result_words, spelling}
-use Rattle.cap_log.specs.Ranges.{Datum}
+use Rattle.cap_word.specs.{declared.word.Cap.Cap, Digits.hex_digits}
+use Rattle.cap_log.specs.{declared.{kinds.{Head.Head, Step.Step}, lines.{Line.Line, Mode.Mode}}, Heads.head_spelling}
+use Rattle.cap_log.specs.{Lines.{IsInRange, IsStepInRange, result_words, spelling}, Ranges.Datum}
 
 -- the value in range whose spelling the bytes are, or none where they are no such value's
 abbrev pub Reads : {A : Type 0} → (A → Type 0) → (A → List ℕ) → List ℕ → Option A → Type 0

@@ -1,8 +1,7 @@
 -- What a clause reads of a source and of a sink over bytes in memory. All of it is this profile's own.
 use Rattle.std.specs.Prelude.{◌≡◌, ℕ, Bool, zero, suc, ◌-◌, List, [], ◌∷◌, ◌++◌, length, min, if◌then◌else◌, ◌==◌}
+use Rattle.cap_log.specs.declared.{sinks.slices.SliceSink.SliceSink, sources.slices.SliceSource.SliceSource}
 use Rattle.cap_log.specs.Written.{WritesInside}
-use Rattle.cap_log.specs.declared.sources.slices.SliceSource.{SliceSource}
-use Rattle.cap_log.specs.declared.sinks.slices.SliceSink.{SliceSink}
 
 -- the bytes that were not given yet
 abbrev pub bytes_left : SliceSource → List ℕ

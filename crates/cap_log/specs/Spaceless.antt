@@ -1,23 +1,15 @@
 -- Laws of spellings: which bytes they lack.
-use Rattle.std.proofs.Common.{◌≡◌, ◌≢◌, ℕ, zero, suc, ◌*◌, ◌/◌, ◌%◌, ◌^◌, ◌<◌, ◌≤◌, ℤ, pos, negsuc, true, not, eqb, nat_lt}
-use Rattle.std.proofs.Common.{List, [], ◌∷◌, length, refl, lit≤, arith, codes, decimal}
-use Rattle.std.specs.Fmt.{signed_decimal}
-use Rattle.std.specs.List.{list_all}
-use Rattle.std.proofs.lemmas.Bool.{and_parts, not-true, eqb-false, ltb-true}
-use Rattle.std.proofs.lemmas.Fmt.{decimal_is_IsNumeral}
-use Rattle.std.proofs.lemmas.Int.{ints}
-use Rattle.std.proofs.lemmas.List.Elements.{All-nil, All-cons, All-get_or, All-from_get_or}
-use Rattle.std.proofs.lemmas.Str.Parse.{digit_at}
+use Rattle.std.specs.Prelude.{◌≡◌, ◌≢◌, ℕ, zero, suc, ◌*◌, ◌/◌, ◌%◌, ◌^◌, ◌<◌, ◌≤◌, ℤ, pos, negsuc, true, not, eqb}
+use Rattle.std.specs.{Prelude.{nat_lt, List, [], ◌∷◌, length, refl, codes, decimal}, Fmt.signed_decimal, List.list_all}
+use Rattle.std.proofs.{Common.{lit≤, arith}, lemmas.Bool.{and_parts, not-true, eqb-false, ltb-true}}
+use Rattle.std.proofs.lemmas.{Fmt.decimal_is_IsNumeral, Int.ints}
+use Rattle.std.proofs.lemmas.{List.Elements.{All-nil, All-cons, All-get_or, All-from_get_or}, Str.Parse.digit_at}
 use lib.Signed.{mag}
 use Rattle.cap_word.specs.Digits.{hex_digit, hex_digits}
-use Rattle.cap_log.specs.Heads.{head_spelling}
-use Rattle.cap_log.specs.Lines.{IsOffset, IsPlace, IsRegister, place_spelling, register_spelling}
-use Rattle.cap_log.specs.Parts.{HasNoSpace, Lacks}
-use Rattle.cap_log.specs.Ranges.{IsRegisterFrom}
-use Rattle.cap_log.specs.declared.kinds.Head.{Head}
+use Rattle.cap_log.specs.declared.{kinds.Head.Head, lines.Place.{Place, TheVariants.{Register, Granule}}}
+use Rattle.cap_log.specs.{Heads.head_spelling, Lines.{IsOffset, IsPlace, IsRegister, place_spelling, register_spelling}}
+use Rattle.cap_log.specs.{Parts.{HasNoSpace, Lacks}, Ranges.IsRegisterFrom}
 use Rattle.cap_log.specs.declared.kinds.Head.TheVariants as head
-use Rattle.cap_log.specs.declared.lines.Place.{Place}
-use Rattle.cap_log.specs.declared.lines.Place.TheVariants.{Register, Granule}
 
 -- a test of a literal
 pub Lacks-by_test : (c : ℕ) (bytes : List ℕ) → list_all (λ b. not (eqb b c)) bytes ≡ true → Lacks c bytes

@@ -1,14 +1,9 @@
 -- What the lines of a source are, call by call. All of it is this profile's own.
 use Rattle.std.specs.Prelude.{◌≡◌, ◌≢◌, ℕ, Bool, true, false, List, [], ◌++◌, Option, None, Some, Result, Ok, Err}
-use Rattle.cap_log.specs.Front.{IsLine, IsTooLong, IsCut, IsFront}
-use Rattle.cap_log.specs.declared.lines.Front.{Front}
-use Rattle.cap_log.specs.declared.taking.Next.{Next}
-use Rattle.cap_log.specs.declared.taking.Next.TheVariants.{Line, LineTooLong, Truncated, Finished}
-use Rattle.cap_log.specs.declared.taking.Over.{Over}
+use Rattle.cap_log.specs.declared.{lines.Front.Front, sources.PullFault.PullFault, taking.{Lines.Lines, Next.Next}}
+use Rattle.cap_log.specs.declared.taking.{Next.TheVariants.{Line, LineTooLong, Truncated, Finished}, Over.Over}
+use Rattle.cap_log.specs.{Front.{IsLine, IsTooLong, IsCut, IsFront}, Pulled.items}
 use Rattle.cap_log.specs.declared.taking.Over.TheVariants as overs
-use Rattle.cap_log.specs.declared.sources.PullFault.{PullFault}
-use Rattle.cap_log.specs.declared.taking.Lines.{Lines}
-use Rattle.cap_log.specs.Pulled.{items}
 
 -- the bytes that were pulled and not yet lent
 abbrev pub kept : Lines → List ℕ

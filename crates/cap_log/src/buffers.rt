@@ -2,8 +2,7 @@
 
 ghost use Rattle.std.specs.Prelude.{◌≡◌, ◌+◌, ◌<◌, ◌≤◌, length, decimal};
 ghost use Rattle.cap_word.specs.Digits.{hex_digits};
-ghost use Rattle.cap_log.specs.Lines.{place_spelling, tag_spelling};
-ghost use Rattle.cap_log.specs.Parts.{Writes};
+ghost use Rattle.cap_log.specs.{Lines.{place_spelling, tag_spelling}, Parts.Writes};
 
 use crate::lines::Place;
 use cap_word::{Word, word_text};

@@ -14,8 +14,7 @@ pub struct FaultLine {
 }
 
 impl FaultLine {
-    ghost use Rattle.cap_log.specs.FaultLines.{bytes_of};
-    ghost use Rattle.cap_log.specs.Front.{IsFront, IsFrontText};
+    ghost use Rattle.cap_log.specs.{FaultLines.bytes_of, Front.{IsFront, IsFrontText}};
 
     /// No bytes.
     pub fn new() -> FaultLine

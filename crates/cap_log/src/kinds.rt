@@ -3,10 +3,8 @@
 #![tactic(auto, using(crate::proofs::Shapes::behind_each), unfolding(crate::specs::Lines::spelling))]
 
 ghost use Rattle.std.specs.Prelude.{◌≡◌, ◌≤◌, ◌∷◌, ◌++◌, length, IfSome, IfNone};
-ghost use Rattle.cap_log.specs.Heads.{IsHead, head_spelling};
-ghost use Rattle.cap_log.specs.Lines.{IsInRange, spelling};
-ghost use Rattle.cap_log.specs.Parts.{Begins, BeginsWithNone, BeginsWithout, Writes};
-ghost use Rattle.cap_log.specs.Spaceless.{head-spaceless};
+ghost use Rattle.cap_log.specs.{Heads.{IsHead, head_spelling}, Lines.{IsInRange, spelling}};
+ghost use Rattle.cap_log.specs.{Parts.{Begins, BeginsWithNone, BeginsWithout, Writes}, Spaceless.head-spaceless};
 ghost use Rattle.cap_log.specs.declared.kinds.Head.TheVariants as heads;
 ghost use Rattle.cap_log.specs.declared.kinds.Step.TheVariants as steps;
 

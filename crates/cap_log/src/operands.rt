@@ -1,11 +1,9 @@
 //! What follows the first word of a step's line, whatever its kind.
 
 ghost use Rattle.std.specs.Prelude.{◌≡◌, ◌≤◌, ◌∷◌, ◌++◌, length, IfSome, IfNone};
-ghost use Rattle.cap_log.specs.Heads.{head_spelling};
+ghost use Rattle.cap_log.specs.{declared.kinds.{Head.Head, Step.Step}, Heads.head_spelling};
 ghost use Rattle.cap_log.specs.Lines.{IsInRange, IsStepInRange, spelling};
 ghost use Rattle.cap_log.specs.Parts.{Begins, BeginsWithNone, IsMade, StandsBehind, Writes};
-ghost use Rattle.cap_log.specs.declared.kinds.Head.{Head};
-ghost use Rattle.cap_log.specs.declared.kinds.Step.{Step};
 ghost use Rattle.cap_log.specs.declared.lines.Line.TheVariants as lines;
 
 use crate::kinds::{Head, Step};

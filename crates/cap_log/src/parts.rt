@@ -1,6 +1,6 @@
 //! The parts of a line: each takes itself from the front of some bytes, with the byte that ends it.
 
-ghost use Rattle.std.specs.Prelude.{◌≡◌, ℕ, List, ◌+◌, ◌≤◌, length, IfSome, IfNone};
+ghost use Rattle.std.specs.Prelude.{ℕ, List, ◌+◌, ◌≤◌, length, IfSome, IfNone};
 ghost use Rattle.cap_log.specs.Parts.{Begins, BeginsWithNone, FitBoth, HasNoSpace, IsEnd, Writes, spaced};
 
 pub mod cutting;

@@ -1,6 +1,6 @@
 //! Pushing a whole text.
 
-ghost use Rattle.std.specs.Prelude.{◌≡◌, ℕ, take, OnOk, OnErr};
+ghost use Rattle.std.specs.Prelude.{ℕ, take, OnOk, OnErr};
 ghost use Rattle.cap_log.specs.Streams.{CountsFault};
 
 use crate::sinks::{PushFault, Sink};

@@ -1,10 +1,8 @@
 //! Reading a line.
 
 ghost use Rattle.std.specs.Prelude.{◌≡◌, ◌≤◌, ℕ, List, length, IfSome, IfNone};
-ghost use Rattle.cap_log.specs.Front.{HasNoFeed};
-ghost use Rattle.cap_log.specs.Lines.{IsInRange, Spells, spelling};
+ghost use Rattle.cap_log.specs.{declared.lines.Line.Line, Front.HasNoFeed, Lines.{IsInRange, Spells, spelling}};
 ghost use Rattle.cap_log.specs.Parts.{Begins, BeginsWithNone};
-ghost use Rattle.cap_log.specs.declared.lines.Line.{Line};
 
 use crate::buffers::put;
 use crate::fronts::LINE_LIMIT;

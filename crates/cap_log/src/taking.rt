@@ -1,10 +1,8 @@
 //! The lines of a source.
 
-ghost use Rattle.std.specs.Prelude.{◌≡◌, ◌≢◌, ℕ, ◌+◌, ◌<◌, ◌≤◌, List, [], ◌++◌, length, take, drop, true, false, None, Ok, IfOk, OnErr, OnOk};
-ghost use Rattle.cap_log.specs.Front.{IsCut};
+ghost use Rattle.std.specs.Prelude.{◌≡◌, ◌+◌, ◌<◌, ◌≤◌, [], length, drop, true, false, None, Ok, IfOk, OnErr, OnOk};
+ghost use Rattle.cap_log.specs.{declared.{lines.Front.TheVariants.Cut, taking.Over.Over}, Front.IsCut};
 ghost use Rattle.cap_log.specs.Streams.{CountsFault, next_count};
-ghost use Rattle.cap_log.specs.declared.lines.Front.TheVariants.{Cut};
-ghost use Rattle.cap_log.specs.declared.taking.Over.{Over};
 
 use crate::fronts::front;
 use crate::lines::Front;
@@ -45,10 +43,8 @@ pub struct Lines {
 }
 
 impl Lines {
-    ghost use Rattle.std.specs.Borrow.{sem};
-    ghost use Rattle.std.specs.Io.BufRead.{Rests};
-    ghost use Rattle.cap_log.specs.contracts.taking.Lines.{the_row};
-    ghost use Rattle.cap_log.specs.Takings.{kept, over_of, Found, Answered, Again};
+    ghost use Rattle.std.specs.{Borrow.sem, Io.BufRead.Rests};
+    ghost use Rattle.cap_log.specs.{Takings.{kept, over_of, Found, Answered, Again}, contracts.taking.Lines.the_row};
 
     /// Nothing was pulled yet.
     pub fn new() -> Lines

@@ -1,24 +1,15 @@
 -- Each access of a run lies inside the root that its authority descends from.
-use Rattle.std.proofs.Common.{◌≡◌, ℕ, ℤ, zero, suc, ◌<◌, true, List, [], ◌∷◌, length, sym, ap, subst, ◌∙◌, arith, Some, None, slice_get}
 use Rattle.std.specs.List.{AllByRecursion}
-use Rattle.std.proofs.lemmas.Bool.{not-false}
-use Rattle.std.proofs.lemmas.Option.{same_Some, none-some}
+use Rattle.std.proofs.Common.{◌≡◌, ℕ, ℤ, zero, suc, ◌<◌, true, List, [], ◌∷◌, length, sym, ap, subst, ◌∙◌, arith, Some}
+use Rattle.std.proofs.{Common.{None, slice_get}, lemmas.{Bool.not-false, Option.{same_Some, none-some}}}
 use Rattle.cap_word.specs.declared.word.Cap.{Cap}
-use Rattle.cap_log.specs.declared.kinds.Step.{Step}
-use Rattle.cap_log.specs.declared.kinds.Step.TheVariants.{LoadCap, StoreCap, Load, Store}
-use Rattle.cap_log.specs.Lines.{IsStepInRange}
-use Rattle.cap_ops.specs.declared.kinds.Kind.{Kind}
-use Rattle.cap_ops.specs.declared.kinds.Kind.TheVariants as kinds
+use Rattle.cap_ops.specs.{declared.kinds.Kind.Kind, Accesses.{IsAllowed, access_checks, access_address, permission_for}}
 use Rattle.cap_ops.specs.Checks.{first_of}
-use Rattle.cap_ops.specs.Accesses.{IsAllowed, access_checks, access_address, permission_for}
-use Rattle.cap_ops.proofs.AccessLemmas.{IsAllowed-access}
-use Rattle.cap_ops.proofs.TestLemmas.{none_hold}
-use Rattle.cap_machine.specs.declared.rules.Rules.{Rules}
-use Rattle.cap_machine.specs.States.{State, DeclaredRoot, start}
-use Rattle.cap_machine.specs.Steps.{Access, Row, row_of, row_by}
-use Rattle.cap_machine.specs.Runs.{IsRun, state_at, AccessesLieInside, AreSound}
-use Rattle.cap_machine.proofs.AuthorityLemmas.{one_root}
-use Rattle.cap_machine.proofs.StepLemmas.{row_by-access}
+use Rattle.cap_ops.proofs.{AccessLemmas.IsAllowed-access, TestLemmas.none_hold}
+use Rattle.cap_log.specs.{declared.kinds.Step.{Step, TheVariants.{LoadCap, StoreCap, Load, Store}}, Lines.IsStepInRange}
+use Rattle.cap_machine.specs.{declared.rules.Rules.Rules, Runs.{IsRun, state_at, AccessesLieInside, AreSound}}
+use Rattle.cap_machine.specs.{States.{State, DeclaredRoot, start}, Steps.{Access, Row, row_of, row_by}}
+use Rattle.cap_machine.proofs.{AuthorityLemmas.one_root, StepLemmas.row_by-access}
 
 -- an access that no test refuses has a tagged authority, and is allowed by it
 pub record IsGranted (state : State) (access : Access) : Type 0 where
@@ -49,11 +40,11 @@ granted_to state register kind offset bytes access free is =
 
 pub granted : (state : State) (step : Step) (access : Access) → first_of (row_of state step).checks ≡ None
     → (row_of state step).access ≡ Some access → IsGranted state access
-granted state (LoadCap step) access free is = granted_to state step.authority kinds.LoadCap step.offset 16 access free is
+granted state (LoadCap step) access free is = granted_to state step.authority Kind.LoadCap step.offset 16 access free is
 granted state (StoreCap step) access free is =
-    granted_to state step.authority (kinds.StoreCap (state step.source)) step.offset 16 access free is
-granted state (Load step) access free is = granted_to state step.authority kinds.LoadData step.offset step.datum.size access free is
-granted state (Store step) access free is = granted_to state step.authority kinds.StoreData step.offset step.datum.size access free is
+    granted_to state step.authority (Kind.StoreCap (state step.source)) step.offset 16 access free is
+granted state (Load step) access free is = granted_to state step.authority Kind.LoadData step.offset step.datum.size access free is
+granted state (Store step) access free is = granted_to state step.authority Kind.StoreData step.offset step.datum.size access free is
 granted state step access free is = absurd (none-some access is)
 
 -- the step at a moment of a run leads from the state there

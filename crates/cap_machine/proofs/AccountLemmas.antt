@@ -1,25 +1,17 @@
 -- Accounts: how they grow, and the roots and steps of which no test holds.
 use Rattle.std.proofs.Common.{◌≡◌, ℕ, ◌+◌, ◌<◌, ◌≤◌, Bool, true, false, not, ◌&&◌, ◌||◌, nat_le, List, [], ◌∷◌, length}
-use Rattle.std.proofs.Common.{Option, Some, None, refl, sym, ap, ◌∙◌, arith}
-use Rattle.std.specs.Bool.{if◌then◌else◌}
-use Rattle.std.specs.List.{fold}
+use Rattle.std.proofs.Common.{Option, Some, None, refl, sym, ap, ◌∙◌, arith, if◌then◌else◌, fold}
 use Rattle.std.proofs.lemmas.Bool.{false≢true, or_from, lt-leb}
 use Rattle.cap_word.specs.declared.word.Word.{Word}
 use Rattle.cap_bounds.specs.Bounds.{is_sound}
-use Rattle.cap_log.specs.declared.lines.Place.{Place}
-use Rattle.cap_log.specs.declared.kinds.Step.{Step}
 use Rattle.cap_ops.specs.Checks.{first_of}
-use Rattle.cap_ops.proofs.TestLemmas.{NoneHold}
-use Rattle.cap_machine.specs.States.{State, DeclaredRoot, key_of}
-use Rattle.cap_machine.specs.Steps.{Leads}
-use Rattle.cap_machine.proofs.StepLemmas.{is_recorded}
-use Rattle.cap_machine.specs.Accounts.{Account, no_account, most_roots, most_granules, most_steps, granule_of, named_by}
-use Rattle.cap_machine.specs.Accounts.{row_in, passes_granule_limit, naming, with_root, with_step, root_checks}
-use Rattle.cap_machine.specs.Accounts.{step_checks}
-use Rattle.cap_machine.specs.declared.rules.Rules.{Rules}
-use Rattle.cap_machine.specs.RunAccounts.{account_after}
-use Rattle.cap_ops.proofs.TestLemmas.{first_of-append_none}
-use Rattle.cap_machine.proofs.MadeLemmas.{ending}
+use Rattle.cap_ops.proofs.TestLemmas.{NoneHold, first_of-append_none}
+use Rattle.cap_log.specs.declared.{kinds.Step.Step, lines.Place.Place}
+use Rattle.cap_machine.specs.{declared.rules.Rules.Rules, Accounts.{Account, no_account, most_roots, most_granules}}
+use Rattle.cap_machine.specs.Accounts.{most_steps, granule_of, named_by, row_in, passes_granule_limit, naming}
+use Rattle.cap_machine.specs.{Accounts.{with_root, with_step, root_checks, step_checks}, RunAccounts.account_after}
+use Rattle.cap_machine.specs.{States.{State, DeclaredRoot, key_of}, Steps.Leads}
+use Rattle.cap_machine.proofs.{MadeLemmas.ending, StepLemmas.is_recorded}
 
 -- the account after roots, and after steps
 abbrev pub after_roots : Account → List DeclaredRoot → Account

@@ -1,23 +1,16 @@
 -- Each tagged capability of a run descends from one root, and reaches no more; so does each access.
-use Rattle.std.proofs.Common.{◌≡◌, ℕ, zero, suc, ◌≤◌, inl, inr, Bool, true, false, ◌∷◌, [], List, length, take, refl, sym, ap, subst, ◌∙◌}
-use Rattle.std.proofs.Common.{arith, Option, Some, None, Contains}
-use Rattle.std.specs.Bool.{if◌then◌else◌}
 use Rattle.std.specs.List.{AllByRecursion}
-use Rattle.std.proofs.lemmas.Bool.{false≢true}
-use Rattle.std.proofs.lemmas.Bool.Decides.{eqb_tells}
-use Rattle.std.proofs.lemmas.Option.{same_Some}
+use Rattle.std.proofs.Common.{◌≡◌, ℕ, zero, suc, ◌≤◌, inl, inr, Bool, true, false, ◌∷◌, [], List, length, take, refl}
+use Rattle.std.proofs.Common.{sym, ap, subst, ◌∙◌, arith, Option, Some, None, Contains, if◌then◌else◌}
+use Rattle.std.proofs.lemmas.{Bool.{false≢true, Decides.eqb_tells}, Option.same_Some}
 use Rattle.cap_word.specs.declared.word.Cap.{Cap}
 use Rattle.cap_bounds.specs.Bounds.{IsSound}
-use Rattle.cap_log.specs.declared.lines.Place.{Place}
-use Rattle.cap_log.specs.declared.kinds.Step.{Step}
-use Rattle.cap_log.specs.Lines.{IsStepInRange}
 use Rattle.cap_ops.specs.Authority.{ReachesNoMore}
 use Rattle.cap_ops.proofs.ReachLemmas.{ReachesNoMore-refl, ReachesNoMore-trans}
-use Rattle.cap_machine.specs.declared.rules.Rules.{Rules}
-use Rattle.cap_machine.specs.States.{State, DeclaredRoot, key_of, tagged, start}
-use Rattle.cap_machine.specs.Steps.{Leads, row_of, row_by, state_with}
-use Rattle.cap_machine.specs.Runs.{IsRun, state_at, last_of, parent_of, Descends, AuthorityNeverGrows, AreSound}
-use Rattle.cap_machine.specs.Parents.{IsSoundState, ComesFrom}
+use Rattle.cap_log.specs.{declared.{kinds.Step.Step, lines.Place.Place}, Lines.IsStepInRange}
+use Rattle.cap_machine.specs.{declared.rules.Rules.Rules, Parents.{IsSoundState, ComesFrom}, Runs.{IsRun, state_at}}
+use Rattle.cap_machine.specs.{Runs.{last_of, parent_of, Descends, AuthorityNeverGrows, AreSound}, States.State}
+use Rattle.cap_machine.specs.{States.{DeclaredRoot, key_of, tagged, start}, Steps.{Leads, row_of, row_by, state_with}}
 use Rattle.cap_machine.proofs.StepLemmas.{WritesWithin, hits, writes_within_by, hits-row_by, parent_in}
 
 -- what a tagged place holds after a write reaches no more than what the place before the write held that it comes from

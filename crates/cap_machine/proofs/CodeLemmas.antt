@@ -1,29 +1,18 @@
 -- Codes of origins: what they are after each kind of change, and which origins they make.
-use Rattle.std.proofs.Common.{◌≡◌, ℕ, ◌+◌, ◌-◌, ◌^◌, ◌<◌, ◌≤◌, Bool, true, false, ◌==◌, nat_lt, get_or, List, length}
-use Rattle.std.proofs.Common.{refl, sym, ap, subst, ◌∙◌, arith, lit<, Option, Some, None, option_map, IfSome, inl, inr}
-use Rattle.std.specs.Bool.{if◌then◌else◌}
-use Rattle.std.proofs.Math.ListN.{set}
-use Rattle.std.proofs.Math.Path.{fun_ext}
-use Rattle.std.proofs.lemmas.Bool.{cond-true, cond-false, false≢true, cases_lt, lt-ltb, le-ltb, ne_eqb}
-use Rattle.std.proofs.lemmas.Bool.Decides.{eqb_tells}
 use Rattle.std.specs.FinMap as map
+use Rattle.std.proofs.Common.{◌≡◌, ℕ, ◌+◌, ◌-◌, ◌^◌, ◌<◌, ◌≤◌, Bool, true, false, ◌==◌, nat_lt, get_or, length, refl}
+use Rattle.std.proofs.Common.{sym, ap, subst, ◌∙◌, arith, lit<, Option, Some, None, option_map, IfSome, inl, inr}
+use Rattle.std.proofs.{Common.{if◌then◌else◌, set, lt-ltb, le-ltb, ne_eqb, option_and_then}, Math.Path.fun_ext}
+use Rattle.std.proofs.lemmas.Bool.{cond-true, cond-false, false≢true, cases_lt, Decides.eqb_tells}
 use Rattle.cap_word.specs.declared.word.Cap.{Cap}
-use Rattle.cap_log.specs.declared.lines.Place.{Place}
-use Rattle.cap_log.specs.declared.lines.Place.TheVariants.{Register, Granule}
-use Rattle.cap_log.specs.declared.kinds.Step.{Step}
+use Rattle.cap_log.specs.declared.{kinds.Step.Step, lines.Place.{Place, TheVariants.{Register, Granule}}}
 use Rattle.cap_log.specs.Lines.{IsPlace}
-use Rattle.tagmem.specs.Granules.{Granules, Entry}
-use Rattle.cap_machine.specs.States.{State, key_of, put, granule_key, untagged_null}
-use Rattle.cap_machine.specs.Places.{IsCoded, AreCoded, codes_of, place_at}
-use Rattle.std.specs.Option.{option_and_then}
-use Rattle.cap_machine.specs.Origins.{Origins, origins_after}
-use Rattle.cap_machine.specs.Steps.{row_of}
-use Rattle.cap_machine.specs.Accounts.{row_in}
-use Rattle.cap_machine.specs.Helds.{Held, state_of, code_in, account_of}
-use Rattle.cap_machine.specs.Changes.{code_for}
-use Rattle.cap_machine.proofs.GranuleLemmas.{cap_of}
+use Rattle.tagmem.specs.Granules.{Entry}
 use Rattle.tagmem.proofs.Granules.{len-put}
-use Rattle.cap_machine.proofs.StateLemmas.{account_with, also_named, named_in, named-put}
+use Rattle.cap_machine.specs.{Accounts.row_in, Changes.code_for, Helds.{Held, state_of, code_in, account_of}}
+use Rattle.cap_machine.specs.{Origins.{Origins, origins_after}, Places.{IsCoded, AreCoded, codes_of, place_at}}
+use Rattle.cap_machine.specs.{States.{State, key_of, put, granule_key, untagged_null}, Steps.row_of}
+use Rattle.cap_machine.proofs.{GranuleLemmas.cap_of, StateLemmas.{account_with, also_named, named_in, named-put}}
 use Rattle.cap_machine.proofs.StateLemmas.{state-register, state-granule, codes-register, codes-granule}
 use Rattle.cap_machine.proofs.StepLemmas.{hits, hits-row_by, parent_in}
 

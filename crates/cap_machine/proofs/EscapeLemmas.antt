@@ -1,42 +1,29 @@
 -- A step that sets bounds is refused for them exactly where the requested ones do not lie inside its source's.
-use Rattle.std.proofs.Common.{◌≡◌, ◌≢◌, ◌↔◌, ℕ, zero, suc, ℤ, ◌^◌, ◌<◌, Bool, true, false, List, [], ◌∷◌, Option, if◌then◌else◌}
-use Rattle.std.proofs.Common.{◌&&◌, inl, inr, is_some, refl, sym, ap, subst, ◌∙◌, Some, None, Result, Ok, Err, OnOk}
-use Rattle.std.specs.Prelude.{slice_get}
 use Rattle.std.specs.List.{AllByRecursion}
-use Rattle.std.proofs.lemmas.Bool.{and_parts, eq-eqb, false≢true}
+use Rattle.std.proofs.Common.{◌≡◌, ◌≢◌, ◌↔◌, ℕ, zero, suc, ℤ, ◌^◌, ◌<◌, Bool, true, false, List, [], ◌∷◌, Option}
+use Rattle.std.proofs.Common.{if◌then◌else◌, ◌&&◌, inl, inr, is_some, refl, sym, ap, subst, ◌∙◌, Some, None, Result, Ok}
+use Rattle.std.proofs.{Common.{Err, OnOk, slice_get, eq-eqb}, lemmas.Bool.{and_parts, false≢true}}
 use Rattle.std.proofs.lemmas.Option.{none-some, same_Some}
 use Rattle.cap_word.specs.declared.word.Cap.{Cap}
-use Rattle.cap_log.specs.declared.lines.Place.TheVariants.{Register}
-use Rattle.cap_log.specs.declared.kinds.Step.{Step}
-use Rattle.cap_log.specs.declared.kinds.Step.TheVariants.{SetBounds, SetBoundsExact, SetAddr, AndPerm}
-use Rattle.cap_log.specs.declared.kinds.Step.TheVariants.{LoadCap, StoreCap, Load, Store}
-use Rattle.cap_log.specs.Lines.{IsStepInRange}
-use Rattle.cap_ops.specs.declared.refusal.Refusal.{Refusal}
-use Rattle.cap_ops.specs.Checks.{first_of}
-use Rattle.cap_ops.specs.declared.kinds.Kind.{Kind}
-use Rattle.cap_ops.specs.declared.kinds.Kind.TheVariants.{LoadData, StoreData}
-use Rattle.cap_ops.specs.declared.kinds.Kind.TheVariants.{LoadCap as LoadCapability, StoreCap as StoreCapability}
-use Rattle.cap_ops.specs.Accesses.{access_checks}
-use Rattle.cap_ops.specs.Operations.{clear_result, set_bounds_checks, set_bounds_result, set_addr_checks, and_perm_checks}
-use Rattle.cap_ops.specs.Operations.{seal_checks, unseal_checks}
+use Rattle.cap_ops.specs.declared.kinds.Kind.{Kind, TheVariants.{LoadData, StoreData, LoadCap as LoadCapability}}
+use Rattle.cap_ops.specs.declared.{kinds.Kind.TheVariants.StoreCap as StoreCapability, refusal.Refusal.Refusal}
+use Rattle.cap_ops.specs.{declared.refusal.Refusal.TheVariants.{BoundsEscape, WrongResult}, Accesses.access_checks}
+use Rattle.cap_ops.specs.{Checks.first_of, Operations.{clear_result, set_bounds_checks, set_bounds_result}}
+use Rattle.cap_ops.specs.Operations.{set_addr_checks, and_perm_checks, seal_checks, unseal_checks}
 use Rattle.cap_ops.proofs.ClearLemmas.{untagged_where_beyond}
-use Rattle.cap_ops.specs.Permissions.{is_sealed}
-use Rattle.cap_ops.proofs.TestLemmas.{first_of-append, first_of-append_some}
 use Rattle.cap_ops.proofs.NarrowingLemmas.{BoundsEscape-source, first_escapes, escapes_first as escapes_beyond}
-use Rattle.cap_ops.specs.declared.refusal.Refusal.TheVariants.{BoundsEscape, WrongResult}
-use Rattle.cap_machine.specs.declared.ends.StepEnd.{StepEnd}
-use Rattle.cap_machine.specs.declared.ends.StepEnd.TheVariants.{Refused, NoMemory}
-use Rattle.cap_machine.specs.declared.rules.Rules.{Rules}
-use Rattle.cap_machine.specs.declared.rules.Rules.TheVariants.{One, TwoStrict, TwoClear}
+use Rattle.cap_ops.proofs.TestLemmas.{first_of-append, first_of-append_some}
+use Rattle.cap_log.specs.declared.kinds.Step.{Step, TheVariants.{SetBounds, SetBoundsExact, SetAddr, AndPerm, LoadCap}}
+use Rattle.cap_log.specs.declared.{kinds.Step.TheVariants.{StoreCap, Load, Store}, lines.Place.TheVariants.Register}
+use Rattle.cap_log.specs.Lines.{IsStepInRange}
+use Rattle.cap_machine.specs.declared.{ends.StepEnd.{StepEnd, TheVariants.{Refused, NoMemory}}, rules.Rules.Rules}
+use Rattle.cap_machine.specs.{declared.rules.Rules.TheVariants.{One, TwoStrict, TwoClear}, Accounts.{Account, row_in}}
+use Rattle.cap_machine.specs.{Accounts.step_checks, Escapes.{AsksBeyond, ClearsBeyond, ClearsExactly, Escapes}}
+use Rattle.cap_machine.specs.{Escapes.asked_by, Helds.{Held, AnswersStep, state_of, account_of, checks_by}}
+use Rattle.cap_machine.specs.{Parents.{IsSoundState, StaysWithinParents}, Runs.{AreSound, IsRun, state_at}}
 use Rattle.cap_machine.specs.States.{State, DeclaredRoot, put, start}
 use Rattle.cap_machine.specs.Steps.{Access, Leads, Row, Written, clear_row, row_by, row_of, state_with}
-use Rattle.cap_machine.specs.Accounts.{Account, row_in, step_checks}
-use Rattle.cap_machine.specs.Helds.{Held, AnswersStep, state_of, account_of, checks_by}
-use Rattle.cap_machine.specs.Parents.{IsSoundState, StaysWithinParents}
-use Rattle.cap_machine.specs.Runs.{AreSound, IsRun, state_at}
-use Rattle.cap_machine.specs.Escapes.{AsksBeyond, ClearsBeyond, ClearsExactly, Escapes, asked_by}
-use Rattle.cap_machine.proofs.AuthorityLemmas.{one_back, start_sound}
-use Rattle.cap_machine.proofs.MadeLemmas.{ending, row_by-written}
+use Rattle.cap_machine.proofs.{AuthorityLemmas.{one_back, start_sound}, MadeLemmas.{ending, row_by-written}}
 
 no_last_test : (recorded limit : Bool) → first_of (ending recorded limit) ≡ Some BoundsEscape → ⊥
 no_last_test true true h = cc

@@ -1,21 +1,14 @@
 -- Granules as capabilities and as numbers.
-use Rattle.std.proofs.Common.{◌≡◌, ℕ, zero, suc, ◌+◌, ◌*◌, ◌/◌, ◌%◌, ◌^◌, ◌<◌, ◌≤◌, false, List, [], ◌∷◌, drop, take, get_or, refl}
-use Rattle.std.proofs.Common.{sym, ap, subst, ◌∙◌, arith, lit<, Option, Some, None, IfSome}
-use Rattle.std.proofs.lemmas.List.{get_or-drop}
-use Rattle.std.proofs.Math.Arith.{mod-mul}
-use Rattle.std.proofs.Math.Nat.{div-div-eq-div-mul, mod-one, pow-suc, pow-zero, div-one, zero-div, zero-mod}
-use Rattle.std.proofs.lemmas.Nat.{pow-add}
-use Rattle.std.specs.Prelude.{unwrap_or, replicate}
+use Rattle.std.specs.Int.{bytes_low_first, to_le_bytes}
 use Rattle.std.specs.FinMap as map
-use Rattle.std.specs.Int.{bytes_low_first, to_le_bytes, w64}
-use Rattle.cap_word.specs.Word.{null_word}
-use Rattle.cap_word.specs.Memory.{number_of, stored_word, low_bytes}
-use Rattle.cap_word.specs.declared.word.Cap.{Cap}
+use Rattle.std.proofs.Common.{◌≡◌, ℕ, zero, suc, ◌+◌, ◌*◌, ◌/◌, ◌%◌, ◌^◌, ◌<◌, ◌≤◌, false, List, [], ◌∷◌, drop, take}
+use Rattle.std.proofs.Common.{get_or, refl, sym, ap, subst, ◌∙◌, arith, lit<, Option, Some, None, IfSome, get_or-drop}
+use Rattle.std.proofs.{Common.{pow-suc, div-one, pow-add, unwrap_or, replicate, w64}, Math.Arith.mod-mul}
+use Rattle.std.proofs.Math.Nat.{div-div-eq-div-mul, mod-one, pow-zero, zero-div, zero-mod}
+use Rattle.cap_word.specs.{declared.word.Cap.Cap, Memory.{number_of, stored_word, low_bytes}, Word.null_word}
 use Rattle.cap_word.proofs.Bytes.{byte_at_is}
 use Rattle.tagmem.specs.Granules.{Granules, AreStored, Entry, IsNextPut, blank}
-use Rattle.cap_machine.specs.States.{untagged_null}
-use Rattle.cap_machine.specs.Helds.{granule_cap}
-use Rattle.cap_machine.specs.Changes.{number_at}
+use Rattle.cap_machine.specs.{Changes.number_at, Helds.granule_cap, States.untagged_null}
 
 zero_word : stored_word (replicate 16 0) ≡ null_word
 unfolding number_of

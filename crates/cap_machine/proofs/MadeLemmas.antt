@@ -1,56 +1,33 @@
 -- A machine after a step was made, or refused.
-use Rattle.std.proofs.Common.{◌≡◌, ℕ, ◌+◌, ◌/◌, ◌%◌, ◌^◌, ◌<◌, ◌≤◌, Bool, true, false, not, ◌||◌, ◌++◌}
-use Rattle.std.proofs.Common.{nat_le, List, [], ◌∷◌, length, take, drop, get_or, refl, sym, ap, subst, ◌∙◌, arith, lit<}
-use Rattle.std.proofs.Common.{inl, inr, nat_lt, ◌-◌, Some, None, Option, option_map, Result, Ok, Err, MatchResult, All}
-use Rattle.std.specs.Bool.{if◌then◌else◌}
 use Rattle.std.specs.FinMap as fin
-use Rattle.std.proofs.Math.Bool.{or-false}
-use Rattle.std.proofs.Math.ListN.{set}
-use Rattle.std.proofs.lemmas.Bool.{false≢true, cases_lt, le-ltb, eq-eqb, lt-leb}
-use Rattle.std.proofs.lemmas.List.{get_or_past}
-use Rattle.std.proofs.lemmas.List.Elements.{All-get_or}
-use Rattle.std.proofs.lemmas.Option.{none-some, same_Some}
-use Rattle.cap_word.specs.declared.word.Cap.{Cap}
-use Rattle.cap_word.specs.Memory.{low_bytes, memory_of, number_of, stored_word}
+use Rattle.std.proofs.Common.{◌≡◌, ℕ, ◌+◌, ◌/◌, ◌%◌, ◌^◌, ◌<◌, ◌≤◌, Bool, true, false, not, ◌||◌, ◌++◌, nat_le, List}
+use Rattle.std.proofs.Common.{[], ◌∷◌, length, take, drop, get_or, refl, sym, ap, subst, ◌∙◌, arith, lit<, inl, inr}
+use Rattle.std.proofs.Common.{nat_lt, ◌-◌, Some, None, Option, option_map, Result, Ok, Err, All, if◌then◌else◌, set}
+use Rattle.std.proofs.{Common.{le-ltb, eq-eqb, option_and_then}, Math.Bool.or-false, lemmas.Bool.{false≢true, cases_lt}}
+use Rattle.std.proofs.lemmas.{Bool.lt-leb, List.{get_or_past, Elements.All-get_or}, Option.{none-some, same_Some}}
+use Rattle.cap_word.specs.{declared.word.Cap.Cap, Memory.{low_bytes, memory_of, number_of, stored_word}}
 use Rattle.cap_word.proofs.Bytes.{stored_word-memory_of, memory_of-stored_word}
-use Rattle.cap_log.specs.declared.lines.Place.{Place}
-use Rattle.cap_log.specs.declared.lines.Place.TheVariants.{Register, Granule}
-use Rattle.cap_log.specs.declared.kinds.Step.{Step}
-use Rattle.cap_log.specs.declared.kinds.Step.TheVariants as steps
-use Rattle.cap_log.specs.declared.kinds.accesses.Load.{Load}
-use Rattle.cap_log.specs.declared.kinds.accesses.Store.{Store}
-use Rattle.cap_log.specs.declared.kinds.accesses.StoreCap.{StoreCap}
-use Rattle.cap_log.specs.Lines.{IsStepInRange}
-use Rattle.cap_ops.specs.declared.faults.OpFault.{OpFault}
-use Rattle.cap_ops.specs.Checks.{first_of}
+use Rattle.cap_ops.specs.declared.{faults.OpFault.OpFault, refusal.Refusal.{Refusal, TheVariants.WrongResult}}
+use Rattle.cap_ops.specs.{declared.refusal.Refusal.TheVariants.LimitPassed, Checks.first_of, Refusals.refusal_of}
 use Rattle.cap_ops.proofs.TestLemmas.{first_of-append_free, first_of-append_none, first_of-append_some}
+use Rattle.cap_log.specs.declared.kinds.{Step.Step, accesses.{Load.Load, Store.Store, StoreCap.StoreCap}}
+use Rattle.cap_log.specs.{declared.lines.Place.{Place, TheVariants.{Register, Granule}}, Lines.IsStepInRange}
 use Rattle.tagmem.specs.Granules.{Entry, AreStored, bytes_at, overwritten}
 use Rattle.tagmem.proofs.Granules.{length-bytes_at, bytes_at_fit}
-use Rattle.cap_ops.specs.declared.refusal.Refusal.{Refusal}
-use Rattle.cap_ops.specs.declared.refusal.Refusal.TheVariants.{WrongResult, LimitPassed}
-use Rattle.cap_machine.specs.declared.ends.StepEnd.{StepEnd}
-use Rattle.cap_machine.specs.declared.ends.StepEnd.TheVariants.{Refused, NoMemory}
-use Rattle.cap_ops.specs.Refusals.{refusal_of}
-use Rattle.cap_machine.specs.States.{State, untagged_null, granule_key, key_of, put, value_at}
-use Rattle.cap_machine.specs.Steps.{Access, Nothing, Recorded, Row, Written, row_of, row_by, state_with}
-use Rattle.cap_machine.proofs.StepLemmas.{is_recorded}
-use Rattle.cap_machine.specs.Steps.{address_through, with_value}
-use Rattle.cap_machine.specs.declared.rules.Rules.{Rules}
+use Rattle.cap_machine.specs.declared.{ends.StepEnd.{StepEnd, TheVariants.{Refused, NoMemory}}, rules.Rules.Rules}
 use Rattle.cap_machine.specs.declared.rules.Rules.TheVariants.{One, TwoStrict, TwoClear}
 use Rattle.cap_machine.specs.Accounts.{Account, step_checks, with_step, named_by, row_in, naming, is_new}
-use Rattle.cap_machine.specs.Accounts.{passes_granule_limit, most_steps}
-use Rattle.std.specs.Option.{option_and_then}
-use Rattle.cap_machine.specs.Origins.{origins_after}
-use Rattle.cap_machine.specs.Places.{AreCoded, IsCoded, place_at}
-use Rattle.cap_machine.specs.Parents.{IsSoundCap, IsSoundState}
-use Rattle.cap_machine.specs.Helds.{Held, AnswersStep, Makes, EndsStep, state_of, code_in, account_of, checks_by, value_by, granule_cap}
-use Rattle.cap_machine.specs.Changes.{AnswersPut, Derives, EndsPut, IsParentsCode, WritesRegister, code_for, is_same_cap, last_checks, rules_for}
-use Rattle.cap_machine.specs.Changes.{is_past_limits, number_at, result_in, with_register, with_cap_put, with_value_put}
-use Rattle.cap_machine.proofs.GranuleLemmas.{cap_of}
-use Rattle.cap_machine.proofs.CodeLemmas.{IsFrom, account-granule, account-register, code-register, code_for-coded, origins_by}
-use Rattle.cap_machine.proofs.CodeLemmas.{origin-written}
-use Rattle.cap_machine.proofs.SoundLemmas.{equal_caps}
-use Rattle.cap_machine.proofs.StepLemmas.{WritesWithin, row_by-access, writes_within_by}
+use Rattle.cap_machine.specs.{Accounts.{passes_granule_limit, most_steps}, Changes.{AnswersPut, Derives, EndsPut}}
+use Rattle.cap_machine.specs.Changes.{IsParentsCode, WritesRegister, code_for, is_same_cap, last_checks, rules_for}
+use Rattle.cap_machine.specs.Changes.{number_at, result_in, with_register, with_cap_put, with_value_put}
+use Rattle.cap_machine.specs.Helds.{Held, AnswersStep, Makes, EndsStep, state_of, code_in, account_of, checks_by}
+use Rattle.cap_machine.specs.{Helds.{value_by, granule_cap}, Origins.origins_after, Parents.{IsSoundCap, IsSoundState}}
+use Rattle.cap_machine.specs.{Places.{AreCoded, IsCoded, place_at}, States.{State, untagged_null, granule_key, key_of}}
+use Rattle.cap_machine.specs.{States.{put, value_at}, Steps.{Access, Nothing, Recorded, Row, Written, row_of, row_by}}
+use Rattle.cap_machine.specs.Steps.{state_with, address_through, with_value}
+use Rattle.cap_machine.proofs.CodeLemmas.{IsFrom, account-granule, account-register, code-register, code_for-coded}
+use Rattle.cap_machine.proofs.{CodeLemmas.{origins_by, origin-written}, GranuleLemmas.cap_of, SoundLemmas.equal_caps}
+use Rattle.cap_machine.proofs.StepLemmas.{is_recorded, WritesWithin, row_by-access, writes_within_by}
 
 -- the row of an access
 same_row : (old : Held) (step : Step) (access : Access) → (row_of (state_of old) step).access ≡ Some access
@@ -250,12 +227,12 @@ module _ (old new : Held) (step : Step) (granule : ℕ) (checks : List (Bool × 
 pub stored : (old new : Held) (store : StoreCap) (result : Result (Unit {0}) StepEnd)
     → (state_of old store.source).word.0 < 2 ^ 128
     → store.source ≤ 31 → IsCoded (state_of old store.source).tag (code_in old store.source)
-    → first_of (row_of (state_of old) (steps.StoreCap store)).checks ≡ None
+    → first_of (row_of (state_of old) (Step.StoreCap store)).checks ≡ None
     → AnswersPut old (address_through (state_of old) store.authority store.offset / 16)
     (with_cap_put old (address_through (state_of old) store.authority store.offset / 16) (state_of old store.source) (get_or old.codes store.source 0)) result new
-    → AnswersStep old (steps.StoreCap store) result new
+    → AnswersStep old (Step.StoreCap store) result new
 stored old new store result fits low coded free put_is =
-    let step = steps.StoreCap store in
+    let step = Step.StoreCap store in
     let cap_is = state_of old store.source in
     let code = get_or old.codes store.source 0 in
     let same = code-register old store.source low in
@@ -287,13 +264,13 @@ granule_bytes held granule stored_all =
 -- a stored value
 pub stored_value : (old new : Held) (store : Store) (result : Result (Unit {0}) StepEnd)
     → AreStored old.memory
-    → first_of (row_of (state_of old) (steps.Store store)).checks ≡ None
+    → first_of (row_of (state_of old) (Step.Store store)).checks ≡ None
     → AnswersPut old (address_through (state_of old) store.authority store.offset / 16)
     (with_value_put old (address_through (state_of old) store.authority store.offset / 16)
     (address_through (state_of old) store.authority store.offset % 16) store.datum.size store.datum.value) result new
-    → AnswersStep old (steps.Store store) result new
+    → AnswersStep old (Step.Store store) result new
 stored_value old new store result stored_all free put_is =
-    let step = steps.Store store in
+    let step = Step.Store store in
     let a = address_through (state_of old) store.authority store.offset in
     let g = a / 16 in
     let given = low_bytes store.datum.size store.datum.value in
@@ -318,23 +295,23 @@ value_read held load address read at is = is ∙ ap (λ (a : ℕ). value_at (sta
 
 -- a load is made
 pub loaded_value : (old : Held) (load : Load)
-    → first_of (row_of (state_of old) (steps.Load load)).checks ≡ None
+    → first_of (row_of (state_of old) (Step.Load load)).checks ≡ None
     → load.datum.value ≡ value_at (state_of old) (address_through (state_of old) load.authority load.offset) load.datum.size → old.steps < most_steps
-    → Makes old (steps.Load load) (record old { steps = old.steps + 1 })
+    → Makes old (Step.Load load) (record old { steps = old.steps + 1 })
 loaded_value old load free same few =
-    let step = steps.Load load in
+    let step = Step.Load load in
     makes old (record old { steps = old.steps + 1 }) step _ (same_row old step _ refl) free
     (unnamed old _ ∙ ap (λ (b : Bool). first_of (last_checks old b)) (eq-eqb load.datum.value _ same)
     ∙ ap (λ (b : Bool). first_of (ending true b)) (lt-leb most_steps old.steps few)) refl
 
 -- a load is refused
 pub load_refused : (old : Held) (load : Load) (recorded : Bool) (refusal : Refusal)
-    → first_of (row_of (state_of old) (steps.Load load)).checks ≡ None
-    → is_recorded (row_of (state_of old) (steps.Load load)) ≡ recorded
+    → first_of (row_of (state_of old) (Step.Load load)).checks ≡ None
+    → is_recorded (row_of (state_of old) (Step.Load load)) ≡ recorded
     → first_of (last_checks old recorded) ≡ Some refusal
-    → EndsStep old (steps.Load load) (Refused refusal) old
+    → EndsStep old (Step.Load load) (Refused refusal) old
 load_refused old load recorded refusal free same found =
-    let step = steps.Load load in
+    let step = Step.Load load in
     refused old step _ refusal (same_row old step _ refl) free
     (unnamed old _ ∙ ap (λ (b : Bool). first_of (last_checks old b)) same ∙ found)
 

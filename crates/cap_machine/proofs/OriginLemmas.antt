@@ -1,25 +1,16 @@
 -- What origins are, carried forward, is what descent is, followed back: so the account's are the places of roots.
-use Rattle.std.proofs.Common.{◌≡◌, ℕ, zero, suc, ◌==◌, nat_eq, false, inl, inr, List, [], ◌∷◌, length, map, take, Some}
-use Rattle.std.proofs.Common.{Contains, refl, sym, ap, subst, ◌∙◌, arith, None}
-use Rattle.std.specs.FinMap as fin
 use Rattle.std.specs.List.{AllByRecursion, IsDistinct}
-use Rattle.std.proofs.Math.Path.{fun_ext}
-use Rattle.std.proofs.lemmas.Bool.{cond-true, cond-false, eqb-false, eq-eqb, ne_eqb}
-use Rattle.std.proofs.lemmas.Bool.Decides.{eqb_tells}
-use Rattle.std.proofs.lemmas.List.{take_all}
-use Rattle.cap_log.specs.declared.kinds.Step.{Step}
-use Rattle.cap_log.specs.Lines.{IsStepInRange}
-use Rattle.cap_machine.specs.declared.rules.Rules.{Rules}
-use Rattle.cap_machine.specs.States.{State, DeclaredRoot, key_of, start, untagged_null, granule_key}
-use Rattle.cap_machine.specs.Runs.{AreSound, Descends, IsRun, last_of, state_at}
-use Rattle.std.specs.Option.{option_and_then}
-use Rattle.cap_machine.specs.Origins.{Origins, origins_after, origins_along}
-use Rattle.cap_machine.specs.Accounts.{Account, no_account, with_root, with_step}
-use Rattle.cap_machine.specs.Helds.{Held, state_of}
-use Rattle.cap_machine.specs.RunAccounts.{OriginsAreRoots, account_after}
+use Rattle.std.specs.FinMap as fin
+use Rattle.std.proofs.Common.{◌≡◌, ℕ, zero, suc, ◌==◌, nat_eq, false, inl, inr, List, [], ◌∷◌, length, map, take, Some}
+use Rattle.std.proofs.Common.{Contains, refl, sym, ap, subst, ◌∙◌, arith, eq-eqb, ne_eqb, take_all, option_and_then}
+use Rattle.std.proofs.{Math.Path.fun_ext, lemmas.Bool.{cond-true, cond-false, eqb-false, Decides.eqb_tells}}
+use Rattle.cap_log.specs.{declared.kinds.Step.Step, Lines.IsStepInRange}
+use Rattle.cap_machine.specs.{declared.rules.Rules.Rules, Accounts.{Account, no_account, with_root, with_step}}
+use Rattle.cap_machine.specs.{Origins.{Origins, origins_after, origins_along}, RunAccounts.OriginsAreRoots}
+use Rattle.cap_machine.specs.{RunAccounts.account_after, Runs.{AreSound, Descends, IsRun, last_of, state_at}}
+use Rattle.cap_machine.specs.States.{State, DeclaredRoot, key_of, start, untagged_null}
 use Rattle.cap_machine.proofs.AccountLemmas.{after_roots, after_steps, with_step-grows, after_roots-grows}
 use Rattle.cap_machine.proofs.AuthorityLemmas.{one_root}
-use Rattle.cap_machine.proofs.GranuleLemmas.{granule_cap-absent}
 
 pub traced : (origins : Origins) (state : State) (steps : List Step) (states : List State) (key from : ℕ)
     → Descends state steps states key from

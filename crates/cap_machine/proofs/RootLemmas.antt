@@ -1,16 +1,11 @@
 -- A machine after a root was put.
 use Rattle.std.proofs.Common.{◌≡◌, ℕ, ◌+◌, ◌^◌, ◌<◌, true, length, ap, None}
-use Rattle.cap_word.specs.declared.word.Word.{Word}
-use Rattle.cap_word.specs.Memory.{memory_of}
+use Rattle.cap_word.specs.{declared.word.Word.Word, Memory.memory_of}
 use Rattle.cap_word.proofs.Bytes.{stored_word-memory_of}
-use Rattle.cap_log.specs.declared.lines.Place.{Place}
-use Rattle.cap_log.specs.declared.lines.Place.TheVariants.{Register, Granule}
-use Rattle.cap_log.specs.Lines.{IsPlace}
 use Rattle.cap_ops.specs.Checks.{first_of}
-use Rattle.cap_machine.specs.States.{granule_key, put, tagged}
-use Rattle.cap_machine.specs.Accounts.{Account, root_checks}
-use Rattle.cap_machine.specs.Helds.{Held, TakesRoot, code_in, account_of}
-use Rattle.cap_machine.specs.Changes.{placed}
+use Rattle.cap_log.specs.{declared.lines.Place.{Place, TheVariants.{Register, Granule}}, Lines.IsPlace}
+use Rattle.cap_machine.specs.{Accounts.{Account, root_checks}, Changes.placed}
+use Rattle.cap_machine.specs.{Helds.{Held, TakesRoot, code_in, account_of}, States.{granule_key, put, tagged}}
 use Rattle.cap_machine.proofs.CodeLemmas.{account-granule, account-register, origins_by, place_at-key}
 
 pub took : (old : Held) (place : Place) (word : Word) → length old.registers ≡ 32 → length old.codes ≡ 32 → IsPlace place → word.0 < 2 ^ 128

@@ -1,25 +1,16 @@
 -- A state whose tagged capabilities are sound stays such a state.
-use Rattle.std.proofs.Common.{[], ◌≡◌, ℕ, ◌<◌, ◌≤◌, ◌^◌, ◌==◌, ◌-◌, Bool, true, false, not, ◌&&◌, eqb, refl, nat_lt, get_or, arith, List}
-use Rattle.std.proofs.Common.{length, sym, ap, subst, ◌∙◌}
-use Rattle.std.specs.Bool.{if◌then◌else◌}
-use Rattle.std.proofs.Math.ListN.{set, length-set}
-use Rattle.std.proofs.lemmas.List.{get_or-set_other}
-use Rattle.std.proofs.Math.Bool.{beq}
-use Rattle.std.proofs.lemmas.Bool.{false≢true, le-ltb, and_parts, not-false, eqb-true}
 use Rattle.std.specs.FinMap as map
-use Rattle.cap_word.specs.declared.word.Word.{Word}
-use Rattle.cap_word.specs.declared.word.Cap.{Cap}
-use Rattle.cap_word.specs.Memory.{memory_of}
+use Rattle.std.proofs.Common.{[], ◌≡◌, ℕ, ◌<◌, ◌^◌, ◌==◌, ◌-◌, Bool, true, false, not, ◌&&◌, eqb, refl, arith, List}
+use Rattle.std.proofs.Common.{length, sym, ap, subst, ◌∙◌, if◌then◌else◌, set, length-set, get_or-set_other, eqb-true}
+use Rattle.std.proofs.{Math.Bool.beq, lemmas.Bool.{false≢true, and_parts, not-false}}
+use Rattle.cap_word.specs.{declared.word.{Cap.Cap, Word.Word}, Memory.memory_of}
 use Rattle.cap_word.proofs.Bytes.{stored_word-memory_of}
 use Rattle.cap_bounds.specs.Bounds.{IsSound}
-use Rattle.tagmem.specs.Granules.{Granules, Entry}
-use Rattle.cap_machine.specs.States.{State, put, start, granule_key, untagged_null}
 use Rattle.cap_log.specs.Ranges.{IsTarget}
-use Rattle.cap_machine.specs.Places.{AreCoded, IsCoded, codes_of, places_of}
-use Rattle.cap_machine.specs.Helds.{IsKept}
-use Rattle.cap_machine.specs.Parents.{IsSoundCap, IsSoundState}
-use Rattle.cap_machine.proofs.GranuleLemmas.{cap_of}
-use Rattle.cap_machine.proofs.CodeLemmas.{coded_put}
+use Rattle.tagmem.specs.Granules.{Granules, Entry}
+use Rattle.cap_machine.specs.{Helds.IsKept, Parents.{IsSoundCap, IsSoundState}, Places.{AreCoded, IsCoded, codes_of}}
+use Rattle.cap_machine.specs.{Places.places_of, States.{State, put, start, granule_key, untagged_null}}
+use Rattle.cap_machine.proofs.{CodeLemmas.coded_put, GranuleLemmas.cap_of}
 use Rattle.cap_machine.proofs.StateLemmas.{codes-granule, codes-register, state-register, state-granule}
 
 either : (b : Bool) (x y : Cap) → IsSoundCap x → IsSoundCap y → IsSoundCap (if b then x else y)

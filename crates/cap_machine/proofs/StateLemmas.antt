@@ -1,23 +1,16 @@
 -- The state of what a machine holds, after each kind of change.
-use Rattle.std.proofs.Common.{[], ◌≡◌, ◌≢◌, ℕ, List, ◌+◌, ◌-◌, ◌<◌, ◌≤◌, inl, inr, Bool, true, false, ◌==◌, ◌||◌, nat_lt}
-use Rattle.std.proofs.Common.{length, get_or, refl, sym, ap, ◌∙◌, arith, Option, Some, None, is_some}
-use Rattle.std.specs.Bool.{if◌then◌else◌}
-use Rattle.std.proofs.Math.ListN.{replicate, set}
-use Rattle.std.proofs.Math.Path.{fun_ext}
-use Rattle.std.proofs.lemmas.List.{get_or-replicate, get_or_past, length-replicate, get_or-set_same, get_or-set_other}
-use Rattle.std.proofs.lemmas.Bool.{cond-true, cond-false, cases_lt, lt-ltb, le-ltb, eq-eqb, ne_eqb}
-use Rattle.std.proofs.lemmas.Bool.Decides.{eqb_tells}
 use Rattle.std.specs.FinMap as map
-use Rattle.std.specs.Ordering.{nat_cmp}
+use Rattle.std.proofs.Common.{[], ◌≡◌, ◌≢◌, ℕ, List, ◌+◌, ◌-◌, ◌<◌, ◌≤◌, inl, inr, Bool, true, false, ◌==◌, ◌||◌}
+use Rattle.std.proofs.Common.{nat_lt, length, get_or, refl, sym, ap, ◌∙◌, arith, Option, Some, None, is_some}
+use Rattle.std.proofs.Common.{if◌then◌else◌, replicate, set, get_or-set_same, get_or-set_other, lt-ltb, le-ltb, eq-eqb}
+use Rattle.std.proofs.{Common.{ne_eqb, nat_cmp}, Math.Path.fun_ext, lemmas.Bool.{cond-true, cond-false, cases_lt}}
+use Rattle.std.proofs.lemmas.{Bool.Decides.eqb_tells, List.{get_or-replicate, get_or_past, length-replicate}}
 use Rattle.cap_word.specs.declared.word.Cap.{Cap}
 use Rattle.tagmem.specs.Granules.{Granules, Entry, entry_at, code_at}
 use Rattle.tagmem.proofs.Granules.{get-put, entry_at-empty, entry_at-put_same, entry_at-put_other}
+use Rattle.cap_machine.specs.{declared.rules.Rules.Rules, Accounts.{Account, no_account}, Helds.granule_cap}
+use Rattle.cap_machine.specs.{Helds.account_of, Origins.Origins, Places.{at_places, places_of, codes_of, place_at}}
 use Rattle.cap_machine.specs.States.{State, start, untagged_null, put, granule_key}
-use Rattle.cap_machine.specs.Places.{at_places, places_of, codes_of, place_at}
-use Rattle.cap_machine.specs.Origins.{Origins}
-use Rattle.cap_machine.specs.declared.rules.Rules.{Rules}
-use Rattle.cap_machine.specs.Accounts.{Account, no_account}
-use Rattle.cap_machine.specs.Helds.{granule_cap, account_of}
 use Rattle.cap_machine.proofs.GranuleLemmas.{cap_of, granule_cap-absent}
 
 -- n copies of a value have it at each index, and past their end the default is that value

@@ -1,26 +1,20 @@
 -- What a step writes stays within what its parent place held.
-use Rattle.std.proofs.Common.{◌≡◌, ◌==◌, ℕ, Bool, true, false, if◌then◌else◌, List, Option, Some, None, option_map, refl, sym, ap, ◌∙◌}
+use Rattle.std.specs.Option.{option_map_or}
+use Rattle.std.proofs.Common.{◌≡◌, ◌==◌, ℕ, Bool, true, false, if◌then◌else◌, List, Option, Some, None, option_map}
+use Rattle.std.proofs.{Common.{refl, sym, ap, ◌∙◌}, lemmas.Bool.{false≢true}}
 use Rattle.cap_word.specs.declared.word.Cap.{Cap}
-use Rattle.cap_log.specs.declared.lines.Place.{Place}
-use Rattle.cap_log.specs.declared.kinds.Step.{Step}
-use Rattle.cap_log.specs.declared.kinds.Step.TheVariants.{Move, ClearTag, SetBounds, SetBoundsExact, SetAddr, AndPerm}
-use Rattle.cap_log.specs.declared.kinds.Step.TheVariants.{Seal, Unseal, LoadCap, StoreCap, Load, Store}
-use Rattle.cap_log.specs.Lines.{IsStepInRange}
-use Rattle.cap_ops.specs.declared.refusal.Refusal.{Refusal}
+use Rattle.cap_ops.specs.{declared.refusal.Refusal.Refusal, Authority.StaysWithin, Checks.first_of}
 use Rattle.cap_ops.specs.Operations.{clear_result}
-use Rattle.cap_ops.specs.Checks.{first_of}
-use Rattle.cap_ops.proofs.ClearLemmas.{StaysWithin-clear, clear_result-none, clear_result-some}
-use Rattle.cap_ops.specs.Authority.{StaysWithin}
-use Rattle.cap_ops.proofs.ReachLemmas.{StaysWithin-refl}
-use Rattle.cap_ops.proofs.Derivations.{StaysWithin-and_perm, StaysWithin-seal, StaysWithin-unseal, StaysWithin-loaded, StaysWithin-cleared}
-use Rattle.cap_ops.proofs.NarrowingLemmas.{StaysWithin-set_bounds}
-use Rattle.cap_ops.proofs.AddressLemmas.{StaysWithin-set_addr}
-use Rattle.std.proofs.lemmas.Bool.{false≢true}
+use Rattle.cap_ops.proofs.{AddressLemmas.StaysWithin-set_addr, ClearLemmas.{StaysWithin-clear, clear_result-none}}
+use Rattle.cap_ops.proofs.{ClearLemmas.clear_result-some, Derivations.{StaysWithin-and_perm, StaysWithin-seal}}
+use Rattle.cap_ops.proofs.Derivations.{StaysWithin-unseal, StaysWithin-loaded, StaysWithin-cleared}
+use Rattle.cap_ops.proofs.{NarrowingLemmas.StaysWithin-set_bounds, ReachLemmas.StaysWithin-refl}
+use Rattle.cap_log.specs.declared.kinds.Step.{Step, TheVariants.{Move, ClearTag, SetBounds, SetBoundsExact, SetAddr}}
+use Rattle.cap_log.specs.declared.kinds.Step.TheVariants.{AndPerm, Seal, Unseal, LoadCap, StoreCap, Load, Store}
+use Rattle.cap_log.specs.{declared.lines.Place.Place, Lines.IsStepInRange}
+use Rattle.cap_machine.specs.declared.rules.Rules.{Rules, TheVariants.{One, TwoStrict, TwoClear}}
 use Rattle.cap_machine.specs.States.{State, key_of, granule_key}
 use Rattle.cap_machine.specs.Steps.{Access, Row, agrees, row_of, row_by, clear_row, granule_through}
-use Rattle.cap_machine.specs.declared.rules.Rules.{Rules}
-use Rattle.cap_machine.specs.declared.rules.Rules.TheVariants.{One, TwoStrict, TwoClear}
-use Rattle.std.specs.Option.{option_map_or}
 
 -- whether the line of a row records what the machine has
 abbrev pub is_recorded : Row → Bool

@@ -1,20 +1,15 @@
 -- What a machine's checks see: its rules, its state, and what the limits are measured by; and the checks of roots and
 -- steps in their order (this profile's own).
-use Rattle.std.specs.Prelude.{ℕ, ◌+◌, Bool, false, ◌==◌, ◌&&◌, ◌||◌, not, nat_le, if◌then◌else◌, List, [], ◌∷◌, ◌++◌, Option}
-use Rattle.std.specs.Prelude.{Some, None}
-use Rattle.std.specs.Option.{option_map_or}
+use Rattle.std.specs.Prelude.{ℕ, ◌+◌, Bool, false, ◌==◌, ◌&&◌, ◌||◌, not, nat_le, if◌then◌else◌, List, [], ◌∷◌, ◌++◌}
+use Rattle.std.specs.{Prelude.{Option, Some, None}, Option.option_map_or}
 use Rattle.cap_word.specs.declared.word.Word.{Word}
-use Rattle.cap_log.specs.declared.lines.Place.{Place}
-use Rattle.cap_log.specs.declared.kinds.Step.{Step}
 use Rattle.cap_bounds.specs.Bounds.{is_sound}
 use Rattle.cap_ops.specs.declared.refusal.Refusal.{Refusal}
 use Rattle.cap_ops.specs.declared.refusal.Refusal.TheVariants.{PlaceTaken, UnsoundRoot, WrongResult, LimitPassed}
-use Rattle.cap_machine.specs.declared.rules.Rules.{Rules}
-use Rattle.cap_machine.specs.declared.rules.Rules.TheVariants.{One}
-use Rattle.cap_machine.specs.States.{State, key_of, put, start, tagged}
+use Rattle.cap_log.specs.declared.{kinds.Step.Step, lines.Place.Place}
 pub use Rattle.cap_machine.specs.Steps.{granule_of, named_by}
-use Rattle.cap_machine.specs.Steps.{Row, row_of, row_by, agrees, state_with}
-use Rattle.cap_machine.specs.Origins.{origins_after}
+use Rattle.cap_machine.specs.{declared.rules.Rules.{Rules, TheVariants.One}, Origins.origins_after, States.State}
+use Rattle.cap_machine.specs.{States.{key_of, put, start, tagged}, Steps.{Row, row_of, row_by, agrees, state_with}}
 
 -- what checks see: the rules, the state, each place's root, the numbers of roots and steps, and which granules were
 -- named and how many

@@ -1,30 +1,18 @@
 -- What single parts of taking a root or making a step do, each for one private function (this profile's own).
-use Rattle.std.specs.Bool.{beq}
-use Rattle.std.specs.Prelude.{◌&&◌, ◌==◌, ◌≡◌, ℕ, ℤ, ◌+◌, Bool, true, false, not, ◌||◌, nat_le, if◌then◌else◌, List, [], ◌∷◌, drop, slice_set, take, Option}
-use Rattle.std.specs.Prelude.{Some, None, IsTrue, Result, Ok, MatchResult, option_map}
-use Rattle.cap_word.specs.declared.word.Word.{Word}
-use Rattle.cap_word.specs.declared.word.Cap.{Cap}
-use Rattle.cap_word.specs.Memory.{low_bytes, memory_of, number_of}
-use Rattle.cap_log.specs.declared.lines.Place.{Place}
-use Rattle.cap_log.specs.declared.lines.Place.TheVariants.{Register, Granule}
-use Rattle.cap_log.specs.declared.kinds.Step.{Step}
-use Rattle.cap_ops.specs.declared.faults.OpFault.{OpFault}
-use Rattle.cap_ops.specs.declared.kinds.Kind.{Kind}
-use Rattle.cap_ops.specs.Accesses.{access_checks}
-use Rattle.cap_ops.specs.Refusals.{refusal_of}
-use Rattle.cap_ops.specs.Checks.{first_of}
+use Rattle.std.specs.Prelude.{◌&&◌, ◌==◌, ◌≡◌, ℕ, ℤ, ◌+◌, Bool, true, false, not, ◌||◌, nat_le, if◌then◌else◌, List, []}
+use Rattle.std.specs.Prelude.{◌∷◌, drop, slice_set, take, Option, Some, None, IsTrue, Result, Ok, MatchResult}
+use Rattle.std.specs.{Prelude.option_map, Bool.beq}
+use Rattle.cap_word.specs.{declared.word.{Cap.Cap, Word.Word}, Memory.{low_bytes, memory_of, number_of}}
+use Rattle.cap_ops.specs.declared.{faults.OpFault.OpFault, kinds.Kind.Kind, refusal.Refusal.Refusal}
+use Rattle.cap_ops.specs.{declared.refusal.Refusal.TheVariants.{WrongResult, LimitPassed}, Accesses.access_checks}
+use Rattle.cap_log.specs.declared.{kinds.Step.Step, lines.Place.{Place, TheVariants.{Register, Granule}}}
 use Rattle.tagmem.specs.Granules.{with_cap, with_bytes}
-use Rattle.cap_ops.specs.declared.refusal.Refusal.{Refusal}
-use Rattle.cap_ops.specs.declared.refusal.Refusal.TheVariants.{WrongResult, LimitPassed}
-use Rattle.cap_machine.specs.declared.rules.Rules.{Rules}
-use Rattle.cap_machine.specs.declared.rules.Rules.TheVariants.{TwoStrict}
-use Rattle.cap_machine.specs.declared.ends.StepEnd.{StepEnd}
-use Rattle.cap_machine.specs.declared.ends.StepEnd.TheVariants.{Refused, NoMemory}
+use Rattle.cap_machine.specs.declared.ends.StepEnd.{StepEnd, TheVariants.{Refused, NoMemory}}
+use Rattle.cap_machine.specs.declared.{instructions.OperationParts.OperationParts, rules.Rules.Rules}
+use Rattle.cap_machine.specs.{declared.rules.Rules.TheVariants.TwoStrict, Accounts.{most_steps, is_new}}
+use Rattle.cap_machine.specs.{Accounts.passes_granule_limit, Helds.{Held, EndsBy, code_in, state_of, account_of}}
 use Rattle.cap_machine.specs.States.{State, granule_key, key_of, tagged, untagged_null}
-use Rattle.cap_machine.specs.declared.instructions.OperationParts.{OperationParts}
 use Rattle.cap_machine.specs.Steps.{Access, Row, Written, access_through, operation, row_of}
-use Rattle.cap_machine.specs.Accounts.{most_steps, is_new, passes_granule_limit}
-use Rattle.cap_machine.specs.Helds.{Held, EndsBy, code_in, state_of, account_of}
 
 -- whether two capabilities are the same: tag and word
 abbrev pub is_same_cap : Cap → Cap → Bool

@@ -1,13 +1,9 @@
 -- When a step that sets bounds is refused for them, or loses its tag.
 use Rattle.std.specs.Prelude.{◌≡◌, ◌≢◌, ◌↔◌, ℕ, suc, List, Option, Some, None, IsTrue, IsFalse, slice_get}
-use Rattle.cap_log.specs.declared.kinds.Step.{Step}
-use Rattle.cap_log.specs.declared.kinds.Step.TheVariants.{SetBounds, SetBoundsExact}
-use Rattle.cap_ops.specs.Operations.{HasRoomFor}
-use Rattle.cap_ops.specs.Permissions.{is_sealed}
-use Rattle.cap_machine.specs.declared.rules.Rules.{Rules}
-use Rattle.cap_machine.specs.declared.rules.Rules.TheVariants.{TwoClear}
+use Rattle.cap_ops.specs.{Operations.HasRoomFor, Permissions.is_sealed}
+use Rattle.cap_log.specs.declared.kinds.Step.{Step, TheVariants.{SetBounds, SetBoundsExact}}
+use Rattle.cap_machine.specs.{declared.rules.Rules.{Rules, TheVariants.TwoClear}, Runs.state_at}
 use Rattle.cap_machine.specs.States.{State, DeclaredRoot, start}
-use Rattle.cap_machine.specs.Runs.{state_at}
 
 -- the register that a step takes bounds from, and the requested length
 abbrev pub asked_by : Step → Option (ℕ × ℕ)

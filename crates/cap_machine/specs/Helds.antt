@@ -1,26 +1,19 @@
 -- What a machine holds, and what its roots and its steps do to that (this profile's own).
-use Rattle.std.specs.Prelude.{◌≡◌, ℕ, zero, suc, Bool, List, [], length, slice_index_or, refl, Some, None, is_some, IsTrue, Result, MatchResult}
+use Rattle.std.specs.Prelude.{◌≡◌, ℕ, zero, suc, Bool, List, [], length, slice_index_or, refl, Some, None, is_some}
+use Rattle.std.specs.Prelude.{IsTrue, Result, MatchResult}
 use Rattle.std.specs.Coded.{Coded, code_by, coded×, coded_bool, coded_list, coded_ℕ}
 use Rattle.std.specs.FinMap as map
-use Rattle.cap_word.specs.declared.word.Word.{Word}
-use Rattle.cap_word.specs.declared.word.Cap.{Cap}
-use Rattle.cap_log.specs.declared.lines.Place.{Place}
-use Rattle.cap_log.specs.declared.kinds.Step.{Step}
-use Rattle.cap_ops.specs.declared.faults.OpFault.{OpFault}
+use Rattle.cap_word.specs.declared.word.{Cap.Cap, Word.Word}
+use Rattle.cap_ops.specs.{declared.{faults.OpFault.OpFault, refusal.Refusal.Refusal}, Checks.{Ends, first_of}}
 use Rattle.cap_ops.specs.Operations.{clear_result}
-use Rattle.cap_ops.specs.Checks.{Ends, first_of}
-use Rattle.cap_ops.specs.declared.refusal.Refusal.{Refusal}
+use Rattle.cap_log.specs.declared.{kinds.Step.Step, lines.Place.Place}
 use Rattle.tagmem.specs.Granules.{Granules}
-use Rattle.cap_machine.specs.declared.ends.StepEnd.{StepEnd}
-use Rattle.cap_machine.specs.declared.ends.StepEnd.TheVariants.{Refused, NoMemory}
-use Rattle.cap_machine.specs.declared.rules.Rules.{Rules}
-use Rattle.cap_machine.specs.declared.rules.Rules.TheVariants.{One, TwoStrict, TwoClear}
 pub use Rattle.cap_machine.specs.Places.{granule_cap}
-use Rattle.cap_machine.specs.Parents.{IsSoundState}
-use Rattle.cap_machine.specs.Places.{AreCoded, places_of, codes_of, place_at}
-use Rattle.cap_machine.specs.States.{State, untagged_null}
-use Rattle.cap_machine.specs.Steps.{Leads}
-use Rattle.cap_machine.specs.Accounts.{Account, granule_of, named_by, row_in, is_new, with_root, with_step, root_checks, step_checks}
+use Rattle.cap_machine.specs.declared.{ends.StepEnd.{StepEnd, TheVariants.{Refused, NoMemory}}, rules.Rules.Rules}
+use Rattle.cap_machine.specs.declared.rules.Rules.TheVariants.{One, TwoStrict, TwoClear}
+use Rattle.cap_machine.specs.Accounts.{Account, granule_of, named_by, row_in, is_new, with_root, with_step, root_checks}
+use Rattle.cap_machine.specs.{Accounts.step_checks, Parents.IsSoundState, Places.{AreCoded, places_of, codes_of}}
+use Rattle.cap_machine.specs.{Places.place_at, States.{State, untagged_null}, Steps.Leads}
 
 -- what a machine holds: its rules, its registers and the codes of their origins, the granules that were put, with such
 -- codes, and its counts of roots and steps

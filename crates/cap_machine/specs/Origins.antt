@@ -1,10 +1,7 @@
 -- The place of the root that each capability comes from, carried forward.
-use Rattle.std.specs.Prelude.{ℕ, List, [], ◌∷◌, Option}
-use Rattle.std.specs.Option.{option_and_then}
-use Rattle.cap_log.specs.declared.lines.Place.{Place}
-use Rattle.cap_log.specs.declared.kinds.Step.{Step}
-use Rattle.cap_machine.specs.States.{State}
-use Rattle.cap_machine.specs.Runs.{parent_of}
+use Rattle.std.specs.Prelude.{ℕ, List, [], ◌∷◌, Option, option_and_then}
+use Rattle.cap_log.specs.declared.{kinds.Step.Step, lines.Place.Place}
+use Rattle.cap_machine.specs.{Runs.parent_of, States.State}
 
 -- after a step a place has the origin that its parent had (this profile's own, as are all below)
 abbrev pub origins_after : (ℕ → Option Place) → State → Step → State → ℕ → Option Place

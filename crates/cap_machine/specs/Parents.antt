@@ -1,11 +1,10 @@
 -- What a step leaves of authority: each tagged capability after it reaches no more than the one that it comes from.
 use Rattle.std.specs.Prelude.{◌≡◌, ℕ, Some, IsTrue}
-use Rattle.cap_log.specs.declared.kinds.Step.{Step}
 use Rattle.cap_word.specs.declared.word.Cap.{Cap}
 use Rattle.cap_bounds.specs.Bounds.{IsSound}
 use Rattle.cap_ops.specs.Authority.{ReachesNoMore}
-use Rattle.cap_machine.specs.States.{State}
-use Rattle.cap_machine.specs.Runs.{parent_of}
+use Rattle.cap_log.specs.declared.kinds.Step.{Step}
+use Rattle.cap_machine.specs.{Runs.parent_of, States.State}
 
 -- a capability is sound where it is tagged (this profile's own, as are all below)
 abbrev pub IsSoundCap : Cap → Type 0

@@ -1,9 +1,8 @@
 -- What registers and granules hold, as one state, and the origins of that (this profile's own).
-use Rattle.std.specs.Prelude.{ℕ, ◌+◌, ◌-◌, ◌^◌, ◌<◌, Bool, ◌==◌, nat_lt, if◌then◌else◌, List, slice_index_or, Option, Some, None}
-use Rattle.cap_word.specs.declared.word.Cap.{Cap}
-use Rattle.cap_word.specs.Memory.{stored_word}
-use Rattle.cap_log.specs.declared.lines.Place.{Place}
-use Rattle.cap_log.specs.declared.lines.Place.TheVariants.{Register, Granule}
+use Rattle.std.specs.Prelude.{ℕ, ◌+◌, ◌-◌, ◌^◌, ◌<◌, Bool, ◌==◌, nat_lt, if◌then◌else◌, List, slice_index_or, Option}
+use Rattle.std.specs.Prelude.{Some, None}
+use Rattle.cap_word.specs.{declared.word.Cap.Cap, Memory.stored_word}
+use Rattle.cap_log.specs.declared.lines.Place.{Place, TheVariants.{Register, Granule}}
 use Rattle.tagmem.specs.Granules.{Granules, IsCodeFor, tag_at, bytes_at, code_at}
 use Rattle.cap_machine.specs.States.{State, untagged_null}
 

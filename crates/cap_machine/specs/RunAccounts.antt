@@ -1,11 +1,8 @@
 -- The account that roots and steps lead to, and its origins. All of it is this profile's own.
-use Rattle.std.specs.Prelude.{◌≡◌, ℕ, List, length, Some, IsTrue}
-use Rattle.std.specs.List.{fold}
+use Rattle.std.specs.Prelude.{◌≡◌, ℕ, List, length, Some, IsTrue, fold}
 use Rattle.cap_log.specs.declared.kinds.Step.{Step}
-use Rattle.cap_machine.specs.declared.rules.Rules.{Rules}
-use Rattle.cap_machine.specs.States.{State, DeclaredRoot}
-use Rattle.cap_machine.specs.Accounts.{Account, no_account, with_root, with_step}
-use Rattle.cap_machine.specs.Runs.{DescendsFrom}
+use Rattle.cap_machine.specs.{declared.rules.Rules.Rules, Accounts.{Account, no_account, with_root, with_step}}
+use Rattle.cap_machine.specs.{Runs.DescendsFrom, States.{State, DeclaredRoot}}
 
 -- the account after roots and steps
 abbrev pub account_after : Rules → List DeclaredRoot → List Step → Account

@@ -1,14 +1,11 @@
 -- Runs of the machine, and which root each capability descends from.
-use Rattle.std.specs.Prelude.{◌≡◌, false, ℕ, zero, suc, ◌+◌, ◌≤◌, ◌==◌, if◌then◌else◌, IsTrue, List, [], ◌∷◌, length, take, Option}
-use Rattle.std.specs.Prelude.{Some, None, option_map, Contains, slice_get}
-use Rattle.std.specs.Option.{option_map_or}
-use Rattle.cap_log.specs.declared.kinds.Step.{Step}
+use Rattle.std.specs.Prelude.{◌≡◌, false, ℕ, zero, suc, ◌+◌, ◌≤◌, ◌==◌, if◌then◌else◌, IsTrue, List, [], ◌∷◌, length}
+use Rattle.std.specs.{Prelude.{take, Option, Some, None, option_map, Contains, slice_get}, Option.option_map_or}
 use Rattle.cap_bounds.specs.Bounds.{base_of, top_of, IsInside, IsSound}
-use Rattle.cap_ops.specs.Authority.{ReachesNoMore}
-use Rattle.cap_ops.specs.Permissions.{has_permission}
-use Rattle.cap_machine.specs.declared.rules.Rules.{Rules}
-use Rattle.cap_machine.specs.States.{State, DeclaredRoot, key_of, start}
+use Rattle.cap_ops.specs.{Authority.ReachesNoMore, Permissions.has_permission}
+use Rattle.cap_log.specs.declared.kinds.Step.{Step}
 pub use Rattle.cap_machine.specs.Steps.{Access}
+use Rattle.cap_machine.specs.{declared.rules.Rules.Rules, States.{State, DeclaredRoot, key_of, start}}
 use Rattle.cap_machine.specs.Steps.{Leads, row_of}
 
 -- these are the states after each step, each led to from the one before (this profile's own, as are all below)

@@ -1,21 +1,16 @@
 -- What a step shows of the state before it (this profile's own).
 use Rattle.std.specs.Prelude.{ℕ, ◌+◌, ◌≤◌, ◌<◌, ◌^◌, if◌then◌else◌, Option, Some, None, option_map, IfSome}
 use Rattle.cap_word.specs.declared.word.Cap.{Cap}
-use Rattle.cap_log.specs.declared.lines.Place.{Place}
-use Rattle.cap_log.specs.declared.lines.Place.TheVariants.{Register, Granule}
+use Rattle.cap_ops.specs.{declared.refusal.Refusal.Refusal, Checks.first_of}
+use Rattle.cap_ops.specs.Permissions.{has_permission, permit_global, permit_store, permit_store_capability}
+use Rattle.cap_ops.specs.Permissions.{permit_store_local_capability, permit_seal, permit_unseal}
 use Rattle.cap_log.specs.declared.kinds.Step.{Step}
 use Rattle.cap_log.specs.declared.kinds.Step.TheVariants.{SetBounds, SetBoundsExact, SetAddr, Seal, Unseal, StoreCap}
-use Rattle.cap_ops.specs.Permissions.{has_permission, permit_global, permit_store, permit_store_capability, permit_store_local_capability}
-use Rattle.cap_ops.specs.Permissions.{permit_seal, permit_unseal}
-use Rattle.cap_ops.specs.Checks.{first_of}
-use Rattle.cap_ops.specs.declared.refusal.Refusal.{Refusal}
-use Rattle.cap_machine.specs.declared.shown.Given.{Given}
-use Rattle.cap_machine.specs.declared.shown.Given.TheVariants as givens
-use Rattle.cap_machine.specs.declared.shown.Request.{Request}
-use Rattle.cap_machine.specs.declared.shown.Request.TheVariants as requests
-use Rattle.cap_machine.specs.declared.shown.Shown.{Shown}
-use Rattle.cap_machine.specs.States.{State}
+use Rattle.cap_log.specs.declared.lines.Place.{Place, TheVariants.{Register, Granule}}
+use Rattle.cap_machine.specs.{declared.shown.{Given.Given, Request.Request, Shown.Shown}, States.State}
 use Rattle.cap_machine.specs.Steps.{Access, Recorded, Written, ReadNumber, Row, row_of, clear_row}
+use Rattle.cap_machine.specs.declared.shown.Given.TheVariants as givens
+use Rattle.cap_machine.specs.declared.shown.Request.TheVariants as requests
 
 -- what an operation on registers asks for: bounds of a length, an address, or an authority over object types with a
 -- permission

@@ -1,12 +1,8 @@
 -- States of the machine: what each place holds.
 use Rattle.std.specs.Prelude.{ℕ, ◌+◌, ◌/◌, ◌%◌, Bool, true, false, ◌==◌, if◌then◌else◌, List, [], ◌∷◌, take, drop}
 use Rattle.std.specs.List.{list_any}
-use Rattle.cap_word.specs.declared.word.Word.{Word}
-use Rattle.cap_word.specs.declared.word.Cap.{Cap}
-use Rattle.cap_word.specs.Word.{null_word}
-use Rattle.cap_word.specs.Memory.{memory_of, number_of}
-use Rattle.cap_log.specs.declared.lines.Place.{Place}
-use Rattle.cap_log.specs.declared.lines.Place.TheVariants.{Register, Granule}
+use Rattle.cap_word.specs.{declared.word.{Cap.Cap, Word.Word}, Memory.{memory_of, number_of}, Word.null_word}
+use Rattle.cap_log.specs.declared.lines.Place.{Place, TheVariants.{Register, Granule}}
 
 -- NULL without a tag (Sail CHERI-RISC-V: null_cap)
 abbrev pub untagged_null : Cap

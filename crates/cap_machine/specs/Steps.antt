@@ -1,25 +1,18 @@
 -- One step of the machine (the operations and accesses of UCAM-CL-TR-987 for CHERI-RISC-V).
-use Rattle.std.specs.Prelude.{◌≡◌, ℕ, ℤ, ◌/◌, ◌%◌, Bool, true, false, ◌==◌, ◌&&◌, List, [], Option, Some, None, IsTrue, option_map}
-use Rattle.std.specs.Bool.{beq}
-use Rattle.std.specs.Option.{option_and_then, option_map_or}
-use Rattle.cap_word.specs.declared.word.Cap.{Cap}
-use Rattle.cap_word.specs.Memory.{low_bytes, memory_of, stored_word}
-use Rattle.cap_log.specs.declared.lines.Place.{Place}
-use Rattle.cap_log.specs.declared.lines.Place.TheVariants.{Register, Granule}
-use Rattle.cap_log.specs.declared.kinds.Step.{Step}
-use Rattle.cap_log.specs.declared.kinds.Step.TheVariants.{Move, ClearTag, SetBounds, SetBoundsExact, SetAddr, AndPerm, Seal, Unseal}
-use Rattle.cap_log.specs.declared.kinds.Step.TheVariants.{LoadCap, StoreCap, Load, Store}
-use Rattle.cap_ops.specs.declared.refusal.Refusal.{Refusal}
-use Rattle.cap_ops.specs.declared.kinds.Kind.{Kind}
+use Rattle.std.specs.Prelude.{◌≡◌, ℕ, ℤ, ◌/◌, ◌%◌, Bool, true, false, ◌==◌, ◌&&◌, List, [], Option, Some, None, IsTrue}
+use Rattle.std.specs.{Prelude.{option_map, option_and_then}, Bool.beq, Option.option_map_or}
+use Rattle.cap_word.specs.{declared.word.Cap.Cap, Memory.{low_bytes, memory_of, stored_word}}
+use Rattle.cap_ops.specs.declared.{kinds.Kind.Kind, refusal.Refusal.Refusal}
+use Rattle.cap_ops.specs.{Accesses.{access_address, access_checks, loaded_result, permission_for}, Checks.first_of}
+use Rattle.cap_ops.specs.Operations.{with_word, cleared, clear_result, set_bounds_checks, set_bounds_result}
+use Rattle.cap_ops.specs.Operations.{set_addr_checks, set_addr_result, and_perm_checks, and_perm_result, seal_checks}
+use Rattle.cap_ops.specs.Operations.{seal_result, unseal_checks, unseal_result}
 use Rattle.cap_ops.specs.declared.kinds.Kind.TheVariants as kinds
-use Rattle.cap_ops.specs.Checks.{first_of}
-use Rattle.cap_ops.specs.Operations.{with_word, cleared, clear_result, set_bounds_checks, set_bounds_result, set_addr_checks, set_addr_result}
-use Rattle.cap_ops.specs.Operations.{and_perm_checks, and_perm_result, seal_checks, seal_result, unseal_checks, unseal_result}
-use Rattle.cap_ops.specs.Accesses.{access_address, access_checks, loaded_result, permission_for}
+use Rattle.cap_log.specs.declared.kinds.Step.{Step, TheVariants.{Move, ClearTag, SetBounds, SetBoundsExact, SetAddr}}
+use Rattle.cap_log.specs.declared.kinds.Step.TheVariants.{AndPerm, Seal, Unseal, LoadCap, StoreCap, Load, Store}
+use Rattle.cap_log.specs.declared.lines.Place.{Place, TheVariants.{Register, Granule}}
 use Rattle.tagmem.specs.Granules.{overwritten}
-use Rattle.cap_machine.specs.declared.rules.Rules.{Rules}
-use Rattle.cap_machine.specs.declared.rules.Rules.TheVariants.{TwoClear}
-use Rattle.cap_machine.specs.States.{State, key_of, put, value_at}
+use Rattle.cap_machine.specs.{declared.rules.Rules.{Rules, TheVariants.TwoClear}, States.{State, key_of, put, value_at}}
 
 -- an access: the register that is its authority, its address, its size, and the permission it needs
 pub record Access : Type 0 where

@@ -1,16 +1,11 @@
 //! The kinds of steps: what each does to a machine and shows of it, and what is done by the kind of a step. No other
 //! place names them.
 
-ghost use Rattle.std.specs.Prelude.{◌≡◌, ◌≤◌, List, ℕ, ◌∷◌, ◌++◌};
-ghost use Rattle.cap_log.specs.Heads.{head_spelling};
-ghost use Rattle.cap_log.specs.Lines.{IsStepInRange};
-ghost use Rattle.cap_machine.specs.Changes.{IsOperation, result_in};
-ghost use Rattle.cap_machine.specs.Helds.{AnswersStep, EndsBy, state_of};
-ghost use Rattle.cap_machine.specs.Shown.{IsShown, needs_to_store, request_of, shown_of};
-ghost use Rattle.cap_machine.specs.States.{State};
-ghost use Rattle.cap_machine.specs.Steps.{row_of};
-ghost use Rattle.cap_ops.specs.Operations.{clear_result, set_bounds_result, set_bounds_checks};
-ghost use Rattle.cap_ops.specs.Checks.{first_of};
+ghost use Rattle.std.specs.Prelude.{◌≡◌, List, ℕ, ◌∷◌, ◌++◌};
+ghost use Rattle.cap_ops.specs.{Checks.first_of, Operations.{clear_result, set_bounds_result, set_bounds_checks}};
+ghost use Rattle.cap_log.specs.{Heads.head_spelling, Lines.IsStepInRange};
+ghost use Rattle.cap_machine.specs.{Changes.{IsOperation, result_in}, Helds.{AnswersStep, EndsBy, state_of}};
+ghost use Rattle.cap_machine.specs.{Shown.{IsShown, needs_to_store, request_of, shown_of}, States.State, Steps.row_of};
 
 use crate::ends::StepEnd;
 use crate::machine::{MOST_STEPS, Machine};

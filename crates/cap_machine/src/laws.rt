@@ -1,17 +1,12 @@
 //! Laws about steps and runs. These functions do nothing: what they say is their contract.
 
-ghost use Rattle.std.specs.Prelude.{◌≡◌, ℕ, List, map, nat_eq};
-ghost use Rattle.std.specs.List.{AllByRecursion, IsDistinct};
-ghost use Rattle.cap_log.specs.declared.kinds.Step.{Step};
-ghost use Rattle.cap_log.specs.Lines.{IsStepInRange};
-ghost use Rattle.cap_machine.specs.declared.rules.Rules.{Rules};
-ghost use Rattle.cap_machine.specs.States.{DeclaredRoot, State, key_of, start};
-ghost use Rattle.cap_machine.specs.Steps.{Leads};
-ghost use Rattle.cap_machine.specs.Runs.{AccessesLieInside, AreSound, AuthorityNeverGrows, Descends, IsRun, last_of};
-ghost use Rattle.cap_machine.specs.Origins.{Origins, origins_along};
+ghost use Rattle.std.specs.{Prelude.{◌≡◌, ℕ, List, map, nat_eq}, List.{AllByRecursion, IsDistinct}};
+ghost use Rattle.cap_log.specs.{declared.kinds.Step.Step, Lines.IsStepInRange};
+ghost use Rattle.cap_machine.specs.{declared.rules.Rules.Rules, Escapes.{ClearsBeyond, ClearsExactly}};
+ghost use Rattle.cap_machine.specs.{Origins.{Origins, origins_along}, Parents.{IsSoundState, StaysWithinParents}};
 ghost use Rattle.cap_machine.specs.RunAccounts.{OriginsAreRoots, account_after};
-ghost use Rattle.cap_machine.specs.Parents.{IsSoundState, StaysWithinParents};
-ghost use Rattle.cap_machine.specs.Escapes.{ClearsBeyond, ClearsExactly};
+ghost use Rattle.cap_machine.specs.Runs.{AccessesLieInside, AreSound, AuthorityNeverGrows, Descends, IsRun, last_of};
+ghost use Rattle.cap_machine.specs.{States.{DeclaredRoot, State, key_of, start}, Steps.Leads};
 
 /// Where each tagged capability of a state is sound, each one after a step is sound too, and reaches no more
 /// than what the place held before the step that it comes from: a place that the step does not write keeps

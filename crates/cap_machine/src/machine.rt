@@ -1,24 +1,22 @@
 //! The machine: registers and tagged memory, with counts of its roots and steps. What it holds, how roots are
 //! declared and steps are made, and its accesses to memory.
 
-ghost use Rattle.std.specs.Prelude.{◌≡◌, ◌≢◌, ◌↔◌, ◌<◌, ◌≤◌, ◌+◌, ◌/◌, ◌%◌, ◌^◌, not, nat_le, is_some, MatchResult, OnOk, OnErr};
+ghost use Rattle.std.specs.Prelude.{◌≡◌, ◌↔◌, ◌<◌, ◌≤◌, ◌+◌, ◌/◌, ◌%◌, ◌^◌, not, is_some, MatchResult, OnOk, OnErr};
 ghost use Rattle.std.specs.Prelude.{IfSome, IfOk, IsTrue, None, Err, true, false};
 ghost use Rattle.std.specs.FinMap as map;
-ghost use Rattle.tagmem.specs.Granules.{AreStored, HasRoom, IsCodeFor, IsNextPut, bytes_at, code_at, with_bytes, with_cap};
 ghost use Rattle.cap_word.specs.Memory.{low_bytes, memory_of};
 ghost use Rattle.cap_bounds.specs.Bounds.{IsSound};
-ghost use Rattle.cap_ops.specs.Sizes.{size_fits};
-ghost use Rattle.cap_ops.specs.Checks.{first_of};
+ghost use Rattle.cap_ops.specs.{Checks.first_of, Sizes.size_fits};
 ghost use Rattle.cap_log.specs.Lines.{IsPlace, IsStepInRange};
+ghost use Rattle.tagmem.specs.Granules.{AreStored, HasRoom, IsCodeFor, IsNextPut, bytes_at, code_at, with_bytes};
+ghost use Rattle.tagmem.specs.Granules.{with_cap};
 ghost use Rattle.cap_machine.specs.Accounts.{granule_of, is_new, no_account, passes_granule_limit, root_checks};
 ghost use Rattle.cap_machine.specs.Changes.{AnswersPut, Derives, IsAccess, IsParentsCode, Placed, WritesRegister};
 ghost use Rattle.cap_machine.specs.Changes.{address_in, is_past_limits, number_at, with_cap_put, with_value_put};
-ghost use Rattle.cap_machine.specs.Escapes.{ClearsBeyond, Escapes};
-ghost use Rattle.cap_machine.specs.Helds.{AnswersStep, EndsRoot, EndsStep, IsKept, TakesRoot, account_of, code_in, granule_cap, state_of};
-ghost use Rattle.cap_machine.specs.Parents.{IsSoundCap, StaysWithinParents};
-ghost use Rattle.cap_machine.specs.Places.{IsCoded, place_at};
-ghost use Rattle.cap_machine.specs.Shown.{IsShown, shown_of};
-ghost use Rattle.cap_machine.specs.States.{granule_key, key_of, untagged_null, value_at};
+ghost use Rattle.cap_machine.specs.{Escapes.{ClearsBeyond, Escapes}, Helds.{AnswersStep, EndsRoot, EndsStep, IsKept}};
+ghost use Rattle.cap_machine.specs.Helds.{TakesRoot, account_of, code_in, granule_cap, state_of};
+ghost use Rattle.cap_machine.specs.{Parents.{IsSoundCap, StaysWithinParents}, Places.{IsCoded, place_at}};
+ghost use Rattle.cap_machine.specs.{Shown.{IsShown, shown_of}, States.{granule_key, key_of, untagged_null, value_at}};
 ghost use Rattle.cap_machine.specs.Steps.{address_through, row_of};
 
 use crate::ends::StepEnd;

@@ -1,12 +1,10 @@
 -- What follows where no test refuses an access.
-use Rattle.std.proofs.Common.{◌≡◌, ℕ, ◌+◌, ◌%◌, ◌≤◌, ℤ, true, ◌==◌, None, ◌||◌, inl, inr, sym, subst, arith}
-use Rattle.std.proofs.lemmas.Bool.{not-false, or_cases, eqb-true}
+use Rattle.std.proofs.Common.{◌≡◌, ℕ, ◌+◌, ◌%◌, ◌≤◌, ℤ, true, ◌==◌, None, ◌||◌, inl, inr, sym, subst, arith, eqb-true}
+use Rattle.std.proofs.lemmas.Bool.{not-false, or_cases}
 use Rattle.cap_word.specs.declared.word.Cap.{Cap}
-use Rattle.cap_ops.specs.declared.kinds.Kind.{Kind}
-use Rattle.cap_ops.specs.declared.kinds.Kind.TheVariants.{LoadData, StoreData, LoadCap, StoreCap}
-use Rattle.cap_ops.specs.Accesses.{IsAllowed, access_address, access_checks, permission_for}
+use Rattle.cap_ops.specs.declared.kinds.Kind.{Kind, TheVariants.{LoadData, StoreData, LoadCap, StoreCap}}
+use Rattle.cap_ops.specs.{Accesses.{IsAllowed, access_address, access_checks, permission_for}, Checks.first_of}
 use Rattle.cap_ops.specs.Sizes.{is_data_size, size_fits}
-use Rattle.cap_ops.specs.Checks.{first_of}
 use Rattle.cap_ops.proofs.TestLemmas.{none_hold, IsInside-covers}
 
 -- an access that no test refuses is allowed

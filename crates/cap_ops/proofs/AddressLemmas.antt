@@ -1,25 +1,17 @@
 -- What follows from the tests of a new address.
-use Rattle.std.proofs.Common.{◌≡◌, ◌↔◌, ℕ, ◌+◌, ◌/◌, ◌%◌, ◌^◌, ◌<◌, ◌≤◌, Bool, true, false, not, [], ◌∷◌, Option, Some, None, Result, Ok}
-use Rattle.std.proofs.Common.{Err, if◌then◌else◌, refl, sym, ap, ◌∙◌, arith, subst}
-use Rattle.std.proofs.lemmas.Bool.{both_ways, not-false, and_parts, and_from, eqb-true, eq-eqb}
+use Rattle.std.proofs.Common.{◌≡◌, ◌↔◌, ℕ, ◌+◌, ◌/◌, ◌%◌, ◌^◌, ◌<◌, ◌≤◌, Bool, true, false, not, [], ◌∷◌, Option, Some}
+use Rattle.std.proofs.Common.{None, Result, Ok, Err, if◌then◌else◌, refl, sym, ap, ◌∙◌, arith, subst, eqb-true, eq-eqb}
+use Rattle.std.proofs.lemmas.Bool.{both_ways, not-false, and_parts, and_from}
 use Rattle.cap_word.specs.declared.word.Cap.{Cap}
-use Rattle.cap_bounds.specs.Bounds.{base_of, top_of}
-use Rattle.cap_bounds.specs.Range.{KeepsBounds, IsRepresentable, with_address}
+use Rattle.cap_bounds.specs.{Bounds.{base_of, top_of}, Range.{KeepsBounds, IsRepresentable, with_address}}
 use Rattle.cap_bounds.proofs.Keeping.{KeepsBounds-from_range, IsRepresentable-from_keeps, KeepsBounds-margins}
 use Rattle.cap_bounds.proofs.SameFields.{IsSound-with_address}
-use Rattle.cap_ops.specs.declared.faults.OpFault.{OpFault}
-use Rattle.cap_ops.specs.declared.faults.OpFault.TheVariants as faults
-use Rattle.cap_ops.specs.declared.refusal.Refusal.{Refusal}
-use Rattle.cap_ops.specs.declared.refusal.Refusal.TheVariants.{SourceSealed, NotRepresentable}
-use Rattle.cap_ops.specs.Authority.{StaysWithin}
-use Rattle.cap_ops.specs.Operations.{is_kept_at, set_addr_checks, set_addr_result}
-use Rattle.cap_ops.specs.Permissions.{is_sealed}
-use Rattle.cap_ops.specs.Refusals.{refusal_of}
-use Rattle.cap_ops.specs.Checks.{Ends, first_of}
-use Rattle.cap_ops.proofs.ReplacedFields.{perms_of-high}
-use Rattle.cap_ops.proofs.ReachLemmas.{ReachesNoMore-same, StaysWithin-words}
-use Rattle.cap_ops.proofs.PermissionLemmas.{IsFewer-same}
-use Rattle.cap_ops.proofs.TestLemmas.{first_of-on_tagged, none_hold-tagged}
+use Rattle.cap_ops.specs.declared.{faults.OpFault.OpFault, refusal.Refusal.Refusal}
+use Rattle.cap_ops.specs.{declared.refusal.Refusal.TheVariants.{SourceSealed, NotRepresentable}, Authority.StaysWithin}
+use Rattle.cap_ops.specs.{Checks.{Ends, first_of}, Operations.{is_kept_at, set_addr_checks, set_addr_result}}
+use Rattle.cap_ops.specs.{Permissions.is_sealed, Refusals.refusal_of}
+use Rattle.cap_ops.proofs.{PermissionLemmas.IsFewer-same, ReachLemmas.{ReachesNoMore-same, StaysWithin-words}}
+use Rattle.cap_ops.proofs.{ReplacedFields.perms_of-high, TestLemmas.{first_of-on_tagged, none_hold-tagged}}
 
 pub KeepsBounds-kept : (w address : ℕ) → is_kept_at w address ≡ true → KeepsBounds w address
 unfolding is_kept_at
@@ -78,14 +70,14 @@ lost source address h keeps =
     both_ways _ not_kept (kept-KeepsBounds source.word.0 address keeps)
 
 -- the fault that is this refusal
-same_fault : (fault : OpFault) → refusal_of fault ≡ NotRepresentable → fault ≡ faults.NotRepresentable
-same_fault faults.NotRepresentable h = refl
+same_fault : (fault : OpFault) → refusal_of fault ≡ NotRepresentable → fault ≡ OpFault.NotRepresentable
+same_fault OpFault.NotRepresentable h = refl
 same_fault fault h = cc
 
 -- a new address is refused exactly outside the representable range
 pub NotRepresentable-exact : (source : Cap) (address : ℕ) (result : Result Cap OpFault) → address < 2 ^ 64
     → Ends result (set_addr_checks source address) (λ cap. cap ≡ set_addr_result source address)
-    → source.tag ≡ true → is_sealed source.word.0 ≡ false → (result ≡ Err faults.NotRepresentable) ↔ (IsRepresentable source.word.0 address → ⊥)
+    → source.tag ≡ true → is_sealed source.word.0 ≡ false → (result ≡ Err OpFault.NotRepresentable) ↔ (IsRepresentable source.word.0 address → ⊥)
 NotRepresentable-exact source address (Ok cap) fits ends tagged unsealed =
     let w = source.word.0 in
     let kept = kept_since source.tag (is_sealed w) (is_kept_at w address) tagged unsealed
@@ -100,11 +92,11 @@ NotRepresentable-exact source address (Err fault) fits ends tagged unsealed =
 -- and so never from the base to the top
 pub NotRepresentable-near : (source : Cap) (address : ℕ) (result : Result Cap OpFault) → address < 2 ^ 64
     → Ends result (set_addr_checks source address) (λ cap. cap ≡ set_addr_result source address)
-    → base_of source.word.0 ≤ address → address ≤ top_of source.word.0 → result ≡ Err faults.NotRepresentable → ⊥
+    → base_of source.word.0 ≤ address → address ≤ top_of source.word.0 → result ≡ Err OpFault.NotRepresentable → ⊥
 NotRepresentable-near source address (Ok cap) fits ends from until e = cc
 NotRepresentable-near source address (Err fault) fits ends from until e =
     let w = source.word.0 in
-    let which : fault ≡ faults.NotRepresentable = cc in
+    let which : fault ≡ OpFault.NotRepresentable = cc in
     let above = KeepsBounds-margins w (address + 2 ^ 64) (omega arith) (omega arith) in
     let same : (address + 2 ^ 64) % 2 ^ 64 ≡ address = omega arith in
     lost source address (ends ∙ ap (λ (f : OpFault). Some (refusal_of f)) which) (subst (KeepsBounds w) same above)

@@ -1,18 +1,12 @@
 -- The results of clear mode.
-use Rattle.std.proofs.Common.{◌≡◌, ◌↔◌, ℕ, ◌^◌, ◌<◌, true, false, Bool, List, Some, None, Option, is_some, Result, Ok, Err, refl, sym}
-use Rattle.std.proofs.Common.{ap, subst, ◌∙◌}
-use Rattle.std.specs.Bool.{if◌then◌else◌}
-use Rattle.std.proofs.lemmas.Bool.{false≢true}
+use Rattle.std.proofs.Common.{◌≡◌, ◌↔◌, ℕ, ◌^◌, ◌<◌, true, false, Bool, List, Some, None, Option, is_some, Result, Ok}
+use Rattle.std.proofs.{Common.{Err, refl, sym, ap, subst, ◌∙◌, if◌then◌else◌}, lemmas.Bool.{false≢true}}
 use Rattle.cap_word.specs.declared.word.Cap.{Cap}
 use Rattle.cap_bounds.specs.Bounds.{IsSound}
-use Rattle.cap_ops.specs.declared.faults.OpFault.{OpFault}
-use Rattle.cap_ops.specs.declared.refusal.Refusal.{Refusal}
-use Rattle.cap_ops.specs.Authority.{StaysWithin}
-use Rattle.cap_ops.specs.Operations.{Clears, HasRoomFor, IsStrictWhereTagged, clear_result, cleared, set_bounds_checks, set_bounds_result}
-use Rattle.cap_ops.specs.Permissions.{is_sealed}
-use Rattle.cap_ops.specs.Checks.{Ends, first_of}
-use Rattle.cap_ops.proofs.NarrowingLemmas.{first_escapes, inside_passes}
-use Rattle.cap_ops.proofs.ReachLemmas.{StaysWithin-same}
+use Rattle.cap_ops.specs.{declared.{faults.OpFault.OpFault, refusal.Refusal.Refusal}, Authority.StaysWithin}
+use Rattle.cap_ops.specs.{Checks.{Ends, first_of}, Operations.{Clears, HasRoomFor, IsStrictWhereTagged, clear_result}}
+use Rattle.cap_ops.specs.{Operations.{cleared, set_bounds_checks, set_bounds_result}, Permissions.is_sealed}
+use Rattle.cap_ops.proofs.{NarrowingLemmas.{first_escapes, inside_passes}, ReachLemmas.StaysWithin-same}
 
 -- what has no tag stays within anything
 pub StaysWithin-untagged : (cap source : Cap) → StaysWithin (cleared cap) source

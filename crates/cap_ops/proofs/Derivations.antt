@@ -1,17 +1,14 @@
 -- The results of operations stay within their sources.
-use Rattle.std.proofs.Common.{◌≡◌, ℕ, ◌%◌, ◌^◌, ◌<◌, refl, ◌∙◌, arith, lit<}
+use Rattle.std.proofs.Common.{◌≡◌, ℕ, ◌%◌, ◌^◌, ◌<◌, refl, ◌∙◌, arith, lit<, bit_and}
 use Rattle.std.proofs.lemmas.Bool.{and_parts, false≢true}
-use Rattle.std.specs.Prelude.{bit_and}
-use Rattle.cap_word.specs.declared.word.Cap.{Cap}
-use Rattle.cap_word.specs.Fields.{address_of, perms_of}
-use Rattle.cap_ops.specs.Accesses.{loaded_result}
-use Rattle.cap_ops.specs.Authority.{StaysWithin}
+use Rattle.cap_word.specs.{declared.word.Cap.Cap, Fields.{address_of, perms_of}}
+use Rattle.cap_ops.specs.{Accesses.loaded_result, Authority.StaysWithin}
 use Rattle.cap_ops.specs.Operations.{and_perm_result, cleared, perms_with_common_global, seal_result, unseal_result}
 use Rattle.cap_ops.specs.Permissions.{perm_view_of, perms_from_view, unsealed_type, with_perms, with_type}
 use Rattle.cap_ops.proofs.PermissionLemmas.{IsFewer-common, IsFewer-masked, IsFewer-same, perm_view_of-and_perm}
 use Rattle.cap_ops.proofs.PermissionLemmas.{perms_with_common_global-lt}
-use Rattle.cap_ops.proofs.ReplacedFields.{perms_of-with_perms, perms_of-with_type, with_perms-low, with_type-low}
 use Rattle.cap_ops.proofs.ReachLemmas.{ReachesNoMore-refl, StaysWithin-words, no_more_low}
+use Rattle.cap_ops.proofs.ReplacedFields.{perms_of-with_perms, perms_of-with_type, with_perms-low, with_type-low}
 
 -- the view of what masking makes
 pub view-and_perm_result : (source : Cap) (mask : ℕ) → perm_view_of (and_perm_result source mask).word.0

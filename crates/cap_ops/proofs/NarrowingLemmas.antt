@@ -1,28 +1,20 @@
 -- What follows from the tests of new bounds.
-use Rattle.std.proofs.Common.{◌≡◌, ◌↔◌, ℕ, ◌+◌, ◌^◌, ◌<◌, ◌≤◌, Bool, true, false, not, ◌&&◌, [], ◌∷◌, Option, Some, None, Result, Ok, Err}
-use Rattle.std.proofs.Common.{if◌then◌else◌, refl, sym, ap, ◌∙◌, arith}
-use Rattle.std.proofs.lemmas.Option.{same_Some}
-use Rattle.std.proofs.lemmas.Bool.{both_ways, false_from_ne_true, not-false, and_parts, and_from, eqb-true, eq-eqb}
-use Rattle.cap_word.specs.declared.word.Cap.{Cap}
-use Rattle.cap_word.specs.Fields.{address_of}
+use Rattle.std.proofs.Common.{◌≡◌, ◌↔◌, ℕ, ◌+◌, ◌^◌, ◌<◌, ◌≤◌, Bool, true, false, not, ◌&&◌, [], ◌∷◌, Option, Some}
+use Rattle.std.proofs.Common.{None, Result, Ok, Err, if◌then◌else◌, refl, sym, ap, ◌∙◌, arith, eqb-true, eq-eqb}
+use Rattle.std.proofs.lemmas.{Bool.{both_ways, false_from_ne_true, not-false, and_parts, and_from}, Option.same_Some}
+use Rattle.cap_word.specs.{declared.word.Cap.Cap, Fields.address_of}
 use Rattle.cap_bounds.specs.Bounds.{base_of, top_of, IsInside, IsSound}
-use Rattle.cap_bounds.specs.Rounding.{HasRounding, IsExact, bounded_word, rounded_base, rounded_top, rounded_ie, rounded_exponent}
-use Rattle.cap_bounds.specs.Rounding.{rounded_b, rounded_t, rounded_word}
-use Rattle.cap_bounds.proofs.BoundedWords.{above-bounded_word}
-use Rattle.cap_bounds.proofs.LeastRounding.{IsInside-rounded, IsInside-requested}
-use Rattle.cap_bounds.proofs.RoundedWords.{AreFields-rounded, base_of-rounded_word, top_of-rounded_word, IsSound-rounded_word}
-use Rattle.cap_ops.specs.declared.faults.OpFault.{OpFault}
-use Rattle.cap_ops.specs.declared.faults.OpFault.TheVariants as faults
-use Rattle.cap_ops.specs.declared.refusal.Refusal.{Refusal}
+use Rattle.cap_bounds.specs.Rounding.{HasRounding, IsExact, bounded_word, rounded_base, rounded_top, rounded_ie}
+use Rattle.cap_bounds.specs.Rounding.{rounded_exponent, rounded_b, rounded_t, rounded_word}
+use Rattle.cap_bounds.proofs.{BoundedWords.above-bounded_word, LeastRounding.{IsInside-rounded, IsInside-requested}}
+use Rattle.cap_bounds.proofs.RoundedWords.{AreFields-rounded, base_of-rounded_word, top_of-rounded_word}
+use Rattle.cap_bounds.proofs.RoundedWords.{IsSound-rounded_word}
+use Rattle.cap_ops.specs.declared.{faults.OpFault.OpFault, refusal.Refusal.Refusal}
 use Rattle.cap_ops.specs.declared.refusal.Refusal.TheVariants.{SourceSealed, BoundsEscape, NotExact}
-use Rattle.cap_ops.specs.Authority.{ReachesNoMore, StaysWithin}
+use Rattle.cap_ops.specs.{Authority.{ReachesNoMore, StaysWithin}, Checks.{Ends, first_of}}
 use Rattle.cap_ops.specs.Operations.{HasRoomFor, covers, is_exact, set_bounds_checks, set_bounds_result, with_word}
-use Rattle.cap_ops.specs.Permissions.{is_sealed}
-use Rattle.cap_ops.specs.Refusals.{refusal_of}
-use Rattle.cap_ops.specs.Checks.{Ends, first_of}
-use Rattle.cap_ops.proofs.ReplacedFields.{perms_of-high}
-use Rattle.cap_ops.proofs.ReachLemmas.{StaysWithin-words}
-use Rattle.cap_ops.proofs.PermissionLemmas.{IsFewer-same}
+use Rattle.cap_ops.specs.{Permissions.is_sealed, Refusals.refusal_of}
+use Rattle.cap_ops.proofs.{PermissionLemmas.IsFewer-same, ReachLemmas.StaysWithin-words, ReplacedFields.perms_of-high}
 use Rattle.cap_ops.proofs.TestLemmas.{IsInside-covers, covers-inside, first_of-on_tagged, none_hold-tagged}
 
 pub IsExact-is_exact : (base length : ℕ) → is_exact base length ≡ true → IsExact base length
@@ -158,18 +150,18 @@ module _ (source : Cap) (length : ℕ) (exact : Bool) (fits : length < 2 ^ 64) (
       (ap (λ (b : Bool). b && not (is_exact base length)) inexact)
 
 -- the fault that is this refusal
-same_fault : (fault : OpFault) → refusal_of fault ≡ BoundsEscape → fault ≡ faults.BoundsEscape
-same_fault faults.BoundsEscape h = refl
+same_fault : (fault : OpFault) → refusal_of fault ≡ BoundsEscape → fault ≡ OpFault.BoundsEscape
+same_fault OpFault.BoundsEscape h = refl
 same_fault fault h = cc
 
 pub BoundsEscape-exact : (source : Cap) (length : ℕ) (exact : Bool) (result : Result Cap OpFault) → length < 2 ^ 64
     → Ends result (set_bounds_checks source length exact) (λ cap. cap ≡ set_bounds_result source length)
     → source.tag ≡ true → is_sealed source.word.0 ≡ false → IsSound source.word.0
-    → (result ≡ Err faults.BoundsEscape) ↔ (HasRoomFor source length → ⊥)
+    → (result ≡ Err OpFault.BoundsEscape) ↔ (HasRoomFor source length → ⊥)
 BoundsEscape-exact source length exact (Ok cap) fits ends tagged unsealed sound =
     (λ e. cc, λ outside. let first = first_escapes source length exact fits tagged unsealed sound outside in cc)
 BoundsEscape-exact source length exact (Err fault) fits ends tagged unsealed sound = (
-  λ e. let which : fault ≡ faults.BoundsEscape = cc in escapes_first source length exact fits tagged unsealed sound
+  λ e. let which : fault ≡ OpFault.BoundsEscape = cc in escapes_first source length exact fits tagged unsealed sound
       (ends ∙ ap (λ (f : OpFault). Some (refusal_of f)) which),
   λ outside. ap Err (same_fault fault (same_Some _ _ (sym ends ∙ first_escapes source length exact fits tagged unsealed sound outside))),
 )

@@ -1,14 +1,12 @@
 -- The permissions of a word: the view, single bits, and which words have no more.
-use Rattle.std.proofs.Common.{◌≡◌, ℕ, zero, suc, ◌+◌, ◌*◌, ◌/◌, ◌%◌, ◌^◌, ◌<◌, ◌≤◌, Bool, true, false, ◌==◌, ◌&&◌, min, sym, ap, ◌∙◌, refl}
-use Rattle.std.proofs.Common.{IsTrue, arith}
-use Rattle.std.proofs.lemmas.Nat.{shr-shr, and_mod, and_shr, and_le_l, and_block}
-use Rattle.std.proofs.lemmas.Nat.Bits.{shr_and_one, bit_at_cat_low, bit_at_and, bit_at_lowest, bit_at-suc, bit_at-lt}
-use Rattle.std.proofs.lemmas.Bool.{eqb-true, eq-eqb}
-use Rattle.std.specs.Prelude.{bit_and, nat_eq}
 use Rattle.std.specs.Int.{bit_at}
+use Rattle.std.proofs.Common.{◌≡◌, ℕ, zero, suc, ◌+◌, ◌*◌, ◌/◌, ◌%◌, ◌^◌, ◌<◌, ◌≤◌, Bool, true, false, ◌==◌, ◌&&◌, min}
+use Rattle.std.proofs.Common.{sym, ap, ◌∙◌, refl, IsTrue, arith, shr-shr, eqb-true, eq-eqb, bit_and, nat_eq}
+use Rattle.std.proofs.lemmas.Nat.{and_mod, and_shr, and_le_l, and_block}
+use Rattle.std.proofs.lemmas.Nat.Bits.{shr_and_one, bit_at_cat_low, bit_at_and, bit_at_lowest, bit_at-suc, bit_at-lt}
 use Rattle.cap_word.specs.Fields.{perms_of, bit_of}
-use Rattle.cap_ops.specs.Permissions.{perm_view_of, perms_from_view, has_permission, permit_global, with_perms}
 use Rattle.cap_ops.specs.Operations.{perms_with_common_global}
+use Rattle.cap_ops.specs.Permissions.{perm_view_of, perms_from_view, has_permission, permit_global, with_perms}
 use Rattle.cap_ops.proofs.ReplacedFields.{perms_of-with_perms}
 
 -- each permission of x is one of y

@@ -2,8 +2,8 @@
 use Rattle.std.proofs.Common.{◌≡◌, ℕ, ◌%◌, ◌^◌, IsTrue, sym, subst, ◌∙◌, arith}
 use Rattle.cap_word.specs.declared.word.Cap.{Cap}
 use Rattle.cap_bounds.specs.Bounds.{IsSound, base_of, top_of}
-use Rattle.cap_bounds.proofs.SameFields.{base_of-low, top_of-low, IsSound-low}
 use Rattle.cap_bounds.proofs.LeastRounding.{IsInside-refl, IsInside-trans}
+use Rattle.cap_bounds.proofs.SameFields.{base_of-low, top_of-low, IsSound-low}
 use Rattle.cap_ops.specs.Authority.{ReachesNoMore, StaysWithin}
 use Rattle.cap_ops.proofs.PermissionLemmas.{IsFewer}
 

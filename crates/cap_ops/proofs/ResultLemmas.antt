@@ -1,17 +1,15 @@
 -- What the results of operations hold: object type, sealedness, Global, address.
-use Rattle.std.proofs.Common.{◌≡◌, ℕ, ◌+◌, ◌*◌, ◌/◌, ◌%◌, ◌^◌, ◌<◌, ◌≤◌, Bool, true, false, ◌&&◌, not, ◌==◌, IsTrue, IsFalse, None, refl}
-use Rattle.std.proofs.Common.{ap, ◌∙◌, arith, lit<}
-use Rattle.std.proofs.lemmas.Bool.{not-false, ltb-false, eqb-true, false_from_ne_true}
-use Rattle.std.proofs.lemmas.Nat.Bits.{bit_at_lowest}
-use Rattle.cap_word.specs.declared.word.Cap.{Cap}
-use Rattle.cap_word.specs.Fields.{address_of, bit_of, otype_of, perms_of}
+use Rattle.std.proofs.Common.{◌≡◌, ℕ, ◌+◌, ◌*◌, ◌/◌, ◌%◌, ◌^◌, ◌<◌, ◌≤◌, Bool, true, false, ◌&&◌, not, ◌==◌, IsTrue}
+use Rattle.std.proofs.Common.{IsFalse, None, refl, ap, ◌∙◌, arith, lit<, ltb-false, eqb-true}
+use Rattle.std.proofs.lemmas.{Bool.{not-false, false_from_ne_true}, Nat.Bits.bit_at_lowest}
+use Rattle.cap_word.specs.{declared.word.Cap.Cap, Fields.{address_of, bit_of, otype_of, perms_of}}
 use Rattle.cap_bounds.specs.Range.{with_address}
-use Rattle.cap_ops.specs.Operations.{seal_checks, seal_result, unseal_checks, unseal_result, set_addr_result, perms_with_common_global}
-use Rattle.cap_ops.specs.Permissions.{has_permission, is_sealed, perm_view_of, with_perms, with_type, permit_global, greatest_type, unsealed_type}
-use Rattle.cap_ops.specs.Checks.{first_of}
+use Rattle.cap_ops.specs.{Checks.first_of, Operations.{seal_checks, seal_result, unseal_checks, unseal_result}}
+use Rattle.cap_ops.specs.Operations.{set_addr_result, perms_with_common_global}
+use Rattle.cap_ops.specs.Permissions.{has_permission, is_sealed, perm_view_of, with_perms, with_type, permit_global}
+use Rattle.cap_ops.specs.Permissions.{greatest_type, unsealed_type}
 use Rattle.cap_ops.proofs.PermissionLemmas.{perms_with_common_global-lt}
-use Rattle.cap_ops.proofs.ReplacedFields.{perms_of-with_perms, perms_of-with_type}
-use Rattle.cap_ops.proofs.TestLemmas.{none_hold}
+use Rattle.cap_ops.proofs.{ReplacedFields.{perms_of-with_perms, perms_of-with_type}, TestLemmas.none_hold}
 
 otype_of-with_type : (w otype : ℕ) → otype < 2 ^ 18 → otype_of (with_type w otype) ≡ otype
 otype_of-with_type w otype h = omega arith

@@ -1,12 +1,10 @@
 -- What the word of a root is: its fields above IE, and the bounds of the whole address space.
 use Rattle.std.proofs.Common.{◌≡◌, ℕ, ◌+◌, ◌*◌, ◌/◌, ◌%◌, ◌^◌, false, nat_eq, ap, ◌∙◌, refl, arith}
-use Rattle.cap_word.specs.Fields.{address_of, flag_of, otype_of, reserved_of}
-use Rattle.cap_word.specs.Word.{null_word}
+use Rattle.cap_word.specs.{Fields.{address_of, flag_of, otype_of, reserved_of}, Word.null_word}
 use Rattle.cap_bounds.specs.Bounds.{IsSound, base_of, top_of, length_of, raw_base_at, top_at, mantissa_of}
 use Rattle.cap_bounds.specs.Rounding.{rounded_base, rounded_top, rounded_exponent, first_exponent}
 use Rattle.cap_bounds.proofs.SameFields.{base_of-low, top_of-low, IsSound-low}
-use Rattle.cap_ops.specs.Permissions.{perm_view_of, perms_from_view, unsealed_type, with_perms}
-use Rattle.cap_ops.specs.Roots.{IsRoot}
+use Rattle.cap_ops.specs.{Permissions.{perm_view_of, perms_from_view, unsealed_type, with_perms}, Roots.IsRoot}
 use Rattle.cap_ops.proofs.ReplacedFields.{with_perms-low}
 
 -- a number whose bits all stand for permissions

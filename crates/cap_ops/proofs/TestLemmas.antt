@@ -1,14 +1,9 @@
 -- What follows where no test of a list holds, and from single tests.
-use Rattle.std.proofs.Common.{◌++◌, ◌≡◌, ℕ, Bool, true, false, List, [], ◌∷◌, Some, None, Result, MatchResult, if◌then◌else◌, refl, ap, ◌∙◌}
-use Rattle.std.proofs.Common.{◌⊎◌, inl, inr, sym}
-use Rattle.std.proofs.lemmas.Bool.{and_parts, and_from, leb-true, le-leb}
+use Rattle.std.proofs.Common.{◌++◌, ◌≡◌, ℕ, Bool, true, false, List, [], ◌∷◌, Some, None, if◌then◌else◌, refl, ap, ◌∙◌}
+use Rattle.std.proofs.{Common.{◌⊎◌, inl, inr, sym, leb-true, le-leb}, lemmas.Bool.{and_parts, and_from}}
 use Rattle.cap_word.specs.declared.word.Cap.{Cap}
 use Rattle.cap_bounds.specs.Bounds.{base_of, top_of, IsInside}
-use Rattle.cap_ops.specs.declared.faults.OpFault.{OpFault}
-use Rattle.cap_ops.specs.declared.refusal.Refusal.{Refusal}
-use Rattle.cap_ops.specs.Refusals.{refusal_of}
-use Rattle.cap_ops.specs.Operations.{covers, on_tagged}
-use Rattle.cap_ops.specs.Checks.{first_of}
+use Rattle.cap_ops.specs.{declared.refusal.Refusal.Refusal, Checks.first_of, Operations.{covers, on_tagged}}
 
 -- no test of a list holds
 abbrev pub NoneHold : {F : Type 0} → List (Bool × F) → Type 0

@@ -3,13 +3,10 @@
 -- that data have to be aligned, are this profile's own).
 use Rattle.std.specs.Prelude.{◌≡◌, ℕ, ◌+◌, ◌%◌, ◌^◌, ◌≤◌, ℤ, Bool, not, ◌&&◌, ◌==◌, List, [], ◌∷◌, ◌++◌, IsTrue}
 use Rattle.std.specs.Int.{cast_unsigned, w64}
-use Rattle.cap_word.specs.declared.word.Cap.{Cap}
-use Rattle.cap_word.specs.Fields.{address_of}
+use Rattle.cap_word.specs.{declared.word.Cap.Cap, Fields.address_of}
 use Rattle.cap_bounds.specs.Bounds.{base_of, top_of}
-use Rattle.cap_ops.specs.declared.refusal.Refusal.{Refusal}
+use Rattle.cap_ops.specs.declared.{kinds.Kind.{Kind, TheVariants.{StoreData, StoreCap}}, refusal.Refusal.Refusal}
 use Rattle.cap_ops.specs.declared.refusal.Refusal.TheVariants.{Misaligned, StoreCapPermission, StoreLocalPermission}
-use Rattle.cap_ops.specs.declared.kinds.Kind.{Kind}
-use Rattle.cap_ops.specs.declared.kinds.Kind.TheVariants.{StoreData, StoreCap}
 use Rattle.cap_ops.specs.Operations.{authority_checks}
 use Rattle.cap_ops.specs.Permissions.{has_permission, permit_global, permit_load, permit_store, permit_load_capability}
 use Rattle.cap_ops.specs.Permissions.{permit_store_capability, permit_store_local_capability}

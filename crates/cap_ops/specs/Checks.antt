@@ -1,8 +1,6 @@
 -- Lists of checks: each a test and a refusal. A check fails if its test is true (this profile's own).
 use Rattle.std.specs.Prelude.{◌≡◌, Bool, List, [], ◌∷◌, Option, Some, None, if◌then◌else◌, Result, MatchResult}
-use Rattle.cap_ops.specs.declared.faults.OpFault.{OpFault}
-use Rattle.cap_ops.specs.declared.refusal.Refusal.{Refusal}
-use Rattle.cap_ops.specs.Refusals.{refusal_of}
+use Rattle.cap_ops.specs.{declared.{faults.OpFault.OpFault, refusal.Refusal.Refusal}, Refusals.refusal_of}
 
 -- the refusal of the first check that fails
 abbrev pub first_of : {F : Type 0} → List (Bool × F) → Option F

@@ -2,21 +2,18 @@
 -- (UCAM-CL-TR-987, the descriptions of CSetBounds, CSetBoundsExact, CSetAddr, CAndPerm, CSeal, CUnseal and
 -- CClearTag for CHERI-RISC-V). The order of the checks, and that an untagged source meets none if no
 -- authority is needed, are this profile's own.
-use Rattle.std.specs.Prelude.{ℕ, ◌+◌, ◌*◌, ◌/◌, ◌%◌, ◌^◌, Bool, false, not, ◌&&◌, ◌==◌, nat_lt, nat_le, List, [], ◌∷◌, ◌++◌, if◌then◌else◌}
-use Rattle.std.specs.Prelude.{is_some, bit_and, ◌≡◌, IsTrue, None, Result, MatchResult}
-use Rattle.cap_word.specs.declared.word.Cap.{Cap}
-use Rattle.cap_word.specs.Fields.{address_of, bit_of, otype_of, perms_of}
-use Rattle.cap_bounds.specs.Bounds.{base_of, top_of, IsInside}
-use Rattle.cap_bounds.specs.Range.{with_address}
+use Rattle.std.specs.Prelude.{ℕ, ◌+◌, ◌*◌, ◌/◌, ◌%◌, ◌^◌, Bool, false, not, ◌&&◌, ◌==◌, nat_lt, nat_le, List, [], ◌∷◌}
+use Rattle.std.specs.Prelude.{◌++◌, if◌then◌else◌, is_some, bit_and, ◌≡◌, IsTrue, None, Result, MatchResult}
+use Rattle.cap_word.specs.{declared.word.Cap.Cap, Fields.{address_of, bit_of, otype_of, perms_of}}
+use Rattle.cap_bounds.specs.{Bounds.{base_of, top_of, IsInside}, Range.with_address}
 use Rattle.cap_bounds.specs.Rounding.{rounded_base, rounded_top, rounded_word}
-use Rattle.cap_ops.specs.declared.faults.OpFault.{OpFault}
-use Rattle.cap_ops.specs.declared.refusal.Refusal.{Refusal}
-use Rattle.cap_ops.specs.declared.refusal.Refusal.TheVariants.{SourceUntagged, SourceSealed, BoundsEscape, NotExact, NotRepresentable}
-use Rattle.cap_ops.specs.declared.refusal.Refusal.TheVariants.{AuthorityUntagged, AuthoritySealed, AuthorityPermission, AuthorityBounds}
-use Rattle.cap_ops.specs.declared.refusal.Refusal.TheVariants.{TypeOutOfRange, TypeMismatch}
+use Rattle.cap_ops.specs.declared.{faults.OpFault.OpFault, refusal.Refusal.{Refusal, TheVariants.SourceUntagged}}
+use Rattle.cap_ops.specs.declared.refusal.Refusal.TheVariants.{SourceSealed, BoundsEscape, NotExact, NotRepresentable}
+use Rattle.cap_ops.specs.declared.refusal.Refusal.TheVariants.{AuthorityUntagged, AuthoritySealed, AuthorityPermission}
+use Rattle.cap_ops.specs.declared.refusal.Refusal.TheVariants.{AuthorityBounds, TypeOutOfRange, TypeMismatch}
 use Rattle.cap_ops.specs.Checks.{first_of}
-use Rattle.cap_ops.specs.Permissions.{has_permission, perm_view_of, perms_from_view, is_sealed, with_perms, with_type, unsealed_type}
-use Rattle.cap_ops.specs.Permissions.{greatest_type, permit_global, permit_seal, permit_unseal}
+use Rattle.cap_ops.specs.Permissions.{has_permission, perm_view_of, perms_from_view, is_sealed, with_perms, with_type}
+use Rattle.cap_ops.specs.Permissions.{unsealed_type, greatest_type, permit_global, permit_seal, permit_unseal}
 
 -- a capability with another word
 abbrev pub with_word : Cap → ℕ → Cap

@@ -1,7 +1,6 @@
 -- The permissions and the object type of a word (UCAM-CL-TR-987, the sections on permissions and on
 -- object types). Words are numbers below 2 ^ 128, and so are defined here by number.
-use Rattle.std.specs.Prelude.{ℕ, ◌+◌, ◌*◌, ◌/◌, ◌%◌, ◌^◌, Bool, not, ◌==◌}
-use Rattle.std.specs.Int.{bit_at}
+use Rattle.std.specs.{Prelude.{ℕ, ◌+◌, ◌*◌, ◌/◌, ◌%◌, ◌^◌, Bool, not, ◌==◌}, Int.bit_at}
 use Rattle.cap_word.specs.Fields.{perms_of, otype_of}
 
 -- the architectural view of the permissions: bits 0..11 are those of the field, and bits 15..18, for

@@ -1,14 +1,14 @@
 -- The refusals: their numbers and their names.
 use Rattle.std.specs.Prelude.{ℕ, List, codes}
-use Rattle.cap_ops.specs.declared.faults.OpFault.{OpFault}
+use Rattle.cap_ops.specs.declared.{faults.OpFault.OpFault, refusal.Refusal.Refusal}
+use Rattle.cap_ops.specs.declared.refusal.Refusal.TheVariants.{BadHeader, LineTooLong, BadLine, Misplaced, Truncated}
+use Rattle.cap_ops.specs.declared.refusal.Refusal.TheVariants.{WrongCount, PlaceTaken, UnsoundRoot, SourceUntagged}
+use Rattle.cap_ops.specs.declared.refusal.Refusal.TheVariants.{SourceSealed, BoundsEscape, NotExact, NotRepresentable}
+use Rattle.cap_ops.specs.declared.refusal.Refusal.TheVariants.{AuthorityUntagged, AuthoritySealed, AuthorityPermission}
+use Rattle.cap_ops.specs.declared.refusal.Refusal.TheVariants.{AuthorityBounds, TypeOutOfRange, TypeMismatch}
+use Rattle.cap_ops.specs.declared.refusal.Refusal.TheVariants.{Misaligned, StoreCapPermission, StoreLocalPermission}
+use Rattle.cap_ops.specs.declared.refusal.Refusal.TheVariants.{WrongResult, LimitPassed, BadMode}
 use Rattle.cap_ops.specs.declared.faults.OpFault.TheVariants as faults
-use Rattle.cap_ops.specs.declared.refusal.Refusal.{Refusal}
-use Rattle.cap_ops.specs.declared.refusal.Refusal.TheVariants.{BadHeader, LineTooLong, BadLine, Misplaced, Truncated, WrongCount}
-use Rattle.cap_ops.specs.declared.refusal.Refusal.TheVariants.{PlaceTaken, UnsoundRoot, SourceUntagged, SourceSealed, BoundsEscape}
-use Rattle.cap_ops.specs.declared.refusal.Refusal.TheVariants.{NotExact, NotRepresentable, AuthorityUntagged, AuthoritySealed}
-use Rattle.cap_ops.specs.declared.refusal.Refusal.TheVariants.{AuthorityPermission, AuthorityBounds, TypeOutOfRange, TypeMismatch}
-use Rattle.cap_ops.specs.declared.refusal.Refusal.TheVariants.{Misaligned, StoreCapPermission, StoreLocalPermission, WrongResult}
-use Rattle.cap_ops.specs.declared.refusal.Refusal.TheVariants.{LimitPassed, BadMode}
 
 -- a refusal's number (this profile's own)
 abbrev pub refusal_number : Refusal → ℕ

@@ -2,8 +2,7 @@
 -- and the reserved bits 0).
 use Rattle.std.specs.Prelude.{◌≡◌, ℕ, ◌+◌, ◌*◌, ◌/◌, ◌%◌, ◌^◌, ◌≤◌, false}
 use Rattle.cap_word.specs.Fields.{address_of, flag_of, otype_of, reserved_of}
-use Rattle.cap_bounds.specs.Bounds.{IsSound, base_of, top_of}
-use Rattle.cap_bounds.specs.Rounding.{rounded_base, rounded_top}
+use Rattle.cap_bounds.specs.{Bounds.{IsSound, base_of, top_of}, Rounding.{rounded_base, rounded_top}}
 use Rattle.cap_ops.specs.Permissions.{perm_view_of, unsealed_type}
 
 -- there is a root with these bounds and permissions: they end at or below 2 ^ 64, and the view has no bit that stands

@@ -1,7 +1,6 @@
 -- Which sizes an access has.
 use Rattle.std.specs.Prelude.{ℕ, Bool, ◌==◌, ◌||◌}
-use Rattle.cap_ops.specs.declared.kinds.Kind.{Kind}
-use Rattle.cap_ops.specs.declared.kinds.Kind.TheVariants.{LoadData, StoreData, LoadCap, StoreCap}
+use Rattle.cap_ops.specs.declared.kinds.Kind.{Kind, TheVariants.{LoadData, StoreData, LoadCap, StoreCap}}
 
 -- data have 1, 2, 4 or 8 bytes
 abbrev pub is_data_size : ℕ → Bool

@@ -1,14 +1,10 @@
 //! Accesses to memory through an authority.
 
 ghost use Rattle.std.specs.Prelude.{◌≡◌, ◌<◌, ◌≤◌, ◌%◌, ◌+◌, ◌↔◌, true, IfOk, IsTrue, option_map};
-ghost use Rattle.cap_ops.specs.Accesses.{IsAllowed, access_address, access_checks, loaded_result};
-ghost use Rattle.cap_ops.specs.Accesses.{permission_for, stored_checks};
 ghost use Rattle.cap_bounds.specs.Bounds.{IsSound};
-ghost use Rattle.cap_ops.specs.Authority.{StaysWithin};
-ghost use Rattle.cap_ops.specs.Operations.{covers};
-ghost use Rattle.cap_ops.specs.Sizes.{size_fits};
-ghost use Rattle.cap_ops.specs.Refusals.{refusal_of};
-ghost use Rattle.cap_ops.specs.Checks.{Ends, first_of};
+ghost use Rattle.cap_ops.specs.Accesses.{IsAllowed, access_address, access_checks, loaded_result, permission_for};
+ghost use Rattle.cap_ops.specs.{Accesses.stored_checks, Authority.StaysWithin, Checks.{Ends, first_of}};
+ghost use Rattle.cap_ops.specs.{Operations.covers, Refusals.refusal_of};
 
 use crate::access::Access;
 use crate::bits::{

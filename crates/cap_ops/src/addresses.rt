@@ -2,13 +2,10 @@
 
 ghost use Rattle.std.specs.Prelude.{◌≡◌, ◌≢◌, ◌≤◌, ◌↔◌, IfOk, IsFalse, IsTrue, option_map};
 ghost use Rattle.cap_word.specs.Fields.{address_of};
-ghost use Rattle.cap_bounds.specs.Bounds.{base_of, top_of};
-ghost use Rattle.cap_bounds.specs.Range.{IsRepresentable, with_address};
-ghost use Rattle.cap_ops.specs.Authority.{StaysWithin};
-ghost use Rattle.cap_ops.specs.Operations.{is_kept_at, set_addr_result, set_addr_checks};
-ghost use Rattle.cap_ops.specs.Permissions.{is_sealed};
+ghost use Rattle.cap_bounds.specs.{Bounds.{base_of, top_of}, Range.{IsRepresentable, with_address}};
+ghost use Rattle.cap_ops.specs.{Authority.StaysWithin, Checks.{Ends, first_of}};
+ghost use Rattle.cap_ops.specs.{Operations.{is_kept_at, set_addr_result, set_addr_checks}, Permissions.is_sealed};
 ghost use Rattle.cap_ops.specs.Refusals.{refusal_of};
-ghost use Rattle.cap_ops.specs.Checks.{Ends, first_of};
 
 use crate::faults::OpFault;
 use crate::sealing::sealed;

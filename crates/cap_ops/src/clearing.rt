@@ -4,12 +4,10 @@
 
 ghost use Rattle.std.specs.Prelude.{◌≡◌, ◌↔◌, IsFalse, IsTrue, false};
 ghost use Rattle.cap_bounds.specs.Bounds.{IsSound};
-ghost use Rattle.cap_ops.specs.Authority.{StaysWithin};
-ghost use Rattle.cap_ops.specs.Permissions.{is_sealed};
-ghost use Rattle.cap_ops.specs.Operations.{Clears, HasRoomFor, IsStrictWhereTagged, and_perm_result, and_perm_checks};
-ghost use Rattle.cap_ops.specs.Operations.{clear_result, seal_result, seal_checks, set_addr_result};
-ghost use Rattle.cap_ops.specs.Operations.{set_addr_checks, set_bounds_result, set_bounds_checks};
-ghost use Rattle.cap_ops.specs.Operations.{unseal_result, unseal_checks};
+ghost use Rattle.cap_ops.specs.{Authority.StaysWithin, Operations.{Clears, HasRoomFor, IsStrictWhereTagged}};
+ghost use Rattle.cap_ops.specs.Operations.{and_perm_result, and_perm_checks, clear_result, seal_result, seal_checks};
+ghost use Rattle.cap_ops.specs.Operations.{set_addr_result, set_addr_checks, set_bounds_result, set_bounds_checks};
+ghost use Rattle.cap_ops.specs.{Operations.{unseal_result, unseal_checks}, Permissions.is_sealed};
 
 use crate::addresses::{moved, set_addr};
 use crate::faults::OpFault;

@@ -2,12 +2,9 @@
 
 ghost use Rattle.std.specs.Prelude.{◌≡◌, ◌<◌, ◌↔◌, IfOk, IfNone, IfSome, IsFalse, IsTrue, true, false};
 ghost use Rattle.cap_word.specs.Fields.{address_of};
-ghost use Rattle.cap_bounds.specs.Bounds.{IsSound};
-ghost use Rattle.cap_bounds.specs.Rounding.{HasRounding, rounded_base, rounded_top};
-ghost use Rattle.cap_ops.specs.Authority.{StaysWithin};
-ghost use Rattle.cap_ops.specs.Operations.{HasRoomFor, covers, is_exact, set_bounds_result, set_bounds_checks};
-ghost use Rattle.cap_ops.specs.Permissions.{is_sealed};
-ghost use Rattle.cap_ops.specs.Checks.{Ends};
+ghost use Rattle.cap_bounds.specs.{Bounds.IsSound, Rounding.{HasRounding, rounded_base, rounded_top}};
+ghost use Rattle.cap_ops.specs.{Authority.StaysWithin, Checks.Ends, Operations.{HasRoomFor, covers, is_exact}};
+ghost use Rattle.cap_ops.specs.{Operations.{set_bounds_result, set_bounds_checks}, Permissions.is_sealed};
 
 use crate::faults::OpFault;
 use crate::sealing::sealed;

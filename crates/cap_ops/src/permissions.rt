@@ -1,11 +1,9 @@
 //! Permissions, and the tag.
 
 ghost use Rattle.std.specs.Prelude.{◌≡◌, IfOk, bit_and, option_map};
-ghost use Rattle.cap_ops.specs.Authority.{StaysWithin};
+ghost use Rattle.cap_ops.specs.{Authority.StaysWithin, Checks.{Ends, first_of}};
 ghost use Rattle.cap_ops.specs.Operations.{and_perm_result, and_perm_checks, cleared};
-ghost use Rattle.cap_ops.specs.Permissions.{perm_view_of, perms_from_view};
-ghost use Rattle.cap_ops.specs.Refusals.{refusal_of};
-ghost use Rattle.cap_ops.specs.Checks.{Ends, first_of};
+ghost use Rattle.cap_ops.specs.{Permissions.{perm_view_of, perms_from_view}, Refusals.refusal_of};
 
 use crate::bits::replace_permissions;
 use crate::faults::OpFault;

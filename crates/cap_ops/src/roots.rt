@@ -1,6 +1,6 @@
 //! The words that a machine starts from.
 
-ghost use Rattle.std.specs.Prelude.{◌≡◌, ◌≤◌, ◌<◌, ◌+◌, ◌*◌, ◌/◌, ◌%◌, ◌^◌, MatchOption, IsTrue, ◌↔◌};
+ghost use Rattle.std.specs.Prelude.{◌≡◌, ◌<◌, ◌+◌, ◌*◌, ◌/◌, ◌%◌, ◌^◌, MatchOption, IsTrue, ◌↔◌};
 ghost use Rattle.cap_ops.specs.Roots.{IsRoot, IsRootRequest};
 
 use crate::bits::replace_permissions;

@@ -2,13 +2,10 @@
 
 ghost use Rattle.std.specs.Prelude.{◌≡◌, ◌+◌, ◌<◌, ◌==◌, ◌&&◌, nat_le, IfOk, IsFalse, IsTrue, option_map};
 ghost use Rattle.cap_word.specs.Fields.{address_of, otype_of};
-ghost use Rattle.cap_ops.specs.Authority.{StaysWithin};
-ghost use Rattle.cap_ops.specs.Operations.{covers, perms_with_common_global};
-ghost use Rattle.cap_ops.specs.Operations.{seal_result, seal_checks, type_authority_checks, unseal_result};
-ghost use Rattle.cap_ops.specs.Operations.{unseal_checks};
-ghost use Rattle.cap_ops.specs.Permissions.{greatest_type, has_permission, is_sealed, permit_global};
-ghost use Rattle.cap_ops.specs.Refusals.{refusal_of};
-ghost use Rattle.cap_ops.specs.Checks.{Ends, first_of};
+ghost use Rattle.cap_ops.specs.{Authority.StaysWithin, Checks.{Ends, first_of}, Operations.covers};
+ghost use Rattle.cap_ops.specs.Operations.{perms_with_common_global, seal_result, seal_checks, type_authority_checks};
+ghost use Rattle.cap_ops.specs.{Operations.{unseal_result, unseal_checks}, Permissions.{greatest_type, has_permission}};
+ghost use Rattle.cap_ops.specs.{Permissions.{is_sealed, permit_global}, Refusals.refusal_of};
 
 use crate::bits::{GLOBAL, PERMIT_SEAL, PERMIT_UNSEAL, permits, replace_permissions, replace_type};
 use crate::faults::OpFault;

@@ -1,13 +1,13 @@
 -- Laws of what was done for an order.
-use Rattle.std.proofs.Common.{Bool, true, ◌≡◌, ◌≢◌, ℕ, List, [], ◌++◌, take, length, Option, Some, None, Result, Ok, Err, inl, inr, refl, sym, subst, ◌∙◌, append-nil}
-use Rattle.std.proofs.Math.Seq.{take-length}
-use Rattle.std.proofs.lemmas.Option.{none-some}
 use Rattle.std.specs.Io.KnownBytes.{Consumes}
+use Rattle.std.proofs.Common.{Bool, true, ◌≡◌, ◌≢◌, ℕ, List, [], ◌++◌, take, length, Option, Some, None, Result, Ok}
+use Rattle.std.proofs.{Common.{Err, inl, inr, refl, sym, subst, ◌∙◌, append-nil}, Math.Seq.take-length}
+use Rattle.std.proofs.lemmas.Option.{none-some}
 use Rattle.cap_log.specs.Streams.{next_count}
 use Rattle.cap_program.specs.declared.faults.Fault.{Fault}
 use Rattle.cap_program.specs.declared.faults.Fault.TheVariants.{BadWords, BadWord, BadRequest, Read, Write, NoMemory}
-use Rattle.cap_program.specs.Commands.{Meaning}
-use Rattle.cap_program.specs.Doings.{IsFollowed, gave_by, ended_by, known_bytes, IsDone, IsCounted, IsInputCounted, IsHandedOn, IsPushed}
+use Rattle.cap_program.specs.{Commands.Meaning, Doings.{IsFollowed, gave_by, ended_by, known_bytes, IsDone, IsCounted}}
+use Rattle.cap_program.specs.Doings.{IsInputCounted, IsHandedOn, IsPushed}
 
 -- what a source over known bytes gave is the next of them, and where it has ended all of them
 pub given_of : {S : Type 0} (left : S → Option (List ℕ)) (ended : S → Bool)

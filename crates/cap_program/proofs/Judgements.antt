@@ -1,21 +1,16 @@
 -- Laws of the answer of a judge that writes, and of an input whose bytes are known.
-use Rattle.std.proofs.Common.{◌≡◌, ◌≢◌, ◌↔◌, ℕ, Bool, true, List, [], ◌++◌, Option, None, Some, Result, Ok, Err, IfSome, refl, sym}
-use Rattle.std.proofs.Common.{append-nil}
 use Rattle.std.specs.Io.KnownBytes.{Consumes}
-use Rattle.cap_log.specs.Streams.{next_count}
-use Rattle.cap_log.specs.declared.judge_faults.JudgeFault.{JudgeFault}
-use Rattle.cap_log.specs.declared.judge_faults.JudgeToFault.{JudgeToFault}
-use Rattle.cap_log.specs.declared.judge_faults.JudgeToFault.TheVariants.{Pull, NoMemory, Push}
-use Rattle.cap_program.specs.declared.faults.Fault.{Fault}
-use Rattle.cap_program.specs.declared.faults.Fault.TheVariants as faults
-use Rattle.cap_program.specs.Doings.{IsCounted}
-use Rattle.cap_program.specs.Faults.{status_of}
+use Rattle.std.proofs.Common.{◌≡◌, ◌≢◌, ◌↔◌, ℕ, Bool, true, List, [], ◌++◌, Option, None, Some, Result, Ok, Err, IfSome}
+use Rattle.std.proofs.Common.{refl, sym, append-nil}
+use Rattle.cap_log.specs.declared.judge_faults.{JudgeFault.JudgeFault, JudgeToFault.JudgeToFault}
+use Rattle.cap_log.specs.{declared.judge_faults.JudgeToFault.TheVariants.{Pull, NoMemory, Push}, Streams.next_count}
+use Rattle.cap_program.specs.{declared.faults.Fault.Fault, Doings.IsCounted, Faults.status_of}
 use Rattle.cap_program.specs.Judging.{StopsJudging, judged}
 
 module _ {V : Type 0} (status : V → ℕ) (before after : ℕ) where
   -- a fault of the source is one of the input
   pub judged_read : (answer : Result V JudgeToFault) → (answer ≢ Err Pull → after ≡ before)
-      → (answer ≡ Err Pull → after ≡ next_count before) → IsCounted faults.Read (judged status answer) before after
+      → (answer ≡ Err Pull → after ≡ next_count before) → IsCounted Fault.Read (judged status answer) before after
   judged_read (Ok verdict) same next = record { counted = λ is. absurd (cc); uncounted = λ other. same (λ is. cc) }
   judged_read (Err Pull) same next = record { counted = λ is. next refl; uncounted = λ other. absurd (other refl) }
   judged_read (Err NoMemory) same next = record { counted = λ is. absurd (cc); uncounted = λ other. same (λ is. cc) }
@@ -23,7 +18,7 @@ module _ {V : Type 0} (status : V → ℕ) (before after : ℕ) where
 
   -- a fault of the sink is one of the output
   pub judged_written : (answer : Result V JudgeToFault) → (answer ≢ Err Push → after ≡ before)
-      → (answer ≡ Err Push → after ≡ next_count before) → IsCounted faults.Write (judged status answer) before after
+      → (answer ≡ Err Push → after ≡ next_count before) → IsCounted Fault.Write (judged status answer) before after
   judged_written (Ok verdict) same next = record { counted = λ is. absurd (cc); uncounted = λ other. same (λ is. cc) }
   judged_written (Err Pull) same next = record { counted = λ is. absurd (cc); uncounted = λ other. same (λ is. cc) }
   judged_written (Err NoMemory) same next = record { counted = λ is. absurd (cc); uncounted = λ other. same (λ is. cc) }
@@ -32,12 +27,12 @@ module _ {V : Type 0} (status : V → ℕ) (before after : ℕ) where
 -- an order that judges is not at fault where its judge stops
 pub stopped_unfaulty : {V : Type 0} (answers : Result V JudgeFault → Type 0) (fault : Fault) → StopsJudging answers fault
     → (status_of fault ≡ 2) ↔ ⊥
-stopped_unfaulty answers faults.Read stops = (λ two. absurd (cc), λ faulty. absurd faulty)
-stopped_unfaulty answers faults.NoMemory stops = (λ two. absurd (cc), λ faulty. absurd faulty)
-stopped_unfaulty answers faults.BadWords stops = absurd stops
-stopped_unfaulty answers faults.BadWord stops = absurd stops
-stopped_unfaulty answers faults.BadRequest stops = absurd stops
-stopped_unfaulty answers faults.Write stops = absurd stops
+stopped_unfaulty answers Fault.Read stops = (λ two. absurd (cc), λ faulty. absurd faulty)
+stopped_unfaulty answers Fault.NoMemory stops = (λ two. absurd (cc), λ faulty. absurd faulty)
+stopped_unfaulty answers Fault.BadWords stops = absurd stops
+stopped_unfaulty answers Fault.BadWord stops = absurd stops
+stopped_unfaulty answers Fault.BadRequest stops = absurd stops
+stopped_unfaulty answers Fault.Write stops = absurd stops
 
 -- the bytes of an input that gave these: all that are known of it, or those given
 pub record Known (left : Option (List ℕ)) (given : List ℕ) (ended : Bool) : Type 0 where

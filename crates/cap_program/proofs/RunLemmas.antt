@@ -1,12 +1,10 @@
 -- What a run of a program wrote and told, from what was done for its order.
+use Rattle.std.specs.Io.KnownBytes.{Keeps, Appends, Consumes}
 use Rattle.std.proofs.Common.{◌≡◌, ◌≢◌, ◌≤◌, ◌↔◌, ℕ, List, [], take, Option, None, Some, Result, Ok, Err, IfErr, IfOk}
 use Rattle.std.proofs.Common.{inl, inr, refl, sym, subst, ◌∙◌, append-nil, arith}
-use Rattle.std.specs.Io.KnownBytes.{Keeps, Appends, Consumes}
 use Rattle.cap_program.specs.declared.faults.Fault.{Fault}
 use Rattle.cap_program.specs.declared.faults.Fault.TheVariants.{BadWords, BadWord, BadRequest, Read, Write, NoMemory}
-use Rattle.cap_program.specs.Doings.{IsDone}
-use Rattle.cap_program.specs.Faults.{exit_status, status_of}
-use Rattle.cap_program.specs.Runs.{TellsFault, Ran}
+use Rattle.cap_program.specs.{Doings.IsDone, Faults.{exit_status, status_of}, Runs.{TellsFault, Ran}}
 
 -- nothing was gained
 kept : (a b : Option (List ℕ)) → Appends a b [] → Keeps a b

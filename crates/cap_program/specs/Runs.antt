@@ -1,9 +1,7 @@
 -- What a run of a program writes, and which fault it tells. All of it is this profile's own.
 use Rattle.std.specs.Prelude.{◌≡◌, ◌≢◌, ◌≤◌, ◌↔◌, ℕ, ◌⊎◌, List, [], take, Option, Result, IfOk, IfErr}
 use Rattle.std.specs.Io.KnownBytes.{Appends, Consumes, Keeps}
-use Rattle.cap_program.specs.declared.faults.Fault.{Fault}
-use Rattle.cap_program.specs.declared.faults.Fault.TheVariants.{Write}
-use Rattle.cap_program.specs.Commands.{Meaning}
+use Rattle.cap_program.specs.{declared.faults.Fault.{Fault, TheVariants.Write}, Commands.Meaning}
 use Rattle.cap_program.specs.Faults.{fault_line, status_of}
 
 -- nothing, or a beginning of a text that is printed with some status

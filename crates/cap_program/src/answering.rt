@@ -1,8 +1,7 @@
 //! What a program does once an order was followed.
 
-ghost use Rattle.std.specs.Prelude.{◌≡◌, ◌+◌, ◌≤◌, ◌++◌, ℕ, true, [], length, take, codes, OnOk};
-ghost use Rattle.cap_program.specs.Doings.{IsHandedOn, IsPushed, TellsFaultLine};
-ghost use Rattle.cap_program.specs.Faults.{exit_status, fault_line};
+ghost use Rattle.std.specs.Prelude.{◌≡◌, ◌≤◌, true, [], length, take, OnOk};
+ghost use Rattle.cap_program.specs.{Doings.{IsHandedOn, IsPushed, TellsFaultLine}, Faults.{exit_status, fault_line}};
 
 use crate::faults::Fault;
 use crate::outputs::Output;

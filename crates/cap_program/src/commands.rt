@@ -1,9 +1,7 @@
 //! What the programs can be asked to do.
 
 ghost use Rattle.std.specs.Prelude.{◌≡◌, ◌≤◌, ℕ, List, Some, None, length};
-ghost use Rattle.cap_program.specs.Commands.{Meaning};
-ghost use Rattle.cap_program.specs.Doings.{IsFollowed};
-ghost use Rattle.cap_program.specs.declared.faults.Fault.TheVariants.{BadWords};
+ghost use Rattle.cap_program.specs.{declared.faults.Fault.TheVariants.BadWords, Commands.Meaning, Doings.IsFollowed};
 
 use crate::faults::Fault;
 use cap_log::{Sink, Source};

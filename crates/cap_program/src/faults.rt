@@ -1,8 +1,7 @@
 //! Why a program did not do what it was asked to.
 
 ghost use Rattle.std.specs.Prelude.{◌≡◌};
-ghost use Rattle.cap_program.specs.Judging.{fault_of};
-ghost use Rattle.cap_program.specs.declared.faults.Fault.TheVariants.{Read, Write};
+ghost use Rattle.cap_program.specs.{declared.faults.Fault.TheVariants.{Read, Write}, Judging.fault_of};
 
 use cap_log::{JudgeToFault, PullFault, PushFault};
 

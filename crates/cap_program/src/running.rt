@@ -2,10 +2,8 @@
 
 ghost use Rattle.std.specs.Prelude.{◌≡◌, ℕ, true, List, [], take, IfOk, IfErr, OnOk, Err, None};
 ghost use Rattle.std.specs.Io.KnownBytes.{Appends};
-ghost use Rattle.cap_program.specs.Commands.{IsMeant};
-ghost use Rattle.cap_program.specs.Doings.{IsDone, IsFollowed, TellsFaultLine, ended_by, gave_by, known_bytes};
-ghost use Rattle.cap_program.specs.Faults.{fault_line};
-ghost use Rattle.cap_program.specs.Runs.{IsRan};
+ghost use Rattle.cap_program.specs.{Commands.IsMeant, Doings.{IsDone, IsFollowed, TellsFaultLine, ended_by, gave_by}};
+ghost use Rattle.cap_program.specs.{Doings.known_bytes, Faults.fault_line, Runs.IsRan};
 
 use crate::answering::{exit_status, hand_on, tell};
 use crate::commands::Command;

@@ -1,11 +1,8 @@
 -- An answer on all the bytes of a log, in numbers.
-use Rattle.std.proofs.Common.{◌≡◌, ℕ, List, true, refl, Err, Ok}
-use Rattle.std.specs.Prelude.{None, Some}
-use Rattle.cap_report.specs.Answers.{AnswersBytes, numbers_of, without_verdict}
-use Rattle.cap_report.specs.declared.answers.Answer.{Answer}
+use Rattle.std.proofs.Common.{◌≡◌, ℕ, List, true, refl, Err, Ok, None, Some}
 use Rattle.cap_log.specs.declared.judge_faults.JudgeFault.TheVariants.{NoMemory}
-use Rattle.cap_judge.specs.declared.verdict.Verdict.{Verdict}
-use Rattle.cap_judge.specs.Judgings.{IsAnswerOf}
+use Rattle.cap_judge.specs.{declared.verdict.Verdict.Verdict, Judgings.IsAnswerOf}
+use Rattle.cap_report.specs.{declared.answers.Answer.Answer, Answers.{AnswersBytes, numbers_of, without_verdict}}
 
 abbrev pub of_verdict : (bytes : List ℕ) (verdict : Verdict) (answer : Answer) → IsAnswerOf bytes true (Ok verdict)
     → answer ≡ numbers_of verdict → AnswersBytes bytes answer

@@ -1,25 +1,16 @@
 -- What is told of a line for its refusal.
 use Rattle.std.proofs.Common.{◌≡◌, ◌⊎◌, ℕ, inl, inr, Bool, true, false, List, [], ◌++◌, refl, codes}
-use Rattle.cap_word.specs.Digits.{hex_digits}
-use Rattle.cap_word.specs.declared.word.Word.{Word}
+use Rattle.cap_word.specs.{declared.word.Word.Word, Digits.hex_digits}
 use Rattle.cap_bounds.specs.Bounds.{length_of}
-use Rattle.cap_log.specs.declared.lines.Line.{Line}
-use Rattle.cap_log.specs.declared.lines.Line.TheVariants as lines
-use Rattle.cap_log.specs.declared.lines.Place.{Place}
-use Rattle.cap_log.specs.declared.kinds.Step.{Step}
-use Rattle.cap_log.specs.Lines.{Spells}
-use Rattle.cap_ops.specs.declared.refusal.Refusal.{Refusal}
-use Rattle.cap_ops.specs.declared.refusal.Refusal.TheVariants.{BadHeader, LineTooLong, BadLine, Misplaced, Truncated, WrongCount}
-use Rattle.cap_ops.specs.declared.refusal.Refusal.TheVariants.{PlaceTaken, LimitPassed, BadMode}
-use Rattle.cap_machine.specs.declared.rules.Rules.{Rules}
-use Rattle.cap_machine.specs.declared.rules.Rules.TheVariants.{One, TwoStrict, TwoClear}
-use Rattle.cap_machine.specs.Accounts.{Account}
+use Rattle.cap_ops.specs.declared.refusal.Refusal.{Refusal, TheVariants.{BadHeader, LineTooLong, BadLine, Misplaced}}
+use Rattle.cap_ops.specs.declared.refusal.Refusal.TheVariants.{Truncated, WrongCount, PlaceTaken, LimitPassed, BadMode}
+use Rattle.cap_log.specs.{declared.{kinds.Step.Step, lines.{Line.Line, Place.Place}}, Lines.Spells}
+use Rattle.cap_texts.specs.{CapLines.cap_lines, TextLines.text_line}
+use Rattle.cap_machine.specs.{declared.rules.Rules.{Rules, TheVariants.{One, TwoStrict, TwoClear}}, Accounts.Account}
 use Rattle.cap_machine.specs.States.{tagged}
 use Rattle.cap_judge.specs.Logs.{SpellsBy, has_form}
-use Rattle.cap_texts.specs.TextLines.{text_line}
-use Rattle.cap_texts.specs.CapLines.{cap_lines}
-use Rattle.cap_report.specs.FaultReports.{AreDetails, known_lines, root_lines}
 use Rattle.cap_judge.proofs.FormLemmas.{no_form}
+use Rattle.cap_report.specs.FaultReports.{AreDetails, known_lines, root_lines}
 
 -- the details of a line that is refused for what its tests saw
 abbrev pub OfLine : Account → List ℕ → Refusal → List ℕ → Type 0
@@ -42,12 +33,12 @@ details_other account text LimitPassed details n0 n1 n2 n3 n4 n5 n6 n7 is = absu
 details_other account text refusal details n0 n1 n2 n3 n4 n5 n6 n7 is = is
 
 -- roots and steps have a form by all rules
-pub root_form : (rules_are : Rules) (place : Place) (word : Word) → has_form rules_are (lines.Root place word) ≡ true
+pub root_form : (rules_are : Rules) (place : Place) (word : Word) → has_form rules_are (Line.Root place word) ≡ true
 root_form One place word = refl
 root_form TwoStrict place word = refl
 root_form TwoClear place word = refl
 
-pub step_form : (rules_are : Rules) (step : Step) → has_form rules_are (lines.Step step) ≡ true
+pub step_form : (rules_are : Rules) (step : Step) → has_form rules_are (Line.Step step) ≡ true
 step_form One step = refl
 step_form TwoStrict step = refl
 step_form TwoClear step = refl

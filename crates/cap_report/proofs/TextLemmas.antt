@@ -1,8 +1,6 @@
 -- The text that a new sink took.
 use Rattle.std.proofs.Common.{◌≡◌, ℕ, List, subst, sym}
-use Rattle.cap_report.specs.declared.texts.TextSink.{TextSink}
-use Rattle.cap_report.specs.Sinks.{Took}
-use Rattle.cap_report.specs.Texts.{IsTold}
+use Rattle.cap_report.specs.{declared.texts.TextSink.TextSink, Sinks.Took, Texts.IsTold}
 
 -- it is told in the sink's room, with what the sink counted
 pub told_from : (first last : TextSink) (text old : List ℕ) (count : ℕ) → first.length ≡ 0 → first.room.now ≡ old → count ≡ last.length

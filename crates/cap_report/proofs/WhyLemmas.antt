@@ -1,23 +1,15 @@
 -- The report of a first fault: it is that of the place where the judge stopped.
-use Rattle.std.proofs.Common.{◌≡◌, ℕ, Bool, true, false, List, [], ◌++◌, refl, sym, ap, subst, Ok, Err, Result, OnOk, OnErr, Some}
-use Rattle.std.specs.Bool.{if◌then◌else◌}
+use Rattle.std.proofs.Common.{◌≡◌, ℕ, Bool, true, false, List, [], ◌++◌, refl, sym, ap, subst, Ok, Err, Result, OnOk}
+use Rattle.std.proofs.Common.{OnErr, Some, if◌then◌else◌}
 use Rattle.cap_ops.specs.declared.refusal.Refusal.{Refusal}
-use Rattle.cap_machine.specs.Accounts.{Account}
-use Rattle.cap_machine.specs.Helds.{Held, account_of}
-use Rattle.cap_judge.specs.declared.faults.Fault.{Fault}
-use Rattle.cap_judge.specs.declared.verdict.Verdict.{Verdict}
+use Rattle.cap_log.specs.{FaultLines.bytes_of, Front.IsCut}
+use Rattle.cap_machine.specs.{Accounts.Account, Helds.{Held, account_of}}
+use Rattle.cap_judge.specs.declared.{faults.Fault.Fault, judges.Stage.Stage, verdict.Verdict.Verdict}
 use Rattle.cap_judge.specs.declared.verdict.Verdict.TheVariants.{Yes, No}
 use Rattle.cap_judge.specs.Judgings.{IsVerdictOf, IsAnswerOf, LeadsAfter, StopsBefore, StopsIn}
-use Rattle.cap_log.specs.FaultLines.{bytes_of}
-use Rattle.cap_log.specs.Front.{IsCut}
-use Rattle.cap_judge.specs.Readings.{EndsAs, EndsWith, Follows, IsFaultOf, at, due_of}
-use Rattle.cap_judge.specs.Turns.{unread}
-use Rattle.cap_judge.specs.declared.judges.Stage.{Stage}
-use Rattle.cap_judge.specs.Reports.{Tells}
-use Rattle.cap_judge.specs.OriginLists.{report_text}
-use Rattle.cap_judge.specs.VerdictLines.{verdict_line}
-use Rattle.cap_judge.proofs.FaultPlaces.{at_fault}
-use Rattle.cap_judge.proofs.ReportLemmas.{IsHeld, tells}
+use Rattle.cap_judge.specs.{OriginLists.report_text, Readings.{EndsAs, EndsWith, Follows, IsFaultOf, at, due_of}}
+use Rattle.cap_judge.specs.{Reports.Tells, Turns.unread, VerdictLines.verdict_line}
+use Rattle.cap_judge.proofs.{FaultPlaces.at_fault, ReportLemmas.{IsHeld, tells}}
 use Rattle.cap_judge.proofs.TurnLaws.{fault_ends, reached, told as told_at_end}
 use Rattle.cap_report.specs.FaultReports.{IsLineReport, IsReport}
 use Rattle.cap_report.specs.Whys.{Explains, ExplainsEnd, ExplainsSoFar, IsWhyText}

@@ -1,10 +1,8 @@
 -- What the judge answers to C (this profile's own, as are all below).
 use Rattle.std.specs.Prelude.{◌≡◌, ℕ, List, Option, None, Some, IfSome, IfNone, IsSome}
 use Rattle.cap_ops.specs.Refusals.{refusal_number}
-use Rattle.cap_judge.specs.declared.verdict.Verdict.{Verdict}
-use Rattle.cap_judge.specs.declared.verdict.Verdict.TheVariants.{Yes, No}
-use Rattle.cap_judge.specs.Logs.{MayLackMemory, NamesNoGranules}
-use Rattle.cap_judge.specs.Verdicts.{IsVerdict, IsGuarded, NamesEscapes}
+use Rattle.cap_judge.specs.declared.verdict.Verdict.{Verdict, TheVariants.{Yes, No}}
+use Rattle.cap_judge.specs.{Logs.{MayLackMemory, NamesNoGranules}, Verdicts.{IsVerdict, IsGuarded, NamesEscapes}}
 use Rattle.cap_report.specs.declared.answers.Answer.{Answer}
 
 -- an answer that is no verdict, and says why by this number

@@ -1,14 +1,10 @@
 -- What is told of bytes that are no line of a machine's log (this profile's own, as are all below).
 use Rattle.std.specs.Prelude.{◌≡◌, ◌⊎◌, ◌+◌, ℕ, List, [], ◌∷◌, ◌++◌, length, codes}
-use Rattle.cap_log.specs.declared.kinds.Head.{Head}
+use Rattle.cap_log.specs.{declared.kinds.Head.Head, Heads.{IsHead, head_spelling}, Parts.{Begins, BeginsWithNone}}
 use Rattle.cap_log.specs.declared.kinds.Head.TheVariants as heads
-use Rattle.cap_log.specs.Heads.{IsHead, head_spelling}
-use Rattle.cap_log.specs.Parts.{Begins, BeginsWithNone}
-use Rattle.cap_texts.specs.declared.fields.Field.{Field}
-use Rattle.cap_texts.specs.declared.fields.Field.TheVariants as fields
-use Rattle.cap_texts.specs.Fields.{AllStand, IsFirstWrong}
-use Rattle.cap_texts.specs.TextLines.{text_line}
+use Rattle.cap_texts.specs.{declared.fields.Field.Field, Fields.{AllStand, IsFirstWrong}, TextLines.text_line}
 use Rattle.cap_texts.specs.WrongLines.{header_lines, hint_line, wrong_lines}
+use Rattle.cap_texts.specs.declared.fields.Field.TheVariants as fields
 
 -- the fields of a result
 abbrev pub result_fields : List Field

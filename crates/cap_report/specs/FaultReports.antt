@@ -1,25 +1,16 @@
 -- The report of a first fault: its line, and what the machine held before it (this profile's own).
 use Rattle.std.specs.Prelude.{◌≡◌, ◌⊎◌, ℕ, List, [], ◌++◌, codes, decimal}
-use Rattle.cap_word.specs.Digits.{hex_digits}
-use Rattle.cap_word.specs.declared.word.Word.{Word}
+use Rattle.cap_word.specs.{declared.word.Word.Word, Digits.hex_digits}
 use Rattle.cap_bounds.specs.Bounds.{length_of}
-use Rattle.cap_log.specs.declared.lines.Line.{Line}
+use Rattle.cap_ops.specs.declared.refusal.Refusal.{Refusal, TheVariants.{BadHeader, LineTooLong, BadLine, Misplaced}}
+use Rattle.cap_ops.specs.declared.refusal.Refusal.TheVariants.{Truncated, WrongCount, PlaceTaken, LimitPassed, BadMode}
+use Rattle.cap_log.specs.{declared.lines.{Line.Line, Place.Place}, Front.IsFrontText}
 use Rattle.cap_log.specs.declared.lines.Line.TheVariants as lines
-use Rattle.cap_log.specs.declared.lines.Place.{Place}
-use Rattle.cap_ops.specs.declared.refusal.Refusal.{Refusal}
-use Rattle.cap_ops.specs.declared.refusal.Refusal.TheVariants.{BadHeader, LineTooLong, BadLine, Misplaced, Truncated, WrongCount}
-use Rattle.cap_ops.specs.declared.refusal.Refusal.TheVariants.{PlaceTaken, LimitPassed, BadMode}
-use Rattle.cap_machine.specs.Accounts.{Account}
-use Rattle.cap_machine.specs.States.{key_of, tagged}
-use Rattle.cap_judge.specs.Logs.{SpellsBy, IsFirstFault}
-use Rattle.cap_texts.specs.TextLines.{text_line}
-use Rattle.cap_log.specs.Front.{IsFrontText}
-use Rattle.cap_texts.specs.ShownBytes.{shown_line}
-use Rattle.cap_texts.specs.CapLines.{cap_lines, operand_lines}
+use Rattle.cap_texts.specs.{CapLines.{cap_lines, operand_lines}, ShownBytes.shown_line, TextLines.text_line}
 use Rattle.cap_texts.specs.WrongLines.{header_lines}
-use Rattle.cap_report.specs.BadLines.{AreBadLines, AreFirstLines}
-use Rattle.cap_report.specs.StepLines.{step_lines}
-use Rattle.cap_judge.specs.Judgings.{account_before}
+use Rattle.cap_machine.specs.{Accounts.Account, States.{key_of, tagged}}
+use Rattle.cap_judge.specs.{Judgings.account_before, Logs.{SpellsBy, IsFirstFault}}
+use Rattle.cap_report.specs.{BadLines.{AreBadLines, AreFirstLines}, StepLines.step_lines}
 
 -- how many roots, steps and distinct granules were taken so far
 unfoldable pub count_lines : Account → List ℕ

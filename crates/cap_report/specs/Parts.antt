@@ -1,16 +1,12 @@
 -- The parts of the report on a step, and their lines (this profile's own).
-use Rattle.std.specs.Prelude.{ℕ, Bool, ◌==◌, if◌then◌else◌, List, [], ◌++◌, flat_map, codes, decimal}
-use Rattle.std.specs.Bool.{beq}
-use Rattle.cap_word.specs.Digits.{hex_digits}
+use Rattle.std.specs.{Prelude.{ℕ, Bool, ◌==◌, if◌then◌else◌, List, [], ◌++◌, flat_map, codes, decimal}, Bool.beq}
+use Rattle.cap_word.specs.{declared.word.Cap.Cap, Digits.hex_digits}
 use Rattle.cap_word.specs.Fields.{address_of, perms_of, reserved_of, flag_of, otype_of, ie_of, e_of, b_of, t_of}
-use Rattle.cap_word.specs.declared.word.Cap.{Cap}
-use Rattle.cap_ops.specs.declared.refusal.Refusal.{Refusal}
-use Rattle.cap_ops.specs.Refusals.{refusal_number, refusal_name}
-use Rattle.cap_texts.specs.TextLines.{text_line}
-use Rattle.cap_texts.specs.CapLines.{cap_lines, bounds_line, operand_lines}
+use Rattle.cap_ops.specs.{declared.refusal.Refusal.Refusal, Refusals.{refusal_number, refusal_name}}
+use Rattle.cap_texts.specs.{CapLines.{cap_lines, bounds_line, operand_lines}, TextLines.text_line}
 use Rattle.cap_report.specs.declared.parts.Part.{Part}
-use Rattle.cap_report.specs.declared.parts.Part.TheVariants.{Source, Authority, Request, Rounded, Moved, Representable, Access, Needs}
-use Rattle.cap_report.specs.declared.parts.Part.TheVariants.{Gives, Cleared, Recorded, Differs}
+use Rattle.cap_report.specs.declared.parts.Part.TheVariants.{Source, Authority, Request, Rounded, Moved, Representable}
+use Rattle.cap_report.specs.declared.parts.Part.TheVariants.{Access, Needs, Gives, Cleared, Recorded, Differs}
 
 -- a field's name, where it differs
 abbrev pub where_different : Bool → List ℕ → List ℕ

@@ -1,7 +1,6 @@
 -- What a clause reads of a `TextSink`. All of it is this profile's own.
 use Rattle.std.specs.Prelude.{◌≡◌, ℕ, List}
-use Rattle.cap_report.specs.Texts.{IsTold}
-use Rattle.cap_report.specs.declared.texts.TextSink.{TextSink}
+use Rattle.cap_report.specs.{declared.texts.TextSink.TextSink, Texts.IsTold}
 
 -- the bytes of a sink's room
 abbrev pub bytes_in : TextSink → List ℕ

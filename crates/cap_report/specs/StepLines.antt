@@ -1,28 +1,18 @@
 -- What the report on a step shows (this profile's own).
-use Rattle.std.specs.Prelude.{ℕ, ◌+◌, ◌*◌, ◌%◌, ◌^◌, nat_le, if◌then◌else◌, List, [], ◌∷◌, ◌++◌, Option, Some, None, codes}
-use Rattle.cap_word.specs.Digits.{hex_digits}
-use Rattle.cap_word.specs.Fields.{address_of}
-use Rattle.cap_bounds.specs.Bounds.{base_of, top_of, cut_exponent_of, window_size}
-use Rattle.cap_bounds.specs.Range.{window_start, with_address}
+use Rattle.std.specs.Prelude.{ℕ, ◌+◌, ◌*◌, ◌%◌, ◌^◌, nat_le, if◌then◌else◌, List, [], ◌∷◌, ◌++◌, Option, Some, None}
+use Rattle.std.specs.Prelude.{codes}
+use Rattle.cap_word.specs.{Digits.hex_digits, Fields.address_of}
+use Rattle.cap_bounds.specs.{Bounds.{base_of, top_of, cut_exponent_of, window_size}, Range.{window_start, with_address}}
 use Rattle.cap_bounds.specs.Rounding.{rounded_base, rounded_top}
-use Rattle.cap_log.specs.declared.lines.Place.{Place}
-use Rattle.cap_log.specs.declared.lines.Place.TheVariants.{Register}
-use Rattle.cap_log.specs.declared.kinds.Step.{Step}
-use Rattle.cap_ops.specs.declared.refusal.Refusal.{Refusal}
-use Rattle.cap_ops.specs.declared.refusal.Refusal.TheVariants.{WrongResult}
-use Rattle.cap_machine.specs.Accounts.{Account}
-use Rattle.cap_machine.specs.States.{key_of}
-use Rattle.cap_machine.specs.Shown.{shown_of}
-use Rattle.cap_machine.specs.declared.shown.Given.{Given}
-use Rattle.cap_machine.specs.declared.shown.Given.TheVariants.{Capability, Number, Nothing}
-use Rattle.cap_machine.specs.declared.shown.Reached.{Reached}
-use Rattle.cap_machine.specs.declared.shown.Request.{Request}
-use Rattle.cap_machine.specs.declared.shown.Request.TheVariants as requests
-use Rattle.cap_machine.specs.declared.shown.Shown.{Shown}
+use Rattle.cap_ops.specs.declared.refusal.Refusal.{Refusal, TheVariants.WrongResult}
+use Rattle.cap_log.specs.declared.{kinds.Step.Step, lines.Place.{Place, TheVariants.Register}}
 use Rattle.cap_texts.specs.TextLines.{text_line}
-use Rattle.cap_report.specs.declared.parts.Part.{Part}
+use Rattle.cap_machine.specs.declared.shown.{Given.{Given, TheVariants.{Capability, Number, Nothing}}, Reached.Reached}
+use Rattle.cap_machine.specs.{declared.shown.{Request.Request, Shown.Shown}, Accounts.Account, Shown.shown_of}
+use Rattle.cap_machine.specs.States.{key_of}
+use Rattle.cap_machine.specs.declared.shown.Request.TheVariants as requests
+use Rattle.cap_report.specs.{declared.parts.Part.Part, Parts.lines_of_parts}
 use Rattle.cap_report.specs.declared.parts.Part.TheVariants as parts
-use Rattle.cap_report.specs.Parts.{lines_of_parts}
 
 -- what a place holds as a source, and the place of the root of that
 abbrev pub source_part : Account → Place → Part

@@ -1,6 +1,6 @@
 -- A text that is written where there is room for it (this profile's own, as are all below).
-use Rattle.std.proofs.Common.{◌≡◌, ℕ, ◌+◌, ◌-◌, ◌^◌, ◌≤◌, ◌<◌, List, [], ◌++◌, length, refl, arith}
-use Rattle.std.proofs.lemmas.List.{length-append}
+use Rattle.std.specs.Prelude.{◌≡◌, ℕ, ◌+◌, ◌-◌, ◌^◌, ◌≤◌, ◌<◌, List, [], ◌++◌, length, refl}
+use Rattle.std.proofs.{Common.arith, lemmas.List.length-append}
 use Rattle.cap_log.specs.Written.{WritesInside, WritesInside-nothing, WritesInside-joined}
 
 -- a text is counted behind what was counted before, up to 2 ^ 64 - 1, and stands behind that where it fits

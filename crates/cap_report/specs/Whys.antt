@@ -1,14 +1,9 @@
 -- What a judge that explains a no writes (this profile's own).
 use Rattle.std.specs.Prelude.{◌≡◌, ℕ, Bool, true, false, List, [], ◌++◌, Option, None, Some, if◌then◌else◌}
-use Rattle.cap_judge.specs.declared.verdict.Verdict.{Verdict}
-use Rattle.cap_judge.specs.declared.verdict.Verdict.TheVariants.{Yes, No}
 use Rattle.cap_machine.specs.Helds.{Held, account_of}
-use Rattle.cap_judge.specs.Judgings.{IsVerdictOf}
-use Rattle.cap_judge.specs.OriginLists.{report_text}
-use Rattle.cap_judge.specs.Readings.{BeginsWhole}
+use Rattle.cap_judge.specs.{declared.verdict.Verdict.{Verdict, TheVariants.{Yes, No}}, Judgings.IsVerdictOf}
+use Rattle.cap_judge.specs.{OriginLists.report_text, Readings.BeginsWhole, Reports.Tells, VerdictLines.verdict_line}
 use Rattle.cap_report.specs.FaultReports.{IsLineReport, IsReport}
-use Rattle.cap_judge.specs.Reports.{Tells}
-use Rattle.cap_judge.specs.VerdictLines.{verdict_line}
 
 -- the text that belongs to a verdict on bytes, with the report of a no: after a yes it is that of a judge that may be
 -- asked for origins, and after a no the verdict's line and the report of the first fault, which stands whatever bytes

@@ -2,19 +2,12 @@
 
 ghost use Rattle.std.specs.Prelude.{◌≡◌, ◌≢◌, ◌≤◌, ℕ, List, ◌++◌, length, take, true, Err, Option, IfOk, OnOk, OnErr};
 ghost use Rattle.std.specs.FinMap as map;
-ghost use Rattle.cap_log.specs.Front.{IsCut};
-ghost use Rattle.cap_log.specs.Streams.{CountsFault, CountsOnly};
+ghost use Rattle.cap_log.specs.{declared.judge_faults.JudgeToFault.TheVariants.{Pull, Push}, FaultLines.bytes_of};
+ghost use Rattle.cap_log.specs.{Front.IsCut, Streams.{CountsFault, CountsOnly}};
 ghost use Rattle.cap_machine.specs.Helds.{account_of};
-ghost use Rattle.cap_log.specs.FaultLines.{bytes_of};
-ghost use Rattle.cap_report.specs.FaultReports.{IsLineReport};
-ghost use Rattle.cap_judge.specs.Readings.{HasRead};
-ghost use Rattle.cap_judge.specs.Reports.{IsPushedFor, Reported};
-ghost use Rattle.cap_judge.specs.VerdictLines.{verdict_line};
-ghost use Rattle.cap_judge.specs.Verdicts.{NamesEscapes};
-ghost use Rattle.cap_report.specs.Whys.{Explains, ExplainsEnd, ExplainsSoFar, IsWhyText};
-ghost use Rattle.cap_log.specs.declared.judge_faults.JudgeToFault.TheVariants.{Pull, Push};
-ghost use Rattle.cap_judge.specs.declared.verdict.Verdict.{Verdict};
-ghost use Rattle.cap_judge.specs.declared.verdict.Verdict.TheVariants.{No};
+ghost use Rattle.cap_judge.specs.{declared.verdict.Verdict.{Verdict, TheVariants.No}, Readings.HasRead};
+ghost use Rattle.cap_judge.specs.{Reports.{IsPushedFor, Reported}, VerdictLines.verdict_line, Verdicts.NamesEscapes};
+ghost use Rattle.cap_report.specs.{FaultReports.IsLineReport, Whys.{Explains, ExplainsEnd, ExplainsSoFar, IsWhyText}};
 
 use crate::fault_reports::put_report;
 use cap_judge::{

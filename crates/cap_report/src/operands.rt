@@ -1,9 +1,7 @@
 //! The operands of a step, as parts of the report on it: what places hold, and from which root that comes.
 
-ghost use Rattle.std.specs.Prelude.{◌≡◌, ◌≤◌};
-ghost use Rattle.cap_machine.specs.Helds.{account_of, state_of};
-ghost use Rattle.cap_machine.specs.Shown.{IsRead};
-ghost use Rattle.cap_machine.specs.States.{key_of};
+ghost use Rattle.std.specs.Prelude.{◌≡◌};
+ghost use Rattle.cap_machine.specs.{Helds.{account_of, state_of}, Shown.IsRead, States.key_of};
 ghost use Rattle.cap_report.specs.StepLines.{authority_part};
 
 use crate::parts::Part;

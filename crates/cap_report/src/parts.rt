@@ -2,8 +2,7 @@
 
 ghost use Rattle.std.specs.Prelude.{◌+◌, ◌*◌, ◌≤◌, length};
 ghost use Rattle.cap_log.specs.Parts.{Writes};
-ghost use Rattle.cap_report.specs.Parts.{cleared_line, differs_line, lines_of_parts, part_lines};
-ghost use Rattle.cap_report.specs.Parts.{where_different};
+ghost use Rattle.cap_report.specs.Parts.{cleared_line, differs_line, lines_of_parts, part_lines, where_different};
 
 use cap_log::Place;
 use cap_log::buffers::{put, put_decimal};

@@ -1,16 +1,12 @@
 //! The report on a step: what it read and asked for, and where its line records another result, what the
 //! rules give.
 
-ghost use Rattle.std.specs.Prelude.{◌≡◌, ◌+◌, ◌*◌, ◌<◌, ◌≤◌, ◌++◌, ◌∷◌, [], Some, None, IfSome, length};
-ghost use Rattle.cap_bounds.specs.Bounds.{base_of, top_of};
-ghost use Rattle.cap_bounds.specs.Range.{with_address};
-ghost use Rattle.cap_bounds.specs.Rounding.{rounded_base, rounded_top};
+ghost use Rattle.std.specs.Prelude.{◌≡◌, ◌+◌, ◌*◌, ◌<◌, ◌≤◌, ◌∷◌, [], Some, None, IfSome, length};
+ghost use Rattle.cap_bounds.specs.{Bounds.{base_of, top_of}, Range.with_address, Rounding.{rounded_base, rounded_top}};
 ghost use Rattle.cap_log.specs.Parts.{Writes};
-ghost use Rattle.cap_machine.specs.Helds.{account_of};
-ghost use Rattle.cap_machine.specs.Shown.{IsRead, IsShown};
+ghost use Rattle.cap_machine.specs.{Helds.account_of, Shown.{IsRead, IsShown}};
 ghost use Rattle.cap_machine.specs.declared.shown.Given.TheVariants as givens;
-ghost use Rattle.cap_report.specs.Parts.{lines_of_parts};
-ghost use Rattle.cap_report.specs.StepLines.{access_parts, asked_parts, given_lines};
+ghost use Rattle.cap_report.specs.{Parts.lines_of_parts, StepLines.{access_parts, asked_parts, given_lines}};
 ghost use Rattle.cap_report.specs.StepLines.{operand_parts, range_part, request_parts, step_lines};
 ghost use Rattle.cap_report.specs.declared.parts.Part.TheVariants as parts;
 

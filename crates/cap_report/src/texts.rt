@@ -1,9 +1,8 @@
 //! A text in the room that C has for it.
 
-ghost use Rattle.std.specs.Prelude.{◌≡◌, ℕ, ◌+◌, ◌≤◌, ◌<◌, ◌^◌, List, [], ◌++◌, length, take, IfOk, IsOk, OnErr};
-ghost use Rattle.std.proofs.Common.{refl, ◌∙◌, rules};
-ghost use Rattle.cap_log.specs.Streams.{CountsFault};
-ghost use Rattle.cap_log.specs.Written.{WritesInside};
+ghost use Rattle.std.specs.Prelude.{◌≡◌, ◌+◌, ◌≤◌, ◌<◌, ◌^◌, [], length, take, IfOk, IsOk, OnErr, refl};
+ghost use Rattle.std.proofs.Common.{◌∙◌, rules};
+ghost use Rattle.cap_log.specs.{Streams.CountsFault, Written.WritesInside};
 ghost use Rattle.cap_report.specs.Texts.{IsTold-nothing, IsTold-joined};
 
 use cap_log::{PushFault, Sink};

@@ -1,7 +1,6 @@
 -- What follows a field of a line.
-use Rattle.std.proofs.Common.{◌≡◌, ℕ, ◌*◌, List, ◌∷◌, ◌++◌, drop, Option, sym, ap, ◌∙◌, inl, inr, codes}
-use Rattle.std.proofs.lemmas.List.{drop_at}
-use Rattle.std.specs.Prelude.{IfNone, Some, None}
+use Rattle.std.proofs.Common.{◌≡◌, ℕ, ◌*◌, List, ◌∷◌, ◌++◌, drop, Option, sym, ap, ◌∙◌, inl, inr, codes, drop_at}
+use Rattle.std.proofs.Common.{IfNone, Some, None}
 use Rattle.cap_word.specs.Digits.{hex_digits}
 use Rattle.cap_word.proofs.DigitLemmas.{length-hex_digits}
 use Rattle.cap_texts.specs.Fields.{StandsTop, StandsValue, bytes_of_size}

@@ -1,16 +1,11 @@
 -- The bytes of a word in memory as text.
-use Rattle.std.proofs.Common.{◌≡◌, ℕ, zero, suc, ◌+◌, ◌*◌, ◌/◌, ◌%◌, ◌^◌, ◌<◌, ◌≤◌, List, [], ◌∷◌, length, refl, sym}
-use Rattle.std.proofs.Common.{ap, subst, ◌∙◌, arith, lit<}
-use Rattle.std.proofs.Math.Nat.{div-one, pow-suc, mul-add-div_right, mul-le-mul_right, div-div-eq-div-mul}
-use Rattle.std.proofs.lemmas.Nat.{div-mul-add}
 use Rattle.std.specs.Int.{bytes_high_first}
-use Rattle.std.specs.Prelude.{bit_xor}
+use Rattle.std.proofs.Common.{◌≡◌, ℕ, zero, suc, ◌+◌, ◌*◌, ◌/◌, ◌%◌, ◌^◌, ◌<◌, ◌≤◌, List, [], ◌∷◌, length, refl, sym}
+use Rattle.std.proofs.Common.{ap, subst, ◌∙◌, arith, lit<, div-one, pow-suc, mul-le-mul_right, bit_xor}
+use Rattle.std.proofs.{Math.Nat.{mul-add-div_right, div-div-eq-div-mul}, lemmas.Nat.div-mul-add}
 use Rattle.hex.specs.Hex.{encode_with, encode_lower, IsBytes}
-use Rattle.cap_word.specs.Digits.{hex_digit, hex_digits}
-use Rattle.cap_word.specs.Memory.{low_bytes, memory_of}
-use Rattle.cap_word.specs.Word.{null_word}
-use Rattle.cap_word.proofs.Bytes.{length-memory_of}
-use Rattle.cap_word.proofs.DigitLemmas.{hex_of_bytes, IsBytes-bytes_high_first}
+use Rattle.cap_word.specs.{Digits.{hex_digit, hex_digits}, Memory.{low_bytes, memory_of}, Word.null_word}
+use Rattle.cap_word.proofs.{Bytes.length-memory_of, DigitLemmas.{hex_of_bytes, IsBytes-bytes_high_first}}
 use Rattle.cap_word.proofs.ReadingLemmas.{pow_pos_16}
 use Rattle.cap_texts.specs.TextLines.{bytes_text}
 

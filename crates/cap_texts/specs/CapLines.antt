@@ -1,12 +1,9 @@
 -- The lines that show a capability of a report (this profile's own).
 use Rattle.std.specs.Prelude.{ℕ, List, [], ◌++◌, Option, Some, None, codes}
-use Rattle.cap_word.specs.Digits.{hex_digits}
-use Rattle.cap_word.specs.Fields.{otype_of}
-use Rattle.cap_word.specs.declared.word.Cap.{Cap}
-use Rattle.cap_log.specs.declared.lines.Place.{Place}
-use Rattle.cap_log.specs.Lines.{place_spelling, tag_spelling}
+use Rattle.cap_word.specs.{declared.word.Cap.Cap, Digits.hex_digits, Fields.otype_of}
 use Rattle.cap_bounds.specs.Bounds.{base_of, top_of}
 use Rattle.cap_ops.specs.Permissions.{perm_view_of}
+use Rattle.cap_log.specs.{declared.lines.Place.Place, Lines.{place_spelling, tag_spelling}}
 use Rattle.cap_texts.specs.ExplainLines.{type_name}
 
 -- its place, tag and word

@@ -1,8 +1,7 @@
 -- The text that explains a word.
 use Rattle.std.specs.Prelude.{ℕ, Bool, ◌==◌, nat_lt, if◌then◌else◌, List, ◌++◌, codes, decimal}
-use Rattle.cap_word.specs.Digits.{hex_digits}
-use Rattle.cap_word.specs.Fields.{bit_of, reserved_of, flag_of, otype_of, ie_of, e_of, b_of, t_of, address_of}
-use Rattle.cap_word.specs.Memory.{memory_of}
+use Rattle.cap_word.specs.{Digits.hex_digits, Fields.{bit_of, reserved_of, flag_of, otype_of, ie_of, e_of, b_of, t_of}}
+use Rattle.cap_word.specs.{Fields.address_of, Memory.memory_of}
 use Rattle.cap_bounds.specs.Bounds.{mantissa_of, base_of, top_of, is_sound}
 use Rattle.cap_ops.specs.Permissions.{perm_view_of, unsealed_type, greatest_type}
 use Rattle.cap_texts.specs.TextLines.{text_line, yes_or_no, bytes_text}

@@ -1,17 +1,13 @@
 -- The fields of a line, and the first of them that is wrong. All of it is this profile's own.
 use Rattle.std.specs.Prelude.{◌≡◌, ◌==◌, if◌then◌else◌, ◌⊎◌, ℕ, ◌*◌, ◌^◌, ◌<◌, List, [], ◌∷◌, ◌++◌, Contains, codes}
-use Rattle.std.specs.Fmt.{signed_decimal}
-use Rattle.cap_word.specs.Digits.{hex_digits}
-use Rattle.cap_word.specs.declared.word.Word.{Word}
-use Rattle.cap_log.specs.declared.lines.Mode.{Mode as ModeOf}
-use Rattle.cap_log.specs.declared.lines.Place.{Place as PlaceOf}
+use Rattle.std.specs.{Prelude.{decimal, ℤ}, Fmt.signed_decimal}
+use Rattle.cap_word.specs.{declared.word.Word.Word, Digits.hex_digits}
+use Rattle.cap_log.specs.declared.lines.{Mode.Mode as ModeOf, Place.Place as PlaceOf}
 use Rattle.cap_log.specs.Lines.{IsPlace, IsWord, IsNumber, place_spelling, register_spelling, mode_spelling}
-use Rattle.cap_log.specs.Parts.{Begins, IsCount, IsMode}
-use Rattle.cap_log.specs.Ranges.{IsOffset, IsRegisterFrom}
-use Rattle.cap_texts.specs.declared.fields.Field.{Field}
-use Rattle.cap_texts.specs.declared.fields.Field.TheVariants.{LogName, HeapName, LogVersion, HeapVersion, Mode, Place, Target, Register, Number}
-use Rattle.cap_texts.specs.declared.fields.Field.TheVariants.{Top, Offset, Size, Equals, Value, Tag, Word as WordField, Count}
-use Rattle.std.specs.Prelude.{decimal, ℤ}
+use Rattle.cap_log.specs.{Parts.{Begins, IsCount, IsMode}, Ranges.{IsOffset, IsRegisterFrom}}
+use Rattle.cap_texts.specs.declared.fields.Field.{Field, TheVariants.{LogName, HeapName, LogVersion, HeapVersion, Mode}}
+use Rattle.cap_texts.specs.declared.fields.Field.TheVariants.{Place, Target, Register, Number, Top, Offset, Size}
+use Rattle.cap_texts.specs.declared.fields.Field.TheVariants.{Equals, Value, Tag, Word as WordField, Count}
 
 -- one of these digits, the byte that ends it, and a rest
 abbrev pub StandsDigit : List ℕ → ℕ → List ℕ → List ℕ → Type 0

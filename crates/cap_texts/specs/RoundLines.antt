@@ -1,7 +1,6 @@
 -- The text of a rounding.
 use Rattle.std.specs.Prelude.{ℕ, List, ◌++◌, codes, decimal}
-use Rattle.cap_word.specs.Digits.{hex_digits}
-use Rattle.cap_word.specs.Fields.{bit_of}
+use Rattle.cap_word.specs.{Digits.hex_digits, Fields.bit_of}
 use Rattle.cap_bounds.specs.declared.rounding.Rounded.{Rounded}
 use Rattle.cap_texts.specs.TextLines.{text_line, yes_or_no}
 

@@ -1,9 +1,7 @@
 -- The lines that say which word of a line is wrong, and what is expected there. All of it is this profile's own.
-use Rattle.std.specs.Prelude.{ℕ, ◌+◌, ◌-◌, ◌==◌, ◌&&◌, nat_le, nat_lt, if◌then◌else◌, List, [], ◌∷◌, ◌++◌, length, take, slice_index, codes, decimal}
-use Rattle.cap_texts.specs.declared.fields.Field.{Field}
-use Rattle.cap_texts.specs.Fields.{expected_text}
-use Rattle.cap_texts.specs.ShownBytes.{shown}
-use Rattle.cap_texts.specs.TextLines.{text_line}
+use Rattle.std.specs.Prelude.{ℕ, ◌+◌, ◌-◌, ◌==◌, ◌&&◌, nat_le, nat_lt, if◌then◌else◌, List, [], ◌∷◌, ◌++◌, length, take}
+use Rattle.std.specs.Prelude.{slice_index, codes, decimal}
+use Rattle.cap_texts.specs.{declared.fields.Field.Field, Fields.expected_text, ShownBytes.shown, TextLines.text_line}
 
 -- what has to follow a word that this byte ends
 abbrev pub end_text : ℕ → List ℕ

@@ -4,8 +4,7 @@
 ghost use Rattle.std.specs.Prelude.{◌+◌, ◌≤◌, length};
 ghost use Rattle.cap_log.specs.Parts.{Writes};
 ghost use Rattle.cap_texts.specs.CapLines.{bounds_line, cap_lines, cap_line, descent_line, descent_lines};
-ghost use Rattle.cap_texts.specs.CapLines.{operand_lines, perms_line, type_line};
-ghost use Rattle.cap_texts.specs.ExplainLines.{type_name};
+ghost use Rattle.cap_texts.specs.{CapLines.{operand_lines, perms_line, type_line}, ExplainLines.type_name};
 
 use crate::explain_lines::type_name;
 use cap_bounds::{Interval, bounds};

@@ -1,11 +1,10 @@
 //! The text that explains a capability.
 
 ghost use Rattle.std.specs.Prelude.{◌≡◌, ◌+◌, ◌≤◌, ◌++◌, codes, length, take, drop};
-ghost use Rattle.cap_word.specs.Digits.{hex_digits};
-ghost use Rattle.cap_word.specs.Memory.{memory_of};
+ghost use Rattle.cap_word.specs.{Digits.hex_digits, Memory.memory_of};
 ghost use Rattle.cap_log.specs.Parts.{Writes};
-ghost use Rattle.cap_texts.specs.ExplainLines.{bounds_lines, explain_lines, mantissa_lines, permission_lines, type_name, word_lines};
-ghost use Rattle.cap_texts.specs.TextLines.{bytes_text, text_line};
+ghost use Rattle.cap_texts.specs.ExplainLines.{bounds_lines, explain_lines, mantissa_lines, permission_lines};
+ghost use Rattle.cap_texts.specs.{ExplainLines.{type_name, word_lines}, TextLines.{bytes_text, text_line}};
 
 use crate::text_lines::{put_answer_line, put_decimal_line, put_hex_line, put_line};
 use cap_bounds::{Interval, bounds, mantissa, sound};

@@ -2,7 +2,8 @@
 
 ghost use Rattle.std.specs.Prelude.{◌≡◌, ◌≤◌, ◌∷◌, ◌++◌, ℕ, List, IfNone, IfSome, codes, length};
 ghost use Rattle.cap_log.specs.Parts.{Begins, BeginsWithNone, IsEnd};
-ghost use Rattle.cap_texts.specs.Fields.{AllStand, IsFirstWrong, Stands, StandsDigit, StandsValue, StandsTop, bytes_of_size, end_of, expected_text, size_after};
+ghost use Rattle.cap_texts.specs.Fields.{AllStand, IsFirstWrong, Stands, StandsDigit, StandsValue, StandsTop};
+ghost use Rattle.cap_texts.specs.Fields.{bytes_of_size, end_of, expected_text, size_after};
 
 use cap_log::{Mode, Offset, Part, Place, Register, Target};
 use cap_word::{Word, take_bytes};

@@ -1,9 +1,9 @@
 //! The lines that say which word of a line is wrong, and what is expected there.
 
-ghost use Rattle.std.specs.Prelude.{◌≡◌, ◌+◌, ◌-◌, ◌≤◌, ◌++◌, codes, decimal, length, take};
+ghost use Rattle.std.specs.Prelude.{◌≡◌, ◌+◌, ◌-◌, ◌≤◌, ◌++◌, codes, length};
 ghost use Rattle.cap_log.specs.Parts.{Writes};
-ghost use Rattle.cap_texts.specs.TextLines.{text_line};
-ghost use Rattle.cap_texts.specs.WrongLines.{end_text, found_line, header_lines, hint_line, hint_of, mark_hint, wrong_lines};
+ghost use Rattle.cap_texts.specs.{TextLines.text_line, WrongLines.{end_text, found_line, header_lines, hint_line}};
+ghost use Rattle.cap_texts.specs.WrongLines.{hint_of, mark_hint, wrong_lines};
 
 use crate::fields::{Wrong, expected_text};
 use crate::shown_bytes::put_shown_text;

@@ -1,20 +1,15 @@
 -- Where the check of a vector file is, and what it may answer there.
 use Rattle.std.proofs.Common.{◌≡◌, ◌≢◌, ℕ, ◌+◌, ◌<◌, inl, inr, Bool, true, false, List, [], ◌∷◌, ◌++◌, refl, sym, ap}
-use Rattle.std.proofs.Common.{subst, ◌∙◌, append-nil, append_assoc, arith, lit<, Result, Ok, Err}
-use Rattle.std.proofs.lemmas.Grind.{flat_map-append}
-use Rattle.cap_log.specs.Front.{IsLine, FrontIs}
-use Rattle.cap_log.specs.Takings.{IsNext, Answered, kept, over_of}
-use Rattle.cap_log.specs.declared.taking.Lines.{Lines}
-use Rattle.cap_log.specs.declared.taking.Next.{Next}
+use Rattle.std.proofs.Common.{subst, ◌∙◌, append-nil, append_assoc, arith, Result, Ok, Err}
+use Rattle.std.proofs.lemmas.{Grind.flat_map-append, List.length_push}
+use Rattle.cap_log.specs.declared.{sources.PullFault.PullFault, taking.{Lines.Lines, Next.Next}}
 use Rattle.cap_log.specs.declared.taking.Next.TheVariants.{Line, LineTooLong, Truncated, Finished}
-use Rattle.cap_log.specs.declared.sources.PullFault.{PullFault}
-use Rattle.cap_vectors.specs.declared.files.VectorVerdict.{VectorVerdict}
-use Rattle.cap_vectors.specs.declared.files.VectorVerdict.TheVariants.{Pass, Fail}
+use Rattle.cap_log.specs.{Front.{IsLine, FrontIs}, Takings.{IsNext, Answered, kept, over_of}}
+use Rattle.cap_log.proofs.{ElementLemmas.AllByRecursion-append, FrontLemmas.{IsLine-more, IsTooLong-more}}
+use Rattle.cap_vectors.specs.declared.files.VectorVerdict.{VectorVerdict, TheVariants.{Pass, Fail}}
+use Rattle.cap_vectors.specs.VectorFiles.{vector_text_of, last_line, BeginsTrue, FailsWhole, FailsFirst}
+use Rattle.cap_vectors.specs.VectorFiles.{IsVectorVerdictOf, Checked}
 use Rattle.cap_vectors.specs.Vectors.{Vector, IsTrueVector, IsTrueLine, vector_spelling}
-use Rattle.cap_vectors.specs.VectorFiles.{vector_text_of, last_line, BeginsTrue, FailsWhole, FailsFirst, IsVectorVerdictOf, Checked}
-use Rattle.cap_log.proofs.FrontLemmas.{IsLine-more, IsTooLong-more}
-use Rattle.std.proofs.lemmas.List.{length_push}
-use Rattle.cap_log.proofs.ElementLemmas.{AllByRecursion-append}
 
 -- more bytes behind all
 pub begins_more : (bytes rest more : List ℕ) (count : ℕ) → BeginsTrue bytes count rest → BeginsTrue (bytes ++ more) count (rest ++ more)

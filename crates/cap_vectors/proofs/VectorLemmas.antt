@@ -1,13 +1,12 @@
 -- The lines of vectors: where their operands stand, and that operands have one true line.
 use Rattle.std.proofs.Common.{◌≡◌, ℕ, ◌+◌, ◌-◌, Bool, List, ◌++◌, length, take, drop, codes, decimal, sym, ap, subst}
-use Rattle.std.proofs.Common.{◌∙◌, arith, append_assoc}
+use Rattle.std.proofs.Common.{◌∙◌, arith, append_assoc, drop_at, length-append, take_at}
 use Rattle.std.proofs.lemmas.Bool.Decides.{same_from_decides}
-use Rattle.std.proofs.lemmas.List.{drop_at, length-append, take_at}
 use Rattle.cap_word.specs.Digits.{hex_digits}
 use Rattle.cap_word.proofs.DigitLemmas.{length-hex_digits}
+use Rattle.cap_log.specs.Lines.{tag_spelling}
 use Rattle.cap_texts.specs.TextLines.{bytes_text}
 use Rattle.cap_vectors.specs.Vectors.{Bounds, Keeps, Round, Memory, Holds, IsLineOf, vector_spelling}
-use Rattle.cap_log.specs.Lines.{tag_spelling}
 
 -- what stands behind a front, as a slice
 pub slice_at : (line front middle rest : List ℕ) (at k : ℕ) → line ≡ front ++ (middle ++ rest) → length front ≡ at → length middle ≡ k

@@ -1,10 +1,8 @@
 -- The lines of a vector file: what a word decodes to, whether an address keeps a word's bounds, how a request is
 -- rounded, and the bytes of a word in memory. All of it is this profile's own.
 use Rattle.std.specs.Prelude.{◌≡◌, ℕ, ◌+◌, ◌^◌, ◌<◌, ◌≤◌, ◌↔◌, Bool, List, ◌++◌, length, All, IsTrue, codes, decimal}
-use Rattle.cap_word.specs.Digits.{hex_digits}
-use Rattle.cap_word.specs.Memory.{memory_of}
-use Rattle.cap_bounds.specs.Bounds.{base_of, top_of, IsSound}
-use Rattle.cap_bounds.specs.Range.{KeepsBounds}
+use Rattle.cap_word.specs.{Digits.hex_digits, Memory.memory_of}
+use Rattle.cap_bounds.specs.{Bounds.{base_of, top_of, IsSound}, Range.KeepsBounds}
 use Rattle.cap_bounds.specs.Rounding.{rounded_base, rounded_top, rounded_ie, rounded_exponent, IsExact}
 use Rattle.cap_log.specs.Lines.{tag_spelling}
 use Rattle.cap_texts.specs.TextLines.{bytes_text}

@@ -2,8 +2,7 @@
 
 ghost use Rattle.std.specs.Prelude.{◌≢◌, MatchBool};
 ghost use Rattle.cap_log.specs.Streams.{CountsFault};
-ghost use Rattle.cap_vectors.specs.VectorFiles.{Checked, FailsWhole, last_line};
-ghost use Rattle.cap_vectors.specs.Vectors.{IsTrueLine};
+ghost use Rattle.cap_vectors.specs.{VectorFiles.{Checked, FailsWhole, last_line}, Vectors.IsTrueLine};
 
 use crate::stating::is_true_line;
 use cap_log::{Lines, Next, PullFault, Source};

@@ -1,12 +1,11 @@
 //! Writing the one true line that has given operands.
 
-ghost use Rattle.std.specs.Prelude.{◌≡◌, ℕ, ◌+◌, ◌^◌, ◌≤◌, ◌++◌, Bool, length, take, codes, decimal};
-ghost use Rattle.cap_word.specs.Digits.{hex_digits};
-ghost use Rattle.cap_word.specs.Memory.{memory_of};
+ghost use Rattle.std.specs.Prelude.{◌≡◌, ◌+◌, ◌^◌, ◌≤◌, ◌++◌, Bool, length, take, codes, decimal};
+ghost use Rattle.cap_word.specs.{Digits.hex_digits, Memory.memory_of};
 ghost use Rattle.cap_bounds.specs.Bounds.{base_of, top_of};
 ghost use Rattle.cap_bounds.specs.Rounding.{rounded_base, rounded_top, rounded_ie, rounded_exponent};
-ghost use Rattle.cap_vectors.specs.Vectors.{Bounds, Keeps, Round, Memory, IsLineOf};
 ghost use Rattle.cap_log.specs.Lines.{tag_spelling};
+ghost use Rattle.cap_vectors.specs.Vectors.{Bounds, Keeps, Round, Memory, IsLineOf};
 
 use cap_bounds::{Interval, Rounded, bounds, keeps_bounds, round, sound};
 use cap_log::buffers::{put, put_decimal, put_flag, put_hex};

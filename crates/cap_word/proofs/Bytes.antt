@@ -1,15 +1,11 @@
 -- A word and its sixteen bytes in memory: each gives the other back.
-use Rattle.std.proofs.Common.{◌≡◌, ◌+◌, ◌*◌, ◌/◌, ◌%◌, ◌^◌, ◌<◌, ◌∷◌, ◌∙◌}
-use Rattle.std.proofs.Common.{ℕ, zero, suc, List, [], length, get_or, drop, sym, ap, refl, arith}
-use Rattle.std.proofs.Common.{lit<}
-use Rattle.std.proofs.Math.Nat.{div-div-eq-div-mul, pow-suc, pow-zero, pow-succ', div-one}
-use Rattle.std.proofs.lemmas.Nat.{xor_lt, pow-add}
-use Rattle.std.proofs.lemmas.List.{at_drop_more, at_drop_all}
-use Rattle.std.specs.Prelude.{bit_xor}
 use Rattle.std.specs.Int.{w128, to_le_bytes, from_le_bytes, bytes_low_first, byte_at}
 use Rattle.std.specs.Int.Bits.{xor_assoc, xor_self, xor_zero_r}
-use Rattle.cap_word.specs.Word.{null_word}
-use Rattle.cap_word.specs.Memory.{low_bytes, number_of, memory_byte, memory_of, stored_word}
+use Rattle.std.proofs.Common.{◌≡◌, ◌+◌, ◌*◌, ◌/◌, ◌%◌, ◌^◌, ◌<◌, ◌∷◌, ◌∙◌, ℕ, zero, suc, List, [], length, get_or, drop}
+use Rattle.std.proofs.Common.{sym, ap, refl, arith, lit<, pow-suc, div-one, pow-add, bit_xor}
+use Rattle.std.proofs.{Math.Nat.{div-div-eq-div-mul, pow-zero, pow-succ'}, lemmas.List.{at_drop_more, at_drop_all}}
+use Rattle.std.proofs.lemmas.Nat.{xor_lt}
+use Rattle.cap_word.specs.{Memory.{low_bytes, number_of, memory_byte, memory_of, stored_word}, Word.null_word}
 
 xor_twice : (a b : ℕ) → bit_xor (bit_xor a b) b ≡ a
 xor_twice a b = xor_assoc a b b ∙ ap (bit_xor a) (xor_self b) ∙ xor_zero_r a

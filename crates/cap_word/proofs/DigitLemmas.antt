@@ -1,9 +1,8 @@
 -- Hexadecimal digits of a fixed number: their length, their parts, and that they name one number.
-use Rattle.std.proofs.Common.{◌≡◌, ℕ, zero, suc, ◌+◌, ◌-◌, ◌*◌, ◌/◌, ◌%◌, ◌^◌, ◌<◌, ◌≤◌, ◌∷◌, length, take}
-use Rattle.std.proofs.Common.{ap, sym, subst, ◌∙◌, refl, arith, lit<}
-use Rattle.std.proofs.lemmas.Nat.{pow-add, pow_pos}
-use Rattle.std.proofs.Math.Nat as nat
 use Rattle.std.specs.Int.{byte_at, bytes_high_first}
+use Rattle.std.proofs.Common.{◌≡◌, ℕ, zero, suc, ◌+◌, ◌-◌, ◌*◌, ◌/◌, ◌%◌, ◌^◌, ◌<◌, ◌≤◌, ◌∷◌, length, take, ap, sym}
+use Rattle.std.proofs.Common.{subst, ◌∙◌, refl, arith, lit<, pow-add, pow_pos}
+use Rattle.std.proofs.Math.Nat as nat
 use Rattle.hex.specs.Hex.{encode_with, encode_lower, IsBytes}
 use Rattle.cap_word.specs.Digits.{hex_digit, hex_digits}
 use Rattle.cap_word.proofs.Bytes.{byte_at_is}

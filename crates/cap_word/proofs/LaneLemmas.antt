@@ -1,20 +1,17 @@
 -- Lanes that were computed one by one from the bytes, and what their mask says.
-use Rattle.std.proofs.Common.{◌≡◌, ◌+◌, ◌-◌, ◌*◌, ◌/◌, ◌%◌, ◌^◌, ◌<◌, ◌≤◌, ◌||◌, ◌∷◌, ◌++◌, ◌∙◌}
-use Rattle.std.proofs.Common.{ℕ, suc, zero, Bool, true, false, not, cond, eqb, ltb, List, [], map}
-use Rattle.std.proofs.Common.{length, take, get_or, replicate, Fits, w8, inl, inr, refl, sym, ap, arith}
-use Rattle.std.proofs.lemmas.Bool.{agree_below, agree_below_at, cases_lt, eqb-true, false≢true, not-false, lt-ltb, ltb-true}
-use Rattle.std.proofs.lemmas.List.{get_or-map, get_or-take, get_or_past, length-map, get_or_append_left}
-use Rattle.std.proofs.lemmas.List.FromFn.{get_or-map-range_with_len}
 use Rattle.std.specs.List.{range_with_len}
-use Rattle.hex.specs.Hex.{encode_with, encode_lower}
-use lib.Lanes.{Each1, sel_l, mask_l, zip2, top}
+use Rattle.std.proofs.Common.{◌≡◌, ◌+◌, ◌-◌, ◌*◌, ◌/◌, ◌%◌, ◌^◌, ◌<◌, ◌≤◌, ◌||◌, ◌∷◌, ◌++◌, ◌∙◌, ℕ, suc, zero, Bool}
+use Rattle.std.proofs.Common.{true, false, not, cond, eqb, ltb, List, [], map, length, take, get_or, replicate, Fits}
+use Rattle.std.proofs.Common.{w8, inl, inr, refl, sym, ap, arith, eqb-true, lt-ltb, ltb-true, get_or-take, pow-suc}
+use Rattle.std.proofs.{Common.pow_pos, Math.{Arith.mod-mul, Nat.zero-mod}}
+use Rattle.std.proofs.lemmas.Bool.{agree_below, agree_below_at, cases_lt, false≢true, not-false}
+use Rattle.std.proofs.lemmas.List.{get_or-map, get_or_past, length-map, get_or_append_left}
+use Rattle.std.proofs.lemmas.{List.FromFn.get_or-map-range_with_len, Nat.{or_of_8, or_shifted}, Simd.Each1-from_get_or}
+use Rattle.std.proofs.lemmas.Simd.{Each1-get_or, splat_is_map, zip2_splat, zip2_splat_left, map-map, mask_l-mod}
 use lib.Bits.{bit_or}
-use Rattle.std.proofs.Math.Arith.{mod-mul}
-use Rattle.std.proofs.Math.Nat.{pow-suc, zero-mod}
-use Rattle.std.proofs.lemmas.Nat.{or_of_8, or_shifted, pow_pos}
-use Rattle.std.proofs.lemmas.Simd.{Each1-from_get_or, Each1-get_or, splat_is_map, zip2_splat, zip2_splat_left, map-map, mask_l-mod}
-use Rattle.cap_word.specs.Digits.{hex_digit, hex_digits}
-use Rattle.cap_word.specs.Lanes.{IsLaneOf}
+use lib.Lanes.{Each1, sel_l, mask_l, zip2, top}
+use Rattle.hex.specs.Hex.{encode_with, encode_lower}
+use Rattle.cap_word.specs.{Digits.{hex_digit, hex_digits}, Lanes.IsLaneOf}
 
 -- a lane is a byte
 below_256 : (v : List ℕ) → (length v ≡ 16) × Each1 (Fits w8) v → (i : ℕ) → i < 16 → get_or v i 0 < 256

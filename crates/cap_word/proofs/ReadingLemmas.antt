@@ -1,15 +1,11 @@
 -- Hexadecimal digits name one number, are just the bytes `0` to `9` and `a` to `f`, and can be put side by side.
-use Rattle.std.proofs.Common.{◌≡◌, ◌+◌, ◌-◌, ◌*◌, ◌/◌, ◌%◌, ◌^◌, ◌<◌, ◌≤◌, ◌∷◌, ◌++◌, ◌∙◌}
-use Rattle.std.proofs.Common.{ℕ, zero, suc, true, false, eqb, List, [], length, take, drop, sym, ap}
-use Rattle.std.proofs.Common.{refl, inl, inr, arith, subst, length-append, append-nil}
-use Rattle.std.specs.Prelude.{All}
 use Rattle.std.specs.Char.{digit_value}
+use Rattle.std.proofs.Common.{◌≡◌, ◌+◌, ◌-◌, ◌*◌, ◌/◌, ◌%◌, ◌^◌, ◌<◌, ◌≤◌, ◌∷◌, ◌++◌, ◌∙◌, ℕ, zero, suc, true, false}
+use Rattle.std.proofs.Common.{eqb, List, [], length, take, drop, sym, ap, refl, inl, inr, arith, subst, length-append}
+use Rattle.std.proofs.Common.{append-nil, All, pow-add, eqb-true, eq-eqb, take-append-drop, take-take, take_all}
+use Rattle.std.proofs.{Math.Seq.{take-append_seam, drop-append_seam}, lemmas.Bool.{agree_below_at, cases_lt}}
+use Rattle.std.proofs.lemmas.{Bool.{false≢true}, List.Elements.{All-nil, All-cons, All-head, All-tail}, Nat.div-mul-add}
 use Rattle.std.proofs.Math.Nat as nat
-use Rattle.std.proofs.Math.Seq.{take-append_seam, drop-append_seam}
-use Rattle.std.proofs.lemmas.Nat.{pow-add, div-mul-add}
-use Rattle.std.proofs.lemmas.Bool.{agree_below_at, cases_lt, eqb-true, eq-eqb, false≢true}
-use Rattle.std.proofs.lemmas.List.{take-append-drop, take-take, take_all}
-use Rattle.std.proofs.lemmas.List.Elements.{All-nil, All-cons, All-head, All-tail}
 use Rattle.cap_word.specs.Digits.{hex_digit, hex_digits, IsHexDigit, AreHexDigits}
 use Rattle.cap_word.proofs.DigitLemmas.{hex_digits-suc, length-hex_digits}
 

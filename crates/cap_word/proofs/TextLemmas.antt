@@ -1,8 +1,7 @@
 -- What the calls of `hex` answered, joined with the digits of a number.
+use Rattle.std.specs.Int.{bytes_high_first}
 use Rattle.std.proofs.Common.{◌≡◌, ℕ, ◌*◌, length, sym, ap, ◌∙◌, arith, Result, Ok, Err, OnOk, IsOk}
 use Rattle.std.proofs.lemmas.Bool.{false≢true}
-use Rattle.std.specs.Int.{bytes_high_first}
-use Rattle.hex.specs.Hex.{encode_lower, decode_sized}
 use Rattle.hex.proofs.HexLemmas.{length-encode_with}
 use Rattle.cap_word.proofs.DigitLemmas.{hex_of_bytes, length-hex_digits}
 

@@ -1,10 +1,9 @@
 -- Digits that were computed as the lanes of one vector from the bytes of a number.
-use Rattle.std.proofs.Common.{◌≡◌, ◌+◌, ◌/◌, ◌%◌, ◌<◌, ◌∷◌, ◌++◌, ◌∙◌}
-use Rattle.std.proofs.Common.{ℕ, suc, true, cond, eqb, ltb, List, [], map, get_or, replicate, refl, ap}
-use Rattle.std.proofs.lemmas.Bool.{agree_below, agree_below_at, eqb-true}
 use Rattle.std.specs.Int.{bytes_high_first}
-use Rattle.hex.specs.Hex.{encode_with, encode_lower}
+use Rattle.std.proofs.Common.{◌≡◌, ◌+◌, ◌/◌, ◌%◌, ◌<◌, ◌∷◌, ◌++◌, ◌∙◌, ℕ, suc, true, cond, eqb, ltb, List, [], map}
+use Rattle.std.proofs.{Common.{get_or, replicate, refl, ap, eqb-true}, lemmas.Bool.{agree_below, agree_below_at}}
 use lib.Lanes.{zip2, top, pick_l}
+use Rattle.hex.specs.Hex.{encode_with, encode_lower}
 use Rattle.cap_word.specs.Digits.{hex_digit, hex_digits}
 use Rattle.cap_word.proofs.DigitLemmas.{hex_of_bytes, IsBytes-bytes_high_first}
 

@@ -1,5 +1,6 @@
 -- Numbers in hexadecimal, as fixed numbers of lower-case digits.
-use Rattle.std.specs.Prelude.{◌≡◌, ℕ, suc, zero, ◌/◌, ◌%◌, ◌^◌, ◌≤◌, ◌⊎◌, List, [], ◌∷◌, length, All, slice_index, codes}
+use Rattle.std.specs.Prelude.{◌≡◌, ℕ, suc, zero, ◌/◌, ◌%◌, ◌^◌, ◌≤◌, ◌⊎◌, List, [], ◌∷◌, length, All, slice_index}
+use Rattle.std.specs.Prelude.{codes}
 
 -- the lower-case digit of a number below 16 (this profile's own: the text of words, addresses and bytes)
 abbrev pub hex_digit : ℕ → ℕ

@@ -1,8 +1,7 @@
 //! Up to sixteen hexadecimal digits, read and written at once as one vector.
 
-ghost use Rattle.std.specs.Prelude.{◌≡◌, ℕ, ◌<◌, ◌≤◌, ◌^◌, true, false, slice_index, take, IfSome, IfNone, ◌+◌, ◌*◌};
+ghost use Rattle.std.specs.Prelude.{◌≡◌, ℕ, ◌<◌, ◌≤◌, ◌^◌, take, IfSome, IfNone, ◌+◌, ◌*◌};
 ghost use Rattle.cap_word.specs.Digits.{hex_digits};
-ghost use Rattle.cap_word.specs.Lanes.{IsLaneOf};
 
 use std::simd::prelude::*;
 

@@ -1,8 +1,8 @@
 //! A word taken apart into its fields, and put together from them.
 
 ghost use Rattle.std.specs.Prelude.{◌≡◌};
-ghost use Rattle.cap_word.specs.Fields.{perms_of, reserved_of, flag_of, otype_of, ie_of, e_of, b_of, t_of};
-ghost use Rattle.cap_word.specs.Fields.{address_of, joined_word};
+ghost use Rattle.cap_word.specs.Fields.{perms_of, reserved_of, flag_of, otype_of, ie_of, e_of, b_of, t_of, address_of};
+ghost use Rattle.cap_word.specs.Fields.{joined_word};
 
 use crate::fields::Fields;
 use crate::word::Word;

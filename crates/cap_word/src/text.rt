@@ -1,7 +1,7 @@
 //! Words and numbers of up to 64 bits as text: a fixed number of lower-case hexadecimal digits.
 
-ghost use Rattle.std.specs.Prelude.{◌≡◌, ◌↔◌, ℕ, ◌*◌, ◌<◌, ◌≤◌, ◌^◌, List, ◌++◌, length, take};
-ghost use Rattle.std.specs.Prelude.{Some, IsSome, IsSomeAnd, IfSome, IfNone};
+ghost use Rattle.std.specs.Prelude.{◌≡◌, ◌↔◌, ℕ, ◌*◌, ◌<◌, ◌≤◌, ◌^◌, List, ◌++◌, length, take, Some, IsSome, IsSomeAnd};
+ghost use Rattle.std.specs.Prelude.{IfSome, IfNone};
 ghost use Rattle.cap_word.specs.Digits.{AreHexDigits, hex_digits};
 
 use crate::digits::{number_text, read_front};

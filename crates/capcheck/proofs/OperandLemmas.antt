@@ -1,17 +1,15 @@
 -- The operands of an order: what their digits spell, and which orders cannot be followed.
-use Rattle.std.proofs.Common.{◌≡◌, Bool, true, false, ℕ, ◌+◌, ◌*◌, ◌^◌, ◌<◌, ◌≤◌, List, length, Ok, refl, sym, ap, subst, ◌∙◌, arith}
-use Rattle.std.specs.Int.{w64, bytes_high_first, from_be_bytes}
-use Rattle.std.proofs.lemmas.Nat.{from_be_bytes-to_be_bytes_8}
+use Rattle.std.specs.Int.{bytes_high_first, from_be_bytes}
+use Rattle.std.proofs.Common.{◌≡◌, Bool, true, false, ℕ, ◌+◌, ◌*◌, ◌^◌, ◌<◌, ◌≤◌, List, length, Ok, refl, sym, ap}
+use Rattle.std.proofs.{Common.{subst, ◌∙◌, arith, w64}, lemmas.Nat.from_be_bytes-to_be_bytes_8}
 use Rattle.hex.specs.Hex.{decode_sized}
 use Rattle.hex.proofs.HexLemmas.{decode_sized-encode_lower}
 use Rattle.cap_word.specs.Digits.{hex_digits}
-use Rattle.cap_word.proofs.DigitLemmas.{hex_of_bytes, IsBytes-bytes_high_first}
-use Rattle.cap_word.proofs.TextLemmas.{length-bytes}
-use Rattle.cap_program.specs.declared.faults.Fault.{Fault}
-use Rattle.cap_program.specs.declared.faults.Fault.TheVariants.{BadWords, BadWord, BadRequest, Read, Write, NoMemory}
-use Rattle.cap_program.specs.Faults.{status_of}
-use Rattle.capcheck.specs.Operands.{SpellsRequest, RefusesRequest, SpellsWord}
+use Rattle.cap_word.proofs.{DigitLemmas.{hex_of_bytes, IsBytes-bytes_high_first}, TextLemmas.length-bytes}
 use Rattle.cap_texts.proofs.MemoryTexts.{spelled_memory}
+use Rattle.cap_program.specs.declared.faults.Fault.{Fault, TheVariants.{BadWords, BadWord, BadRequest, Read, Write}}
+use Rattle.cap_program.specs.{declared.faults.Fault.TheVariants.NoMemory, Faults.status_of}
+use Rattle.capcheck.specs.Operands.{SpellsRequest, RefusesRequest, SpellsWord}
 
 -- the digits of a number, decoded
 decoded : (k n : ℕ) → decode_sized (hex_digits (2 * k) n) k ≡ Ok (bytes_high_first k n)

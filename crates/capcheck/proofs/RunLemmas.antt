@@ -1,33 +1,20 @@
 -- What was done for an order, told of an input whose bytes are known.
-use Rattle.std.proofs.Common.{◌≡◌, ◌≤◌, ◌↔◌, ℕ, Bool, true, false, List, [], ◌++◌, Option, None, Some, Result, Ok, Err, take, refl, sym, ap, subst, ◌∙◌, append-nil, arith}
 use Rattle.std.specs.Io.KnownBytes.{Consumes}
-use Rattle.cap_log.specs.declared.judge_faults.JudgeFault.TheVariants as judge_faults
-use Rattle.cap_log.specs.declared.judge_faults.JudgeToFault.{JudgeToFault}
+use Rattle.std.proofs.Common.{◌≡◌, ◌≤◌, ◌↔◌, ℕ, Bool, true, false, List, [], ◌++◌, Option, None, Some, Result, Ok, Err}
+use Rattle.std.proofs.Common.{refl, sym, ap, subst, ◌∙◌, append-nil, arith}
+use Rattle.cap_log.specs.declared.judge_faults.{JudgeFault.JudgeFault, JudgeToFault.JudgeToFault}
 use Rattle.cap_log.specs.declared.judge_faults.JudgeToFault.TheVariants.{Pull, Push}
-use Rattle.cap_log.specs.declared.judge_faults.JudgeToFault.TheVariants as judging
-use Rattle.cap_judge.specs.Reports.{IsPushedFor}
-use Rattle.cap_judge.specs.VerdictLines.{verdict_status}
-use Rattle.cap_program.specs.Doings.{IsDone}
-use Rattle.cap_program.specs.Judging.{ShowsVerdict, StopsJudging, judged}
-use Rattle.cap_judge.specs.declared.verdict.Verdict.{Verdict}
-use Rattle.cap_judge.specs.Judgings.{IsAnswerOf}
-use Rattle.cap_judge.specs.Reports.{Tells}
-use Rattle.cap_judge.specs.Verdicts.{IsVerdict}
-use Rattle.cap_judge.proofs.SourceLemmas.{of_all}
-use Rattle.cap_vectors.specs.declared.files.VectorVerdict.{VectorVerdict}
-use Rattle.cap_vectors.specs.declared.files.VectorVerdict.TheVariants.{Pass, Fail}
+use Rattle.cap_vectors.specs.declared.files.VectorVerdict.{VectorVerdict, TheVariants.{Pass, Fail}}
 use Rattle.cap_vectors.specs.VectorFiles.{FailsFirst, IsVectorVerdict, IsVectorVerdictOf}
-use Rattle.cap_program.specs.declared.faults.Fault.{Fault}
-use Rattle.cap_program.specs.declared.faults.Fault.TheVariants.{BadWords, BadWord, BadRequest, Read, Write, NoMemory}
-use Rattle.cap_program.specs.Commands.{IsMeant}
-use Rattle.cap_program.specs.Faults.{status_of}
-use Rattle.cap_judge.proofs.ReportLemmas.{tells_known, unanswered, verdict_few}
+use Rattle.cap_judge.specs.{declared.verdict.Verdict.Verdict, Judgings.IsAnswerOf, Reports.{IsPushedFor, Tells}}
+use Rattle.cap_judge.specs.{VerdictLines.verdict_status, Verdicts.IsVerdict}
+use Rattle.cap_judge.proofs.{ReportLemmas.{tells_known, unanswered, verdict_few}, SourceLemmas.of_all}
+use Rattle.cap_program.specs.declared.faults.Fault.{Fault, TheVariants.{BadWords, BadWord, BadRequest, Read, Write}}
+use Rattle.cap_program.specs.{declared.faults.Fault.TheVariants.NoMemory, Commands.IsMeant, Doings.IsDone}
+use Rattle.cap_program.specs.{Faults.status_of, Judging.{ShowsVerdict, StopsJudging, judged}}
 use Rattle.cap_program.proofs.Judgements.{known_of, stopped_unfaulty}
-use Rattle.capcheck.specs.declared.words.Order.{Order}
-use Rattle.capcheck.specs.declared.words.Order.TheVariants.{Explain, Round, Judge, Vectors}
-use Rattle.capcheck.specs.Answers.{Prints, vector_status}
-use Rattle.capcheck.specs.Doings.{Fails, Shows, order_meaning}
-use Rattle.capcheck.specs.Operands.{IsFaulty}
+use Rattle.capcheck.specs.declared.words.Order.{Order, TheVariants.{Explain, Round, Judge, Vectors}}
+use Rattle.capcheck.specs.{Answers.{Prints, vector_status}, Doings.{Fails, Shows, order_meaning}, Operands.IsFaulty}
 use Rattle.capcheck.proofs.OperandLemmas.{refused_request, refused_status}
 
 -- what was pushed for an answer is what was done for the order
@@ -35,8 +22,8 @@ pub judged_done : (tells : Verdict → List ℕ → Type 0) (given : List ℕ) (
     (answer : Result Verdict JudgeToFault) → IsPushedFor tells given ended took answer
     → IsDone (ShowsVerdict verdict_status (IsAnswerOf given ended) tells) (StopsJudging (IsAnswerOf given true)) took (judged verdict_status answer)
 judged_done tells given ended took (Ok verdict) p = (p.1, (verdict, p.0, p.2, refl), p.3)
-judged_done tells given ended took (Err Pull) p = (unanswered given ended judge_faults.Pull p.0, p.1)
-judged_done tells given ended took (Err judging.NoMemory) p = (unanswered given ended judge_faults.NoMemory p.0, p.1)
+judged_done tells given ended took (Err Pull) p = (unanswered given ended JudgeFault.Pull p.0, p.1)
+judged_done tells given ended took (Err JudgeToFault.NoMemory) p = (unanswered given ended JudgeFault.NoMemory p.0, p.1)
 judged_done tells given ended took (Err Push) p = (p.2, verdict_status p.0, (p.0, p.1, p.3, refl), p.4, p.5)
 
 -- the verdict on the bytes given, and its text, are those of all bytes

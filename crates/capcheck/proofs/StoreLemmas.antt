@@ -1,7 +1,6 @@
 -- A store that is empty.
-use Rattle.std.proofs.Common.{◌≡◌, ap, ◌∙◌}
 use Rattle.std.specs.FinMap.{empty, len, len-empty}
-use Rattle.std.specs.Ordering.{nat_cmp}
+use Rattle.std.proofs.Common.{◌≡◌, ap, ◌∙◌, nat_cmp}
 use Rattle.tagmem.specs.Granules.{Entry, Granules}
 
 -- its count is 0

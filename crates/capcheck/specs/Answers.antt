@@ -2,18 +2,13 @@
 use Rattle.std.specs.Prelude.{◌≡◌, ◌↔◌, ℕ, ◌+◌, ◌^◌, ◌≤◌, Bool, List, Option, Some, None, IfSome, IsTrue}
 use Rattle.cap_bounds.specs.declared.rounding.Rounded.{Rounded}
 use Rattle.cap_bounds.specs.Rounding.{rounded_base, rounded_top, rounded_ie, rounded_exponent, IsExact}
-use Rattle.capcheck.specs.declared.words.Order.{Order}
-use Rattle.capcheck.specs.declared.words.Order.TheVariants.{Explain, Round, Judge, Vectors}
-use Rattle.cap_judge.specs.declared.verdict.Verdict.{Verdict}
-use Rattle.cap_vectors.specs.declared.files.VectorVerdict.{VectorVerdict}
-use Rattle.cap_vectors.specs.declared.files.VectorVerdict.TheVariants.{Pass, Fail}
-use Rattle.capcheck.specs.Operands.{SpellsWord, SpellsRequest}
-use Rattle.cap_texts.specs.ExplainLines.{explain_lines}
-use Rattle.cap_texts.specs.RoundLines.{round_lines}
+use Rattle.cap_texts.specs.{ExplainLines.explain_lines, RoundLines.round_lines}
+use Rattle.cap_vectors.specs.declared.files.VectorVerdict.{VectorVerdict, TheVariants.{Pass, Fail}}
 use Rattle.cap_vectors.specs.VectorFiles.{IsVectorVerdict, vector_line}
-use Rattle.cap_judge.specs.Reports.{Tells}
-use Rattle.cap_judge.specs.VerdictLines.{verdict_status}
+use Rattle.cap_judge.specs.{declared.verdict.Verdict.Verdict, Reports.Tells, VerdictLines.verdict_status}
 use Rattle.cap_judge.specs.Verdicts.{IsVerdict}
+use Rattle.capcheck.specs.declared.words.Order.{Order, TheVariants.{Explain, Round, Judge, Vectors}}
+use Rattle.capcheck.specs.Operands.{SpellsWord, SpellsRequest}
 
 -- the exit status of a verdict on a vector file
 abbrev pub vector_status : VectorVerdict → ℕ

@@ -1,19 +1,14 @@
 -- What belongs to an order and to the bytes that were given for it. All of it is this profile's own.
 use Rattle.std.specs.Prelude.{◌≡◌, ℕ, ◌^◌, ◌<◌, Bool, true, List, Option, Some, None, codes}
-use Rattle.cap_judge.specs.Reports.{Tells}
 use Rattle.cap_texts.specs.ExplainLines.{explain_lines}
 use Rattle.cap_vectors.specs.declared.files.VectorVerdict.{VectorVerdict}
 use Rattle.cap_vectors.specs.VectorFiles.{BreaksOff, IsVectorVerdictOf, vector_line}
-use Rattle.cap_judge.specs.Judgings.{IsAnswerOf}
-use Rattle.cap_judge.specs.VerdictLines.{verdict_status}
+use Rattle.cap_judge.specs.{Judgings.IsAnswerOf, Reports.Tells, VerdictLines.verdict_status}
+use Rattle.cap_program.specs.{declared.faults.Fault.{Fault, TheVariants.{BadWords, BadWord, Read}}, Commands.Meaning}
 use Rattle.cap_program.specs.Judging.{ShowsVerdict, StopsJudging}
-use Rattle.cap_program.specs.Commands.{Meaning}
-use Rattle.cap_program.specs.declared.faults.Fault.{Fault}
-use Rattle.cap_program.specs.declared.faults.Fault.TheVariants.{BadWords, BadWord, Read}
-use Rattle.capcheck.specs.declared.words.Order.{Order}
-use Rattle.capcheck.specs.declared.words.Order.TheVariants.{Explain, Round, Judge, Vectors}
-use Rattle.capcheck.specs.Operands.{IsFaulty, SpellsWord, RefusesRequest}
+use Rattle.capcheck.specs.declared.words.Order.{Order, TheVariants.{Explain, Round, Judge, Vectors}}
 use Rattle.capcheck.specs.Answers.{Prints, ReadsInput, ShowsRounding, vector_status}
+use Rattle.capcheck.specs.Operands.{IsFaulty, SpellsWord, RefusesRequest}
 
 -- the text of the verdict on the bytes given as a vector file, and its status
 abbrev pub ShowsCheckOf : List ℕ → Bool → List ℕ → ℕ → Type 0

@@ -1,12 +1,10 @@
 -- What the operands of an order stand for, and which orders cannot be followed.
 use Rattle.std.specs.Prelude.{◌≡◌, ℕ, ◌+◌, ◌^◌, ◌<◌, ◌≤◌, Bool, true, false, List, Option, Some, None}
-use Rattle.cap_word.specs.Digits.{hex_digits}
-use Rattle.cap_word.specs.Memory.{memory_of}
+use Rattle.cap_word.specs.{Digits.hex_digits, Memory.memory_of}
 use Rattle.cap_texts.specs.TextLines.{bytes_text}
-use Rattle.capcheck.specs.declared.words.Order.{Order}
-use Rattle.capcheck.specs.declared.words.Order.TheVariants.{Explain, Round, Judge, Vectors}
 use Rattle.cap_program.specs.declared.faults.Fault.{Fault}
 use Rattle.cap_program.specs.declared.faults.Fault.TheVariants.{BadWords, BadWord, BadRequest, Read, Write, NoMemory}
+use Rattle.capcheck.specs.declared.words.Order.{Order, TheVariants.{Explain, Round, Judge, Vectors}}
 
 -- a text spells a word of 128 bits: by its digits, or by those of its bytes in memory, in order of address
 -- (this profile's own)

@@ -1,8 +1,7 @@
 -- What the words after the program's name ask for.
 use Rattle.std.specs.Prelude.{◌≡◌, ℕ, List, [], ◌∷◌, ◌++◌, codes, IsTrue, Some, None}
 use Rattle.cap_program.specs.Words.{is_operand, option_word}
-use Rattle.capcheck.specs.declared.words.Order.{Order}
-use Rattle.capcheck.specs.declared.words.Order.TheVariants.{Explain, Round, Judge, Vectors}
+use Rattle.capcheck.specs.declared.words.Order.{Order, TheVariants.{Explain, Round, Judge, Vectors}}
 
 -- the words ask for this order (this profile's own)
 abbrev pub Asks : List (List ℕ) → Order → Type 0

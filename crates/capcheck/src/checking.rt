@@ -3,8 +3,7 @@
 ghost use Rattle.std.specs.Prelude.{◌≡◌, ◌≢◌, ℕ, List, Err};
 ghost use Rattle.cap_vectors.specs.VectorFiles.{vector_line};
 ghost use Rattle.cap_program.specs.Doings.{IsCounted, IsDone};
-ghost use Rattle.capcheck.specs.Answers.{vector_status};
-ghost use Rattle.capcheck.specs.Doings.{ShowsCheckOf, StopsChecking};
+ghost use Rattle.capcheck.specs.{Answers.vector_status, Doings.{ShowsCheckOf, StopsChecking}};
 
 use cap_log::{PullFault, PushFault, Sink, Source, push_all};
 use cap_program::Fault;

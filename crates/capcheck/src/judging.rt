@@ -1,13 +1,10 @@
 //! Judging an input, and pushing the text of the verdict.
 
 ghost use Rattle.std.specs.Prelude.{◌≡◌, ℕ, List, Err, true};
-ghost use Rattle.cap_program.specs.Doings.{IsCounted, IsDone};
-ghost use Rattle.cap_program.specs.Judging.{ShowsVerdict, StopsJudging, judged};
-ghost use Rattle.cap_judge.specs.Judgings.{IsAnswerOf};
-ghost use Rattle.cap_judge.specs.VerdictLines.{verdict_status};
-ghost use Rattle.cap_judge.specs.Reports.{Reported, Tells};
-ghost use Rattle.cap_log.specs.declared.judge_faults.JudgeToFault.TheVariants as judging;
 ghost use Rattle.cap_log.specs.Streams.{CountsOnly};
+ghost use Rattle.cap_log.specs.declared.judge_faults.JudgeToFault.TheVariants as judging;
+ghost use Rattle.cap_judge.specs.{Judgings.IsAnswerOf, Reports.{Reported, Tells}, VerdictLines.verdict_status};
+ghost use Rattle.cap_program.specs.{Doings.{IsCounted, IsDone}, Judging.{ShowsVerdict, StopsJudging, judged}};
 
 use cap_judge::{JudgeToFault, Verdict, judge_origins, judge_to, verdict_status};
 use cap_log::{Sink, Source};

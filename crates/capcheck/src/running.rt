@@ -1,8 +1,7 @@
 //! What the program does with an order: its texts and its exit status.
 
 ghost use Rattle.std.specs.Prelude.{◌≡◌, ◌≤◌, true, codes, None, OnOk, length};
-ghost use Rattle.cap_program.specs.Doings.{IsFollowed, TellsFaultLine, known_bytes};
-ghost use Rattle.cap_program.specs.Runs.{IsRan};
+ghost use Rattle.cap_program.specs.{Doings.{IsFollowed, TellsFaultLine, known_bytes}, Runs.IsRan};
 ghost use Rattle.capcheck.specs.Doings.{order_meaning};
 
 use crate::checking::check_source;

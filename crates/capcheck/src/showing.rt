@@ -1,11 +1,9 @@
 //! Showing what a word or a request means.
 
-ghost use Rattle.std.specs.Prelude.{◌≡◌, ◌≢◌, ◌≤◌, [], take, IfOk, IfErr, Err, Some, false};
+ghost use Rattle.std.specs.Prelude.{◌≢◌, ◌≤◌, [], take, IfOk, IfErr, Err, Some, false};
 ghost use Rattle.cap_program.specs.Doings.{IsCounted, IsDone};
-ghost use Rattle.capcheck.specs.Answers.{ShowsRounding};
-ghost use Rattle.capcheck.specs.Doings.{Fails, Shows};
-ghost use Rattle.capcheck.specs.Operands.{RefusesRequest};
-ghost use Rattle.capcheck.specs.declared.words.Order.TheVariants.{Explain, Round};
+ghost use Rattle.capcheck.specs.{declared.words.Order.TheVariants.{Explain, Round}, Answers.ShowsRounding};
+ghost use Rattle.capcheck.specs.{Doings.{Fails, Shows}, Operands.RefusesRequest};
 
 use crate::words::operands::{read_capability, read_request};
 use cap_bounds::round;

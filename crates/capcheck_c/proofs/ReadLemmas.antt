@@ -1,20 +1,13 @@
 -- What is read at the front of some bytes.
-use Rattle.std.proofs.Common.{◌≡◌, ◌≢◌, ◌+◌, ◌-◌, ◌≤◌, ◌∙◌, ℕ, List, [], ◌∷◌, ◌++◌, ap, append_assoc, arith, drop, length, refl, subst, sym, take}
-use Rattle.std.proofs.lemmas.List.{length-append, take-append-drop}
+use Rattle.std.proofs.Common.{◌≡◌, ◌≢◌, ◌+◌, ◌-◌, ◌≤◌, ◌∙◌, ℕ, List, [], ◌∷◌, ◌++◌, ap, append_assoc, arith, drop}
+use Rattle.std.proofs.Common.{length, refl, subst, sym, take, length-append, take-append-drop}
 use Rattle.std.proofs.Math.Seq.{drop-append_seam}
-use Rattle.cap_log.specs.declared.lines.Line.{Line}
-use Rattle.cap_log.specs.declared.lines.Line.TheVariants as lines
-use Rattle.cap_log.specs.declared.lines.Mode.TheVariants.{Strict, Clear}
-use Rattle.cap_log.specs.declared.lines.Place.TheVariants.{Register, Granule}
-use Rattle.cap_log.specs.declared.kinds.Step.{Step}
-use Rattle.cap_log.specs.declared.kinds.Step.TheVariants as steps
-use Rattle.cap_log.specs.Front.{IsLine}
-use Rattle.cap_log.specs.Lines.{IsInRange, spelling}
-use Rattle.cap_log.specs.Parts.{Begins, BeginsWithNone}
-use Rattle.cap_log.proofs.FrontLemmas.{IsLine-same}
-use Rattle.cap_log.proofs.SpellingLemmas.{IsLine-spelling, one_spelling}
-use Rattle.capcheck_c.specs.LinesRead.{IsLineRead, IsStepRead, ReadsFront, ReadsLines}
+use Rattle.cap_log.specs.declared.{kinds.Step.Step, lines.{Line.Line, Mode.TheVariants.{Strict, Clear}}}
+use Rattle.cap_log.specs.{declared.lines.Place.TheVariants.{Register, Granule}, Front.IsLine}
+use Rattle.cap_log.specs.{Lines.{IsInRange, spelling}, Parts.{Begins, BeginsWithNone}}
+use Rattle.cap_log.proofs.{FrontLemmas.IsLine-same, SpellingLemmas.{IsLine-spelling, one_spelling}}
 use Rattle.capcheck_c.specs.declared.values.LineRead.{LineRead}
+use Rattle.capcheck_c.specs.LinesRead.{IsLineRead, IsStepRead, ReadsFront, ReadsLines}
 
 -- bytes begin with one line, and one rest follows it
 pub one_front : (bytes : List ℕ) (a b : Line) (rest other : List ℕ) → Begins IsInRange spelling 10 bytes a rest
@@ -64,27 +57,27 @@ rest_of bytes reads rest all =
 
 -- a line that was read has a kind
 step_kind : (step : Step) (read : LineRead) → IsStepRead step read → read.kind ≡ 0 → ⊥
-step_kind (steps.Move step) read is none = omega (arith, none, is.0.kind_is)
-step_kind (steps.ClearTag step) read is none = omega (arith, none, is.0.kind_is)
-step_kind (steps.SetBounds step) read is none = omega (arith, none, is.0.kind_is)
-step_kind (steps.SetBoundsExact step) read is none = omega (arith, none, is.0.kind_is)
-step_kind (steps.SetAddr step) read is none = omega (arith, none, is.0.kind_is)
-step_kind (steps.AndPerm step) read is none = omega (arith, none, is.0.kind_is)
-step_kind (steps.Seal step) read is none = omega (arith, none, is.0.kind_is)
-step_kind (steps.Unseal step) read is none = omega (arith, none, is.0.kind_is)
-step_kind (steps.LoadCap step) read is none = omega (arith, none, is.0.kind_is)
-step_kind (steps.StoreCap step) read is none = omega (arith, none, is.0.kind_is)
-step_kind (steps.Load step) read is none = omega (arith, none, is.0.kind_is)
-step_kind (steps.Store step) read is none = omega (arith, none, is.0.kind_is)
+step_kind (Step.Move step) read is none = omega (arith, none, is.0.kind_is)
+step_kind (Step.ClearTag step) read is none = omega (arith, none, is.0.kind_is)
+step_kind (Step.SetBounds step) read is none = omega (arith, none, is.0.kind_is)
+step_kind (Step.SetBoundsExact step) read is none = omega (arith, none, is.0.kind_is)
+step_kind (Step.SetAddr step) read is none = omega (arith, none, is.0.kind_is)
+step_kind (Step.AndPerm step) read is none = omega (arith, none, is.0.kind_is)
+step_kind (Step.Seal step) read is none = omega (arith, none, is.0.kind_is)
+step_kind (Step.Unseal step) read is none = omega (arith, none, is.0.kind_is)
+step_kind (Step.LoadCap step) read is none = omega (arith, none, is.0.kind_is)
+step_kind (Step.StoreCap step) read is none = omega (arith, none, is.0.kind_is)
+step_kind (Step.Load step) read is none = omega (arith, none, is.0.kind_is)
+step_kind (Step.Store step) read is none = omega (arith, none, is.0.kind_is)
 
 line_kind : (line : Line) (read : LineRead) → IsLineRead line read → read.kind ≡ 0 → ⊥
-line_kind (lines.Version version) read is none = omega (arith, none, is.0.kind_is)
-line_kind (lines.Mode Strict) read is none = omega (arith, none, is.0.kind_is)
-line_kind (lines.Mode Clear) read is none = omega (arith, none, is.0.kind_is)
-line_kind (lines.Root (Register register) word) read is none = omega (arith, none, is.0.kind_is)
-line_kind (lines.Root (Granule granule) word) read is none = omega (arith, none, is.0.kind_is)
-line_kind (lines.Step step) read is none = step_kind step read is none
-line_kind (lines.End steps) read is none = omega (arith, none, is.0.kind_is)
+line_kind (Line.Version version) read is none = omega (arith, none, is.0.kind_is)
+line_kind (Line.Mode Strict) read is none = omega (arith, none, is.0.kind_is)
+line_kind (Line.Mode Clear) read is none = omega (arith, none, is.0.kind_is)
+line_kind (Line.Root (Register register) word) read is none = omega (arith, none, is.0.kind_is)
+line_kind (Line.Root (Granule granule) word) read is none = omega (arith, none, is.0.kind_is)
+line_kind (Line.Step step) read is none = step_kind step read is none
+line_kind (Line.End steps) read is none = omega (arith, none, is.0.kind_is)
 
 -- bytes of which none was read begin with none
 pub none_read : (bytes : List ℕ) (read : LineRead) → ReadsFront bytes read → read.kind ≡ 0

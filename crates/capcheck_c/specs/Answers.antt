@@ -1,17 +1,11 @@
 -- What the operations and accesses answer to C (this profile's own).
-use Rattle.std.specs.Prelude.{◌≡◌, ◌↔◌, ℕ, ◌+◌, ◌-◌, ◌%◌, ◌≤◌, Bool, ℤ, pos, neg_ℤ, ◌≤ℤ◌, List, ◌++◌, length, replicate}
-use Rattle.std.specs.Prelude.{MatchOption, IsTrue}
+use Rattle.std.specs.Prelude.{◌≡◌, ◌↔◌, ℕ, ◌+◌, ◌-◌, ◌%◌, ◌≤◌, Bool, ℤ, pos, neg_ℤ, ◌≤ℤ◌, List, MatchOption, IsTrue}
 use Rattle.cap_word.specs.declared.word.Cap.{Cap}
-use Rattle.cap_ops.specs.declared.refusal.Refusal.{Refusal}
-use Rattle.cap_ops.specs.declared.kinds.Kind.{Kind}
-use Rattle.cap_ops.specs.Accesses.{IsAllowed, access_address, access_checks, permission_for}
-use Rattle.cap_ops.specs.Refusals.{refusal_number}
-use Rattle.cap_ops.specs.Sizes.{size_fits}
-use Rattle.cap_ops.specs.Checks.{first_of}
+use Rattle.cap_ops.specs.declared.{kinds.Kind.Kind, refusal.Refusal.Refusal}
+use Rattle.cap_ops.specs.{Accesses.{IsAllowed, access_address, access_checks, permission_for}, Checks.first_of}
+use Rattle.cap_ops.specs.{Refusals.refusal_number, Sizes.size_fits}
 use Rattle.cap_halves.specs.Passed.{cap_of, no_cap}
-use Rattle.capcheck_c.specs.Names.{c_string_in}
-use Rattle.capcheck_c.specs.declared.values.AccessAnswer.{AccessAnswer}
-use Rattle.capcheck_c.specs.declared.values.Made.{Made}
+use Rattle.capcheck_c.specs.{declared.values.{AccessAnswer.AccessAnswer, Made.Made}, Names.c_string_in}
 
 -- what an operation with these checks and this result answers: the result and 0 if no check fails, otherwise
 -- untagged NULL and the number of the first check that fails

@@ -1,14 +1,11 @@
 -- What reading a line gives (this profile's own, as are all below).
 use Rattle.std.specs.Prelude.{◌≡◌, ◌≢◌, ℕ, ◌+◌, ◌*◌, ℤ, pos, true, List, [], ◌∷◌, drop, length}
 use Rattle.cap_word.specs.declared.word.Cap.{Cap}
-use Rattle.cap_log.specs.Lines.{IsInRange, spelling}
+use Rattle.cap_log.specs.declared.{kinds.Step.Step, lines.{Line.Line, Mode.TheVariants.{Strict, Clear}}}
+use Rattle.cap_log.specs.{declared.lines.Place.TheVariants.{Register, Granule}, Lines.{IsInRange, spelling}}
 use Rattle.cap_log.specs.Parts.{Begins, BeginsWithNone}
-use Rattle.cap_log.specs.declared.lines.Line.{Line}
-use Rattle.cap_log.specs.declared.lines.Line.TheVariants as lines
-use Rattle.cap_log.specs.declared.lines.Mode.TheVariants.{Strict, Clear}
-use Rattle.cap_log.specs.declared.lines.Place.TheVariants.{Register, Granule}
-use Rattle.cap_log.specs.declared.kinds.Step.{Step}
 use Rattle.cap_log.specs.declared.kinds.Step.TheVariants as steps
+use Rattle.cap_log.specs.declared.lines.Line.TheVariants as lines
 use Rattle.cap_halves.specs.Passed.{cap_of, no_cap}
 use Rattle.capcheck_c.specs.declared.values.LineRead.{LineRead}
 

@@ -1,9 +1,7 @@
 -- What writing a line into a buffer gives (this profile's own).
 use Rattle.std.specs.Prelude.{◌≡◌, ℕ, Bool, true, false, List}
+use Rattle.cap_log.specs.declared.lines.{Line.Line, Mode.{Mode, TheVariants.{Strict, Clear}}}
 use Rattle.cap_log.specs.Lines.{IsInRange, IsLineAt}
-use Rattle.cap_log.specs.declared.lines.Line.{Line}
-use Rattle.cap_log.specs.declared.lines.Mode.{Mode}
-use Rattle.cap_log.specs.declared.lines.Mode.TheVariants.{Strict, Clear}
 
 -- the mode that C names by a bool
 abbrev pub mode_of : Bool → Mode

@@ -1,11 +1,12 @@
 -- The names of what C knows by number, as C strings, and a sentence for each (this profile's own, as are all below).
 use Rattle.std.specs.Prelude.{ℕ, zero, suc, ◌-◌, List, [], ◌∷◌, ◌++◌, codes, length, replicate}
-use Rattle.cap_ops.specs.declared.refusal.Refusal.{Refusal}
-use Rattle.cap_ops.specs.declared.refusal.Refusal.TheVariants.{BadHeader, LineTooLong, BadLine, Misplaced, Truncated}
-use Rattle.cap_ops.specs.declared.refusal.Refusal.TheVariants.{WrongCount, PlaceTaken, UnsoundRoot, SourceUntagged, SourceSealed}
-use Rattle.cap_ops.specs.declared.refusal.Refusal.TheVariants.{BoundsEscape, NotExact, NotRepresentable, AuthorityUntagged, AuthoritySealed}
-use Rattle.cap_ops.specs.declared.refusal.Refusal.TheVariants.{AuthorityPermission, AuthorityBounds, TypeOutOfRange, TypeMismatch, Misaligned}
-use Rattle.cap_ops.specs.declared.refusal.Refusal.TheVariants.{StoreCapPermission, StoreLocalPermission, WrongResult, LimitPassed, BadMode}
+use Rattle.cap_ops.specs.declared.refusal.Refusal.{Refusal, TheVariants.{BadHeader, LineTooLong, BadLine, Misplaced}}
+use Rattle.cap_ops.specs.declared.refusal.Refusal.TheVariants.{Truncated, WrongCount, PlaceTaken, UnsoundRoot}
+use Rattle.cap_ops.specs.declared.refusal.Refusal.TheVariants.{SourceUntagged, SourceSealed, BoundsEscape, NotExact}
+use Rattle.cap_ops.specs.declared.refusal.Refusal.TheVariants.{NotRepresentable, AuthorityUntagged, AuthoritySealed}
+use Rattle.cap_ops.specs.declared.refusal.Refusal.TheVariants.{AuthorityPermission, AuthorityBounds, TypeOutOfRange}
+use Rattle.cap_ops.specs.declared.refusal.Refusal.TheVariants.{TypeMismatch, Misaligned, StoreCapPermission}
+use Rattle.cap_ops.specs.declared.refusal.Refusal.TheVariants.{StoreLocalPermission, WrongResult, LimitPassed, BadMode}
 
 -- bytes that hold a text as a C string: the text, and zeros after it
 abbrev pub c_string_in : ℕ → List ℕ → List ℕ

@@ -1,9 +1,9 @@
 -- The fields of a word as C has them (this profile's own).
 use Rattle.std.specs.Prelude.{◌≡◌, ◌≢◌, ℕ, ◌<◌, ◌%◌, ◌^◌}
-use Rattle.cap_word.specs.Fields.{perms_of, reserved_of, flag_of, otype_of, ie_of, e_of, b_of, t_of, address_of, joined_word}
+use Rattle.cap_word.specs.Fields.{perms_of, reserved_of, flag_of, otype_of, ie_of, e_of, b_of, t_of, address_of}
+use Rattle.cap_word.specs.Fields.{joined_word}
 use Rattle.cap_halves.specs.Passed.{is_set, whole_of}
-use Rattle.capcheck_c.specs.declared.values.OptionalWord.{OptionalWord}
-use Rattle.capcheck_c.specs.declared.values.WordFields.{WordFields}
+use Rattle.capcheck_c.specs.declared.values.{OptionalWord.OptionalWord, WordFields.WordFields}
 
 -- a word has these fields
 pub record HasFields (w : ℕ) (fields : WordFields) : Type 0 where

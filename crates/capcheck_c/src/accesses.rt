@@ -3,8 +3,8 @@
 ghost use Rattle.std.specs.Prelude.{◌≡◌};
 ghost use Rattle.cap_ops.specs.Sizes.{size_fits};
 ghost use Rattle.cap_ops.specs.declared.kinds.Kind.TheVariants as kind;
-ghost use Rattle.capcheck_c.specs.Answers.{AnswersAccess};
 ghost use Rattle.cap_halves.specs.Passed.{cap_of};
+ghost use Rattle.capcheck_c.specs.Answers.{AnswersAccess};
 
 use crate::values::AccessAnswer;
 use cap_halves::halves::taken;

@@ -1,13 +1,11 @@
 //! What always gives a capability: the operations in clear mode, where a refused result loses its tag,
 //! and what a load gives.
 
-ghost use Rattle.std.specs.Prelude.{◌≡◌, ◌≢◌, ◌≤◌, ◌+◌, ◌↔◌, IsFalse, false};
+ghost use Rattle.std.specs.Prelude.{◌≡◌, ◌≢◌, ◌≤◌, ◌+◌, ◌↔◌, IsFalse};
 ghost use Rattle.cap_word.specs.Fields.{address_of};
 ghost use Rattle.cap_bounds.specs.Bounds.{IsInside, IsSound, base_of, top_of};
-ghost use Rattle.cap_ops.specs.Accesses.{loaded_result};
-ghost use Rattle.cap_ops.specs.Authority.{StaysWithin};
+ghost use Rattle.cap_ops.specs.{Accesses.loaded_result, Authority.StaysWithin, Permissions.{is_sealed, perm_view_of}};
 ghost use Rattle.cap_ops.specs.Operations as ops;
-ghost use Rattle.cap_ops.specs.Permissions.{is_sealed, perm_view_of};
 ghost use Rattle.cap_halves.specs.Passed.{cap_of, is_set, whole_of};
 
 use cap_halves::halves::{given, taken, word_of};

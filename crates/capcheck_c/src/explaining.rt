@@ -1,8 +1,8 @@
 //! The text that explains a capability.
 
 ghost use Rattle.std.specs.Prelude.{◌≡◌, ◌<◌, ◌≤◌, ◌++◌, drop, length};
-ghost use Rattle.cap_halves.specs.Passed.{cap_of};
 ghost use Rattle.cap_texts.specs.ExplainLines.{explain_lines};
+ghost use Rattle.cap_halves.specs.Passed.{cap_of};
 
 use cap_halves::halves::taken;
 use cap_halves::values::Capability;

@@ -7,8 +7,8 @@ ghost use Rattle.std.specs.Prelude.{◌≡◌, ◌/◌, ◌%◌};
 ghost use Rattle.cap_log.specs.Lines.{IsLineAt};
 ghost use Rattle.cap_log.specs.declared.lines.Line.TheVariants as line;
 ghost use Rattle.cap_log.specs.declared.lines.Place.TheVariants as place;
-ghost use Rattle.capcheck_c.specs.LinesWritten.{AnswersLine, mode_of};
 ghost use Rattle.cap_halves.specs.Passed.{is_set, whole_of};
+ghost use Rattle.capcheck_c.specs.LinesWritten.{AnswersLine, mode_of};
 
 use crate::ranges::{step_count_of, version_of};
 use cap_halves::halves::word_of;

@@ -1,8 +1,8 @@
 //! The names of what C knows by number, and a sentence for each.
 
 ghost use Rattle.std.specs.Prelude.{◌≡◌, ◌≤◌, codes, length};
-ghost use Rattle.capcheck_c.specs.Answers.{c_string};
-ghost use Rattle.capcheck_c.specs.Names.{c_string_in, kind_names, kind_sentences, state_names, state_sentences, text_at};
+ghost use Rattle.capcheck_c.specs.{Answers.c_string, Names.{c_string_in, kind_names, kind_sentences, state_names}};
+ghost use Rattle.capcheck_c.specs.Names.{state_sentences, text_at};
 
 use crate::values::{RefusalName, Sentence};
 

@@ -2,14 +2,12 @@
 
 ghost use Rattle.std.specs.Prelude.{◌≡◌, ◌≢◌, ◌≤◌, ◌+◌, ◌&&◌, ◌↔◌, MatchResult, IsFalse, IsTrue, bit_and};
 ghost use Rattle.cap_word.specs.Fields.{address_of, otype_of};
-ghost use Rattle.cap_bounds.specs.Bounds.{IsInside, IsSound, base_of, top_of};
-ghost use Rattle.cap_bounds.specs.Range.{IsRepresentable};
-ghost use Rattle.cap_ops.specs.Authority.{StaysWithin};
-ghost use Rattle.cap_ops.specs.Faults.{fault_number};
-ghost use Rattle.cap_ops.specs.Operations as ops;
+ghost use Rattle.cap_bounds.specs.{Bounds.{IsInside, IsSound, base_of, top_of}, Range.IsRepresentable};
+ghost use Rattle.cap_ops.specs.{Authority.StaysWithin, Faults.fault_number};
 ghost use Rattle.cap_ops.specs.Permissions.{permit_global, has_permission, is_sealed, perm_view_of};
-ghost use Rattle.capcheck_c.specs.Answers.{Answers};
+ghost use Rattle.cap_ops.specs.Operations as ops;
 ghost use Rattle.cap_halves.specs.Passed.{cap_of, is_set, no_cap, whole_of};
+ghost use Rattle.capcheck_c.specs.Answers.{Answers};
 
 use crate::values::Made;
 use cap_halves::halves::{given, no_capability, taken};

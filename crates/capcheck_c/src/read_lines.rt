@@ -1,11 +1,9 @@
 //! A line read: the inverse of the calls that write lines.
 
-ghost use Rattle.std.specs.Prelude.{◌≡◌, ◌≢◌, ◌<◌, ◌≤◌, ◌*◌, ◌^◌, drop, length, take, true, pos};
-ghost use Rattle.cap_log.specs.Lines.{IsInRange, IsPlace, spelling};
-ghost use Rattle.cap_log.specs.Parts.{BeginsWithNone};
+ghost use Rattle.std.specs.Prelude.{◌≡◌, ◌≢◌, ◌<◌, ◌≤◌, ◌*◌, drop, length, take, true};
+ghost use Rattle.cap_log.specs.{Lines.{IsInRange, IsPlace, spelling}, Parts.BeginsWithNone};
 ghost use Rattle.cap_log.specs.declared.lines.Line.TheVariants as lines;
-ghost use Rattle.cap_halves.specs.Passed.{cap_of, no_cap};
-ghost use Rattle.capcheck_c.specs.LinesRead.{IsLineRead, IsStepRead, Reads, ReadsFront, ReadsLines};
+ghost use Rattle.capcheck_c.specs.LinesRead.{IsLineRead, Reads, ReadsFront, ReadsLines};
 
 use crate::step_lines::step_read;
 use crate::values::{LineRead, LinesCount};

@@ -1,10 +1,8 @@
 //! The names of refusals, and a sentence for each.
 
 ghost use Rattle.std.specs.Prelude.{◌≡◌, ◌≢◌, ◌≤◌, [], codes, length, MatchOption};
-ghost use Rattle.cap_ops.specs.Refusals.{refusal_name, refusal_number};
-ghost use Rattle.cap_ops.specs.declared.refusal.Refusal.{Refusal};
-ghost use Rattle.capcheck_c.specs.Answers.{bad_argument, c_string};
-ghost use Rattle.capcheck_c.specs.Names.{c_string_in, refusal_sentence};
+ghost use Rattle.cap_ops.specs.{declared.refusal.Refusal.Refusal, Refusals.{refusal_name, refusal_number}};
+ghost use Rattle.capcheck_c.specs.{Answers.{bad_argument, c_string}, Names.{c_string_in, refusal_sentence}};
 
 use crate::names::{as_c_string, as_sentence};
 use crate::values::{RefusalName, Sentence};

@@ -2,12 +2,10 @@
 
 ghost use Rattle.std.specs.Prelude.{◌≡◌, ◌<◌, ◌≤◌, ◌+◌, ◌-◌, ◌*◌, ◌/◌, ◌%◌, ◌^◌, ◌↔◌, ℕ, IsTrue};
 ghost use Rattle.cap_word.specs.Fields.{address_of, b_of, e_of, ie_of, t_of};
-ghost use Rattle.cap_bounds.specs.Bounds.{IsInside, IsSound, IsWindow, base_of, cut_exponent_of, top_of};
-ghost use Rattle.cap_bounds.specs.Bounds.{unit_of, window_size};
-ghost use Rattle.cap_bounds.specs.Range.{KeepsBounds, window_start};
-ghost use Rattle.cap_bounds.specs.Rounding.{IsExact, IsLeastExponent, alignment_of, div_up, rounded_b};
-ghost use Rattle.cap_bounds.specs.Rounding.{rounded_base, rounded_exponent, rounded_ie, rounded_t};
-ghost use Rattle.cap_bounds.specs.Rounding.{rounded_top, rounded_word};
+ghost use Rattle.cap_bounds.specs.Bounds.{IsInside, IsSound, IsWindow, base_of, cut_exponent_of, top_of, unit_of};
+ghost use Rattle.cap_bounds.specs.{Bounds.window_size, Range.{KeepsBounds, window_start}};
+ghost use Rattle.cap_bounds.specs.Rounding.{IsExact, IsLeastExponent, alignment_of, div_up, rounded_b, rounded_base};
+ghost use Rattle.cap_bounds.specs.Rounding.{rounded_exponent, rounded_ie, rounded_t, rounded_top, rounded_word};
 ghost use Rattle.cap_bounds.specs.SailRounding.{sail_b, sail_exact, sail_exponent, sail_ie, sail_t};
 ghost use Rattle.cap_ops.specs.Roots.{IsRoot, IsRootRequest};
 ghost use Rattle.cap_halves.specs.Passed.{is_set, whole_of};

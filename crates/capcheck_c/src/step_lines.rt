@@ -6,8 +6,7 @@
 ghost use Rattle.std.specs.Prelude.{◌≡◌, ◌≢◌, ◌≤◌};
 ghost use Rattle.cap_log.specs.declared.lines.Line.TheVariants as line;
 ghost use Rattle.cap_halves.specs.PassedSteps as steps;
-ghost use Rattle.capcheck_c.specs.LinesRead.{IsStepRead};
-ghost use Rattle.capcheck_c.specs.LinesWritten.{AnswersLine};
+ghost use Rattle.capcheck_c.specs.{LinesRead.IsStepRead, LinesWritten.AnswersLine};
 
 use crate::values::LineRead;
 use cap_halves::halves::taken;

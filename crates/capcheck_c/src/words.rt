@@ -1,8 +1,7 @@
 //! Words: their fields, their layout in memory, their text.
 
 ghost use Rattle.std.specs.Prelude.{◌≡◌, ◌≢◌, ◌<◌, ◌≤◌, ◌^◌, ◌++◌, ◌↔◌, [], ◌∷◌, ℕ, slice_index};
-ghost use Rattle.cap_word.specs.Digits.{AreHexDigits, hex_digits};
-ghost use Rattle.cap_word.specs.Memory.{memory_byte, memory_of, stored_word};
+ghost use Rattle.cap_word.specs.{Digits.{AreHexDigits, hex_digits}, Memory.{memory_byte, memory_of, stored_word}};
 ghost use Rattle.cap_word.specs.Word.{null_word};
 ghost use Rattle.cap_halves.specs.Passed.{whole_of};
 ghost use Rattle.capcheck_c.specs.WordFields.{AreFields, HasFields, IsNoWord, joined_of};

@@ -1,9 +1,7 @@
 -- What the judge answers to C with its text (this profile's own, as are all below).
 use Rattle.std.specs.Prelude.{◌≡◌, ℕ, Bool, true, List, [], Option, None, Some}
-use Rattle.cap_report.specs.Answers.{AnswersBytes}
-use Rattle.cap_report.specs.Texts.{IsTold}
 use Rattle.cap_judge.specs.declared.verdict.Verdict.{Verdict}
-use Rattle.cap_report.specs.Whys.{Explains}
+use Rattle.cap_report.specs.{Answers.AnswersBytes, Texts.IsTold, Whys.Explains}
 use Rattle.capcheck_freestanding.specs.declared.explaining.Why.{Why}
 
 -- the text of an answer on all the bytes of a log: without a verdict it is empty

@@ -1,8 +1,7 @@
 //! The judge of a log that lies in memory, with its report.
 
 ghost use Rattle.std.specs.Prelude.{ℕ, List};
-ghost use Rattle.cap_report.specs.Answers.{AnswersBytes, NamesEscapesIn};
-ghost use Rattle.cap_report.specs.Sinks.{Took};
+ghost use Rattle.cap_report.specs.{Answers.{AnswersBytes, NamesEscapesIn}, Sinks.Took};
 ghost use Rattle.capcheck_freestanding.specs.Whys.{AnswersWhy, IsWhyOf};
 
 use cap_report::answers::{Answer, NO_MEMORY, numbers_of, without_verdict};

@@ -4,31 +4,26 @@
 --     handle_out           a handle by value is [the judge that it holds; its allocator]
 --     handle_in            the same put together
 --     either_held          the two cases of what it holds
-use Rattle.std.proofs.Common.{◌≡◌, List, [], ◌∷◌, ◌++◌, refl, ◌∙◌, lit<}
-use mathlib.Core.Bool.{Bool}
-use lib.Dec.{T}
-use seplogic.Ra.Ura.{Ura}
-use mir.Syntax.{impl, tnil, dnil, ty_ptr}
-use mir.Val.{Val, vbool, vstruct, vcons, vnil, of_list, has_ty, WT}
+use Rattle.std.specs.{Box.Ownership.box_owns, contracts.impls.GlobalAllocator.TheImpl.ghosts}
+use Rattle.std.specs.contracts.alloc.Global as heap
+use Rattle.std.proofs.Common.{◌≡◌, List, [], ◌∷◌, ◌++◌, refl, ◌∙◌, lit<, Option, is_some, None, Some}
+use Rattle.std.proofs.{ResultValues.and_tt, alloc.Calls.{Al, handle_tells}, cell.Inside.Good}
+use Rattle.std.proofs.alloc.Global.TheLaws as heap_laws
 use base.Fml.{Fml}
-use types.Logic.{Logic}
-use types.Kit.{Item, Goal, Seq, Step, step, ‵, ◌$◌, move, drop, fsplit, fjoin, fpick, fpack, feq_i, feq_l}
-use denote.RattleType.{RattleType, Valss}
 use denote.Builtin.{RawPtr, bool}
+use denote.Param.{layout}
+use denote.RattleType.{RattleType, Valss}
 use denote.RawPtr.{Ptr, block_ptr, null_ptr, ptr_val}
 use denote.Steps.{nothing}
-use denote.Param.{layout}
-use denote.Struct.Struct.{within}
 use denote.Struct.Owning.{shape, to}
-use Rattle.std.proofs.alloc.Calls.{Al, handle_tells}
-use Rattle.std.proofs.cell.Inside.{Good}
-use Rattle.std.proofs.ResultValues.{and_tt}
-use Rattle.std.specs.Prelude.{Option, is_some}
-use Rattle.std.specs.declared.option.Option.TheVariants.{None, Some}
-use Rattle.std.specs.Box.Ownership.{box_owns}
-use Rattle.std.specs.contracts.alloc.Global as heap
-use Rattle.std.proofs.alloc.Global.TheLaws as heap_laws
-use Rattle.std.specs.contracts.impls.GlobalAllocator.TheImpl.{ghosts}
+use denote.Struct.Struct.{within}
+use lib.Dec.{T}
+use mathlib.Core.Bool.{Bool}
+use mir.Syntax.{impl, tnil, dnil, ty_ptr}
+use mir.Val.{Val, vbool, vstruct, vcons, vnil, of_list, has_ty, WT}
+use seplogic.Ra.Ura.{Ura}
+use types.Kit.{Item, Goal, Seq, Step, step, ‵, ◌$◌, move, drop, fsplit, fjoin, fpick, fpack, feq_i, feq_l}
+use types.Logic.{Logic}
 use Rattle.tagmem.specs.contracts.page_store.PageStore.{the_row as store_row}
 use Rattle.tagmem.specs.contracts.page_store.PageStoreTaggedStore.TheImpl.{ghosts as store_ghosts}
 use Rattle.cap_judge.specs.contracts.judges.Judge.{the_row as judge_row}

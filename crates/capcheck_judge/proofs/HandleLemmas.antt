@@ -1,24 +1,17 @@
 -- What a handle holds, by the judge that was taken out of it.
 use Rattle.std.proofs.Common.{◌≡◌, ◌≢◌, refl, ◌<◌, ◌⊎◌, ◌∙◌, inl, inr, ℕ, List, [], ◌∷◌, ◌++◌, ap, arith, sym, subst}
-use Rattle.std.proofs.lemmas.Bool.{false≢true}
-use Rattle.std.specs.Prelude.{None, Option, is_some}
+use Rattle.std.proofs.{Common.{None, Option, is_some, Some}, lemmas.Bool.{false≢true}}
 use denote.RattleType.{RattleType}
-use Rattle.std.specs.declared.option.Option.TheVariants.{Some}
 use Rattle.cap_word.specs.declared.word.Cap.{Cap}
-use Rattle.cap_log.specs.Lines.{IsInRange, spelling}
-use Rattle.cap_log.specs.declared.lines.Line.{Line}
-use Rattle.cap_log.specs.declared.lines.Place.{Place}
-use Rattle.tagmem.specs.contracts.page_store.PageStore.{the_row as store_row}
-use Rattle.tagmem.specs.contracts.page_store.PageStoreTaggedStore.TheImpl.{ghosts}
-use Rattle.cap_judge.specs.contracts.judges.Judge.{the_row as judge_row}
-use Rattle.cap_judge.specs.Logs.{MayLackMemory}
-use Rattle.cap_judge.specs.Readings.{BeginsWhole, Follows, HasRead, Known, Lacks, Stands, at, known_of, stage_of, verdict_so_far}
-use Rattle.cap_judge.specs.Turns.{unread}
-use Rattle.cap_judge.specs.declared.verdict.Verdict.{Verdict}
-use Rattle.cap_judge.proofs.FollowLemmas.{follows_on}
-use Rattle.cap_judge.proofs.TurnLaws.{lacks_memory, none_so_far, reached, stands_so_far}
+use Rattle.cap_log.specs.{declared.lines.{Line.Line, Place.Place}, Lines.{IsInRange, spelling}}
+use Rattle.tagmem.specs.contracts.page_store.{PageStore.the_row as store_row, PageStoreTaggedStore.TheImpl.ghosts}
+use Rattle.cap_judge.specs.{declared.verdict.Verdict.Verdict, Logs.MayLackMemory, Readings.{BeginsWhole, Follows}}
+use Rattle.cap_judge.specs.Readings.{HasRead, Known, Lacks, Stands, at, known_of, stage_of, verdict_so_far}
+use Rattle.cap_judge.specs.{Turns.unread, contracts.judges.Judge.the_row as judge_row}
+use Rattle.cap_judge.proofs.{FollowLemmas.follows_on, TurnLaws.{lacks_memory, none_so_far, reached, stands_so_far}}
 use Rattle.cap_report.specs.declared.answers.Answer.{Answer}
-use Rattle.capcheck_judge.specs.Handles.{AnswersSoFar, Standing, HandsOver, Held, Holds, known_in, origin_behind, state_behind}
+use Rattle.capcheck_judge.specs.Handles.{AnswersSoFar, Standing, HandsOver, Held, Holds, known_in, origin_behind}
+use Rattle.capcheck_judge.specs.Handles.{state_behind}
 
 -- a judge over pages
 abbrev pub J : Type 0

@@ -5,31 +5,28 @@
 --     held_good        a pointer and an allocator have the layout of a kept box
 --     held_out         a kept box is [the value at its address, with the right to free it; the allocator]
 --     held_in          the same put together
-use Rattle.std.proofs.Common.{◌≡◌, ℕ, List, [], ◌∷◌, ◌++◌, refl, sym, ap, ◌∙◌, subst}
-use mathlib.Core.Bool.{true, ◌&&◌}
-use lib.Dec.{T}
-use seplogic.Ra.Ura.{Ura}
-use mir.Syntax.{impl, tnil, dnil}
-use mir.Raw.{raw as bare}
-use mir.Val.{Val, vptr, vstruct, vcons, vnil, of_list, has_ty, WT}
-use base.Logic.{SProp, ent, never, fst∗, id⊢}
+use Rattle.std.specs.{declared.alloc.Allocator.Ghosts, Box.Ownership.box_owns}
+use Rattle.std.proofs.{Common.{◌≡◌, ℕ, List, [], ◌∷◌, ◌++◌, refl, sym, ap, ◌∙◌, subst}, ResultValues.and_tt}
+use Rattle.std.proofs.{alloc.Calls.{Al, handle_tells}, cell.Inside.Good}
 use base.Fml.{Fml}
-use types.Logic.{Logic, sem}
-use types.Kit.{Item, Goal, Seq, Step, step, ‵, ◌$◌, move, drop, fsplit, fjoin, fpick, fpack, feq_i, feq_l}
-use denote.RattleType.{RattleType, Valss}
+use base.Logic.{SProp, ent, never, fst∗, id⊢}
 use denote.Builtin.{RawPtr}
 use denote.Memory.{lone}
-use denote.RawPtr.{Ptr, block_ptr, null_ptr, ptr_val, in_a_block}
-use denote.Steps.{nothing}
 use denote.Param.{layout}
 use denote.Param.Laws.{Laws}
-use denote.Struct.Struct.{within}
+use denote.RattleType.{RattleType, Valss}
+use denote.RawPtr.{Ptr, block_ptr, null_ptr, ptr_val, in_a_block}
+use denote.Steps.{nothing}
 use denote.Struct.Owning.{shape, to}
-use Rattle.std.specs.declared.alloc.Allocator.{Ghosts}
-use Rattle.std.proofs.alloc.Calls.{Al, handle_tells}
-use Rattle.std.proofs.cell.Inside.{Good}
-use Rattle.std.proofs.ResultValues.{and_tt}
-use Rattle.std.specs.Box.Ownership.{box_owns}
+use denote.Struct.Struct.{within}
+use lib.Dec.{T}
+use mathlib.Core.Bool.{true, ◌&&◌}
+use mir.Raw.{raw as bare}
+use mir.Syntax.{impl, tnil, dnil}
+use mir.Val.{Val, vptr, vstruct, vcons, vnil, of_list, has_ty, WT}
+use seplogic.Ra.Ura.{Ura}
+use types.Kit.{Item, Goal, Seq, Step, step, ‵, ◌$◌, move, drop, fsplit, fjoin, fpick, fpack, feq_i, feq_l}
+use types.Logic.{Logic, sem}
 use Rattle.capcheck_judge.specs.contracts.held.Held as held
 
 abbrev pub pair : Val → Val → Val

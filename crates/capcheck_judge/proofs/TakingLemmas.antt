@@ -1,21 +1,14 @@
 -- What a handle's judge takes that is handed lines.
-use Rattle.std.proofs.Common.{inl, ◌≡◌, ◌≢◌, ◌≤◌, ◌∙◌, ℕ, List, [], ◌++◌, ap, append_assoc, arith, drop, length, refl, subst, sym, take}
-use Rattle.std.proofs.lemmas.List.{take-append-drop}
-use Rattle.std.proofs.lemmas.Bool.{false≢true}
-use Rattle.std.specs.Prelude.{None, is_some}
-use Rattle.std.specs.declared.option.Option.TheVariants.{Some}
-use Rattle.cap_judge.specs.Judgings.{IsBehind}
-use Rattle.cap_judge.specs.Logs.{Beginning, MayLackMemory, Refuses}
-use Rattle.cap_judge.specs.Readings.{BeginsWhole, Follows, HasRead, IsAtFault, IsRest, StopsAt, stage_of}
-use Rattle.cap_judge.specs.Turns.{Due, Stage, unread}
-use Rattle.cap_judge.specs.declared.judges.Stop.{Stop}
-use Rattle.cap_judge.specs.declared.judges.Stop.TheVariants.{Cut, Fault, NoMemory}
+use Rattle.std.proofs.Common.{inl, ◌≡◌, ◌≤◌, ◌∙◌, ℕ, List, [], ◌++◌, ap, append_assoc, arith, drop, length, subst, take}
+use Rattle.std.proofs.Common.{take-append-drop, Some}
+use Rattle.cap_judge.specs.{declared.judges.Stop.{Stop, TheVariants.{Cut, Fault, NoMemory}}, Judgings.IsBehind}
+use Rattle.cap_judge.specs.{Logs.{MayLackMemory, Refuses}, Readings.{BeginsWhole, Follows, HasRead, IsAtFault, IsRest}}
+use Rattle.cap_judge.specs.{Readings.{StopsAt, stage_of}, Turns.{Due, Stage, unread}}
 use Rattle.cap_judge.proofs.FollowLemmas.{faults_at, follows_on}
 use Rattle.cap_judge.proofs.TurnLaws.{begins, clear_goes, fault_in, fault_reached, lacks_memory, not_refused, reached}
 use Rattle.cap_judge.proofs.TurnLemmas.{goes_on, stop_follows}
-use Rattle.capcheck_judge.specs.Handles.{HandsOverLines, Held, Holds, IsRefusedAfter}
-use Rattle.capcheck_judge.specs.Takings.{TakesLines, state_at}
 use Rattle.capcheck_judge.specs.declared.answers.LinesTaken.{LinesTaken}
+use Rattle.capcheck_judge.specs.{Handles.{HandsOverLines, Held, Holds, IsRefusedAfter}, Takings.{TakesLines, state_at}}
 use Rattle.capcheck_judge.proofs.HandleLemmas.{J, held_taken, there}
 
 -- the faulty line begins the rest that a judge stopped at, where none was faulty before

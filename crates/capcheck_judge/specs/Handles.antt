@@ -1,34 +1,22 @@
 -- What a handle of C holds, and what the calls on it answer (this profile's own, as are all below).
-use Rattle.std.specs.Prelude.{◌≡◌, ◌≢◌, ◌<◌, ◌≤◌, ◌↔◌, ◌*◌, ℕ, length, drop, take, List, [], ◌∷◌, ◌++◌, Option, None, Some}
+use Rattle.std.specs.Prelude.{◌≡◌, ◌≢◌, ◌<◌, ◌≤◌, ◌↔◌, ◌*◌, ℕ, length, drop, take, List, [], ◌∷◌, ◌++◌, Option, None}
+use Rattle.std.specs.Prelude.{Some}
 use denote.RattleType.{RattleType}
-use Rattle.cap_machine.specs.States.{State}
-use Rattle.tagmem.specs.contracts.page_store.PageStore.{the_row as store_row}
-use Rattle.tagmem.specs.contracts.page_store.PageStoreTaggedStore.TheImpl.{ghosts}
-use Rattle.cap_judge.specs.contracts.judges.Judge.{the_row as judge_row}
 use Rattle.cap_word.specs.declared.word.Cap.{Cap}
-use Rattle.cap_log.specs.Front.{IsCut}
-use Rattle.cap_log.specs.Lines.{IsInRange, spelling}
-use Rattle.cap_log.specs.declared.lines.Line.{Line}
-use Rattle.cap_log.specs.declared.lines.Place.{Place}
-use Rattle.cap_log.specs.declared.lines.Place.TheVariants.{Register, Granule}
-use Rattle.cap_halves.specs.Passed.{cap_of, no_cap}
-use Rattle.cap_judge.specs.declared.verdict.Expected.{Expected}
-use Rattle.cap_judge.specs.declared.verdict.Expected.TheVariants.{Capability, Number}
-use Rattle.cap_judge.specs.declared.verdict.Verdict.{Verdict}
-use Rattle.cap_judge.specs.Expectations.{Expects}
 use Rattle.cap_ops.specs.declared.refusal.Refusal.{Refusal}
-use Rattle.cap_judge.specs.Judgings.{IsBehind}
-use Rattle.cap_judge.specs.Logs.{Beginning, MayLackMemory, Refuses}
+use Rattle.cap_log.specs.{declared.lines.{Line.Line, Place.{Place, TheVariants.{Register, Granule}}}, Front.IsCut}
+use Rattle.cap_log.specs.Lines.{IsInRange, spelling}
+use Rattle.tagmem.specs.contracts.page_store.{PageStore.the_row as store_row, PageStoreTaggedStore.TheImpl.ghosts}
+use Rattle.cap_machine.specs.States.{State}
+use Rattle.cap_judge.specs.declared.verdict.{Expected.{Expected, TheVariants.{Capability, Number}}, Verdict.Verdict}
+use Rattle.cap_judge.specs.{Expectations.Expects, Judgings.IsBehind, Logs.{Beginning, MayLackMemory, Refuses}}
 use Rattle.cap_judge.specs.Readings.{BeginsWhole, HasRead, Known, Stands, known_of, stage_of}
-use Rattle.cap_judge.specs.Verdicts.{IsVerdict, IsGuarded}
+use Rattle.cap_judge.specs.{Verdicts.{IsVerdict, IsGuarded}, contracts.judges.Judge.the_row as judge_row}
+use Rattle.cap_report.specs.{declared.answers.Answer.Answer, Answers.{numbers_of, without_verdict}, Texts.IsTold}
 use Rattle.cap_report.specs.Whys.{ExplainsEnd, ExplainsSoFar}
-use Rattle.cap_report.specs.Answers.{numbers_of, without_verdict}
-use Rattle.cap_report.specs.Texts.{IsTold}
-use Rattle.cap_report.specs.declared.answers.Answer.{Answer}
+use Rattle.cap_halves.specs.Passed.{cap_of, no_cap}
+use Rattle.capcheck_judge.specs.declared.answers.{Given.Given, LinesTaken.LinesTaken, PassedPlace.PassedPlace}
 use Rattle.capcheck_judge.specs.declared.handle.Handle.{Handle}
-use Rattle.capcheck_judge.specs.declared.answers.Given.{Given}
-use Rattle.capcheck_judge.specs.declared.answers.LinesTaken.{LinesTaken}
-use Rattle.capcheck_judge.specs.declared.answers.PassedPlace.{PassedPlace}
 
 -- what a handle holds: a judge, or none
 abbrev pub Held : Type 0

@@ -1,12 +1,9 @@
 -- What a judge takes that is handed lines (this profile's own).
-use Rattle.std.specs.Prelude.{◌≡◌, ◌⊎◌, ◌≤◌, ℕ, List, length, drop, take}
+use Rattle.std.specs.Prelude.{◌≡◌, ◌≤◌, ℕ, List, length, drop, take}
 use denote.RattleType.{RattleType}
-use Rattle.tagmem.specs.contracts.page_store.PageStore.{the_row as store_row}
-use Rattle.tagmem.specs.contracts.page_store.PageStoreTaggedStore.TheImpl.{ghosts}
-use Rattle.cap_judge.specs.contracts.judges.Judge.{the_row as judge_row}
-use Rattle.cap_judge.specs.Readings.{StopsAt, stage_of}
-use Rattle.cap_judge.specs.declared.judges.Stop.{Stop}
-use Rattle.cap_judge.specs.declared.judges.Stop.TheVariants.{Cut, Fault, NoMemory}
+use Rattle.tagmem.specs.contracts.page_store.{PageStore.the_row as store_row, PageStoreTaggedStore.TheImpl.ghosts}
+use Rattle.cap_judge.specs.declared.judges.Stop.{Stop, TheVariants.{Cut, Fault, NoMemory}}
+use Rattle.cap_judge.specs.{Readings.{StopsAt, stage_of}, contracts.judges.Judge.the_row as judge_row}
 use Rattle.capcheck_judge.specs.declared.answers.LinesTaken.{LinesTaken}
 
 -- the state of a stop

@@ -1,11 +1,8 @@
 //! A judge that C holds: a pointer that only this library follows.
 
-ghost use Rattle.std.specs.Prelude.{◌≡◌, MatchOption, Option, None, Some};
-ghost use Rattle.std.specs.Box.Ownership.{box_owns};
-ghost use Rattle.std.specs.Coded.{coded_option};
+ghost use Rattle.std.specs.{Prelude.{◌≡◌, MatchOption, Option, None, Some}, Box.Ownership.box_owns, Coded.coded_option};
 ghost use denote.RattleType.{RattleType};
-ghost use Rattle.tagmem.specs.contracts.page_store.PageStore.{the_row as pages};
-ghost use Rattle.tagmem.specs.contracts.page_store.PageStoreTaggedStore.TheImpl.{ghosts};
+ghost use Rattle.tagmem.specs.contracts.page_store.{PageStore.the_row as pages, PageStoreTaggedStore.TheImpl.ghosts};
 ghost use Rattle.cap_judge.specs.contracts.judges.Judge.{the_row as judge_row};
 ghost use Rattle.capcheck_judge.specs.Holding.{held_by};
 

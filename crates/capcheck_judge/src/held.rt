@@ -1,7 +1,6 @@
 //! A box whose value stays where it is, while only its address is kept.
 
-ghost use Rattle.std.specs.Prelude.{◌≡◌};
-ghost use Rattle.std.specs.Box.Ownership.{box_owns};
+ghost use Rattle.std.specs.{Prelude.{◌≡◌}, Box.Ownership.box_owns};
 
 use std::alloc::Allocator;
 use std::marker::Model;

@@ -1,11 +1,11 @@
 //! What the machine of an open judge holds, and what it gives.
 
 ghost use Rattle.std.specs.Prelude.{◌≡◌, ◌≢◌, ◌⊎◌, ◌<◌, ◌≤◌, ◌/◌, ℕ, IfSome, List, None, Some};
-ghost use Rattle.cap_log.specs.Lines.{IsPlace};
-ghost use Rattle.cap_log.specs.declared.lines.Place.TheVariants.{Register, Granule};
-ghost use Rattle.cap_halves.specs.Passed.{cap_of, no_cap};
+ghost use Rattle.cap_log.specs.{declared.lines.Place.TheVariants.{Register, Granule}, Lines.IsPlace};
 ghost use Rattle.cap_machine.specs.States.{granule_key};
-ghost use Rattle.capcheck_judge.specs.Handles.{AnswersExpected, Holds, IsGiven, IsPassed, held_in, origin_behind, state_behind};
+ghost use Rattle.cap_halves.specs.Passed.{cap_of, no_cap};
+ghost use Rattle.capcheck_judge.specs.Handles.{AnswersExpected, Holds, IsGiven, IsPassed, held_in, origin_behind};
+ghost use Rattle.capcheck_judge.specs.Handles.{state_behind};
 
 use crate::answers::{Given, OptionalCap, PassedPlace};
 use crate::handle::Handle;

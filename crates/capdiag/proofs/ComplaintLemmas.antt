@@ -1,7 +1,6 @@
 -- The front of a word.
-use Rattle.std.proofs.Common.{◌≡◌, ℕ, inl, inr, List, length, take, min, sym, ap, ◌∙◌, arith}
+use Rattle.std.proofs.Common.{◌≡◌, ℕ, inl, inr, List, length, take, min, sym, ap, ◌∙◌, arith, take_all}
 use Rattle.std.proofs.lemmas.Bool.{cases_lt}
-use Rattle.std.proofs.lemmas.List.{take_all}
 
 -- at most 64 bytes of a text
 pub take_few : (text : List ℕ) (n : ℕ) → n ≡ min (length text) 64 → take n text ≡ take 64 text

@@ -1,19 +1,14 @@
 -- Laws of the answer of a judge of an allocator's log.
-use Rattle.std.proofs.Common.{◌≡◌, ◌≢◌, ◌≤◌, ℕ, Bool, true, false, List, [], ◌∷◌, ◌++◌, Result, Ok, Err, refl, sym, ap, subst, ◌∙◌, append-nil, append_assoc, arith}
-use Rattle.std.proofs.lemmas.List.Elements.{All-nil}
+use Rattle.std.proofs.Common.{◌≡◌, ◌≢◌, ◌≤◌, ℕ, Bool, true, false, List, [], ◌∷◌, ◌++◌, Result, Ok, Err, refl, sym, ap}
+use Rattle.std.proofs.{Common.{subst, ◌∙◌, append-nil, append_assoc, arith}, lemmas.List.Elements.All-nil}
 use Rattle.std.proofs.lemmas.Option.{none-some}
-use Rattle.cap_heap.specs.declared.lines.HeapLine.TheVariants.{Header, Root, End}
-use Rattle.cap_heap.specs.declared.verdict.HeapVerdict.{HeapVerdict}
-use Rattle.cap_heap.specs.declared.verdict.HeapVerdict.TheVariants.{Yes, No}
-use Rattle.cap_log.specs.declared.judge_faults.JudgeToFault.{JudgeToFault}
-use Rattle.cap_log.specs.declared.judge_faults.JudgeToFault.TheVariants.{Pull, NoMemory, Push}
+use Rattle.cap_log.specs.declared.judge_faults.JudgeToFault.{JudgeToFault, TheVariants.{Pull, NoMemory, Push}}
+use Rattle.cap_heap.specs.declared.{lines.HeapLine.TheVariants.{Header, Root, End}, refusal.HeapRefusal.HeapRefusal}
+use Rattle.cap_heap.specs.declared.verdict.HeapVerdict.{HeapVerdict, TheVariants.{Yes, No}}
 use Rattle.cap_heap.specs.HeapLogs.{CanBeGuardedThroughout, IsFirstHeapFault}
-use Rattle.cap_heap.specs.declared.refusal.HeapRefusal.{HeapRefusal}
-use Rattle.cap_heap.specs.HeapVerdicts.{BeginsHeapLog, IsHeapAnswerOf, Lasts}
-use Rattle.cap_heap.specs.HeapWhys.{IsHeapReport}
+use Rattle.cap_heap.specs.{HeapVerdicts.{BeginsHeapLog, IsHeapAnswerOf, Lasts}, HeapWhys.IsHeapReport}
 use Rattle.cap_heap.specs.VerdictLines.{IsHeapTold, TellsHeap, heap_status}
-use Rattle.cap_program.specs.Doings.{IsDone}
-use Rattle.cap_program.specs.Judging.{StopsJudging, judged}
+use Rattle.cap_program.specs.{Doings.IsDone, Judging.{StopsJudging, judged}}
 use Rattle.capdiag.specs.Answers.{ShowsHeap}
 
 -- no bytes are the beginning of a log

@@ -1,40 +1,29 @@
 -- What was done for an order, told of an input whose bytes are known.
-use Rattle.std.proofs.Common.{◌≡◌, ◌≤◌, ◌↔◌, ℕ, Bool, true, List, [], ◌++◌, Option, None, Some, Result, Ok, Err, take, refl, sym, ap, subst, ◌∙◌, append-nil, arith}
 use Rattle.std.specs.Io.KnownBytes.{Consumes}
-use Rattle.cap_log.specs.declared.judge_faults.JudgeFault.TheVariants as judge_faults
-use Rattle.cap_log.specs.declared.judge_faults.JudgeToFault.{JudgeToFault}
+use Rattle.std.proofs.Common.{◌≡◌, ◌≤◌, ◌↔◌, ℕ, Bool, true, List, [], ◌++◌, Option, None, Some, Result, Ok, Err, refl}
+use Rattle.std.proofs.Common.{sym, ap, subst, ◌∙◌, append-nil, arith}
+use Rattle.cap_log.specs.declared.judge_faults.{JudgeFault.JudgeFault, JudgeToFault.JudgeToFault}
 use Rattle.cap_log.specs.declared.judge_faults.JudgeToFault.TheVariants.{Pull, Push}
-use Rattle.cap_log.specs.declared.judge_faults.JudgeToFault.TheVariants as judging
-use Rattle.cap_judge.specs.Reports.{IsPushedFor}
-use Rattle.cap_judge.specs.VerdictLines.{verdict_status}
-use Rattle.cap_program.specs.Doings.{IsDone}
-use Rattle.cap_program.specs.Judging.{ShowsVerdict, StopsJudging, judged}
-use Rattle.cap_judge.specs.declared.verdict.Verdict.{Verdict}
-use Rattle.cap_judge.specs.declared.verdict.Verdict.TheVariants.{Yes, No}
-use Rattle.cap_judge.specs.Judgings.{IsAnswerOf, IsVerdictOf}
-use Rattle.cap_judge.specs.Verdicts.{IsVerdict}
-use Rattle.cap_judge.proofs.SourceLemmas.{of_all}
-use Rattle.cap_report.specs.FaultReports.{IsReport}
-use Rattle.cap_report.specs.Whys.{Explains}
-use Rattle.cap_program.specs.declared.faults.Fault.{Fault}
-use Rattle.cap_program.specs.declared.faults.Fault.TheVariants.{BadWords, BadWord, BadRequest, Read, Write, NoMemory}
-use Rattle.cap_program.specs.Commands.{IsMeant}
-use Rattle.cap_program.specs.Faults.{status_of}
-use Rattle.cap_judge.proofs.ReportLemmas.{tells_known, unanswered, verdict_few}
-use Rattle.cap_program.proofs.Judgements.{known_of, stopped_unfaulty}
 use Rattle.cap_heap.specs.HeapVerdicts.{IsHeapAnswerOf}
-use Rattle.capdiag.specs.declared.words.Order.{Order}
-use Rattle.capdiag.specs.declared.words.Order.TheVariants.{Help, Version, Why, Heap}
-use Rattle.capdiag.proofs.HeapLemmas.{heap_few, heap_known}
+use Rattle.cap_judge.specs.{declared.verdict.Verdict.{Verdict, TheVariants.{Yes, No}}, Judgings.IsAnswerOf}
+use Rattle.cap_judge.specs.{Judgings.IsVerdictOf, Reports.IsPushedFor, VerdictLines.verdict_status, Verdicts.IsVerdict}
+use Rattle.cap_judge.proofs.{ReportLemmas.{tells_known, unanswered, verdict_few}, SourceLemmas.of_all}
+use Rattle.cap_report.specs.{FaultReports.IsReport, Whys.Explains}
+use Rattle.cap_program.specs.declared.faults.Fault.{Fault, TheVariants.{BadWords, BadWord, BadRequest, Read, Write}}
+use Rattle.cap_program.specs.{declared.faults.Fault.TheVariants.NoMemory, Commands.IsMeant, Doings.IsDone}
+use Rattle.cap_program.specs.{Faults.status_of, Judging.{ShowsVerdict, StopsJudging, judged}}
+use Rattle.cap_program.proofs.Judgements.{known_of, stopped_unfaulty}
+use Rattle.capdiag.specs.declared.words.Order.{Order, TheVariants.{Help, Version, Why, Heap}}
 use Rattle.capdiag.specs.Answers.{Fails, IsFaulty, Prints, Shows, order_meaning}
+use Rattle.capdiag.proofs.HeapLemmas.{heap_few, heap_known}
 
 -- what was pushed for an answer is what was done for the order
 pub judged_done : (tells : Verdict → List ℕ → Type 0) (given : List ℕ) (ended : Bool) (took : List ℕ → Type 0)
     (answer : Result Verdict JudgeToFault) → IsPushedFor tells given ended took answer
     → IsDone (ShowsVerdict verdict_status (IsAnswerOf given ended) tells) (StopsJudging (IsAnswerOf given true)) took (judged verdict_status answer)
 judged_done tells given ended took (Ok verdict) p = (p.1, (verdict, p.0, p.2, refl), p.3)
-judged_done tells given ended took (Err Pull) p = (unanswered given ended judge_faults.Pull p.0, p.1)
-judged_done tells given ended took (Err judging.NoMemory) p = (unanswered given ended judge_faults.NoMemory p.0, p.1)
+judged_done tells given ended took (Err Pull) p = (unanswered given ended JudgeFault.Pull p.0, p.1)
+judged_done tells given ended took (Err JudgeToFault.NoMemory) p = (unanswered given ended JudgeFault.NoMemory p.0, p.1)
 judged_done tells given ended took (Err Push) p = (p.2, verdict_status p.0, (p.0, p.1, p.3, refl), p.4, p.5)
 
 -- a text for all bytes given, with the report of a no

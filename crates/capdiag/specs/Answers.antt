@@ -1,19 +1,13 @@
 -- What the program prints for an order, and what belongs to the bytes that were given for it. All of it is this
 -- profile's own.
 use Rattle.std.specs.Prelude.{◌≡◌, ℕ, Bool, true, List, Option, Some, None, IfSome, codes}
-use Rattle.cap_judge.specs.declared.verdict.Verdict.{Verdict}
-use Rattle.cap_judge.specs.Judgings.{IsAnswerOf}
-use Rattle.cap_judge.specs.VerdictLines.{verdict_status}
+use Rattle.cap_heap.specs.{HeapVerdicts.IsHeapAnswerOf, VerdictLines.{TellsHeap, heap_status}}
+use Rattle.cap_judge.specs.{declared.verdict.Verdict.Verdict, Judgings.IsAnswerOf, VerdictLines.verdict_status}
 use Rattle.cap_judge.specs.Verdicts.{IsVerdict}
-use Rattle.cap_heap.specs.HeapVerdicts.{IsHeapAnswerOf}
-use Rattle.cap_heap.specs.VerdictLines.{TellsHeap, heap_status}
 use Rattle.cap_report.specs.Whys.{Explains}
-use Rattle.cap_program.specs.Commands.{Meaning}
-use Rattle.cap_program.specs.declared.faults.Fault.{Fault}
-use Rattle.cap_program.specs.declared.faults.Fault.TheVariants.{BadWords}
+use Rattle.cap_program.specs.{declared.faults.Fault.{Fault, TheVariants.BadWords}, Commands.Meaning}
 use Rattle.cap_program.specs.Judging.{ShowsVerdict, StopsJudging}
-use Rattle.capdiag.specs.declared.words.Order.{Order}
-use Rattle.capdiag.specs.declared.words.Order.TheVariants.{Help, Version, Why, Heap}
+use Rattle.capdiag.specs.declared.words.Order.{Order, TheVariants.{Help, Version, Why, Heap}}
 use Rattle.capdiag.specs.Showings.{help_text, version_line}
 
 -- the text of the verdict on the bytes given as an allocator's log, with the reports of a yes and of a no where they are

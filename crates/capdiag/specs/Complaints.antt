@@ -1,12 +1,11 @@
 -- What the program says of words that spell no order, and of a file that cannot be opened. All of it is this profile's
 -- own.
 use Rattle.std.specs.Prelude.{◌≡◌, ◌⊎◌, ℕ, Bool, true, false, IsTrue, List, [], ◌∷◌, ◌++◌, take, codes}
-use Rattle.cap_program.specs.Words.{is_operand}
 use Rattle.cap_texts.specs.ShownBytes.{shown}
+use Rattle.cap_program.specs.Words.{is_operand}
 use Rattle.capdiag.specs.declared.complaints.Complaint.{Complaint}
 use Rattle.capdiag.specs.declared.complaints.Complaint.TheVariants.{NoCommand, Command, Option, AfterFile, Together}
-use Rattle.capdiag.specs.declared.complaints.Unopened.{Unopened}
-use Rattle.capdiag.specs.declared.complaints.Unopened.TheVariants.{Missing, Denied, Other}
+use Rattle.capdiag.specs.declared.complaints.Unopened.{Unopened, TheVariants.{Missing, Denied, Other}}
 
 -- the options of heap, or of why
 abbrev pub IsKnown : Bool → List ℕ → Type 0

@@ -1,8 +1,7 @@
 -- What the words after the program's name ask for.
 use Rattle.std.specs.Prelude.{◌≡◌, ◌⊎◌, ℕ, List, [], ◌∷◌, ◌++◌, codes, IsTrue, Some, None}
 use Rattle.cap_program.specs.Words.{is_operand, option_word}
-use Rattle.capdiag.specs.declared.words.Order.{Order}
-use Rattle.capdiag.specs.declared.words.Order.TheVariants.{Help, Version, Why, Heap}
+use Rattle.capdiag.specs.declared.words.Order.{Order, TheVariants.{Help, Version, Why, Heap}}
 
 -- the words ask how the program is used (this profile's own)
 abbrev pub AsksHelp : List (List ℕ) → Type 0

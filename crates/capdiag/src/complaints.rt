@@ -3,8 +3,8 @@
 ghost use Rattle.std.specs.Prelude.{◌≡◌, ℕ, List, ◌+◌, ◌≤◌, ◌↔◌, IsTrue, length, map, take};
 ghost use Rattle.cap_log.specs.Parts.{Writes};
 ghost use Rattle.cap_program.specs.Doings.{IsPushed};
-ghost use Rattle.cap_texts.specs.ShownBytes.{shown};
-ghost use Rattle.capdiag.specs.Complaints.{IsComplaint, IsKnown, IsOperandComplaint, IsWordsLine, complaint_line, front_text, quoted, reason_text, subject, unopened_line};
+ghost use Rattle.capdiag.specs.Complaints.{IsComplaint, IsKnown, IsOperandComplaint, IsWordsLine, complaint_line};
+ghost use Rattle.capdiag.specs.Complaints.{front_text, quoted, reason_text, subject, unopened_line};
 
 use cap_log::buffers::put;
 use cap_log::{Sink, push_all};

@@ -1,11 +1,9 @@
 //! Judging an input, and pushing the verdict with the diagnosis.
 
 ghost use Rattle.std.specs.Prelude.{◌≡◌, ℕ, List, true};
-ghost use Rattle.cap_program.specs.Doings.{IsCounted, IsDone};
-ghost use Rattle.cap_program.specs.Judging.{ShowsVerdict, StopsJudging, judged};
-ghost use Rattle.cap_judge.specs.Judgings.{IsAnswerOf};
-ghost use Rattle.cap_judge.specs.VerdictLines.{verdict_status};
+ghost use Rattle.cap_judge.specs.{Judgings.IsAnswerOf, VerdictLines.verdict_status};
 ghost use Rattle.cap_report.specs.Whys.{Explains};
+ghost use Rattle.cap_program.specs.{Doings.{IsCounted, IsDone}, Judging.{ShowsVerdict, StopsJudging, judged}};
 
 use cap_judge::{JudgeToFault, Verdict, verdict_status};
 use cap_log::{Sink, Source};

@@ -1,10 +1,8 @@
 //! Judging an allocator's log, and pushing the verdict.
 
 ghost use Rattle.std.specs.Prelude.{◌≡◌, ℕ, List, true};
-ghost use Rattle.cap_heap.specs.HeapVerdicts.{IsHeapAnswerOf};
-ghost use Rattle.cap_heap.specs.VerdictLines.{heap_status};
-ghost use Rattle.cap_program.specs.Doings.{IsCounted, IsDone};
-ghost use Rattle.cap_program.specs.Judging.{StopsJudging, judged};
+ghost use Rattle.cap_heap.specs.{HeapVerdicts.IsHeapAnswerOf, VerdictLines.heap_status};
+ghost use Rattle.cap_program.specs.{Doings.{IsCounted, IsDone}, Judging.{StopsJudging, judged}};
 ghost use Rattle.capdiag.specs.Answers.{ShowsHeap};
 
 use cap_heap::{HeapVerdict, JudgeToFault, heap_status, judge_heap_to};

@@ -1,8 +1,7 @@
 //! What the program does with an order: its texts and its exit status.
 
 ghost use Rattle.std.specs.Prelude.{◌≡◌, ◌≤◌, None, length};
-ghost use Rattle.cap_program.specs.Doings.{known_bytes};
-ghost use Rattle.cap_program.specs.Runs.{IsRan};
+ghost use Rattle.cap_program.specs.{Doings.known_bytes, Runs.IsRan};
 ghost use Rattle.capdiag.specs.Answers.{order_meaning};
 
 use crate::explaining::explain_source;

@@ -2,9 +2,8 @@
 
 ghost use Rattle.std.specs.Prelude.{◌≡◌, ◌≢◌, [], Err, Some, false};
 ghost use Rattle.cap_program.specs.Doings.{IsCounted, IsDone};
-ghost use Rattle.capdiag.specs.Answers.{Fails, Shows};
+ghost use Rattle.capdiag.specs.{declared.words.Order.TheVariants.{Help, Version}, Answers.{Fails, Shows}};
 ghost use Rattle.capdiag.specs.Showings.{help_text, version_line};
-ghost use Rattle.capdiag.specs.declared.words.Order.TheVariants.{Help, Version};
 
 use cap_log::Sink;
 use cap_program::{Fault, show};

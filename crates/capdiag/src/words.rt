@@ -2,8 +2,7 @@
 
 ghost use Rattle.std.specs.Prelude.{◌≡◌, [], ◌∷◌, ℕ, Bool, List, Option, IfSome, IfNone, codes, false, map, true};
 ghost use Rattle.std.proofs.Common.{Bor};
-ghost use Rattle.capdiag.specs.declared.words.Order.TheVariants.{Heap, Why};
-ghost use Rattle.capdiag.specs.Orders.{Asks};
+ghost use Rattle.capdiag.specs.{declared.words.Order.TheVariants.{Heap, Why}, Orders.Asks};
 
 use cap_program::{is_operand, take_option};
 

@@ -1,8 +1,7 @@
 -- What the search for an exponent finds is the rounding of the request.
 use Rattle.std.proofs.Common.{◌≡◌, ℕ, ◌+◌, ◌*◌, ◌/◌, ◌%◌, ◌^◌, ◌<◌, ◌≤◌, sym, ap, ◌∙◌, refl, arith}
 use Rattle.cap_bounds.specs.Rounding.{div_up, IsLeastExponent, rounded_base, rounded_top, rounded_b, rounded_t}
-use Rattle.cap_bounds.proofs.Roundings.{rounded_base_is, rounded_top_is, rounded_top-le, long_request}
-use Rattle.cap_bounds.proofs.Powers.{pow_le}
+use Rattle.cap_bounds.proofs.{Powers.pow_le, Roundings.{rounded_base_is, rounded_top_is, rounded_top-le, long_request}}
 
 pub unit-lt : (e : ℕ) → e ≤ 52 → 1 * 2 ^ (e + 3) % 2 ^ 128 < 2 ^ 56
 unit-lt e h = let p : 2 ^ (e + 3) ≤ 2 ^ 55 = pow_le (e + 3) 55 (omega arith) in omega arith

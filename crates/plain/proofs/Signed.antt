@@ -1,13 +1,10 @@
 -- Signed numbers 2 ^ 66 higher, and the numbers of an interval that are congruent to one.
-use Rattle.std.proofs.Common.{◌≡◌, ℕ, ◌+◌, ◌-◌, ◌*◌, ◌/◌, ◌%◌, ◌^◌, ◌<◌, ◌≤◌, sym, ap, ◌∙◌, refl, arith, lit<, lit≤}
-use Rattle.std.proofs.Common.{ℤ, pos, negsuc, ◌+ℤ◌, ◌-ℤ◌, FitsSigned, to_z, of_z, to_z-of_z}
-use Rattle.std.proofs.lemmas.Int.{to_z_pos}
-use Rattle.std.proofs.Math.Nat.{add-mul-mod_self_right, mod-lt, mod-eq_of_lt, mul-lt-mul_of_pos_right, div-add-mod'}
-use Rattle.std.proofs.lemmas.Nat.{pow_pos, shl_whole, shl_below}
-use Rattle.std.proofs.lemmas.Int.{ints, int_rem_euclid_is}
-use Rattle.std.specs.Int.{w128}
-use Rattle.std.specs.Int.RustNames.{unsigned_abs}
-use Rattle.std.specs.Int.{int_rem_euclid}
+use Rattle.std.specs.Int.{w128, int_rem_euclid}
+use Rattle.std.proofs.Common.{◌≡◌, ℕ, ◌+◌, ◌-◌, ◌*◌, ◌/◌, ◌%◌, ◌^◌, ◌<◌, ◌≤◌, sym, ap, ◌∙◌, refl, arith, lit<, lit≤, ℤ}
+use Rattle.std.proofs.Common.{pos, negsuc, ◌+ℤ◌, ◌-ℤ◌, FitsSigned, to_z, of_z, to_z-of_z, mod-lt, mod-eq_of_lt}
+use Rattle.std.proofs.Common.{mul-lt-mul_of_pos_right, div-add-mod', pow_pos, unsigned_abs}
+use Rattle.std.proofs.{Math.Nat.add-mul-mod_self_right, lemmas.Int.{to_z_pos, ints, int_rem_euclid_is}}
+use Rattle.std.proofs.lemmas.Nat.{shl_whole, shl_below}
 use borrow.Author.Differences.{up, down}
 use Rattle.cap_bounds.specs.Bounds.{IsResidue}
 use Rattle.cap_bounds.proofs.Powers.{pow_split, pow_le, size_is}

@@ -2,8 +2,7 @@
 //! and to T units.
 
 ghost use Rattle.std.specs.Prelude.{◌≡◌, ◌+◌, ◌*◌, ◌/◌, ◌%◌, ◌<◌, ◌≤◌, ◌^◌, ◌↔◌, IsTrue, min};
-ghost use Rattle.cap_bounds.specs.Bounds.{AreBounds, IsMantissa, IsResidue, IsSound, base_of, length_of, top_of};
-ghost use Rattle.cap_bounds.specs.Range.{KeepsBounds};
+ghost use Rattle.cap_bounds.specs.{Bounds.{AreBounds, IsMantissa, IsResidue, IsSound, length_of}, Range.KeepsBounds};
 ghost use Rattle.plain.specs.Raised.{IsNear, raised};
 
 use crate::residues::{cut, following, power, residue, scaled};

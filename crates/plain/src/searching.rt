@@ -1,7 +1,8 @@
 //! The rounding of a request, as the definitions have it: by trying each exponent.
 
 ghost use Rattle.std.specs.Prelude.{◌≡◌, ◌<◌, ◌≤◌, ◌+◌, ◌^◌, ◌↔◌, IsTrue};
-ghost use Rattle.cap_bounds.specs.Rounding.{HasRounding, IsExact, IsLeastExponent, div_up, rounded_base, rounded_top, units_of};
+ghost use Rattle.cap_bounds.specs.Rounding.{HasRounding, IsExact, IsLeastExponent, div_up, rounded_base, rounded_top};
+ghost use Rattle.cap_bounds.specs.Rounding.{units_of};
 
 use cap_bounds::Rounded;
 

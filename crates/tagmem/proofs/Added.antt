@@ -1,19 +1,14 @@
 -- A block more, with a write in one granule.
-use Rattle.std.proofs.Common.{◌≡◌, ℕ, ◌+◌, ◌/◌, ◌%◌, ◌^◌, ◌<◌, ◌≤◌, Bool, List, [], ◌∷◌, ◌++◌, length, get_or, set, All, Option, None, sym}
-use Rattle.std.proofs.Common.{ap, subst, ◌∙◌, arith}
-use Rattle.std.specs.FinMap as map
 use Rattle.std.specs.FinMap.{from_entries}
-use Rattle.std.proofs.lemmas.List.{length-append, get_or_push}
-use Rattle.std.proofs.lemmas.List.Elements.{All-append, All-cons, All-nil}
-use Rattle.std.proofs.Math.Seq.{set-append_seam}
-use Rattle.tagmem.specs.declared.block.Block.{Block}
-use Rattle.tagmem.specs.Granules.{with_write, IsCodeFor, AreStored}
-use Rattle.tagmem.specs.Blocks.{slots_of, contents_of, numbers_of, IsUsed, EachUsed, IsAbsent, IsDirectory}
-use Rattle.tagmem.specs.Pages.{IsWith}
-use Rattle.tagmem.proofs.Granules.{len-put_new}
-use Rattle.tagmem.proofs.Blocks.{get_absent}
-use Rattle.tagmem.proofs.Directories.{numbers_of-push, IsDirectory-push, IsBlockAt-push, entries_of-push}
-use Rattle.tagmem.proofs.Writes.{IsRead, IsWritten, IsUsed-written, IsDirectory-write, contents_of-write, AreStored-write}
+use Rattle.std.specs.FinMap as map
+use Rattle.std.proofs.Common.{◌≡◌, ℕ, ◌+◌, ◌/◌, ◌%◌, ◌^◌, ◌<◌, ◌≤◌, Bool, List, [], ◌∷◌, ◌++◌, length, get_or, set, All}
+use Rattle.std.proofs.{Common.{Option, None, sym, ap, subst, ◌∙◌, arith, length-append}, Math.Seq.set-append_seam}
+use Rattle.std.proofs.lemmas.List.{get_or_push, Elements.{All-append, All-cons, All-nil}}
+use Rattle.tagmem.specs.{declared.block.Block.Block, Blocks.{slots_of, contents_of, numbers_of, IsUsed, EachUsed}}
+use Rattle.tagmem.specs.{Blocks.{IsAbsent, IsDirectory}, Granules.{with_write, IsCodeFor, AreStored}, Pages.IsWith}
+use Rattle.tagmem.proofs.{Blocks.get_absent, Directories.{numbers_of-push, IsDirectory-push, IsBlockAt-push}}
+use Rattle.tagmem.proofs.{Directories.entries_of-push, Granules.len-put_new, Writes.{IsRead, IsWritten, IsUsed-written}}
+use Rattle.tagmem.proofs.Writes.{IsDirectory-write, contents_of-write, AreStored-write}
 
 -- a block of which no granule was put, and which has a write since, stands behind the others
 pub record IsAdded (blocks : List Block) (old new : ℕ → Option ℕ) (index g : ℕ) (first : Block)

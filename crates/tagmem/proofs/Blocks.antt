@@ -1,25 +1,16 @@
 -- What blocks have at a granule, and what a put in one of them does.
-use Rattle.std.proofs.Common.{◌≡◌, ℕ, zero, suc, ◌+◌, ◌-◌, ◌*◌, ◌/◌, ◌%◌, ◌<◌, ◌≤◌, ◌≢◌, Bool, true, false, cond, eqb, leb}
-use Rattle.std.proofs.Common.{List, [], ◌∷◌, ◌++◌, length, get_or, set, Option, Some, None, sym, refl, ap, subst, ◌∙◌, arith}
-use Rattle.std.specs.Prelude.{MatchOption}
-use Rattle.std.specs.Ordering.{nat_cmp, eq_by_cmp}
-use Rattle.std.specs.Cmp.{nat_cmp_total, unsigned_tied}
-use Rattle.std.specs.Option.{option_or}
+use Rattle.std.specs.{Cmp.{nat_cmp_total, unsigned_tied}, FinMap.{find, get-from_entries, nat_cmp-IsAntisymmetric}}
+use Rattle.std.specs.{FinMap.same_map, Option.option_or, Ordering.eq_by_cmp}
 use Rattle.std.specs.FinMap as map
-use Rattle.std.specs.FinMap.{find, get-from_entries, nat_cmp-IsAntisymmetric, same_map}
-use Rattle.std.proofs.lemmas.Bool.{eqb-true}
-use Rattle.std.proofs.lemmas.Bool.Decides.{nat_tests}
+use Rattle.std.proofs.Common.{◌≡◌, ℕ, zero, suc, ◌+◌, ◌-◌, ◌*◌, ◌/◌, ◌%◌, ◌<◌, ◌≤◌, ◌≢◌, Bool, true, false, cond, eqb}
+use Rattle.std.proofs.Common.{leb, List, [], ◌∷◌, ◌++◌, length, get_or, set, Option, Some, None, sym, refl, ap, subst}
+use Rattle.std.proofs.Common.{◌∙◌, arith, MatchOption, nat_cmp, eqb-true, get_or-set_same, get_or-set_other}
+use Rattle.std.proofs.{Math.ListN.get_or-eq_default, lemmas.{Bool.Decides.nat_tests, List.length-map}}
 use Rattle.std.proofs.lemmas.Option.{none-some, same_Some}
-use Rattle.std.proofs.lemmas.List.{get_or-set_same, get_or-set_other, length-map}
-use Rattle.std.proofs.Math.ListN.{get_or-eq_default}
-use Rattle.tagmem.specs.declared.block.Block.{Block}
-use Rattle.tagmem.specs.Granules.{Entry}
-use Rattle.tagmem.specs.Blocks.{slots_of, slot_with, with_slot, entries_from, entries_of, contents_of, block_number_at, numbers_of, IsBlockAt}
-use Rattle.tagmem.specs.Blocks.{IsAbsent, IsNextBlock, IsDirectory}
-use Rattle.tagmem.specs.Chains.{IsMissing, IsThere}
-use Rattle.tagmem.specs.Pages.{IsLeast}
-use Rattle.tagmem.proofs.Granules.{get-put}
-use Rattle.tagmem.proofs.Slots.{length-slots_with, get_or-slots_with}
+use Rattle.tagmem.specs.{declared.block.Block.Block, Blocks.{slots_of, slot_with, with_slot, entries_from, entries_of}}
+use Rattle.tagmem.specs.Blocks.{contents_of, block_number_at, numbers_of, IsBlockAt, IsAbsent, IsNextBlock, IsDirectory}
+use Rattle.tagmem.specs.{Chains.{IsMissing, IsThere}, Granules.Entry, Pages.IsLeast}
+use Rattle.tagmem.proofs.{Granules.get-put, Slots.{length-slots_with, get_or-slots_with}}
 
 -- a block has 16 slots
 pub length-slots_of : (block : Block) → length (slots_of block) ≡ 16

@@ -1,16 +1,11 @@
 -- What becomes of a directory as blocks change and are added.
-use Rattle.std.proofs.Common.{◌≡◌, ℕ, ◌+◌, ◌*◌, ◌<◌, true, false, eqb, List, [], ◌∷◌, ◌++◌, length, get_or, set, map, Some, None}
-use Rattle.std.proofs.Common.{Option, suc, sym, refl, ap, subst, ◌∙◌, arith}
-use Rattle.std.proofs.lemmas.Bool.{eqb-true}
-use Rattle.std.proofs.lemmas.Bool.Decides.{nat_tests}
+use Rattle.std.proofs.Common.{◌≡◌, ℕ, ◌+◌, ◌*◌, ◌<◌, true, false, eqb, List, [], ◌∷◌, ◌++◌, length, get_or, set, map}
+use Rattle.std.proofs.Common.{Some, None, Option, suc, sym, refl, ap, subst, ◌∙◌, arith, eqb-true, length-append}
+use Rattle.std.proofs.{Common.length-set, Math.Seq.map-set_same, lemmas.Bool.Decides.nat_tests}
+use Rattle.std.proofs.lemmas.List.{get_or-map, length-map, map-append, get_or_append_left, get_or_push}
 use Rattle.std.proofs.lemmas.Option.{none-some, same_Some}
-use Rattle.std.proofs.lemmas.List.{get_or-map, length-map, length-append, map-append, get_or_append_left, get_or_push}
-use Rattle.std.proofs.Math.ListN.{length-set}
-use Rattle.std.proofs.Math.Seq.{map-set_same}
-use Rattle.tagmem.specs.declared.block.Block.{Block}
-use Rattle.tagmem.specs.Granules.{Entry}
-use Rattle.tagmem.specs.Pages.{IsWith}
-use Rattle.tagmem.specs.Blocks.{slots_of, with_slot, entries_from, entries_of, numbers_of, block_number_at, IsBlockAt, IsAbsent, IsDirectory}
+use Rattle.tagmem.specs.{declared.block.Block.Block, Blocks.{slots_of, with_slot, entries_from, entries_of, numbers_of}}
+use Rattle.tagmem.specs.{Blocks.{block_number_at, IsBlockAt, IsAbsent, IsDirectory}, Granules.Entry, Pages.IsWith}
 
 -- the number that a block has
 abbrev number_of : Block → ℕ

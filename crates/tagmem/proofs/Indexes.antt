@@ -1,22 +1,17 @@
 -- What a search finds among entries whose granules rise, and what an edit at that index does.
-use Rattle.std.proofs.Common.{◌≡◌, ℕ, ◌+◌, ◌-◌, ◌<◌, ◌≤◌, List, [], ◌∷◌, length, map, get_or, set, take, drop, Some, None, false, Result, Ok}
-use Rattle.std.proofs.Common.{Equal, Err, IfOk, IfErr, OnOk, OnErr, is_ok, Bool, true, cond, sym, refl, ap, subst, ◌∙◌, arith}
-use Rattle.std.specs.FinMap as finite
-use Rattle.std.specs.List.{insert}
 use Rattle.std.specs.List.Sorted.{IsSearchInRange, IsBinarySearchResult, IsNonDecreasingBy, IsStrictlyIncreasing}
-use Rattle.std.specs.Ordering.{nat_cmp, ordering_index}
-use Rattle.std.proofs.Math.Seq.{map-set_same}
-use Rattle.std.proofs.lemmas.Bool.Decides.{nat_tests}
-use Rattle.std.proofs.lemmas.Cmp.{ranked}
-use Rattle.std.proofs.lemmas.List.{get_or-map, length-map, map-append, take-map, drop-map}
-use Rattle.std.proofs.lemmas.List.Edits.{length-insert, get_or-insert_below, get_or-insert_at, get_or-insert_above}
-use Rattle.std.proofs.lemmas.List.Elements.{All-append, All-cons, All-take, All-drop}
-use Rattle.std.proofs.lemmas.List.Sorted.{IsNonDecreasingBy-from_default}
-use Rattle.tagmem.specs.declared.list_store.Listed.{Listed}
-use Rattle.std.proofs.lemmas.Option.{none-some}
-use Rattle.tagmem.specs.Granules.{IsStored, IsNextPut}
-use Rattle.tagmem.specs.Listed.{entry_of, contents_of, granules_of, IsRising, AllStored, IsEntryAt, IsGapFor}
+use Rattle.std.specs.Ordering.{ordering_index}
+use Rattle.std.specs.FinMap as finite
+use Rattle.std.proofs.Common.{◌≡◌, ℕ, ◌+◌, ◌-◌, ◌<◌, ◌≤◌, List, [], ◌∷◌, length, map, get_or, set, take, drop, Some}
+use Rattle.std.proofs.Common.{None, false, Result, Ok, Equal, Err, IfOk, IfErr, OnOk, OnErr, is_ok, Bool, true, cond}
+use Rattle.std.proofs.{Common.{sym, refl, ap, subst, ◌∙◌, arith, insert, nat_cmp}, Math.Seq.map-set_same}
+use Rattle.std.proofs.lemmas.{Bool.Decides.nat_tests, Cmp.ranked, List.{get_or-map, length-map, map-append, take-map}}
+use Rattle.std.proofs.lemmas.List.{drop-map, Edits.{length-insert, get_or-insert_below, get_or-insert_at}}
+use Rattle.std.proofs.lemmas.List.{Edits.get_or-insert_above, Elements.{All-append, All-cons, All-take, All-drop}}
+use Rattle.std.proofs.lemmas.{List.Sorted.IsNonDecreasingBy-from_default, Option.none-some}
+use Rattle.tagmem.specs.{declared.list_store.Listed.Listed, Granules.{IsStored, IsNextPut}}
 use Rattle.tagmem.specs.ListLaws.{granule_at, get-contents_of, NoneBefore, found_absent, RisesFar, rises_far}
+use Rattle.tagmem.specs.Listed.{entry_of, contents_of, granules_of, IsRising, AllStored, IsEntryAt, IsGapFor}
 use Rattle.tagmem.proofs.Listed.{contents_of-put, found_present, found-set, found-insert}
 
 -- an entry to stand for one that is not there

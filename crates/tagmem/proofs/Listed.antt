@@ -1,13 +1,10 @@
 -- What an edit of a list of entries does to the map that it is.
-use Rattle.std.proofs.Common.{◌≡◌, ℕ, zero, suc, cond, eqb, List, [], ◌∷◌, get_or, set, Some, sym, refl, ap, ◌∙◌, arith}
-use Rattle.std.specs.Cmp.{nat_cmp_total}
+use Rattle.std.specs.{Cmp.nat_cmp_total, FinMap.{nat_cmp-IsAntisymmetric, same_map}}
 use Rattle.std.specs.FinMap as map
-use Rattle.std.specs.FinMap.{nat_cmp-IsAntisymmetric, same_map}
-use Rattle.std.specs.List.{insert}
-use Rattle.std.proofs.lemmas.Bool.Decides.{nat_tests}
-use Rattle.tagmem.specs.declared.list_store.Listed.{Listed}
-use Rattle.tagmem.specs.Listed.{entry_of, contents_of, IsEntryAt}
-use Rattle.tagmem.specs.ListLaws.{found, get-contents_of, NoneBefore, none_before_tail}
+use Rattle.std.proofs.Common.{◌≡◌, ℕ, zero, suc, cond, eqb, List, [], ◌∷◌, get_or, set, Some, sym, refl, ap, ◌∙◌, arith}
+use Rattle.std.proofs.{Common.insert, lemmas.Bool.Decides.nat_tests}
+use Rattle.tagmem.specs.{declared.list_store.Listed.Listed, ListLaws.{found, get-contents_of, NoneBefore}}
+use Rattle.tagmem.specs.{ListLaws.none_before_tail, Listed.{entry_of, contents_of, IsEntryAt}}
 use Rattle.tagmem.proofs.Granules.{get-put}
 
 -- lists that differ at one granule are maps that differ there

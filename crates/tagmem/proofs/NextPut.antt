@@ -1,13 +1,11 @@
 -- Where the next granule that was put is, by its block.
-use Rattle.std.proofs.Common.{◌≡◌, ◌≢◌, ℕ, ◌+◌, ◌*◌, ◌/◌, ◌%◌, ◌^◌, ◌<◌, ◌≤◌, List, [], ◌∷◌, get_or, Option, Some, None, sym, refl, ap}
-use Rattle.std.proofs.Common.{subst, ◌∙◌, arith}
-use Rattle.std.specs.Prelude.{MatchOption}
 use Rattle.std.specs.FinMap as map
+use Rattle.std.proofs.Common.{◌≡◌, ◌≢◌, ℕ, ◌+◌, ◌*◌, ◌/◌, ◌%◌, ◌^◌, ◌<◌, ◌≤◌, List, [], ◌∷◌, get_or, Option, Some, None}
+use Rattle.std.proofs.{Common.{sym, refl, ap, subst, ◌∙◌, arith, MatchOption}, Math.ListN.get_or-eq_default}
 use Rattle.std.proofs.lemmas.List.Elements.{All-get_or}
-use Rattle.std.proofs.Math.ListN.{get_or-eq_default}
-use Rattle.tagmem.specs.declared.block.Block.{Block}
+use Rattle.tagmem.specs.{declared.block.Block.Block, Blocks.{slots_of, contents_of, IsFirstFrom, IsUsed, EachUsed}}
+use Rattle.tagmem.specs.Blocks.{IsBlockAt, IsAbsent, IsNextBlock, IsDirectory}
 use Rattle.tagmem.specs.Granules.{Entry, Granules, AreStored, NonePut, IsNextPut}
-use Rattle.tagmem.specs.Blocks.{slots_of, contents_of, IsFirstFrom, IsUsed, EachUsed, IsBlockAt, IsAbsent, IsNextBlock, IsDirectory}
 use Rattle.tagmem.proofs.Blocks.{length-slots_of, get_read, get_present, get_absent}
 
 -- a granule that was put is below 2^60

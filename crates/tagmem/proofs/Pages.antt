@@ -1,21 +1,14 @@
 -- What is found in pages, and what becomes of it as they change and are added.
-use Rattle.std.proofs.Common.{◌≡◌, ◌≢◌, ℕ, ◌+◌, ◌*◌, ◌/◌, ◌%◌, ◌^◌, ◌<◌, ◌≤◌, true, false, cond, eqb, List, [], ◌∷◌, ◌++◌, length, get_or}
-use Rattle.std.proofs.Common.{set, map}
-use Rattle.std.proofs.Common.{Option, Some, None, sym, refl, ap, ◌∙◌, arith}
-use Rattle.std.specs.Prelude.{MatchOption}
-use Rattle.std.specs.Ordering.{nat_cmp}
-use Rattle.std.specs.Cmp.{unsigned_tied}
+use Rattle.std.specs.{BTreeMap.Updates, Cmp.unsigned_tied}
 use Rattle.std.specs.BTreeMap as tree
-use Rattle.std.specs.BTreeMap.{BTreeMap, Updates}
-use Rattle.std.proofs.lemmas.Bool.{eqb-true, ne_eqb}
-use Rattle.std.proofs.lemmas.Bool.Decides.{nat_tests}
-use Rattle.std.proofs.lemmas.List.{get_or-map, get_or-set_same, get_or-set_other, get_or_push, get_or_append_left, length-append}
-use Rattle.std.proofs.lemmas.List.{length-map, map-append, map-set}
-use Rattle.std.proofs.lemmas.List.Elements.{All-append, All-cons, All-get_or, All-nil}
-use Rattle.std.proofs.lemmas.Option.{none-some, same_Some}
-use Rattle.std.proofs.Math.ListN.{length-set, get_or-eq_default}
-use Rattle.tagmem.specs.declared.page.Page.{Page}
-use Rattle.tagmem.specs.Pages.{index_kept, index_in, index_at, index_of, HasBlock, EachHasBlock, AreApart, IsAbove, IsLeast, IsWith}
+use Rattle.std.proofs.Common.{◌≡◌, ◌≢◌, ℕ, ◌+◌, ◌*◌, ◌/◌, ◌%◌, ◌^◌, ◌<◌, ◌≤◌, true, false, cond, eqb, List, [], ◌∷◌}
+use Rattle.std.proofs.Common.{◌++◌, length, get_or, set, map, Option, Some, None, sym, refl, ap, ◌∙◌, arith}
+use Rattle.std.proofs.Common.{MatchOption, nat_cmp, BTreeMap, eqb-true, ne_eqb, get_or-set_same, get_or-set_other}
+use Rattle.std.proofs.{Common.{length-append, length-set}, Math.ListN.get_or-eq_default, lemmas.Bool.Decides.nat_tests}
+use Rattle.std.proofs.lemmas.List.{get_or-map, get_or_push, get_or_append_left, length-map, map-append, map-set}
+use Rattle.std.proofs.lemmas.{List.Elements.{All-append, All-cons, All-get_or, All-nil}, Option.{none-some, same_Some}}
+use Rattle.tagmem.specs.{declared.page.Page.Page, Pages.{index_kept, index_in, index_at, index_of, HasBlock}}
+use Rattle.tagmem.specs.Pages.{EachHasBlock, AreApart, IsAbove, IsLeast, IsWith}
 
 abbrev kept_in : Page → List ℕ
 kept_in page = page.kept

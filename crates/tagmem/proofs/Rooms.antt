@@ -1,24 +1,14 @@
 -- Why there is room for each block that isn't there in a page that is.
-use Rattle.std.proofs.Common.{◌≡◌, ℕ, zero, suc, ◌+◌, ◌*◌, ◌/◌, ◌%◌, ◌<◌, true, eqb, List, [], ◌∷◌, ◌++◌, length, get_or, map}
-use Rattle.std.proofs.Common.{Option, Some, None, sym, refl, ap, ◌∙◌, arith}
 use Rattle.std.specs.List.{list_any}
-use Rattle.std.specs.Ordering.{nat_cmp}
 use Rattle.std.specs.BTreeMap as tree
-use Rattle.std.proofs.lemmas.Bool.Decides.{nat_tests}
-use Rattle.std.proofs.lemmas.List.{length-append}
-use Rattle.std.proofs.lemmas.List.Folds.{list_any_at, list_any-append}
-use Rattle.std.proofs.lemmas.Map.Steps.{le-length_from_below}
-use Rattle.std.proofs.lemmas.Option.{none-some, same_Some}
-use Rattle.tagmem.specs.Blocks.{IsDirectory, IsAbsent, contents_of, block_number_at}
-use Rattle.tagmem.specs.declared.block.Block.{Block}
-use Rattle.tagmem.specs.declared.directory.Directory.{Directory}
-use Rattle.tagmem.specs.declared.page.Page.{Page}
-use Rattle.tagmem.specs.Directories.{found_in}
-use Rattle.tagmem.specs.Granules.{NonePut}
-use Rattle.tagmem.specs.Pages.{index_kept, index_at}
-use Rattle.tagmem.specs.Rooms.{blocks_with}
-use Rattle.tagmem.proofs.Blocks.{get_absent, found-directory}
-use Rattle.tagmem.proofs.Pages.{index_of-absent}
+use Rattle.std.proofs.Common.{◌≡◌, ℕ, zero, suc, ◌+◌, ◌*◌, ◌/◌, ◌%◌, ◌<◌, true, eqb, List, [], ◌∷◌, ◌++◌, length}
+use Rattle.std.proofs.Common.{get_or, map, Option, Some, None, sym, refl, ap, ◌∙◌, arith, nat_cmp, length-append}
+use Rattle.std.proofs.lemmas.{Bool.Decides.nat_tests, List.Folds.{list_any_at, list_any-append}}
+use Rattle.std.proofs.lemmas.{Map.Steps.le-length_from_below, Option.{none-some, same_Some}}
+use Rattle.tagmem.specs.declared.{block.Block.Block, directory.Directory.Directory, page.Page.Page}
+use Rattle.tagmem.specs.{Blocks.{IsDirectory, IsAbsent, contents_of, block_number_at}, Directories.found_in}
+use Rattle.tagmem.specs.{Granules.NonePut, Pages.{index_kept, index_at}, Rooms.blocks_with}
+use Rattle.tagmem.proofs.{Blocks.{get_absent, found-directory}, Pages.index_of-absent}
 
 -- what pages keep of their blocks, one page after another
 abbrev kept_of : List Page → List ℕ

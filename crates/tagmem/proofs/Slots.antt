@@ -2,8 +2,7 @@
 use Rattle.std.proofs.Common.{◌≡◌, ◌≢◌, ℕ, zero, suc, Bool, true, false, true≢false, List, [], ◌∷◌, length, get_or, set}
 use Rattle.std.proofs.Common.{Option, Some, None, is_some, is_none, unwrap_or, sym, refl, ap, arith}
 use Rattle.std.proofs.lemmas.Option.{none-some}
-use Rattle.tagmem.specs.Granules.{blank}
-use Rattle.tagmem.specs.Blocks.{slot_with, slots_with}
+use Rattle.tagmem.specs.{Blocks.{slot_with, slots_with}, Granules.blank}
 
 -- there are as many as there are tags
 pub length-slots_with : (tags : List (Option Bool)) (rows : List (List ℕ)) (codes : List ℕ) → length tags ≡ length rows

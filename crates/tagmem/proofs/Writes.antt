@@ -1,19 +1,16 @@
 -- A write inside a granule whose block is there.
-use Rattle.std.proofs.Common.{◌≡◌, ℕ, ◌+◌, ◌/◌, ◌%◌, ◌^◌, ◌<◌, ◌≤◌, Bool, true, false, cond, eqb, List, length, get_or, set, All}
-use Rattle.std.proofs.Common.{Option, Some, None, unwrap_or, is_some, is_none, sym, refl, ap, subst, ◌∙◌, arith}
-use mir.Val.{bool_byte}
 use Rattle.std.specs.FinMap as map
-use Rattle.std.proofs.lemmas.Bool.{eqb-true}
-use Rattle.std.proofs.lemmas.List.{get_or-map, get_or-set_same}
-use Rattle.std.proofs.lemmas.List.Elements.{All-set}
+use Rattle.std.proofs.Common.{◌≡◌, ℕ, ◌+◌, ◌/◌, ◌%◌, ◌^◌, ◌<◌, ◌≤◌, Bool, true, false, cond, eqb, List, length, get_or}
+use Rattle.std.proofs.Common.{set, All, Option, Some, None, unwrap_or, is_some, is_none, sym, refl, ap, subst, ◌∙◌}
+use Rattle.std.proofs.{Common.{arith, eqb-true, get_or-set_same}, lemmas.List.{get_or-map, Elements.All-set}}
 use Rattle.std.proofs.lemmas.Option.{none-some, same_Some}
-use Rattle.tagmem.specs.declared.block.Block.{Block}
-use Rattle.tagmem.specs.Granules.{Entry, Granules, blank, entry_at, bytes_at, overwritten, with_write, HasRoom, IsCodeFor, IsStored}
-use Rattle.tagmem.specs.Granules.{AreStored}
-use Rattle.tagmem.specs.Blocks.{slots_of, bytes_in_slot, contents_of, numbers_of, IsUsed, EachUsed, IsBlockAt, IsDirectory}
-use Rattle.tagmem.proofs.Granules.{get-put, len-put, IsStored-overwritten, IsStored-entry_at}
+use mir.Val.{bool_byte}
+use Rattle.tagmem.specs.{declared.block.Block.Block, Blocks.{slots_of, bytes_in_slot, contents_of, numbers_of, IsUsed}}
+use Rattle.tagmem.specs.{Blocks.{EachUsed, IsBlockAt, IsDirectory}, Granules.{Entry, Granules, blank, entry_at}}
+use Rattle.tagmem.specs.Granules.{bytes_at, overwritten, with_write, HasRoom, IsCodeFor, IsStored, AreStored}
 use Rattle.tagmem.proofs.Blocks.{length-slots_of, get_read as get_block, contents_of-set}
 use Rattle.tagmem.proofs.Directories.{numbers_of-set, IsDirectory-set}
+use Rattle.tagmem.proofs.Granules.{get-put, len-put, IsStored-overwritten, IsStored-entry_at}
 
 -- a put keeps each entry a granule's
 AreStored-put : (old : Granules) (g : ℕ) (entry : Entry) → IsStored g entry → AreStored old → AreStored (map.insert old g entry)

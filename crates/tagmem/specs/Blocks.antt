@@ -1,9 +1,7 @@
 -- The blocks that a `PageStore` keeps, and the map that they are. All of it is this profile's own.
-use Rattle.std.specs.Prelude.{◌≡◌, ℕ, suc, ◌*◌, ◌<◌, ◌≤◌, ◌≢◌, Bool, List, [], ◌∷◌, ◌++◌, length, map, All}
-use Rattle.std.specs.Prelude.{Option, Some, None, unwrap_or, slice_index, slice_index_or}
-use Rattle.std.specs.FinMap.{from_entries}
-use Rattle.tagmem.specs.declared.block.Block.{Block}
-use Rattle.tagmem.specs.Granules.{Entry, Granules, blank}
+use Rattle.std.specs.Prelude.{◌≡◌, ℕ, suc, ◌*◌, ◌<◌, ◌≤◌, ◌≢◌, Bool, List, [], ◌∷◌, ◌++◌, length, map, All, Option}
+use Rattle.std.specs.{Prelude.{Some, None, unwrap_or, slice_index, slice_index_or}, FinMap.from_entries}
+use Rattle.tagmem.specs.{declared.block.Block.Block, Granules.{Entry, Granules, blank}}
 
 -- a slot, where it was put: its tag, and its bytes and its code beside that
 abbrev pub slot_with : Option Bool → List ℕ → ℕ → Option Entry

@@ -1,7 +1,6 @@
 -- Where a `Directory` finds blocks. This profile's own.
 use Rattle.std.specs.Prelude.{ℕ, Option}
-use Rattle.tagmem.specs.declared.directory.Directory.{Directory}
-use Rattle.tagmem.specs.Pages.{index_of}
+use Rattle.tagmem.specs.{declared.directory.Directory.Directory, Pages.index_of}
 
 -- the index of the block with a number, where one has it
 abbrev pub found_in : Directory → ℕ → Option ℕ

@@ -1,9 +1,8 @@
 -- Tagged memory as a finite map. Granule g is the sixteen bytes from address 16 * g on, with one tag (UCAM-CL-TR-987,
 -- tagged memory).
-use Rattle.std.specs.Prelude.{◌≡◌, ◌≢◌, ℕ, ◌+◌, ◌^◌, ◌<◌, ◌≤◌, ◌↔◌, Bool, false, List, [], ◌++◌, length, take, drop, replicate, All}
-use Rattle.std.specs.Prelude.{Option, Some, None, unwrap_or, slice_index, slice_index_or}
-use Rattle.std.specs.Ordering.{nat_cmp}
-use Rattle.std.specs.FinMap.{FinMap, get, insert, len}
+use Rattle.std.specs.Prelude.{◌≡◌, ◌≢◌, ℕ, ◌+◌, ◌^◌, ◌<◌, ◌≤◌, ◌↔◌, Bool, false, List, [], ◌++◌, length, take, drop}
+use Rattle.std.specs.Prelude.{replicate, All, Option, Some, None, unwrap_or, slice_index, slice_index_or}
+use Rattle.std.specs.{FinMap.{FinMap, get, insert, len}, Ordering.nat_cmp}
 
 -- a granule's tag, its bytes, lowest address first (UCAM-CL-TR-987, tagged memory), and its origin's code (this
 -- profile's own)

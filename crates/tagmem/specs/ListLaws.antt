@@ -1,18 +1,12 @@
 -- Why the map that a list of entries is keeps the laws of a store.
-use Rattle.std.proofs.Common.{◌≡◌, ℕ, suc, ◌+◌, ◌^◌, ◌<◌, ◌≢◌, true, false, cond, eqb, List, [], ◌∷◌, map, length, get_or, Option, Some}
-use Rattle.std.proofs.Common.{None, is_some, sym, refl, ap, subst, ◌∙◌, arith}
-use Rattle.std.specs.Ordering.{nat_cmp}
-use Rattle.std.specs.Cmp.{nat_cmp_total, unsigned_tied}
+use Rattle.std.specs.Prelude.{◌≡◌, ℕ, suc, ◌+◌, ◌^◌, ◌<◌, ◌≢◌, true, false, cond, eqb, List, [], ◌∷◌, map, length}
+use Rattle.std.specs.{Prelude.{get_or, Option, Some, None, is_some, refl}, Cmp.{nat_cmp_total, unsigned_tied}}
+use Rattle.std.specs.{FinMap.{find, get-from_entries}, Ordering.nat_cmp}
 use Rattle.std.specs.FinMap as map
-use Rattle.std.specs.FinMap.{find, get-from_entries}
-use Rattle.std.proofs.lemmas.Bool.{eqb-true}
-use Rattle.std.proofs.lemmas.Bool.Decides.{nat_tests}
-use Rattle.std.proofs.lemmas.List.{length-map}
-use Rattle.std.proofs.lemmas.List.Elements.{All-head, All-tail}
-use Rattle.std.proofs.lemmas.Map.Keys.{below_from_sorted, sorted_from_strictly_increasing}
-use Rattle.std.proofs.lemmas.Option.{none-some, same_Some}
-use Rattle.tagmem.specs.declared.list_store.Listed.{Listed}
-use Rattle.tagmem.specs.Granules.{Entry, IsStored, AreStored}
+use Rattle.std.proofs.{Common.{sym, ap, subst, ◌∙◌, arith}, lemmas.Bool.{eqb-true, Decides.nat_tests}}
+use Rattle.std.proofs.lemmas.{List.{length-map, Elements.{All-head, All-tail}}, Map.Keys.below_from_sorted}
+use Rattle.std.proofs.lemmas.{Map.Keys.sorted_from_strictly_increasing, Option.{none-some, same_Some}}
+use Rattle.tagmem.specs.{declared.list_store.Listed.Listed, Granules.{Entry, IsStored, AreStored}}
 use Rattle.tagmem.specs.Listed.{entry_of, keyed, contents_of, granules_of, AreApart, IsRising, AllStored}
 
 -- the granule of the entry at an index

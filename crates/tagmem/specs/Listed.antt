@@ -1,9 +1,7 @@
 -- The entries that a `ListStore` keeps, and the map that they are. All of it is this profile's own.
-use Rattle.std.specs.Prelude.{◌≡◌, ◌≢◌, ℕ, ◌<◌, ◌≤◌, List, length, map, All, slice_index}
+use Rattle.std.specs.{Prelude.{◌≡◌, ◌≢◌, ℕ, ◌<◌, ◌≤◌, List, length, map, All, slice_index}, FinMap.from_entries}
 use Rattle.std.specs.List.Sorted.{IsStrictlyIncreasing}
-use Rattle.std.specs.FinMap.{from_entries}
-use Rattle.tagmem.specs.declared.list_store.Listed.{Listed}
-use Rattle.tagmem.specs.Granules.{Entry, Granules, IsStored}
+use Rattle.tagmem.specs.{declared.list_store.Listed.Listed, Granules.{Entry, Granules, IsStored}}
 
 -- what stands in the granule
 abbrev pub entry_of : Listed → Entry

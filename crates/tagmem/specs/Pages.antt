@@ -1,9 +1,7 @@
 -- What a `Directory` keeps. All of it is this profile's own.
-use Rattle.std.specs.Prelude.{◌≡◌, ◌≢◌, ℕ, zero, suc, ◌/◌, ◌%◌, ◌^◌, ◌<◌, ◌≤◌, List, [], length, map, All, Option, Some, None}
-use Rattle.std.specs.Prelude.{slice_index, slice_index_or}
-use Rattle.std.specs.Ordering.{nat_cmp}
+use Rattle.std.specs.Prelude.{◌≡◌, ◌≢◌, ℕ, zero, suc, ◌/◌, ◌%◌, ◌^◌, ◌<◌, ◌≤◌, List, [], length, map, All, Option, Some}
+use Rattle.std.specs.{Prelude.{None, slice_index, slice_index_or}, BTreeMap.BTreeMap, Ordering.nat_cmp}
 use Rattle.std.specs.BTreeMap as tree
-use Rattle.std.specs.BTreeMap.{BTreeMap}
 use Rattle.tagmem.specs.declared.page.Page.{Page}
 
 -- the index that is kept as one more than it is, and as 0 where there is none

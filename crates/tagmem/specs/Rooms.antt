@@ -1,8 +1,6 @@
 -- The room that is reserved for blocks that aren't there yet. This profile's own.
-use Rattle.std.specs.Prelude.{ℕ, suc, ◌*◌, ◌<◌, ◌≤◌, Option, Some, None, length}
-use Rattle.std.specs.Vec.{vec_capacity}
-use Rattle.tagmem.specs.declared.chains.Chains.{Chains}
-use Rattle.tagmem.specs.declared.directory.Directory.{Directory}
+use Rattle.std.specs.Prelude.{ℕ, suc, ◌*◌, ◌<◌, ◌≤◌, Option, Some, None, length, vec_capacity}
+use Rattle.tagmem.specs.declared.{chains.Chains.Chains, directory.Directory.Directory}
 
 -- chains have room for so many numbers in all
 pub record HasRoomFor (chains : Chains) (many : ℕ) : Type 0 where

@@ -1,6 +1,6 @@
 //! Where numbers stand in a list, by their places.
-ghost use Rattle.std.specs.Prelude.{◌≡◌, ◌++◌, ◌∷◌, ◌+◌, ◌*◌, ◌<◌, ◌≤◌, ℕ, [], length, MatchOption, IfSome, OnOk, slice_index};
-ghost use Rattle.std.specs.Vec.{vec_len, vec_capacity};
+ghost use Rattle.std.specs.Prelude.{◌≡◌, ◌++◌, ◌∷◌, ◌+◌, ◌*◌, ◌<◌, ◌≤◌, ℕ, [], length, MatchOption, IfSome, OnOk};
+ghost use Rattle.std.specs.Prelude.{slice_index, vec_len, vec_capacity};
 ghost use Rattle.tagmem.specs.Chains.{AreChains, IsMissing, IsThere, place_of};
 
 use crate::linking::{link, place};

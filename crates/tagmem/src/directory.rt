@@ -1,7 +1,7 @@
 //! Where blocks are, in the order of their numbers.
 ghost use Rattle.std.specs.Prelude.{◌≡◌, ◌/◌, ◌*◌, ◌+◌, ◌^◌, ◌<◌, ◌≤◌, ℕ, None, Some, IfSome, MatchOption, OnOk, OnErr};
-ghost use Rattle.std.specs.BTreeMap as tree;
 ghost use Rattle.std.specs.Ordering.{nat_cmp};
+ghost use Rattle.std.specs.BTreeMap as tree;
 ghost use Rattle.tagmem.specs.Pages.{AreApart, EachHasBlock, IsAbove, StandsAt};
 
 use crate::page::Page;
@@ -28,9 +28,7 @@ pub(crate) struct Directory {
 }
 
 impl Directory {
-    ghost use Rattle.tagmem.specs.Directories.{found_in};
-    ghost use Rattle.tagmem.specs.Pages.{IsLeast, IsWith};
-    ghost use Rattle.tagmem.specs.Rooms.{blocks_of, blocks_with};
+    ghost use Rattle.tagmem.specs.{Directories.found_in, Pages.{IsLeast, IsWith}, Rooms.{blocks_of, blocks_with}};
 
     // Of no block. It takes no memory.
     pub(crate) fn new(alloc: Global) -> Directory

@@ -2,8 +2,8 @@
 ghost use Rattle.std.specs.Prelude.{◌≡◌, ◌^◌, ◌<◌, ◌+◌, ◌≤◌, length, None, vec_len, OnOk, OnErr, IfOk, IfErr};
 ghost use Rattle.std.specs.FinMap as map;
 ghost use Rattle.tagmem.specs.Granules.{with_write, HasRoom, IsCodeFor, IsStored};
-ghost use Rattle.tagmem.specs.Listed.{contents_of, entry_of, IsRising, AllStored, IsEntryAt, IsGapFor};
 ghost use Rattle.tagmem.specs.ListLaws.{AreStored-contents_of, len_fits};
+ghost use Rattle.tagmem.specs.Listed.{contents_of, entry_of, IsRising, AllStored, IsEntryAt, IsGapFor};
 
 use crate::overwriting::overwrite;
 use crate::store::{NoMemory, TaggedStore};

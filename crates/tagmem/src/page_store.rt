@@ -1,11 +1,10 @@
 //! A store that keeps its entries in pages.
 ghost use Rattle.std.specs.Prelude.{◌≡◌, ◌^◌, ◌<◌, ◌+◌, ◌*◌, ◌≤◌, ◌/◌, length, None, Some, MatchOption, OnOk, OnErr};
+ghost use Rattle.std.specs.Prelude.{vec_capacity};
 ghost use Rattle.std.specs.FinMap as map;
-ghost use Rattle.std.specs.Vec.{vec_capacity};
-ghost use Rattle.tagmem.specs.Directories.{found_in};
-ghost use Rattle.tagmem.specs.Rooms.{HasRoomFor, blocks_of, blocks_with};
-ghost use Rattle.tagmem.specs.Granules.{with_write, with_cap, with_bytes, AreStored, HasRoom, IsCodeFor, NonePut, IsNextPut};
 ghost use Rattle.tagmem.specs.Blocks.{contents_of, numbers_of, IsDirectory, IsBlockAt, IsAbsent, IsNextBlock, EachUsed};
+ghost use Rattle.tagmem.specs.{Directories.found_in, Granules.{with_write, with_cap, with_bytes, AreStored, HasRoom}};
+ghost use Rattle.tagmem.specs.{Granules.{IsCodeFor, NonePut, IsNextPut}, Rooms.{HasRoomFor, blocks_of, blocks_with}};
 
 use crate::block::Block;
 use crate::chains::Chains;

@@ -5,7 +5,8 @@
 //! beside each capability a code of its origin, whose meaning is its user's.
 ghost use Rattle.std.specs.Prelude.{◌≡◌, ◌+◌, ◌^◌, ◌<◌, ◌≤◌, length, None, OnOk, OnErr};
 ghost use Rattle.std.specs.FinMap as map;
-ghost use Rattle.tagmem.specs.Granules.{Granules, AreStored, HasRoom, IsCodeFor, IsNextPut, shown, code_at, with_cap, with_bytes};
+ghost use Rattle.tagmem.specs.Granules.{Granules, AreStored, HasRoom, IsCodeFor, IsNextPut, shown, code_at, with_cap};
+ghost use Rattle.tagmem.specs.Granules.{with_bytes};
 
 /// The memory that a granule put for the first time needs was refused.
 #[derive(Clone, Copy, Debug, PartialEq, Eq)]

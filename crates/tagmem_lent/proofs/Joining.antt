@@ -1,19 +1,16 @@
 -- The runs that end behind a new slot, as they are merged.
-use Rattle.std.proofs.Common.{◌≡◌, ℕ, ◌+◌, ◌-◌, ◌<◌, ◌≤◌, List, ◌++◌, length, get_or, set, take, drop, sym, refl, ap, subst, ◌∙◌, arith}
+use Rattle.std.specs.List.Sorted.{IsNonDecreasingBy}
 use Rattle.std.specs.FinMap as finite
-use Rattle.std.specs.List.Sorted.{IsNonDecreasingBy, IsPermutation}
-use Rattle.std.proofs.Math.Seq.{drop-append_seam, take-add, take-append_seam}
-use Rattle.std.proofs.lemmas.List.{drop-drop, drop-take, get_or-drop, get_or-take, length-append, length-drop, length-set, length-take-le, take-set-le}
+use Rattle.std.proofs.Common.{◌≡◌, ℕ, ◌+◌, ◌-◌, ◌<◌, ◌≤◌, List, ◌++◌, length, get_or, set, take, drop, sym, refl, ap}
+use Rattle.std.proofs.Common.{subst, ◌∙◌, arith, IsPermutation, take-add, drop-drop, get_or-drop, get_or-take}
+use Rattle.std.proofs.Common.{length-append, length-drop, length-set, length-take-le}
+use Rattle.std.proofs.{Math.Seq.{drop-append_seam, take-append_seam}, lemmas.List.{drop-take, take-set-le}}
 use Rattle.std.proofs.lemmas.List.Sorted.{IsPermutation-append_right, IsPermutation-refl, IsPermutation-trans}
+use Rattle.tagmem.specs.{Granules.IsStored, ListLaws.granule_at, Listed.{contents_of, entry_of}}
 use Rattle.tagmem_lent.specs.declared.lent_store.Slot.{Slot}
-use Rattle.tagmem.specs.Granules.{IsStored}
 use Rattle.tagmem_lent.specs.Lent.{AreRuns, IsUnused, entries_of, listed_of, part, run_end}
-use Rattle.tagmem.specs.Listed.{contents_of, entry_of}
-use Rattle.tagmem.specs.ListLaws.{granule_at}
-use Rattle.tagmem_lent.proofs.Lent.{granule_in, granule_of, length-entries_of, run_rises}
-use Rattle.tagmem_lent.proofs.Merging.{take_of_take}
-use Rattle.tagmem_lent.proofs.Runs.{run_end-le, run_end-rises, run_end-stays, run_end-zero}
-use Rattle.tagmem_lent.proofs.Sorting.{sorted_so}
+use Rattle.tagmem_lent.proofs.{Lent.{granule_in, granule_of, length-entries_of, run_rises}, Merging.take_of_take}
+use Rattle.tagmem_lent.proofs.{Runs.{run_end-le, run_end-rises, run_end-stays, run_end-zero}, Sorting.sorted_so}
 
 -- slots in which the runs of the digits below a level, and a new slot behind them, are one
 pub record IsJoining (placed : List Slot) (used : ℕ) (slots : List Slot) (level start : ℕ) : Type 0 where

@@ -1,20 +1,17 @@
 -- What stands in slots that are in runs.
-use Rattle.std.proofs.Common.{◌≡◌, ℕ, ◌+◌, ◌-◌, ◌^◌, ◌<◌, ◌≤◌, List, [], length, get_or, take, drop, Some, None}
-use Rattle.std.proofs.Common.{min, All, unwrap_or, Bool, true, false, not, ◌==◌, Option, ◌⊎◌, ⊎_elim, sym, refl, ap, subst, ◌∙◌, arith}
 use Rattle.std.specs.FinMap as finite
-use Rattle.std.proofs.lemmas.List.{get_or-map, get_or-take, get_or-drop, length-map, length-take-le, length-drop}
-use Rattle.std.proofs.lemmas.Map.Keys.{below_from_sorted, sorted_from_strictly_increasing}
-use Rattle.tagmem.specs.declared.list_store.Listed.{Listed}
-use Rattle.tagmem_lent.specs.declared.lent_store.Slot.{Slot}
-use Rattle.tagmem.specs.Granules.{AreStored, Entry, Granules, IsCodeFor, IsNextPut, IsStored, blank, bytes_at, entry_at, overwritten, with_write}
-use Rattle.tagmem.proofs.Granules.{IsStored-entry_at, IsStored-overwritten}
-use Rattle.tagmem_lent.specs.Lent.{AreRuns, IsLesser, IsGapIn, IsNextIn, IsUnused, entries_of, listed_of, part, run_end}
-use Rattle.tagmem.specs.Listed.{AreApart, IsEntryAt, contents_of, entry_of, granules_of}
+use Rattle.std.proofs.Common.{◌≡◌, ℕ, ◌+◌, ◌-◌, ◌^◌, ◌<◌, ◌≤◌, List, [], length, get_or, take, drop, Some, None, min}
+use Rattle.std.proofs.Common.{All, unwrap_or, Bool, true, false, not, ◌==◌, Option, ◌⊎◌, ⊎_elim, sym, refl, ap, subst}
+use Rattle.std.proofs.Common.{◌∙◌, arith, get_or-take, get_or-drop, length-take-le, length-drop}
+use Rattle.std.proofs.lemmas.{Bool.Decides.nat_tests, List.{get_or-map, length-map}}
+use Rattle.std.proofs.lemmas.{Map.Keys.{below_from_sorted, sorted_from_strictly_increasing}, Option.none-some}
+use Rattle.tagmem.specs.{declared.list_store.Listed.Listed, Granules.{AreStored, Entry, Granules, IsCodeFor, IsNextPut}}
+use Rattle.tagmem.specs.Granules.{IsStored, blank, bytes_at, entry_at, overwritten, with_write}
 use Rattle.tagmem.specs.ListLaws.{NoneBefore, found_absent, get-contents_of, granule_at}
-use Rattle.std.proofs.lemmas.Bool.Decides.{nat_tests}
-use Rattle.std.proofs.lemmas.Option.{none-some}
-use Rattle.tagmem.proofs.Listed.{found_present}
-use Rattle.tagmem.proofs.Indexes.{nothing}
+use Rattle.tagmem.specs.Listed.{AreApart, IsEntryAt, contents_of, entry_of, granules_of}
+use Rattle.tagmem.proofs.{Granules.{IsStored-entry_at, IsStored-overwritten}, Indexes.nothing, Listed.found_present}
+use Rattle.tagmem_lent.specs.declared.lent_store.Slot.{Slot}
+use Rattle.tagmem_lent.specs.Lent.{AreRuns, IsLesser, IsGapIn, IsNextIn, IsUnused, entries_of, listed_of, part, run_end}
 use Rattle.tagmem_lent.proofs.Runs.{run_end-le}
 
 -- a slot to stand for one that is not there

@@ -1,16 +1,16 @@
 -- What a merge of two runs makes.
-use Rattle.std.proofs.Common.{◌≡◌, ℕ, suc, ◌+◌, ◌-◌, ◌<◌, ◌≤◌, true, false, cond, nat_lt, List, [], ◌∷◌, ◌++◌, ◌⊎◌, ⊎_elim, length, get_or, set}
-use Rattle.std.proofs.Common.{take, drop, Bool, not, sym, ap, subst, ◌∙◌, arith}
+use Rattle.std.specs.List.{copy_within, Sorted.IsNonDecreasingBy}
+use Rattle.std.proofs.Common.{◌≡◌, ℕ, suc, ◌+◌, ◌-◌, ◌<◌, ◌≤◌, true, false, cond, nat_lt, List, [], ◌∷◌, ◌++◌, ◌⊎◌}
+use Rattle.std.proofs.Common.{⊎_elim, length, get_or, set, take, drop, Bool, not, sym, ap, subst, ◌∙◌, arith}
+use Rattle.std.proofs.Common.{IsPermutation, take-add, take-suc, append-nil, append_assoc, drop-drop, drop-set-lt}
+use Rattle.std.proofs.Common.{get_or-drop, length-append, length-drop, length-set, length-take-le, take-append-drop}
+use Rattle.std.proofs.Math.Seq.{drop-append_seam, get_or-append_right, get_or-append_seam, take-append-add}
+use Rattle.std.proofs.{Math.Seq.take-append_seam, lemmas.Bool.Decides.nat_tests}
+use Rattle.std.proofs.lemmas.List.{drop-set, take-append-le, take-set-le}
+use Rattle.std.proofs.lemmas.List.Sorted.{IsNonDecreasingBy-insert, IsPermutation-append_right, IsPermutation-middle}
+use Rattle.std.proofs.lemmas.List.Sorted.{IsPermutation-refl, IsPermutation-sym, IsPermutation-trans}
 use mir.Val.{bool_byte}
-use Rattle.std.specs.List.{copy_within}
-use Rattle.std.specs.List.Sorted.{IsNonDecreasingBy, IsPermutation}
-use Rattle.std.proofs.Math.Seq.{drop-append_seam, get_or-append_right, get_or-append_seam, take-add, take-append-add, take-append_seam, take-suc}
-use Rattle.std.proofs.lemmas.Bool.Decides.{nat_tests}
-use Rattle.std.proofs.lemmas.List.{append-nil, append_assoc, drop-drop, drop-set, drop-set-lt, get_or-drop, length-append, length-drop, length-set}
-use Rattle.std.proofs.lemmas.List.{length-take-le, take-append-drop, take-append-le, take-set-le}
-use Rattle.std.proofs.lemmas.List.Sorted.{IsNonDecreasingBy-insert, IsPermutation-append_right, IsPermutation-middle, IsPermutation-refl, IsPermutation-sym, IsPermutation-trans}
-use Rattle.tagmem_lent.specs.declared.lent_store.Slot.{Slot}
-use Rattle.tagmem_lent.specs.Lent.{part}
+use Rattle.tagmem_lent.specs.{declared.lent_store.Slot.Slot, Lent.part}
 use Rattle.tagmem_lent.proofs.Lent.{no_slot}
 
 abbrev pub granule_of : Slot → ℕ

@@ -1,25 +1,15 @@
 -- Entries in another order: where no granule stands twice, they are the same map.
-use Rattle.std.proofs.Common.{◌≡◌, ℕ, ◌<◌, true, false, cond, eqb, List, [], ◌∷◌, length, get_or, All, Some, None, sym, refl, subst}
-use Rattle.std.proofs.Common.{◌∙◌, arith}
-use Rattle.std.specs.Cmp.{nat_cmp_total}
-use Rattle.std.specs.FinMap.{nat_cmp-IsAntisymmetric, same_map}
-use Rattle.std.specs.List.{IsDistinct}
-use Rattle.std.specs.List.Sorted.{IsPermutation}
-use Rattle.std.proofs.lemmas.Bool.{eqb-true, eqb-false, ne_eqb}
-use Rattle.std.proofs.lemmas.Bool.Decides.{nat_tests}
-use Rattle.std.proofs.lemmas.Grind.{get_or_default_zero}
-use Rattle.std.proofs.lemmas.List.{length-map}
-use Rattle.std.proofs.lemmas.List.Elements.{All-head, All-tail}
-use Rattle.std.proofs.lemmas.List.Sorted.{All-permutation, IsPermutation-map, IsPermutation-sym}
+use Rattle.std.specs.{Cmp.nat_cmp_total, FinMap.{nat_cmp-IsAntisymmetric, same_map}, List.IsDistinct}
+use Rattle.std.proofs.Common.{◌≡◌, ℕ, ◌<◌, true, false, cond, eqb, List, [], ◌∷◌, length, get_or, All, Some, None, sym}
+use Rattle.std.proofs.{Common.{refl, subst, ◌∙◌, arith, IsPermutation, eqb-true, ne_eqb}, lemmas.Bool.eqb-false}
+use Rattle.std.proofs.lemmas.{Bool.Decides.nat_tests, Grind.get_or_default_zero, List.{length-map, Elements.All-head}}
+use Rattle.std.proofs.lemmas.List.{Elements.All-tail, Sorted.{All-permutation, IsPermutation-map, IsPermutation-sym}}
 use Rattle.std.proofs.lemmas.Map.Keys.{IsDistinct-IsPermutation, IsDistinct-from_apart, apart_from_distinct}
 use Rattle.std.proofs.lemmas.Option.{none-some}
-use Rattle.tagmem.specs.declared.list_store.Listed.{Listed}
-use Rattle.tagmem.specs.Granules.{Entry}
+use Rattle.tagmem.specs.{declared.list_store.Listed.Listed, Granules.Entry, ListLaws.{found, get-contents_of}}
 use Rattle.tagmem.specs.Listed.{AreApart, IsEntryAt, contents_of, entry_of, granules_of}
-use Rattle.tagmem.specs.ListLaws.{found, get-contents_of}
-use Rattle.tagmem.proofs.Indexes.{granule_at-get_or}
+use Rattle.tagmem.proofs.{Indexes.granule_at-get_or, Listed.found_present}
 use Rattle.tagmem_lent.proofs.Lent.{none_before}
-use Rattle.tagmem.proofs.Listed.{found_present}
 
 abbrev granule_of : Listed → ℕ
 granule_of listed = listed.granule

@@ -1,17 +1,11 @@
 -- What a slot that is written, and one more, do to slots in runs.
-use Rattle.std.proofs.Common.{◌≡◌, ℕ, ◌<◌, List, map, set, take, sym, ap, ◌∙◌}
 use Rattle.std.specs.FinMap as finite
-use Rattle.std.proofs.Math.ListN.{length-set}
-use Rattle.std.proofs.Math.Seq.{map-set_same, take-set-lt}
-use Rattle.std.proofs.lemmas.List.{map-set}
-use Rattle.std.proofs.lemmas.List.Elements.{All-set}
-use Rattle.tagmem.specs.declared.list_store.Listed.{Listed}
-use Rattle.tagmem_lent.specs.declared.lent_store.Slot.{Slot}
-use Rattle.tagmem.specs.Granules.{IsStored}
-use Rattle.tagmem_lent.specs.Lent.{AreRuns, entries_of, listed_of}
+use Rattle.std.proofs.Common.{◌≡◌, ℕ, ◌<◌, List, map, set, take, sym, ap, ◌∙◌, length-set}
+use Rattle.std.proofs.{Math.Seq.{map-set_same, take-set-lt}, lemmas.List.{map-set, Elements.All-set}}
+use Rattle.tagmem.specs.{declared.list_store.Listed.Listed, Granules.IsStored}
 use Rattle.tagmem.specs.Listed.{IsEntryAt, contents_of, entry_of, granules_of}
-use Rattle.tagmem.proofs.Indexes.{granule_at-get_or, nothing}
-use Rattle.tagmem.proofs.Listed.{contents_of-put, found-set}
+use Rattle.tagmem.proofs.{Indexes.{granule_at-get_or, nothing}, Listed.{contents_of-put, found-set}}
+use Rattle.tagmem_lent.specs.{declared.lent_store.Slot.Slot, Lent.{AreRuns, entries_of, listed_of}}
 use Rattle.tagmem_lent.proofs.Lent.{none_before}
 
 -- a slot in use that is written is an entry that is

@@ -1,19 +1,14 @@
 -- A search of a run by windows.
-use Rattle.std.proofs.Common.{◌≡◌, ◌≢◌, ℕ, zero, suc, nat_lt, leb, true, false, Bool, ◌+◌, ◌-◌, ◌*◌, ◌%◌, ◌^◌, ◌<◌, ◌≤◌, List, length, get_or, drop, sym, ap, subst, ◌∙◌, arith}
+use Rattle.std.specs.{Int.Count.count_leading_zeros, List.Sorted.IsNonDecreasingBy}
+use Rattle.std.proofs.Common.{◌≡◌, ◌≢◌, ℕ, zero, suc, nat_lt, leb, true, false, Bool, ◌+◌, ◌-◌, ◌*◌, ◌%◌, ◌^◌, ◌<◌, ◌≤◌}
+use Rattle.std.proofs.Common.{List, length, get_or, drop, sym, ap, subst, ◌∙◌, arith, mod-eq_of_lt, pow_pos}
+use Rattle.std.proofs.{Common.{get_or-drop, get_or-take, length-drop, length-take-le}, Math.Nat.pow-le-pow_right}
+use Rattle.std.proofs.{Math.Nat.two-pow-succ, lemmas.{Bool.Decides.nat_tests, List.get_or_default, Nat.leading_length}}
 use mir.Val.{bool_byte}
-use Rattle.std.specs.List.Sorted.{IsNonDecreasingBy}
-use Rattle.std.proofs.Math.Nat.{mod-eq_of_lt, pow-le-pow_right, two-pow-succ}
-use Rattle.std.specs.Int.Count.{count_leading_zeros}
-use Rattle.std.proofs.lemmas.Bool.Decides.{nat_tests}
-use Rattle.std.proofs.lemmas.Nat.{leading_length, pow_pos}
-use Rattle.std.proofs.lemmas.List.{get_or-drop, get_or-take, get_or_default, length-drop, length-take-le}
-use Rattle.tagmem.specs.declared.list_store.Listed.{Listed}
+use Rattle.tagmem.specs.{declared.list_store.Listed.Listed, ListLaws.granule_at, Listed.IsEntryAt}
 use Rattle.tagmem_lent.specs.declared.lent_store.Slot.{Slot}
 use Rattle.tagmem_lent.specs.Lent.{AreRuns, IsGapIn, IsLastAtMost, entries_of, part, run_end}
-use Rattle.tagmem.specs.Listed.{IsEntryAt}
-use Rattle.tagmem.specs.ListLaws.{granule_at}
-use Rattle.tagmem_lent.proofs.Joining.{run_slots_rise}
-use Rattle.tagmem_lent.proofs.Lent.{granule_in, granule_of, length-entries_of, no_slot}
+use Rattle.tagmem_lent.proofs.{Joining.run_slots_rise, Lent.{granule_in, granule_of, length-entries_of, no_slot}}
 use Rattle.tagmem_lent.proofs.Runs.{run_end-le, run_end-rises}
 
 -- a window of 2^turns slots: the first isn't above a number, and the one behind them is

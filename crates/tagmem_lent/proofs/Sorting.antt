@@ -1,23 +1,19 @@
 -- What one slot more, and the sort of the run that ends behind it, do to slots in runs.
-use Rattle.std.proofs.Common.{◌≡◌, ℕ, suc, ◌+◌, ◌-◌, ◌<◌, ◌≤◌, ◌⊎◌, ⊎_elim, List, [], ◌∷◌, ◌++◌, length, get_or, set}
-use Rattle.std.proofs.Common.{take, drop, sym, ap, subst, ◌∙◌, arith}
+use Rattle.std.specs.List.Sorted.{IsNonDecreasingBy, IsStrictlyIncreasing}
 use Rattle.std.specs.FinMap as finite
-use Rattle.std.specs.List.{insert}
-use Rattle.std.specs.List.Sorted.{IsNonDecreasingBy, IsPermutation, IsStrictlyIncreasing}
-use Rattle.std.proofs.Math.Seq.{get_or-append_seam, take-add, take-length, take-suc, drop-length, take-set-le}
-use Rattle.std.proofs.lemmas.List.{get_or-append_right, get_or-drop, get_or-set_same, get_or-take, get_or_append_left, length-append}
-use Rattle.std.proofs.lemmas.List.{length-drop, length-set, length-take, length-take-le, map-append, take-set}
-use Rattle.std.proofs.lemmas.List.Elements.{All-push}
-use Rattle.std.proofs.lemmas.List.Sorted.{All-permutation, IsPermutation-append_right, IsPermutation-map, length_permutation}
-use Rattle.tagmem.specs.declared.list_store.Listed.{Listed}
-use Rattle.tagmem_lent.specs.declared.lent_store.Slot.{Slot}
-use Rattle.tagmem.specs.Granules.{IsStored}
-use Rattle.tagmem_lent.specs.Lent.{AreRuns, IsUnused, entries_of, listed_of, part, run_end}
+use Rattle.std.proofs.Common.{◌≡◌, ℕ, suc, ◌+◌, ◌-◌, ◌<◌, ◌≤◌, ◌⊎◌, ⊎_elim, List, [], ◌∷◌, ◌++◌, length, get_or, set}
+use Rattle.std.proofs.Common.{take, drop, sym, ap, subst, ◌∙◌, arith, insert, IsPermutation, take-add, take-suc}
+use Rattle.std.proofs.Common.{get_or-drop, get_or-set_same, get_or-take, length-append, length-drop, length-set}
+use Rattle.std.proofs.{Common.{length-take, length-take-le}, Math.Seq.{get_or-append_seam, take-length, drop-length}}
+use Rattle.std.proofs.{Math.Seq.take-set-le, lemmas.List.{get_or-append_right, get_or_append_left, map-append}}
+use Rattle.std.proofs.lemmas.List.{take-set, Elements.All-push, Sorted.{All-permutation, IsPermutation-append_right}}
+use Rattle.std.proofs.lemmas.List.Sorted.{IsPermutation-map, length_permutation}
+use Rattle.tagmem.specs.{declared.list_store.Listed.Listed, Granules.IsStored, ListLaws.granule_at}
 use Rattle.tagmem.specs.Listed.{AreApart, contents_of, entry_of, granules_of}
-use Rattle.tagmem.specs.ListLaws.{granule_at}
-use Rattle.tagmem.proofs.Indexes.{granule_at-get_or, nothing}
+use Rattle.tagmem.proofs.{Indexes.{granule_at-get_or, nothing}, Listed.{contents_of-put, found-insert}}
+use Rattle.tagmem_lent.specs.declared.lent_store.Slot.{Slot}
+use Rattle.tagmem_lent.specs.Lent.{AreRuns, IsUnused, entries_of, listed_of, part, run_end}
 use Rattle.tagmem_lent.proofs.Lent.{granule_in, length-entries_of, run_rises}
-use Rattle.tagmem.proofs.Listed.{contents_of-put, found-insert}
 use Rattle.tagmem_lent.proofs.Permuted.{AreApart-permuted, contents_of-permuted}
 use Rattle.tagmem_lent.proofs.Runs.{run_end-far, run_end-last, run_end-le, run_end-stays}
 

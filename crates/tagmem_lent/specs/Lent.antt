@@ -1,10 +1,8 @@
 -- The slots that a `LentStore` keeps, and how they stand. All of it is this profile's own.
-use Rattle.std.specs.Prelude.{◌≡◌, ◌≢◌, ℕ, ◌+◌, ◌-◌, ◌*◌, ◌/◌, ◌^◌, ◌<◌, ◌≤◌, not, ◌==◌, List, length, map, take, drop, min, slice_index, slice_index_or}
-use Rattle.std.specs.Prelude.{Option, Some, None}
-use Rattle.std.specs.List.Sorted.{IsStrictlyIncreasing}
-use Rattle.tagmem.specs.declared.list_store.Listed.{Listed}
+use Rattle.std.specs.Prelude.{◌≡◌, ◌≢◌, ℕ, ◌+◌, ◌-◌, ◌*◌, ◌/◌, ◌^◌, ◌<◌, ◌≤◌, not, ◌==◌, List, length, map, take, drop}
+use Rattle.std.specs.{Prelude.{min, slice_index, slice_index_or, Option, Some, None}, List.Sorted.IsStrictlyIncreasing}
+use Rattle.tagmem.specs.{declared.list_store.Listed.Listed, Listed.{AllStored, AreApart, IsEntryAt, granules_of}}
 use Rattle.tagmem_lent.specs.declared.lent_store.Slot.{Slot}
-use Rattle.tagmem.specs.Listed.{AllStored, AreApart, IsEntryAt, granules_of}
 
 -- the entry that a slot is: it has a tag just where its code isn't 0
 abbrev pub listed_of : Slot → Listed

@@ -1,11 +1,9 @@
 -- Why the count of slots in use fits 32 bits.
-use Rattle.std.proofs.Common.{ℕ, ◌^◌, ◌<◌, List, take, arith}
+use Rattle.std.specs.Prelude.{ℕ, ◌^◌, ◌<◌, List, take}
 use Rattle.std.specs.FinMap as map
-use Rattle.std.proofs.lemmas.List.{length-map, length-take}
-use Rattle.tagmem.specs.Listed.{AreApart, contents_of}
-use Rattle.tagmem.specs.ListLaws.{len-apart}
-use Rattle.tagmem_lent.specs.declared.lent_store.Slot.{Slot}
-use Rattle.tagmem_lent.specs.Lent.{entries_of, listed_of}
+use Rattle.std.proofs.{Common.arith, lemmas.List.{length-map, length-take}}
+use Rattle.tagmem.specs.{ListLaws.len-apart, Listed.{AreApart, contents_of}}
+use Rattle.tagmem_lent.specs.{declared.lent_store.Slot.Slot, Lent.{entries_of, listed_of}}
 
 -- few slots have a map whose count fits
 pub few_entries : (used : ℕ) (slots : List Slot) → AreApart (entries_of used slots) → used < 2 ^ 32

@@ -1,8 +1,7 @@
 -- What a clause reads of a `LentStore`. This profile's own.
 use Rattle.std.specs.Prelude.{ℕ, List, length}
 use Rattle.tagmem.specs.declared.list_store.Listed.{Listed}
-use Rattle.tagmem_lent.specs.declared.lent_store.LentStore.{LentStore}
-use Rattle.tagmem_lent.specs.Lent.{entries_of}
+use Rattle.tagmem_lent.specs.{declared.lent_store.LentStore.LentStore, Lent.entries_of}
 
 -- the entries that the slots in use are
 abbrev pub in_use : LentStore → List Listed

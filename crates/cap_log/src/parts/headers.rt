@@ -1,8 +1,7 @@
 //! The version and the mode of a log.
 
 ghost use Rattle.std.specs.Prelude.{decimal};
-ghost use Rattle.cap_log.specs.Lines.{IsVersion, mode_spelling};
-ghost use Rattle.cap_log.specs.Parts.{IsMode};
+ghost use Rattle.cap_log.specs.{Lines.{IsVersion, mode_spelling}, Parts.IsMode};
 
 use crate::buffers::{put, put_few};
 use crate::lines::Mode;

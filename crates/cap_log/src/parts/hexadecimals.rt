@@ -2,9 +2,7 @@
 
 ghost use Rattle.std.specs.Prelude.{◌+◌, ◌≤◌, length};
 ghost use Rattle.cap_word.specs.Digits.{hex_digits};
-ghost use Rattle.cap_log.specs.Lines.{IsNumber};
-ghost use Rattle.cap_log.specs.Parts.{Writes};
-ghost use Rattle.cap_log.specs.Spaceless.{number-spaceless};
+ghost use Rattle.cap_log.specs.{Lines.IsNumber, Parts.Writes, Spaceless.number-spaceless};
 
 use crate::buffers::put;
 use crate::parts::{Part, Single};

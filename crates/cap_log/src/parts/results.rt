@@ -1,9 +1,7 @@
 //! Words, and the results that steps record.
 
 ghost use Rattle.cap_word.specs.Digits.{hex_digits};
-ghost use Rattle.cap_log.specs.Lines.{IsWord};
-ghost use Rattle.cap_log.specs.Parts.{result_spelling};
-ghost use Rattle.cap_log.specs.Spaceless.{digits-spaceless};
+ghost use Rattle.cap_log.specs.{Lines.IsWord, Parts.result_spelling, Spaceless.digits-spaceless};
 
 use crate::buffers::put;
 use crate::parts::{Part, Single};

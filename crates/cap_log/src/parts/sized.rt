@@ -1,8 +1,9 @@
 //! Numbers of 1, 2, 4 or 8 bytes: their size, and two hexadecimal digits for each byte.
 
-ghost use Rattle.std.specs.Prelude.{◌≡◌, ℕ, ◌*◌, ◌+◌, ◌≤◌, length, List, ◌++◌, decimal, IfSome, IfNone, IsTrue, MatchOption, ◌↔◌};
+ghost use Rattle.std.specs.Prelude.{◌≡◌, ℕ, ◌*◌, ◌+◌, ◌≤◌, length, List, ◌++◌, decimal, IfSome, IfNone, IsTrue};
+ghost use Rattle.std.specs.Prelude.{MatchOption, ◌↔◌};
 ghost use Rattle.cap_word.specs.Digits.{hex_digits};
-ghost use Rattle.cap_log.specs.Parts.{Begins, BeginsWithNone, IsEnd, Writes, accessed_spelling};
+ghost use Rattle.cap_log.specs.Parts.{Begins, BeginsWithNone, Writes, accessed_spelling};
 ghost use Rattle.cap_log.specs.Ranges.{IsDataSize, IsDataValue, IsDatum};
 
 use crate::buffers::{put, put_few};

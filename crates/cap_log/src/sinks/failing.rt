@@ -1,10 +1,9 @@
 //! A sink of which one push fails.
 
-ghost use Rattle.std.specs.Prelude.{◌≡◌, ◌≢◌, ◌+◌, ◌-◌, ◌%◌, ◌^◌, ◌≤◌, ◌<◌, ℕ, List, [], ◌++◌, length, take, None, Some, option_map, IfOk, IsErr, OnErr};
-ghost use Rattle.cap_log.specs.Streams.{CountsFault, next_count};
-ghost use Rattle.cap_log.specs.Failings.{inner_sink, own_faults, pushes_left};
-ghost use Rattle.std.proofs.Math.Nat.{mod-lt};
-ghost use Rattle.std.proofs.lemmas.Nat.{pow_pos};
+ghost use Rattle.std.specs.Prelude.{◌≡◌, ◌≢◌, ◌+◌, ◌-◌, ◌%◌, ◌^◌, ◌≤◌, ◌<◌, [], length, take, None, Some, option_map};
+ghost use Rattle.std.specs.Prelude.{IfOk, IsErr, OnErr};
+ghost use Rattle.std.proofs.{Math.Nat.mod-lt, lemmas.Nat.pow_pos};
+ghost use Rattle.cap_log.specs.{Failings.{inner_sink, own_faults, pushes_left}, Streams.{CountsFault, next_count}};
 
 use crate::sinks::{PushFault, Sink};
 

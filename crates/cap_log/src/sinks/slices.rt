@@ -1,9 +1,8 @@
 //! A sink over bytes in memory.
 
-ghost use Rattle.std.specs.Prelude.{◌≡◌, ◌≢◌, ◌^◌, ℕ, ◌≤◌, List, [], ◌++◌, length, min, take, ◌<◌, ◌↔◌, IfOk, IsErr, OnErr};
-ghost use Rattle.std.proofs.Common.{refl, ◌∙◌};
-ghost use Rattle.cap_log.specs.Streams.{CountsFault};
-ghost use Rattle.cap_log.specs.Written.{WritesInside-nothing, WritesInside-joined};
+ghost use Rattle.std.specs.Prelude.{◌≡◌, ◌≢◌, ◌^◌, ◌≤◌, [], length, min, take, ◌<◌, ◌↔◌, IfOk, IsErr, OnErr, refl};
+ghost use Rattle.std.proofs.Common.{◌∙◌};
+ghost use Rattle.cap_log.specs.{Streams.CountsFault, Written.{WritesInside-nothing, WritesInside-joined}};
 
 use crate::sinks::{PushFault, Sink};
 

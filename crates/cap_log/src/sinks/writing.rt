@@ -1,8 +1,8 @@
 //! A sink over a writer.
 
-ghost use Rattle.std.specs.Prelude.{◌≡◌, ◌<◌, ◌≤◌, ◌^◌, ◌++◌, List, [], ℕ, true, false, length, take, IfOk, OnOk, OnErr};
-ghost use Rattle.std.proofs.Common.{refl, ◌∙◌};
+ghost use Rattle.std.specs.Prelude.{◌≡◌, ◌<◌, ◌≤◌, ◌^◌, [], true, false, length, take, IfOk, OnOk, OnErr, refl};
 ghost use Rattle.std.specs.Io.KnownBytes.{Appends};
+ghost use Rattle.std.proofs.Common.{◌∙◌};
 ghost use Rattle.cap_log.specs.Known.{Appends-nothing, Appends-joined};
 
 use crate::sinks::{PushFault, Sink};
@@ -19,8 +19,7 @@ pub struct WriteSink<'a, W: Write> {
 }
 
 impl<'a, W: Write> WriteSink<'a, W> {
-    ghost use Rattle.cap_log.specs.Wrapped.{has_flushed, name_of_writer, writer_of};
-    ghost use Rattle.cap_log.specs.Streams.{CountsFault};
+    ghost use Rattle.cap_log.specs.{Streams.CountsFault, Wrapped.{has_flushed, name_of_writer, writer_of}};
 
     /// What is pushed goes to the writer. There were no faults.
     pub fn new(writer: &'a mut W) -> WriteSink<'a, W>
@@ -57,8 +56,8 @@ impl<'a, W: Write> WriteSink<'a, W> {
 }
 
 impl<'a, W: Write> Sink for WriteSink<'a, W> {
-    ghost use Rattle.cap_log.specs.Wrapped.{faults_of_writer, has_flushed, name_of_writer, writer_of};
     ghost use Rattle.cap_log.specs.Streams.{CountsFault};
+    ghost use Rattle.cap_log.specs.Wrapped.{faults_of_writer, has_flushed, name_of_writer, writer_of};
 
     ghost took = { λ a b xs. (b.writer.ghost_name ≡ a.writer.ghost_name) × Appends (W.contents a.writer.now) (W.contents b.writer.now) xs };
 

@@ -1,10 +1,10 @@
 //! A source of which one pull fails.
 
-ghost use Rattle.std.specs.Prelude.{◌≡◌, ◌≢◌, ◌+◌, ◌-◌, ◌%◌, ◌^◌, ◌≤◌, ℕ, List, [], ◌++◌, false, length, take, if◌then◌else◌, None, Some, option_map, IfOk, IsErr, OnErr};
-ghost use Rattle.cap_log.specs.Streams.{CountsFault, is_end, next_count};
+ghost use Rattle.std.specs.Prelude.{◌≡◌, ◌≢◌, ◌+◌, ◌-◌, ◌%◌, ◌^◌, ◌≤◌, [], false, length, take, if◌then◌else◌, None};
+ghost use Rattle.std.specs.Prelude.{Some, option_map, IfOk, IsErr, OnErr};
+ghost use Rattle.std.proofs.{Math.Nat.mod-lt, lemmas.Nat.pow_pos};
 ghost use Rattle.cap_log.specs.Failings.{has_just_failed, inner_source, own_faults, pulls_left};
-ghost use Rattle.std.proofs.Math.Nat.{mod-lt};
-ghost use Rattle.std.proofs.lemmas.Nat.{pow_pos};
+ghost use Rattle.cap_log.specs.Streams.{CountsFault, is_end, next_count};
 
 use crate::sources::{PullFault, Source};
 

@@ -1,7 +1,6 @@
 //! A source over a reader.
 
-ghost use Rattle.std.specs.Prelude.{◌≡◌, ◌<◌, ◌^◌, ℕ, List, [], ◌++◌, true, false, Option, None, Some};
-ghost use Rattle.std.specs.Io.KnownBytes.{Consumes};
+ghost use Rattle.std.specs.{Prelude.{◌≡◌, ◌<◌, ◌^◌, ℕ, List, [], true, false, Some}, Io.KnownBytes.Consumes};
 ghost use Rattle.cap_log.specs.Known.{Consumes-nothing, Consumes-joined};
 
 use crate::sources::{PullFault, Source};

@@ -1,9 +1,8 @@
 //! A source over bytes in memory.
 
-ghost use Rattle.std.specs.Prelude.{◌≡◌, ◌+◌, ◌≤◌, ℕ, List, [], ◌++◌, true, false, length, take, drop, min, IfOk, IsOk, OnErr};
+ghost use Rattle.std.specs.Prelude.{◌≡◌, ◌≤◌, [], true, false, length, take, min, IfOk, IsOk, OnErr};
+ghost use Rattle.std.proofs.{Common.{rules, append_assoc}, lemmas.Nat.pow_pos};
 ghost use Rattle.cap_log.specs.Streams.{CountsFault, is_end};
-ghost use Rattle.std.proofs.lemmas.Nat.{pow_pos};
-ghost use Rattle.std.proofs.Common.{rules, append_assoc};
 
 use crate::sources::{PullFault, Source};
 

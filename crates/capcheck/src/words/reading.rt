@@ -1,8 +1,7 @@
 //! Reading the words after the program's name.
 
-ghost use Rattle.std.specs.Prelude.{◌≡◌, ℕ, List, ◌∷◌, IfSome, IfNone, codes, map};
-ghost use Rattle.capcheck.specs.Orders.{Asks};
-ghost use Rattle.capcheck.specs.declared.words.Order.{Order};
+ghost use Rattle.std.specs.Prelude.{◌∷◌, IfSome, IfNone, codes, map};
+ghost use Rattle.capcheck.specs.{declared.words.Order.Order, Orders.Asks};
 
 use crate::words::Order;
 use cap_program::{is_operand, take_option};

@@ -1,7 +1,6 @@
 use Rattle.std.proofs.Common.{ℕ, ◌<◌, ◌^◌, sym, ◌∙◌, subst}
 use Rattle.cap_bounds.specs.Bounds.{AreBounds, top_of}
-use Rattle.cap_bounds.proofs.Decoded.{AreBounds-exists, top_of-lt}
-use Rattle.cap_bounds.proofs.SailDecodingLemmas.{sail_base-is, sail_top-is}
+use Rattle.cap_bounds.proofs.{Decoded.{AreBounds-exists, top_of-lt}, SailDecodingLemmas.{sail_base-is, sail_top-is}}
 use Rattle.cap_bounds.proofs.decoding.bounds.Goals as goal
 
 pub returns-clause-relation : goal.returns-clause-relation

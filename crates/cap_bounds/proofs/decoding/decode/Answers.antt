@@ -1,7 +1,6 @@
 use Rattle.std.proofs.Common.{◌≡◌, ◌+◌, ◌*◌, ◌%◌, ◌^◌, sym, ◌∙◌, arith}
 use Rattle.cap_bounds.specs.Bounds.{raw_base_at}
-use Rattle.cap_bounds.proofs.Decoded.{decoded, top_at-corrected}
-use Rattle.cap_bounds.proofs.WrappedBounds.{top_without_address}
+use Rattle.cap_bounds.proofs.{Decoded.{decoded, top_at-corrected}, WrappedBounds.top_without_address}
 use Rattle.cap_bounds.proofs.decoding.decode.Goals as goal
 
 pub returns-then-cut_exponent-le-LAST_CORRECTED_EXPONENT : goal.returns-then-cut_exponent-le-LAST_CORRECTED_EXPONENT

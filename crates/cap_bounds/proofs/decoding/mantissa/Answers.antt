@@ -1,5 +1,4 @@
-use Rattle.std.proofs.Common.{ap, ◌∙◌, ◌+◌, ◌%◌, ◌^◌, ℕ, sym, subst}
-use Rattle.std.proofs.lemmas.Nat.{and_mask}
+use Rattle.std.proofs.{Common.{ap, ◌∙◌, ◌+◌, ◌%◌, ◌^◌, ℕ, sym, subst}, lemmas.Nat.and_mask}
 use Rattle.cap_bounds.specs.Bounds.{IsMantissa}
 use Rattle.cap_bounds.proofs.Mantissas.{mantissa_is, IsMantissa-mantissa_of, IsMantissa-unique}
 use Rattle.cap_bounds.proofs.decoding.mantissa.Goals as goal

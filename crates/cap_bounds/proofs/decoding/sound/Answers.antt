@@ -1,5 +1,4 @@
-use Rattle.std.proofs.Common.{◌≡◌, ◌+◌, arith}
-use Rattle.std.proofs.lemmas.Bool.{le-leb, leb-true}
+use Rattle.std.proofs.Common.{◌≡◌, ◌+◌, arith, le-leb, leb-true}
 use Rattle.cap_bounds.specs.Bounds.{base_of, length_of, top_of}
 use Rattle.cap_bounds.proofs.decoding.sound.Goals as goal
 

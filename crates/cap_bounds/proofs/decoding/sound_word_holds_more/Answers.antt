@@ -1,11 +1,8 @@
-use Rattle.std.proofs.Common.{◌≡◌, ◌+◌, ◌-◌, ◌*◌, ◌%◌, ◌^◌, ◌≤◌, refl, ◌∙◌, ap, arith}
-use Rattle.std.proofs.Math.Nat.{le-mul_of_pos_right}
-use Rattle.std.proofs.lemmas.Bool.{false≢true, le-leb, leb-true}
-use Rattle.std.proofs.lemmas.Nat.{pow_pos}
+use Rattle.std.proofs.Common.{◌≡◌, ◌+◌, ◌-◌, ◌*◌, ◌%◌, ◌^◌, ◌≤◌, refl, ◌∙◌, ap, arith, le-mul_of_pos_right, le-leb}
+use Rattle.std.proofs.{Common.{leb-true, pow_pos}, lemmas.Bool.{false≢true}}
 use Rattle.cap_word.specs.Fields.{address_of}
 use Rattle.cap_bounds.specs.Bounds.{base_of, length_of, top_of}
-use Rattle.cap_bounds.proofs.Decoded.{decoded}
-use Rattle.cap_bounds.proofs.WrappedBounds.{in_bounds, bounds_in}
+use Rattle.cap_bounds.proofs.{Decoded.decoded, WrappedBounds.{in_bounds, bounds_in}}
 use Rattle.cap_bounds.proofs.decoding.sound_word_holds_more.Goals as goal
 
 pub returns-then-span-eq0 : goal.returns-then-span-eq0

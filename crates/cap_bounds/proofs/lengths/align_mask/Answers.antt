@@ -1,7 +1,7 @@
 use Rattle.std.proofs.Common.{◌≡◌, ◌-◌, ◌%◌, ◌^◌, ℕ, sym, ◌∙◌, subst, arith}
 use Rattle.cap_bounds.specs.Rounding.{alignment_of, rounded_top}
-use Rattle.cap_bounds.proofs.ExactLengths.{alignment-power, alignment-from_mask, exact-at-aligned}
-use Rattle.cap_bounds.proofs.ExactLengths.{aligned-from_exact, rounded_length-ge, alignment-past}
+use Rattle.cap_bounds.proofs.ExactLengths.{alignment-power, alignment-from_mask, exact-at-aligned, aligned-from_exact}
+use Rattle.cap_bounds.proofs.ExactLengths.{rounded_length-ge, alignment-past}
 use Rattle.cap_bounds.proofs.lengths.align_mask.Goals as goal
 
 pub returns-clause-power : goal.returns-clause-power

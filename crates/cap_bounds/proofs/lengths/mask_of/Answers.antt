@@ -1,8 +1,8 @@
 use Rattle.std.proofs.Common.{◌≡◌, ◌+◌, ◌*◌, ◌-◌, ◌%◌, ◌^◌, ◌≤◌, ℕ, true, false, sym, ap, ◌∙◌, inl, inr, arith}
 use Rattle.std.proofs.lemmas.Bool.{cases_lt}
 use Rattle.cap_bounds.specs.Rounding.{rounded_ie}
-use Rattle.cap_bounds.proofs.Roundings.{rounded_ie-short, rounded_ie-long}
 use Rattle.cap_bounds.proofs.ExactLengths.{alignment-short, alignment-long, mask_shifted}
+use Rattle.cap_bounds.proofs.Roundings.{rounded_ie-short, rounded_ie-long}
 use Rattle.cap_bounds.proofs.lengths.mask_of.Goals as goal
 
 long-from : (n : ℕ) → rounded_ie n ≡ true → 4096 ≤ n

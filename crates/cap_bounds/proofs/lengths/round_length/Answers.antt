@@ -1,5 +1,4 @@
-use Rattle.std.proofs.Common.{◌<◌, ◌≤◌, ◌^◌, ℕ, sym, subst, arith}
-use Rattle.std.proofs.Math.Nat.{zero-mod}
+use Rattle.std.proofs.{Common.{◌<◌, ◌≤◌, ◌^◌, ℕ, sym, subst, arith}, Math.Nat.zero-mod}
 use Rattle.cap_bounds.specs.Rounding.{IsExact, alignment_of}
 use Rattle.cap_bounds.proofs.ExactLengths.{rounded_length-le, exact-at-aligned, rounded_length-least}
 use Rattle.cap_bounds.proofs.lengths.round_length.Goals as goal

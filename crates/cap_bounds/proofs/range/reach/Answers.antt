@@ -1,5 +1,4 @@
-use Rattle.std.proofs.Common.{inl, inr}
-use Rattle.std.proofs.lemmas.Bool.{cases_lt}
+use Rattle.std.proofs.{Common.{inl, inr}, lemmas.Bool.cases_lt}
 use Rattle.cap_bounds.specs.Bounds.{cut_exponent_of}
 use Rattle.cap_bounds.proofs.Decoded.{IsWindow-window_start, IsWindow-unique}
 use Rattle.cap_bounds.proofs.Keeping.{KeepsBounds-not_always, KeepsBounds-margins}

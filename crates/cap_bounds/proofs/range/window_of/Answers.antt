@@ -1,7 +1,5 @@
-use Rattle.std.proofs.Common.{ℕ, ◌+◌, ◌*◌, ◌%◌, ◌^◌, ◌<◌, ◌≤◌, ◌∙◌, ap, arith, subst}
-use Rattle.std.proofs.lemmas.Nat.{one_shl}
-use Rattle.cap_bounds.proofs.Decoded.{window_start_coded}
-use Rattle.cap_bounds.proofs.Keeping.{KeepsBounds-always, KeepsBounds-exact}
+use Rattle.std.proofs.{Common.{ℕ, ◌+◌, ◌*◌, ◌%◌, ◌^◌, ◌<◌, ◌≤◌, ◌∙◌, ap, arith, subst}, lemmas.Nat.one_shl}
+use Rattle.cap_bounds.proofs.{Decoded.window_start_coded, Keeping.{KeepsBounds-always, KeepsBounds-exact}}
 use Rattle.cap_bounds.proofs.range.window_of.Goals as goal
 
 pub returns-then-cut_exponent-ge-WHOLE_EXPONENT-clause-every : goal.returns-then-cut_exponent-ge-WHOLE_EXPONENT-clause-every

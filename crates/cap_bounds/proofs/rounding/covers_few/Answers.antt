@@ -1,6 +1,4 @@
-use Rattle.std.proofs.Common.{◌+◌, ◌-◌, ◌^◌, arith}
-use Rattle.std.proofs.lemmas.Bool.{ltb-true, lt-ltb}
-use Rattle.std.proofs.lemmas.Nat.{pow_pos}
+use Rattle.std.proofs.Common.{◌+◌, ◌-◌, ◌^◌, arith, ltb-true, lt-ltb, pow_pos}
 use Rattle.cap_bounds.proofs.Units.{div_up-last, down-le-down}
 use Rattle.cap_bounds.proofs.rounding.covers_few.Goals as goal
 

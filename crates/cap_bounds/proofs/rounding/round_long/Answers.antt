@@ -1,5 +1,4 @@
-use Rattle.std.proofs.Common.{ℕ, ◌+◌, ◌*◌, ◌%◌, ◌^◌, ap, ◌∙◌, arith}
-use Rattle.std.proofs.lemmas.Bool.Decides.{nat_tests}
+use Rattle.std.proofs.{Common.{ℕ, ◌+◌, ◌*◌, ◌%◌, ◌^◌, ap, ◌∙◌, arith}, lemmas.Bool.Decides.nat_tests}
 use Rattle.cap_bounds.specs.Rounding.{div_up}
 use Rattle.cap_bounds.proofs.Roundings.{long_request}
 use Rattle.cap_bounds.proofs.rounding.round_long.Goals as goal

@@ -1,5 +1,4 @@
-use Rattle.std.proofs.Common.{ℕ, ◌%◌, ◌^◌, sym, ap, ◌∙◌, refl}
-use Rattle.std.proofs.lemmas.Nat.{and_mask}
+use Rattle.std.proofs.{Common.{ℕ, ◌%◌, ◌^◌, sym, ap, ◌∙◌, refl}, lemmas.Nat.and_mask}
 use Rattle.cap_bounds.proofs.LeastExponents.{rounded_exponent-short}
 use Rattle.cap_bounds.proofs.Roundings.{rounded_base-short, rounded_ie-short, rounded_top-short, short_b, short_t}
 use Rattle.cap_bounds.proofs.rounding.round_short.Goals as goal

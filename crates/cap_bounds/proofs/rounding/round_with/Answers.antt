@@ -1,8 +1,6 @@
-use Rattle.std.proofs.Common.{◌≡◌, ℕ, ◌+◌, ◌-◌, ◌*◌, ◌/◌, ◌%◌, ◌^◌, ◌<◌, ◌≤◌, sym, ap, ◌∙◌, arith, subst}
-use Rattle.std.proofs.lemmas.Nat.{pow_pos}
+use Rattle.std.proofs.Common.{◌≡◌, ℕ, ◌+◌, ◌-◌, ◌*◌, ◌/◌, ◌%◌, ◌^◌, ◌≤◌, sym, ap, ◌∙◌, arith, subst, pow_pos}
 use Rattle.cap_bounds.specs.Rounding.{div_up}
-use Rattle.cap_bounds.proofs.Units.{div_up-last}
-use Rattle.cap_bounds.proofs.Roundings.{long_request, exact-whole, whole-exact}
+use Rattle.cap_bounds.proofs.{Roundings.{long_request, exact-whole, whole-exact}, Units.div_up-last}
 use Rattle.cap_bounds.proofs.rounding.round_with.Goals as goal
 
 -- the unit behind the last address

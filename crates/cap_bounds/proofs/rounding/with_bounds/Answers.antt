@@ -1,8 +1,8 @@
 use Rattle.std.proofs.Common.{ap, ◌∙◌, arith}
 use Rattle.cap_word.specs.Fields.{ie_of, e_of, b_of, t_of}
 use Rattle.cap_bounds.specs.declared.rounding.Rounded.{Rounded}
-use Rattle.cap_bounds.proofs.BoundedWords.{AreFields, ie_of-bounded_word, e_of-bounded_word, b_of-bounded_word, t_of-bounded_word}
-use Rattle.cap_bounds.proofs.RoundedWords.{decodes}
+use Rattle.cap_bounds.proofs.BoundedWords.{AreFields, ie_of-bounded_word, e_of-bounded_word, b_of-bounded_word}
+use Rattle.cap_bounds.proofs.{BoundedWords.t_of-bounded_word, RoundedWords.decodes}
 use Rattle.cap_bounds.proofs.rounding.with_bounds.Goals as goal
 
 -- a rounding's fields are fields of a word

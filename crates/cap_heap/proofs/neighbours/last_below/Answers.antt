@@ -1,6 +1,5 @@
-use Rattle.std.proofs.Common.{ℕ, IsSome, refl, sym, subst, arith}
+use Rattle.std.proofs.{Common.{ℕ, IsSome, refl, sym, subst, arith}, lemmas.Bool.Decides.nat_tests}
 use Rattle.std.proofs.lemmas.Map.Keys.{ge_from_not_lt}
-use Rattle.std.proofs.lemmas.Bool.Decides.{nat_tests}
 use Rattle.cap_heap.proofs.neighbours.last_below.Goals as goal
 
 pub returns-in-Some : goal.returns-in-Some

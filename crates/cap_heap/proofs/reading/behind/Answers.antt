@@ -1,5 +1,4 @@
-use Rattle.std.proofs.Common.{◌≡◌, ℕ, List, ◌++◌, sym, ap, take, drop, ◌∙◌, rules}
-use Rattle.std.proofs.lemmas.List.{take_at, take-append-drop}
+use Rattle.std.proofs.Common.{◌≡◌, ℕ, List, ◌++◌, sym, ap, take, drop, ◌∙◌, rules, take_at, take-append-drop}
 use Rattle.cap_heap.proofs.reading.behind.Goals as goal
 
 pub returns-then-eq-clause-some : goal.returns-then-eq-clause-some

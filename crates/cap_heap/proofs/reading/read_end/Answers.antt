@@ -1,11 +1,8 @@
-use Rattle.std.proofs.Common.{◌≡◌, ℕ, ◌∙◌, Option, Some, None, sym, subst}
-use Rattle.std.specs.Prelude.{◌≢◌, MatchOption, IfSome, IfNone, List}
+use Rattle.std.proofs.Common.{◌≡◌, ℕ, ◌∙◌, Option, Some, None, sym, subst, ◌≢◌, MatchOption, IfSome, IfNone, List}
+use Rattle.cap_log.specs.declared.lines.Line.{Line, TheVariants.End as Ending}
 use Rattle.cap_log.specs.Lines as log
-use Rattle.cap_log.specs.declared.lines.Line.{Line}
-use Rattle.cap_log.specs.declared.lines.Line.TheVariants.{End as Ending}
 use Rattle.cap_log.proofs.SpellingLemmas as logs
-use Rattle.cap_heap.specs.declared.lines.HeapLine.TheVariants.{End}
-use Rattle.cap_heap.specs.HeapLines.{SpellsHeapLine}
+use Rattle.cap_heap.specs.{declared.lines.HeapLine.TheVariants.End, HeapLines.SpellsHeapLine}
 use Rattle.cap_heap.proofs.LineLemmas.{end_spelled}
 use Rattle.cap_heap.proofs.reading.read_end.Goals as goal
 

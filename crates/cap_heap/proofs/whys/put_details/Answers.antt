@@ -1,6 +1,5 @@
 use Rattle.cap_heap.specs.Beginnings.{root_of, events_of, lines_of, due_of}
-use Rattle.cap_heap.proofs.BehindLemmas.{behind}
-use Rattle.cap_heap.proofs.WhyLemmas.{count_details}
+use Rattle.cap_heap.proofs.{BehindLemmas.behind, WhyLemmas.count_details}
 use Rattle.cap_heap.proofs.whys.put_details.Goals as goal
 
 pub returns-in-Misplaced-clause-written : goal.returns-in-Misplaced-clause-written

@@ -1,11 +1,9 @@
 use Rattle.std.proofs.Common.{[], ◌++◌, refl, sym, subst, codes}
 use Rattle.cap_log.specs.Written.{◌⨾◌}
 use Rattle.cap_texts.specs.CapLines.{bounds_line}
-use Rattle.cap_heap.specs.declared.events.Event.TheVariants.{Malloc}
-use Rattle.cap_heap.specs.declared.refusal.HeapRefusal.{HeapRefusal}
-use Rattle.cap_heap.specs.declared.refusal.HeapRefusal.TheVariants.{Misplaced}
-use Rattle.cap_heap.specs.Heaps.{objects_in}
-use Rattle.cap_heap.specs.HeapWhys.{AreEventDetails, apart_lines, live_lines, request_lines, right_lines}
+use Rattle.cap_heap.specs.declared.{events.Event.TheVariants.Malloc, refusal.HeapRefusal.HeapRefusal}
+use Rattle.cap_heap.specs.{declared.refusal.HeapRefusal.TheVariants.Misplaced, HeapWhys.{AreEventDetails, apart_lines}}
+use Rattle.cap_heap.specs.{HeapWhys.{live_lines, request_lines, right_lines}, Heaps.objects_in}
 use Rattle.cap_heap.proofs.WhyLemmas.{other_details}
 use Rattle.cap_heap.proofs.whys.put_malloc_lines.Goals as goal
 

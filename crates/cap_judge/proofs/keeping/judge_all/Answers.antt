@@ -1,15 +1,9 @@
 use Rattle.std.proofs.Common.{◌≡◌, ◌≢◌, ◌≤◌, ◌-◌, [], List, ℕ, arith, drop, inl, length, refl, subst, take, true}
-use Rattle.std.proofs.lemmas.List.Elements.{All-nil}
-use Rattle.std.proofs.lemmas.List.{length-drop, take-append-drop, take_all}
+use Rattle.std.proofs.{Common.{length-drop, take-append-drop, take_all}, lemmas.List.Elements.All-nil}
 use Rattle.cap_log.specs.FaultLines.{bytes_of}
-use Rattle.cap_judge.specs.Logs.{MayLackMemory}
-use Rattle.cap_judge.specs.Readings.{EndsWith, Follows, stage_of}
-use Rattle.cap_judge.specs.Turns.{unread}
-use Rattle.cap_judge.proofs.KeepingLemmas.{all_judged, all_lack}
-use Rattle.cap_judge.proofs.SourceLemmas.{ended_answer}
-use Rattle.cap_judge.proofs.FollowLemmas.{faults_at}
-use Rattle.cap_judge.proofs.TurnLaws.{lacks_memory, reached, refused_told, told}
-use Rattle.cap_judge.proofs.TurnLemmas.{stop_follows}
+use Rattle.cap_judge.specs.{Logs.MayLackMemory, Readings.{EndsWith, Follows, stage_of}, Turns.unread}
+use Rattle.cap_judge.proofs.{FollowLemmas.faults_at, KeepingLemmas.{all_judged, all_lack}, SourceLemmas.ended_answer}
+use Rattle.cap_judge.proofs.{TurnLaws.{lacks_memory, reached, refused_told, told}, TurnLemmas.stop_follows}
 use Rattle.cap_judge.proofs.keeping.judge_all.Goals as goal
 
 pub returns-in-Cut : goal.returns-in-Cut

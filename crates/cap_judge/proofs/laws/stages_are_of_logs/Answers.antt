@@ -1,6 +1,5 @@
-use Rattle.cap_judge.proofs.ExpectedLemmas.{expects}
-use Rattle.cap_judge.proofs.FollowLemmas.{follows_on}
-use Rattle.cap_judge.proofs.TurnLaws.{fault_ends, fault_reached, lacks_memory, none_so_far, reached, stands_so_far, told}
+use Rattle.cap_judge.proofs.{ExpectedLemmas.expects, FollowLemmas.follows_on, TurnLaws.{fault_ends, fault_reached}}
+use Rattle.cap_judge.proofs.TurnLaws.{lacks_memory, none_so_far, reached, stands_so_far, told}
 use Rattle.cap_judge.proofs.laws.stages_are_of_logs.Goals as goal
 
 pub returns : goal.returns

@@ -1,14 +1,9 @@
-use Rattle.std.proofs.Common.{ap, subst, true, ◌∙◌}
 use Rattle.std.specs.FinMap.{len, len-empty}
-use Rattle.std.specs.Ordering.{nat_cmp}
-use Rattle.tagmem.specs.Granules.{Entry}
-use Rattle.std.proofs.lemmas.Result.{err_from_is_err_and}
+use Rattle.std.proofs.{Common.{ap, subst, true, ◌∙◌, nat_cmp}, lemmas.Result.err_from_is_err_and}
 use Rattle.cap_log.specs.FaultLines.{bytes_of}
-use Rattle.cap_judge.specs.Judgings.{JudgedBy}
-use Rattle.cap_judge.specs.OriginLists.{report_text}
-use Rattle.cap_judge.specs.Reports.{Tells}
-use Rattle.cap_judge.proofs.ReportLemmas.{IsHeld, pushed_nothing, tells}
-use Rattle.cap_judge.proofs.EscapeLaws.{named}
+use Rattle.tagmem.specs.Granules.{Entry}
+use Rattle.cap_judge.specs.{Judgings.JudgedBy, OriginLists.report_text, Reports.Tells}
+use Rattle.cap_judge.proofs.{EscapeLaws.named, ReportLemmas.{IsHeld, pushed_nothing, tells}}
 use Rattle.cap_judge.proofs.reporting.judge_origins.Goals as goal
 
 pub judge_keeping-answer-requires : goal.judge_keeping-answer-requires

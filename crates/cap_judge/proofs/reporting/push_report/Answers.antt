@@ -1,5 +1,4 @@
-use Rattle.cap_judge.proofs.OriginLemmas.{both_ok, both_err, first_err}
-use Rattle.cap_judge.proofs.ReportLemmas.{yes_text}
+use Rattle.cap_judge.proofs.{OriginLemmas.{both_ok, both_err, first_err}, ReportLemmas.yes_text}
 use Rattle.cap_judge.proofs.reporting.push_report.Goals as goal
 
 pub returns-in-Ok-clause-ok : goal.returns-in-Ok-clause-ok

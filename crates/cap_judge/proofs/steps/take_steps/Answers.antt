@@ -1,7 +1,6 @@
 use Rattle.std.proofs.Common.{[], ℕ, List, Bor, Option, Ok, refl, subst}
-use Rattle.cap_log.specs.declared.lines.Line.TheVariants as lines
-use Rattle.cap_judge.specs.Readings.{TakesOne, at}
-use Rattle.cap_judge.specs.declared.judges.Stage.TheVariants.{Body}
+use Rattle.cap_log.specs.declared.lines.Line.{Line}
+use Rattle.cap_judge.specs.{declared.judges.Stage.TheVariants.Body, Readings.{TakesOne, at}}
 use Rattle.cap_judge.proofs.TurnLemmas.{goes_line, goes_more, goes_none}
 use Rattle.cap_judge.proofs.steps.take_steps.Goals as goal
 
@@ -18,7 +17,7 @@ steps-preserved g c =
     let on = goes_more first (at Body c.steps.machine) (at Body middle) c.args.bytes.now so_far.0 c.steps.rest.now usual.0 here so_far.1 so_far.2 usual.1 usual.2 in
     let taken = subst (λ (t : Option (Bor (List ℕ))). TakesOne middle here (Ok t) c.take_step.new.machine) c.in-Ok-Some.field-0-is c.in-Ok-Some.ensures in
     record {
-      taken = goes_line first (at Body middle) (at Body c.take_step.new.machine) c.args.bytes.now on.0 here c.in-Ok-Some.behind.now (lines.Step taken.0)
+      taken = goes_line first (at Body middle) (at Body c.take_step.new.machine) c.args.bytes.now on.0 here c.in-Ok-Some.behind.now (Line.Step taken.0)
           on.1 on.2 taken.1 taken.2;
     }
 

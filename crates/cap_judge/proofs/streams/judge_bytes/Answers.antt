@@ -1,8 +1,6 @@
 use Rattle.std.proofs.Common.{IfErr, IfOk, arith, rules}
 use Rattle.cap_judge.specs.Verdicts.{NoVerdictIn, IsVerdict}
-use Rattle.cap_judge.proofs.EscapeLaws.{escapes_of}
-use Rattle.cap_judge.proofs.JudgeLemmas.{answered, guarded}
-use Rattle.cap_judge.proofs.SourceLemmas.{of_all}
+use Rattle.cap_judge.proofs.{EscapeLaws.escapes_of, JudgeLemmas.{answered, guarded}, SourceLemmas.of_all}
 use Rattle.cap_judge.proofs.streams.judge_bytes.Goals as goal
 
 -- a slice counts no fault

@@ -1,12 +1,9 @@
-use Rattle.std.proofs.Common.{◌≡◌, ◌≢◌, ◌++◌, [], ℕ, List, append-nil, append_assoc, arith, inl, length, refl, rules, subst, sym, true, ◌∙◌}
-use Rattle.std.proofs.lemmas.List.Elements.{All-nil}
-use Rattle.cap_log.specs.Front.{IsCut}
-use Rattle.cap_log.specs.Pulled.{items}
-use Rattle.cap_log.specs.FaultLines.{bytes_of}
-use Rattle.cap_judge.specs.Readings.{EndsAs, stage_of}
-use Rattle.cap_judge.specs.Turns.{unread}
-use Rattle.cap_judge.proofs.FollowLemmas.{faults_at, follows_on}
-use Rattle.cap_judge.proofs.SourceLemmas.{closer, ended_answer, given_more, lacking_judged, nothing_more, pull_judged, verdict_judged}
+use Rattle.std.proofs.Common.{◌≡◌, ◌≢◌, ◌++◌, [], ℕ, List, append-nil, append_assoc, arith, inl, length, refl, rules}
+use Rattle.std.proofs.{Common.{subst, sym, true, ◌∙◌}, lemmas.List.Elements.All-nil}
+use Rattle.cap_log.specs.{FaultLines.bytes_of, Front.IsCut, Pulled.items}
+use Rattle.cap_judge.specs.{Readings.{EndsAs, stage_of}, Turns.unread}
+use Rattle.cap_judge.proofs.{FollowLemmas.{faults_at, follows_on}, SourceLemmas.{closer, ended_answer, given_more}}
+use Rattle.cap_judge.proofs.SourceLemmas.{lacking_judged, nothing_more, pull_judged, verdict_judged}
 use Rattle.cap_judge.proofs.TurnLaws.{lacks_memory, reached, refused_told, told}
 use Rattle.cap_judge.proofs.TurnLemmas.{goes_none, goes_on, stop_follows}
 use Rattle.cap_judge.proofs.streams.judge_source.Goals as goal

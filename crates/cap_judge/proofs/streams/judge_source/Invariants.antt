@@ -1,8 +1,6 @@
 use Rattle.std.proofs.Common.{◌≡◌, ◌+◌, ◌-◌, ◌*◌, ◌++◌, ℕ, List, length}
-use Rattle.cap_log.specs.Front.{IsCut}
-use Rattle.cap_log.specs.Pulled.{items}
-use Rattle.cap_judge.specs.Readings.{Goes, lines_read, stage_of}
-use Rattle.cap_judge.specs.Turns.{unread}
+use Rattle.cap_log.specs.{Front.IsCut, Pulled.items}
+use Rattle.cap_judge.specs.{Readings.{Goes, lines_read, stage_of}, Turns.unread}
 use Rattle.cap_judge.proofs.streams.judge_source.Given as goal
 
 -- what was given is lines that were read, except less than a line, which the pulled holds

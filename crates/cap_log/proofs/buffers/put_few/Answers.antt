@@ -1,5 +1,4 @@
-use Rattle.std.proofs.Common.{ℕ, ap, arith, length, ◌∷◌, []}
-use Rattle.std.proofs.lemmas.Fmt.{decimal_digit}
+use Rattle.std.proofs.{Common.{ℕ, ap, arith, length, ◌∷◌, []}, lemmas.Fmt.decimal_digit}
 use Rattle.cap_log.proofs.FewLemmas.{two, three, four, wrote, row2, row3, row4}
 use Rattle.cap_log.proofs.buffers.put_few.Goals as goal
 

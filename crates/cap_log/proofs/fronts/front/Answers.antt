@@ -1,5 +1,4 @@
-use Rattle.std.proofs.Common.{◌≢◌, arith, below_more}
-use Rattle.std.proofs.lemmas.List.Elements.{All-from_get_or}
+use Rattle.std.proofs.{Common.{◌≢◌, arith, below_more}, lemmas.List.Elements.All-from_get_or}
 use Rattle.cap_log.proofs.FrontLemmas.{HasNoFeed-take, IsLine-at}
 use Rattle.cap_log.proofs.fronts.front.Goals as goal
 

@@ -1,6 +1,5 @@
 use Rattle.std.proofs.Common.{◌≡◌, ◌-◌, ℕ, List, [], take, drop, length, sym, subst, ap, ◌∙◌, append-nil, rules, arith}
-use Rattle.std.proofs.lemmas.List.{length-drop}
-use Rattle.std.proofs.Math.Seq.{take-length}
+use Rattle.std.proofs.{Common.length-drop, Math.Seq.take-length}
 use lib.Seq.{take-add}
 use Rattle.cap_log.proofs.pushing.push_all.Goals as goal
 

@@ -1,9 +1,6 @@
-use Rattle.std.proofs.Common.{◌≡◌, ◌≢◌, [], ap, length, subst, arith, rules}
-use Rattle.std.proofs.lemmas.List.{nil_from_length}
-use Rattle.cap_log.specs.Lines.{IsInRange, spelling}
-use Rattle.cap_log.specs.Parts.{Begins, BeginsWithNone}
-use Rattle.cap_log.proofs.SpellingLemmas.{fed_none, fed_some, fed_more, spelling-short}
-use Rattle.cap_log.proofs.WriteLemmas.{front_and_byte}
+use Rattle.std.proofs.{Common.{◌≡◌, ◌≢◌, [], ap, length, subst, arith, rules}, lemmas.List.nil_from_length}
+use Rattle.cap_log.specs.{Lines.{IsInRange, spelling}, Parts.{Begins, BeginsWithNone}}
+use Rattle.cap_log.proofs.{SpellingLemmas.{fed_none, fed_some, fed_more, spelling-short}, WriteLemmas.front_and_byte}
 use Rattle.cap_log.proofs.reading.read_line.Goals as goal
 
 pub returns-then-bytes-gt-LINE_LIMIT-clause-none : goal.returns-then-bytes-gt-LINE_LIMIT-clause-none

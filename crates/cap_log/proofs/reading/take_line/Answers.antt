@@ -1,6 +1,5 @@
 use Rattle.std.proofs.Common.{IfSome, IfNone, subst, sym}
-use Rattle.cap_log.specs.Lines.{IsInRange, spelling}
-use Rattle.cap_log.specs.Parts.{Begins, BeginsWithNone}
+use Rattle.cap_log.specs.{Lines.{IsInRange, spelling}, Parts.{Begins, BeginsWithNone}}
 use Rattle.cap_log.proofs.Shapes.{no_head}
 use Rattle.cap_log.proofs.reading.take_line.Goals as goal
 

@@ -1,6 +1,5 @@
 use Rattle.std.proofs.Common.{ℕ, Option, unwrap_or, false, sym, ap, ◌∙◌}
-use Rattle.cap_word.specs.declared.word.Cap.{Cap}
-use Rattle.cap_word.specs.Memory.{stored_word}
+use Rattle.cap_word.specs.{declared.word.Cap.Cap, Memory.stored_word}
 use Rattle.tagmem.specs.Granules.{Entry, blank}
 use Rattle.cap_machine.proofs.GranuleLemmas.{granule_cap-absent}
 use Rattle.cap_machine.proofs.machine.capability_with_code.Goals as goal

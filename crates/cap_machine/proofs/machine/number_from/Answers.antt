@@ -1,5 +1,5 @@
-use Rattle.std.proofs.Common.{◌≡◌, ◌≢◌, ℕ, inl, inr, sym, ◌∙◌}
 use Rattle.std.specs.Int.Bits.{and_mask}
+use Rattle.std.proofs.Common.{◌≡◌, ◌≢◌, ℕ, inl, inr, sym, ◌∙◌}
 use Rattle.cap_word.proofs.Bytes.{from_le_bytes_is}
 use Rattle.cap_log.specs.Lines.{IsDataSize}
 use Rattle.cap_machine.proofs.GranuleLemmas.{number_at-cut}

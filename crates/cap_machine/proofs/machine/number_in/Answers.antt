@@ -1,7 +1,6 @@
 use Rattle.std.specs.FinMap as map
-use Rattle.std.proofs.Common.{◌≡◌, ℕ, zero, suc, ◌+◌, ◌-◌, ◌≤◌, List, take, Option, unwrap_or, refl, sym, ap, ◌∙◌, arith}
-use Rattle.std.proofs.lemmas.List.{drop-replicate, take-replicate}
-use Rattle.std.proofs.Math.ListN.{replicate}
+use Rattle.std.proofs.Common.{◌≡◌, ℕ, zero, suc, ◌+◌, ◌-◌, ◌≤◌, List, take, Option, unwrap_or, refl, sym, ap, ◌∙◌}
+use Rattle.std.proofs.{Common.{arith, replicate}, lemmas.List.{drop-replicate, take-replicate}}
 use Rattle.cap_word.specs.Memory.{number_of}
 use Rattle.tagmem.specs.Granules.{Entry, blank}
 use Rattle.tagmem.proofs.Granules.{shown-none, shown-some}

@@ -1,5 +1,4 @@
-use Rattle.std.proofs.Common.{◌≤◌, ℕ, inl, inr, ap, ◌∙◌, arith, List}
-use Rattle.std.proofs.lemmas.Result.{on_ok_weaker}
+use Rattle.std.proofs.{Common.{◌≤◌, ℕ, inl, inr, ap, ◌∙◌, arith, List}, lemmas.Result.on_ok_weaker}
 use Rattle.cap_log.specs.Lines.{IsDataSize}
 use Rattle.tagmem.specs.Granules.{with_bytes}
 use Rattle.cap_machine.proofs.GranuleLemmas.{low_taken}

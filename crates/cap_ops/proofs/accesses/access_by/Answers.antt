@@ -1,13 +1,9 @@
-use Rattle.std.proofs.Common.{◌≡◌, ℕ, Option, None, option_map, ◌∙◌, ap, sym, subst, rules}
+use Rattle.std.specs.Int.{cast_signed, cast_unsigned}
+use Rattle.std.proofs.Common.{◌≡◌, ℕ, Option, None, option_map, ◌∙◌, ap, sym, subst, rules, FitsSigned, w16}
 use Rattle.std.proofs.lemmas.Int.{to_z-of_z}
-use Rattle.std.specs.Prelude.{FitsSigned}
-use Rattle.std.specs.Int.{w16, cast_signed, cast_unsigned}
 use Rattle.cap_word.specs.declared.word.Cap.{Cap}
-use Rattle.cap_ops.specs.declared.faults.OpFault.{OpFault}
-use Rattle.cap_ops.specs.declared.access.Access.{Access}
-use Rattle.cap_ops.specs.Refusals.{refusal_of}
-use Rattle.cap_ops.specs.Checks.{first_of}
-use Rattle.cap_ops.specs.Accesses.{IsAllowed, access_address, access_checks, permission_for}
+use Rattle.cap_ops.specs.{declared.{access.Access.Access, faults.OpFault.OpFault}, Accesses.{IsAllowed, access_address}}
+use Rattle.cap_ops.specs.{Accesses.{access_checks, permission_for}, Checks.first_of, Refusals.refusal_of}
 use Rattle.cap_ops.proofs.AccessLemmas.{IsAllowed-access, in_granule}
 use Rattle.cap_ops.proofs.accesses.access_by.Goals as goal
 

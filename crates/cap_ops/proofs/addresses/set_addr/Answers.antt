@@ -1,8 +1,7 @@
 use Rattle.std.proofs.Common.{ap, option_map, ◌^◌, ◌<◌, Ok, Err, ◌∙◌, sym, arith}
 use Rattle.cap_ops.specs.Refusals.{refusal_of}
 use Rattle.cap_ops.proofs.AddressLemmas.{NotRepresentable-exact, NotRepresentable-near, StaysWithin-set_addr}
-use Rattle.cap_ops.proofs.ResultLemmas.{moved_so}
-use Rattle.cap_ops.proofs.ReachLemmas.{StaysWithin-same}
+use Rattle.cap_ops.proofs.{ReachLemmas.StaysWithin-same, ResultLemmas.moved_so}
 use Rattle.cap_ops.proofs.addresses.set_addr.Goals as goal
 
 pub returns-in-Some-clause-range : goal.returns-in-Some-clause-range

@@ -1,6 +1,5 @@
 use Rattle.cap_ops.specs.Operations.{and_perm_checks, and_perm_result}
-use Rattle.cap_ops.proofs.ClearLemmas.{in_clear_mode}
-use Rattle.cap_ops.proofs.Derivations.{StaysWithin-and_perm}
+use Rattle.cap_ops.proofs.{ClearLemmas.in_clear_mode, Derivations.StaysWithin-and_perm}
 use Rattle.cap_ops.proofs.clearing.and_perm_clear.Goals as goal
 
 pub returns : goal.returns

@@ -1,6 +1,5 @@
 use Rattle.cap_ops.specs.Operations.{seal_checks, seal_result}
-use Rattle.cap_ops.proofs.ClearLemmas.{in_clear_mode}
-use Rattle.cap_ops.proofs.Derivations.{StaysWithin-seal}
+use Rattle.cap_ops.proofs.{ClearLemmas.in_clear_mode, Derivations.StaysWithin-seal}
 use Rattle.cap_ops.proofs.clearing.seal_clear.Goals as goal
 
 pub returns : goal.returns

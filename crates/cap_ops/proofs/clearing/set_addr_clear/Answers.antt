@@ -1,7 +1,6 @@
 use Rattle.std.proofs.Common.{◌^◌, ◌<◌, arith}
 use Rattle.cap_ops.specs.Operations.{set_addr_checks, set_addr_result}
-use Rattle.cap_ops.proofs.AddressLemmas.{StaysWithin-set_addr}
-use Rattle.cap_ops.proofs.ClearLemmas.{in_clear_mode}
+use Rattle.cap_ops.proofs.{AddressLemmas.StaysWithin-set_addr, ClearLemmas.in_clear_mode}
 use Rattle.cap_ops.proofs.clearing.set_addr_clear.Goals as goal
 
 pub returns : goal.returns

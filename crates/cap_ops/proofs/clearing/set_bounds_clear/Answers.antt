@@ -1,7 +1,6 @@
 use Rattle.std.proofs.Common.{◌^◌, ◌<◌, arith}
 use Rattle.cap_ops.specs.Operations.{set_bounds_checks, set_bounds_result}
-use Rattle.cap_ops.proofs.ClearLemmas.{in_clear_mode, untagged_where_beyond}
-use Rattle.cap_ops.proofs.NarrowingLemmas.{StaysWithin-set_bounds}
+use Rattle.cap_ops.proofs.{ClearLemmas.{in_clear_mode, untagged_where_beyond}, NarrowingLemmas.StaysWithin-set_bounds}
 use Rattle.cap_ops.proofs.clearing.set_bounds_clear.Goals as goal
 
 pub returns : goal.returns

@@ -1,6 +1,5 @@
 use Rattle.cap_ops.specs.Operations.{unseal_checks, unseal_result}
-use Rattle.cap_ops.proofs.ClearLemmas.{in_clear_mode}
-use Rattle.cap_ops.proofs.Derivations.{StaysWithin-unseal}
+use Rattle.cap_ops.proofs.{ClearLemmas.in_clear_mode, Derivations.StaysWithin-unseal}
 use Rattle.cap_ops.proofs.clearing.unseal_clear.Goals as goal
 
 pub returns : goal.returns

@@ -1,5 +1,4 @@
-use Rattle.std.proofs.Common.{arith}
-use Rattle.std.proofs.lemmas.Bool.Decides.{same_from_decides}
+use Rattle.std.proofs.{Common.arith, lemmas.Bool.Decides.same_from_decides}
 use Rattle.cap_ops.specs.Operations.{covers}
 use Rattle.cap_ops.proofs.TestLemmas.{IsInside-covers, covers-inside}
 use Rattle.cap_ops.proofs.narrowing.covers.Goals as goal

@@ -1,8 +1,6 @@
 use Rattle.std.proofs.Common.{◌≡◌, ℕ, ◌+◌, ◌-◌, ◌<◌, true, false, sym, ap, ◌∙◌, arith, subst}
-use Rattle.std.proofs.lemmas.Bool.{false≢true}
-use Rattle.std.proofs.lemmas.Bool.Decides.{same_from_decides}
-use Rattle.cap_bounds.specs.Bounds.{IsInside, base_of, top_of}
-use Rattle.cap_bounds.specs.Rounding.{rounded_base, rounded_top}
+use Rattle.std.proofs.lemmas.Bool.{false≢true, Decides.same_from_decides}
+use Rattle.cap_bounds.specs.{Bounds.{IsInside, base_of, top_of}, Rounding.{rounded_base, rounded_top}}
 use Rattle.cap_ops.specs.Operations.{covers, is_exact}
 use Rattle.cap_ops.proofs.NarrowingLemmas.{IsExact-is_exact, is_exact-IsExact, covers-requested, covers-escaping}
 use Rattle.cap_ops.proofs.narrowing.rounding_inside.Goals as goal

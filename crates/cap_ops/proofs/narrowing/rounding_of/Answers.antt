@@ -1,5 +1,4 @@
-use Rattle.std.proofs.Common.{ℕ, ◌∙◌, ap}
-use Rattle.std.proofs.lemmas.Bool.Decides.{same_from_decides}
+use Rattle.std.proofs.{Common.{ℕ, ◌∙◌, ap}, lemmas.Bool.Decides.same_from_decides}
 use Rattle.cap_ops.specs.Operations.{is_exact}
 use Rattle.cap_ops.proofs.NarrowingLemmas.{IsExact-is_exact, is_exact-IsExact}
 use Rattle.cap_ops.proofs.narrowing.rounding_of.Goals as goal

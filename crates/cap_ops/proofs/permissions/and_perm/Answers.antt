@@ -1,8 +1,7 @@
 use Rattle.std.proofs.Common.{ap, ◌∙◌}
 use Rattle.cap_word.specs.declared.word.Cap.{Cap}
 use Rattle.cap_ops.specs.Permissions.{perm_view_of}
-use Rattle.cap_ops.proofs.Derivations.{StaysWithin-and_perm, view-and_perm_result}
-use Rattle.cap_ops.proofs.ReachLemmas.{StaysWithin-same}
+use Rattle.cap_ops.proofs.{Derivations.{StaysWithin-and_perm, view-and_perm_result}, ReachLemmas.StaysWithin-same}
 use Rattle.cap_ops.proofs.permissions.and_perm.Goals as goal
 
 pub returns-in-None-clause-view : goal.returns-in-None-clause-view

@@ -1,5 +1,4 @@
-use Rattle.std.proofs.Common.{◌≡◌, ℕ, ◌∙◌, ap}
-use Rattle.std.specs.Prelude.{bit_and}
+use Rattle.std.proofs.Common.{◌≡◌, ℕ, ap, bit_and}
 use Rattle.cap_word.specs.Fields.{perms_of}
 use Rattle.cap_ops.specs.Operations.{and_perm_result, with_word}
 use Rattle.cap_ops.specs.Permissions.{perm_view_of, perms_from_view, with_perms}

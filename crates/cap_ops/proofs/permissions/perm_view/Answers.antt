@@ -1,5 +1,4 @@
-use Rattle.std.proofs.Common.{arith}
-use Rattle.std.proofs.lemmas.Nat.{and_mask}
+use Rattle.std.proofs.{Common.arith, lemmas.Nat.and_mask}
 use Rattle.cap_ops.specs.Permissions.{perm_view_of}
 use Rattle.cap_ops.proofs.permissions.perm_view.Goals as goal
 

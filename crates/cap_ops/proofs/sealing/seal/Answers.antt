@@ -1,8 +1,6 @@
 use Rattle.std.proofs.Common.{ap, option_map, ◌∙◌, sym}
 use Rattle.cap_ops.specs.Refusals.{refusal_of}
-use Rattle.cap_ops.proofs.Derivations.{StaysWithin-seal}
-use Rattle.cap_ops.proofs.ResultLemmas.{sealed_so}
-use Rattle.cap_ops.proofs.ReachLemmas.{StaysWithin-same}
+use Rattle.cap_ops.proofs.{Derivations.StaysWithin-seal, ReachLemmas.StaysWithin-same, ResultLemmas.sealed_so}
 use Rattle.cap_ops.proofs.sealing.seal.Goals as goal
 
 pub returns-in-None-clause-stays_within : goal.returns-in-None-clause-stays_within

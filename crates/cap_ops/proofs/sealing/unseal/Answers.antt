@@ -1,8 +1,6 @@
 use Rattle.std.proofs.Common.{ap, option_map, ◌∙◌, sym}
 use Rattle.cap_ops.specs.Refusals.{refusal_of}
-use Rattle.cap_ops.proofs.Derivations.{StaysWithin-unseal}
-use Rattle.cap_ops.proofs.ResultLemmas.{unsealed_so}
-use Rattle.cap_ops.proofs.ReachLemmas.{StaysWithin-same}
+use Rattle.cap_ops.proofs.{Derivations.StaysWithin-unseal, ReachLemmas.StaysWithin-same, ResultLemmas.unsealed_so}
 use Rattle.cap_ops.proofs.sealing.unseal.Goals as goal
 
 pub returns-in-None-clause-stays_within : goal.returns-in-None-clause-stays_within

@@ -1,6 +1,5 @@
 use Rattle.std.proofs.Common.{ℕ, Result, subst, sym}
-use Rattle.cap_program.specs.declared.faults.Fault.{Fault}
-use Rattle.cap_program.specs.Doings.{TellsFaultLine}
+use Rattle.cap_program.specs.{declared.faults.Fault.Fault, Doings.TellsFaultLine}
 use Rattle.cap_program.proofs.Doing.{begun}
 use Rattle.cap_program.proofs.answering.tell.Goals as goal
 

@@ -1,6 +1,7 @@
 use Rattle.std.proofs.Common.{List, ℕ}
 use Rattle.cap_program.specs.Doings.{ended_by}
-use Rattle.cap_program.proofs.Doing.{done_handed_on, done_map, input_handed_on, read_handed_on, then_nothing, written_handed_on}
+use Rattle.cap_program.proofs.Doing.{done_handed_on, done_map, input_handed_on, read_handed_on, then_nothing}
+use Rattle.cap_program.proofs.Doing.{written_handed_on}
 use Rattle.cap_program.proofs.running.carry_out.Goals as goal
 
 pub returns-clause-followed : goal.returns-clause-followed

@@ -1,10 +1,7 @@
-use Rattle.std.proofs.Common.{List, Option, ℕ, subst}
 use Rattle.std.specs.Io.KnownBytes.{Appends, Consumes}
-use Rattle.cap_program.specs.Doings.{ended_by, known_bytes}
-use Rattle.cap_program.specs.Faults.{fault_line}
-use Rattle.cap_program.specs.Runs.{TellsFault}
-use Rattle.cap_program.proofs.Doing.{given_of}
-use Rattle.cap_program.proofs.RunLemmas.{ran_at, ran_by, ran_missing, ran_silent, ran_told}
+use Rattle.std.proofs.Common.{List, Option, ℕ, subst}
+use Rattle.cap_program.specs.{Doings.{ended_by, known_bytes}, Faults.fault_line, Runs.TellsFault}
+use Rattle.cap_program.proofs.{Doing.given_of, RunLemmas.{ran_at, ran_by, ran_missing, ran_silent, ran_told}}
 use Rattle.cap_program.proofs.running.run.Goals as goal
 
 pub returns : goal.returns

@@ -1,14 +1,11 @@
-use Rattle.std.proofs.Common.{ap, subst, ◌∙◌}
 use Rattle.std.specs.FinMap.{len, len-empty}
-use Rattle.std.specs.Ordering.{nat_cmp}
-use Rattle.tagmem.specs.Granules.{Entry}
-use Rattle.std.proofs.lemmas.Result.{err_from_is_err_and}
+use Rattle.std.proofs.{Common.{ap, subst, ◌∙◌, nat_cmp}, lemmas.Result.err_from_is_err_and}
 use Rattle.cap_log.specs.FaultLines.{bytes_of}
+use Rattle.tagmem.specs.Granules.{Entry}
 use Rattle.cap_judge.specs.Judgings.{JudgedBy}
-use Rattle.cap_judge.proofs.ReportLemmas.{IsHeld, pushed_nothing}
+use Rattle.cap_judge.proofs.{EscapeLaws.named, ReportLemmas.{IsHeld, pushed_nothing}}
 use Rattle.cap_report.specs.Whys.{Explains}
 use Rattle.cap_report.proofs.WhyLemmas.{told}
-use Rattle.cap_judge.proofs.EscapeLaws.{named}
 use Rattle.cap_report.proofs.explaining.judge_why.Goals as goal
 
 pub judge_keeping-answer-requires : goal.judge_keeping-answer-requires

@@ -1,8 +1,7 @@
 use Rattle.std.proofs.Common.{subst}
 use Rattle.cap_log.specs.FaultLines.{bytes_of}
 use Rattle.cap_judge.specs.Judgings.{JudgedAll}
-use Rattle.cap_judge.proofs.EscapeLaws.{named}
-use Rattle.cap_judge.proofs.ReportLemmas.{IsHeld}
+use Rattle.cap_judge.proofs.{EscapeLaws.named, ReportLemmas.IsHeld}
 use Rattle.cap_report.proofs.WhyLemmas.{told}
 use Rattle.cap_report.proofs.explaining.judge_why_bytes.Goals as goal
 

@@ -1,9 +1,7 @@
 use Rattle.std.proofs.Common.{◌++◌, arith, subst}
-use Rattle.cap_machine.specs.Helds.{account_of}
 use Rattle.cap_log.specs.FaultLines.{bytes_of}
-use Rattle.cap_judge.specs.Readings.{known_of}
-use Rattle.cap_judge.specs.VerdictLines.{verdict_line}
-use Rattle.cap_judge.specs.declared.verdict.Verdict.TheVariants.{No}
+use Rattle.cap_machine.specs.Helds.{account_of}
+use Rattle.cap_judge.specs.{declared.verdict.Verdict.TheVariants.No, Readings.known_of, VerdictLines.verdict_line}
 use Rattle.cap_report.specs.FaultReports.{IsLineReport}
 use Rattle.cap_report.proofs.WhyLemmas.{no_at_end, on_err, on_ok, yes_at_end}
 use Rattle.cap_report.proofs.explaining.push_ending.Goals as goal

@@ -1,7 +1,6 @@
 use Rattle.std.proofs.Common.{◌≤◌, ℕ, List, ◌++◌, length, take, subst, arith, ap, ◌∙◌}
-use Rattle.cap_judge.specs.declared.verdict.Verdict.TheVariants.{No}
 use Rattle.cap_log.specs.Written.{◌⨾◌}
-use Rattle.cap_judge.specs.VerdictLines.{verdict_line}
+use Rattle.cap_judge.specs.{declared.verdict.Verdict.TheVariants.No, VerdictLines.verdict_line}
 use Rattle.cap_report.proofs.WhyLemmas.{on_ok, on_err}
 use Rattle.cap_report.proofs.explaining.push_fault.Goals as goal
 

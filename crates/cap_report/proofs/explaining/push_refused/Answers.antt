@@ -1,9 +1,8 @@
 use Rattle.std.proofs.Common.{◌++◌, [], None, Some, arith, refl, subst}
-use Rattle.cap_machine.specs.Helds.{account_of}
 use Rattle.cap_log.specs.FaultLines.{bytes_of}
-use Rattle.cap_judge.specs.Readings.{known_of, stage_of}
+use Rattle.cap_machine.specs.Helds.{account_of}
+use Rattle.cap_judge.specs.{declared.verdict.Verdict.TheVariants.No, Readings.{known_of, stage_of}}
 use Rattle.cap_judge.specs.VerdictLines.{verdict_line}
-use Rattle.cap_judge.specs.declared.verdict.Verdict.TheVariants.{No}
 use Rattle.cap_judge.proofs.TurnLaws.{begins, reached}
 use Rattle.cap_report.specs.FaultReports.{IsLineReport}
 use Rattle.cap_report.proofs.WhyLemmas.{on_err, on_ok, so_far}

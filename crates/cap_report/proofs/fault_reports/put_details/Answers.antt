@@ -1,11 +1,7 @@
 use Rattle.std.proofs.Common.{[], inl, inr, refl, sym, ap, subst, arith}
-use Rattle.cap_log.specs.declared.lines.Line.{Line}
-use Rattle.cap_log.specs.declared.lines.Line.TheVariants as lines
-use Rattle.cap_log.specs.Lines.{Spells}
-use Rattle.cap_log.specs.Written.{Writes-nothing}
+use Rattle.cap_log.specs.{declared.lines.Line.Line, Lines.Spells, Written.Writes-nothing}
 use Rattle.cap_machine.specs.Helds.{account_of}
-use Rattle.cap_report.specs.FaultReports.{known_lines, root_lines}
-use Rattle.cap_report.specs.StepLines.{step_lines}
+use Rattle.cap_report.specs.{FaultReports.{known_lines, root_lines}, StepLines.step_lines}
 use Rattle.cap_report.proofs.DetailLemmas.{details_other, nothing_told, root_form, step_form}
 use Rattle.cap_report.proofs.fault_reports.put_details.Goals as goal
 
@@ -84,7 +80,7 @@ returns-in-Root-clause-written g c =
           c.in_default.not-BadHeader c.in_default.not-LineTooLong c.in_default.not-BadLine
           c.in_default.not-BadMode c.in_default.not-Misplaced
           c.in_default.not-Truncated c.in_default.not-WrongCount c.in_default.not-LimitPassed
-          (inl (lines.Root c.in-Root.place c.in-Root.word, (spells, root_form account.rules c.in-Root.place c.in-Root.word), refl)),
+          (inl (Line.Root c.in-Root.place c.in-Root.word, (spells, root_form account.rules c.in-Root.place c.in-Root.word), refl)),
       c.put_root_lines.ensures.written,
     )
 
@@ -97,7 +93,7 @@ returns-in-Step-clause-written g c =
           c.in_default.not-LineTooLong c.in_default.not-BadLine c.in_default.not-BadMode
           c.in_default.not-Misplaced c.in_default.not-Truncated
           c.in_default.not-WrongCount c.in_default.not-LimitPassed (inl (
-            lines.Step c.in-Step.step,
+            Line.Step c.in-Step.step,
             (spells, step_form account.rules c.in-Step.step),
             refl,
           )),

@@ -1,8 +1,8 @@
 use Rattle.std.proofs.Common.{◌++◌, List, ℕ, subst, refl}
 use Rattle.cap_log.specs.Written.{◌⨾◌}
+use Rattle.cap_texts.specs.ShownBytes.{shown_line}
 use Rattle.cap_machine.specs.Helds.{account_of}
 use Rattle.cap_report.specs.FaultReports.{AreDetails}
-use Rattle.cap_texts.specs.ShownBytes.{shown_line}
 use Rattle.cap_report.proofs.fault_reports.put_report.Goals as goal
 
 pub returns-clause-report : goal.returns-clause-report

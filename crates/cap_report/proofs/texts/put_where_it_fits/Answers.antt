@@ -1,5 +1,4 @@
-use Rattle.std.proofs.Common.{refl, rules}
-use Rattle.std.proofs.lemmas.Slice.{overwrites}
+use Rattle.std.proofs.{Common.{refl, rules}, lemmas.Slice.overwrites}
 use Rattle.cap_report.proofs.texts.put_where_it_fits.Goals as goal
 
 pub returns : goal.returns

@@ -1,8 +1,7 @@
 use Rattle.std.proofs.Common.{◌∙◌, ap, length, arith}
 use Rattle.hex.specs.Hex.{encode_lower}
 use Rattle.cap_word.specs.Memory.{memory_of}
-use Rattle.cap_word.proofs.Bytes.{length-memory_of}
-use Rattle.cap_word.proofs.TextLemmas.{at_ok}
+use Rattle.cap_word.proofs.{Bytes.length-memory_of, TextLemmas.at_ok}
 use Rattle.cap_texts.proofs.MemoryTexts.{bytes_text-is, IsBytes-memory_of}
 use Rattle.cap_texts.proofs.explain_lines.memory_text.Goals as goal
 

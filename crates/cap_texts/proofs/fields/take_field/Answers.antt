@@ -1,6 +1,5 @@
 use Rattle.std.proofs.Common.{◌≡◌, List, ℕ, Option, IfNone, sym, subst}
-use Rattle.cap_texts.specs.declared.fields.Field.{Field}
-use Rattle.cap_texts.specs.Fields.{Stands}
+use Rattle.cap_texts.specs.{declared.fields.Field.Field, Fields.Stands}
 use Rattle.cap_texts.proofs.fields.take_field.Goals as goal
 
 -- what stands nowhere as one field, stands nowhere as the field that is it

@@ -1,5 +1,6 @@
 use Rattle.std.proofs.Common.{Ok, ap, ◌∙◌, rules, arith}
-use Rattle.cap_vectors.proofs.VectorFileLemmas.{passes, pulled, all_passed, truncated, too_long, line_fails, line_passes}
+use Rattle.cap_vectors.proofs.VectorFileLemmas.{passes, pulled, all_passed, truncated, too_long, line_fails}
+use Rattle.cap_vectors.proofs.VectorFileLemmas.{line_passes}
 use Rattle.cap_vectors.proofs.files.vectors.Goals as goal
 
 pub returns-in-Err-clause-checked : goal.returns-in-Err-clause-checked

@@ -1,5 +1,4 @@
-use Rattle.std.proofs.Common.{◌<◌, refl, rules, arith}
-use Rattle.std.proofs.lemmas.List.Elements.{All-from_get_or}
+use Rattle.std.proofs.{Common.{◌<◌, refl, rules, arith}, lemmas.List.Elements.All-from_get_or}
 use Rattle.cap_word.specs.Memory.{memory_of}
 use Rattle.cap_word.proofs.Bytes.{length-memory_of}
 use Rattle.cap_texts.proofs.MemoryTexts.{IsBytes-memory_of}

@@ -1,14 +1,13 @@
-use Rattle.std.proofs.Common.{◌≡◌, ℕ, ◌+◌, ◌*◌, ◌<◌, ◌≤◌, ◌∙◌, List, length, get_or, take, ap, sym, arith, refl, leb, cond}
-use Rattle.std.proofs.Common.{◌-◌, ◌/◌, ◌^◌, Fits, w8, w64}
 use Rattle.std.specs.Int.{from_be_bytes}
-use Rattle.cap_word.specs.Digits.{hex_digits}
-use Rattle.cap_word.specs.Lanes.{IsLaneOf}
-use Rattle.std.proofs.lemmas.Nat.{be_bytes_8, one_shl}
+use Rattle.std.proofs.Common.{◌≡◌, ℕ, ◌+◌, ◌*◌, ◌<◌, ◌≤◌, ◌∙◌, List, length, get_or, take, ap, sym, arith, refl, leb}
+use Rattle.std.proofs.{Common.{cond, ◌-◌, ◌/◌, ◌^◌, Fits, w8, w64}, lemmas.Nat.{be_bytes_8, one_shl}}
 use Rattle.std.proofs.lemmas.Simd.{Each1-from_get_or}
 use lib.Lanes.{Each1}
 use Rattle.hex.specs.Hex.{encode_lower}
+use Rattle.cap_word.specs.{Digits.hex_digits, Lanes.IsLaneOf}
 use Rattle.cap_word.proofs.DigitLemmas.{front-small, front_digits, hex_of_bytes}
-use Rattle.cap_word.proofs.LaneLemmas.{all_low, digit_at, lane_at, lanes_fit, not_all_low, pair_spelled, pairs, pairs_at, pairs_fit, spelled}
+use Rattle.cap_word.proofs.LaneLemmas.{all_low, digit_at, lane_at, lanes_fit, not_all_low, pair_spelled, pairs}
+use Rattle.cap_word.proofs.LaneLemmas.{pairs_at, pairs_fit, spelled}
 use Rattle.cap_word.proofs.digits.read_front.Goals as goal
 
 lanes_of : (text : List ℕ) → length text ≡ 16 → ((i : ℕ) → get_or text i 0 < 256) → (length text ≡ 16) × Each1 (Fits w8) text

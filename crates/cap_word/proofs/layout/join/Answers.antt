@@ -1,5 +1,4 @@
-use Rattle.std.proofs.Common.{◌≤◌, Bool, true, false, arith}
-use Rattle.std.proofs.lemmas.Nat.{and_mask}
+use Rattle.std.proofs.{Common.{◌≤◌, Bool, true, false, arith}, lemmas.Nat.and_mask}
 use Rattle.cap_word.specs.Fields.{bit_of}
 use Rattle.cap_word.proofs.layout.join.Goals as goal
 

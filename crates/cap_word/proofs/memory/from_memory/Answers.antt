@@ -1,5 +1,4 @@
-use Rattle.std.proofs.Common.{ℕ, get_or, sym, ap, ◌∙◌}
-use Rattle.std.specs.Prelude.{bit_xor}
+use Rattle.std.proofs.Common.{ℕ, get_or, sym, ap, ◌∙◌, bit_xor}
 use Rattle.cap_word.specs.Memory.{memory_of}
 use Rattle.cap_word.proofs.Bytes.{from_le_bytes_is, get_or-memory_of, memory_of-stored_word}
 use Rattle.cap_word.proofs.memory.from_memory.Goals as goal

@@ -1,5 +1,4 @@
-use Rattle.std.proofs.Common.{ℕ, get_or, ap, ◌∙◌, arith}
-use Rattle.std.specs.Prelude.{bit_xor}
+use Rattle.std.proofs.Common.{ℕ, get_or, ap, ◌∙◌, arith, bit_xor}
 use Rattle.cap_word.specs.Memory.{low_bytes, stored_word}
 use Rattle.cap_word.proofs.Bytes.{to_le_bytes_is, get_or-memory_of, stored_word-memory_of}
 use Rattle.cap_word.proofs.memory.to_memory.Goals as goal

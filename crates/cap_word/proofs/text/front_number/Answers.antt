@@ -1,5 +1,4 @@
-use Rattle.std.proofs.Common.{◌*◌, ◌≤◌, take, ap, ◌∙◌, arith}
-use Rattle.std.proofs.lemmas.List.{take-take}
+use Rattle.std.proofs.Common.{◌*◌, ◌≤◌, take, ap, ◌∙◌, arith, take-take}
 use Rattle.cap_word.proofs.text.front_number.Goals as goal
 
 pub returns-in-Some-clause-some : goal.returns-in-Some-clause-some

@@ -1,5 +1,4 @@
-use Rattle.std.proofs.Common.{[], Some, refl, sym, ap, ◌∙◌, rules}
-use Rattle.std.proofs.lemmas.Bool.{false≢true}
+use Rattle.std.proofs.{Common.{[], Some, refl, sym, ap, ◌∙◌, rules}, lemmas.Bool.{false≢true}}
 use Rattle.cap_word.proofs.ReadingLemmas.{hex_digits-same, not_digits, some_digits, ended, whole, longer}
 use Rattle.cap_word.proofs.text.read_u64.Goals as goal
 

@@ -1,8 +1,8 @@
 use Rattle.std.proofs.Common.{◌≡◌, ℕ, false, eqb, ◌+◌, ◌*◌, ◌/◌, ◌%◌, ◌<◌, ◌^◌, List, length, refl, sym, ap, ◌∙◌, arith}
-use Rattle.std.proofs.lemmas.Bool.{eq-eqb, eqb-true, false≢true}
-use Rattle.cap_word.proofs.DigitLemmas.{length-hex_digits}
-use Rattle.cap_word.proofs.ReadingLemmas.{back_half, front_half, hex_digits-same, joined_halves, not_digits, some_digits}
+use Rattle.std.proofs.{Common.{eq-eqb, eqb-true}, lemmas.Bool.{false≢true}}
 use Rattle.cap_word.specs.Digits.{hex_digits}
+use Rattle.cap_word.proofs.{DigitLemmas.length-hex_digits, ReadingLemmas.{back_half, front_half, hex_digits-same}}
+use Rattle.cap_word.proofs.ReadingLemmas.{joined_halves, not_digits, some_digits}
 use Rattle.cap_word.proofs.text.read_word.Goals as goal
 
 -- a word's text has 32 bytes

@@ -1,7 +1,6 @@
 use Rattle.std.proofs.Common.{◌*◌, take, length, ap, ◌∙◌, arith, length-append}
-use Rattle.cap_word.proofs.DigitLemmas.{length-hex_digits}
-use Rattle.cap_word.proofs.ReadingLemmas.{take-hex_digits}
 use Rattle.cap_word.specs.Digits.{hex_digits}
+use Rattle.cap_word.proofs.{DigitLemmas.length-hex_digits, ReadingLemmas.take-hex_digits}
 use Rattle.cap_word.proofs.text.take_bytes.Goals as goal
 
 pub returns-then-bytes-count-clause-none : goal.returns-then-bytes-count-clause-none

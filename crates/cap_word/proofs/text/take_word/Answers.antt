@@ -1,8 +1,6 @@
-use Rattle.std.proofs.Common.{◌++◌, length, take, drop, sym, ap, ◌∙◌, arith, length-append}
-use Rattle.std.proofs.lemmas.List.{take-append-drop}
-use Rattle.cap_word.proofs.DigitLemmas.{length-hex_digits}
-use Rattle.cap_word.proofs.ReadingLemmas.{take-hex_digits}
+use Rattle.std.proofs.Common.{◌++◌, length, take, drop, sym, ap, ◌∙◌, arith, length-append, take-append-drop}
 use Rattle.cap_word.specs.Digits.{hex_digits}
+use Rattle.cap_word.proofs.{DigitLemmas.length-hex_digits, ReadingLemmas.take-hex_digits}
 use Rattle.cap_word.proofs.text.take_word.Goals as goal
 
 pub returns-in_err-text-clause-none : goal.returns-in_err-text-clause-none

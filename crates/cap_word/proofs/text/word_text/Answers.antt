@@ -1,5 +1,5 @@
-use Rattle.std.proofs.Common.{◌≡◌, ℕ, ◌++◌, ◌/◌, ◌%◌, ◌^◌, [], List, length, drop, ◌∙◌, ap, sym, refl}
-use Rattle.std.proofs.lemmas.List.{take_at, drop_at, append-nil}
+use Rattle.std.proofs.Common.{◌≡◌, ℕ, ◌++◌, ◌/◌, ◌%◌, ◌^◌, [], List, length, drop, ◌∙◌, ap, sym, refl, take_at, drop_at}
+use Rattle.std.proofs.Common.{append-nil}
 use borrow.Rule.Slice.PartMut.{put_mid}
 use Rattle.cap_word.specs.Digits.{hex_digits}
 use Rattle.cap_word.proofs.ReadingLemmas.{hex_digits-halves}

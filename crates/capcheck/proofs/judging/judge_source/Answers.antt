@@ -1,10 +1,6 @@
 use Rattle.std.proofs.Common.{ℕ, Result, subst, sym, true}
-use Rattle.cap_judge.specs.Reports.{Tells}
-use Rattle.cap_program.specs.declared.faults.Fault.{Fault}
-use Rattle.cap_program.specs.declared.faults.Fault.TheVariants.{Read, Write}
-use Rattle.cap_program.specs.Doings.{IsCounted, IsDone}
-use Rattle.cap_judge.specs.Judgings.{IsAnswerOf}
-use Rattle.cap_judge.specs.VerdictLines.{verdict_status}
+use Rattle.cap_judge.specs.{Judgings.IsAnswerOf, Reports.Tells, VerdictLines.verdict_status}
+use Rattle.cap_program.specs.{declared.faults.Fault.{Fault, TheVariants.{Read, Write}}, Doings.{IsCounted, IsDone}}
 use Rattle.cap_program.specs.Judging.{ShowsVerdict, StopsJudging}
 use Rattle.cap_program.proofs.Judgements.{judged_read, judged_written}
 use Rattle.capcheck.proofs.RunLemmas.{judged_done}

@@ -1,9 +1,8 @@
-use Rattle.std.proofs.Common.{rules, ◌∙◌, subst, w64, to_z, of_z, FitsSigned}
-use Rattle.std.proofs.lemmas.Int.{to_z-of_z}
+use Rattle.std.proofs.{Common.{rules, ◌∙◌, subst, w64, to_z, of_z, FitsSigned}, lemmas.Int.to_z-of_z}
+use mir.Syntax.{w16}
 use Rattle.cap_halves.specs.Passed.{cap_of}
 use Rattle.capcheck_c.specs.Answers.{AnswersAccess}
 use Rattle.capcheck_c.proofs.accesses.access_from.Goals as goal
-use mir.Syntax.{w16}
 
 -- An offset that fits is the same in 16 bits.
 pub returns : goal.returns

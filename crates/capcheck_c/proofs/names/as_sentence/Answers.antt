@@ -1,5 +1,4 @@
-use Rattle.std.proofs.Common.{◌++◌, ◌∙◌, List, ap, drop, length, replicate, ℕ}
-use Rattle.std.proofs.lemmas.List.{drop-replicate}
+use Rattle.std.proofs.{Common.{◌++◌, ◌∙◌, List, ap, drop, length, replicate, ℕ}, lemmas.List.drop-replicate}
 use Rattle.capcheck_c.proofs.names.as_sentence.Goals as goal
 
 pub returns : goal.returns

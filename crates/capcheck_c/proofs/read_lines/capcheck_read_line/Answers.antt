@@ -1,6 +1,5 @@
 use Rattle.std.proofs.Common.{◌≡◌, ◌+◌, arith, length, subst}
-use Rattle.cap_log.specs.Lines.{spelling}
-use Rattle.cap_log.specs.declared.lines.Line.{Line}
+use Rattle.cap_log.specs.{declared.lines.Line.Line, Lines.spelling}
 use Rattle.capcheck_c.specs.LinesRead.{IsLineRead}
 use Rattle.capcheck_c.proofs.ReadLemmas.{front_length, one_front}
 use Rattle.capcheck_c.proofs.read_lines.capcheck_read_line.Goals as goal

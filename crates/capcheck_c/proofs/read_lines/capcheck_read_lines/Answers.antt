@@ -1,13 +1,11 @@
-use Rattle.std.proofs.Common.{◌+◌, ◌∙◌, List, ℕ, ap, arith, drop, subst, sym, take}
-use Rattle.std.proofs.lemmas.List.{drop-drop, drop-set-lt, length-set, take_more_set}
-use Rattle.std.proofs.Math.ListN.{set}
-use Rattle.cap_log.specs.Lines.{IsInRange, spelling}
-use Rattle.cap_log.specs.Parts.{BeginsWithNone}
-use Rattle.capcheck_c.specs.LinesRead.{ReadsLines}
-use Rattle.capcheck_c.specs.declared.values.LineRead.{LineRead}
+use Rattle.std.proofs.Common.{◌+◌, ◌∙◌, List, ap, arith, drop, subst, sym, take, drop-drop, drop-set-lt, length-set}
+use Rattle.std.proofs.{Common.set, lemmas.List.take_more_set}
+use Rattle.cap_log.specs.{Lines.{IsInRange, spelling}, Parts.BeginsWithNone}
+use Rattle.capcheck_c.specs.{declared.values.LineRead.LineRead, LinesRead.ReadsLines}
 use Rattle.capcheck_c.proofs.ReadLemmas.{none_read, reads_more, rest_of}
+use Rattle.capcheck_c.proofs.read_lines.capcheck_read_lines.Goals.{else-loop-count-test}
+use Rattle.capcheck_c.proofs.read_lines.capcheck_read_lines.Goals.{then-loop-count-test+then-line-eq-NO_LINE}
 use Rattle.capcheck_c.proofs.read_lines.capcheck_read_lines.Goals as goal
-use Rattle.capcheck_c.proofs.read_lines.capcheck_read_lines.Goals.{else-loop-count-test, then-loop-count-test+then-line-eq-NO_LINE}
 
 pub loop-count-preserved : goal.loop-count-preserved
 loop-count-preserved c =

@@ -1,6 +1,5 @@
 use Rattle.std.proofs.Common.{ℕ, ◌≡◌, ◌<◌, ◌≤◌, ◌+◌, ◌-◌, ◌*◌, ◌%◌, ◌^◌, ◌↔◌, refl, subst}
-use Rattle.cap_bounds.specs.Bounds.{IsWindow, base_of, top_of, unit_of}
-use Rattle.cap_bounds.specs.Range.{KeepsBounds, window_start}
+use Rattle.cap_bounds.specs.{Bounds.{IsWindow, base_of, top_of, unit_of}, Range.{KeepsBounds, window_start}}
 use Rattle.capcheck_c.proofs.requests.capcheck_reach.Goals as goal
 
 -- What `capcheck_reach` says of a word as it says it of every address.

@@ -1,8 +1,7 @@
-use Rattle.std.proofs.Common.{Err, ap, arith, ◌∙◌}
 use Rattle.std.specs.FinMap.{len, len-empty}
-use Rattle.std.specs.Ordering.{nat_cmp}
-use Rattle.cap_report.specs.Sinks.{Took}
+use Rattle.std.proofs.Common.{Err, ap, arith, ◌∙◌, nat_cmp}
 use Rattle.tagmem.specs.Granules.{Entry}
+use Rattle.cap_report.specs.Sinks.{Took}
 use Rattle.cap_report.proofs.AnswerLemmas.{of_verdict}
 use Rattle.capcheck_freestanding.proofs.WholeLemmas.{of_why_fault}
 use Rattle.capcheck_freestanding.proofs.explaining.answer_into.Goals as goal

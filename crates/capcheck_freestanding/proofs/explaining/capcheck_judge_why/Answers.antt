@@ -1,7 +1,7 @@
 use Rattle.std.proofs.Common.{rules, subst}
-use Rattle.cap_report.proofs.TextLemmas.{told_from}
-use Rattle.cap_report.specs.Texts.{IsTold}
 use Rattle.cap_judge.proofs.EscapeLaws.{named}
+use Rattle.cap_report.specs.Texts.{IsTold}
+use Rattle.cap_report.proofs.TextLemmas.{told_from}
 use Rattle.capcheck_freestanding.proofs.explaining.capcheck_judge_why.Goals as goal
 
 pub returns : goal.returns

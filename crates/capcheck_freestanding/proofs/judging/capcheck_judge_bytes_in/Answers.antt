@@ -1,6 +1,5 @@
-use Rattle.std.proofs.Common.{ap, ◌∙◌}
 use Rattle.std.specs.FinMap.{len, len-empty}
-use Rattle.std.specs.Ordering.{nat_cmp}
+use Rattle.std.proofs.Common.{ap, ◌∙◌, nat_cmp}
 use Rattle.tagmem.specs.Granules.{Entry}
 use Rattle.capcheck_freestanding.proofs.judging.capcheck_judge_bytes_in.Goals as goal
 

@@ -1,40 +1,37 @@
 -- `keep` calls into_raw_with_allocator on the box, and puts the address and the allocator into a struct.
-use Rattle.std.proofs.Common.{◌≡◌, List, [], ◌∷◌, ◌++◌, refl, ap, ◌∙◌}
-use mir.Syntax.{a_type, dcons, dnil}
-use mir.MapTy.{inst_fn}
-use mir.Val.{Val, vptr, vstruct, of_list}
-use base.Logic.{SProp, emp, id⊢}
+use Rattle.std.specs.contracts.boxed.Box.into_raw_with_allocator as into_raw
+use Rattle.std.proofs.{Common.{◌≡◌, List, [], ◌∷◌, ◌++◌, refl, ap, ◌∙◌}, BoxSteps.Steps.{box_out, box_in}}
+use Rattle.std.proofs.{alloc.Calls.{Goes-blank, handle_tells}, boxed.Box.into_raw_with_allocator.Met.met}
+use Rattle.std.proofs.raw_atomic.Walks.{proved_at, leaves}
+use Rattle.std.proofs.BoxSteps.Form as box
 use base.Fml.{ftrue, fsep, flft}
-use prog.Wp.{WpFn}
-use types.Kit.{‵, raw, ◌⊛◌, some, later, ◌$◌, ◌∵◌, !, qed, by, move, keep, drop, split, split3, join, fsplit, fjoin, fpick, pick}
-use types.Kit.{suffices, use0, use1, await, rewrite, feq_l}
-use types.Run.{stop, fld, of_opd, no_more, and_then, returns, enter}
-use types.ByLocal.{alloc_all, pass_all, free_all, look_at, get, get_in, sets, lands_as}
-use types.Part.{agg, sub, whole}
+use base.Logic.{SProp, emp, id⊢}
 use contract.Monad.{fact, fact_i}
 use contract.Running.{tables}
-use denote.Exit.{no}
-use denote.RattleType.{RattleType, owns}
-use denote.Signature.{types_at, plain}
 use denote.Builtin.{RawPtr}
-use denote.RawPtr.{Ptr, block_ptr, ptr_val}
-use denote.Steps.{nothing, only, heard}
+use denote.Exit.{no}
 use denote.Param.{param, bounded}
 use denote.Param.Laws.{param_laws}
+use denote.RattleType.{RattleType, owns}
+use denote.RawPtr.{Ptr, block_ptr, ptr_val}
+use denote.Signature.{types_at, plain}
+use denote.Steps.{nothing, only, heard}
 use denote.Struct.Tuple.{Tuple}
-use denote.Triple.Spec.{triple_of}
 use denote.Triple.Call.{calls_at}
+use denote.Triple.Spec.{triple_of}
 use denote.Triple.Table.{framed}
 use denote.Triple.Walked.{Stays, stay_dropped, walk_of}
-use Rattle.std.proofs.alloc.Calls.{Goes-blank, handle_tells}
-use Rattle.std.proofs.BoxSteps.Form as box
-use Rattle.std.proofs.BoxSteps.Steps.{box_out, box_in}
-use Rattle.std.proofs.raw_atomic.Walks.{proved_at, leaves}
-use Rattle.std.specs.contracts.boxed.Box.into_raw_with_allocator as into_raw
-use Rattle.std.proofs.boxed.Box.into_raw_with_allocator.Met.{met}
+use mir.MapTy.{inst_fn}
+use mir.Syntax.{a_type, dcons, dnil}
+use mir.Val.{Val, vptr, vstruct, of_list}
+use prog.Wp.{WpFn}
+use types.ByLocal.{alloc_all, pass_all, free_all, look_at, get, get_in, sets, lands_as}
+use types.Kit.{‵, raw, ◌⊛◌, some, later, ◌$◌, ◌∵◌, !, qed, by, move, keep, drop, split, split3, join, fsplit, fjoin}
+use types.Kit.{fpick, pick, suffices, use0, use1, await, rewrite, feq_l}
+use types.Part.{agg, sub, whole}
+use types.Run.{stop, fld, of_opd, no_more, and_then, returns, enter}
+use Rattle.capcheck_judge.specs.contracts.held.keep.{ended, clauses, Key.name as #self}
 use Rattle.capcheck_judge.proofs.HeldFields.{pair, runs_from, owns_value, owned_block, held_good, held_in}
-use Rattle.capcheck_judge.specs.contracts.held.keep.{ended, clauses}
-use Rattle.capcheck_judge.specs.contracts.held.keep.Key.{name as #self}
 use Rattle.capcheck_judge.proofs.held.keep.Statement.{statement}
 use Rattle.capcheck_judge.proofs.held.keep.Code as code
 

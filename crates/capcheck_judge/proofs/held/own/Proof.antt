@@ -1,43 +1,37 @@
 -- `own` calls from_raw on the address and the allocator that a struct keeps.
-use Rattle.std.proofs.Common.{◌≡◌, List, [], ◌∷◌, refl, sym, ap, subst}
-use mir.Syntax.{a_type, dcons, dnil}
-use mir.MapTy.{inst_fn}
-use mir.Val.{Val, vptr}
-use base.Logic.{SProp, id⊢}
+use Rattle.std.specs.contracts.boxed.Box.from_raw as from_raw
+use Rattle.std.proofs.{Common.{◌≡◌, List, [], ◌∷◌, refl, sym, ap, subst}, BoxSteps.Steps.{box_out, box_in}}
+use Rattle.std.proofs.{alloc.{Calls.Goes-blank, Shapes.after}, boxed.Box.from_raw.Met.met, cell.Inside.Good}
+use Rattle.std.proofs.raw_atomic.Walks.{proved_at, leaves}
+use Rattle.std.proofs.BoxSteps.Form as box
 use base.Fml.{ftrue, flft}
-use prog.Wp.{WpFn}
-use types.Kit.{‵, raw, ◌⊛◌, some, later, at_ret, ◌$◌, ◌∵◌, !, qed, by, move, keep, drop, split, split3, join, fsplit, fjoin, pick}
-use types.Kit.{suffices, use1, await, rewrite, feq_i}
-use types.Run.{stop, fld, of_opd, no_more, and_then, first, blocks, exec, returns, enter}
-use types.ByLocal.{alloc_all, pass_all, free_all, look_at, get, get_in, sets, lands_last, env}
-use types.Part.{sub, whole}
-use contract.Monad.{fact}
+use base.Logic.{SProp, id⊢}
 use contract.BorrowLft.{◌⊑◌}
+use contract.Monad.{fact}
 use contract.Running.{tables}
 use denote.Exit.{no}
-use denote.RattleType.{RattleType, owns}
-use denote.Signature.{types_at, plain}
-use denote.RawPtr.{block_ptr}
-use denote.Steps.{nothing, only}
 use denote.Param.{param, layout, bounded}
 use denote.Param.Laws.{param_laws}
+use denote.RattleType.{RattleType, owns}
+use denote.RawPtr.{block_ptr}
+use denote.Signature.{types_at, plain}
+use denote.Steps.{nothing, only}
+use denote.Triple.Call.{calls_at_last}
 use denote.Triple.Clauses.{Lasts, lasts}
 use denote.Triple.Spec.{triple_of}
-use denote.Triple.Call.{calls_at_last}
 use denote.Triple.Table.{framed}
 use denote.Triple.Walked.{Stays, stay_dropped, walk_of}
-use Rattle.std.proofs.alloc.Calls.{Goes-blank}
-use Rattle.std.proofs.alloc.Shapes.{after}
-use Rattle.std.proofs.BoxSteps.Form as box
-use Rattle.std.proofs.BoxSteps.Steps.{box_out, box_in}
-use Rattle.std.proofs.cell.Inside.{Good}
-use Rattle.std.proofs.raw_atomic.Walks.{proved_at, leaves}
-use Rattle.std.specs.contracts.boxed.Box.from_raw as from_raw
-use Rattle.std.proofs.boxed.Box.from_raw.Met.{met}
-use Rattle.capcheck_judge.proofs.HeldFields.{Held, pair, runs_from, held_good, held_out}
-use Rattle.capcheck_judge.specs.contracts.held.own.{ended, clauses}
-use Rattle.capcheck_judge.specs.contracts.held.own.Key.{name as #self}
-use Rattle.capcheck_judge.proofs.held.own.Statement.{statement}
+use mir.MapTy.{inst_fn}
+use mir.Syntax.{a_type, dcons, dnil}
+use mir.Val.{Val, vptr}
+use prog.Wp.{WpFn}
+use types.ByLocal.{alloc_all, pass_all, free_all, look_at, get, get_in, sets, lands_last, env}
+use types.Kit.{‵, raw, ◌⊛◌, some, later, at_ret, ◌$◌, ◌∵◌, !, qed, by, move, keep, drop, split, split3, join, fsplit}
+use types.Kit.{fjoin, pick, suffices, use1, await, rewrite, feq_i}
+use types.Part.{sub, whole}
+use types.Run.{stop, fld, of_opd, no_more, and_then, first, blocks, exec, returns, enter}
+use Rattle.capcheck_judge.specs.contracts.held.own.{ended, clauses, Key.name as #self}
+use Rattle.capcheck_judge.proofs.{HeldFields.{Held, pair, runs_from, held_good, held_out}, held.own.Statement.statement}
 use Rattle.capcheck_judge.proofs.held.own.Code as code
 
 pub own_spec : {M : Type 1} → statement M

@@ -1,5 +1,4 @@
-use Rattle.std.proofs.Common.{◌∙◌, ap, sym}
-use Rattle.std.specs.Prelude.{None, Some}
+use Rattle.std.proofs.Common.{◌∙◌, ap, sym, None, Some}
 use Rattle.cap_judge.proofs.EscapeLaws.{named}
 use Rattle.capcheck_judge.proofs.HandleLemmas.{answered_so_far}
 use Rattle.capcheck_judge.proofs.lines.capcheck_judge_answer.Goals as goal

@@ -1,12 +1,8 @@
-use Rattle.std.proofs.Common.{[], refl, ◌≡◌, ◌≢◌, ◌∙◌, ℕ, List, ap, append-nil, arith, subst, sym}
+use Rattle.std.proofs.Common.{[], refl, ◌≡◌, ◌≢◌, ◌∙◌, ℕ, List, ap, append-nil, arith, subst, sym, Some}
 use Rattle.std.proofs.lemmas.List.Elements.{All-nil}
-use Rattle.cap_judge.specs.Readings.{stage_of}
-use Rattle.cap_judge.specs.Verdicts.{IsVerdict}
-use Rattle.cap_judge.proofs.JudgeLemmas.{guarded}
-use Rattle.cap_judge.proofs.TurnLaws.{told}
-use Rattle.std.specs.Prelude.{Some}
+use Rattle.cap_judge.specs.{Readings.stage_of, Verdicts.IsVerdict}
+use Rattle.cap_judge.proofs.{EscapeLaws.named, JudgeLemmas.guarded, TurnLaws.told}
 use Rattle.capcheck_judge.proofs.HandleLemmas.{held_taken}
-use Rattle.cap_judge.proofs.EscapeLaws.{named}
 use Rattle.capcheck_judge.proofs.lines.capcheck_judge_end.Goals as goal
 
 pub returns-in-Some-clause-verdict : goal.returns-in-Some-clause-verdict

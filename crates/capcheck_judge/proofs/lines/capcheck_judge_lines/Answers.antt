@@ -1,5 +1,4 @@
-use Rattle.std.proofs.Common.{◌≡◌, ◌∙◌, ap, sym}
-use Rattle.std.specs.Prelude.{Some}
+use Rattle.std.proofs.Common.{◌≡◌, ◌∙◌, ap, sym, Some}
 use Rattle.capcheck_judge.proofs.TakingLemmas.{took_lines}
 use Rattle.capcheck_judge.proofs.lines.capcheck_judge_lines.Goals as goal
 

@@ -1,8 +1,6 @@
-use Rattle.std.proofs.Common.{◌≡◌, ◌∙◌, ap, sym}
-use Rattle.std.specs.Prelude.{Some}
+use Rattle.std.proofs.Common.{◌≡◌, ◌∙◌, ap, sym, Some}
 use Rattle.cap_judge.specs.Readings.{stage_of}
-use Rattle.cap_judge.proofs.ExpectedLemmas.{expects}
-use Rattle.cap_judge.proofs.TurnLaws.{reached}
+use Rattle.cap_judge.proofs.{ExpectedLemmas.expects, TurnLaws.reached}
 use Rattle.capcheck_judge.proofs.HandleLemmas.{held_taken}
 use Rattle.capcheck_judge.proofs.places.capcheck_judge_expected.Goals as goal
 

@@ -1,5 +1,4 @@
-use Rattle.std.proofs.Common.{◌≡◌, ◌∙◌, ◌/◌, ap, sym}
-use Rattle.std.specs.Prelude.{Some}
+use Rattle.std.proofs.Common.{◌≡◌, ◌∙◌, ◌/◌, ap, sym, Some}
 use Rattle.cap_machine.specs.States.{granule_key}
 use Rattle.capcheck_judge.proofs.HandleLemmas.{held_state}
 use Rattle.capcheck_judge.proofs.places.capcheck_judge_granule.Goals as goal

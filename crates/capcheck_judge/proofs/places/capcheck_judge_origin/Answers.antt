@@ -1,7 +1,5 @@
-use Rattle.std.proofs.Common.{◌/◌, ◌∙◌, ◌≡◌, Option, ap, subst, sym}
-use Rattle.std.specs.Prelude.{Some}
-use Rattle.cap_log.specs.declared.lines.Place.{Place}
-use Rattle.cap_log.specs.declared.lines.Place.TheVariants.{Granule, Register}
+use Rattle.std.proofs.Common.{◌/◌, ◌∙◌, ◌≡◌, Option, ap, subst, sym, Some}
+use Rattle.cap_log.specs.declared.lines.Place.{Place, TheVariants.{Granule, Register}}
 use Rattle.cap_machine.specs.States.{key_of}
 use Rattle.capcheck_judge.specs.Handles.{Holds, IsPassed, origin_behind}
 use Rattle.capcheck_judge.proofs.HandleLemmas.{held_origin}

@@ -1,5 +1,4 @@
-use Rattle.std.proofs.Common.{◌≡◌, ◌∙◌, ap, sym}
-use Rattle.std.specs.Prelude.{Some}
+use Rattle.std.proofs.Common.{◌≡◌, ◌∙◌, ap, sym, Some}
 use Rattle.capcheck_judge.proofs.HandleLemmas.{held_taken}
 use Rattle.capcheck_judge.proofs.reports.capcheck_judge_report.Goals as goal
 

@@ -1,7 +1,5 @@
-use Rattle.std.proofs.Common.{◌≢◌, List, append-nil, arith, rules, subst, ℕ}
-use Rattle.std.proofs.lemmas.List.Elements.{All-nil}
-use Rattle.cap_report.specs.Texts.{IsTold}
-use Rattle.cap_report.specs.Whys.{ExplainsEnd}
+use Rattle.std.proofs.{Common.{◌≢◌, List, append-nil, arith, rules, subst, ℕ}, lemmas.List.Elements.All-nil}
+use Rattle.cap_report.specs.{Texts.IsTold, Whys.ExplainsEnd}
 use Rattle.cap_report.proofs.TextLemmas.{told_from}
 use Rattle.capcheck_judge.proofs.reports.write_end_report.Goals as goal
 

@@ -1,8 +1,5 @@
-use Rattle.std.proofs.Common.{◌≡◌, ◌∙◌, ◌++◌, ◌∷◌, [], ap, subst, sym}
-use Rattle.std.specs.Prelude.{Some}
-use Rattle.cap_log.specs.Lines.{spelling}
-use Rattle.cap_log.specs.declared.lines.Line.TheVariants as line
-use Rattle.cap_log.specs.Parts.{IsMade}
+use Rattle.std.proofs.Common.{◌≡◌, ◌∙◌, ◌++◌, ◌∷◌, [], ap, subst, sym, Some}
+use Rattle.cap_log.specs.{declared.lines.Line.Line, Lines.spelling, Parts.IsMade}
 use Rattle.capcheck_judge.proofs.HandleLemmas.{HandsLine, handed, line_handed}
 use Rattle.capcheck_judge.proofs.steps.hand_over.Goals as goal
 
@@ -17,7 +14,7 @@ returns-in-Some-take g c =
     let new = c.take_step-state.new.judge in
     let state = c.take_step-state.result in
     let ensures = c.take_step-state.ensures in
-    let taken = line_handed (spelling (line.Step (step_of c.in-Some.step)) ++ 10 ∷ []) held after c.deref_mut.result.now new state is
+    let taken = line_handed (spelling (Line.Step (step_of c.in-Some.step)) ++ 10 ∷ []) held after c.deref_mut.result.now new state is
     c.put.ensures ensures.taken ensures.goes_on ensures.at_fault ensures.unchanged ensures.no_memory in
-    handed (line.Step (step_of wanted)) held after c.deref_mut.result.now new state of.0 is c.put.ensures ensures.answers
-    (subst (λ operands. HandsLine (spelling (line.Step (step_of operands)) ++ 10 ∷ []) held after state) of.1 taken)
+    handed (Line.Step (step_of wanted)) held after c.deref_mut.result.now new state of.0 is c.put.ensures ensures.answers
+    (subst (λ operands. HandsLine (spelling (Line.Step (step_of operands)) ++ 10 ∷ []) held after state) of.1 taken)

@@ -1,9 +1,6 @@
 use Rattle.std.proofs.Common.{ℕ, Result, subst, sym, true}
-use Rattle.cap_program.specs.declared.faults.Fault.{Fault}
-use Rattle.cap_program.specs.declared.faults.Fault.TheVariants.{Read, Write}
-use Rattle.cap_program.specs.Doings.{IsCounted, IsDone}
-use Rattle.cap_heap.specs.HeapVerdicts.{IsHeapAnswerOf}
-use Rattle.cap_heap.specs.VerdictLines.{heap_status}
+use Rattle.cap_heap.specs.{HeapVerdicts.IsHeapAnswerOf, VerdictLines.heap_status}
+use Rattle.cap_program.specs.{declared.faults.Fault.{Fault, TheVariants.{Read, Write}}, Doings.{IsCounted, IsDone}}
 use Rattle.cap_program.specs.Judging.{StopsJudging}
 use Rattle.cap_program.proofs.Judgements.{judged_read, judged_written}
 use Rattle.capdiag.specs.Answers.{ShowsHeap}

@@ -1,9 +1,8 @@
-use Rattle.std.proofs.Common.{ℕ, ◌+◌, ◌*◌, ◌%◌, ◌^◌, min, ap, ◌∙◌, subst, ℤ, lit<, lit≤, to_z, of_z}
 use Rattle.std.specs.Int.{w128}
+use Rattle.std.proofs.Common.{ℕ, ◌+◌, ◌*◌, ◌%◌, ◌^◌, min, ap, ◌∙◌, subst, ℤ, lit<, lit≤, to_z, of_z}
 use Rattle.cap_bounds.specs.Bounds.{IsResidue}
 use Rattle.plain.specs.Raised.{raised}
-use Rattle.plain.proofs.Signed.{passed}
-use Rattle.plain.proofs.Found.{found_bounds}
+use Rattle.plain.proofs.{Found.found_bounds, Signed.passed}
 use Rattle.plain.proofs.decoding.plain_bounds.Goals as goal
 
 pub returns : goal.returns

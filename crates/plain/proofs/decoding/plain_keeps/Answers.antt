@@ -1,7 +1,5 @@
-use Rattle.std.proofs.Common.{ℕ, ◌+◌, ◌*◌, ◌/◌, ◌^◌, subst, arith}
-use Rattle.std.proofs.lemmas.Bool.Decides.{nat_tests}
-use Rattle.cap_bounds.specs.Bounds.{AreBounds}
-use Rattle.cap_bounds.specs.Range.{with_address}
+use Rattle.std.proofs.{Common.{ℕ, ◌+◌, ◌*◌, ◌/◌, ◌^◌, subst, arith}, lemmas.Bool.Decides.nat_tests}
+use Rattle.cap_bounds.specs.{Bounds.AreBounds, Range.with_address}
 use Rattle.cap_bounds.proofs.Decoded.{AreBounds-unique}
 use Rattle.plain.proofs.decoding.plain_keeps.Goals as goal
 

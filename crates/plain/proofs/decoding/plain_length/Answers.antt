@@ -1,7 +1,5 @@
-use Rattle.std.proofs.Common.{◌≡◌, ℕ, ◌+◌, ◌-◌, ◌*◌, ◌%◌, ◌^◌, ◌<◌, ◌≤◌, min, ap, ◌∙◌, sym, subst, arith}
-use Rattle.std.proofs.Math.Nat.{mod-eq_of_lt}
-use Rattle.plain.proofs.Signed.{scaled-lt}
-use Rattle.plain.proofs.Found.{length_found}
+use Rattle.std.proofs.Common.{◌≡◌, ℕ, ◌+◌, ◌-◌, ◌*◌, ◌%◌, ◌^◌, ◌<◌, ◌≤◌, min, ap, ◌∙◌, sym, subst, arith, mod-eq_of_lt}
+use Rattle.plain.proofs.{Found.length_found, Signed.scaled-lt}
 use Rattle.plain.proofs.decoding.plain_length.Goals as goal
 
 -- the shift loses nothing

@@ -1,5 +1,4 @@
-use Rattle.std.proofs.Common.{arith}
-use Rattle.std.proofs.lemmas.Bool.Decides.{nat_tests}
+use Rattle.std.proofs.{Common.arith, lemmas.Bool.Decides.nat_tests}
 use Rattle.cap_bounds.proofs.Decoded.{AreBounds-unique}
 use Rattle.plain.proofs.decoding.plain_sound.Goals as goal
 

@@ -1,5 +1,5 @@
-use Rattle.std.proofs.Common.{◌+◌, ◌*◌, ◌^◌, sym, ◌∙◌, subst, arith, lit<, lit≤, ℤ, to_z, of_z}
 use Rattle.std.specs.Int.{w128}
+use Rattle.std.proofs.Common.{◌+◌, ◌*◌, ◌^◌, sym, ◌∙◌, subst, arith, lit<, lit≤, ℤ, to_z, of_z}
 use Rattle.cap_bounds.specs.Bounds.{IsResidue}
 use Rattle.plain.specs.Raised.{IsNear, raised}
 use Rattle.plain.proofs.Signed.{natural_residue, passed}

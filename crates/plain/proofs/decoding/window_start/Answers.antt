@@ -1,6 +1,6 @@
-use Rattle.std.proofs.Common.{◌≡◌, ℕ, ◌+◌, ◌/◌, ◌%◌, ◌^◌, ◌<◌, ◌≤◌, sym, ap, ◌∙◌, subst, arith, lit<, lit≤, ℤ, to_z, of_z}
 use Rattle.std.specs.Int.{w128}
-use Rattle.std.proofs.lemmas.Nat.{pow_pos}
+use Rattle.std.proofs.Common.{◌≡◌, ℕ, ◌+◌, ◌/◌, ◌%◌, ◌^◌, ◌<◌, ◌≤◌, sym, ap, ◌∙◌, subst, arith, lit<, lit≤, ℤ, to_z}
+use Rattle.std.proofs.Common.{of_z, pow_pos}
 use Rattle.cap_bounds.proofs.Powers.{pow_le}
 use Rattle.plain.specs.Raised.{IsNear, raised}
 use Rattle.plain.proofs.Signed.{coded_low, low-near, start-begins, start-near, passed, eighths_are}

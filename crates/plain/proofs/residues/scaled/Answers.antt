@@ -1,5 +1,5 @@
-use Rattle.std.proofs.Common.{ℕ, ◌*◌, ◌%◌, ◌^◌, ap, ◌∙◌, to_z}
 use Rattle.std.specs.Int.{w128}
+use Rattle.std.proofs.Common.{ℕ, ◌*◌, ◌%◌, ◌^◌, ap, ◌∙◌, to_z}
 use Rattle.plain.proofs.Signed.{scaled_is, scaled-lt}
 use Rattle.plain.proofs.residues.scaled.Goals as goal
 

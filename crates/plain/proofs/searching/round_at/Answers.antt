@@ -1,9 +1,8 @@
-use Rattle.std.proofs.Common.{◌≡◌, ◌+◌, sym, arith}
-use Rattle.std.proofs.lemmas.Bool.Decides.{nat_tests}
+use Rattle.std.proofs.{Common.{◌≡◌, ◌+◌, sym, arith}, lemmas.Bool.Decides.nat_tests}
 use Rattle.cap_bounds.proofs.Roundings.{exponent_is, rounded_ie-long}
 use Rattle.plain.proofs.Searched.{base_found, top_found, top_found-le, b_found, t_found}
-use Rattle.plain.proofs.searching.round_at.Goals as goal
 use Rattle.plain.proofs.searching.round_at.Goals.{then-down-unit, else-down-unit}
+use Rattle.plain.proofs.searching.round_at.Goals as goal
 
 pub invariant_of-result-clause-top_fits : goal.invariant_of-result-clause-top_fits
 invariant_of-result-clause-top_fits c = top_found-le

@@ -1,5 +1,4 @@
-use Rattle.std.proofs.Common.{◌+◌, ◌<◌, ◌≤◌, get_or, set, length, arith}
-use Rattle.std.proofs.lemmas.List.{get_or-set_same, get_or-set_other}
+use Rattle.std.proofs.Common.{◌+◌, ◌<◌, ◌≤◌, get_or, set, length, arith, get_or-set_same, get_or-set_other}
 use Rattle.std.proofs.lemmas.Nat.{and_le_r}
 use Rattle.tagmem.proofs.Chained.{AreChains-step}
 use Rattle.tagmem.proofs.linking.link.Goals as goal

@@ -1,5 +1,4 @@
-use Rattle.std.proofs.Common.{◌≡◌, length, sym, subst, ◌∙◌, arith}
-use Rattle.std.proofs.lemmas.List.{take_all}
+use Rattle.std.proofs.Common.{◌≡◌, length, sym, subst, ◌∙◌, arith, take_all}
 use Rattle.tagmem.specs.Granules.{overwritten}
 use Rattle.tagmem.proofs.Granules.{overwritten_whole}
 use Rattle.tagmem.proofs.overwriting.overwrite.Goals as goal

@@ -1,12 +1,11 @@
-use Rattle.std.proofs.Common.{◌≡◌, ℕ, ◌+◌, ◌-◌, ◌<◌, ◌≤◌, List, ◌++◌, length, set, take, drop, refl, sym, ap, subst, ◌∙◌, arith}
-use Rattle.std.specs.List.Sorted.{IsNonDecreasingBy, IsPermutation}
-use Rattle.std.proofs.lemmas.List.{length-drop, length-set, take_all, take_rest}
+use Rattle.std.specs.List.Sorted.{IsNonDecreasingBy}
+use Rattle.std.proofs.Common.{◌≡◌, ℕ, ◌+◌, ◌-◌, ◌<◌, ◌≤◌, List, ◌++◌, length, set, take, drop, refl, sym, ap, subst}
+use Rattle.std.proofs.{Common.{◌∙◌, arith, IsPermutation, length-drop, length-set, take_all}, lemmas.List.take_rest}
 use Rattle.std.proofs.lemmas.Slice.{take-put_mid}
 use borrow.Rule.Slice.PartMut.{put_mid, same_len_mid}
-use Rattle.tagmem_lent.specs.declared.lent_store.Slot.{Slot}
-use Rattle.tagmem_lent.specs.Lent.{part}
-use Rattle.tagmem_lent.proofs.Joining.{IsJoining, IsJoining-begun, IsJoining-more, first_rises, from_le, joined_so, second_is, start_le}
-use Rattle.tagmem_lent.proofs.Merging.{granule_of}
+use Rattle.tagmem_lent.specs.{declared.lent_store.Slot.Slot, Lent.part}
+use Rattle.tagmem_lent.proofs.Joining.{IsJoining, IsJoining-begun, IsJoining-more, first_rises, from_le, joined_so}
+use Rattle.tagmem_lent.proofs.{Joining.{second_is, start_le}, Merging.granule_of}
 use Rattle.tagmem_lent.proofs.lent_store.append.Goals as goal
 
 pub overflow_sub-start : goal.overflow_sub-start

@@ -1,11 +1,12 @@
-use Rattle.std.proofs.Common.{◌≡◌, ℕ, ◌+◌, ◌-◌, ◌*◌, ◌%◌, ◌^◌, ◌<◌, List, get_or, length, refl, sym, ap, subst, ◌∙◌, arith}
 use Rattle.std.specs.Int.Count.{count_leading_zeros}
-use Rattle.std.proofs.lemmas.Nat.{pow_pos}
+use Rattle.std.proofs.Common.{◌≡◌, ℕ, ◌+◌, ◌-◌, ◌*◌, ◌%◌, ◌^◌, ◌<◌, List, get_or, length, refl, sym, ap, subst, ◌∙◌}
+use Rattle.std.proofs.Common.{arith, pow_pos}
 use Rattle.tagmem_lent.specs.declared.lent_store.Slot.{Slot}
-use Rattle.tagmem_lent.proofs.Lent.{no_slot}
-use Rattle.tagmem_lent.proofs.Searching.{IsLastAtMost-here, IsWindow, IsWindow-first, IsWindow-last, IsWindow-turn, highest, quarters_inside}
+use Rattle.tagmem_lent.proofs.{Lent.no_slot, Searching.{IsLastAtMost-here, IsWindow, IsWindow-first, IsWindow-last}}
+use Rattle.tagmem_lent.proofs.Searching.{IsWindow-turn, highest, quarters_inside}
 use Rattle.tagmem_lent.proofs.lent_store.last_at_most.Goals.{then-run-last, else-run-last}
-use Rattle.tagmem_lent.proofs.lent_store.last_at_most.Goals.{else-turns-eq1-via-then-turns-eq1+else-run-start, else-turns-eq1-via-else-turns-eq1}
+use Rattle.tagmem_lent.proofs.lent_store.last_at_most.Goals.{else-turns-eq1-via-then-turns-eq1+else-run-start}
+use Rattle.tagmem_lent.proofs.lent_store.last_at_most.Goals.{else-turns-eq1-via-else-turns-eq1}
 use Rattle.tagmem_lent.proofs.lent_store.last_at_most.Goals as goal
 
 pub overflow_sub-last : goal.overflow_sub-last

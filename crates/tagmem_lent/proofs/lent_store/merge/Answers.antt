@@ -1,8 +1,6 @@
-use Rattle.std.proofs.Common.{◌≡◌, List, ◌++◌, length, take, drop, rules, sym, subst, ◌∙◌}
 use Rattle.std.specs.List.Sorted.{IsNonDecreasingBy}
-use Rattle.std.proofs.Math.Seq.{take-append_seam}
-use Rattle.std.proofs.lemmas.List.{length-take-le}
-use Rattle.std.proofs.lemmas.List.Sorted.{IsNonDecreasingBy-from_sort_by_key}
+use Rattle.std.proofs.Common.{◌≡◌, List, ◌++◌, length, take, drop, rules, sym, subst, ◌∙◌, length-take-le}
+use Rattle.std.proofs.{Math.Seq.take-append_seam, lemmas.List.Sorted.IsNonDecreasingBy-from_sort_by_key}
 use Rattle.tagmem_lent.specs.declared.lent_store.Slot.{Slot}
 use Rattle.tagmem_lent.proofs.lent_store.merge.Goals as goal
 

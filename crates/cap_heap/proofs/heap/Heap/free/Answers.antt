@@ -1,10 +1,8 @@
-use Rattle.std.proofs.Common.{sym, refl, ◌∙◌}
-use Rattle.std.specs.Ordering.{nat_cmp}
 use Rattle.std.specs.BTreeMap as tree
 use Rattle.std.specs.BTreeSet as set
+use Rattle.std.proofs.Common.{sym, refl, ◌∙◌, nat_cmp}
 use Rattle.cap_heap.specs.Heaps.{objects_in}
-use Rattle.cap_heap.proofs.Objects.{IsApart-without}
-use Rattle.cap_heap.proofs.Keeping.{without, not_equal, some_is, there_before}
+use Rattle.cap_heap.proofs.{Keeping.{without, not_equal, some_is, there_before}, Objects.IsApart-without}
 use Rattle.cap_heap.proofs.heap.Heap.free.Goals as goal
 
 pub invariant_of-self-clause-apart : goal.invariant_of-self-clause-apart

@@ -1,9 +1,7 @@
-use Rattle.std.proofs.Common.{arith}
-use Rattle.std.specs.Ordering.{nat_cmp}
 use Rattle.std.specs.BTreeMap as tree
 use Rattle.std.specs.BTreeSet as set
-use Rattle.cap_heap.proofs.Keeping.{of_none, told_by_set}
-use Rattle.cap_heap.proofs.Rounded.{none-at}
+use Rattle.std.proofs.Common.{arith, nat_cmp}
+use Rattle.cap_heap.proofs.{Keeping.{of_none, told_by_set}, Rounded.none-at}
 use Rattle.cap_heap.proofs.heap.Heap.is_taken.Goals as goal
 
 pub returns-then-is_none : goal.returns-then-is_none

@@ -1,15 +1,9 @@
-use Rattle.std.proofs.Common.{inl, inr, sym, ap, ◌∙◌}
-use Rattle.std.specs.Ordering.{nat_cmp}
+use Rattle.std.specs.{BTreeMap.is_at, List.list_any}
 use Rattle.std.specs.BTreeMap as tree
 use Rattle.std.specs.BTreeSet as set
-use Rattle.std.specs.BTreeMap.{is_at}
-use Rattle.std.specs.List.{list_any}
-use Rattle.std.specs.Prelude.{◌≢◌}
-use Rattle.std.proofs.lemmas.Option.{none-some}
-use Rattle.cap_heap.specs.Kept.{length_from}
-use Rattle.cap_heap.specs.Heaps.{objects_in}
-use Rattle.cap_heap.proofs.Objects.{IsApart-with, IsApart-same}
-use Rattle.cap_heap.proofs.Keeping.{either, with_empty, not_equal, not_kept}
+use Rattle.std.proofs.{Common.{inl, inr, sym, ap, ◌∙◌, nat_cmp, ◌≢◌}, lemmas.Option.none-some}
+use Rattle.cap_heap.specs.{Heaps.objects_in, Kept.length_from}
+use Rattle.cap_heap.proofs.{Keeping.{either, with_empty, not_equal, not_kept}, Objects.{IsApart-with, IsApart-same}}
 use Rattle.cap_heap.proofs.heap.Heap.keep_empty.Goals as goal
 
 pub invariant_of-self-clause-apart : goal.invariant_of-self-clause-apart

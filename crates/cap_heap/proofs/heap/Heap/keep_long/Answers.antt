@@ -1,14 +1,11 @@
-use Rattle.std.proofs.Common.{inl, inr, sym, ap, ◌∙◌, arith}
-use Rattle.std.specs.Ordering.{nat_cmp}
+use Rattle.std.specs.{BTreeMap.is_at, Map.lookup}
 use Rattle.std.specs.BTreeMap as tree
 use Rattle.std.specs.BTreeSet as set
-use Rattle.std.specs.BTreeMap.{is_at}
-use Rattle.std.specs.Map.{lookup}
+use Rattle.std.proofs.Common.{inl, inr, sym, ap, ◌∙◌, arith, nat_cmp}
 use Rattle.cap_bounds.specs.Rounding.{rounded_base}
-use Rattle.cap_heap.specs.Kept.{length_from}
-use Rattle.cap_heap.specs.Heaps.{objects_in}
-use Rattle.cap_heap.proofs.Objects.{IsApart-with, IsApart-same}
+use Rattle.cap_heap.specs.{Heaps.objects_in, Kept.length_from}
 use Rattle.cap_heap.proofs.Keeping.{either, with_long, not_equal, not_kept, new_or_before}
+use Rattle.cap_heap.proofs.Objects.{IsApart-with, IsApart-same}
 use Rattle.cap_heap.proofs.heap.Heap.keep_long.Goals as goal
 
 pub invariant_of-self-clause-apart : goal.invariant_of-self-clause-apart

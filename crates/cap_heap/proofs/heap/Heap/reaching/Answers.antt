@@ -1,12 +1,9 @@
-use Rattle.std.proofs.Common.{◌<◌, ◌≤◌, ◌≡◌, ℕ, Option, Some, subst, arith}
-use Rattle.std.specs.Prelude.{IfSome, MatchOption}
-use Rattle.std.specs.Ordering.{nat_cmp}
 use Rattle.std.specs.BTreeMap as tree
 use Rattle.std.specs.BTreeSet as set
+use Rattle.std.proofs.Common.{◌<◌, ◌≤◌, ◌≡◌, ℕ, Option, Some, subst, arith, IfSome, MatchOption, nat_cmp}
 use Rattle.cap_bounds.specs.Rounding.{rounded_base, rounded_top}
 use Rattle.cap_heap.specs.Neighbours.{IsLastBelow}
-use Rattle.cap_heap.proofs.Neighbouring.{apart-straight, from-above, shares-under}
-use Rattle.cap_heap.proofs.Rounded.{apart-empty}
+use Rattle.cap_heap.proofs.{Neighbouring.{apart-straight, from-above, shares-under}, Rounded.apart-empty}
 use Rattle.cap_heap.proofs.heap.Heap.reaching.Goals as goal
 
 pub returns-then-length-eq0 : goal.returns-then-length-eq0

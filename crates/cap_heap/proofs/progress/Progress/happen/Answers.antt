@@ -1,10 +1,7 @@
 use Rattle.std.proofs.Common.{◌≡◌, ◌<◌, ◌+◌, ◌-◌, ◌^◌, ◌++◌, ◌∷◌, [], length, sym, subst, arith}
-use Rattle.cap_heap.specs.declared.events.Event.{Event}
-use Rattle.cap_heap.specs.Events.{mallocs, frees}
-use Rattle.cap_heap.specs.HeapReports.{IsReportOf}
-use Rattle.cap_heap.specs.Heaps.{live_in}
-use Rattle.cap_heap.proofs.RunLemmas.{Reaches-push, Reaches-same, live_after}
+use Rattle.cap_heap.specs.{declared.events.Event.Event, Events.{mallocs, frees}, HeapReports.IsReportOf, Heaps.live_in}
 use Rattle.cap_heap.proofs.ReportLemmas.{report-malloc, report-free}
+use Rattle.cap_heap.proofs.RunLemmas.{Reaches-push, Reaches-same, live_after}
 use Rattle.cap_heap.proofs.progress.Progress.happen.Goals as goal
 
 pub returns-in-Malloc-clause-ok : goal.returns-in-Malloc-clause-ok

@@ -1,7 +1,5 @@
-use Rattle.std.proofs.Common.{sym, subst}
-use Rattle.std.specs.Prelude.{OnOk}
-use Rattle.cap_heap.specs.declared.lines.HeapLine.{HeapLine}
-use Rattle.cap_heap.specs.Progresses.{Takes}
+use Rattle.std.proofs.Common.{sym, subst, OnOk}
+use Rattle.cap_heap.specs.{declared.lines.HeapLine.HeapLine, Progresses.Takes}
 use Rattle.cap_heap.proofs.ProgressLemmas.{stays_event, takes_event}
 use Rattle.cap_heap.proofs.progress.Progress.take_read.Goals as goal
 

@@ -1,6 +1,5 @@
 use Rattle.std.proofs.Common.{refl, subst}
-use Rattle.cap_heap.specs.declared.lines.HeapLine.TheVariants.{Root}
-use Rattle.cap_heap.specs.HeapLines.{SpellsHeapLine}
+use Rattle.cap_heap.specs.{declared.lines.HeapLine.TheVariants.Root, HeapLines.SpellsHeapLine}
 use Rattle.cap_heap.proofs.ProgressLemmas.{takes_root}
 use Rattle.cap_heap.proofs.progress.Progress.take_root.Goals as goal
 

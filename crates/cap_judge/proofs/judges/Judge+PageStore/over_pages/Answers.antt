@@ -1,5 +1,5 @@
-use Rattle.std.proofs.Common.{ap, nat_cmp, ◌∙◌}
 use Rattle.std.specs.FinMap.{len, len-empty}
+use Rattle.std.proofs.Common.{ap, nat_cmp, ◌∙◌}
 use Rattle.tagmem.specs.Granules.{Entry}
 use Rattle.cap_judge.proofs.judges.Judge+PageStore.over_pages.Goals as goal
 

@@ -1,8 +1,7 @@
 use Rattle.std.proofs.Common.{[]}
 use Rattle.cap_log.specs.FaultLines.{bytes_of}
 use Rattle.cap_judge.specs.Readings.{stage_of}
-use Rattle.cap_judge.proofs.EscapeLaws.{named}
-use Rattle.cap_judge.proofs.TurnLemmas.{ends_ok}
+use Rattle.cap_judge.proofs.{EscapeLaws.named, TurnLemmas.ends_ok}
 use Rattle.cap_judge.proofs.judges.Judge.end.Goals as goal
 
 pub returns-in-Ok : goal.returns-in-Ok

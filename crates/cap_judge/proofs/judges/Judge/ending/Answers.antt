@@ -1,7 +1,7 @@
 use Rattle.std.proofs.Common.{◌≢◌, [], rules}
 use Rattle.cap_machine.specs.Helds.{account_of}
-use Rattle.cap_judge.proofs.TurnLemmas.{ended_some, ends_refused, unended}
 use Rattle.cap_judge.specs.Readings.{stage_of}
+use Rattle.cap_judge.proofs.TurnLemmas.{ended_some, ends_refused, unended}
 use Rattle.cap_judge.proofs.judges.Judge.ending.Goals as goal
 
 pub returns-else-is_empty-clause-ends : goal.returns-else-is_empty-clause-ends

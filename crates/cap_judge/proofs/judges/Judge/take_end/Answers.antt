@@ -1,8 +1,6 @@
 use Rattle.std.proofs.Common.{[], ◌≡◌, ◌≢◌, ◌⊎◌, inl, inr, refl, subst}
-use Rattle.cap_log.specs.declared.lines.Line.TheVariants as lines
-use Rattle.cap_judge.specs.declared.judges.Stage.TheVariants.{Body}
-use Rattle.cap_judge.specs.declared.judges.Stop.{Stop}
-use Rattle.cap_judge.specs.declared.judges.Stop.TheVariants.{Cut, Fault}
+use Rattle.cap_log.specs.declared.lines.Line.{Line}
+use Rattle.cap_judge.specs.declared.judges.{Stage.TheVariants.Body, Stop.{Stop, TheVariants.{Cut, Fault}}}
 use Rattle.cap_judge.specs.Readings.{Known, Lacks, at, stage_of}
 use Rattle.cap_judge.proofs.TurnLemmas.{ends_at, step_whole, stop_follows, whole_lacks}
 use Rattle.cap_judge.proofs.judges.Judge.take_end.Goals as goal
@@ -10,7 +8,7 @@ use Rattle.cap_judge.proofs.judges.Judge.take_end.Goals as goal
 pub stop-requires-clause-ends : goal.stop-requires-clause-ends
 stop-requires-clause-ends g c =
     let ends = c.requires.ends in
-    rw c.requires.body (ends_at (at Body c.args.self.now.machine) c.args.line.now [] (lines.Step ends.0) c.args.end ends.1 ends.2)
+    rw c.requires.body (ends_at (at Body c.args.self.now.machine) c.args.line.now [] (Line.Step ends.0) c.args.end ends.1 ends.2)
 
 pub returns-in-NoMemory-clause-no_memory : goal.returns-in-NoMemory-clause-no_memory
 returns-in-NoMemory-clause-no_memory g c =

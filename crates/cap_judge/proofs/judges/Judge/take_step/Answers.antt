@@ -1,6 +1,5 @@
 use Rattle.std.proofs.Common.{◌++◌, ◌∷◌, [], refl}
-use Rattle.cap_log.specs.Lines.{spelling}
-use Rattle.cap_log.specs.declared.lines.Line.TheVariants as lines
+use Rattle.cap_log.specs.{declared.lines.Line.Line, Lines.spelling}
 use Rattle.cap_judge.proofs.TurnLemmas.{makes_takes, step_follows}
 use Rattle.cap_judge.proofs.judges.Judge.take_step.Goals as goal
 
@@ -9,5 +8,5 @@ returns-in-Ok-clause-taken g c =
     let old = c.args.self.now.machine in
     let new = c.perform.new.machine in
     let step = g.I.Operands.step c.args.step in
-    step_follows c.args.self.now.stage old new (spelling (lines.Step step) ++ 10 ∷ []) c.in-Body.is
+    step_follows c.args.self.now.stage old new (spelling (Line.Step step) ++ 10 ∷ []) c.in-Body.is
     (step, (c.perform.ensures.range, refl), makes_takes old new step c.in-Ok.ensures.outcome)

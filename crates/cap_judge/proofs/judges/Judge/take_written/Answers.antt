@@ -1,7 +1,5 @@
 use Rattle.std.proofs.Common.{[], ◌∷◌, ◌++◌, subst}
-use Rattle.cap_log.specs.Lines.{IsStepInRange, spelling}
-use Rattle.cap_log.specs.declared.lines.Line.TheVariants as lines
-use Rattle.cap_log.specs.declared.kinds.Step.{Step}
+use Rattle.cap_log.specs.{declared.{kinds.Step.Step, lines.Line.Line}, Lines.{IsStepInRange, spelling}}
 use Rattle.cap_log.proofs.SpellingLemmas.{IsLine-spelling}
 use Rattle.cap_judge.specs.Readings.{IsNoLine}
 use Rattle.cap_judge.proofs.TurnLemmas.{memory_only, memory_why}
@@ -24,8 +22,8 @@ pub returns-in-Some-clause-no_memory : goal.returns-in-Some-clause-no_memory
 returns-in-Some-clause-no_memory g c = rw c.write_line-length.ensures.line.written at (memory_why c.take_end.result _ c.take_end.ensures.no_memory)
 
 -- what a step spells is one line
-step_is_line : (step : Step) → IsStepInRange step → IsNoLine (spelling (lines.Step step) ++ 10 ∷ []) → ⊥
-step_is_line step range none = none.0 (spelling (lines.Step step)) (IsLine-spelling (lines.Step step) range [])
+step_is_line : (step : Step) → IsStepInRange step → IsNoLine (spelling (Line.Step step) ++ 10 ∷ []) → ⊥
+step_is_line step range none = none.0 (spelling (Line.Step step)) (IsLine-spelling (Line.Step step) range [])
 
 pub returns-in-None-clause-taken : goal.returns-in-None-clause-taken
 returns-in-None-clause-taken g c = rw c.write_line-length.ensures.line.written at c.take_line.ensures.taken

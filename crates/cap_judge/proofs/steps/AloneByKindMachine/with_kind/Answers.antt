@@ -1,8 +1,6 @@
 use Rattle.std.proofs.Common.{◌≡◌, ℕ, List, [], ◌∷◌, ◌++◌, rules, subst}
-use Rattle.cap_log.specs.Heads.{head_spelling}
-use Rattle.cap_log.specs.Lines.{IsInRange, spelling}
+use Rattle.cap_log.specs.{declared.lines.Line.TheVariants.Step, Heads.head_spelling, Lines.{IsInRange, spelling}}
 use Rattle.cap_log.specs.Parts.{Begins}
-use Rattle.cap_log.specs.declared.lines.Line.TheVariants.{Step}
 use Rattle.cap_machine.specs.Helds.{AnswersStep}
 use Rattle.cap_judge.proofs.TurnLemmas.{step_answered}
 use Rattle.cap_judge.proofs.steps.AloneByKindMachine.with_kind.Goals as goal

@@ -1,8 +1,6 @@
 use Rattle.std.proofs.Common.{◌≡◌, ◌∙◌, ◌≤◌, List, ap, arith, inl, inr, length, refl, subst, sym, take, drop, ◌+◌, ℕ}
-use Rattle.std.proofs.lemmas.List.{length-take-le, take_all, take_at}
-use Rattle.cap_log.specs.Front.{IsFront, IsFrontText}
-use Rattle.cap_log.specs.declared.lines.Front.{Front}
-use Rattle.cap_log.specs.declared.lines.Front.TheVariants.{Line, TooLong, Cut}
+use Rattle.std.proofs.Common.{length-take-le, take_all, take_at}
+use Rattle.cap_log.specs.{declared.lines.Front.{Front, TheVariants.{Line, TooLong, Cut}}, Front.{IsFront, IsFrontText}}
 use Rattle.cap_log.proofs.fault_lines.FaultLine.of.Goals.{in-Line, in-TooLong, in-Cut}
 use Rattle.cap_log.proofs.fault_lines.FaultLine.of.Goals as goal
 

@@ -1,8 +1,5 @@
 use Rattle.std.proofs.Common.{◌≡◌, ◌∷◌, ◌++◌, List, ℕ, Option, None, IfNone, ap, arith, codes, get_or, refl}
-use Rattle.cap_log.specs.declared.kinds.Head.{Head}
-use Rattle.cap_log.specs.declared.kinds.Head.TheVariants as head
-use Rattle.cap_log.specs.Heads.{head_spelling}
-use Rattle.cap_log.specs.Parts.{BeginsWithout}
+use Rattle.cap_log.specs.{declared.kinds.Head.Head, Heads.head_spelling, Parts.BeginsWithout}
 use Rattle.cap_log.proofs.kinds.HeadPart.take.Goals as goal
 
 -- the second byte
@@ -14,10 +11,10 @@ no_e : (end : ℕ) (bytes : List ℕ) → second_of bytes ≡ 101
     → BeginsWithout (codes "setaddr") end bytes → BeginsWithout (codes "setbounds") end bytes
     → BeginsWithout (codes "setboundsexact") end bytes → BeginsWithout (codes "seal") end bytes
     → (h : Head) (rest : List ℕ) → bytes ≡ head_spelling h ++ end ∷ rest → ⊥
-no_e end bytes second setaddr setbounds exact seal head.SetAddr rest e = setaddr rest e
-no_e end bytes second setaddr setbounds exact seal head.SetBounds rest e = setbounds rest e
-no_e end bytes second setaddr setbounds exact seal head.SetBoundsExact rest e = exact rest e
-no_e end bytes second setaddr setbounds exact seal head.Seal rest e = seal rest e
+no_e end bytes second setaddr setbounds exact seal Head.SetAddr rest e = setaddr rest e
+no_e end bytes second setaddr setbounds exact seal Head.SetBounds rest e = setbounds rest e
+no_e end bytes second setaddr setbounds exact seal Head.SetBoundsExact rest e = exact rest e
+no_e end bytes second setaddr setbounds exact seal Head.Seal rest e = seal rest e
 no_e end bytes second setaddr setbounds exact seal h rest e = omega (arith, second, ap second_of e)
 
 where_none : {A : Type 0} {P : Type 0} (r : Option A) → (r ≡ None → P) → IfNone r P

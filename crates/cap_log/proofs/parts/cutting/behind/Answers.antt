@@ -1,5 +1,4 @@
-use Rattle.std.proofs.Common.{◌≡◌, ◌∷◌, ap, take, ◌∙◌, rules}
-use Rattle.std.proofs.lemmas.List.{take_at}
+use Rattle.std.proofs.Common.{◌≡◌, ◌∷◌, ap, take, ◌∙◌, rules, take_at}
 use Rattle.cap_log.proofs.Cuts.{text_in_front}
 use Rattle.cap_log.proofs.parts.cutting.behind.Goals as goal
 

@@ -1,6 +1,5 @@
-use Rattle.std.proofs.Common.{◌≡◌, ℕ, ◌<◌, length, take, subst, arith}
 use Rattle.std.specs.Str.Parse.{AllDigits, digits_value}
-use Rattle.std.proofs.lemmas.Bool.Decides.{when_true, when_false}
+use Rattle.std.proofs.{Common.{◌≡◌, ℕ, ◌<◌, length, take, subst, arith}, lemmas.Bool.Decides.{when_true, when_false}}
 use Rattle.cap_log.proofs.Decimals.{digits_value-small, digits-next, digits_value-next}
 use Rattle.cap_log.proofs.parts.decimals.digits_within.Goals as goal
 

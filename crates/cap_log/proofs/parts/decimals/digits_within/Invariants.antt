@@ -1,5 +1,5 @@
-use Rattle.std.proofs.Common.{◌≡◌, take}
 use Rattle.std.specs.Str.Parse.{AllDigits, digits_value}
+use Rattle.std.proofs.Common.{◌≡◌, take}
 use Rattle.cap_log.proofs.parts.decimals.digits_within.Given as goal
 
 -- the digits so far, and their number

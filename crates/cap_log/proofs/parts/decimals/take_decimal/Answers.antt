@@ -1,10 +1,8 @@
-use Rattle.std.proofs.Common.{◌≡◌, ◌+◌, ◌<◌, ◌≤◌, ◌^◌, ◌∷◌, ◌++◌, List, ℕ, IsTrue, nat_eq, nat_le, nat_lt, ◌&&◌, decimal, get_or, refl}
-use Rattle.std.proofs.Common.{rules, ap, sym, ◌∙◌, arith}
-use Rattle.std.proofs.lemmas.Bool.{false≢true}
-use Rattle.std.proofs.lemmas.Fmt.{length-decimal-le}
-use Rattle.std.proofs.lemmas.List.{take_rest}
-use Rattle.cap_log.proofs.Decimals.{FrontIs, front_facts, number_in_front}
+use Rattle.std.proofs.Common.{◌≡◌, ◌+◌, ◌<◌, ◌≤◌, ◌^◌, ◌∷◌, ◌++◌, List, ℕ, IsTrue, nat_eq, nat_le, nat_lt, ◌&&◌}
+use Rattle.std.proofs.{Common.{decimal, get_or, refl, rules, ap, sym, ◌∙◌, arith}, lemmas.Bool.{false≢true}}
+use Rattle.std.proofs.lemmas.{Fmt.length-decimal-le, List.take_rest}
 use Rattle.cap_log.specs.Parts.{Begins, IsFrom, IsFrontNumber}
+use Rattle.cap_log.proofs.Decimals.{FrontIs, front_facts, number_in_front}
 use Rattle.cap_log.proofs.parts.decimals.take_decimal.Goals as goal
 
 -- what the digits at the front are, where a number below the bound stands there

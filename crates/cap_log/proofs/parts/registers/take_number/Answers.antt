@@ -1,14 +1,12 @@
-use Rattle.std.proofs.Common.{arith}
-use Rattle.std.proofs.lemmas.Bool.Decides.{when_true, when_false}
-use Rattle.std.proofs.lemmas.List.{take_rest}
+use Rattle.std.proofs.{Common.arith, lemmas.{Bool.Decides.{when_true, when_false}, List.take_rest}}
 use Rattle.cap_log.proofs.RegisterLemmas.{one_digit, register_facts, two_digit}
-use Rattle.cap_log.proofs.parts.registers.take_number.Goals as goal
 use Rattle.cap_log.proofs.parts.registers.take_number.Goals.{then-bytes-lt3-via-then-bytes-lt3}
 use Rattle.cap_log.proofs.parts.registers.take_number.Goals.{then-bytes-lt3-via-else-bytes-lt3+then-bytes-ne99}
 use Rattle.cap_log.proofs.parts.registers.take_number.Goals.{then-bytes-lt4-via-then-bytes-lt4}
 use Rattle.cap_log.proofs.parts.registers.take_number.Goals.{then-bytes-lt4-via-else-bytes-lt4+then-bytes-end-2}
 use Rattle.cap_log.proofs.parts.registers.take_number.Goals.{then-first-lt-LEAST_TENS-via-then-first-lt-LEAST_TENS}
 use Rattle.cap_log.proofs.parts.registers.take_number.Goals.{then-first-lt-LEAST_TENS-via-else-first-lt-LEAST_TENS+then-not-is_ascii_digit-2}
+use Rattle.cap_log.proofs.parts.registers.take_number.Goals as goal
 
 pub returns-then-bytes-lt3-clause-none : goal.returns-then-bytes-lt3-clause-none
 returns-then-bytes-lt3-clause-none c = λ a rest begins.

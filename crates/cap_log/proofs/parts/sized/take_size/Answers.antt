@@ -1,12 +1,12 @@
-use Rattle.std.proofs.Common.{◌<◌, length, arith, inl, inr, refl, rules}
-use Rattle.std.proofs.lemmas.List.{take_rest}
+use Rattle.std.proofs.{Common.{◌<◌, length, arith, inl, inr, refl, rules}, lemmas.List.take_rest}
 use Rattle.cap_log.proofs.SizedLemmas.{size_facts, size_in_front}
-use Rattle.cap_log.proofs.parts.sized.take_size.Goals as goal
-use Rattle.cap_log.proofs.parts.sized.take_size.Goals.{in_default-via-then-bytes-lt2, in_default-via-else-bytes-lt2+in_default-1}
+use Rattle.cap_log.proofs.parts.sized.take_size.Goals.{in_default-via-then-bytes-lt2}
+use Rattle.cap_log.proofs.parts.sized.take_size.Goals.{in_default-via-else-bytes-lt2+in_default-1}
 use Rattle.cap_log.proofs.parts.sized.take_size.Goals.{in_default-via-else-bytes-lt2+in-49+in_default-1}
 use Rattle.cap_log.proofs.parts.sized.take_size.Goals.{in_default-via-else-bytes-lt2+in-50+in_default-1}
 use Rattle.cap_log.proofs.parts.sized.take_size.Goals.{in_default-via-else-bytes-lt2+in-52+in_default-1}
 use Rattle.cap_log.proofs.parts.sized.take_size.Goals.{in_default-via-else-bytes-lt2+in-56+in_default-1}
+use Rattle.cap_log.proofs.parts.sized.take_size.Goals as goal
 
 pub returns-in-49-clause-some : goal.returns-in-49-clause-some
 returns-in-49-clause-some c = (

@@ -1,5 +1,4 @@
-use Rattle.std.proofs.Common.{ℕ, arith}
-use Rattle.std.proofs.lemmas.List.{length-take, length-drop}
+use Rattle.std.proofs.Common.{ℕ, arith, length-take, length-drop}
 use Rattle.cap_log.proofs.PulledLemmas.{consumed}
 use Rattle.cap_log.proofs.pulled.Pulled.consume.Goals as goal
 

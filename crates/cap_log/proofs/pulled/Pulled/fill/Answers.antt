@@ -1,5 +1,4 @@
-use Rattle.std.proofs.Common.{◌≤◌, ℕ, List, ◌++◌, length, take, ap, ◌∙◌, arith}
-use Rattle.std.proofs.lemmas.List.{length-take-le}
+use Rattle.std.proofs.Common.{◌≤◌, ℕ, List, ◌++◌, length, take, ap, ◌∙◌, arith, length-take-le}
 use Rattle.cap_log.proofs.PulledLemmas.{grown, is_end-room}
 use Rattle.cap_log.proofs.pulled.Pulled.fill.Goals as goal
 

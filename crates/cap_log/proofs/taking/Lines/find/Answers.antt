@@ -1,6 +1,5 @@
-use Rattle.std.proofs.Common.{[], refl, sym, ◌∙◌, append-nil}
+use Rattle.std.proofs.Common.{[], refl, sym, ◌∙◌, append-nil, subst}
 use Rattle.cap_log.specs.Front.{IsFront}
-use Rattle.std.proofs.Common.{subst}
 use Rattle.cap_log.proofs.TakingLemmas.{still_cut, given_more, untouched}
 use Rattle.cap_log.proofs.taking.Lines.find.Goals as goal
 

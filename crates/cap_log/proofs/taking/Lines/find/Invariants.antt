@@ -1,6 +1,5 @@
 use Rattle.std.proofs.Common.{◌≡◌, ◌-◌, ℕ, List, ◌++◌, length}
-use Rattle.cap_log.specs.Front.{IsCut}
-use Rattle.cap_log.specs.Takings.{kept}
+use Rattle.cap_log.specs.{Front.IsCut, Takings.kept}
 use Rattle.cap_log.proofs.taking.Lines.find.Given as goal
 
 -- what was given so far stands behind what was kept

@@ -1,7 +1,6 @@
-use Rattle.std.proofs.Common.{◌≡◌, ◌≢◌, ℕ, ◌-◌, ◌≤◌, List, [], Ok, length, take, drop, true, refl, sym, ap, subst, ◌∙◌, rules, arith}
-use Rattle.cap_log.specs.Front.{IsFront}
-use Rattle.std.proofs.lemmas.List.{nil_from_length, length-take, length-drop}
-use Rattle.cap_log.specs.Pulled.{items}
+use Rattle.std.proofs.Common.{◌≡◌, ◌≢◌, ℕ, ◌-◌, ◌≤◌, List, [], Ok, length, take, drop, true, refl, sym, ap, subst, ◌∙◌}
+use Rattle.std.proofs.{Common.{rules, arith, length-take, length-drop}, lemmas.List.nil_from_length}
+use Rattle.cap_log.specs.{Front.IsFront, Pulled.items}
 use Rattle.cap_log.proofs.TakingLemmas.{answered, not_again, take_front}
 use Rattle.cap_log.proofs.taking.Lines.next.Goals as goal
 

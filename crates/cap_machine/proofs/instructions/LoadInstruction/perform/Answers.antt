@@ -1,11 +1,7 @@
-use Rattle.std.proofs.Common.{◌≡◌, ◌+◌, ◌<◌, Some, sym, ◌∙◌, refl, rules, subst, true, false}
-use Rattle.std.proofs.lemmas.Bool.{eq-eqb, ne_eqb}
+use Rattle.std.proofs.Common.{◌≡◌, ◌+◌, ◌<◌, Some, sym, ◌∙◌, refl, rules, subst, true, false, eq-eqb, ne_eqb}
+use Rattle.cap_ops.specs.{declared.refusal.Refusal.TheVariants.LimitPassed, Checks.first_of}
 use Rattle.cap_log.specs.declared.kinds.Step.TheVariants.{Load}
-use Rattle.cap_ops.specs.Checks.{first_of}
-use Rattle.cap_ops.specs.declared.refusal.Refusal.TheVariants.{LimitPassed}
-use Rattle.cap_machine.specs.Accounts.{most_steps}
-use Rattle.cap_machine.specs.Changes.{last_checks}
-use Rattle.cap_machine.specs.Helds.{Held, Makes}
+use Rattle.cap_machine.specs.{Accounts.most_steps, Changes.last_checks, Helds.{Held, Makes}}
 use Rattle.cap_machine.proofs.MadeLemmas.{loaded_value, load_refused, value_read}
 use Rattle.cap_machine.proofs.instructions.LoadInstruction.perform.Goals as goal
 

@@ -1,16 +1,12 @@
-use Rattle.std.proofs.Common.{◌≡◌, ◌∙◌, ◌+◌, ◌<◌, Bool, ap, length, refl, rules, slice_set, subst, sym, ℕ}
+use Rattle.std.proofs.Common.{◌≡◌, ◌∙◌, ◌+◌, ◌<◌, Bool, ap, length, refl, rules, slice_set, subst, sym}
 use Rattle.std.proofs.lemmas.Result.{err_from_is_err_and}
 use Rattle.cap_word.specs.declared.word.Cap.{Cap}
-use Rattle.cap_machine.specs.Changes.{Derives, IsParentsCode, code_for}
-use Rattle.cap_machine.specs.Helds.{Held, IsKept, Makes, code_in, state_of}
-use Rattle.cap_machine.specs.Parents.{IsSoundCap}
-use Rattle.cap_machine.specs.Places.{IsCoded}
-use Rattle.cap_machine.specs.Steps.{row_of}
+use Rattle.cap_machine.specs.{Changes.{Derives, IsParentsCode, code_for}, Helds.{Held, IsKept, Makes, code_in}}
+use Rattle.cap_machine.specs.{Helds.state_of, Parents.IsSoundCap, Places.IsCoded, Steps.row_of}
 use Rattle.cap_machine.proofs.MadeLemmas.{concluded_faulted, concluded_made, concluded_past, concluded_unlike}
-use Rattle.cap_machine.proofs.MadeLemmas.{concluded_within, result_coded, result_sound}
-use Rattle.cap_machine.proofs.SoundLemmas.{equal_caps, kept_register}
+use Rattle.cap_machine.proofs.{MadeLemmas.{concluded_within, result_coded, result_sound}, SoundLemmas.equal_caps}
+use Rattle.cap_machine.proofs.{SoundLemmas.kept_register, machine.Machine.conclude.Goals.{then-derived, else-derived}}
 use Rattle.cap_machine.proofs.machine.Machine.conclude.Goals as goal
-use Rattle.cap_machine.proofs.machine.Machine.conclude.Goals.{then-derived, else-derived}
 
 pub returns-in_err-derived : goal.returns-in_err-derived
 returns-in_err-derived g c =

@@ -1,6 +1,5 @@
 use Rattle.std.proofs.Common.{sym, subst}
-use Rattle.cap_machine.specs.States.{granule_key}
-use Rattle.cap_machine.specs.Parents.{IsSoundCap}
+use Rattle.cap_machine.specs.{Parents.IsSoundCap, States.granule_key}
 use Rattle.cap_machine.proofs.machine.Machine.granule.Goals as goal
 
 pub returns-clause-sound : goal.returns-clause-sound

@@ -1,8 +1,6 @@
 use Rattle.std.proofs.Common.{IfSome, subst, sym, ap, ◌∙◌, Option}
-use Rattle.cap_log.specs.declared.lines.Place.{Place}
-use Rattle.cap_log.specs.Lines.{IsPlace}
-use Rattle.cap_machine.specs.States.{key_of}
-use Rattle.cap_machine.specs.Places.{place_at}
+use Rattle.cap_log.specs.{declared.lines.Place.Place, Lines.IsPlace}
+use Rattle.cap_machine.specs.{Places.place_at, States.key_of}
 use Rattle.cap_machine.proofs.CodeLemmas.{place_in_range}
 use Rattle.cap_machine.proofs.machine.Machine.origin.Goals as goal
 

@@ -1,14 +1,10 @@
 use Rattle.std.proofs.Common.{rules, subst, sym, true}
+use Rattle.cap_word.specs.Memory.{memory_of}
+use Rattle.cap_log.specs.{declared.lines.Place.TheVariants.{Register, Granule}, Lines.IsPlace}
 use Rattle.tagmem.specs.Granules.{Entry, with_cap}
 use Rattle.tagmem.proofs.Granules.{each-tried}
-use Rattle.cap_log.specs.Lines.{IsPlace}
-use Rattle.cap_log.specs.declared.lines.Place.TheVariants.{Register, Granule}
-use Rattle.cap_word.specs.Memory.{memory_of}
-use Rattle.cap_machine.specs.Helds.{IsKept}
-use Rattle.cap_machine.specs.States.{granule_key, tagged}
-use Rattle.cap_machine.specs.Places.{IsCoded}
-use Rattle.cap_machine.proofs.SoundLemmas.{kept_granule, kept_register, sound_entry}
-use Rattle.cap_machine.proofs.CodeLemmas.{root_coded}
+use Rattle.cap_machine.specs.{Helds.IsKept, Places.IsCoded, States.{granule_key, tagged}}
+use Rattle.cap_machine.proofs.{CodeLemmas.root_coded, SoundLemmas.{kept_granule, kept_register, sound_entry}}
 use Rattle.cap_machine.proofs.machine.Machine.place_root.Goals as goal
 
 pub invariant_of-self : goal.invariant_of-self

@@ -1,10 +1,5 @@
-use Rattle.std.proofs.Common.{◌≡◌, ℤ, Some, rules, subst}
-use Rattle.std.proofs.lemmas.Int.{to_z-of_z}
-use Rattle.std.specs.Prelude.{FitsSigned}
-use Rattle.std.specs.Int.{w16}
-use Rattle.cap_ops.specs.Accesses.{access_checks}
-use Rattle.cap_ops.specs.Refusals.{refusal_of}
-use Rattle.cap_ops.specs.Checks.{first_of}
+use Rattle.std.proofs.{Common.{◌≡◌, ℤ, Some, rules, subst, FitsSigned, w16}, lemmas.Int.to_z-of_z}
+use Rattle.cap_ops.specs.{Accesses.access_checks, Checks.first_of, Refusals.refusal_of}
 use Rattle.cap_machine.specs.Helds.{state_of}
 use Rattle.cap_machine.proofs.MadeLemmas.{faulted_as}
 use Rattle.cap_machine.proofs.machine.Machine.reach.Goals as goal

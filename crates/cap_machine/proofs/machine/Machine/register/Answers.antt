@@ -1,11 +1,8 @@
-use Rattle.std.proofs.Common.{◌≡◌, ℕ, ◌≤◌, List, length, get_or, sym, ap, subst, ◌∙◌, nat_lt, arith}
-use Rattle.std.proofs.lemmas.Bool.{cond-true, lt-ltb}
-use Rattle.std.proofs.lemmas.List.{get_or_default}
+use Rattle.std.proofs.Common.{◌≡◌, ℕ, ◌≤◌, List, length, get_or, sym, ap, subst, ◌∙◌, nat_lt, arith, lt-ltb}
+use Rattle.std.proofs.lemmas.{Bool.cond-true, List.get_or_default}
 use Rattle.cap_word.specs.declared.word.Cap.{Cap}
 use Rattle.tagmem.specs.Granules.{Granules}
-use Rattle.cap_machine.specs.Parents.{IsSoundCap}
-use Rattle.cap_machine.specs.Places.{places_of}
-use Rattle.cap_machine.specs.States.{untagged_null}
+use Rattle.cap_machine.specs.{Parents.IsSoundCap, Places.places_of, States.untagged_null}
 use Rattle.cap_machine.proofs.machine.Machine.register.Goals as goal
 
 -- A register holds what its place does.

@@ -1,6 +1,5 @@
 use Rattle.std.proofs.Common.{◌≡◌, subst, sym, ◌∙◌}
-use Rattle.cap_machine.specs.Helds.{Held, state_of}
-use Rattle.cap_machine.specs.States.{value_at}
+use Rattle.cap_machine.specs.{Helds.{Held, state_of}, States.value_at}
 use Rattle.cap_machine.proofs.MadeLemmas.{value_in}
 use Rattle.cap_machine.proofs.machine.Machine.value.Goals as goal
 

@@ -1,9 +1,8 @@
-use Rattle.std.proofs.Common.{ℕ, ap, false, refl}
 use Rattle.std.specs.FinMap as map
+use Rattle.std.proofs.Common.{ℕ, ap, false, refl}
 use Rattle.cap_word.specs.declared.word.Cap.{Cap}
+use Rattle.cap_machine.proofs.{CodeLemmas.coded_blank, SoundLemmas.IsSoundState-start}
 use Rattle.cap_machine.proofs.StateLemmas.{blank_account, blank_code, blank_state}
-use Rattle.cap_machine.proofs.SoundLemmas.{IsSoundState-start}
-use Rattle.cap_machine.proofs.CodeLemmas.{coded_blank}
 use Rattle.cap_machine.proofs.machine.Machine.with_rules.Goals as goal
 
 pub returns : goal.returns

@@ -1,11 +1,8 @@
 use Rattle.std.proofs.Common.{[], sym, subst, Some}
 use Rattle.cap_judge.proofs.ReportLemmas.{nothing_given}
-use Rattle.cap_program.specs.Doings.{IsDone, ended_by}
-use Rattle.cap_program.specs.declared.faults.Fault.TheVariants.{Read}
+use Rattle.cap_program.specs.{declared.faults.Fault.TheVariants.Read, Doings.{IsDone, ended_by}}
 use Rattle.cap_program.proofs.Doing.{followed_missing, followed_unread}
-use Rattle.capcheck.specs.declared.words.Order.{Order}
-use Rattle.capcheck.specs.Answers.{ReadsInput}
-use Rattle.capcheck.specs.Doings.{Fails, Shows, order_meaning}
+use Rattle.capcheck.specs.{declared.words.Order.Order, Answers.ReadsInput, Doings.{Fails, Shows, order_meaning}}
 use Rattle.capcheck.proofs.InputLemmas.{breaks_off_nothing}
 use Rattle.capcheck.proofs.running.OrderCommand.follow.Goals as goal
 

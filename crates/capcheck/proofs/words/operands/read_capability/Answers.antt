@@ -1,7 +1,7 @@
 use Rattle.std.proofs.Common.{Bool, ◌∙◌, ap, sym, subst}
 use Rattle.cap_texts.specs.TextLines.{bytes_text}
-use Rattle.capcheck.specs.Operands.{SpellsWord}
 use Rattle.cap_texts.proofs.MemoryTexts.{bytes_text-number}
+use Rattle.capcheck.specs.Operands.{SpellsWord}
 use Rattle.capcheck.proofs.OperandLemmas.{no_word}
 use Rattle.capcheck.proofs.words.operands.read_capability.Goals as goal
 

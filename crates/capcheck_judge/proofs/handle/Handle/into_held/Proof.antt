@@ -1,39 +1,33 @@
 -- `into_held` reads the flag, and hands out the pointer where there is one.
-use Rattle.std.proofs.Common.{◌≡◌, List, [], ◌∷◌, refl, ap, ◌∙◌, lit<}
-use mathlib.Core.Bool.{Bool, true, false}
-use mir.Raw.{raw as bare}
-use mir.Val.{Val, vptr, vbool, vcons, vnil}
-use base.Logic.{SProp, emp, never, fst∗}
+use Rattle.std.specs.contracts.impls.GlobalAllocator.TheImpl.{ghosts}
+use Rattle.std.proofs.{Common.{◌≡◌, List, [], ◌∷◌, refl, ap, ◌∙◌, lit<, is_some, None, Some}, ResultValues.and_tt}
+use Rattle.std.proofs.{alloc.Shapes.after, cell.Inside.Good, option.Made.{Some-of, none_of}}
+use Rattle.std.proofs.raw_atomic.Walks.{proved_at, leaves}
+use Rattle.std.proofs.alloc.Global.TheLaws as heap_laws
 use base.Fml.{ftrue}
-use prog.Wp.{WpFn}
-use types.Logic.{sem}
-use types.Kit.{‵, raw, ◌⊛◌, at_ret, ◌$◌, ◌∵◌, !, qed, by, move, keep, split, fsplit, fjoin, suffices, use0, use1}
-use types.Run.{stop, fld, lit, of_opd, no_more, and_then, first, branches, exec, returns, enter}
-use types.ByLocal.{alloc_all, pass_all, free_all, look_at, get, get_in, sets, sets_last, env}
-use types.Part.{agg, sub, whole}
-use types.Match.{live}
+use base.Logic.{SProp, emp, never, fst∗}
 use contract.Monad.{fact, fact_i}
 use contract.Running.{tables}
 use denote.Exit.{yes}
-use denote.RattleType.{RattleType, owns}
-use denote.Signature.{types_at, type_at, plain}
-use denote.RawPtr.{Ptr, block_ptr, null_ptr, ptr_val, in_a_block}
 use denote.Param.{layout}
+use denote.RattleType.{RattleType, owns}
+use denote.RawPtr.{Ptr, block_ptr, null_ptr, ptr_val, in_a_block}
+use denote.Signature.{types_at, type_at, plain}
 use denote.Steps.{nothing}
 use denote.Triple.Walked.{Stays, stay_dropped, walk_of, Goes-dropped}
-use Rattle.std.proofs.alloc.Shapes.{after}
-use Rattle.std.proofs.cell.Inside.{Good}
-use Rattle.std.proofs.option.Made.{Some-of, none_of}
-use Rattle.std.proofs.ResultValues.{and_tt}
-use Rattle.std.proofs.raw_atomic.Walks.{proved_at, leaves}
-use Rattle.std.proofs.alloc.Global.TheLaws as heap_laws
-use Rattle.std.specs.Prelude.{is_some}
-use Rattle.std.specs.contracts.impls.GlobalAllocator.TheImpl.{ghosts}
-use Rattle.std.specs.declared.option.Option.TheVariants.{None, Some}
-use Rattle.capcheck_judge.proofs.HeldFields.{pair, runs_from, Held, held_good, held_in}
-use Rattle.capcheck_judge.proofs.HandleFields.{J, Z, H, three, ptr_good, handle_good, handle_out, either_held, owns_judge}
-use Rattle.capcheck_judge.specs.contracts.handle.Handle.into_held.{ended, clauses}
-use Rattle.capcheck_judge.specs.contracts.handle.Handle.into_held.Key.{name as #self}
+use mathlib.Core.Bool.{Bool, true, false}
+use mir.Raw.{raw as bare}
+use mir.Val.{Val, vptr, vbool, vcons, vnil}
+use prog.Wp.{WpFn}
+use types.ByLocal.{alloc_all, pass_all, free_all, look_at, get, get_in, sets, sets_last, env}
+use types.Kit.{‵, raw, ◌⊛◌, at_ret, ◌$◌, ◌∵◌, !, qed, by, move, keep, split, fsplit, fjoin, suffices, use0, use1}
+use types.Logic.{sem}
+use types.Match.{live}
+use types.Part.{agg, sub, whole}
+use types.Run.{stop, fld, lit, of_opd, no_more, and_then, first, branches, exec, returns, enter}
+use Rattle.capcheck_judge.specs.contracts.handle.Handle.into_held.{ended, clauses, Key.name as #self}
+use Rattle.capcheck_judge.proofs.HandleFields.{J, Z, H, three, ptr_good, handle_good, handle_out, either_held}
+use Rattle.capcheck_judge.proofs.{HandleFields.owns_judge, HeldFields.{pair, runs_from, Held, held_good, held_in}}
 use Rattle.capcheck_judge.proofs.handle.Handle.into_held.Statement.{statement}
 use Rattle.capcheck_judge.proofs.handle.Handle.into_held.Code as code
 

@@ -1,29 +1,25 @@
 -- `none` makes a handle of a null pointer.
-use Rattle.std.proofs.Common.{◌≡◌, List, [], ◌∷◌, refl}
-use mathlib.Core.Bool.{false}
-use mir.Val.{Val, vbool}
-use base.Logic.{SProp, emp}
+use Rattle.std.proofs.{Common.{◌≡◌, List, [], ◌∷◌, refl, None}, alloc.Calls.handle_tells}
+use Rattle.std.proofs.raw_atomic.Walks.{proved_at, leaves}
 use base.Fml.{ftrue}
-use prog.Wp.{WpFn}
-use types.Kit.{‵, raw, ◌⊛◌, ◌$◌, ◌∵◌, !, qed, by, move, keep, split, fsplit, fjoin, suffices, use0}
-use types.Run.{lit, false_lit, no_more, and_then, returns, enter}
-use types.ByLocal.{alloc_all, pass_all, free_all, look_at, get, sets}
-use types.Part.{agg}
+use base.Logic.{SProp, emp}
 use contract.Monad.{fact, fact_i}
 use contract.Running.{tables}
 use denote.Exit.{yes}
 use denote.RattleType.{owns}
-use denote.Signature.{types_at, plain}
 use denote.RawPtr.{null_ptr, ptr_val}
+use denote.Signature.{types_at, plain}
 use denote.Steps.{nothing}
 use denote.Triple.Walked.{Stays, stay_dropped, walk_of, Goes-dropped}
-use Rattle.std.proofs.alloc.Calls.{handle_tells}
-use Rattle.std.proofs.raw_atomic.Walks.{proved_at, leaves}
-use Rattle.std.specs.declared.option.Option.TheVariants.{None}
-use Rattle.capcheck_judge.proofs.HeldFields.{runs_from}
-use Rattle.capcheck_judge.proofs.HandleFields.{Z, al, three, handle_good, handle_in}
-use Rattle.capcheck_judge.specs.contracts.handle.Handle.none.{ended, clauses}
-use Rattle.capcheck_judge.specs.contracts.handle.Handle.none.Key.{name as #self}
+use mathlib.Core.Bool.{false}
+use mir.Val.{Val, vbool}
+use prog.Wp.{WpFn}
+use types.ByLocal.{alloc_all, pass_all, free_all, look_at, get, sets}
+use types.Kit.{‵, raw, ◌⊛◌, ◌$◌, ◌∵◌, !, qed, by, move, keep, split, fsplit, fjoin, suffices, use0}
+use types.Part.{agg}
+use types.Run.{lit, false_lit, no_more, and_then, returns, enter}
+use Rattle.capcheck_judge.specs.contracts.handle.Handle.none.{ended, clauses, Key.name as #self}
+use Rattle.capcheck_judge.proofs.{HandleFields.{Z, al, three, handle_good, handle_in}, HeldFields.runs_from}
 use Rattle.capcheck_judge.proofs.handle.Handle.none.Statement.{statement}
 use Rattle.capcheck_judge.proofs.handle.Handle.none.Code as code
 

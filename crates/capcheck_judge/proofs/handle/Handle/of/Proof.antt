@@ -1,32 +1,27 @@
 -- `of` keeps the pointer of a box that was taken apart, and says that there is one.
-use Rattle.std.proofs.Common.{◌≡◌, List, [], ◌∷◌, refl}
-use mathlib.Core.Bool.{true}
-use mir.Val.{Val, vptr, vbool}
-use base.Logic.{SProp, emp}
+use Rattle.std.specs.contracts.impls.GlobalAllocator.TheImpl.{ghosts}
+use Rattle.std.proofs.{Common.{◌≡◌, List, [], ◌∷◌, refl, Option, Some}, raw_atomic.Walks.{proved_at, leaves}}
+use Rattle.std.proofs.alloc.Global.TheLaws as heap_laws
 use base.Fml.{ftrue}
-use prog.Wp.{WpFn}
-use types.Kit.{‵, raw, ◌⊛◌, ◌$◌, ◌∵◌, !, qed, by, move, keep, split, fsplit, fjoin, suffices, use0}
-use types.Run.{stop, fld, of_opd, true_lit, no_more, and_then, returns, enter}
-use types.ByLocal.{alloc_all, pass_all, free_all, look_at, get, get_in, sets}
-use types.Part.{agg, sub, whole}
+use base.Logic.{SProp, emp}
 use contract.Monad.{fact, fact_i}
 use contract.Running.{tables}
 use denote.Exit.{yes}
 use denote.RattleType.{RattleType, owns}
-use denote.Signature.{types_at, plain}
 use denote.RawPtr.{block_ptr}
+use denote.Signature.{types_at, plain}
 use denote.Steps.{nothing}
 use denote.Triple.Walked.{Stays, stay_dropped, walk_of, Goes-dropped}
-use Rattle.std.proofs.raw_atomic.Walks.{proved_at, leaves}
-use Rattle.std.proofs.alloc.Global.TheLaws as heap_laws
-use Rattle.std.specs.contracts.impls.GlobalAllocator.TheImpl.{ghosts}
-use Rattle.std.specs.Prelude.{Option}
-use Rattle.std.specs.declared.option.Option.TheVariants.{Some}
-use Rattle.capcheck_judge.proofs.HeldFields.{pair, runs_from, Held, held_good, held_out}
-use Rattle.capcheck_judge.proofs.HandleFields.{J, Z, three, handle_good, handle_in}
-use Rattle.capcheck_judge.specs.contracts.handle.Handle.of.{ended, clauses}
-use Rattle.capcheck_judge.specs.contracts.handle.Handle.of.Key.{name as #self}
-use Rattle.capcheck_judge.proofs.handle.Handle.of.Statement.{statement}
+use mathlib.Core.Bool.{true}
+use mir.Val.{Val, vptr, vbool}
+use prog.Wp.{WpFn}
+use types.ByLocal.{alloc_all, pass_all, free_all, look_at, get, get_in, sets}
+use types.Kit.{‵, raw, ◌⊛◌, ◌$◌, ◌∵◌, !, qed, by, move, keep, split, fsplit, fjoin, suffices, use0}
+use types.Part.{agg, sub, whole}
+use types.Run.{stop, fld, of_opd, true_lit, no_more, and_then, returns, enter}
+use Rattle.capcheck_judge.specs.contracts.handle.Handle.of.{ended, clauses, Key.name as #self}
+use Rattle.capcheck_judge.proofs.{HandleFields.{J, Z, three, handle_good, handle_in}, HeldFields.{pair, runs_from}}
+use Rattle.capcheck_judge.proofs.{HeldFields.{Held, held_good, held_out}, handle.Handle.of.Statement.statement}
 use Rattle.capcheck_judge.proofs.handle.Handle.of.Code as code
 
 pub of_spec : {M : Type 1} → statement M

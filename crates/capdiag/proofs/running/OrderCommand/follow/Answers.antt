@@ -1,10 +1,8 @@
 use Rattle.std.proofs.Common.{[], sym, subst, Some}
 use Rattle.cap_judge.proofs.ReportLemmas.{nothing_given}
-use Rattle.cap_program.specs.Doings.{IsDone, ended_by}
-use Rattle.cap_program.specs.declared.faults.Fault.TheVariants.{Read}
+use Rattle.cap_program.specs.{declared.faults.Fault.TheVariants.Read, Doings.{IsDone, ended_by}}
 use Rattle.cap_program.proofs.Doing.{followed_missing, followed_unread}
-use Rattle.capdiag.specs.declared.words.Order.{Order}
-use Rattle.capdiag.specs.Answers.{Fails, ReadsInput, Shows, order_meaning}
+use Rattle.capdiag.specs.{declared.words.Order.Order, Answers.{Fails, ReadsInput, Shows, order_meaning}}
 use Rattle.capdiag.proofs.HeapLemmas.{nothing_begins}
 use Rattle.capdiag.proofs.running.OrderCommand.follow.Goals as goal
 

@@ -1,7 +1,6 @@
 use Rattle.std.proofs.Common.{unwrap_or, sym, ap, ◌∙◌, arith}
 use Rattle.tagmem.specs.Granules.{blank}
-use Rattle.tagmem.proofs.Blocks.{get_or-slots_of}
-use Rattle.tagmem.proofs.Slots.{code-slot_with}
+use Rattle.tagmem.proofs.{Blocks.get_or-slots_of, Slots.code-slot_with}
 use Rattle.tagmem.proofs.block.Block.code.Goals as goal
 
 pub returns : goal.returns

@@ -1,8 +1,6 @@
-use Rattle.std.proofs.Common.{◌≡◌, ◌≤◌, get_or, None, sym, ap, ◌∙◌, arith}
-use Rattle.std.proofs.Math.ListN.{get_or-eq_default}
+use Rattle.std.proofs.{Common.{◌≡◌, ◌≤◌, get_or, None, sym, ap, ◌∙◌, arith}, Math.ListN.get_or-eq_default}
 use Rattle.tagmem.specs.Blocks.{slots_of}
-use Rattle.tagmem.proofs.Slots.{slot_with-none, slot_with-some}
-use Rattle.tagmem.proofs.Blocks.{length-slots_of, get_or-slots_of}
+use Rattle.tagmem.proofs.{Blocks.{length-slots_of, get_or-slots_of}, Slots.{slot_with-none, slot_with-some}}
 use Rattle.tagmem.proofs.block.Block.first_from.Goals as goal
 
 pub returns-then-is_some : goal.returns-then-is_some

@@ -1,6 +1,5 @@
 use Rattle.std.proofs.Common.{[], Bool, Option, get_or, sym, ap, ◌∙◌}
-use Rattle.tagmem.specs.Granules.{shown}
-use Rattle.tagmem.specs.Blocks.{slot_with}
+use Rattle.tagmem.specs.{Blocks.slot_with, Granules.shown}
 use Rattle.tagmem.proofs.Blocks.{get_or-slots_of}
 use Rattle.tagmem.proofs.block.Block.get.Goals as goal
 

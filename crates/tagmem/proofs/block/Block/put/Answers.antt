@@ -1,8 +1,6 @@
 use Rattle.std.proofs.Common.{◌≡◌, [], None, Some, get_or, set, is_none, unwrap_or, sym, ap, ◌∙◌, arith}
-use Rattle.tagmem.specs.Granules.{blank, overwritten}
-use Rattle.tagmem.specs.Blocks.{slots_of, bytes_in_slot}
-use Rattle.tagmem.proofs.Blocks.{get_or-slots_of}
-use Rattle.tagmem.proofs.Slots.{bytes-slot_with, is_none-slot_with, slots_with-set}
+use Rattle.tagmem.specs.{Blocks.{slots_of, bytes_in_slot}, Granules.{blank, overwritten}}
+use Rattle.tagmem.proofs.{Blocks.get_or-slots_of, Slots.{bytes-slot_with, is_none-slot_with, slots_with-set}}
 use Rattle.tagmem.proofs.block.Block.put.Goals as goal
 
 pub returns-clause-first : goal.returns-clause-first

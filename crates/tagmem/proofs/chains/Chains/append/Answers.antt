@@ -1,7 +1,5 @@
-use Rattle.std.proofs.Common.{◌≡◌, ◌+◌, ◌<◌, ◌≤◌, ◌∷◌, [], get_or, length, ◌∙◌, arith}
-use Rattle.std.proofs.lemmas.Grind.{get_or_default_zero}
-use Rattle.std.proofs.lemmas.List.{length-append, length-set}
-use Rattle.std.proofs.lemmas.Nat.{and_le_r}
+use Rattle.std.proofs.Common.{◌≡◌, ◌+◌, ◌<◌, ◌≤◌, ◌∷◌, [], get_or, length, ◌∙◌, arith, length-append, length-set}
+use Rattle.std.proofs.lemmas.{Grind.get_or_default_zero, Nat.and_le_r}
 use Rattle.tagmem.proofs.Chained.{AreChains-push}
 use Rattle.tagmem.proofs.chains.Chains.append.Goals as goal
 

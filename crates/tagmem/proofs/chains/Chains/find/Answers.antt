@@ -1,5 +1,4 @@
-use Rattle.std.proofs.Common.{◌≡◌, suc, ◌-◌, ◌<◌, length, sym, subst, ◌∙◌, arith}
-use Rattle.std.proofs.lemmas.Grind.{get_or_default_zero}
+use Rattle.std.proofs.{Common.{◌≡◌, suc, ◌-◌, ◌<◌, length, sym, subst, ◌∙◌, arith}, lemmas.Grind.get_or_default_zero}
 use Rattle.tagmem.proofs.Chained.{IsReached, missing, reached-head, reached-next}
 use Rattle.tagmem.proofs.chains.Chains.find.Goals as goal
 

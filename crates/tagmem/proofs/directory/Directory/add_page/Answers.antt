@@ -1,6 +1,5 @@
 use Rattle.std.proofs.Common.{◌≡◌, ◌∷◌, [], ◌++◌, length, sym, ap, subst, ◌∙◌, arith}
-use Rattle.tagmem.specs.Directories.{found_in}
-use Rattle.tagmem.specs.Pages.{index_of, IsWith}
+use Rattle.tagmem.specs.{Directories.found_in, Pages.{index_of, IsWith}}
 use Rattle.tagmem.proofs.Pages.{IsAbove-push, IsWith-push, AreApart-push, EachHasBlock-push}
 use Rattle.tagmem.proofs.directory.Directory.add_page.Goals as goal
 

@@ -1,6 +1,5 @@
 use Rattle.std.proofs.Common.{◌*◌, ◌+◌, Some, sym, subst, arith}
-use Rattle.tagmem.specs.Directories.{found_in}
-use Rattle.tagmem.specs.Pages.{IsLeast}
+use Rattle.tagmem.specs.{Directories.found_in, Pages.IsLeast}
 use Rattle.tagmem.proofs.Pages.{index_at-there, first_small, none-page, least-page}
 use Rattle.tagmem.proofs.directory.Directory.first_in.Goals as goal
 

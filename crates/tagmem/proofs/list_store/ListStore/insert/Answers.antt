@@ -1,5 +1,4 @@
-use Rattle.std.proofs.Common.{◌≡◌, ◌^◌, ◌<◌, length, cond, is_ok, true, sym, ap, ◌∙◌, arith}
-use Rattle.std.specs.List.{insert}
+use Rattle.std.proofs.Common.{◌≡◌, ◌^◌, ◌<◌, length, cond, is_ok, true, sym, ap, ◌∙◌, arith, insert}
 use Rattle.std.proofs.lemmas.List.Edits.{length-insert}
 use Rattle.tagmem.specs.Listed.{contents_of, IsRising, AllStored}
 use Rattle.tagmem.proofs.Indexes.{contents_of-insert, IsRising-insert, AllStored-insert, tried, OnOk-from_is_ok}

@@ -1,12 +1,9 @@
-use Rattle.std.proofs.Common.{◌≡◌, ◌<◌, All, unwrap_or, sym, ap, subst, ◌∙◌, arith}
 use Rattle.std.specs.FinMap as map
+use Rattle.std.proofs.Common.{◌≡◌, ◌<◌, All, unwrap_or, sym, ap, subst, ◌∙◌, arith}
 use Rattle.std.proofs.lemmas.List.Elements.{All-from_get_or}
-use Rattle.tagmem.specs.declared.list_store.Listed.{Listed}
-use Rattle.tagmem.specs.Granules.{IsStored, blank, bytes_at, overwritten}
-use Rattle.tagmem.specs.Listed.{entry_of, contents_of}
-use Rattle.tagmem.specs.ListLaws.{len-contents_of}
-use Rattle.tagmem.proofs.Granules.{IsStored-overwritten, IsStored-blank}
-use Rattle.tagmem.proofs.Indexes.{read_at, get_in_gap, OnErr-from}
+use Rattle.tagmem.specs.{declared.list_store.Listed.Listed, Granules.{IsStored, blank, bytes_at, overwritten}}
+use Rattle.tagmem.specs.{ListLaws.len-contents_of, Listed.{entry_of, contents_of}}
+use Rattle.tagmem.proofs.{Granules.{IsStored-overwritten, IsStored-blank}, Indexes.{read_at, get_in_gap, OnErr-from}}
 use Rattle.tagmem.proofs.list_store.ListStore.put.Goals as goal
 
 -- the entry that is read is a granule's, and stays one

@@ -1,9 +1,5 @@
-use Rattle.std.proofs.Common.{arith}
-use Rattle.std.proofs.Math.ListN.{length-set}
-use Rattle.std.proofs.lemmas.List.Elements.{All-set}
-use Rattle.tagmem.specs.declared.list_store.Listed.{Listed}
-use Rattle.tagmem.specs.Granules.{IsStored}
-use Rattle.tagmem.specs.Listed.{entry_of}
+use Rattle.std.proofs.{Common.{arith, length-set}, lemmas.List.Elements.All-set}
+use Rattle.tagmem.specs.{declared.list_store.Listed.Listed, Granules.IsStored, Listed.entry_of}
 use Rattle.tagmem.proofs.Indexes.{contents_of-set, IsRising-set}
 use Rattle.tagmem.proofs.list_store.ListStore.replace.Goals as goal
 

@@ -1,5 +1,4 @@
-use Rattle.std.proofs.Common.{◌<◌, ◌≤◌, length, arith}
-use Rattle.std.proofs.lemmas.Bool.Decides.{nat_tests}
+use Rattle.std.proofs.{Common.{◌<◌, ◌≤◌, length, arith}, lemmas.Bool.Decides.nat_tests}
 use Rattle.tagmem.proofs.Indexes.{next_put-at, next_put-gap, next_put-end}
 use Rattle.tagmem.proofs.list_store.ListStoreTaggedStore.next_put.Goals as goal
 

@@ -1,7 +1,5 @@
 use Rattle.std.proofs.Common.{◌≡◌, arith}
-use Rattle.tagmem.specs.Granules.{bytes_at, overwritten}
-use Rattle.tagmem.specs.Listed.{contents_of}
-use Rattle.tagmem.specs.ListLaws.{AreStored-contents_of}
+use Rattle.tagmem.specs.{Granules.{bytes_at, overwritten}, ListLaws.AreStored-contents_of, Listed.contents_of}
 use Rattle.tagmem.proofs.Granules.{length-bytes_at, overwritten_whole}
 use Rattle.tagmem.proofs.list_store.ListStoreTaggedStore.put_cap.Goals as goal
 

@@ -1,23 +1,14 @@
-use Rattle.std.proofs.Common.{◌≡◌, ◌<◌, ◌∷◌, [], ◌++◌, ◌/◌, ◌%◌, length, get_or, set, All, sym, ap, subst, ◌∙◌, arith}
 use Rattle.std.specs.BTreeMap as tree
 use Rattle.std.specs.FinMap as map
-use Rattle.std.specs.Ordering.{nat_cmp}
-use Rattle.std.proofs.lemmas.List.{length-map, get_or_push}
-use Rattle.std.proofs.lemmas.List.Elements.{All-from_get_or}
-use Rattle.tagmem.specs.Directories.{found_in}
-use Rattle.tagmem.specs.declared.block.Block.{Block}
-use Rattle.tagmem.specs.declared.directory.Directory.{Directory}
-use Rattle.tagmem.specs.Blocks.{contents_of, IsAbsent}
-use Rattle.tagmem.specs.Granules.{with_write}
-use Rattle.tagmem.specs.Rooms.{HasRoomFor, blocks_of, blocks_with}
-use Rattle.tagmem.proofs.Directories.{IsDirectory-same}
-use Rattle.tagmem.proofs.Blocks.{get_absent}
-use Rattle.tagmem.proofs.Writes.{IsWritten}
-use Rattle.tagmem.proofs.Added.{IsAdded, numbers_of-add, length-add, IsDirectory-add, EachUsed-add, contents_of-add, AreStored-add, len-add}
-use Rattle.tagmem.proofs.Indexes.{OnErr-from}
-use Rattle.tagmem.proofs.Rooms.{is_room, none_in_page}
-use Rattle.tagmem.proofs.page_store.PageStore.add_block.Goals as goal
+use Rattle.std.proofs.Common.{◌≡◌, ◌<◌, ◌∷◌, [], ◌++◌, ◌/◌, ◌%◌, length, get_or, set, All, sym, ap, subst, ◌∙◌, arith}
+use Rattle.std.proofs.{Common.nat_cmp, lemmas.List.{length-map, get_or_push, Elements.All-from_get_or}}
+use Rattle.tagmem.specs.{declared.{block.Block.Block, directory.Directory.Directory}, Blocks.{contents_of, IsAbsent}}
+use Rattle.tagmem.specs.{Directories.found_in, Granules.with_write, Rooms.{HasRoomFor, blocks_of, blocks_with}}
+use Rattle.tagmem.proofs.Added.{IsAdded, numbers_of-add, length-add, IsDirectory-add, EachUsed-add, contents_of-add}
+use Rattle.tagmem.proofs.{Added.{AreStored-add, len-add}, Blocks.get_absent, Directories.IsDirectory-same}
+use Rattle.tagmem.proofs.{Indexes.OnErr-from, Rooms.{is_room, none_in_page}, Writes.IsWritten}
 use Rattle.tagmem.proofs.page_store.PageStore.add_block.Goals.{After-put}
+use Rattle.tagmem.proofs.page_store.PageStore.add_block.Goals as goal
 
 -- where a page is refused none of its granules was put
 pub returns-in_err-make_room-clause-in_page : goal.returns-in_err-make_room-clause-in_page

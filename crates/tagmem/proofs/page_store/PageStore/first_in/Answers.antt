@@ -1,11 +1,8 @@
 use Rattle.std.proofs.Common.{◌≡◌, ◌*◌, ◌+◌, ◌/◌, Some, subst, arith}
-use Rattle.tagmem.specs.Directories.{found_in}
-use Rattle.tagmem.specs.Granules.{IsNextPut}
-use Rattle.tagmem.specs.Blocks.{contents_of}
-use Rattle.tagmem.proofs.Blocks.{get_absent}
-use Rattle.tagmem.proofs.NextPut.{put_below, none_put-block, next_put-block}
-use Rattle.tagmem.proofs.page_store.PageStore.first_in.Goals as goal
+use Rattle.tagmem.specs.{Blocks.contents_of, Directories.found_in, Granules.IsNextPut}
+use Rattle.tagmem.proofs.{Blocks.get_absent, NextPut.{put_below, none_put-block, next_put-block}}
 use Rattle.tagmem.proofs.page_store.PageStore.first_in.Goals.{After-from}
+use Rattle.tagmem.proofs.page_store.PageStore.first_in.Goals as goal
 
 -- the first that was put is the block's
 found : (c : After-from) → IsNextPut (contents_of c.args.self.now.blocks.items) (16 * c.args.number + c.args.slot)

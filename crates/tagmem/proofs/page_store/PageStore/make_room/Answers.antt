@@ -1,7 +1,5 @@
-use Rattle.std.proofs.Common.{◌∙◌, ◌≤◌, arith}
+use Rattle.std.proofs.{Common.{◌∙◌, ◌≤◌, arith, vec_capacity}, lemmas.Result.on_ok_weaker}
 use Rattle.tagmem.specs.Rooms.{blocks_of, blocks_with}
-use Rattle.std.specs.Vec.{vec_capacity}
-use Rattle.std.proofs.lemmas.Result.{on_ok_weaker}
 use Rattle.tagmem.proofs.page_store.PageStore.make_room.Goals as goal
 
 -- what is kept is what it was

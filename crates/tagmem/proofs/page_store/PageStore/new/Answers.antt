@@ -1,8 +1,5 @@
-use Rattle.std.proofs.Common.{sym, ◌∙◌, arith}
 use Rattle.std.specs.FinMap as map
-use Rattle.std.specs.Ordering.{nat_cmp}
-use Rattle.std.proofs.lemmas.List.Elements.{All-nil}
-use Rattle.std.proofs.lemmas.Option.{none-some}
+use Rattle.std.proofs.{Common.{sym, ◌∙◌, arith, nat_cmp}, lemmas.{List.Elements.All-nil, Option.none-some}}
 use Rattle.tagmem.specs.Granules.{Entry}
 use Rattle.tagmem.proofs.Directories.{IsDirectory-empty}
 use Rattle.tagmem.proofs.page_store.PageStore.new.Goals as goal

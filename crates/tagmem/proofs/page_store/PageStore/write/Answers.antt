@@ -1,11 +1,9 @@
-use Rattle.std.proofs.Common.{◌≡◌, ◌<◌, ◌%◌, get_or, None, is_none, All, sym, ap, ◌∙◌, arith}
+use Rattle.std.proofs.Common.{◌≡◌, ◌<◌, ◌%◌, get_or, None, is_none, All, sym, ap, ◌∙◌, arith, length-set}
 use Rattle.std.proofs.lemmas.List.Elements.{All-from_get_or}
-use Rattle.std.proofs.Math.ListN.{length-set}
 use mir.Val.{bool_byte}
-use Rattle.tagmem.specs.Directories.{found_in}
-use Rattle.tagmem.specs.Blocks.{slots_of}
-use Rattle.tagmem.proofs.Writes.{IsRead, IsWritten, numbers_of-write, IsDirectory-write, EachUsed-write, contents_of-write, AreStored-write}
-use Rattle.tagmem.proofs.Writes.{len-write, len_fits}
+use Rattle.tagmem.specs.{Blocks.slots_of, Directories.found_in}
+use Rattle.tagmem.proofs.Writes.{IsRead, IsWritten, numbers_of-write, IsDirectory-write, EachUsed-write}
+use Rattle.tagmem.proofs.Writes.{contents_of-write, AreStored-write, len-write, len_fits}
 use Rattle.tagmem.proofs.page_store.PageStore.write.Goals as goal
 
 pub overflow_add-self : goal.overflow_add-self

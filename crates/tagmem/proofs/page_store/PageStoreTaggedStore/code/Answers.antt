@@ -1,6 +1,5 @@
 use Rattle.std.proofs.Common.{unwrap_or, sym, ap, ◌∙◌}
-use Rattle.tagmem.specs.Granules.{blank}
-use Rattle.tagmem.specs.Directories.{found_in}
+use Rattle.tagmem.specs.{Directories.found_in, Granules.blank}
 use Rattle.tagmem.proofs.Blocks.{get_read, get_absent}
 use Rattle.tagmem.proofs.page_store.PageStoreTaggedStore.code.Goals as goal
 

@@ -1,6 +1,5 @@
 use Rattle.std.proofs.Common.{sym, ap, ◌∙◌}
-use Rattle.tagmem.specs.Granules.{shown}
-use Rattle.tagmem.specs.Directories.{found_in}
+use Rattle.tagmem.specs.{Directories.found_in, Granules.shown}
 use Rattle.tagmem.proofs.Blocks.{get_read, get_absent}
 use Rattle.tagmem.proofs.page_store.PageStoreTaggedStore.get.Goals as goal
 

@@ -1,7 +1,5 @@
 use Rattle.std.proofs.Common.{◌*◌, ◌+◌, ◌/◌, arith}
-use Rattle.tagmem.specs.Directories.{found_in}
-use Rattle.tagmem.specs.Granules.{NonePut}
-use Rattle.tagmem.specs.Blocks.{contents_of}
+use Rattle.tagmem.specs.{Blocks.contents_of, Directories.found_in, Granules.NonePut}
 use Rattle.tagmem.proofs.NextPut.{next_put-last, next_put-later}
 use Rattle.tagmem.proofs.page_store.PageStoreTaggedStore.next_put.Goals as goal
 

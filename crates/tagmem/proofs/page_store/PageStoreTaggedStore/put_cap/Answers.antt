@@ -1,6 +1,5 @@
 use Rattle.std.proofs.Common.{◌≡◌, arith}
-use Rattle.tagmem.specs.Granules.{bytes_at, overwritten}
-use Rattle.tagmem.specs.Blocks.{contents_of}
+use Rattle.tagmem.specs.{Blocks.contents_of, Granules.{bytes_at, overwritten}}
 use Rattle.tagmem.proofs.Granules.{length-bytes_at, overwritten_whole}
 use Rattle.tagmem.proofs.page_store.PageStoreTaggedStore.put_cap.Goals as goal
 

@@ -1,7 +1,6 @@
 use Rattle.std.proofs.Common.{◌≡◌, ◌+◌, ◌-◌, ap, ◌∙◌, arith}
 use Rattle.tagmem_lent.specs.Lent.{run_end}
-use Rattle.tagmem_lent.proofs.Lent.{length-entries_of}
-use Rattle.tagmem_lent.proofs.Runs.{run_end-past, run_end-zero}
+use Rattle.tagmem_lent.proofs.{Lent.length-entries_of, Runs.{run_end-past, run_end-zero}}
 use Rattle.tagmem_lent.proofs.lent_store.LentStore.index_of.Goals as goal
 
 -- no run of a digit that the number can't have

@@ -1,7 +1,6 @@
 use Rattle.std.proofs.Common.{◌≢◌, ◌<◌, ◌≤◌, ℕ}
-use Rattle.tagmem_lent.specs.Lent.{run_end}
-use Rattle.tagmem_lent.specs.LentStores.{in_use}
 use Rattle.tagmem.specs.ListLaws.{granule_at}
+use Rattle.tagmem_lent.specs.{Lent.run_end, LentStores.in_use}
 use Rattle.tagmem_lent.proofs.lent_store.LentStore.index_of.Given as goal
 
 abbrev pub invariant-loop-level : goal.invariant-loop-level

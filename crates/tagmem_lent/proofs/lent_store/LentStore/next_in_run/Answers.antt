@@ -1,6 +1,5 @@
 use Rattle.std.proofs.Common.{◌<◌, ◌+◌, Some, refl, subst, arith}
-use Rattle.tagmem_lent.specs.Lent.{IsNextIn, run_end}
-use Rattle.tagmem_lent.specs.LentStores.{in_use}
+use Rattle.tagmem_lent.specs.{Lent.{IsNextIn, run_end}, LentStores.in_use}
 use Rattle.tagmem_lent.proofs.Lent.{granule_in, next_in_gap}
 use Rattle.tagmem_lent.proofs.lent_store.LentStore.next_in_run.Goals as goal
 

@@ -1,12 +1,10 @@
-use Rattle.std.proofs.Common.{◌≡◌, ◌<◌, All, OnOk, refl, sym, subst, ◌∙◌, arith}
-use Rattle.std.proofs.lemmas.List.Elements.{All-from_get_or}
-use Rattle.tagmem.specs.Granules.{Granules}
-use Rattle.tagmem_lent.specs.LentStores.{in_use}
-use Rattle.tagmem.specs.Listed.{contents_of}
-use Rattle.tagmem.specs.ListLaws.{AreStored-contents_of, len-apart}
+use Rattle.std.proofs.{Common.{◌≡◌, ◌<◌, All, OnOk, refl, sym, subst, ◌∙◌, arith}, lemmas.List.Elements.All-from_get_or}
 use Rattle.std.proofs.lemmas.Option.{none-some}
+use Rattle.tagmem.specs.{Granules.Granules, ListLaws.{AreStored-contents_of, len-apart}, Listed.contents_of}
 use Rattle.tagmem.proofs.Indexes.{OnErr-from}
-use Rattle.tagmem_lent.proofs.Lent.{IsStored-written, get_slot, get_unused, insert-written, length-entries_of, no_slot, over_blank, over_slot}
+use Rattle.tagmem_lent.specs.LentStores.{in_use}
+use Rattle.tagmem_lent.proofs.Lent.{IsStored-written, get_slot, get_unused, insert-written, length-entries_of, no_slot}
+use Rattle.tagmem_lent.proofs.Lent.{over_blank, over_slot}
 use Rattle.tagmem_lent.proofs.lent_store.LentStore.put.Goals as goal
 
 pub replace-requires-clause-stored : goal.replace-requires-clause-stored

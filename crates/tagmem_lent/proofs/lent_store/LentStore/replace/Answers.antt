@@ -1,11 +1,7 @@
-use Rattle.std.proofs.Common.{◌<◌, ap, sym, subst, ◌∙◌, arith}
-use Rattle.std.proofs.Math.ListN.{length-set}
-use Rattle.tagmem_lent.specs.declared.lent_store.Slot.{Slot}
-use Rattle.tagmem_lent.specs.Lent.{AreRuns, listed_of}
+use Rattle.std.proofs.Common.{◌<◌, ap, sym, subst, ◌∙◌, arith, length-set}
 use Rattle.tagmem.specs.Listed.{contents_of}
-use Rattle.tagmem_lent.specs.LentStores.{in_use}
-use Rattle.tagmem_lent.proofs.Lent.{length-entries_of}
-use Rattle.tagmem_lent.proofs.Relent.{AreRuns-set, contents_of-set_apart, entries_of-set}
+use Rattle.tagmem_lent.specs.{declared.lent_store.Slot.Slot, Lent.{AreRuns, listed_of}, LentStores.in_use}
+use Rattle.tagmem_lent.proofs.{Lent.length-entries_of, Relent.{AreRuns-set, contents_of-set_apart, entries_of-set}}
 use Rattle.tagmem_lent.proofs.lent_store.LentStore.replace.Goals as goal
 
 -- the granules, and how many, stay

@@ -1,6 +1,5 @@
 use Rattle.std.proofs.Common.{refl}
-use Rattle.tagmem_lent.proofs.Joining.{run_slots_rise}
-use Rattle.tagmem_lent.proofs.Searching.{IsEntryAt-found, IsGapIn-found}
+use Rattle.tagmem_lent.proofs.{Joining.run_slots_rise, Searching.{IsEntryAt-found, IsGapIn-found}}
 use Rattle.tagmem_lent.proofs.lent_store.LentStore.search.Goals as goal
 
 pub last_at_most-requires-clause-rises : goal.last_at_most-requires-clause-rises

@@ -1,6 +1,5 @@
 use Rattle.std.proofs.Common.{◌≡◌, ◌+◌, ◌-◌, length, ap, subst, sym, ◌∙◌, arith}
-use Rattle.tagmem_lent.specs.Lent.{IsNextIn, run_end}
-use Rattle.tagmem_lent.specs.LentStores.{in_use}
+use Rattle.tagmem_lent.specs.{Lent.{IsNextIn, run_end}, LentStores.in_use}
 use Rattle.tagmem_lent.proofs.Lent.{IsNextIn-joined, IsNextPut-whole, length-entries_of}
 use Rattle.tagmem_lent.proofs.Runs.{run_end-past, run_end-zero}
 use Rattle.tagmem_lent.proofs.lent_store.LentStoreTaggedStore.next_put.Goals as goal

@@ -1,6 +1,5 @@
 use Rattle.std.proofs.Common.{◌≤◌}
-use Rattle.tagmem_lent.specs.Lent.{IsNextIn, run_end}
-use Rattle.tagmem_lent.specs.LentStores.{in_use}
+use Rattle.tagmem_lent.specs.{Lent.{IsNextIn, run_end}, LentStores.in_use}
 use Rattle.tagmem_lent.proofs.lent_store.LentStoreTaggedStore.next_put.Given as goal
 
 abbrev pub invariant-loop-level : goal.invariant-loop-level

@@ -1,8 +1,6 @@
 use Rattle.std.proofs.Common.{subst, sym}
-use Rattle.cap_log.specs.Lines.{IsPlace, place_spelling}
-use Rattle.cap_log.specs.Parts.{BeginsWithNone}
-use Rattle.cap_log.proofs.Cuts.{stripped}
-use Rattle.cap_log.proofs.PartLemmas.{no_address, no_granule, no_place}
+use Rattle.cap_log.specs.{Lines.{IsPlace, place_spelling}, Parts.BeginsWithNone}
+use Rattle.cap_log.proofs.{Cuts.stripped, PartLemmas.{no_address, no_granule, no_place}}
 use Rattle.cap_log.proofs.parts.registers.PlacePart.take.Goals as goal
 
 pub returns-in_err-address-clause-none : goal.returns-in_err-address-clause-none

@@ -1,8 +1,6 @@
 use Rattle.std.proofs.Common.{sym, ◌∙◌, arith}
-use Rattle.cap_log.specs.Lines.{register_spelling}
-use Rattle.cap_log.specs.Spaceless.{Lacks-register, register-from, register-within}
-use Rattle.cap_log.proofs.Cuts.{same_cut}
-use Rattle.cap_log.proofs.PartLemmas.{register-operand}
+use Rattle.cap_log.specs.{Lines.register_spelling, Spaceless.{Lacks-register, register-from, register-within}}
+use Rattle.cap_log.proofs.{Cuts.same_cut, PartLemmas.register-operand}
 use Rattle.cap_log.proofs.parts.registers.RegisterFromPart.take.Goals as goal
 
 pub returns-in_err-number-clause-none : goal.returns-in_err-number-clause-none

@@ -1,15 +1,13 @@
-use Rattle.std.proofs.Common.{◌≡◌, ℕ, List, [], ◌∷◌, take, drop, get_or, ap, ◌∙◌, arith, rules, sym}
-use Rattle.std.proofs.lemmas.List.{take_rest, take_at}
+use Rattle.std.proofs.Common.{◌≡◌, ℕ, List, [], ◌∷◌, take, drop, get_or, ap, ◌∙◌, arith, rules, sym, take_at}
+use Rattle.std.proofs.lemmas.List.{take_rest}
 use Rattle.cap_word.specs.Digits.{hex_digits}
 use Rattle.cap_word.proofs.DigitLemmas.{length-hex_digits}
-use Rattle.cap_log.specs.Lines.{IsWord, tag_spelling}
-use Rattle.cap_log.specs.Parts.{result_spelling}
-use Rattle.cap_log.proofs.PartLemmas.{drop_result, length-result}
-use Rattle.cap_log.proofs.TakeLemmas.{none_ended_so, none_short, result_in_front}
-use Rattle.cap_log.proofs.parts.results.CapPart.take.Goals as goal
-use Rattle.cap_log.proofs.parts.results.CapPart.take.Goals.{in-61, in-61-2}
+use Rattle.cap_log.specs.{Lines.{IsWord, tag_spelling}, Parts.result_spelling}
+use Rattle.cap_log.proofs.{PartLemmas.{drop_result, length-result}, TakeLemmas.{none_ended_so, none_short}}
+use Rattle.cap_log.proofs.{TakeLemmas.result_in_front, parts.results.CapPart.take.Goals.{in-61, in-61-2}}
 use Rattle.cap_log.proofs.parts.results.CapPart.take.Goals.{then-bytes-le-RESULT_LENGTH-via-then-bytes-le-RESULT_LENGTH}
 use Rattle.cap_log.proofs.parts.results.CapPart.take.Goals.{then-bytes-le-RESULT_LENGTH-via-else-bytes-le-RESULT_LENGTH+then-bytes-end}
+use Rattle.cap_log.proofs.parts.results.CapPart.take.Goals as goal
 
 pub returns-then-bytes-le-RESULT_LENGTH-clause-none : goal.returns-then-bytes-le-RESULT_LENGTH-clause-none
 returns-then-bytes-le-RESULT_LENGTH-clause-none c = elim c.then-bytes-le-RESULT_LENGTH.branch [

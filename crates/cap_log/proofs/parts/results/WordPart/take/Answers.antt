@@ -1,12 +1,12 @@
-use Rattle.std.proofs.Common.{◌≡◌, ℕ, List, ◌∷◌, ◌++◌, take, drop, sym, ap, ◌∙◌, arith, rules}
-use Rattle.std.proofs.lemmas.List.{length-take-le, take_rest}
+use Rattle.std.proofs.Common.{◌≡◌, ℕ, List, ◌∷◌, ◌++◌, take, drop, sym, ap, ◌∙◌, arith, rules, length-take-le}
+use Rattle.std.proofs.lemmas.List.{take_rest}
 use Rattle.cap_word.specs.Digits.{hex_digits}
 use Rattle.cap_word.proofs.DigitLemmas.{length-hex_digits}
 use Rattle.cap_log.specs.Lines.{IsWord}
 use Rattle.cap_log.proofs.TakeLemmas.{cut_behind, none_ended_so, none_in_front, none_short}
-use Rattle.cap_log.proofs.parts.results.WordPart.take.Goals as goal
 use Rattle.cap_log.proofs.parts.results.WordPart.take.Goals.{then-bytes-le-WORD_DIGITS-via-then-bytes-le-WORD_DIGITS}
 use Rattle.cap_log.proofs.parts.results.WordPart.take.Goals.{then-bytes-le-WORD_DIGITS-via-else-bytes-le-WORD_DIGITS+then-bytes-end}
+use Rattle.cap_log.proofs.parts.results.WordPart.take.Goals as goal
 
 pub returns-then-bytes-le-WORD_DIGITS-clause-none : goal.returns-then-bytes-le-WORD_DIGITS-clause-none
 returns-then-bytes-le-WORD_DIGITS-clause-none c = elim c.then-bytes-le-WORD_DIGITS.branch [

@@ -1,9 +1,8 @@
-use Rattle.std.proofs.Common.{List, ℕ, ap, codes, drop, eqb, sym, take, ◌∙◌}
 use Rattle.std.specs.Cmp.Lexicographic.{pointwise}
-use Rattle.std.proofs.lemmas.Bool.{false≢true}
+use Rattle.std.proofs.{Common.{List, ℕ, ap, codes, drop, eqb, sym, take, ◌∙◌}, lemmas.Bool.{false≢true}}
 use Rattle.cap_log.proofs.SizedLemmas.{accessed_cut, load_mark, no_sized, same_size, store_mark}
-use Rattle.cap_log.proofs.parts.sized.AccessedPart.take.Goals as goal
 use Rattle.cap_log.proofs.parts.sized.AccessedPart.take.Goals.{then-this-ne0+in_ok-digits, else-this-ne0}
+use Rattle.cap_log.proofs.parts.sized.AccessedPart.take.Goals as goal
 
 pub returns-in_err-count-clause-none : goal.returns-in_err-count-clause-none
 returns-in_err-count-clause-none g c = rw c.from_residual.ensures (λ a rest begins. c.in_err-count.ensures.none a.0.size _

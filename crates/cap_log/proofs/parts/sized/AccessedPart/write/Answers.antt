@@ -1,9 +1,8 @@
 use Rattle.std.proofs.Common.{◌*◌}
 use Rattle.cap_word.specs.Digits.{hex_digits}
-use Rattle.cap_log.proofs.SizedLemmas.{load_mark, sized_room, store_mark}
-use Rattle.cap_log.proofs.WriteLemmas.{◌⨾◌}
-use Rattle.cap_log.proofs.parts.sized.AccessedPart.write.Goals as goal
+use Rattle.cap_log.proofs.{SizedLemmas.{load_mark, sized_room, store_mark}, WriteLemmas.{◌⨾◌}}
 use Rattle.cap_log.proofs.parts.sized.AccessedPart.write.Goals.{then-this-ne0, else-this-ne0}
+use Rattle.cap_log.proofs.parts.sized.AccessedPart.write.Goals as goal
 
 pub put_value-requires : goal.put_value-requires
 put_value-requires g c =

@@ -1,5 +1,4 @@
-use Rattle.std.proofs.Common.{refl, rules}
-use Rattle.std.proofs.lemmas.Slice.{overwrites}
+use Rattle.std.proofs.{Common.{refl, rules}, lemmas.Slice.overwrites}
 use Rattle.cap_log.proofs.sinks.slices.SliceSinkSink.push.Goals as goal
 
 pub returns-clause-bytes : goal.returns-clause-bytes

@@ -1,5 +1,4 @@
-use Rattle.std.proofs.Common.{◌≡◌, ◌≢◌, ◌∷◌, [], sym, ◌∙◌, rules}
-use Rattle.std.proofs.lemmas.List.{nil_from_length}
+use Rattle.std.proofs.{Common.{◌≡◌, ◌≢◌, ◌∷◌, [], sym, ◌∙◌, rules}, lemmas.List.nil_from_length}
 use Rattle.cap_log.proofs.SliceLemmas.{piece_lengths-none, piece_lengths-some, piece_lengths-next}
 use Rattle.cap_log.proofs.sources.slices.SliceSource.next_piece.Goals as goal
 
