@@ -18,7 +18,6 @@ ghost use Rattle.cap_judge.specs.declared.verdict.TakeFault.TheVariants.{NoLine,
 ghost use Rattle.cap_log.specs.Lines.{IsStepInRange, spelling, IsInRange, IsPlace};
 ghost use Rattle.cap_log.specs.Parts.{Begins, BeginsWithNone};
 ghost use Rattle.cap_log.specs.declared.lines.Line.{Line};
-ghost use Rattle.cap_machine.specs.Helds.{account_of};
 ghost use Rattle.cap_ops.specs.declared.refusal.Refusal.TheVariants.{BadLine, Misplaced};
 ghost use Rattle.cap_judge.specs.FaultLines.{bytes_of};
 ghost use Rattle.std.specs.FinMap as map;

@@ -3,11 +3,10 @@
 //! Each call answers as `capcheck_judge_line` does on the line that spells the step. Where a number is out of its
 //! range no line spells it: it answers 5, and nothing has changed.
 
-ghost use Rattle.std.specs.Prelude.{◌≡◌, ◌⊎◌, ◌<◌, ℕ, List, [], ◌∷◌, ◌++◌, ◌≢◌, None};
+ghost use Rattle.std.specs.Prelude.{◌≡◌, ◌⊎◌, ◌<◌, [], ◌∷◌, ◌++◌, ◌≢◌, None};
 ghost use Rattle.cap_log.specs.Lines.{spelling};
 ghost use Rattle.cap_log.specs.declared.lines.Line.TheVariants as line;
 ghost use Rattle.cap_halves.specs.PassedSteps as steps;
-ghost use Rattle.cap_judge.specs.Logs.{MayLackMemory};
 ghost use Rattle.cap_judge.specs.Readings.{Follows, Lacks, known_of, stage_of, verdict_so_far};
 ghost use Rattle.capcheck_judge.specs.Handles.{HandsOver, held_in};
 
