@@ -1,11 +1,9 @@
 -- What a handle's judge takes that is handed lines.
-use Rattle.std.proofs.Common.{inl, ◌≡◌, ◌≢◌, ◌<◌, ◌∙◌, ℕ, List, [], ◌++◌, ap, append_assoc, arith, drop, length, refl, subst, sym, take}
+use Rattle.std.proofs.Common.{inl, ◌≡◌, ◌≢◌, ◌<◌, ◌∙◌, ℕ, List, ◌++◌, ap, append_assoc, arith, drop, refl, subst, sym, take}
 use Rattle.std.proofs.lemmas.List.{take-append-drop}
-use Rattle.std.proofs.lemmas.Bool.{false≢true}
-use Rattle.std.specs.Prelude.{None, is_some}
 use Rattle.std.specs.declared.option.Option.TheVariants.{Some}
 use Rattle.cap_judge.specs.Judgings.{IsBehind}
-use Rattle.cap_judge.specs.Logs.{Beginning, MayLackMemory, Refuses}
+use Rattle.cap_judge.specs.Logs.{MayLackMemory, Refuses}
 use Rattle.cap_judge.specs.Readings.{BeginsWhole, Follows, HasRead, Goes, IsRest, StopsAt, stage_of}
 use Rattle.cap_judge.specs.Turns.{Due, Stage, unread}
 use Rattle.cap_judge.specs.declared.judges.Stop.{Stop}
@@ -85,9 +83,11 @@ took_lines given held after old new answer is now takes =
       faulty = λ two bytes holds. refused_after (stage_of old) (stage_of new) front rest bytes (at Fault two) (held_taken held bytes holds old is);
       no_memory = λ three bytes holds.
           let stop = at NoMemory three in
-          let same = append_assoc bytes front rest ∙ ap (λ (g : List ℕ). bytes ++ g) (take-append-drop answer.bytes given) in
-          (stop.1, subst (λ (b : List ℕ). MayLackMemory b stop.1) same
-          (lacks_memory (bytes ++ front) rest stop.1 (stage_of new) (read bytes front holds (inl stop.0)) stop.2));
+          let same = append_assoc bytes front rest ∙ ap (λ (g : List ℕ). bytes ++ g) (take-append-drop answer.bytes given) in (
+            stop.1,
+            subst (λ (b : List ℕ). MayLackMemory b stop.1) same
+                (lacks_memory (bytes ++ front) rest stop.1 (stage_of new) (read bytes front holds (inl stop.0)) stop.2),
+          );
       no_judge = (λ four. absurd (omega (arith, state, few.0, four)), λ none. absurd (there held old is none));
       nothing = λ none. absurd (there held old is none);
       held = (λ none. absurd (there after new now none), λ none. absurd (there held old is none));
