@@ -186,6 +186,11 @@ reached bytes new (inl goes) =
 reached bytes new (inr (front, rest, are, middle, goes, faults)) =
     subst (IsReached new) (sym are) (fault_reached front rest middle new goes faults).0
 
+-- which line is faulty
+pub fault_in : (due : Due) → IsAtFault due → (line : ℕ) × (refusal : Refusal) × (text : List ℕ) × (due ≡ Refused line refusal text)
+fault_in (Refused line refusal text) is = (line, refusal, text, refl)
+fault_in due is = absurd is
+
 -- where no line is faulty, all that was read begins a log
 all_read : (due : Due) (beginning : Beginning) (rest : List ℕ) → (IsAtFault due → ⊥) → IsRest due beginning rest → rest ≡ []
 all_read (Refused line refusal text) beginning rest clear is = absurd (clear tt)
@@ -262,9 +267,9 @@ nothing_left bytes beginning rest verdict whole here answers =
     (append-nil _ ∙ sym whole.bytes_are ∙ here.bytes_are)).1
 
 -- so no line of it is faulty
-pub not_refused : (bytes : List ℕ) (stage : Stage) (line : ℕ) (refusal : Refusal) (text : List ℕ) → IsReached stage bytes
-    → stage.due ≡ Refused line refusal text → BeginsWhole bytes → ⊥
-not_refused bytes stage line refusal text is due whole =
+pub never_faulty : (bytes : List ℕ) (stage : Stage) → IsReached stage bytes → BeginsWhole bytes → IsAtFault stage.due → ⊥
+never_faulty bytes stage is whole at_fault =
+    let (line, refusal, text, due) = fault_in stage.due at_fault in
     let found = subst (λ (d : Due). IsRest d is.beginning is.rest) due is.rest_is in
     let refused = subst (λ (r : List ℕ). Refuses is.beginning r refusal) (append-nil is.rest) (found.2 []) in
     let none = nothing_left bytes is.beginning is.rest (No line refusal) whole is.behind (found.0, refused) in
@@ -272,7 +277,7 @@ not_refused bytes stage line refusal text is due whole =
 
 pub none_so_far : (bytes : List ℕ) (account_is : Account) (due : Due) → IsReached (record { account = account_is; due = due }) bytes
     → BeginsWhole bytes → verdict_so_far due ≡ None
-none_so_far bytes account (Refused line refusal text) is whole = absurd (not_refused bytes _ line refusal text is refl whole)
+none_so_far bytes account (Refused line refusal text) is whole = absurd (never_faulty bytes _ is whole tt)
 none_so_far bytes account due is whole = refl
 
 -- Want of memory
@@ -381,10 +386,6 @@ pub fault_ends : (bytes : List ℕ) (stage : Stage) (line : ℕ) (refusal : Refu
     → EndsWith bytes ended held (No line refusal) text
 fault_ends bytes stage line refusal text held is due same ended =
     (fault_stands bytes stage line refusal text is due ended, tt, fault_stops bytes stage line refusal text held is due same ended)
-
-pub fault_in : (due : Due) → IsAtFault due → (line : ℕ) × (refusal : Refusal) × (text : List ℕ) × (due ≡ Refused line refusal text)
-fault_in (Refused line refusal text) is = (line, refusal, text, refl)
-fault_in due is = absurd is
 
 pub refused_told : (bytes rest : List ℕ) (stage : Stage) (held : Held) (verdict : Verdict) (text : List ℕ) → IsReached stage bytes
     → IsAtFault stage.due → account_of held ≡ stage.account → EndsIn stage rest verdict text → (ended : Bool)
