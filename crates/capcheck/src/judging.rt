@@ -13,7 +13,7 @@ use std::alloc::Global;
 
 /// Judges what a source gives, pushes the line of the verdict and, where they are asked for, those of origins, and answers
 /// the status that goes with the verdict.
-pub fn judge_source<S: Source, K: Sink>(
+pub fn judge_input<S: Source, K: Sink>(
     alloc: Global,
     origins: bool,
     source: &mut S,

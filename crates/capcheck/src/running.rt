@@ -5,7 +5,7 @@ ghost use Rattle.cap_program.specs.{Doings.{IsFollowed, TellsFaultLine, known_by
 ghost use Rattle.capcheck.specs.Doings.{order_meaning};
 
 use crate::checking::check_source;
-use crate::judging::judge_source;
+use crate::judging::judge_input;
 use crate::showing::{show_explanation, show_rounding};
 use crate::words::Order;
 use cap_log::{Sink, Source};
@@ -37,7 +37,7 @@ impl Command for Order<'_> {
             Order::Explain { memory, tag, hex } => show_explanation(memory, tag, hex, out),
             Order::Round { base, length } => show_rounding(base, length, out),
             Order::Judge { origins, file: _ } => match input {
-                Some(source) => judge_source(alloc, origins, source, out),
+                Some(source) => judge_input(alloc, origins, source, out),
                 None => Err(Fault::Read),
             },
             Order::Vectors { file: _ } => match input {

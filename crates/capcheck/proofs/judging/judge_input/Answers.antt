@@ -4,7 +4,7 @@ use Rattle.cap_program.specs.{declared.faults.Fault.{Fault, TheVariants.{Read, W
 use Rattle.cap_program.specs.Judging.{ShowsVerdict, StopsJudging}
 use Rattle.cap_program.proofs.Judgements.{judged_read, judged_written}
 use Rattle.capcheck.proofs.RunLemmas.{judged_done}
-use Rattle.capcheck.proofs.judging.judge_source.Goals as goal
+use Rattle.capcheck.proofs.judging.judge_input.Goals as goal
 
 pub returns : goal.returns
 returns g c =
