@@ -91,8 +91,8 @@ EndsFor stage line ends.NoMemory = NamesFirst stage line
 -- why a line with this text is not taken
 abbrev pub EndsText : Stage → List ℕ → StepEnd → Type 0
 EndsText stage text (ends.Refused refusal) =
-    (line : Option lines_module.Line) × Spelled IsInRange spelling text line × (refusal_at stage.account stage.due line ≡ Some refusal)
-EndsText stage text ends.NoMemory = (line : lines_module.Line) × Spells text line × NamesFirst stage line
+    (line : Option Line) × Spelled IsInRange spelling text line × (refusal_at stage.account stage.due line ≡ Some refusal)
+EndsText stage text ends.NoMemory = (line : Line) × Spells text line × NamesFirst stage line
 
 -- why what the bytes begin with is not taken
 abbrev pub EndsAt : Stage → List ℕ → StepEnd → Type 0
