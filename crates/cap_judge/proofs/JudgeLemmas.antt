@@ -1,5 +1,5 @@
 -- Where the judge is, and what it may answer there.
-use Rattle.std.proofs.Common.{◌≡◌, ℕ, zero, suc, ◌+◌, true, List, [], ◌∷◌, ◌++◌, length, map, refl, sym, subst, append_assoc, arith, Result}
+use Rattle.std.proofs.Common.{◌≡◌, ℕ, zero, suc, ◌+◌, true, List, [], ◌∷◌, ◌++◌, length, map, refl, sym, ap, subst, ◌∙◌, append_assoc, arith, Result}
 use Rattle.std.proofs.Common.{Ok, Err, IsOk, IfErr}
 use Rattle.std.specs.List.{AllByRecursion}
 use Rattle.std.proofs.lemmas.Grind.{flat_map-append}
@@ -62,6 +62,14 @@ fault_behind bytes rest beginning refusal here refused = record {
   accepted = here.accepted;
   number_is = refl;
   refused = refused;
+}
+
+-- more bytes behind the rest
+pub behind_more : (bytes rest more : List ℕ) (beginning : Beginning) → IsBehind bytes beginning rest
+    → IsBehind (bytes ++ more) beginning (rest ++ more)
+behind_more bytes rest more beginning here = record {
+  bytes_are = ap (λ (l : List ℕ). l ++ more) here.bytes_are ∙ simp (append_assoc);
+  accepted = here.accepted;
 }
 
 -- a log whose steps have a run is a yes
