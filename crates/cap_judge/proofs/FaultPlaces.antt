@@ -1,15 +1,15 @@
 -- Where a judge stopped is at the first fault: its machine holds what the lines before that lead to, and it holds the text of that line.
 use Rattle.std.specs.List.{AllByRecursion}
 use Rattle.std.proofs.Common.{◌≡◌, ℕ, ◌+◌, inl, inr, Bool, true, List, [], ◌∷◌, ◌++◌, length, refl, sym, ap, subst, ◌∙◌}
-use Rattle.std.proofs.{Common.{append-nil, append_assoc, arith}, lemmas.List.take-append-le}
+use Rattle.std.proofs.{Common.{append-nil, arith}, lemmas.List.take-append-le}
 use Rattle.cap_ops.specs.declared.refusal.Refusal.{Refusal}
 use Rattle.cap_log.specs.{declared.lines.Line.Line, Front.IsFrontText, Lines.IsInRange}
 use Rattle.cap_log.proofs.FrontLemmas.{IsLine-more, IsTooLong-more}
 use Rattle.cap_machine.specs.{Accounts.Account, Helds.{Held, account_of}}
 use Rattle.cap_judge.specs.{declared.verdict.Verdict.TheVariants.No, Judgings.{IsBehind, IsVerdictOf, account_before}}
 use Rattle.cap_judge.specs.{Judgings.{IsLastFront, StopsBefore}, Logs.{Beginning, lines_of, text_of, IsFirstFault}}
-use Rattle.cap_judge.proofs.{InTurn.same_beginning, LogLemmas.accepted_in_range, OneVerdict.{text_cons, same_front}}
-use Rattle.cap_judge.proofs.SourceLemmas.{whole_verdict}
+use Rattle.cap_judge.proofs.{InTurn.same_beginning, JudgeLemmas.behind_more, LogLemmas.accepted_in_range}
+use Rattle.cap_judge.proofs.{OneVerdict.{text_cons, same_front}, SourceLemmas.whole_verdict}
 
 -- as many lines at the front of the same bytes are the same
 same_lines : (lines lines' : List Line) (rest rest' : List ℕ) → AllByRecursion IsInRange lines → AllByRecursion IsInRange lines'
@@ -40,13 +40,6 @@ front_more rest ended text more end (inr (inl cut)) =
     (inr (inl (cut.0, cut.1.0)))
 front_more rest ended text more end (inr (inr line)) =
     inr (inr (line.0, line.1 ++ more, IsLine-more rest line.0 line.1 more line.2, line.3))
-
-behind_more : (bytes rest more : List ℕ) (beginning : Beginning) → IsBehind bytes beginning rest
-    → IsBehind (bytes ++ more) beginning (rest ++ more)
-behind_more bytes rest more beginning here = record {
-  bytes_are = ap (λ (l : List ℕ). l ++ more) here.bytes_are ∙ simp (append_assoc);
-  accepted = here.accepted;
-}
 
 -- the bytes are at fault at this line, before which the account is this one, and this is the line's text
 pub record IsAtFault (bytes : List ℕ) (line : ℕ) (refusal : Refusal) (account : Account) (text : List ℕ) : Type 0 where

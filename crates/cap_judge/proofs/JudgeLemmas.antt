@@ -1,6 +1,6 @@
 -- Where the judge is, and what it may answer there.
 use Rattle.std.specs.List.{AllByRecursion}
-use Rattle.std.proofs.Common.{◌≡◌, ℕ, zero, suc, ◌+◌, true, List, [], ◌∷◌, ◌++◌, length, map, refl, sym, subst}
+use Rattle.std.proofs.Common.{◌≡◌, ℕ, zero, suc, ◌+◌, true, List, [], ◌∷◌, ◌++◌, length, map, refl, sym, ap, subst, ◌∙◌}
 use Rattle.std.proofs.Common.{append_assoc, arith, Result, Ok, Err, IsOk, IfErr, eqb-true, leb-true, Option, Some, None}
 use Rattle.std.proofs.{Common.IsTrue, lemmas.{Bool.{false≢true, and_parts}, Grind.flat_map-append, Option.none-some}}
 use Rattle.cap_bounds.specs.Bounds.{IsSound, is_sound}
@@ -46,6 +46,14 @@ fault_behind bytes rest beginning refusal here refused = record {
   accepted = here.accepted;
   number_is = refl;
   refused = refused;
+}
+
+-- more bytes behind the rest
+pub behind_more : (bytes rest more : List ℕ) (beginning : Beginning) → IsBehind bytes beginning rest
+    → IsBehind (bytes ++ more) beginning (rest ++ more)
+behind_more bytes rest more beginning here = record {
+  bytes_are = ap (λ (l : List ℕ). l ++ more) here.bytes_are ∙ simp (append_assoc);
+  accepted = here.accepted;
 }
 
 -- a log whose steps have a run is a yes

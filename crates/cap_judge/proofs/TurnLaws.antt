@@ -11,16 +11,16 @@ use Rattle.cap_machine.specs.{declared.rules.Rules.{Rules, TheVariants.One}, Acc
 use Rattle.cap_machine.specs.States.{DeclaredRoot}
 use Rattle.cap_machine.proofs.AccountLemmas.{account_after-grows}
 use Rattle.cap_judge.specs.declared.verdict.Verdict.{Verdict, TheVariants.{Yes, No}}
-use Rattle.cap_judge.specs.Judgings.{IsBehind, IsLastFront, IsVerdictOf, StopsBefore, account_before}
+use Rattle.cap_judge.specs.Judgings.{IsBehind, IsLastFront, IsVerdictOf, account_before}
 use Rattle.cap_judge.specs.Logs.{Beginning, Empty, NoMode, Body as BodyOf, Whole, body_lines, header_lines, lines_of}
 use Rattle.cap_judge.specs.Logs.{text_of, account_after, IsAccepted, IsFirstFault, MayLackMemory, Refuses, RefusesLine}
 use Rattle.cap_judge.specs.{Logs.{RefusesWhole, RunsBy, has_form, line_checks}, Readings.{BeginsWhole, EndsIn}}
 use Rattle.cap_judge.specs.Readings.{EndsWith, Faults, Follows, Goes, IsAtFault, IsReached, IsRest, Lacks, RefusesNext}
 use Rattle.cap_judge.specs.Readings.{Stands, due_at_end, lines_read, long_refusal, refused_at, verdict_so_far}
 use Rattle.cap_judge.specs.Turns.{Body, Due, Ended, Refused, Stage, refusal_at, unread}
-use Rattle.cap_judge.proofs.{FollowLemmas.{faults_at, follows_more}, FormLemmas.no_form}
-use Rattle.cap_judge.proofs.InTurn.{accepted_read, all_longer, due_after, stage_after, with_lines}
-use Rattle.cap_judge.proofs.{JudgeLemmas.{IsUnended, front_refused}, LogLemmas.accepted_in_range}
+use Rattle.cap_judge.proofs.{FollowLemmas.{faults_at, follows_more}, FormLemmas.no_form, InTurn.accepted_read}
+use Rattle.cap_judge.proofs.{InTurn.{all_longer, due_after, stage_after, with_lines}, JudgeLemmas.IsUnended}
+use Rattle.cap_judge.proofs.{JudgeLemmas.{behind_more, fault_behind, front_refused}, LogLemmas.accepted_in_range}
 use Rattle.cap_judge.proofs.{OneVerdict.{Answers, answer_stops, one_reading}, TurnLemmas.allowed_form}
 
 -- What a stage says of a beginning
@@ -204,36 +204,32 @@ begins bytes stage is clear = record {
   accepted = is.behind.accepted;
 }
 
--- where one is, its no stands, whatever bytes follow
-pub first_fault : (bytes : List ℕ) (stage : Stage) (line : ℕ) (refusal : Refusal) (text : List ℕ) → IsReached stage bytes
-    → stage.due ≡ Refused line refusal text → (more : List ℕ) → IsFirstFault (bytes ++ more) line refusal
-first_fault bytes stage line refusal text is due more =
-    let found = subst (λ (d : Due). IsRest d is.beginning is.rest) due is.rest_is in
-    record {
-      beginning = is.beginning;
-      rest = is.rest ++ more;
-      bytes_are = ap (λ (b : List ℕ). b ++ more) is.behind.bytes_are ∙ append_assoc (text_of (lines_of is.beginning)) is.rest more;
-      accepted = is.behind.accepted;
-      number_is = found.0;
-      refused = found.2 more;
-    }
-
-pub fault_stands : (bytes : List ℕ) (stage : Stage) (line : ℕ) (refusal : Refusal) (text : List ℕ) → IsReached stage bytes
-    → stage.due ≡ Refused line refusal text → (ended : Bool) → IsVerdictOf bytes ended (No line refusal)
-fault_stands bytes stage line refusal text is due true =
-    subst (λ (b : List ℕ). IsFirstFault b line refusal) (append-nil bytes) (first_fault bytes stage line refusal text is due [])
-fault_stands bytes stage line refusal text is due false = first_fault bytes stage line refusal text is due
-
 -- the text of a front, whether the source has ended or not
 ended_front : (rest : List ℕ) (ended : Bool) (text : List ℕ) → IsLastFront rest false text → IsLastFront rest ended text
 ended_front rest ended text (inl long) = inl long
 ended_front rest ended text (inr (inl cut)) = absurd (false≢true cut.1.1)
 ended_front rest ended text (inr (inr line)) = inr (inr line)
 
-pub fault_stops : (bytes : List ℕ) (stage : Stage) (line : ℕ) (refusal : Refusal) (text : List ℕ) (held : Held) → IsReached stage bytes
-    → stage.due ≡ Refused line refusal text → account_of held ≡ stage.account → (ended : Bool) → StopsBefore bytes ended held line text
-fault_stops bytes stage line refusal text held is due same ended =
-    let found = subst (λ (d : Due). IsRest d is.beginning is.rest) due is.rest_is in
+-- where one is, its no stands, whatever bytes follow
+module _ (bytes : List ℕ) (stage : Stage) (line : ℕ) (refusal : Refusal) (text : List ℕ) (is : IsReached stage bytes)
+    (due : stage.due ≡ Refused line refusal text) where
+  found : IsRest (Refused line refusal text) is.beginning is.rest
+  found = subst (λ (d : Due). IsRest d is.beginning is.rest) due is.rest_is
+
+  first_fault : (more : List ℕ) → IsFirstFault (bytes ++ more) line refusal
+  first_fault more =
+      subst (λ (n : ℕ). IsFirstFault (bytes ++ more) n refusal) (sym found.0)
+      (fault_behind (bytes ++ more) (is.rest ++ more) is.beginning refusal (behind_more bytes is.rest more is.beginning is.behind) (found.2 more))
+
+  pub fault_stands : (ended : Bool) → IsVerdictOf bytes ended (No line refusal)
+  fault_stands true = subst (λ (b : List ℕ). IsFirstFault b line refusal) (append-nil bytes) (first_fault [])
+  fault_stands false = first_fault
+
+  -- and the machine stands before it
+  pub fault_ends : (held : Held) → account_of held ≡ stage.account → (ended : Bool) → EndsWith bytes ended held (No line refusal) text
+  fault_ends held same ended = (
+    fault_stands ended,
+    tt,
     record {
       beginning = is.beginning;
       rest = is.rest;
@@ -241,11 +237,12 @@ fault_stops bytes stage line refusal text held is due same ended =
       line_is = found.0;
       account = same ∙ is.account;
       front = ended_front is.rest ended text found.1;
-    }
+    },
+  )
 
 pub stands_so_far : (bytes : List ℕ) (account_is : Account) (due : Due) → IsReached (record { account = account_is; due = due }) bytes
     → Stands bytes (verdict_so_far due)
-stands_so_far bytes account (Refused line refusal text) is = first_fault bytes _ line refusal text is refl
+stands_so_far bytes account (Refused line refusal text) is = fault_stands bytes _ line refusal text is refl false
 stands_so_far bytes account due is = begins bytes _ is (λ f. f)
 
 -- nothing begins with a line
@@ -352,14 +349,8 @@ cut_told beginning rest bytes held refusal (No line why) text here cut refused a
     let same : refusal ≡ why = cc in
     let whole : rest ≡ text = cc in
     let line_is : line ≡ length (lines_of beginning) + 1 = sym number ∙ ap (λ (n : ℕ). n + 1) (counted beginning) in (
-      record {
-        beginning = beginning;
-        rest = rest;
-        bytes_are = here.bytes_are;
-        accepted = here.accepted;
-        number_is = line_is;
-        refused = subst (Refuses beginning rest) same refused;
-      },
+      subst (λ (n : ℕ). IsFirstFault bytes n why) (sym line_is)
+          (fault_behind bytes rest beginning why here (subst (Refuses beginning rest) same refused)),
       tt,
       record {
         beginning = beginning;
@@ -381,12 +372,6 @@ end_told beginning rest bytes held verdict text here cut account ends =
     cut_told beginning rest bytes held Truncated verdict text here cut (inr (inl (cut, refl))) account refl ends
 
 -- behind a faulty line
-pub fault_ends : (bytes : List ℕ) (stage : Stage) (line : ℕ) (refusal : Refusal) (text : List ℕ) (held : Held) → IsReached stage bytes
-    → stage.due ≡ Refused line refusal text → account_of held ≡ stage.account → (ended : Bool)
-    → EndsWith bytes ended held (No line refusal) text
-fault_ends bytes stage line refusal text held is due same ended =
-    (fault_stands bytes stage line refusal text is due ended, tt, fault_stops bytes stage line refusal text held is due same ended)
-
 pub refused_told : (bytes rest : List ℕ) (stage : Stage) (held : Held) (verdict : Verdict) (text : List ℕ) → IsReached stage bytes
     → IsAtFault stage.due → account_of held ≡ stage.account → EndsIn stage rest verdict text → (ended : Bool)
     → EndsWith bytes ended held verdict text
@@ -396,7 +381,7 @@ refused_told bytes rest stage held (Yes steps roots) text is at_fault same ends 
 refused_told bytes rest stage held (No line refusal) text is at_fault same ends ended =
     let due = (fault_in stage.due at_fault).3 in
     let at = due ∙ subst (λ (d : Due). due_at_end stage.account d rest ≡ Refused line refusal text) due ends in
-    fault_ends bytes stage line refusal text held is at same ended
+    fault_ends bytes stage line refusal text is at held same ended
 
 pub told : (bytes rest : List ℕ) (stage : Stage) (held : Held) (verdict : Verdict) (text : List ℕ) → Follows unread bytes stage
     → account_of held ≡ stage.account → IsCut rest → EndsIn stage rest verdict text → EndsWith (bytes ++ rest) true held verdict text

@@ -75,7 +75,7 @@ pub so_far : (bytes : List ℕ) (stage : Stage) (held : Held) (fault : Fault) (r
 so_far bytes stage held fault report follows is told =
     let reached = reached bytes (at stage held) follows in
     no_text bytes false held fault.line fault.refusal (bytes_of fault.text) report
-    (fault_ends bytes (at stage held) fault.line fault.refusal (bytes_of fault.text) held reached is refl false) told
+    (fault_ends bytes (at stage held) fault.line fault.refusal (bytes_of fault.text) reached is held refl false) told
 
 -- the text of a verdict on bytes that end after lines that a judge was handed
 pub yes_at_end : (bytes rest : List ℕ) (stage : Stage) (held : Held) (end : Result Verdict Fault) (verdict : Verdict) → end ≡ Ok verdict

@@ -1,5 +1,5 @@
 -- What is told of bytes that are no line of a machine's log (this profile's own, as are all below).
-use Rattle.std.specs.Prelude.{◌≡◌, ◌⊎◌, ◌+◌, ℕ, List, [], ◌∷◌, ◌++◌, length, codes}
+use Rattle.std.specs.Prelude.{◌≡◌, ◌⊎◌, ℕ, List, [], ◌∷◌, ◌++◌, length, codes}
 use Rattle.cap_log.specs.{declared.kinds.Head.Head, Heads.{IsHead, head_spelling}, Parts.{Begins, BeginsWithNone}}
 use Rattle.cap_log.specs.declared.kinds.Head.TheVariants as heads
 use Rattle.cap_texts.specs.{declared.fields.Field.Field, Fields.{AllStand, IsFirstWrong}, TextLines.text_line}
