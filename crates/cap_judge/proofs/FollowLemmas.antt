@@ -1,4 +1,4 @@
--- What was followed, and more behind it.
+-- What was followed, and more after it.
 use Rattle.std.proofs.Common.{◌≡◌, ℕ, inl, inr, List, [], ◌∷◌, ◌++◌, sym, ap, subst, ◌∙◌, append_assoc, false, None}
 use Rattle.std.proofs.{Common.Some, lemmas.{Bool.{false≢true}, List.take-append-le, Option.none-some}}
 use Rattle.cap_ops.specs.declared.refusal.Refusal.{Refusal, TheVariants.Misplaced}

@@ -107,7 +107,7 @@ body_read rules_are roots steps runs =
     Reads-append unread (body first) (body last) (header_lines rules_are) _ (header_read rules_are)
     (Reads-append (body first) (body rooted) (body last) _ (map Step steps) roots_are steps_are)
 
--- the stage behind a beginning
+-- the stage after a beginning
 abbrev pub due_after : Beginning → Due
 due_after Empty = First
 due_after NoMode = Second
@@ -140,7 +140,7 @@ with_line (Body rules_are roots steps) (Step step) = Body rules_are roots (steps
 with_line (Body rules_are roots steps) (End count) = Whole rules_are roots steps
 with_line beginning line = beginning
 
--- it is accepted, has this line more, and stands at the stage behind it
+-- it is accepted, has this line more, and stands at the stage after it
 pub record Longer (beginning : Beginning) (line : Line) : Type 0 where
   pub accepted : IsAccepted (with_line beginning line)
   pub lines_are : lines_of (with_line beginning line) ≡ lines_of beginning ++ line ∷ []

@@ -95,7 +95,7 @@ count_read bytes new goes =
       subst (λ (ls : List Line). length ls ≤ 4294971394) b.2 (few_lines b.0 b.1),
     )
 
--- A line that is refused at a stage is refused behind its beginning, whatever follows it
+-- A line that is refused at a stage is refused after its beginning, whatever follows it
 
 body_refuses : (account : Account) (text : List ℕ) (line : Line) (form : Bool) (refusal : Refusal) → Spells text line
     → has_form account.rules line ≡ form → first_of ((not form, BadLine) ∷ line_checks account line) ≡ Some refusal
@@ -152,7 +152,7 @@ refuses beginning rest refusal refused after = unended_refuses beginning rest re
 
 -- A stage that is reached
 
--- what begins with the first faulty line stands behind the lines before it
+-- what begins with the first faulty line stands after the lines before it
 pub fault_reached : (front rest : List ℕ) (middle new : Stage) → Goes unread front middle → Faults middle rest new
     → (is : IsReached new (front ++ rest)) × (is.rest ≡ rest)
 fault_reached front rest middle new goes (inl (at_fault, same)) =
@@ -371,7 +371,7 @@ end_told (Whole rules_are roots steps) (b ∷ rest) bytes held verdict text here
 end_told beginning rest bytes held verdict text here cut account ends =
     cut_told beginning rest bytes held Truncated verdict text here cut (inr (inl (cut, refl))) account refl ends
 
--- behind a faulty line
+-- after a faulty line
 pub refused_told : (bytes rest : List ℕ) (stage : Stage) (held : Held) (verdict : Verdict) (text : List ℕ) → IsReached stage bytes
     → IsAtFault stage.due → account_of held ≡ stage.account → EndsIn stage rest verdict text → (ended : Bool)
     → EndsWith bytes ended held verdict text

@@ -80,7 +80,7 @@ goes_line_some first old new bytes front rest behind line is so_far begins takes
     let on = goes_line first old new bytes front rest behind line is so_far begins takes in
     (on.0, on.1, (feed_some front (spelling line), on.2))
 
--- Stops behind what was taken
+-- Stops after what was taken
 
 stops_later : (first old new : Stage) (front middle rest : List ℕ) (stop : Stop) → Goes first front old
     → StopsAt old middle rest stop new → StopsAt first (front ++ middle) rest stop new
@@ -231,7 +231,7 @@ pub whole_uncut : (line : List ℕ) → IsWhole line → IsCut line → ⊥
 whole_uncut line (inl whole) cut = IsLine-not_cut line whole.0 [] whole.1 cut
 whole_uncut line (inr long) cut = IsTooLong-not_cut line long cut
 
--- nothing comes behind the line
+-- nothing comes after the line
 whole_rest : (line text rest : List ℕ) → IsWhole line → IsLine line text rest → rest ≡ []
 whole_rest line text rest (inl whole) is = (IsLine-same line text rest whole.0 [] is whole.1).1
 whole_rest line text rest (inr long) is = absurd (IsLine-not_too_long line text rest is long)

@@ -47,23 +47,23 @@ rules_of Strict = TwoStrict
 rules_of Clear = TwoClear
 
 -- what a line leads to
-abbrev pub account_behind : Account → Line → Account
-account_behind account (Mode mode) = record account { rules = rules_of mode }
-account_behind account (Root place word) = with_root account place word
-account_behind account (Step step) = with_step account step
-account_behind account line = account
+abbrev pub account_with : Account → Line → Account
+account_with account (Mode mode) = record account { rules = rules_of mode }
+account_with account (Root place word) = with_root account place word
+account_with account (Step step) = with_step account step
+account_with account line = account
 
 -- what the line after it has to be
-abbrev pub due_behind : Line → Due
-due_behind (Version version) = if version == 1 then Body else Second
-due_behind (End count) = Ended
-due_behind line = Body
+abbrev pub next_due : Line → Due
+next_due (Version version) = if version == 1 then Body else Second
+next_due (End count) = Ended
+next_due line = Body
 
--- the stage behind a line that is allowed
+-- the stage after a line that is allowed
 abbrev pub behind : Stage → Line → Stage
-behind stage line = record { account = account_behind stage.account line; due = due_behind line }
+behind stage line = record { account = account_with stage.account line; due = next_due line }
 
--- lines, each allowed at the stage behind those before it, lead from a stage to a stage
+-- lines, each allowed at the stage after those before it, lead from a stage to a stage
 abbrev pub Reads : Stage → List Line → Stage → Type 0
 Reads from [] to = from ≡ to
 Reads from (line ∷ lines) to = Allows from line × Reads (behind from line) lines to

@@ -44,7 +44,7 @@ returns-in-Err-clause-judged g c =
     let gave = g.S.Source.gave in
     let here = c.pieces.invariant.here in
     let given = here.0 ++ items c.pieces.pulled in
-    pull_judged gave g.S.Source.ended c.args.source.now c.fill.new.source c.pieces.judge.machine (bytes_of c.new.result) given (stage_of c.pieces.judge) here.0
+    pull_judged gave g.S.Source.ended c.args.source.now c.fill.new.source c.pieces.judge.machine _ given (stage_of c.pieces.judge) here.0
     (items c.pieces.pulled) here.2 c.pieces.invariant.cut refl
     (subst (gave c.args.source.now c.fill.new.source) (append-nil given)
     (g.met.S.Source.joined c.args.source.now c.pieces.source c.fill.new.source given [] here.1 c.in-Err.ensures.err.1))
@@ -110,7 +110,7 @@ returns-in-NoMemory-clause-judged g c =
     let goes = goes_on unread (stage_of c.pieces.judge) new here.0 taken.0 here.2 stop.0 in
     let gives = given_more g.S.Source.gave here.0 (items c.pieces.pulled) (taken.0 ++ rest) g.met.S.Source.joined here.1 ok.3
     (sym taken.1 ∙ ok.2) in
-    lacking_judged g.S.Source.gave g.S.Source.ended c.args.source.now c.fill.new.source c.take_pulled.new.judge.machine (bytes_of c.new-in-NoMemory.result)
+    lacking_judged g.S.Source.gave g.S.Source.ended c.args.source.now c.fill.new.source c.take_pulled.new.judge.machine _
     ((here.0 ++ taken.0) ++ rest) stop.1
     (lacks_memory (here.0 ++ taken.0) rest stop.1 new (inl goes) stop.2)
     (subst (g.S.Source.gave c.args.source.now c.fill.new.source) (sym (append_assoc here.0 taken.0 rest)) gives)
