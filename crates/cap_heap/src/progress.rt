@@ -169,7 +169,7 @@ impl Progress {
                     Event::Malloc { address, length } => {
                         self.report.add(address, length, self.heap.live() as u64);
                     }
-                    Event::Free { address: _ } => {}
+                    Event::Free { .. } => {}
                 }
                 Ok(())
             }

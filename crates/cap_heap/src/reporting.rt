@@ -58,14 +58,14 @@ fn push_text<K: Sink>(
     ensures counted { CountsFault (K.faults sink.old) (K.faults sink.new) result }
 {
     match *verdict {
-        HeapVerdict::Yes { events: _, live: _ } => {
+        HeapVerdict::Yes { .. } => {
             if report {
                 push_yes(verdict, &progress.report, sink)
             } else {
                 push_line(verdict, sink)
             }
         }
-        HeapVerdict::No { line: _, refusal } => {
+        HeapVerdict::No { refusal, .. } => {
             if why {
                 push_no(verdict, progress, line, refusal, sink)
             } else {

@@ -27,11 +27,8 @@ pub fn heap_status(verdict: &HeapVerdict) -> u8
     ensures value { result ≡ heap_status verdict.now }
 {
     match verdict {
-        HeapVerdict::Yes { events: _, live: _ } => 0,
-        HeapVerdict::No {
-            line: _,
-            refusal: _,
-        } => 1,
+        HeapVerdict::Yes { .. } => 0,
+        HeapVerdict::No { .. } => 1,
     }
 }
 

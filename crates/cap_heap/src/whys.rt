@@ -129,7 +129,7 @@ fn put_event_lines(
         Some(Event::Malloc { address, length }) => {
             put_malloc_lines(heap, address, length, refusal, buffer, at)
         }
-        Some(Event::Free { address: _ }) => at,
+        Some(Event::Free { .. }) => at,
         None => at,
     }
 }

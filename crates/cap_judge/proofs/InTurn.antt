@@ -184,7 +184,8 @@ longer (Body rules_are roots (step ∷ steps)) (Root place word) runs range allo
     let account = account_after rules_are roots (step ∷ steps) in
     absurd (no_root rules_are roots step steps place word (sym (by_checks account (Root place word) refl) ∙ allowed))
 longer (Body rules_are roots steps) (Step step) runs range allowed = record {
-  accepted = step_runs rules_are roots steps step runs range (sym (by_checks (account_after rules_are roots steps) (Step step) refl) ∙ allowed);
+  accepted = step_runs rules_are roots steps step runs range
+      (sym (by_checks (account_after rules_are roots steps) (Step step) refl) ∙ allowed);
   lines_are = steps_push rules_are roots steps step;
   stage_is = ap body (after_steps-push (after_roots (no_account rules_are) roots) steps step);
 }

@@ -1,19 +1,27 @@
 -- Where the judge is, and what it may answer there.
 use Rattle.std.specs.List.{AllByRecursion}
 use Rattle.std.proofs.Common.{◌≡◌, ℕ, zero, suc, ◌+◌, true, List, [], ◌∷◌, ◌++◌, length, map, refl, sym, ap, subst, ◌∙◌}
-use Rattle.std.proofs.Common.{append_assoc, arith, Result, Ok, Err, IsOk, IfErr, eqb-true, leb-true, Option, Some, None}
-use Rattle.std.proofs.{Common.IsTrue, lemmas.{Bool.{false≢true, and_parts}, Grind.flat_map-append, Option.none-some}}
+use Rattle.std.proofs.Common.{append_assoc, false, arith, Result, Ok, Err, IsOk, IfErr, eqb-true, leb-true, Option}
+use Rattle.std.proofs.{Common.{Some, None, IsTrue}, lemmas.{Bool.{false≢true, and_parts}, Grind.flat_map-append}}
+use Rattle.std.proofs.lemmas.Option.{none-some}
 use Rattle.cap_bounds.specs.Bounds.{IsSound, is_sound}
 use Rattle.cap_ops.specs.declared.refusal.Refusal.{Refusal, TheVariants.{LineTooLong, Truncated}}
 use Rattle.cap_log.specs.declared.{judge_faults.JudgeFault.JudgeFault, kinds.Step.Step, lines.Line.Line}
-use Rattle.cap_log.specs.{Front.FrontIs, Lines.{spelling, IsInRange, IsStepInRange}}
+use Rattle.cap_log.specs.{Front.FrontIs, Lines.{Spells, spelling, IsInRange, IsStepInRange}}
+use Rattle.cap_log.proofs.SpellingLemmas.{one_spelling}
 use Rattle.cap_machine.specs.{declared.rules.Rules.{Rules, TheVariants.One}, Accounts.{Account, is_new}}
 use Rattle.cap_machine.specs.{Escapes.ClearsExactly, Runs.{AreSound, IsRun}, States.{State, DeclaredRoot, start}}
 use Rattle.cap_machine.proofs.{AccessLemmas.lie_inside, AuthorityLemmas.one_root, EscapeLemmas.clears_along}
 use Rattle.cap_judge.specs.{declared.verdict.Verdict.Verdict, Judgings.IsBehind, Logs.{Beginning, Whole, header_lines}}
-use Rattle.cap_judge.specs.Logs.{body_lines, lines_of, text_of, account_after, RunsBy, RefusesWhole, Refuses}
-use Rattle.cap_judge.specs.Logs.{IsFirstFault, MayLackMemory, IsLogOf, NamesNoGranules, named_by_line}
+use Rattle.cap_judge.specs.Logs.{body_lines, lines_of, text_of, account_after, RunsBy, RefusesWhole, SpellsBy, has_form}
+use Rattle.cap_judge.specs.Logs.{Refuses, IsFirstFault, MayLackMemory, IsLogOf, NamesNoGranules, named_by_line}
 use Rattle.cap_judge.specs.Verdicts.{IsYes, IsGuarded, NoVerdictIn}
+
+-- a line that is read and has no form is no line by the rules
+pub no_form : (rules_are : Rules) (bytes : List ℕ) (line : Line) → Spells bytes line → has_form rules_are line ≡ false → (other : Line)
+    → SpellsBy rules_are bytes other → ⊥
+no_form rules_are bytes line spells formless other by =
+    false≢true (sym formless ∙ ap (has_form rules_are) (one_spelling bytes line other spells by.0) ∙ by.1)
 
 -- one line more
 pub text_push : (lines : List Line) (line : Line) (rest : List ℕ)

@@ -3,7 +3,6 @@ pub mod JudgeLemmas
 mod VersionLemmas
 pub mod EscapeLaws
 pub mod SourceLemmas
-pub mod FormLemmas
 mod OneVerdict
 pub mod FaultPlaces
 mod OriginLemmas
@@ -12,6 +11,4 @@ mod SomeVerdict
 mod InTurn
 pub mod ExpectedLemmas
 pub mod TurnLemmas
-pub mod FollowLemmas
 pub mod TurnLaws
-mod KeepingLemmas

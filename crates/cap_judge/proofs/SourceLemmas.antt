@@ -6,9 +6,9 @@ use Rattle.cap_log.specs.declared.{judge_faults.JudgeFault.{JudgeFault, TheVaria
 use Rattle.cap_log.specs.Front.{IsCut}
 use Rattle.cap_machine.specs.Helds.{Held}
 use Rattle.cap_judge.specs.declared.{faults.Fault.Fault, verdict.Verdict.{Verdict, TheVariants.{Yes, No}}}
-use Rattle.cap_judge.specs.{Judgings.{IsVerdictOf, BeginsLog, IsAnswerOf, JudgedBy}, Logs.{MayLackMemory, text_of}}
-use Rattle.cap_judge.specs.{Readings.{EndsAs, EndsIn, EndsWith, Goes, IsAnswered, lines_read}, Turns.{Stage, unread}}
-use Rattle.cap_judge.specs.Verdicts.{IsVerdict, NoVerdictIn}
+use Rattle.cap_judge.specs.{Judgings.{IsVerdictOf, BeginsLog, IsAnswerOf, JudgedBy, JudgedAll}, Logs.MayLackMemory}
+use Rattle.cap_judge.specs.{Logs.text_of, Readings.{EndsAs, EndsIn, EndsWith, Goes, IsAnswered, lines_read}}
+use Rattle.cap_judge.specs.{Turns.{Stage, unread}, Verdicts.{IsVerdict, NoVerdictIn}}
 use Rattle.cap_judge.proofs.{JudgeLemmas.{guarded, no_lack}, TurnLaws.{begun, count_read}, TurnLemmas.goes_on}
 
 -- a verdict, want of memory, and a fault of the source
@@ -150,3 +150,20 @@ closer old new taken front kept more rest was on split cut left some =
     let after = count_read (taken ++ front) new (goes_on unread old new taken front was on) in
     by_lines on.lines front rest kept more _ _ on.bytes_are split cut.0 left.0 some
     (after.0 ∙ length-append was.lines on.lines ∙ ap (λ (n : ℕ). n + length on.lines) (sym before.0)) (omega (arith, after.0, after.1))
+
+-- Bytes that are judged at once
+
+-- the answer of a verdict
+pub all_judged : (bytes text : List ℕ) (held : Held) (answer : Result Verdict JudgeFault) (verdict : Verdict) → answer ≡ Ok verdict
+    → EndsWith bytes true held verdict text → JudgedAll bytes answer held text
+all_judged bytes text held answer verdict is ends =
+    rw is (record { answer = answer_ok bytes true verdict ends.0; leads = ends.1; stops = ends.2; pulls_nothing = λ e. cc })
+
+-- want of memory
+pub all_lack : (bytes more text : List ℕ) (held : Held) → MayLackMemory bytes more → JudgedAll bytes (Err NoMemory) held text
+all_lack bytes more text held lack = record {
+  answer = answer_memory bytes more true lack;
+  leads = tt;
+  stops = tt;
+  pulls_nothing = λ e. cc;
+}

@@ -18,10 +18,10 @@ use Rattle.cap_judge.specs.{Logs.{RefusesWhole, RunsBy, has_form, line_checks}, 
 use Rattle.cap_judge.specs.Readings.{EndsWith, Faults, Follows, Goes, IsAtFault, IsReached, IsRest, Lacks, RefusesNext}
 use Rattle.cap_judge.specs.Readings.{Stands, due_at_end, lines_read, long_refusal, refused_at, verdict_so_far}
 use Rattle.cap_judge.specs.Turns.{Body, Due, Ended, Refused, Stage, refusal_at, unread}
-use Rattle.cap_judge.proofs.{FollowLemmas.{faults_at, follows_more}, FormLemmas.no_form, InTurn.accepted_read}
-use Rattle.cap_judge.proofs.{InTurn.{all_longer, due_after, stage_after, with_lines}, JudgeLemmas.IsUnended}
-use Rattle.cap_judge.proofs.{JudgeLemmas.{behind_more, fault_behind, front_refused}, LogLemmas.accepted_in_range}
-use Rattle.cap_judge.proofs.{OneVerdict.{Answers, answer_stops, one_reading}, TurnLemmas.allowed_form}
+use Rattle.cap_judge.proofs.InTurn.{accepted_read, all_longer, due_after, stage_after, with_lines}
+use Rattle.cap_judge.proofs.JudgeLemmas.{no_form, IsUnended, behind_more, fault_behind, front_refused}
+use Rattle.cap_judge.proofs.{LogLemmas.accepted_in_range, OneVerdict.{Answers, answer_stops, one_reading}}
+use Rattle.cap_judge.proofs.TurnLemmas.{faults_at, follows_more, allowed_form}
 
 -- What a stage says of a beginning
 
@@ -147,7 +147,8 @@ ended_refuses account rest refusal (inr long) = long.1
 refuses : (beginning : Beginning) (rest : List ℕ) (refusal : Refusal) → RefusesNext (stage_after beginning) rest refusal
     → (after : List ℕ) → Refuses beginning (rest ++ after) refusal
 refuses (Whole rules_are roots steps) rest refusal refused after =
-    (some_next (stage_after (Whole rules_are roots steps)) rest after refusal refused, ended_refuses (account_after rules_are roots steps) rest refusal refused)
+    let stage = stage_after (Whole rules_are roots steps) in
+    (some_next stage rest after refusal refused, ended_refuses stage.account rest refusal refused)
 refuses beginning rest refusal refused after = unended_refuses beginning rest refusal tt refused after
 
 -- A stage that is reached
@@ -219,7 +220,8 @@ module _ (bytes : List ℕ) (stage : Stage) (line : ℕ) (refusal : Refusal) (te
   first_fault : (more : List ℕ) → IsFirstFault (bytes ++ more) line refusal
   first_fault more =
       subst (λ (n : ℕ). IsFirstFault (bytes ++ more) n refusal) (sym found.0)
-      (fault_behind (bytes ++ more) (is.rest ++ more) is.beginning refusal (behind_more bytes is.rest more is.beginning is.behind) (found.2 more))
+      (fault_behind (bytes ++ more) (is.rest ++ more) is.beginning refusal
+      (behind_more bytes is.rest more is.beginning is.behind) (found.2 more))
 
   pub fault_stands : (ended : Bool) → IsVerdictOf bytes ended (No line refusal)
   fault_stands true = subst (λ (b : List ℕ). IsFirstFault b line refusal) (append-nil bytes) (first_fault [])
@@ -318,8 +320,9 @@ lacks_memory bytes rest more stage follows lacks =
 -- Where the bytes end
 
 -- a log
-whole_told : (rules_are : Rules) (roots : List DeclaredRoot) (steps : List Step) (bytes : List ℕ) (held : Held) (verdict : Verdict) (text : List ℕ)
-    → RunsBy rules_are roots steps → bytes ≡ text_of (lines_of (Whole rules_are roots steps)) → account_of held ≡ account_after rules_are roots steps
+whole_told : (rules_are : Rules) (roots : List DeclaredRoot) (steps : List Step) (bytes : List ℕ) (held : Held)
+    (verdict : Verdict) (text : List ℕ) → RunsBy rules_are roots steps → bytes ≡ text_of (lines_of (Whole rules_are roots steps))
+    → account_of held ≡ account_after rules_are roots steps
     → EndsIn (stage_after (Whole rules_are roots steps)) [] verdict text → EndsWith bytes true held verdict text
 whole_told rules_are roots steps bytes held (Yes step_count root_count) text runs are account ends =
     let counts = account_after-grows rules_are roots steps in (
@@ -363,7 +366,8 @@ cut_told beginning rest bytes held refusal (No line why) text here cut refused a
     )
 
 end_told : (beginning : Beginning) (rest bytes : List ℕ) (held : Held) (verdict : Verdict) (text : List ℕ) → IsBehind bytes beginning rest
-    → IsCut rest → account_of held ≡ account_before beginning → EndsIn (stage_after beginning) rest verdict text → EndsWith bytes true held verdict text
+    → IsCut rest → account_of held ≡ account_before beginning → EndsIn (stage_after beginning) rest verdict text
+    → EndsWith bytes true held verdict text
 end_told (Whole rules_are roots steps) [] bytes held verdict text here cut account ends =
     whole_told rules_are roots steps bytes held verdict text here.accepted (here.bytes_are ∙ append-nil _) account ends
 end_told (Whole rules_are roots steps) (b ∷ rest) bytes held verdict text here cut account ends =

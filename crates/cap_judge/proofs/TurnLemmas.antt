@@ -2,8 +2,8 @@
 use Rattle.std.proofs.Common.{◌≡◌, ◌≢◌, ℕ, ◌+◌, ◌-◌, inl, inr, true, false, List, [], ◌∷◌, ◌++◌, length, take, drop}
 use Rattle.std.proofs.Common.{refl, sym, ap, subst, ◌∙◌, arith, append-nil, append_assoc, not, None, Some, Option}
 use Rattle.std.proofs.Common.{Result, Ok, Err, Bool, ◌⊎◌, ◌↔◌, ◌<◌, IfSome, IfErr, OnOk, MatchResult, nat_lt}
-use Rattle.std.proofs.{Common.{length-append, length-drop, take_at}, lemmas.{Bool.not-false, Grind.flat_map-append}}
-use Rattle.std.proofs.lemmas.List.Prefix.{end_rest}
+use Rattle.std.proofs.{Common.{length-append, length-drop, take_at}, lemmas.Bool.{not-false, false≢true}}
+use Rattle.std.proofs.lemmas.{Grind.flat_map-append, List.{take-append-le, Prefix.end_rest}, Option.none-some}
 use Rattle.cap_word.specs.declared.word.Word.{Word}
 use Rattle.cap_ops.specs.declared.refusal.Refusal.{Refusal, TheVariants.{BadLine, Misplaced, Truncated}}
 use Rattle.cap_ops.specs.Checks.{first_of}
@@ -11,7 +11,8 @@ use Rattle.cap_ops.proofs.TestLemmas.{none_hold}
 use Rattle.cap_log.specs.{declared.{kinds.Step.Step, lines.{Line.Line, Place.Place}}, FaultLines.bytes_of, Front.IsCut}
 use Rattle.cap_log.specs.{Front.{IsFrontText, IsLine, IsTooLong}, Lines.{IsInRange, Spells, spelling}, Parts.Begins}
 use Rattle.cap_log.proofs.{ElementLemmas.AllByRecursion-append, FrontLemmas.{IsLine-not_cut, IsLine-not_too_long}}
-use Rattle.cap_log.proofs.{FrontLemmas.{IsLine-same, IsTooLong-not_cut}, SpellingLemmas.IsLine-spelling}
+use Rattle.cap_log.proofs.FrontLemmas.{IsLine-same, IsTooLong-not_cut, IsLine-more, IsTooLong-more}
+use Rattle.cap_log.proofs.SpellingLemmas.{IsLine-spelling}
 use Rattle.cap_machine.specs.declared.{ends.StepEnd.StepEnd, rules.Rules.{Rules, TheVariants.One}}
 use Rattle.cap_machine.specs.Accounts.{Account, root_checks}
 use Rattle.cap_machine.specs.Helds.{Held, account_of, AnswersStep, EndsRoot, EndsStep, Makes, TakesRoot}
@@ -21,8 +22,8 @@ use Rattle.cap_judge.specs.declared.verdict.{TakeFault.TheVariants.{NoLine, NoMe
 use Rattle.cap_judge.specs.{declared.verdict.Verdict.TheVariants.{Yes, No}, Judgings.IsLastFront}
 use Rattle.cap_judge.specs.{Logs.{has_form, line_checks, text_of}, Readings.{EndsAs, EndsText, EndsAt, EndsFor, EndsIn}}
 use Rattle.cap_judge.specs.Readings.{Follows, Goes, GoesOrStops, IsAtFault, IsNoLine, Lacks, RefusesNext, StopsAt}
-use Rattle.cap_judge.specs.Readings.{Takes, TakesAll, TakesStep, at, due_of, due_at_end, lines_read, refused_at}
-use Rattle.cap_judge.specs.Turns.{Body, Ended, Reads, Stage, behind, refusal_at}
+use Rattle.cap_judge.specs.Readings.{Takes, TakesAll, TakesStep, at, due_of, due_at_end, lines_read, refused_at, Faults}
+use Rattle.cap_judge.specs.Turns.{Body, Ended, Reads, Stage, behind, refusal_at, Due, Refused}
 use Rattle.cap_judge.specs.declared.judges.Stage as code
 use Rattle.cap_judge.specs.declared.judges.Stage.TheVariants as stages
 
@@ -37,7 +38,8 @@ Reads-append from middle to (line ∷ lines) more h k = (h.0, Reads-append (behi
 pub goes_none : (stage : Stage) → Goes stage [] stage
 goes_none stage = record { lines = []; in_range = tt; bytes_are = refl; reads = refl }
 
-unfoldable pub goes_on : (first old new : Stage) (front more : List ℕ) → Goes first front old → Goes old more new → Goes first (front ++ more) new
+unfoldable pub goes_on : (first old new : Stage) (front more : List ℕ) → Goes first front old → Goes old more new
+    → Goes first (front ++ more) new
 goes_on first old new front more so_far next = record {
   lines = so_far.lines ++ next.lines;
   in_range = AllByRecursion-append IsInRange so_far.lines next.lines so_far.in_range next.in_range;
@@ -103,7 +105,8 @@ front_count bytes front rest split =
     )
 
 -- where the whole stopped
-pub stops_here : (first old new : Stage) (bytes so_far front middle rest : List ℕ) (stop : Stop) → bytes ≡ so_far ++ front → front ≡ middle ++ rest
+pub stops_here : (first old new : Stage) (bytes so_far front middle rest : List ℕ) (stop : Stop) → bytes ≡ so_far ++ front
+    → front ≡ middle ++ rest
     → Goes first so_far old → StopsAt old middle rest stop new
     → StopsAt first (take (length bytes - length rest) bytes) (drop (length bytes - length rest) bytes) stop new
 stops_here first old new bytes so_far front middle rest stop split there on stops =
@@ -169,7 +172,8 @@ root_checked held place word none =
 pub root_outcome : (stage : code.Stage) (old new : Held) (place : Place) (word : Word) (result : Result (Unit {0}) StepEnd)
     → stage ≡ stages.Body → old.steps ≡ 0
     → MatchResult result (λ _. TakesRoot old place word new) (λ end. EndsRoot old place word end new)
-    → OnOk result (Takes (at stage old) (Line.Root place word) (at stage new)) × IfErr result (EndsFor (at stage old) (Line.Root place word))
+    → OnOk result (Takes (at stage old) (Line.Root place word) (at stage new))
+    × IfErr result (EndsFor (at stage old) (Line.Root place word))
 root_outcome stage old new place word (Ok done) is none takes =
     rw is ((root_checked old place word none ∙ takes.checks, ap body takes.account), tt)
 root_outcome stage old new place word (Err (StepEnd.Refused refusal)) is none ended = rw is (tt, root_checked old place word none ∙ ended.0)
@@ -241,7 +245,8 @@ pub whole_taken : (old new : Stage) (bytes rest : List ℕ) (line : Line) → Is
     → Takes old line new → Follows old bytes new
 whole_taken old new bytes rest line whole is takes =
     let none = whole_rest bytes (spelling line) rest whole (line_is line bytes rest is) in
-    inl (subst (λ (b : List ℕ). Goes old b new) (sym (is.1 ∙ ap (λ (r : List ℕ). spelling line ++ 10 ∷ r) none)) (one_goes old new line is.0 takes))
+    inl (subst (λ (b : List ℕ). Goes old b new) (sym (is.1 ∙ ap (λ (r : List ℕ). spelling line ++ 10 ∷ r) none))
+    (one_goes old new line is.0 takes))
 
 pub whole_lacks : (stage : Stage) (bytes rest : List ℕ) → IsWhole bytes → Lacks stage bytes rest → Lacks stage bytes []
 whole_lacks stage bytes rest whole lacks =
@@ -318,3 +323,83 @@ unended stage account rest goes clear = refl
 pub ends_ok : (stage : Stage) (rest : List ℕ) (verdict : Verdict) → EndsAs stage rest (Ok verdict) → EndsIn stage rest verdict []
 ends_ok stage rest (Yes steps roots) ends = ends
 ends_ok stage rest (No line refusal) ends = absurd ends
+
+-- What was followed, and more after it
+
+-- where a line is faulty nothing leads further
+fault_refuses : (account : Account) (due : Due) (line : Line) → IsAtFault due → refusal_at account due (Some line) ≡ None → ⊥
+fault_refuses account (Refused number refusal text) line is free = none-some Misplaced (sym free)
+fault_refuses account due line is free = is
+
+fault_reads : (old : Stage) (lines : List Line) (new : Stage) → IsAtFault old.due → Reads old lines new → old ≡ new
+fault_reads old [] new is reads = reads
+fault_reads old (line ∷ lines) new is reads = absurd (fault_refuses old.account old.due line is reads.0)
+
+fault_faults : (old : Stage) (rest : List ℕ) (new : Stage) → IsAtFault old.due → Faults old rest new → new ≡ old
+fault_faults old rest new is (inl faults) = faults.1
+fault_faults old rest new is (inr faults) = absurd (faults.0 is)
+
+fault_follows : (old : Stage) (bytes : List ℕ) (new : Stage) → IsAtFault old.due → Follows old bytes new → new ≡ old
+fault_follows old bytes new is (inl goes) = sym (fault_reads old goes.lines new is goes.reads)
+fault_follows old bytes new is (inr (front, rest, are, middle, goes, faults)) =
+    let stays = fault_reads old goes.lines middle is goes.reads in
+    fault_faults middle rest new (subst (λ (s : Stage). IsAtFault s.due) stays is) faults ∙ sym stays
+
+-- so it is faulty
+pub faults_at : (old : Stage) (rest : List ℕ) (new : Stage) → Faults old rest new → IsAtFault new.due
+faults_at old rest new (inl faults) = subst (λ (s : Stage). IsAtFault s.due) (sym faults.1) faults.0
+faults_at old rest new (inr faults) = subst (λ (s : Stage). IsAtFault s.due) (sym faults.5) tt
+
+-- a fault stands whatever follows
+refuses_more : (stage : Stage) (rest after : List ℕ) (refusal : Refusal) → RefusesNext stage rest refusal
+    → RefusesNext stage (rest ++ after) refusal
+refuses_more stage rest after refusal (inl (text, more, line, whole, is, refused)) =
+    inl (text, more ++ after, line, IsLine-more rest text more after whole, is, refused)
+refuses_more stage rest after refusal (inr long) = inr (IsTooLong-more rest after long.0, long.1)
+
+front_more : (rest after text : List ℕ) → IsLastFront rest false text → IsLastFront (rest ++ after) false text
+front_more rest after text (inl long) = inl (IsTooLong-more rest after long.0, long.1 ∙ sym (take-append-le 96 rest after long.0.0))
+front_more rest after text (inr (inl cut)) = absurd (false≢true cut.1.1)
+front_more rest after text (inr (inr whole)) = inr (inr (whole.0, whole.1 ++ after, IsLine-more rest whole.0 whole.1 after whole.2, whole.3))
+
+faults_more : (old : Stage) (rest after : List ℕ) (new : Stage) → Faults old rest new → Faults old (rest ++ after) new
+faults_more old rest after new (inl faults) = inl faults
+faults_more old rest after new (inr (clear, refusal, text, refused, front, new_is)) =
+    inr (
+      clear,
+      refusal,
+      text,
+      refuses_more old rest after refusal refused,
+      front_more rest after text front,
+      new_is,
+    )
+
+pub follows_more : (first : Stage) (bytes more : List ℕ) (old : Stage)
+    → (front : List ℕ) × (rest : List ℕ) × (bytes ≡ front ++ rest) × (middle : Stage) × Goes first front middle × Faults middle rest old
+    → Follows first (bytes ++ more) old
+follows_more first bytes more old (front, rest, are, middle, goes, faults) =
+    inr (
+      front,
+      rest ++ more,
+      ap (λ (b : List ℕ). b ++ more) are ∙ append_assoc front rest more,
+      middle,
+      goes,
+      faults_more middle rest more old faults,
+    )
+
+-- what is followed further
+pub follows_on : (first old new : Stage) (bytes more : List ℕ) → Follows first bytes old → Follows old more new
+    → Follows first (bytes ++ more) new
+follows_on first old new bytes more (inl goes) (inl next) = inl (goes_on first old new bytes more goes next)
+follows_on first old new bytes more (inl goes) (inr (front, rest, are, middle, next, faults)) =
+    inr (
+      bytes ++ front,
+      rest,
+      ap (λ (b : List ℕ). bytes ++ b) are ∙ sym (append_assoc bytes front rest),
+      middle,
+      goes_on first old middle bytes front goes next,
+      faults,
+    )
+follows_on first old new bytes more (inr faulty) next =
+    let same = fault_follows old more new (faults_at faulty.3 faulty.1 old faulty.5) next in
+    subst (Follows first (bytes ++ more)) (sym same) (follows_more first bytes more old faulty)

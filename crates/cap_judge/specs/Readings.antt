@@ -73,26 +73,23 @@ RefusesNext stage bytes refusal =
     × (refusal_at stage.account stage.due line ≡ Some refusal))
     ⊎ (IsTooLong bytes × (refusal ≡ long_refusal stage.due))
 
--- a line that nothing refuses names a granule for the first time
-abbrev pub NamesFirst : Stage → Line → Type 0
-NamesFirst stage line = (stage.due ≡ Body) × Allows stage line × IsTrue (is_new stage.account (named_by_line stage.account line))
+-- why a line is not taken: it is refused; or nothing refuses it, and it names a granule for the first time
+abbrev pub EndsFor : Stage → Line → StepEnd → Type 0
+EndsFor stage line (ends.Refused refusal) = refusal_at stage.account stage.due (Some line) ≡ Some refusal
+EndsFor stage line ends.NoMemory =
+    (stage.due ≡ Body) × Allows stage line × IsTrue (is_new stage.account (named_by_line stage.account line))
 
--- the bytes begin with such a line, before this rest
+-- the bytes begin with a line that names a granule so, before this rest
 pub record Lacks (stage : Stage) (bytes more : List ℕ) : Type 0 where
   pub line : Line
   pub begins : Begins IsInRange spelling 10 bytes line more
-  pub names : NamesFirst stage line
-
--- why a line is not taken
-abbrev pub EndsFor : Stage → Line → StepEnd → Type 0
-EndsFor stage line (ends.Refused refusal) = refusal_at stage.account stage.due (Some line) ≡ Some refusal
-EndsFor stage line ends.NoMemory = NamesFirst stage line
+  pub names : EndsFor stage line ends.NoMemory
 
 -- why a line with this text is not taken
 abbrev pub EndsText : Stage → List ℕ → StepEnd → Type 0
 EndsText stage text (ends.Refused refusal) =
     (line : Option Line) × Spelled IsInRange spelling text line × (refusal_at stage.account stage.due line ≡ Some refusal)
-EndsText stage text ends.NoMemory = (line : Line) × Spells text line × NamesFirst stage line
+EndsText stage text ends.NoMemory = (line : Line) × Spells text line × EndsFor stage line ends.NoMemory
 
 -- why what the bytes begin with is not taken
 abbrev pub EndsAt : Stage → List ℕ → StepEnd → Type 0
@@ -142,7 +139,8 @@ GoesOrStops old front rest (Some stop) new = StopsAt old front rest stop new
 -- the bytes begin with the line of a step, by which a machine goes from what it held to what it holds, before this rest
 abbrev pub TakesStep : Held → List ℕ → Held → List ℕ → Type 0
 TakesStep old bytes new rest =
-    (step : Step) × Begins IsInRange spelling 10 bytes (lines.Step step) rest × Takes (at stages.Body old) (lines.Step step) (at stages.Body new)
+    (step : Step) × Begins IsInRange spelling 10 bytes (lines.Step step) rest
+    × Takes (at stages.Body old) (lines.Step step) (at stages.Body new)
 
 -- a step was taken from the front of the bytes; or none, and nothing has changed; or the one there isn't made, and
 -- nothing has changed

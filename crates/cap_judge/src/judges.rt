@@ -292,7 +292,8 @@ impl<M: TaggedStore> Judge<M> {
             (stage_of self.new)) }
         ensures unchanged { IfErr result (λ _. known_of self.new ≡ known_of self.old) }
         ensures line { result ≢ Err NoLine }
-        ensures no_memory { result ≡ Err NoMemory → Lacks (stage_of self.old) (spelling (lines.Step (I.step step)) ++ 10 ∷ []) [] }
+        ensures no_memory { result ≡ Err NoMemory
+            → Lacks (stage_of self.old) (spelling (lines.Step (I.step step)) ++ 10 ∷ []) [] }
     {
         if let Stage::Body = self.stage {
             return match step.perform(&mut self.machine) {
@@ -316,7 +317,8 @@ impl<M: TaggedStore> Judge<M> {
             (stage_of self.new)) }
         ensures unchanged { IfErr result (λ _. known_of self.new ≡ known_of self.old) }
         ensures line { result ≢ Err NoLine }
-        ensures no_memory { result ≡ Err NoMemory → Lacks (stage_of self.old) (spelling (lines.Step (I.step step)) ++ 10 ∷ []) [] }
+        ensures no_memory { result ≡ Err NoMemory
+            → Lacks (stage_of self.old) (spelling (lines.Step (I.step step)) ++ 10 ∷ []) [] }
     {
         step.in_range();
         self.take_written(step.into_step(), end)

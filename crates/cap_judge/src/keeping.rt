@@ -19,7 +19,7 @@ pub fn judge_bytes_keeping<M: TaggedStore>(bytes: &[u8], memory: M) -> Judging<M
 {
     let mut judge = Judge::new(memory);
     let (answer, fault) = judge_all(&mut judge, bytes);
-    let Judge { machine, stage: _ } = judge;
+    let Judge { machine, .. } = judge;
     Judging {
         answer,
         machine,

@@ -8,7 +8,7 @@ ghost use Rattle.cap_machine.specs.{Runs.IsRun, States.{DeclaredRoot, State, sta
 ghost use Rattle.cap_judge.specs.declared.verdict.{Expected.Expected, Verdict.{Verdict, TheVariants.No}};
 ghost use Rattle.cap_judge.specs.{Expectations.{Expects, ExpectsAt}, Logs.{Beginning, IsAccepted, IsLogOf}};
 ghost use Rattle.cap_judge.specs.{Logs.{MayLackMemory, lines_of}, Readings.{BeginsWhole, EndsIn, EndsWith, Faults}};
-ghost use Rattle.cap_judge.specs.Readings.{Follows, Goes, IsReached, Lacks, Stands, verdict_so_far};
+ghost use Rattle.cap_judge.specs.Readings.{Follows, IsAtFault, IsReached, Lacks, Stands, verdict_so_far};
 ghost use Rattle.cap_judge.specs.{Turns.{Reads, Refused, Stage, unread}, Verdicts.{IsByVersionOne, IsGuarded}};
 ghost use Rattle.cap_judge.specs.Verdicts.{IsOfVersionOne, IsVerdict, IsVerdictOne, NamesEscapes};
 
@@ -56,9 +56,9 @@ pub fn stages_are_of_logs()
     // The stage has the account of a beginning: what follows that is nothing, or begins with the faulty line.
     ensures reached { (bytes : List ℕ) (stage : Stage) → Follows unread bytes stage → IsReached stage bytes }
 
-    // The faulty line begins what stands after the lines that were taken.
-    ensures after { (front rest : List ℕ) (middle new : Stage) → Goes unread front middle → Faults middle rest new
-        → (is : IsReached new (front ++ rest)) × (is.rest ≡ rest) }
+    // The first faulty line begins what stands after the lines that were taken.
+    ensures after { (front rest : List ℕ) (middle new : Stage) → Follows unread front middle → (IsAtFault middle.due → ⊥)
+        → Faults middle rest new → (is : IsReached new (front ++ rest)) × (is.rest ≡ rest) }
 
     // No line is faulty exactly while the lines so far begin a log; otherwise the `no` stays whatever lines follow.
     ensures stands { (bytes : List ℕ) (stage : Stage) → Follows unread bytes stage → Stands bytes (verdict_so_far stage.due) }

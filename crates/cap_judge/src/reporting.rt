@@ -55,7 +55,7 @@ pub fn judge_origins<S: Source, K: Sink>(
     let Judging {
         answer,
         machine,
-        fault: _,
+        ..
     } = judge_keeping(source, PageStore::new(alloc));
     machine.kept();
     let verdict = answer?;
@@ -74,14 +74,11 @@ pub fn push_report<M: TaggedStore, K: Sink>(
     ensures counted { CountsFault (K.faults sink.old) (K.faults sink.new) result }
 {
     match *verdict {
-        Verdict::Yes { steps: _, roots: _ } => match push_verdict(verdict, sink) {
+        Verdict::Yes { .. } => match push_verdict(verdict, sink) {
             Ok(()) => push_origins(machine, sink),
             Err(PushFault) => Err(PushFault),
         },
-        Verdict::No {
-            line: _,
-            refusal: _,
-        } => push_verdict(verdict, sink),
+        Verdict::No { .. } => push_verdict(verdict, sink),
     }
 }
 

@@ -86,7 +86,7 @@ pub fn judge_keeping<S: Source, M: TaggedStore>(source: &mut S, memory: M) -> Ju
 {
     let mut judge = Judge::new(memory);
     let (answer, fault) = judge_source(&mut judge, source);
-    let Judge { machine, stage: _ } = judge;
+    let Judge { machine, .. } = judge;
     Judging {
         answer,
         machine,

@@ -1,6 +1,6 @@
 //! The lines of a source.
 
-ghost use Rattle.std.specs.Prelude.{◌≡◌, ◌+◌, ◌<◌, ◌≤◌, [], length, drop, true, false, None, Ok, IfOk, OnErr, OnOk};
+ghost use Rattle.std.specs.Prelude.{◌≡◌, ◌+◌, ◌<◌, [], true, false, None, Ok, IfOk, OnErr, OnOk};
 ghost use Rattle.cap_log.specs.{declared.{lines.Front.TheVariants.Cut, taking.Over.Over}, Front.IsCut};
 ghost use Rattle.cap_log.specs.Streams.{CountsFault, next_count};
 
@@ -109,15 +109,6 @@ impl Lines {
         ensures value { result.now ≡ kept self.now }
     {
         self.pulled.as_slice()
-    }
-
-    /// Takes so many bytes off the front of what is kept, as lines that were lent.
-    pub fn consume(&mut self, count: usize)
-        requires { count ≤ length (kept self.old) }
-        ensures rest { kept self.new ≡ drop count (kept self.old) }
-        ensures over { over_of self.new ≡ over_of self.old }
-    {
-        self.pulled.consume(count);
     }
 
     // Finds the front of what is kept, pulling while that is cut.

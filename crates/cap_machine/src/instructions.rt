@@ -1,5 +1,5 @@
 //! The kinds of steps: what each does to a machine and shows of it, and what is done by the kind of a step. No other
-//! place names them.
+//! file of this crate's code names them.
 
 ghost use Rattle.std.specs.Prelude.{◌≡◌, List, ℕ, ◌∷◌, ◌++◌};
 ghost use Rattle.cap_ops.specs.{Checks.first_of, Operations.{clear_result, set_bounds_result, set_bounds_checks}};

@@ -9,7 +9,7 @@ use Rattle.cap_texts.specs.{CapLines.cap_lines, TextLines.text_line}
 use Rattle.cap_machine.specs.{declared.rules.Rules.{Rules, TheVariants.{One, TwoStrict, TwoClear}}, Accounts.Account}
 use Rattle.cap_machine.specs.States.{tagged}
 use Rattle.cap_judge.specs.Logs.{SpellsBy, has_form}
-use Rattle.cap_judge.proofs.FormLemmas.{no_form}
+use Rattle.cap_judge.proofs.JudgeLemmas.{no_form}
 use Rattle.cap_report.specs.FaultReports.{AreDetails, known_lines, root_lines}
 
 -- the details of a line that is refused for what its tests saw

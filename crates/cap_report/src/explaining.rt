@@ -158,7 +158,7 @@ fn push_why<M: TaggedStore, K: Sink>(
     ensures counted { CountsFault (K.faults sink.old) (K.faults sink.new) result }
 {
     match *verdict {
-        Verdict::Yes { steps: _, roots: _ } => {
+        Verdict::Yes { .. } => {
             if origins {
                 push_report(verdict, machine, sink)
             } else {

@@ -1,4 +1,4 @@
-//! The texts that say what a capability word means and what bounds a request gets. Each line is a name and its
+//! The texts of `explain`, `round` and reports, and which word of a line is wrong. Each line of a text is a name and its
 //! value.
 #![tactic(auto)]
 

@@ -28,18 +28,6 @@ pub fn read_word(text: &[u8]) -> Option<Word>
     Some(Word((u128::from(high) << 64) + u128::from(low)))
 }
 
-/// Takes a word from the front of some bytes: its text, which is the 32 lower-case hexadecimal digits of its
-/// register layout. Returns the word and the bytes after it, or `None` if the bytes don't begin with such digits.
-#[inline(always)]
-pub fn take_word(bytes: &[u8]) -> Option<(Word, &[u8])>
-    ensures some { IfSome result (λ p. bytes.now ≡ hex_digits 32 p.0.0 ++ p.1.now) }
-    ensures none { IfNone result ((n : ℕ) (rest : List ℕ) → n < 2 ^ 128 → bytes.now ≡ hex_digits 32 n ++ rest → ⊥) }
-{
-    let (text, rest) = bytes.split_first_chunk::<32>()?;
-    let word = read_word(text)?;
-    Some((word, rest))
-}
-
 /// The text of a word: the 32 lower-case hexadecimal digits of its register layout.
 #[inline(always)]
 pub fn word_text(word: Word) -> [u8; 32]

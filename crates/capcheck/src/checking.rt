@@ -42,7 +42,7 @@ fn vector_status(verdict: &VectorVerdict) -> u8
     ensures value { result ≡ vector_status verdict.now }
 {
     match verdict {
-        VectorVerdict::Pass { lines: _ } => 0,
-        VectorVerdict::Fail { line: _ } => 1,
+        VectorVerdict::Pass { .. } => 0,
+        VectorVerdict::Fail { .. } => 1,
     }
 }

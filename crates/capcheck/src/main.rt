@@ -59,17 +59,18 @@ fn answer_order(rt: &HostRuntime, order: Option<Order<'_>>) -> u8 {
     match order {
         Some(
             Order::Judge {
-                origins: _,
                 file: Some(path),
+                ..
             }
             | Order::Vectors { file: path },
         ) => run(rt.alloc(), order, File::open(rt, path).ok(), out, errors),
-        Some(
-            Order::Judge {
-                origins: _,
-                file: None,
-            },
-        ) => run(rt.alloc(), order, Some(rt.stdin()), out, errors),
+        Some(Order::Judge { file: None, .. }) => run(
+            rt.alloc(),
+            order,
+            Some(rt.stdin()),
+            out,
+            errors,
+        ),
         _ => run(rt.alloc(), order, None::<File>, out, errors),
     }
 }

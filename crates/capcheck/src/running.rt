@@ -36,11 +36,11 @@ impl Command for Order<'_> {
         match self {
             Order::Explain { memory, tag, hex } => show_explanation(memory, tag, hex, out),
             Order::Round { base, length } => show_rounding(base, length, out),
-            Order::Judge { origins, file: _ } => match input {
+            Order::Judge { origins, .. } => match input {
                 Some(source) => judge_input(alloc, origins, source, out),
                 None => Err(Fault::Read),
             },
-            Order::Vectors { file: _ } => match input {
+            Order::Vectors { .. } => match input {
                 Some(source) => check_source(source, out),
                 None => Err(Fault::Read),
             },

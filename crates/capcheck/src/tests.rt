@@ -90,17 +90,12 @@ fn words_of<'a>(alloc: Global, line: &'a str) -> Result<Vec<&'a str>, AllocError
 // What the order reads: the row's input, unless its file is not there or it reads none.
 fn input_of<'a>(order: Option<Order<'_>>, input: &'a [u8]) -> Option<&'a [u8]> {
     match order? {
-        Order::Judge { origins: _, file } => match file {
+        Order::Judge { file, .. } => match file {
             None | Some("log") => Some(input),
             Some(_) => None,
         },
         Order::Vectors { file } => { if file == "file" { Some(input) } else { None } }
-        Order::Explain {
-            memory: _,
-            tag: _,
-            hex: _,
-        }
-        | Order::Round { base: _, length: _ } => None,
+        Order::Explain { .. } | Order::Round { .. } => None,
     }
 }
 

@@ -8,7 +8,7 @@ use Rattle.tagmem.specs.contracts.page_store.{PageStore.the_row as store_row, Pa
 use Rattle.cap_judge.specs.{declared.verdict.Verdict.Verdict, Logs.MayLackMemory, Readings.{BeginsWhole, Follows}}
 use Rattle.cap_judge.specs.Readings.{HasRead, Known, Lacks, Stands, at, known_of, stage_of, verdict_so_far}
 use Rattle.cap_judge.specs.{Turns.unread, contracts.judges.Judge.the_row as judge_row}
-use Rattle.cap_judge.proofs.{FollowLemmas.follows_on, TurnLaws.{lacks_memory, none_so_far, reached, stands_so_far}}
+use Rattle.cap_judge.proofs.{TurnLaws.{lacks_memory, none_so_far, reached, stands_so_far}, TurnLemmas.follows_on}
 use Rattle.cap_report.specs.declared.answers.Answer.{Answer}
 use Rattle.capcheck_judge.specs.Handles.{AnswersSoFar, Standing, HandsOver, Held, Holds, known_in, origin_behind}
 use Rattle.capcheck_judge.specs.Handles.{state_behind}

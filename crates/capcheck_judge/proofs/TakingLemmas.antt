@@ -4,9 +4,8 @@ use Rattle.std.proofs.Common.{take, take-append-drop, Some}
 use Rattle.cap_judge.specs.{declared.judges.Stop.{Stop, TheVariants.{Cut, Fault, NoMemory}}, Judgings.IsBehind}
 use Rattle.cap_judge.specs.{Logs.{MayLackMemory, Refuses}, Readings.{BeginsWhole, Follows, HasRead, Goes, IsRest}}
 use Rattle.cap_judge.specs.{Readings.{StopsAt, stage_of}, Turns.{Due, Stage, unread}}
-use Rattle.cap_judge.proofs.FollowLemmas.{faults_at, follows_on}
 use Rattle.cap_judge.proofs.TurnLaws.{begins, clear_goes, fault_in, fault_reached, lacks_memory, never_faulty, reached}
-use Rattle.cap_judge.proofs.TurnLemmas.{goes_on, stop_follows}
+use Rattle.cap_judge.proofs.TurnLemmas.{faults_at, follows_on, goes_on, stop_follows}
 use Rattle.capcheck_judge.specs.declared.answers.LinesTaken.{LinesTaken}
 use Rattle.capcheck_judge.specs.{Handles.{HandsOverLines, Held, Holds, IsRefusedAfter}, Takings.{TakesLines, state_at}}
 use Rattle.capcheck_judge.proofs.HandleLemmas.{J, held_taken, there}
@@ -75,7 +74,8 @@ took_lines given held after old new answer is now takes =
           let stop = at Fault two in
           never_faulty (bytes ++ given) (stage_of new) (reached (bytes ++ given) (stage_of new) (read bytes given holds (all two))) whole
           (faults_at stop.0 rest (stage_of new) stop.2);
-      faulty = λ two bytes holds. refused_after (stage_of old) (stage_of new) front rest bytes (at Fault two) (held_taken held bytes holds old is);
+      faulty = λ two bytes holds. refused_after (stage_of old) (stage_of new) front rest bytes (at Fault two)
+          (held_taken held bytes holds old is);
       no_memory = λ three bytes holds.
           let stop = at NoMemory three in
           let same = append_assoc bytes front rest ∙ ap (λ (g : List ℕ). bytes ++ g) (take-append-drop answer.bytes given) in (

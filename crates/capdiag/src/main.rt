@@ -71,12 +71,8 @@ fn answer_order(rt: &HostRuntime, order: Order<'_>) -> u8 {
 // The file that an order names.
 pub(crate) fn file_of<'a>(order: Order<'a>) -> Option<&'a str> {
     match order {
-        Order::Why { origins: _, file } => file,
-        Order::Heap {
-            report: _,
-            why: _,
-            file,
-        } => file,
+        Order::Why { file, .. } => file,
+        Order::Heap { file, .. } => file,
         Order::Help | Order::Version => None,
     }
 }

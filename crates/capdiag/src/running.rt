@@ -36,15 +36,11 @@ impl Command for Order<'_> {
         match self {
             Order::Help => show_help(out),
             Order::Version => show_version(out),
-            Order::Why { origins, file: _ } => match input {
+            Order::Why { origins, .. } => match input {
                 Some(source) => explain_source(alloc, origins, source, out),
                 None => Err(Fault::Read),
             },
-            Order::Heap {
-                report,
-                why,
-                file: _,
-            } => match input {
+            Order::Heap { report, why, .. } => match input {
                 Some(source) => judge_heap_source(alloc, report, why, source, out),
                 None => Err(Fault::Read),
             },

@@ -5,10 +5,10 @@
 //! for a line feed. A call after `>>` has more than some 10,000 steps. Lines after `:` say what the calls below them are.
 //!
 //! Logs and vector files are rows, with an empty line after each. The first line of a row is a mark and a name: `#` for
-//! a log that is judged in each way, `-` or `*` for one that is judged in few, `+` for a vector file. Then come its lines, each after a mark: `|` for one that ends with a
-//! line feed, `~` for one that ends with a carriage return before it, and `!` for bytes without a line feed. After
-//! them comes the text, each line after `=`: the verdict's line, and in a row with `*` also the origins after a
-//! `yes`, and the diagnosis.
+//! a log that is judged in each way, `-` or `*` for one that is judged in few, `+` for a vector file. Then come its
+//! lines, each after a mark: `|` for one that ends with a line feed, `~` for one that ends with a carriage return before
+//! it, and `!` for bytes without a line feed. After them comes the text, each line after `=`: the verdict's line, and in
+//! a row with `*` also the origins after a `yes`, and the diagnosis.
 #![tactic(auto)]
 
 mod calls;

@@ -52,11 +52,8 @@ pub fn verdict_holds(
         }
     }
     let is_yes = match verdict {
-        Verdict::Yes { steps: _, roots: _ } => true,
-        Verdict::No {
-            line: _,
-            refusal: _,
-        } => false,
+        Verdict::Yes { .. } => true,
+        Verdict::No { .. } => false,
     };
     Ok(
         each_pull(alloc, log, verdict, line)?
@@ -155,7 +152,7 @@ fn by_lines(alloc: Global, log: &[u8]) -> bool {
 fn goes_on(verdict: Option<Verdict>, line: u64) -> bool {
     let refusal = Refusal::Truncated;
     match verdict {
-        Some(Verdict::Yes { steps: _, roots: _ }) => true,
+        Some(Verdict::Yes { .. }) => true,
         _ => verdict == Some(Verdict::No { line, refusal }),
     }
 }

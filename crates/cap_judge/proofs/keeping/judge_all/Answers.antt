@@ -2,8 +2,8 @@ use Rattle.std.proofs.Common.{◌≡◌, ◌≢◌, ◌≤◌, ◌-◌, [], List
 use Rattle.std.proofs.{Common.{length-drop, take-append-drop, take_all}, lemmas.List.Elements.All-nil}
 use Rattle.cap_log.specs.FaultLines.{bytes_of}
 use Rattle.cap_judge.specs.{Logs.MayLackMemory, Readings.{EndsWith, Follows, stage_of}, Turns.unread}
-use Rattle.cap_judge.proofs.{FollowLemmas.faults_at, KeepingLemmas.{all_judged, all_lack}, SourceLemmas.ended_answer}
-use Rattle.cap_judge.proofs.{TurnLaws.{lacks_memory, reached, refused_told, told}, TurnLemmas.stop_follows}
+use Rattle.cap_judge.proofs.SourceLemmas.{all_judged, all_lack, ended_answer}
+use Rattle.cap_judge.proofs.{TurnLaws.{lacks_memory, reached, refused_told, told}, TurnLemmas.{faults_at, stop_follows}}
 use Rattle.cap_judge.proofs.keeping.judge_all.Goals as goal
 
 pub returns-in-Cut : goal.returns-in-Cut
@@ -37,7 +37,8 @@ returns-in-Fault g c = record {
       let read = subst (λ (b : List ℕ). Follows unread b new) (take-append-drop count bytes)
       (stop_follows unread new (take count bytes) (drop count bytes) stop) in
       all_judged bytes text held c.answered-in-Fault.result.0 answer.0 answer.1
-      (refused_told bytes [] new held answer.0 text (reached bytes new read) (faults_at stop.0 (drop count bytes) new stop.2) refl answer.2 true);
+      (refused_told bytes [] new held answer.0 text (reached bytes new read) (faults_at stop.0 (drop count bytes) new stop.2)
+      refl answer.2 true);
 }
 
 pub returns-in-NoMemory : goal.returns-in-NoMemory

@@ -1,11 +1,13 @@
-use Rattle.cap_judge.proofs.{ExpectedLemmas.expects, FollowLemmas.follows_on, TurnLaws.{fault_ends, fault_reached}}
-use Rattle.cap_judge.proofs.TurnLaws.{lacks_memory, none_so_far, reached, stands_so_far, told}
+use Rattle.cap_judge.specs.Turns.{unread}
+use Rattle.cap_judge.proofs.{ExpectedLemmas.expects, TurnLaws.{clear_goes, fault_ends, fault_reached, lacks_memory}}
+use Rattle.cap_judge.proofs.{TurnLaws.{none_so_far, reached, stands_so_far, told}, TurnLemmas.follows_on}
 use Rattle.cap_judge.proofs.laws.stages_are_of_logs.Goals as goal
 
 pub returns : goal.returns
 returns c = record {
   reached = reached;
-  after = fault_reached;
+  after = λ front rest middle new follows clear.
+      fault_reached front rest middle new (clear_goes unread front middle follows clear);
   stands = λ bytes stage follows. stands_so_far bytes stage.account stage.due (reached bytes stage follows);
   none = λ bytes stage follows. none_so_far bytes stage.account stage.due (reached bytes stage follows);
   fault = λ bytes stage held line refusal text ended follows same due.

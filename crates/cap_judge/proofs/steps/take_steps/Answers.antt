@@ -14,10 +14,13 @@ steps-preserved g c =
     let so_far = c.steps.invariant.taken in
     let usual = c.take_usual-end.ensures.taken in
     let here = c.take_usual-end.result.0.now in
-    let on = goes_more first (at Body c.steps.machine) (at Body middle) c.args.bytes.now so_far.0 c.steps.rest.now usual.0 here so_far.1 so_far.2 usual.1 usual.2 in
-    let taken = subst (λ (t : Option (Bor (List ℕ))). TakesOne middle here (Ok t) c.take_step.new.machine) c.in-Ok-Some.field-0-is c.in-Ok-Some.ensures in
+    let on = goes_more first (at Body c.steps.machine) (at Body middle) c.args.bytes.now so_far.0 c.steps.rest.now usual.0 here
+    so_far.1 so_far.2 usual.1 usual.2 in
+    let taken = subst (λ (t : Option (Bor (List ℕ))). TakesOne middle here (Ok t) c.take_step.new.machine)
+    c.in-Ok-Some.field-0-is c.in-Ok-Some.ensures in
     record {
-      taken = goes_line first (at Body middle) (at Body c.take_step.new.machine) c.args.bytes.now on.0 here c.in-Ok-Some.behind.now (Line.Step taken.0)
+      taken = goes_line first (at Body middle) (at Body c.take_step.new.machine) c.args.bytes.now on.0 here
+          c.in-Ok-Some.behind.now (Line.Step taken.0)
           on.1 on.2 taken.1 taken.2;
     }
 
@@ -25,7 +28,8 @@ pub returns-in-Some-clause-taken : goal.returns-in-Some-clause-taken
 returns-in-Some-clause-taken g c =
     let so_far = c.steps.invariant.taken in
     let usual = c.take_usual-end.ensures.taken in
-    goes_more (at Body c.args.machine.now) (at Body c.steps.machine) (at Body c.take_usual-end.new.machine) c.args.bytes.now so_far.0 c.steps.rest.now
+    goes_more (at Body c.args.machine.now) (at Body c.steps.machine) (at Body c.take_usual-end.new.machine) c.args.bytes.now
+    so_far.0 c.steps.rest.now
     usual.0 c.take_usual-end.result.0.now so_far.1 so_far.2 usual.1 usual.2
 
 pub returns-in-Ok-None-clause-taken : goal.returns-in-Ok-None-clause-taken
@@ -45,5 +49,6 @@ returns-in-Err-clause-taken g c =
     let so_far = c.steps.invariant.taken in
     let usual = c.take_usual-end.ensures.taken in
     rw c.in-Err.ensures.1
-    (goes_more (at Body c.args.machine.now) (at Body c.steps.machine) (at Body c.take_usual-end.new.machine) c.args.bytes.now so_far.0 c.steps.rest.now
+    (goes_more (at Body c.args.machine.now) (at Body c.steps.machine) (at Body c.take_usual-end.new.machine) c.args.bytes.now
+    so_far.0 c.steps.rest.now
     usual.0 c.take_usual-end.result.0.now so_far.1 so_far.2 usual.1 usual.2)

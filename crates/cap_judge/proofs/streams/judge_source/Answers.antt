@@ -2,10 +2,9 @@ use Rattle.std.proofs.Common.{◌≡◌, ◌≢◌, ◌++◌, [], ℕ, List, app
 use Rattle.std.proofs.{Common.{subst, sym, true, ◌∙◌}, lemmas.List.Elements.All-nil}
 use Rattle.cap_log.specs.{FaultLines.bytes_of, Front.IsCut, Pulled.items}
 use Rattle.cap_judge.specs.{Readings.{EndsAs, stage_of}, Turns.unread}
-use Rattle.cap_judge.proofs.{FollowLemmas.{faults_at, follows_on}, SourceLemmas.{closer, ended_answer, given_more}}
-use Rattle.cap_judge.proofs.SourceLemmas.{lacking_judged, nothing_more, pull_judged, verdict_judged}
-use Rattle.cap_judge.proofs.TurnLaws.{lacks_memory, reached, refused_told, told}
-use Rattle.cap_judge.proofs.TurnLemmas.{goes_none, goes_on, stop_follows}
+use Rattle.cap_judge.proofs.SourceLemmas.{closer, ended_answer, given_more, lacking_judged, nothing_more, pull_judged}
+use Rattle.cap_judge.proofs.{SourceLemmas.verdict_judged, TurnLaws.{lacks_memory, reached, refused_told, told}}
+use Rattle.cap_judge.proofs.TurnLemmas.{faults_at, follows_on, goes_none, goes_on, stop_follows}
 use Rattle.cap_judge.proofs.streams.judge_source.Goals as goal
 
 pub pieces-init : goal.pieces-init
@@ -95,7 +94,8 @@ returns-in-Fault-clause-judged g c =
     let answer = ended_answer new [] text c.ending-in-Fault.result c.answered-in-Fault.result.0 c.answered-in-Fault.ensures ends in
     verdict_judged g.S.Source.gave g.S.Source.ended c.args.source.now c.fill.new.source held text (here.0 ++ given)
     c.answered-in-Fault.result.0 answer.0 answer.1
-    (refused_told (here.0 ++ given) [] new held answer.0 text (reached (here.0 ++ given) new follows) (faults_at stop.0 rest new stop.2) refl answer.2
+    (refused_told (here.0 ++ given) [] new held answer.0 text (reached (here.0 ++ given) new follows)
+    (faults_at stop.0 rest new stop.2) refl answer.2
     (g.S.Source.ended c.fill.new.source))
     (given_more g.S.Source.gave here.0 (items c.pieces.pulled) given g.met.S.Source.joined here.1 ok.3 (sym taken.1 ∙ ok.2))
 

@@ -11,7 +11,8 @@ use Rattle.cap_report.proofs.explaining.push_refused.Goals as goal
 pub returns-in-None-clause-ok : goal.returns-in-None-clause-ok
 returns-in-None-clause-ok g c = λ bytes read.
     let stage = stage_of c.args.judge.now in
-    (None, [], (begins bytes stage (reached bytes stage read) c.in-None.ensures.fault, refl), g.met.K.Sink.nothing c.args.sink.now, omega arith)
+    let none = begins bytes stage (reached bytes stage read) c.in-None.ensures.fault in
+    (None, [], (none, refl), g.met.K.Sink.nothing c.args.sink.now, omega arith)
 
 pub returns-in-Some-clause-ok : goal.returns-in-Some-clause-ok
 returns-in-Some-clause-ok g c =

@@ -11,7 +11,8 @@ returns-in-Some-clause-verdict c = λ bytes holds.
     let taken = held_taken c.args.judge.now.judge bytes holds c.deref.result.now is in
     let judge = c.deref.result.now in
     let end = c.end-verdict.ensures.verdict (omega arith, All-nil (λ b. b ≢ 10)) in
-    let tells = told bytes [] (stage_of judge) judge.machine c.end-verdict.result end.0 taken refl (omega arith, All-nil (λ b. b ≢ 10)) end.1 in
+    let tells = told bytes [] (stage_of judge) judge.machine c.end-verdict.result end.0 taken refl
+    (omega arith, All-nil (λ b. b ≢ 10)) end.1 in
     record {
       verdict = c.end-verdict.result;
       numbers = c.numbers_of.ensures.value;

@@ -6,7 +6,8 @@ use Rattle.cap_judge.proofs.judges.Judge.expected.Goals as goal
 pub returns-in-WrongResult : goal.returns-in-WrongResult
 returns-in-WrongResult g c = record {
   expects = rw c.in-Refused.is (
-    λ _. subst (λ t. GivesForText (account_of c.args.self.now.machine) t c.expected_by.result) c.as_slice.ensures.value c.expected_by.ensures.gives,
+    λ _. subst (λ t. GivesForText (account_of c.args.self.now.machine) t c.expected_by.result) c.as_slice.ensures.value
+        c.expected_by.ensures.gives,
     λ other. absurd (other c.in-WrongResult.is),
   );
 }

@@ -23,5 +23,6 @@ returns-in-Some-clause-stops g c =
     let taken = c.take_some-stop.ensures in
     let some : c.take_some-stop.result.1 ≡ Some c.in-Some.stop = search rules in
     let stops = rw some at taken.2 in
-    stops_here (stage_of c.args.self.now) (stage_of c.lines.self) (stage_of c.take_some-stop.new.self) c.args.bytes.now so_far.0 c.lines.rest.now
+    stops_here (stage_of c.args.self.now) (stage_of c.lines.self) (stage_of c.take_some-stop.new.self) c.args.bytes.now so_far.0
+    c.lines.rest.now
     taken.0 c.take_some-stop.result.0.now c.in-Some.stop so_far.1 taken.1 so_far.2 stops

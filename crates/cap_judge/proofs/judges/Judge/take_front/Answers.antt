@@ -8,7 +8,8 @@ returns-in-Body-clause-taken g c = rw c.in-Body.is c.take_steps.ensures.taken
 
 pub returns-in-Body-clause-end : goal.returns-in-Body-clause-end
 returns-in-Body-clause-end g c =
-    front_end c.args.self.now.stage c.take_steps.new.machine c.take_steps.result.0.now c.take_steps.result.1 c.in-Body.is c.take_steps.ensures.end
+    front_end c.args.self.now.stage c.take_steps.new.machine c.take_steps.result.0.now c.take_steps.result.1 c.in-Body.is
+    c.take_steps.ensures.end
 
 pub returns-in_default : goal.returns-in_default
 returns-in_default g c = record { taken = ([], refl, goes_none (stage_of c.args.self.now)); end = tt }

@@ -22,4 +22,5 @@ returns-in-Err g c =
     let read = c.in-Some in
     let ends : EndsStep old (g.I.Operands.step read.instruction) c.in-Err.end new = search rules in
     let stop = step_ends old new _ c.in-Err.end ends in
-    record { done = (ends_at (at Body old) (head_spelling g.I.Operands.head ++ 32 ∷ c.args.operands.now) read.rest.now (Step _) c.in-Err.end read.ensures.some stop.0, stop.1) }
+    let bytes = head_spelling g.I.Operands.head ++ 32 ∷ c.args.operands.now in
+    record { done = (ends_at (at Body old) bytes read.rest.now (Step _) c.in-Err.end read.ensures.some stop.0, stop.1) }
